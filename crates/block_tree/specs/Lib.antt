@@ -1,0 +1,10 @@
+pub mod Tree
+pub mod Shape
+pub mod Output
+pub mod View
+pub mod Same
+pub mod Code
+pub mod Marks
+pub mod Nodes
+pub mod Growing
+pub mod Reading

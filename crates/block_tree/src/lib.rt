@@ -1,0 +1,32 @@
+//! Blocks: what an interpreter puts out, as trees of formats, channels and texts. And the small list
+//! types that the public data of all crates is made of.
+#![tactic(auto)]
+
+mod block;
+mod channel;
+mod compare;
+mod copy;
+mod laws;
+mod octets;
+mod output;
+mod queue;
+mod sequence;
+mod shape;
+#[cfg(test)]
+mod tests;
+mod text;
+mod tree;
+
+pub use block::Block;
+pub use channel::channel_text;
+pub use laws::{equal_blocks, equal_marks};
+pub use octets::Octets;
+pub use output::output_of;
+pub use queue::Queue;
+pub use sequence::Sequence;
+pub use shape::{MAX_DEPTH, MAX_TAG};
+pub use text::Text;
+pub use tree::{Item, Node, Tag};
+
+/// Memory was refused. The value that wanted to grow is as it was, where nothing else is said.
+pub use std::alloc::AllocError as OutOfMemory;

@@ -1,0 +1,90 @@
+//! Outputs: blocks without prompts and default inputs.
+ghost use Rattle.std.specs.Prelude.{◌≡◌, IfOk, OnOk, map};
+ghost use Rattle.block_tree.specs.Growing.{text_behind};
+ghost use Rattle.block_tree.specs.Output.{is_aside, output, output_items};
+ghost use Rattle.block_tree.specs.Tree.{items_of};
+ghost use Rattle.block_tree.specs.View.{piece_of, tree_of};
+
+use crate::{Block, Item, Node, Octets, OutOfMemory, Tag};
+use std::alloc::Global;
+
+/// Whether this is the tag of a prompt or of a default input.
+fn is_aside_tag(tag: &Tag) -> bool
+    ensures { result ≡ is_aside tag.now.channel tag.now.name }
+{
+    tag.channel
+        && (tag.name.as_slice() == b"prompt".as_slice()
+            || tag.name.as_slice() == b"input".as_slice())
+}
+
+/// Adds a text, to the last item where that is a text.
+#[tactic(auto, using(crate::proofs::Outputs::grown))]
+fn push_text(alloc: Global, items: &mut Vec<Item>, text: &[u8]) -> Result<(), OutOfMemory>
+    ensures { OnOk result (items_of (map piece_of items.new.items) ≡ text_behind (items_of (map piece_of items.old.items)) text.now) }
+{
+    match items.pop() {
+        Some(Item::Text(mut last)) => {
+            last.extend(text)?;
+            items.push(Item::Text(last))?;
+        }
+        Some(Item::Block(last)) => {
+            let text = Octets::from_vec(text.to_vec(alloc)?);
+            items.push(Item::Block(last))?;
+            items.push(Item::Text(text))?;
+        }
+        None => {
+            let text = Octets::from_vec(text.to_vec(alloc)?);
+            items.push(Item::Text(text))?;
+        }
+    }
+    Ok(())
+}
+
+/// The node without the prompts and default inputs in it.
+#[tactic(auto, using(crate::proofs::Outputs::output_rules))]
+fn without_asides(alloc: Global, node: &Node) -> Result<Node, OutOfMemory>
+    ensures { IfOk result (λ kept. tree_of kept ≡ record (tree_of node.now) { items = output_items (tree_of node.now).items }) }
+{
+    let mut items = Vec::new(alloc);
+    for item in &node.items {
+        match item {
+            Item::Text(text) => push_text(alloc, &mut items, text.as_slice())?,
+            Item::Block(inner) => {
+                if !is_aside_tag(&inner.tag) {
+                    let kept = without_asides(alloc, inner)?;
+                    items.push(Item::Block(kept))?;
+                }
+            }
+        }
+    }
+    let name = node.tag.name.copy(alloc)?;
+    let tag = Tag {
+        channel: node.tag.channel,
+        name,
+    };
+    Ok(Node { tag, items })
+}
+
+/// The output of a block: the block without its prompts and default inputs at any depth, with
+/// neighbouring texts joined. Where the block is itself one of these, an empty `verbatim` block.
+/// (TeXmacs manual, interfacing: channels, prompts and default input.)
+#[tactic(auto, using(crate::proofs::Outputs::output_is_block))]
+pub fn output_of(alloc: Global, block: &Block) -> Result<Block, OutOfMemory>
+    ensures { IfOk result (λ kept. kept ≡ output block.now) }
+{
+    if is_aside_tag(&block.node.tag) {
+        let name = Octets::from_vec(b"verbatim".to_vec(alloc)?);
+        let tag = Tag {
+            channel: false,
+            name,
+        };
+        let node = Node {
+            tag,
+            items: Vec::new(alloc),
+        };
+        Ok(Block { node })
+    } else {
+        let node = without_asides(alloc, &block.node)?;
+        Ok(Block { node })
+    }
+}
