@@ -1,0 +1,6 @@
+pub mod Moments
+pub mod Written
+pub mod Record
+pub mod Drawn
+pub mod Laid
+pub mod Tied

@@ -1,0 +1,115 @@
+// A disk that fails from some call on, or at one call alone.
+ghost use Rattle.std.specs.Prelude.{◌≡◌, ◌+◌, ◌≤◌, ◌↔◌, min, IsErr, OnErr, OnOk, MatchResult};
+ghost use Rattle.disk_model.specs.Fuse.{fused, Blows};
+ghost use Rattle.disk_model.specs.Disk.{Rises};
+
+use crate::{Area, Disk, DiskFault};
+
+/// Which calls a fuse fails.
+#[derive(Clone, Copy, Debug, PartialEq, Eq)]
+pub enum FuseMode {
+    /// All from the k-th on.
+    From,
+    /// The k-th alone.
+    Only,
+}
+
+// Counts calls up to the k-th.
+#[derive(Drop)]
+struct Fuse {
+    k: u64,
+    mode: FuseMode,
+    calls: u64,
+    refused: u64,
+    ghost counted: { calls ≤ k },
+}
+
+impl Fuse {
+    // Counts a call, and refuses it where it is the fuse's time.
+    fn spend(&mut self) -> Result<(), DiskFault>
+        ensures blows { IsErr result ↔ Blows self.old.mode self.old.k self.old.calls }
+        ensures counts { self.new.calls ≡ min (self.old.calls + 1) self.old.k }
+        ensures same { (self.new.k ≡ self.old.k) × (self.new.mode ≡ self.old.mode) }
+        ensures passed { OnOk result (self.new.refused ≡ self.old.refused) }
+        ensures refused { OnErr result (Rises self.old.refused self.new.refused × (self.old.refused ≤ self.new.refused)) }
+    {
+        let blows = match self.mode {
+            FuseMode::From => self.k == 0 || self.calls >= self.k - 1,
+            FuseMode::Only => self.k > 0 && self.calls == self.k - 1,
+        };
+        if self.calls < self.k {
+            self.calls += 1;
+        }
+        if blows {
+            self.refused = self.refused.saturating_add(1);
+            return Err(DiskFault);
+        }
+        Ok(())
+    }
+}
+
+/// A disk around another one, whose fuse fails calls without passing them on.
+///
+/// `len`, `read`, `write_at` and `sync` count as calls, from 1. Calls after the k-th aren't
+/// counted.
+#[derive(Drop)]
+pub struct FuseDisk<D: Disk> {
+    inner: D,
+    fuse: Fuse,
+}
+
+impl<D: Disk> FuseDisk<D> {
+    /// Fails the k-th call on `inner` and all behind it, or the k-th alone. With `k` 0 the first
+    /// fails all calls and the second none.
+    pub fn new(inner: D, k: u64, mode: FuseMode) -> FuseDisk<D>
+        ensures { result.inner ≡ inner }
+    {
+        let fuse = Fuse {
+            k,
+            mode,
+            calls: 0,
+            refused: 0,
+        };
+        FuseDisk { inner, fuse }
+    }
+
+    /// The disk inside, as it stands.
+    pub fn into_inner(self) -> D
+        ensures { result ≡ self.inner }
+    {
+        let FuseDisk { inner, fuse: _ } = self;
+        inner
+    }
+}
+
+impl<D: Disk> Disk for FuseDisk<D> {
+    ghost view = { λ f. fused (D.view f.inner) f.fuse.refused };
+
+    ghost small = { λ f. D.small f.inner };
+
+    ghost content_stays = { λ f. D.content_stays f.inner };
+
+    fn room(&self) -> u64 {
+        self.inner.room()
+    }
+
+    fn len(&mut self, area: Area) -> Result<u64, DiskFault> {
+        self.fuse.spend()?;
+        self.inner.len(area)
+    }
+
+    fn read(&mut self, area: Area, offset: u64, buffer: &mut [u8]) -> Result<(), DiskFault> {
+        self.fuse.spend()?;
+        self.inner.read(area, offset, buffer)
+    }
+
+    fn write_at(&mut self, area: Area, offset: u64, bytes: &[u8]) -> Result<(), DiskFault> {
+        self.fuse.spend()?;
+        self.inner.write_at(area, offset, bytes)
+    }
+
+    fn sync(&mut self, area: Area) -> Result<(), DiskFault> {
+        self.fuse.spend()?;
+        self.inner.sync(area)
+    }
+}

@@ -1,0 +1,18 @@
+//! A disk of two areas, and what a crash at any moment may leave of it.
+//!
+//! [`Disk`] is what a journal asks of its disk. [`MemoryDisk`] keeps the model and can be crashed at
+//! each moment of its past; [`FuseDisk`] is a disk whose calls fail from some call on.
+#![tactic(auto)]
+
+mod crash;
+mod disk;
+mod fuse;
+mod memory;
+
+pub use crash::{Choice, Fill};
+pub use disk::{Area, Disk, DiskFault, MAX_ROOM, OutOfMemory};
+pub use fuse::{FuseDisk, FuseMode};
+pub use memory::MemoryDisk;
+
+#[cfg(test)]
+mod tests;

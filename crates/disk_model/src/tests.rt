@@ -1,0 +1,128 @@
+use crate::{Area, Choice, Disk, Fill, FuseDisk, FuseMode, MemoryDisk};
+use std::alloc::{AllocError, Global};
+use std::test::Fail;
+
+// Four bytes on the disk, and two more written over the last of them and past the end.
+fn half_written(alloc: Global) -> Result<MemoryDisk, Fail> {
+    let mut disk = MemoryDisk::new(alloc, 16);
+    disk.write_at(Area::First, 0, b"abcd").map_err(|_| "write")?;
+    disk.sync(Area::First).map_err(|_| "sync")?;
+    disk.write_at(Area::First, 3, b"XY").map_err(|_| "write")?;
+    Ok(disk)
+}
+
+#[test]
+fn crash_fills_the_pending_range(rt: HostRuntime) -> Result<(), Fail> {
+    let disk = half_written(rt.alloc())?;
+    let fills: [(Fill, &[u8], &[u8]); 5] = [
+        (Fill::Old, b"abcd\0", b"abcd"),
+        (Fill::New, b"abcXY", b"abcX"),
+        (Fill::Torn(1), b"abcX\0", b"abcX"),
+        (Fill::Torn(9), b"abcXY", b"abcX"),
+        (Fill::Byte(0x52), b"abcRR", b"abcR"),
+    ];
+    for (fill, grown, old) in fills {
+        let choice = Choice { moment: 3, fill, grown: true };
+        let image = disk.crash(&choice).map_err(|_| "crash")?;
+        assert_eq!(rt; image.content(Area::First), grown);
+        let choice = Choice { moment: 3, fill, grown: false };
+        let image = disk.crash(&choice).map_err(|_| "crash")?;
+        assert_eq!(rt; image.content(Area::First), old);
+        assert_eq!(rt; image.calls(), 0);
+    }
+    Ok(())
+}
+
+#[test]
+fn crash_at_an_earlier_moment(rt: HostRuntime) -> Result<(), Fail> {
+    let disk = half_written(rt.alloc())?;
+    let fill = Fill::New;
+    for moment in 0..4u64 {
+        let choice = Choice { moment, fill, grown: true };
+        let image = disk.crash(&choice).map_err(|_| "crash")?;
+        let expected: &[u8] = match moment {
+            0 => b"",
+            3 => b"abcXY",
+            _ => b"abcd",
+        };
+        assert_eq!(rt; image.content(Area::First), expected);
+        assert_eq!(rt; image.content(Area::Second), b"".as_slice());
+    }
+    Ok(())
+}
+
+#[test]
+fn crash_keeps_what_earlier_writes_left(rt: HostRuntime) -> Result<(), Fail> {
+    let alloc = rt.alloc();
+    let first = b"abcdef".as_slice().to_vec(alloc)?;
+    let mut disk = MemoryDisk::holding(alloc, 16, first).map_err(|_| "holding")?;
+    disk.write_at(Area::First, 1, b"123").map_err(|_| "write")?;
+    disk.write_at(Area::First, 0, b"XYZ").map_err(|_| "write")?;
+    let choice = Choice { moment: 2, fill: Fill::Torn(2), grown: true };
+    let image = disk.crash(&choice).map_err(|_| "crash")?;
+    assert_eq!(rt; image.content(Area::First), b"XY2def".as_slice());
+    Ok(())
+}
+
+// Which of three calls answer Ok, and how many of them reach the disk inside.
+fn spent(alloc: Global, k: u64, mode: FuseMode) -> ([bool; 3], u64) {
+    let mut disk = FuseDisk::new(MemoryDisk::new(alloc, 16), k, mode);
+    let written = disk.write_at(Area::First, 0, b"a").is_ok();
+    let synced = disk.sync(Area::First).is_ok();
+    let told = disk.len(Area::First).is_ok();
+    ([written, synced, told], disk.into_inner().calls())
+}
+
+#[test]
+fn fuse_fails_from_the_kth_call_on(rt: HostRuntime) {
+    let alloc = rt.alloc();
+    assert_eq!(rt; spent(alloc, 0, FuseMode::From), ([false, false, false], 0));
+    assert_eq!(rt; spent(alloc, 2, FuseMode::From), ([true, false, false], 1));
+    assert_eq!(rt; spent(alloc, 4, FuseMode::From), ([true, true, true], 3));
+}
+
+#[test]
+fn fuse_fails_the_kth_call_alone(rt: HostRuntime) {
+    let alloc = rt.alloc();
+    assert_eq!(rt; spent(alloc, 0, FuseMode::Only), ([true, true, true], 3));
+    assert_eq!(rt; spent(alloc, 1, FuseMode::Only), ([false, true, true], 2));
+    assert_eq!(rt; spent(alloc, 3, FuseMode::Only), ([true, true, false], 2));
+}
+
+// All memory, in blocks of falling size.
+fn exhausted(alloc: Global) -> Result<Vec<Vec<u8>>, AllocError> {
+    let mut held: Vec<Vec<u8>> = Vec::with_capacity(alloc, 200_000)?;
+    let mut size: usize = 1 << 44;
+    for _ in 0..45 {
+        for _ in 0..12_000 {
+            match Vec::with_capacity(alloc, size) {
+                Ok(block) => {
+                    if held.len() >= 199_000 {
+                        return Ok(held);
+                    }
+                    held.push(block)?;
+                }
+                Err(_) => break,
+            }
+        }
+        if size > 1 {
+            size /= 2;
+        }
+    }
+    Ok(held)
+}
+
+#[test]
+fn a_record_that_cannot_grow_is_a_fault(rt: HostRuntime) -> Result<(), Fail> {
+    let alloc = rt.alloc();
+    let mut disk = MemoryDisk::new(alloc, 16);
+    let held = exhausted(alloc)?;
+    let written = disk.write_at(Area::First, 0, b"a").is_ok();
+    let synced = disk.sync(Area::First).is_ok();
+    let calls = disk.calls();
+    drop(held);
+    assert_eq!(rt; (written, synced, calls), (false, false, 0));
+    assert!(rt; disk.write_at(Area::First, 0, b"a").is_ok());
+    assert_eq!(rt; disk.content(Area::First), b"a".as_slice());
+    Ok(())
+}
