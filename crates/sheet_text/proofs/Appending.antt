@@ -1,0 +1,77 @@
+-- Bytes written after bytes.
+use Rattle.std.proofs.KnownBytes.{Appends-trans, Appends-nil}
+use Rattle.std.proofs.Common.{◌≡◌, ℕ, Bool, true, false, cond, List, [], ◌∷◌, ◌++◌, map, flat_map, refl, ap, sym, ◌∙◌, subst, append_assoc, append-nil, Option, Some, None, length, take, get_or, ◌<◌, ◌≤◌, ◌+◌}
+use Rattle.std.proofs.lemmas.List.{take_more, take_all}
+use Rattle.std.proofs.lemmas.Grind.{flat_map-append}
+use Rattle.std.specs.Io.KnownBytes.{Appends}
+use Rattle.block_tree.specs.Tree.{Items, Tree, Piece, text_piece, block_piece, items_of, end, text, block, put}
+use Rattle.block_tree.specs.View.{piece_of, tree_of}
+use Rattle.block_tree.specs.declared.tree.Item.{Item}
+use Rattle.block_tree.specs.declared.tree.Item.TheVariants.{Block, Text}
+use Rattle.block_tree.specs.declared.tree.Node.{Node, out-Node}
+use Rattle.block_tree.proofs.Views.{piece_text, piece_block, tree_out}
+use Rattle.sheet_text.specs.Escape.{on_line, on_lines}
+use Rattle.sheet_text.specs.Blocks.{sign, framed, items_tree_text, tree_text, piece_tree_text, is_bare, shown, items_block_text, block_text, piece_block_text}
+
+pub ruleset steps = (Appends-trans, Appends-nil)
+
+-- a byte, others, a byte
+pub between : (a b c d : Option (List ℕ)) (x y : ℕ) (xs : List ℕ) → Appends a b (x ∷ []) → Appends b c xs → Appends c d (y ∷ []) → Appends a d (x ∷ (xs ++ y ∷ []))
+between a b c d x y xs p q r = Appends-trans a b d (x ∷ []) (xs ++ y ∷ []) p (Appends-trans b c d xs (y ∷ []) q r)
+
+pub in_frame : (a b c d : Option (List ℕ)) (channel : Bool) (name xs : List ℕ) → Appends a b (123 ∷ (on_line name ++ sign channel ∷ [])) → Appends b c xs → Appends c d (125 ∷ []) → Appends a d (framed channel name xs)
+in_frame a b c d channel name xs p q r = subst (Appends a d) (ap (λ t. 123 ∷ t) (append_assoc (on_line name) (sign channel ∷ []) (xs ++ 125 ∷ [])))
+    (Appends-trans a b d (123 ∷ (on_line name ++ sign channel ∷ [])) (xs ++ 125 ∷ []) p (Appends-trans b c d xs (125 ∷ []) q r))
+
+put_tree_text : (p : Piece) (rest : Items) → items_tree_text (put p rest) ≡ piece_tree_text p ++ items_tree_text rest
+put_tree_text (text_piece t) rest = refl
+put_tree_text (block_piece b) rest = refl
+
+put_block_text : (p : Piece) (rest : Items) → items_block_text (put p rest) ≡ piece_block_text p ++ items_block_text rest
+put_block_text (text_piece t) rest = refl
+put_block_text (block_piece b) rest = refl
+
+items_tree_flat : (xs : List Item) → items_tree_text (items_of (map piece_of xs)) ≡ flat_map (λ x. piece_tree_text (piece_of x)) xs
+items_tree_flat [] = refl
+items_tree_flat (x ∷ xs) = put_tree_text (piece_of x) (items_of (map piece_of xs)) ∙ ap (λ r. piece_tree_text (piece_of x) ++ r) (items_tree_flat xs)
+
+items_block_flat : (xs : List Item) → items_block_text (items_of (map piece_of xs)) ≡ flat_map (λ x. piece_block_text (piece_of x)) xs
+items_block_flat [] = refl
+items_block_flat (x ∷ xs) = put_block_text (piece_of x) (items_of (map piece_of xs)) ∙ ap (λ r. piece_block_text (piece_of x) ++ r) (items_block_flat xs)
+
+pub tree_text_out : (n : Node) → tree_text (tree_of n) ≡ framed (out-Node n).tag.channel (out-Node n).tag.name (flat_map (λ x. piece_tree_text (piece_of x)) (out-Node n).items.items)
+tree_text_out n = ap tree_text (tree_out n) ∙ ap (framed (out-Node n).tag.channel (out-Node n).tag.name) (items_tree_flat (out-Node n).items.items)
+
+pub block_text_out : (n : Node) → block_text (tree_of n) ≡ shown (out-Node n).tag.channel (out-Node n).tag.name (flat_map (λ x. piece_block_text (piece_of x)) (out-Node n).items.items)
+block_text_out n = ap block_text (tree_out n) ∙ ap (shown (out-Node n).tag.channel (out-Node n).tag.name) (items_block_flat (out-Node n).items.items)
+
+pub ruleset tree_steps = (Appends-trans, Appends-nil, in_frame, tree_text_out, piece_text, piece_block)
+
+pub ruleset block_steps = (Appends-trans, Appends-nil, in_frame, block_text_out, piece_text, piece_block)
+
+pub next_item : (f : Item → List ℕ) (xs : List Item) (i : ℕ) (x : Item) (ys : List ℕ) (a b c : Option (List ℕ)) → i < length xs → x ≡ get_or xs i x → f x ≡ ys
+    → Appends a b (flat_map f (take i xs)) → Appends b c ys → Appends a c (flat_map f (take (i + 1) xs))
+next_item f xs i x ys a b c h e is p q =
+    let more : flat_map f (take (i + 1) xs) ≡ flat_map f (take i xs) ++ ys =
+    ap (flat_map f) (take_more xs i x h ∙ ap (λ y. take i xs ++ y ∷ []) (sym e)) ∙ flat_map-append f (take i xs) (x ∷ []) ∙ ap (λ t. flat_map f (take i xs) ++ t) (append-nil (f x) ∙ is) in
+    subst (Appends a c) (sym more) (Appends-trans a b c (flat_map f (take i xs)) ys p q)
+
+all_items : (f : Item → List ℕ) (xs ys : List Item) (i : ℕ) → length xs ≤ i → xs ≡ ys → flat_map f (take i xs) ≡ flat_map f ys
+all_items f xs ys i h e = ap (flat_map f) (take_all i xs h ∙ e)
+
+pub tree_done : (n : Node) (xs : List Item) (i : ℕ) (a b c d : Option (List ℕ)) → length xs ≤ i → xs ≡ (out-Node n).items.items
+    → Appends a b (123 ∷ (on_line (out-Node n).tag.name ++ sign (out-Node n).tag.channel ∷ [])) → Appends b c (flat_map (λ x. piece_tree_text (piece_of x)) (take i xs)) → Appends c d (125 ∷ []) → Appends a d (tree_text (tree_of n))
+tree_done n xs i a b c d h e p q r = subst (Appends a d) (sym (tree_text_out n))
+    (in_frame a b c d (out-Node n).tag.channel (out-Node n).tag.name _ p (subst (Appends b c) (all_items (λ x. piece_tree_text (piece_of x)) xs _ i h e) q) r)
+
+pub framed_done : (n : Node) (xs : List Item) (i : ℕ) (bare : Bool) (a b c d : Option (List ℕ)) → bare ≡ is_bare (out-Node n).tag.channel (out-Node n).tag.name → bare ≡ false → length xs ≤ i → xs ≡ (out-Node n).items.items
+    → Appends a b (123 ∷ (on_line (out-Node n).tag.name ++ sign (out-Node n).tag.channel ∷ [])) → Appends b c (flat_map (λ x. piece_block_text (piece_of x)) (take i xs)) → Appends c d (125 ∷ []) → Appends a d (block_text (tree_of n))
+framed_done n xs i bare a b c d is shut h e p q r =
+    subst (Appends a d) (sym (block_text_out n ∙ ap (λ s. cond s (flat_map (λ x. piece_block_text (piece_of x)) (out-Node n).items.items) (framed (out-Node n).tag.channel (out-Node n).tag.name (flat_map (λ x. piece_block_text (piece_of x)) (out-Node n).items.items))) (sym is ∙ shut)))
+    (in_frame a b c d (out-Node n).tag.channel (out-Node n).tag.name _ p (subst (Appends b c) (all_items (λ x. piece_block_text (piece_of x)) xs _ i h e) q) r)
+
+pub bare_done : (n : Node) (xs : List Item) (i : ℕ) (bare : Bool) (a c : Option (List ℕ)) → bare ≡ is_bare (out-Node n).tag.channel (out-Node n).tag.name → bare ≡ true → length xs ≤ i → xs ≡ (out-Node n).items.items
+    → Appends a c (flat_map (λ x. piece_block_text (piece_of x)) (take i xs)) → Appends a c (block_text (tree_of n))
+bare_done n xs i bare a c is whole h e q =
+    subst (Appends a c) (sym (block_text_out n ∙ ap (λ s. cond s (flat_map (λ x. piece_block_text (piece_of x)) (out-Node n).items.items) (framed (out-Node n).tag.channel (out-Node n).tag.name (flat_map (λ x. piece_block_text (piece_of x)) (out-Node n).items.items))) (sym is ∙ whole)))
+    (subst (Appends a c) (all_items (λ x. piece_block_text (piece_of x)) xs _ i h e) q)
