@@ -3,8 +3,6 @@ ghost use Rattle.std.specs.Prelude.{◌≡◌, ◌+◌, ◌≤◌, length, take,
 ghost use Rattle.disk_model.specs.Disk.{DiskView, InModel, Called, Looks, Writes, Syncs, IsImage, content_of, area_of};
 ghost use Rattle.disk_model.specs.declared.disk.TheConstants.{MAX_ROOM};
 
-use std::alloc::{AllocError, AllocFailed};
-
 /// The greatest room of a disk, in bytes.
 pub const MAX_ROOM: u64 = 2_147_483_648;
 
@@ -18,22 +16,6 @@ pub enum Area {
 /// A call on a disk failed. The disk counted a failure in that call.
 #[derive(Clone, Copy, Debug, PartialEq, Eq)]
 pub struct DiskFault;
-
-/// A growth was refused.
-#[derive(Clone, Copy, Debug, PartialEq, Eq)]
-pub struct OutOfMemory;
-
-impl From<AllocError> for OutOfMemory {
-    fn from(_: AllocError) -> Self {
-        OutOfMemory
-    }
-}
-
-impl<T: Drop> From<AllocFailed<T>> for OutOfMemory {
-    fn from(_: AllocFailed<T>) -> Self {
-        OutOfMemory
-    }
-}
 
 /// Two areas of bytes, each of which can grow up to the disk's room (docs/FORMAT.md, "What a crash
 /// may leave").

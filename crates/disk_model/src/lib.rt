@@ -10,9 +10,12 @@ mod fuse;
 mod memory;
 
 pub use crash::{Choice, Fill};
-pub use disk::{Area, Disk, DiskFault, MAX_ROOM, OutOfMemory};
+pub use disk::{Area, Disk, DiskFault, MAX_ROOM};
 pub use fuse::{FuseDisk, FuseMode};
 pub use memory::MemoryDisk;
+
+/// A growth was refused. Nothing has changed.
+pub use std::alloc::AllocError as OutOfMemory;
 
 #[cfg(test)]
 mod tests;

@@ -11,6 +11,13 @@ fn half_written(alloc: Global) -> Result<MemoryDisk, Fail> {
     Ok(disk)
 }
 
+fn crashed(disk: &MemoryDisk, choice: &Choice) -> Result<MemoryDisk, Fail> {
+    if choice.moment > disk.calls() {
+        return Err("no such moment".into());
+    }
+    Ok(disk.crash(choice).map_err(|_| "crash")?)
+}
+
 #[test]
 fn crash_fills_the_pending_range(rt: HostRuntime) -> Result<(), Fail> {
     let disk = half_written(rt.alloc())?;
@@ -22,11 +29,19 @@ fn crash_fills_the_pending_range(rt: HostRuntime) -> Result<(), Fail> {
         (Fill::Byte(0x52), b"abcRR", b"abcR"),
     ];
     for (fill, grown, old) in fills {
-        let choice = Choice { moment: 3, fill, grown: true };
-        let image = disk.crash(&choice).map_err(|_| "crash")?;
+        let choice = Choice {
+            moment: 3,
+            fill,
+            grown: true,
+        };
+        let image = crashed(&disk, &choice)?;
         assert_eq!(rt; image.content(Area::First), grown);
-        let choice = Choice { moment: 3, fill, grown: false };
-        let image = disk.crash(&choice).map_err(|_| "crash")?;
+        let choice = Choice {
+            moment: 3,
+            fill,
+            grown: false,
+        };
+        let image = crashed(&disk, &choice)?;
         assert_eq!(rt; image.content(Area::First), old);
         assert_eq!(rt; image.calls(), 0);
     }
@@ -38,8 +53,12 @@ fn crash_at_an_earlier_moment(rt: HostRuntime) -> Result<(), Fail> {
     let disk = half_written(rt.alloc())?;
     let fill = Fill::New;
     for moment in 0..4u64 {
-        let choice = Choice { moment, fill, grown: true };
-        let image = disk.crash(&choice).map_err(|_| "crash")?;
+        let choice = Choice {
+            moment,
+            fill,
+            grown: true,
+        };
+        let image = crashed(&disk, &choice)?;
         let expected: &[u8] = match moment {
             0 => b"",
             3 => b"abcXY",
@@ -58,8 +77,12 @@ fn crash_keeps_what_earlier_writes_left(rt: HostRuntime) -> Result<(), Fail> {
     let mut disk = MemoryDisk::holding(alloc, 16, first).map_err(|_| "holding")?;
     disk.write_at(Area::First, 1, b"123").map_err(|_| "write")?;
     disk.write_at(Area::First, 0, b"XYZ").map_err(|_| "write")?;
-    let choice = Choice { moment: 2, fill: Fill::Torn(2), grown: true };
-    let image = disk.crash(&choice).map_err(|_| "crash")?;
+    let choice = Choice {
+        moment: 2,
+        fill: Fill::Torn(2),
+        grown: true,
+    };
+    let image = crashed(&disk, &choice)?;
     assert_eq!(rt; image.content(Area::First), b"XY2def".as_slice());
     Ok(())
 }
