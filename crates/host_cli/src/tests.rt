@@ -1,0 +1,3 @@
+//! What no clause says.
+use crate::*;
+use std::test::Fail;
