@@ -1,6 +1,7 @@
 -- How runs of calls go on.
-use Rattle.std.proofs.Common.{◌≡◌, ℕ, List, [], ◌∷◌, ◌++◌, refl, sym, ◌∙◌, ap, subst, arith, append_assoc, Result, Ok, Err, IsTrue}
-use Rattle.disk_model.specs.Disk.{Image, DiskState, History, DiskView, Leaves, LeavesOnly, Each, states_of, Called, Looks, IsImage}
+use Rattle.std.proofs.Common.{◌≡◌, ℕ, List, [], ◌∷◌, ◌++◌, refl, sym, ◌∙◌, ap, subst, arith, append_assoc, ◌≤◌, length, length-append, drop, Result, Ok, Err, IsTrue}
+use Rattle.disk_model.specs.Disk.{Image, AtMoment, DiskState, History, DiskView, Leaves, LeavesOnly, Each, states_of, Called, Looks, Syncs, IsImage}
+use Rattle.disk_model.specs.declared.disk.Area.{Area}
 use Rattle.disk_model.specs.Fuse.{fused}
 
 pub Each-append : (Q : DiskState → Type 0) (xs ys : List DiskState) → Each Q xs → Each Q ys → Each Q (xs ++ ys)
@@ -55,3 +56,17 @@ stays P old mid new run call = goes_on P old mid new run (weakens (IsImage mid.n
 -- two calls that only look
 pub looks_on : (old mid new : History) → Looks old mid → Looks mid new → Looks old new
 looks_on old mid new first second = record { content = second.content ∙ first.content; moments = stays (IsImage old.now) old mid new first.moments second.moments }
+
+-- a sync leaves what a look leaves
+pub syncs_look : {T E : Type 0} (area : Area) (result : Result T E) (old new : History) → Syncs area result old new → Looks old new
+syncs_look area result old new synced = record { content = synced.content; moments = synced.moments }
+
+-- a run of calls has P at each moment since its start
+pub at_moment : (P : Image → Type 0) (old new : History) (moment : ℕ) (s : DiskState) → LeavesOnly P old new → length old.past ≤ moment → AtMoment moment new s → Leaves P s
+at_moment P old new moment s run since at = go run.more at.later (sym run.states ∙ at.states) run.each
+  where
+    go : (more later : List DiskState) → more ++ states_of old ≡ later ++ s ∷ at.earlier → Each (Leaves P) more → Leaves P s
+    go [] [] same each = let here : old.now ≡ s = cc in subst (λ t. Leaves P t) here run.start
+    go [] (x ∷ later) same each = absurd (omega (arith, since, at.moment_is, ap length same, length-append later (s ∷ at.earlier)))
+    go (x ∷ more) [] same each = let here : x ≡ s = cc in subst (λ t. Leaves P t) here each.0
+    go (x ∷ more) (y ∷ later) same each = go more later (ap (λ (l : List DiskState). drop 1 l) same) each.1

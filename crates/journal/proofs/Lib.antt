@@ -1,0 +1,7 @@
+pub mod Bytes
+pub mod Loads
+pub mod Steps
+pub mod Unique
+pub mod Walks
+pub mod Kept
+pub mod Batches

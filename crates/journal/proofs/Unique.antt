@@ -1,0 +1,82 @@
+-- Bytes lay out one list of payloads at most, and none where they are damaged.
+use Rattle.std.proofs.Common.{◌≡◌, ◌≢◌, ⊎_elim, ℕ, ◌<◌, ◌^◌, List, [], ◌∷◌, ◌++◌, length, take, drop, refl, sym, ◌∙◌, ap, subst, arith, append_assoc, length-append}
+use Rattle.std.specs.Int.{to_be_bytes, from_be_bytes, w32}
+use Rattle.std.proofs.lemmas.List.{take_at, drop_at}
+use Rattle.std.proofs.lemmas.Nat.{from_be_bytes-to_be_bytes_4}
+use Rattle.journal.specs.Area.{Lays, StandsFor, header, records, record_of, body_of, IsPayload, ArePayloads}
+use Rattle.journal.specs.Damage.{HasHeader, IsBroken, IsDamaged}
+use Rattle.disk_model.specs.Disk.{Image}
+use Rattle.journal.specs.Kept.{Stands}
+use Rattle.journal.specs.Open.{IsPassing, Tells}
+use Rattle.journal.specs.declared.frame.TheConstants.{MAX_PAYLOAD}
+use Rattle.journal.specs.declared.opening.OpenCause.{OpenCause}
+use Rattle.journal.specs.declared.opening.OpenCause.TheVariants as causes
+
+module _ (limit : ℕ) (fits : limit < 2 ^ 32) where
+  -- the first four bytes tell the length
+  length_told : (p q x y : List ℕ) → IsPayload limit p → IsPayload limit q → body_of p ++ x ≡ body_of q ++ y → length p ≡ length q
+  length_told p q x y is_p is_q same =
+      let four = ap (λ (l : List ℕ). from_be_bytes w32 (take 4 l)) same in
+      sym (from_be_bytes-to_be_bytes_4 (length p) (omega (arith, is_p.1, fits))) ∙ four ∙ from_be_bytes-to_be_bytes_4 (length q) (omega (arith, is_q.1, fits))
+
+  pub same_records : (ps qs : List (List ℕ)) (g h : ℕ) (x y : List ℕ) → ArePayloads limit ps → ArePayloads limit qs → g ≢ 82 → h ≢ 82 → records ps ++ g ∷ x ≡ records qs ++ h ∷ y → ps ≡ qs
+  same_records [] [] g h x y eps eqs cg ch same = refl
+  same_records [] (q ∷ qs) g h x y eps eqs cg ch same = absurd (cg cc)
+  same_records (p ∷ ps) [] g h x y eps eqs cg ch same = absurd (ch cc)
+  same_records (p ∷ ps) (q ∷ qs) g h x y eps eqs cg ch same =
+      let tail : body_of p ++ (records ps ++ g ∷ x) ≡ body_of q ++ (records qs ++ h ∷ y) = ap (λ (l : List ℕ). drop 1 l) (sym (append_assoc (record_of p) (records ps) (g ∷ x)) ∙ same ∙ append_assoc (record_of q) (records qs) (h ∷ y)) in
+      let size = length_told p q (records ps ++ g ∷ x) (records qs ++ h ∷ y) eps.0 eqs.0 tail in
+      let behind : p ++ (records ps ++ g ∷ x) ≡ q ++ (records qs ++ h ∷ y) = ap (λ (l : List ℕ). drop 4 l) tail in
+      let first : p ≡ q = sym (take_at p (records ps ++ g ∷ x) (length p) refl) ∙ ap (λ (l : List ℕ). take (length p) l) behind ∙ take_at q (records qs ++ h ∷ y) (length p) (sym size) in
+      let rest : records ps ++ g ∷ x ≡ records qs ++ h ∷ y = sym (drop_at p (records ps ++ g ∷ x) (length p) refl) ∙ ap (λ (l : List ℕ). drop (length p) l) behind ∙ drop_at q (records qs ++ h ∷ y) (length p) (sym size) in
+      let others = same_records ps qs g h x y eps.1 eqs.1 cg ch rest in
+      cc
+
+  pub laid_out_once : (s t : ℕ) (bytes : List ℕ) (ps qs : List (List ℕ)) → Lays limit s bytes ps → Lays limit t bytes qs → ps ≡ qs
+  laid_out_once s t bytes ps qs l m = same_records ps qs l.gate m.gate l.rest m.rest l.each m.each l.closed m.closed
+      (ap (λ (b : List ℕ). drop 10 b) (sym (append_assoc (header s) (records ps) (l.gate ∷ l.rest)) ∙ sym l.is ∙ m.is ∙ append_assoc (header t) (records qs) (m.gate ∷ m.rest)))
+
+  -- behind the records of an area there is no broken one
+  none_broken : (ps qs : List (List ℕ)) (g : ℕ) (x more : List ℕ) → ArePayloads limit ps → ArePayloads limit qs → g ≢ 82 → IsBroken limit more → records ps ++ g ∷ x ≡ records qs ++ 82 ∷ more → ⊥
+  none_broken [] [] g x more eps eqs closed broken same = closed cc
+  none_broken [] (q ∷ qs) g x more eps eqs closed broken same = closed cc
+  none_broken (p ∷ ps) [] g x more eps eqs closed broken same =
+      let behind : body_of p ++ (records ps ++ g ∷ x) ≡ more = ap (λ (l : List ℕ). drop 1 l) (sym (append_assoc (record_of p) (records ps) (g ∷ x)) ∙ same) in
+      let told : from_be_bytes w32 (to_be_bytes w32 (length p)) ≡ length p = from_be_bytes-to_be_bytes_4 (length p) (omega (arith, eps.0.1, fits)) in
+      let whole : IsBroken limit (body_of p ++ (records ps ++ g ∷ x)) = subst (λ (l : List ℕ). IsBroken limit l) (sym behind) broken in
+      let longer = length-append p (records ps ++ g ∷ x) in
+      let more = length-append (records ps) (g ∷ x) in
+      ⊎_elim (λ none. omega (arith, none, told, eps.0.0)) (λ other. ⊎_elim (λ large. omega (arith, large, told, eps.0.1)) (λ short. omega (arith, short, told, longer, more)) other) whole
+  none_broken (p ∷ ps) (q ∷ qs) g x more eps eqs closed broken same =
+      let tail : body_of p ++ (records ps ++ g ∷ x) ≡ body_of q ++ (records qs ++ 82 ∷ more) = ap (λ (l : List ℕ). drop 1 l) (sym (append_assoc (record_of p) (records ps) (g ∷ x)) ∙ same ∙ append_assoc (record_of q) (records qs) (82 ∷ more)) in
+      let size = length_told p q (records ps ++ g ∷ x) (records qs ++ 82 ∷ more) eps.0 eqs.0 tail in
+      let behind : p ++ (records ps ++ g ∷ x) ≡ q ++ (records qs ++ 82 ∷ more) = ap (λ (l : List ℕ). drop 4 l) tail in
+      let rest : records ps ++ g ∷ x ≡ records qs ++ 82 ∷ more = sym (drop_at p (records ps ++ g ∷ x) (length p) refl) ∙ ap (λ (l : List ℕ). drop (length p) l) behind ∙ drop_at q (records qs ++ 82 ∷ more) (length p) (sym size) in
+      none_broken ps qs g x more eps.1 eqs.1 closed broken rest
+
+  pub undamaged : (bytes : List ℕ) (ps : List (List ℕ)) (gate : ℕ) → StandsFor limit bytes ps → IsDamaged limit bytes gate → ⊥
+  undamaged bytes ps gate s d =
+      none_broken ps d.1 s.lays.gate s.lays.rest d.2 s.lays.each d.3.each s.lays.closed d.5
+      (ap (λ (b : List ℕ). drop 10 b) (sym (append_assoc (header s.selector) (records ps) (s.lays.gate ∷ s.lays.rest)) ∙ sym s.lays.is ∙ d.3.is ∙ append_assoc (header d.0) (records d.1) (82 ∷ d.2)))
+
+  pub has_header : (bytes : List ℕ) (ps : List (List ℕ)) → StandsFor limit bytes ps → HasHeader bytes
+  has_header bytes ps s = (
+    s.selector,
+    records ps ++ s.lays.gate ∷ s.lays.rest,
+    s.lays.is ∙ append_assoc (header s.selector) (records ps) (s.lays.gate ∷ s.lays.rest),
+    s.first_area,
+    omega (arith, length-append (records ps) (s.lays.gate ∷ s.lays.rest)),
+  )
+
+-- what a disk stands for is what its bytes lay out
+pub given : (i j : Image) (ps qs : List (List ℕ)) → j ≡ i → Stands j ps → Stands i qs → ps ≡ qs
+given i j ps qs same stands others =
+    let s = subst (λ (k : Image). Stands k ps) same stands in
+    laid_out_once MAX_PAYLOAD (omega arith) s.selector others.selector i.first ps qs s.lays others.lays
+
+-- and then no cause lies in them
+pub refused : (i : Image) (qs : List (List ℕ)) (cause : OpenCause) → Tells i.first cause → Stands i qs → IsPassing cause
+refused i qs (causes.Damaged gate) told stands = undamaged MAX_PAYLOAD (omega arith) i.first qs gate stands told
+refused i qs causes.NotASheet told stands = told (has_header MAX_PAYLOAD (omega arith) i.first qs stands)
+refused i qs causes.Disk told stands = tt
+refused i qs causes.OutOfMemory told stands = tt

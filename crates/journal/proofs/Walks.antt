@@ -1,0 +1,33 @@
+-- One record more on a walk.
+use Rattle.std.proofs.Common.{◌≡◌, ℕ, ◌+◌, ◌<◌, List, [], ◌∷◌, ◌++◌, length, refl, sym, ◌∙◌, ap, subst, arith, append_assoc, length-append}
+use Rattle.journal.specs.Area.{header, records, record_of, IsPayload, end_of}
+use Rattle.journal.specs.Damage.{Walked}
+use Rattle.journal.specs.Walk.{payloads_in, AreGates}
+use Rattle.journal.specs.declared.walk.Payload.{Payload}
+use Rattle.journal.proofs.Bytes.{records-push, ArePayloads-push, end-push}
+
+pub payloads_in-push : (ps : List Payload) (p : Payload) → payloads_in (ps ++ p ∷ []) ≡ payloads_in ps ++ p.bytes ∷ []
+payloads_in-push [] p = refl
+payloads_in-push (q ∷ ps) p = ap (λ (l : List (List ℕ)). q.bytes ∷ l) (payloads_in-push ps p)
+
+AreGates-push : (ps : List Payload) (p : Payload) (from : ℕ) → AreGates from ps → p.gate ≡ from + length (records (payloads_in ps)) → AreGates from (ps ++ p ∷ [])
+AreGates-push [] p from gates is = (omega (arith, is), tt)
+AreGates-push (q ∷ ps) p from gates is = (gates.0, AreGates-push ps p (from + length (record_of q.bytes)) gates.1 (omega (arith, is, length-append (record_of q.bytes) (records (payloads_in ps)))))
+
+module _ (limit : ℕ) (bytes : List ℕ) (ps new : List Payload) (p : Payload) (rest after : List ℕ) (is_push : new ≡ ps ++ p ∷ []) (is : rest ≡ record_of p.bytes ++ after) where
+  pub walked_on : (selector : ℕ) × Walked limit selector bytes (payloads_in ps) rest → IsPayload limit p.bytes → 0 < length after → (selector : ℕ) × Walked limit selector bytes (payloads_in new) after
+  walked_on walked is_payload some = (
+    walked.0,
+    subst (λ (l : List (List ℕ)). Walked limit walked.0 bytes l after) (sym (ap payloads_in is_push ∙ payloads_in-push ps p)) (record {
+      is = walked.1.is ∙ ap (λ (l : List ℕ). header walked.0 ++ records (payloads_in ps) ++ l) is ∙ simp (records-push, append_assoc);
+      first_area = walked.1.first_area;
+      each = ArePayloads-push limit (payloads_in ps) p.bytes walked.1.each is_payload;
+      some = some;
+    }),
+  )
+
+  pub gate_on : (gate : ℕ) → gate ≡ end_of (payloads_in ps) → gate + (5 + length p.bytes) ≡ end_of (payloads_in new)
+  gate_on gate at = omega (arith, at, ap end_of (ap payloads_in is_push ∙ payloads_in-push ps p), end-push (payloads_in ps) p.bytes)
+
+  pub gates_on : p.gate ≡ end_of (payloads_in ps) → AreGates 10 ps → AreGates 10 new
+  gates_on at gates = subst (λ l. AreGates 10 l) (sym is_push) (AreGates-push ps p 10 gates at)

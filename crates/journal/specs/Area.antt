@@ -1,0 +1,46 @@
+-- The bytes of a journal's area (docs/FORMAT.md, "The journal").
+use Rattle.std.specs.Prelude.{◌≡◌, ◌≢◌, ℕ, ◌+◌, ◌≤◌, List, [], ◌∷◌, ◌++◌, length}
+use Rattle.std.specs.Int.{to_be_bytes, w32}
+
+-- the text `TMWSHEET`, the version 1, and the selector
+abbrev pub header : ℕ → List ℕ
+header selector = 84 ∷ 77 ∷ 87 ∷ 83 ∷ 72 ∷ 69 ∷ 69 ∷ 84 ∷ 1 ∷ selector ∷ []
+
+-- behind a gate: the payload's length in four bytes, and the payload
+abbrev pub body_of : List ℕ → List ℕ
+body_of payload = to_be_bytes w32 (length payload) ++ payload
+
+-- an open gate, and what stands behind it
+abbrev pub record_of : List ℕ → List ℕ
+record_of payload = 82 ∷ body_of payload
+
+-- record behind record
+abbrev pub records : List (List ℕ) → List ℕ
+records [] = []
+records (payload ∷ payloads) = record_of payload ++ records payloads
+
+-- a payload has at least one byte, and at most the limit
+abbrev pub IsPayload : ℕ → List ℕ → Type 0
+IsPayload limit payload = (1 ≤ length payload) × (length payload ≤ limit)
+
+abbrev pub ArePayloads : ℕ → List (List ℕ) → Type 0
+ArePayloads limit [] = Unit {0}
+ArePayloads limit (payload ∷ payloads) = IsPayload limit payload × ArePayloads limit payloads
+
+-- the offset of the gate behind the records of these payloads
+abbrev pub end_of : List (List ℕ) → ℕ
+end_of payloads = 10 + length (records payloads)
+
+-- a header with this selector, the records of these payloads, a closed gate, and then anything
+pub record Lays (limit selector : ℕ) (bytes : List ℕ) (payloads : List (List ℕ)) : Type 0 where
+  pub gate : ℕ
+  pub rest : List ℕ
+  pub is : bytes ≡ header selector ++ records payloads ++ gate ∷ rest
+  pub closed : gate ≢ 82
+  pub each : ArePayloads limit payloads
+
+-- area First stands for these payloads: it lays them out, and its selector isn't `B`
+pub record StandsFor (limit : ℕ) (bytes : List ℕ) (payloads : List (List ℕ)) : Type 0 where
+  pub selector : ℕ
+  pub first_area : selector ≢ 66
+  pub lays : Lays limit selector bytes payloads

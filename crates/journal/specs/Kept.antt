@@ -1,0 +1,37 @@
+-- What a journal keeps on its disk.
+use Rattle.std.specs.Prelude.{◌≡◌, ◌⊎◌, ℕ, ◌+◌, ◌≤◌, List, [], ◌∷◌, ◌++◌}
+use Rattle.disk_model.specs.Disk.{Image, DiskState, DiskView, History, IsImage, content_of}
+use Rattle.journal.specs.Area.{StandsFor, end_of}
+use Rattle.journal.specs.declared.frame.TheConstants.{MAX_PAYLOAD}
+
+-- the active area of the image stands for these payloads. It is area First.
+abbrev pub Stands : Image → List (List ℕ) → Type 0
+Stands i payloads = StandsFor MAX_PAYLOAD i.first payloads
+
+-- the disk stands for these payloads, they are durable, and the closed gate behind them is at `end`
+pub record Keeps (h : History) (end : ℕ) (payloads : List (List ℕ)) : Type 0 where
+  pub stands : Stands (content_of h) payloads
+  pub end_is : end ≡ end_of payloads
+  pub durable : (i : Image) → IsImage h.now i → i.first ≡ (content_of h).first
+
+-- the area that isn't active is that of an image of this state
+abbrev pub OtherUntouched : DiskState → Image → Type 0
+OtherUntouched s i = (j : Image) × IsImage s j × (i.second ≡ j.second)
+
+-- the image stands for the payloads, with this one behind them or without it, and the other area is untouched
+abbrev pub BeforeOrAfter : DiskState → List (List ℕ) → List ℕ → Image → Type 0
+BeforeOrAfter s payloads payload i = (Stands i payloads ⊎ Stands i (payloads ++ payload ∷ [])) × OtherUntouched s i
+
+-- a journal as contracts see it: its disk, and the offset of the closed gate
+pub record JournalView : Type 0 where
+  pub disk : DiskView
+  pub end : ℕ
+
+-- a payload of n bytes, its record and the next gate fit behind the end
+abbrev pub Fits : ℕ → ℕ → ℕ → Type 0
+Fits room end n = (n ≤ MAX_PAYLOAD) × (end + 5 + n + 1 ≤ room)
+
+-- area First has these bytes, and they are durable
+pub record Holds (h : History) (bytes : List ℕ) : Type 0 where
+  pub content : (content_of h).first ≡ bytes
+  pub durable : (i : Image) → IsImage h.now i → i.first ≡ (content_of h).first

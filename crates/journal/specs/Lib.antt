@@ -1,0 +1,8 @@
+pub mod Area
+pub mod Damage
+pub mod Kept
+pub mod Frame
+pub mod Journal
+pub mod Walk
+pub mod Open
+pub mod Batch

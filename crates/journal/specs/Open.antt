@@ -1,0 +1,25 @@
+-- What a refused opening or creation tells of the disk.
+use Rattle.std.specs.Prelude.{◌≡◌, ℕ, List, []}
+use Rattle.disk_model.specs.Disk.{Image}
+use Rattle.journal.specs.Damage.{IsDamaged, HasHeader}
+use Rattle.journal.specs.declared.frame.TheConstants.{MAX_PAYLOAD}
+use Rattle.journal.specs.declared.opening.OpenCause.{OpenCause}
+use Rattle.journal.specs.declared.opening.OpenCause.TheVariants.{Damaged, NotASheet, Disk, OutOfMemory}
+
+-- neither area has a byte
+abbrev pub AreEmpty : Image → Type 0
+AreEmpty i = (i.first ≡ []) × (i.second ≡ [])
+
+-- what a cause says of the bytes of area First: the first gate that is damaged, or that no header stands there
+abbrev pub Tells : List ℕ → OpenCause → Type 0
+Tells bytes (Damaged gate) = IsDamaged MAX_PAYLOAD bytes gate
+Tells bytes NotASheet = HasHeader bytes → ⊥
+Tells bytes Disk = Unit {0}
+Tells bytes OutOfMemory = Unit {0}
+
+-- a cause that isn't in the bytes
+abbrev pub IsPassing : OpenCause → Type 0
+IsPassing (Damaged gate) = ⊥
+IsPassing NotASheet = ⊥
+IsPassing Disk = Unit {0}
+IsPassing OutOfMemory = Unit {0}

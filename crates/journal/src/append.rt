@@ -1,0 +1,33 @@
+// The calls on the disk that add a record.
+ghost use Rattle.std.specs.Prelude.{◌≡◌, ◌<◌, ◌≤◌, ◌+◌, ◌++◌, ◌∷◌, [], List, ℕ, length, OnOk};
+ghost use Rattle.disk_model.specs.Disk.{InModel, Called, LeavesOnly, content_of};
+ghost use Rattle.journal.specs.Area.{body_of, IsPayload};
+ghost use Rattle.journal.specs.Kept.{Keeps, BeforeOrAfter};
+ghost use Rattle.disk_model.specs.declared.disk.TheConstants.{MAX_ROOM};
+ghost use Rattle.journal.specs.declared.frame.TheConstants.{MAX_PAYLOAD};
+
+use disk_model::{Area, Disk, DiskFault};
+
+/// Writes the bytes of a frame behind the closed gate at `end`, and opens the gate once they are
+/// durable.
+pub(crate) fn add<D: Disk>(disk: &mut D, end: u64, bytes: &[u8]) -> Result<(), DiskFault>
+    requires room { end + length bytes.now + 1 ≤ MAX_ROOM }
+    requires inside { InModel (D.view disk.old) ((end < length (content_of (D.view disk.old).history).first) × (end + 1 + length bytes.now ≤ (D.view disk.old).room)) }
+
+    ensures called { Called result (D.view disk.old) (D.view disk.new) }
+    ensures second { InModel (D.view disk.old) ((content_of (D.view disk.new).history).second ≡ (content_of (D.view disk.old).history).second) }
+    ensures inside { OnOk result (InModel (D.view disk.old) (end + length bytes.now < length (content_of (D.view disk.new).history).first)) }
+
+    ensures any_moment { InModel (D.view disk.old) ((payloads : List (List ℕ)) (payload : List ℕ) → IsPayload MAX_PAYLOAD payload → bytes.now ≡ body_of payload ++ 0 ∷ []
+        → Keeps (D.view disk.old).history end payloads
+        → LeavesOnly (BeforeOrAfter (D.view disk.old).history.now payloads payload) (D.view disk.old).history (D.view disk.new).history) }
+    ensures acknowledged { OnOk result (InModel (D.view disk.old) ((payloads : List (List ℕ)) (payload : List ℕ) → IsPayload MAX_PAYLOAD payload → bytes.now ≡ body_of payload ++ 0 ∷ []
+        → Keeps (D.view disk.old).history end payloads
+        → Keeps (D.view disk.new).history (end + length bytes.now) (payloads ++ payload ∷ []))) }
+{
+    disk.write_at(Area::First, end + 1, bytes)?;
+    disk.sync(Area::First)?;
+    disk.write_at(Area::First, end, &[0x52])?;
+    disk.sync(Area::First)?;
+    Ok(())
+}

@@ -1,0 +1,56 @@
+// The bytes of a record behind its gate, and the closed gate after it.
+ghost use Rattle.std.specs.Prelude.{◌≡◌, ◌<◌, ◌≤◌, ◌+◌, ◌++◌, ◌∷◌, [], List, ℕ, length, IfOk};
+ghost use Rattle.journal.specs.Area.{body_of, IsPayload};
+
+use crate::OutOfMemory;
+use std::alloc::Global;
+use std::marker::Model;
+
+/// The greatest length of a payload, in bytes.
+pub const MAX_PAYLOAD: u64 = 2_097_152;
+
+/// A payload, ready to be appended without memory. Contracts see the payload.
+#[derive(Drop)]
+pub struct Frame {
+    bytes: Vec<u8>,
+}
+
+impl Model for Frame {
+    ghost use Rattle.std.specs.Prelude.{List, ℕ};
+    ghost use Rattle.journal.specs.Frame.{payload_in, IsFrame};
+    ghost use Rattle.journal.specs.declared.frame.TheConstants.{MAX_PAYLOAD};
+
+    ghost Value = { List ℕ };
+
+    ghost view = { λ f. payload_in f.bytes.items };
+
+    ghost invariant = { λ f. IsFrame MAX_PAYLOAD f.bytes.items };
+}
+
+impl Frame {
+    /// Makes the bytes that an append of this payload writes (docs/FORMAT.md, "Append").
+    pub fn new(alloc: Global, payload: &[u8]) -> Result<Frame, OutOfMemory>
+        requires { IsPayload MAX_PAYLOAD payload.now }
+        ensures { IfOk result (λ frame. frame ≡ payload.now) }
+    {
+        let mut bytes = (payload.len() as u32).to_be_bytes().to_vec(alloc)?;
+        bytes.extend_from_slice(payload)?;
+        bytes.push(0)?;
+        Ok(Frame { bytes })
+    }
+
+    /// The payload's length in bytes.
+    pub fn payload_len(&self) -> u64
+        ensures { result ≡ length self.now }
+    {
+        self.bytes.len() as u64 - 5
+    }
+
+    // The payload's length and the payload, and a closed gate.
+    pub(crate) fn bytes(&self) -> &[u8]
+        ensures bytes { result.now ≡ body_of self.now ++ 0 ∷ [] }
+        ensures payload { IsPayload MAX_PAYLOAD self.now }
+    {
+        &self.bytes
+    }
+}

@@ -1,0 +1,125 @@
+// A journal on a disk that it owns.
+ghost use Rattle.std.specs.Prelude.{◌≡◌, ◌<◌, ◌≤◌, ◌+◌, ◌++◌, ◌∷◌, ◌↔◌, [], List, ℕ, length, IfOk, IfErr, IsTrue};
+ghost use Rattle.disk_model.specs.Disk.{InModel, LeavesOnly, Looks, SameDisk, Rises, content_of};
+ghost use Rattle.journal.specs.Walk.{payloads_in, AreGates};
+ghost use Rattle.journal.specs.Open.{Tells};
+ghost use Rattle.journal.specs.Kept.{Keeps, BeforeOrAfter, Fits, Stands};
+
+use crate::append::add;
+use crate::opening::scan;
+use crate::{Frame, MAX_PAYLOAD, OpenCause, Payload};
+use disk_model::{Disk, DiskFault};
+use std::alloc::Global;
+use std::marker::Model;
+
+/// Records behind gates on a disk (docs/FORMAT.md, "The journal").
+///
+/// Contracts see its disk and the offset of its closed gate. What it keeps there is said by
+/// `Keeps`: `create` and `open` give it, `append` carries it on.
+#[derive(Drop)]
+pub struct Journal<D: Disk> {
+    disk: D,
+    end: u64,
+}
+
+impl<D: Disk> Model for Journal<D> {
+    ghost use Rattle.std.specs.Prelude.{◌<◌, ◌≤◌, length};
+    ghost use Rattle.disk_model.specs.Disk.{InModel, content_of};
+    ghost use Rattle.disk_model.specs.declared.disk.TheConstants.{MAX_ROOM};
+    ghost use Rattle.journal.specs.Kept.{JournalView};
+
+    ghost Value = { JournalView };
+
+    ghost view = { λ j. record { disk = D.view j.disk; end = j.end } };
+
+    ghost invariant = { λ j. (j.end ≤ MAX_ROOM) × InModel (D.view j.disk) (j.end < length (content_of (D.view j.disk).history).first) };
+}
+
+/// An opening that was refused, and the disk.
+#[derive(Drop)]
+pub struct OpenFault<D: Disk> {
+    pub cause: OpenCause,
+    pub disk: D,
+}
+
+/// An append that was refused.
+#[derive(Drop)]
+pub enum AppendFault<D: Disk> {
+    /// The payload doesn't fit. The journal is as it was.
+    JournalFull(Journal<D>),
+    /// The disk failed. The payload may be on it or not; the disk is to be opened again.
+    Disk(D),
+}
+
+impl<D: Disk> Journal<D> {
+    ghost use Rattle.journal.specs.Journal.{opened, disk_after, Gives, HandsBack, IsFull, IsFaulty};
+
+    /// Opens a disk that a crash may have left, and gives the payloads that it stands for, in
+    /// order, each with the offset of its gate. It writes nothing (docs/FORMAT.md, "Opening").
+    pub fn open(alloc: Global, disk: D) -> Result<(Journal<D>, Vec<Payload>), OpenFault<D>>
+        ensures same { SameDisk (D.view disk) (opened D.view result) }
+
+        ensures found { InModel (D.view disk) (IfOk result (λ found. Keeps found.0.disk.history found.0.end (payloads_in found.1.items))) }
+        ensures gates { InModel (D.view disk) (IfOk result (λ found. AreGates 10 found.1.items)) }
+        ensures fault { InModel (D.view disk) (IfErr result (λ e. Tells (content_of (D.view disk).history).first e.cause)) }
+
+        // A disk that stands for payloads gives these and no others, unless it fails or memory is refused.
+        ensures exact { InModel (D.view disk) ((payloads : List (List ℕ)) → Stands (content_of (D.view disk).history) payloads → Gives payloads result) }
+
+        // It changes no byte, and at every moment each image is one that a crash could leave at the start.
+        ensures looks { InModel (D.view disk) (Looks (D.view disk).history (opened D.view result).history) }
+
+        ensures faulty { IfErr result (λ e. e.cause ≡ OpenCause.Disk → Rises (D.view disk).faults (D.view e.disk).faults) }
+    {
+        let mut disk = disk;
+        match scan(alloc, &mut disk) {
+            Ok((end, payloads)) => Ok((Journal { disk, end }, payloads)),
+            Err(cause) => Err(OpenFault { cause, disk }),
+        }
+    }
+
+    /// Whether a payload of so many bytes fits behind the end. It takes no memory.
+    pub fn fits(&self, payload_len: u64) -> bool
+        ensures { IsTrue result ↔ Fits self.now.disk.room self.now.end payload_len }
+    {
+        payload_len <= MAX_PAYLOAD && self.end + 5 + payload_len < self.disk.room()
+    }
+
+    /// Adds a payload, which is durable at `Ok`. It takes no memory (docs/FORMAT.md, "Append").
+    pub fn append(self, frame: &Frame) -> Result<Journal<D>, AppendFault<D>>
+        ensures same { SameDisk self.disk (disk_after D.view result) }
+        ensures other { InModel self.disk ((content_of (disk_after D.view result).history).second ≡ (content_of self.disk.history).second) }
+
+        ensures ok { InModel self.disk ((payloads : List (List ℕ)) → Keeps self.disk.history self.end payloads
+            → IfOk result (λ journal. Keeps journal.disk.history journal.end (payloads ++ frame.now ∷ []))) }
+
+        // A crash at any moment of the call leaves the payloads from before it, with the new one or without.
+        ensures any_moment { InModel self.disk ((payloads : List (List ℕ)) → Keeps self.disk.history self.end payloads
+            → LeavesOnly (BeforeOrAfter self.disk.history.now payloads frame.now) self.disk.history (disk_after D.view result).history) }
+
+        ensures unchanged { HandsBack result self }
+        ensures full { IsFull result ↔ (Fits self.disk.room self.end (length frame.now) → ⊥) }
+        ensures faulty { IsFaulty result → Rises self.disk.faults (disk_after D.view result).faults }
+    {
+        if !self.fits(frame.payload_len()) {
+            return Err(AppendFault::JournalFull(self));
+        }
+        let Journal { mut disk, end } = self;
+        let bytes = frame.bytes();
+        if let Err(DiskFault) = add(&mut disk, end, bytes) {
+            return Err(AppendFault::Disk(disk));
+        }
+        Ok(Journal {
+            disk,
+            end: end + bytes.len() as u64,
+        })
+    }
+
+    /// The disk, as it stands.
+    pub fn into_disk(self) -> D
+        ensures { D.view result ≡ self.disk }
+    {
+        let Journal { disk, end: _ } = self;
+        disk
+    }
+}

@@ -1,0 +1,23 @@
+//! A journal: payloads in records behind gates, each durable before it is acknowledged.
+//!
+//! A crash at any moment leaves a disk that opens to the payloads that were acknowledged, with the
+//! one in hand or without it.
+#![tactic(auto)]
+
+mod append;
+pub mod examples;
+mod frame;
+mod journal;
+mod octets;
+mod opening;
+mod walk;
+
+pub use disk_model::OutOfMemory;
+pub use frame::{Frame, MAX_PAYLOAD};
+pub use journal::{AppendFault, Journal, OpenFault};
+pub use octets::Octets;
+pub use opening::{CreateCause, CreateFault, OpenCause, create};
+pub use walk::Payload;
+
+#[cfg(test)]
+mod tests;

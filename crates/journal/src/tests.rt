@@ -1,0 +1,191 @@
+use crate::{AppendFault, CreateCause, Frame, Journal, OpenCause, Payload, create};
+use disk_model::{Area, Choice, Disk, Fill, MemoryDisk};
+use std::alloc::{AllocError, Global};
+use std::test::Fail;
+
+// The payload of a session `a`, plain, with the word `sh`.
+const SESSION: [u8; 9] = [1, 1, 0x61, 0, 1, 0, 2, 0x73, 0x68];
+
+fn created(alloc: Global, room: u64) -> Result<MemoryDisk, Fail> {
+    if room < 11 || room > 100 {
+        return Err("room".into());
+    }
+    Ok(create(MemoryDisk::new(alloc, room)).map_err(|_| "create")?)
+}
+
+fn opened(alloc: Global, disk: MemoryDisk) -> Result<(Journal<MemoryDisk>, Vec<Payload>), Fail> {
+    Ok(Journal::open(alloc, disk).map_err(|_| "open")?)
+}
+
+#[test]
+fn a_record_that_fills_the_room(rt: HostRuntime) -> Result<(), Fail> {
+    let alloc = rt.alloc();
+    let (journal, payloads) = opened(alloc, created(alloc, 25)?)?;
+    assert_eq!(rt; payloads.len(), 0);
+    assert!(rt; journal.fits(9));
+    let frame = Frame::new(alloc, &SESSION)?;
+    let journal = journal.append(&frame).map_err(|_| "append")?;
+    assert!(rt; !journal.fits(1));
+    let one = Frame::new(alloc, &[7])?;
+    let journal = match journal.append(&one) {
+        Err(AppendFault::JournalFull(journal)) => journal,
+        _ => return Err("not full".into()),
+    };
+    let disk = journal.into_disk();
+    let area = b"TMWSHEET\x01A\x52\x00\x00\x00\x09\x01\x01a\x00\x01\x00\x02sh\x00".as_slice();
+    assert_eq!(rt; disk.content(Area::First), area);
+    assert_eq!(rt; disk.content(Area::Second).len(), 0);
+    let (_, payloads) = opened(alloc, disk)?;
+    assert_eq!(rt; payloads.len(), 1);
+    assert_eq!(rt; payloads[0].gate, 10);
+    assert_eq!(rt; payloads[0].bytes.as_slice(), SESSION.as_slice());
+    Ok(())
+}
+
+#[test]
+fn a_record_that_does_not_fit(rt: HostRuntime) -> Result<(), Fail> {
+    let alloc = rt.alloc();
+    let (journal, _) = opened(alloc, created(alloc, 24)?)?;
+    let frame = Frame::new(alloc, &SESSION)?;
+    let journal = match journal.append(&frame) {
+        Err(AppendFault::JournalFull(journal)) => journal,
+        _ => return Err("not full".into()),
+    };
+    let disk = journal.into_disk();
+    assert_eq!(rt; disk.content(Area::First), b"TMWSHEET\x01A\x00".as_slice());
+    Ok(())
+}
+
+#[test]
+fn a_disk_with_a_byte_is_not_created(rt: HostRuntime) -> Result<(), Fail> {
+    let alloc = rt.alloc();
+    let first = [0u8].as_slice().to_vec(alloc)?;
+    let disk = MemoryDisk::holding(alloc, 100, first).map_err(|_| "holding")?;
+    let fault = create(disk).map_err(|fault| fault.cause);
+    assert_eq!(rt; fault.err(), Some(CreateCause::NotEmpty));
+    Ok(())
+}
+
+// Why these bytes don't open.
+fn refusal(alloc: Global, area: &[u8]) -> Result<OpenCause, Fail> {
+    if area.len() > 100 {
+        return Err("too long".into());
+    }
+    let disk = MemoryDisk::holding(alloc, 100, area.to_vec(alloc)?).map_err(|_| "holding")?;
+    match Journal::open(alloc, disk) {
+        Ok(_) => Err("opens".into()),
+        Err(fault) => Ok(fault.cause),
+    }
+}
+
+#[test]
+fn damage_names_its_gate(rt: HostRuntime) -> Result<(), Fail> {
+    let alloc = rt.alloc();
+    let cut = b"TMWSHEET\x01A\x52\x00\x00\x00\x09abc";
+    assert_eq!(rt; refusal(alloc, cut)?, OpenCause::Damaged(10));
+    let no_next_gate = b"TMWSHEET\x01A\x52\x00\x00\x00\x01a\x52\x00\x00\x00\x01b";
+    assert_eq!(rt; refusal(alloc, no_next_gate)?, OpenCause::Damaged(16));
+    let empty = b"TMWSHEET\x01A\x52\x00\x00\x00\x00\x00";
+    assert_eq!(rt; refusal(alloc, empty)?, OpenCause::Damaged(10));
+    assert_eq!(rt; refusal(alloc, b"0123456789")?, OpenCause::NotASheet);
+    assert_eq!(rt; refusal(alloc, b"TMWSHEET\x01A")?, OpenCause::NotASheet);
+    assert_eq!(rt; refusal(alloc, b"TMWSHEET\x01B\x00")?, OpenCause::NotASheet);
+    assert_eq!(rt; refusal(alloc, b"TMWSHEET\x02A\x00")?, OpenCause::NotASheet);
+    Ok(())
+}
+
+// How many payloads a crash leaves, each of them the session's.
+fn left_by(alloc: Global, disk: &MemoryDisk, choice: &Choice) -> Result<usize, Fail> {
+    if choice.moment > disk.calls() {
+        return Err("no such moment".into());
+    }
+    let disk = disk.crash(choice).map_err(|_| "crash")?;
+    let (_, payloads) = opened(alloc, disk)?;
+    for payload in &payloads {
+        if payload.gate != 10 || payload.bytes.as_slice() != SESSION.as_slice() {
+            return Err("another payload".into());
+        }
+    }
+    Ok(payloads.len())
+}
+
+#[test]
+fn a_crash_leaves_the_record_or_none(rt: HostRuntime) -> Result<(), Fail> {
+    let alloc = rt.alloc();
+    let disk = created(alloc, 25)?;
+    let start = disk.calls();
+    let (journal, _) = opened(alloc, disk)?;
+    let frame = Frame::new(alloc, &SESSION)?;
+    let disk = journal.append(&frame).map_err(|_| "append")?.into_disk();
+    let end = disk.calls();
+    let fills = [
+        Fill::Old,
+        Fill::New,
+        Fill::Torn(1),
+        Fill::Byte(0),
+        Fill::Byte(0x52),
+    ];
+    for moment in start..end + 1 {
+        for fill in fills {
+            for grown in [false, true] {
+                let left = left_by(
+                    alloc,
+                    &disk,
+                    &Choice {
+                        moment,
+                        fill,
+                        grown,
+                    },
+                )?;
+                assert!(rt; left == 1 || (left == 0 && moment < end));
+            }
+        }
+    }
+    Ok(())
+}
+
+// All memory, in blocks of falling size.
+fn exhausted(alloc: Global) -> Result<Vec<Vec<u8>>, AllocError> {
+    let mut held: Vec<Vec<u8>> = Vec::with_capacity(alloc, 200_000)?;
+    let mut size: usize = 1 << 44;
+    for _ in 0..45 {
+        for _ in 0..12_000 {
+            match Vec::with_capacity(alloc, size) {
+                Ok(block) => {
+                    if held.len() >= 199_000 {
+                        return Ok(held);
+                    }
+                    held.push(block)?;
+                }
+                Err(_) => break,
+            }
+        }
+        if size > 1 {
+            size /= 2;
+        }
+    }
+    Ok(held)
+}
+
+#[test]
+fn without_memory_the_disk_fails_and_nothing_breaks(rt: HostRuntime) -> Result<(), Fail> {
+    let alloc = rt.alloc();
+    let (journal, _) = opened(alloc, created(alloc, 25)?)?;
+    let frame = Frame::new(alloc, &SESSION)?;
+    let empty = MemoryDisk::new(alloc, 25);
+    let held = exhausted(alloc)?;
+    let refused = create(empty).map_err(|fault| fault.cause).err();
+    let fits = journal.fits(9) && !journal.fits(10);
+    let appended = journal.append(&frame);
+    drop(held);
+    assert_eq!(rt; refused, Some(CreateCause::Disk));
+    assert!(rt; fits);
+    let disk = match appended {
+        Err(AppendFault::Disk(disk)) => disk,
+        _ => return Err("no fault".into()),
+    };
+    let (journal, payloads) = opened(alloc, disk)?;
+    assert_eq!(rt; payloads.len(), 0);
+    assert!(rt; journal.append(&frame).is_ok());
+    Ok(())
+}
