@@ -1,0 +1,39 @@
+-- Tests of texts and places.
+use Rattle.std.proofs.Common.{◌≡◌, ℕ, ◌+◌, ◌<◌, List, ◌∷◌, length, get_or, drop, refl, add-one, drop-cons, Bool, true, false}
+use Rattle.std.specs.Prelude.{◌==◌, ◌&&◌, ◌||◌, is_some}
+use Rattle.std.specs.List.{list_any, zip}
+use Rattle.std.specs.Str.{IsUtf8, is_utf8}
+use Rattle.std.proofs.lemmas.Str.{IsUtf8-from_is_utf8}
+use Rattle.worksheet.specs.declared.field.Field.{Field}
+use Rattle.worksheet.specs.Checks.{numbers, field_in}
+use Rattle.worksheet.specs.Edits.{fields_without}
+use Rattle.worksheet.proofs.Finds.{field_in-without}
+
+pub is_utf8-false : (bytes : List ℕ) → ¬ (IsUtf8 bytes) → is_utf8 bytes ≡ false
+is_utf8-false bytes no_text = go (is_utf8 bytes) (λ text. absurd (no_text (IsUtf8-from_is_utf8 bytes text)))
+  where
+    go : (b : Bool) → (b ≡ true → b ≡ false) → b ≡ false
+    go true h = h refl
+    go false h = refl
+
+-- whether these fields, behind that number, hold one number directly behind the other
+abbrev pub stands_among : ℕ → ℕ → ℕ → List Field → Bool
+stands_among after id before fields = list_any (λ pair. (pair.0 == after) && (pair.1 == id)) (zip (before ∷ numbers fields) (numbers fields))
+
+pub stands_among-next : (after id before : ℕ) (fs : List Field) (i : ℕ) (x : Field) → i < length fs → x ≡ get_or fs i x
+    → ((before == after) && (x.id == id)) ≡ false → stands_among after id x.id (drop (i + 1) fs) ≡ stands_among after id before (drop i fs)
+stands_among-next after id before fs i x h is no_pair =
+    let next : drop i fs ≡ x ∷ drop (i + 1) fs = rw (add-one, drop-cons fs i x h, ← is) refl in
+    rw (next, no_pair) refl
+
+-- a place for a field that moves stays where it is taken out
+pub place-without : (fs : List Field) (id after : ℕ) (stands : Bool) → ((after == 0) || is_some (field_in fs after)) ≡ true → ((after == id) || stands) ≡ false
+    → ((after == 0) || is_some (field_in (fields_without id fs) after)) ≡ true
+place-without fs id after stands place elsewhere = go (after == 0) (after == id) place elsewhere (field_in-without fs id after)
+  where
+    go : (b c : Bool) → (b || is_some (field_in fs after)) ≡ true → (c || stands) ≡ false
+        → (c ≡ false → is_some (field_in fs after) ≡ true → is_some (field_in (fields_without id fs) after) ≡ true)
+        → (b || is_some (field_in (fields_without id fs) after)) ≡ true
+    go true c p e k = refl
+    go false true p e k = cc
+    go false false p e k = k refl p

@@ -1,0 +1,63 @@
+-- What looking a number or a name up finds, and what follows from no refusal.
+use Rattle.std.proofs.Common.{◌≡◌, ℕ, List, [], ◌∷◌, refl, arith, Bool, true, false, Option, Some, None}
+use Rattle.std.specs.Prelude.{◌==◌, not, is_some, IsSome, if◌then◌else◌}
+use Rattle.std.specs.Str.{bytes_eq}
+use Rattle.std.proofs.lemmas.Slice.Eq.{bytes_eq-Decides}
+use Rattle.std.proofs.lemmas.Bool.Decides.{nat_tests}
+use Rattle.worksheet.specs.declared.refusal.Refusal.{Refusal}
+use Rattle.worksheet.specs.declared.field.Field.{Field}
+use Rattle.worksheet.specs.declared.field.Session.{Session}
+use Rattle.worksheet.specs.Checks.{field_in, session_named, first_of}
+use Rattle.worksheet.specs.Edits.{fields_without}
+
+-- none of these refusals applies
+abbrev pub NoneApplies : List (Refusal × Bool) → Type 0
+NoneApplies [] = Unit {0}
+NoneApplies (r ∷ rs) = (r.1 ≡ false) × NoneApplies rs
+
+pub none_applies : (rs : List (Refusal × Bool)) → first_of rs ≡ None → NoneApplies rs
+none_applies [] h = tt
+none_applies (r ∷ rs) h = go r.1 refl h (none_applies rs)
+  where
+    go : (b : Bool) → r.1 ≡ b → (if b then Some r.0 else first_of rs) ≡ None → (first_of rs ≡ None → NoneApplies rs) → NoneApplies (r ∷ rs)
+    go true e h rest = cc
+    go false e h rest = (e, rest h)
+
+pub true_from_not : (b : Bool) → not b ≡ false → b ≡ true
+true_from_not true h = refl
+true_from_not false h = cc
+
+pub IsSome-from_test : {A : Type 0} (o : Option A) → is_some o ≡ true → IsSome o
+IsSome-from_test None h = cc
+IsSome-from_test (Some x) h = refl
+
+-- the session that is found has the name
+pub session_named-name : (ss : List Session) (name : List ℕ) (s : Session) → session_named ss name ≡ Some s → s.name ≡ name
+session_named-name [] name s h = cc
+session_named-name (t ∷ ss) name s h = go (bytes_eq t.name name) refl h (session_named-name ss name s)
+  where
+    go : (b : Bool) → bytes_eq t.name name ≡ b → (if b then Some t else session_named ss name) ≡ Some s → (session_named ss name ≡ Some s → s.name ≡ name) → s.name ≡ name
+    go true e h rest = let is : t ≡ s = cc in rw (← is) ((bytes_eq-Decides t.name name).0 e)
+    go false e h rest = rest h
+
+-- the field that is found has the number
+pub field_in-id : (fs : List Field) (id : ℕ) (f : Field) → field_in fs id ≡ Some f → f.id ≡ id
+field_in-id [] id f h = cc
+field_in-id (g ∷ fs) id f h = go (g.id == id) refl h (field_in-id fs id f)
+  where
+    go : (b : Bool) → (g.id == id) ≡ b → (if b then Some g else field_in fs id) ≡ Some f → (field_in fs id ≡ Some f → f.id ≡ id) → f.id ≡ id
+    go true e h rest = let is : g ≡ f = cc in rw (← is) (grind (arith, nat_tests))
+    go false e h rest = rest h
+
+-- a field stays where another is taken out
+pub field_in-without : (fs : List Field) (id after : ℕ) → (after == id) ≡ false → is_some (field_in fs after) ≡ true → is_some (field_in (fields_without id fs) after) ≡ true
+field_in-without [] id after other h = h
+field_in-without (g ∷ fs) id after other h = go (g.id == id) (g.id == after) refl refl h (field_in-without fs id after other)
+  where
+    go : (b c : Bool) → (g.id == id) ≡ b → (g.id == after) ≡ c → is_some (if c then Some g else field_in fs after) ≡ true
+        → (is_some (field_in fs after) ≡ true → is_some (field_in (fields_without id fs) after) ≡ true)
+        → is_some (field_in (if not b then g ∷ fields_without id fs else fields_without id fs) after) ≡ true
+    go true true e d h rest = absurd (grind (arith, nat_tests))
+    go true false e d h rest = rest h
+    go false true e d h rest = rw d refl
+    go false false e d h rest = rw d (rest h)

@@ -1,0 +1,7 @@
+pub mod NameLaws
+pub mod EditLaws
+pub mod CheckLaws
+pub mod Finds
+pub mod SoundLaws
+pub mod OneMore
+pub mod SheetLaws

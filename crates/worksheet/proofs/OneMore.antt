@@ -1,0 +1,101 @@
+-- One more op: what the whole list says then, against an edit of what it said before.
+use Rattle.std.proofs.Common.{◌≡◌, ℕ, List, [], ◌∷◌, ◌++◌, refl, ap, ◌∙◌, Bool, true, false, Option, Some, None}
+use Rattle.std.specs.Prelude.{filter, if◌then◌else◌}
+use Rattle.std.specs.List.{last_or}
+use Rattle.std.proofs.lemmas.List.{append-nil}
+use Rattle.worksheet.specs.declared.op.Op.{Op}
+use Rattle.worksheet.specs.declared.op.Op.TheVariants as op
+use Rattle.worksheet.specs.declared.field.Field.{Field}
+use Rattle.worksheet.specs.declared.field.Session.{Session}
+use Rattle.worksheet.specs.Ops.{next_after, next_from, next_of, is_about, about_from, about, last_of, gives_session, gives_input, decides_answer, session_in, input_in, answer_in, field_by, field_of, order_after, order_from, sessions_of}
+use Rattle.worksheet.specs.Edits.{with_input, with_answer}
+
+-- The lists, with one op more.
+
+pub next_from-push : (next : ℕ) (os : List Op) (o : Op) → next_from next (os ++ o ∷ []) ≡ next_after (next_from next os) o
+next_from-push next [] o = refl
+next_from-push next (p ∷ os) o = next_from-push (next_after next p) os o
+
+pub order_from-push : (next : ℕ) (ids : List ℕ) (os : List Op) (o : Op) → order_from next ids (os ++ o ∷ []) ≡ order_after (next_from next os) o (order_from next ids os)
+order_from-push next ids [] o = refl
+order_from-push next ids (p ∷ os) o = order_from-push (next_after next p) (order_after next p ids) os o
+
+pub about_from-push : (id next : ℕ) (os : List Op) (o : Op)
+    → about_from id next (os ++ o ∷ []) ≡ about_from id next os ++ (if is_about id (next_from next os) o then o ∷ [] else [])
+about_from-push id next [] o = refl
+about_from-push id next (p ∷ os) o = go (is_about id next p) (about_from-push id (next_after next p) os o)
+  where
+    go : (b : Bool) → about_from id (next_after next p) (os ++ o ∷ []) ≡ about_from id (next_after next p) os ++ (if is_about id (next_from (next_after next p) os) o then o ∷ [] else [])
+        → (if b then p ∷ about_from id (next_after next p) (os ++ o ∷ []) else about_from id (next_after next p) (os ++ o ∷ []))
+        ≡ (if b then p ∷ about_from id (next_after next p) os else about_from id (next_after next p) os) ++ (if is_about id (next_from (next_after next p) os) o then o ∷ [] else [])
+    go true rest = ap (λ (qs : List Op). p ∷ qs) rest
+    go false rest = rest
+
+pub sessions_of-push : (os : List Op) (o : Op) → sessions_of (os ++ o ∷ []) ≡ sessions_of os ++ sessions_of (o ∷ [])
+sessions_of-push [] o = refl
+sessions_of-push (op.Session name tab words ∷ os) o = ap (λ (ss : List Session). record { name = name; tab = tab; words = words } ∷ ss) (sessions_of-push os o)
+sessions_of-push (op.New place session input ∷ os) o = sessions_of-push os o
+sessions_of-push (op.Set id input ∷ os) o = sessions_of-push os o
+sessions_of-push (op.Remove id ∷ os) o = sessions_of-push os o
+sessions_of-push (op.Move id place ∷ os) o = sessions_of-push os o
+sessions_of-push (op.Clear id ∷ os) o = sessions_of-push os o
+sessions_of-push (op.Answer id prompt output ∷ os) o = sessions_of-push os o
+
+-- the last of a kind is the op behind, where that is of the kind
+last_or-push : (test : Op → Bool) (first : Option Op) (os : List Op) (o : Op)
+    → last_or first (filter test (os ++ o ∷ [])) ≡ (if test o then Some o else last_or first (filter test os))
+last_or-push test first [] o = go (test o)
+  where
+    go : (b : Bool) → last_or first (if b then o ∷ [] else []) ≡ (if b then Some o else first)
+    go true = refl
+    go false = refl
+last_or-push test first (p ∷ os) o = go (test p) (last_or-push test (Some p) os o) (last_or-push test first os o)
+  where
+    go : (b : Bool)
+        → last_or (Some p) (filter test (os ++ o ∷ [])) ≡ (if test o then Some o else last_or (Some p) (filter test os))
+        → last_or first (filter test (os ++ o ∷ [])) ≡ (if test o then Some o else last_or first (filter test os))
+        → last_or first (if b then p ∷ filter test (os ++ o ∷ []) else filter test (os ++ o ∷ []))
+        ≡ (if test o then Some o else last_or first (if b then p ∷ filter test os else filter test os))
+    go true behind front = behind
+    go false behind front = front
+
+pub last_of-push : (test : Op → Bool) (os : List Op) (o : Op) → last_of test (os ++ o ∷ []) ≡ (if test o then Some o else last_of test os)
+last_of-push test os o = last_or-push test None os o
+
+-- A field, with one op more.
+
+-- what an op does to the field that it is about
+abbrev pub changed : Op → Field → Field
+changed (op.Session name tab words) f = f
+changed (op.New after session input) f = record f { session = session; input = input; answer = None }
+changed (op.Set id input) f = with_input input f
+changed (op.Remove id) f = f
+changed (op.Move id after) f = f
+changed (op.Clear id) f = with_answer None f
+changed (op.Answer id prompt output) f = with_answer (Some (record { prompt = prompt; output = output })) f
+
+-- a field by the last ops that give its session, its input and its answer
+abbrev by_last : ℕ → Option Op → Option Op → Option Op → Field
+by_last id s i a = record { id = id; session = session_in s; input = input_in i; answer = answer_in a }
+
+by_last-push : (o : Op) (id : ℕ) (s i a : Option Op)
+    → by_last id (if gives_session o then Some o else s) (if gives_input o then Some o else i) (if decides_answer o then Some o else a) ≡ changed o (by_last id s i a)
+by_last-push (op.Session name tab words) id s i a = refl
+by_last-push (op.New after session input) id s i a = refl
+by_last-push (op.Set other input) id s i a = refl
+by_last-push (op.Remove other) id s i a = refl
+by_last-push (op.Move other after) id s i a = refl
+by_last-push (op.Clear other) id s i a = refl
+by_last-push (op.Answer other prompt output) id s i a = refl
+
+field_by-push : (id : ℕ) (os : List Op) (o : Op) → field_by id (os ++ o ∷ []) ≡ changed o (field_by id os)
+field_by-push id os o =
+    rw (last_of-push gives_session os o, last_of-push gives_input os o, last_of-push decides_answer os o)
+    (by_last-push o id (last_of gives_session os) (last_of gives_input os) (last_of decides_answer os))
+
+pub field_of-push : (os : List Op) (o : Op) (id : ℕ) → field_of (os ++ o ∷ []) id ≡ (if is_about id (next_of os) o then changed o (field_of os id) else field_of os id)
+field_of-push os o id = ap (λ (qs : List Op). field_by id qs) (about_from-push id 1 os o) ∙ go (is_about id (next_of os) o)
+  where
+    go : (b : Bool) → field_by id (about id os ++ (if b then o ∷ [] else [])) ≡ (if b then changed o (field_by id (about id os)) else field_by id (about id os))
+    go true = field_by-push id (about id os) o
+    go false = ap (λ (qs : List Op). field_by id qs) (append-nil (about id os))

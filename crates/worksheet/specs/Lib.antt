@@ -1,0 +1,9 @@
+pub mod Names
+pub mod NameInside
+pub mod Refusals
+pub mod Contents
+pub mod Codes
+pub mod Ops
+pub mod Checks
+pub mod Edits
+pub mod SheetInside

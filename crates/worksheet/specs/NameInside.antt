@@ -1,0 +1,35 @@
+-- A name in its 32 bytes, of which those behind it are 0.
+use Rattle.std.specs.Prelude.{◌≡◌, ◌-◌, ◌≤◌, ℕ, List, ◌++◌, length, take, drop, replicate, IsTrue, refl}
+use Rattle.std.proofs.Common.{ap, sym, ◌∙◌, arith}
+use Rattle.std.proofs.lemmas.List.{length-take, take-append-drop}
+use Rattle.worksheet.specs.declared.name.Name.TheInside.{Inside}
+use Rattle.worksheet.specs.Names.{is_name}
+
+-- the bytes of the name
+abbrev pub name_of : Inside → List ℕ
+name_of a = take a.len a.bytes
+
+pub record IsNameInside (a : Inside) : Type 0 where
+  pub whole : length a.bytes ≡ 32
+  pub short : a.len ≤ 32
+  pub behind : drop a.len a.bytes ≡ replicate (32 - a.len) 0
+  pub named : IsTrue (is_name (take a.len a.bytes))
+
+-- where a name lies
+abbrev pub inside_of : List ℕ → Inside
+inside_of bytes = record { len = length bytes; bytes = bytes ++ replicate (32 - length bytes) 0 }
+
+abbrev inside_with : ℕ → List ℕ → Inside
+inside_with len bytes = record { len = len; bytes = bytes }
+
+same_inside : (l m : ℕ) (b c : List ℕ) → l ≡ m → b ≡ c → inside_with l b ≡ inside_with m c
+same_inside l m b c p q = rw (p, q) refl
+
+-- a name lies where its bytes say
+pub name_back : (a : Inside) → IsNameInside a → inside_of (name_of a) ≡ a
+name_back a h =
+    let n : length (take a.len a.bytes) ≡ a.len = omega (arith, length-take a.len a.bytes, h.whole, h.short) in
+    same_inside _ _ _ _ n
+    (ap (λ k. take a.len a.bytes ++ replicate (32 - k) 0) n
+    ∙ ap (λ rest. take a.len a.bytes ++ rest) (sym h.behind)
+    ∙ take-append-drop a.len a.bytes)

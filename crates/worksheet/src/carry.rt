@@ -1,0 +1,115 @@
+//! What an allowed op does.
+ghost use Rattle.std.specs.Prelude.{◌≡◌, ◌+◌, ◌<◌, ◌∷◌, ◌++◌, [], ℕ, true, None, IsSome, vec_len, vec_capacity, is_some};
+ghost use Rattle.std.specs.Str.{is_utf8};
+ghost use Rattle.worksheet.specs.declared.op.Op.TheVariants as op;
+ghost use Rattle.worksheet.specs.Names.{is_name};
+ghost use Rattle.worksheet.specs.Checks.{field_in, first_refusal, numbers, room_for, session_named};
+ghost use Rattle.worksheet.specs.Edits.{AreApart, IsSound, contents_with, edited, fields_without, moved};
+ghost use Rattle.worksheet.specs.SheetInside.{held_of};
+
+use crate::check::session_with;
+use crate::edits::{put_field, set_answer, set_input, take_field};
+use crate::field::{Answer, Field, Session};
+use crate::name::Name;
+use crate::op::Op;
+use block_tree::{Octets, Sequence, Text};
+
+/// Does what an allowed op says to a worksheet of these parts. There is room for it.
+pub(crate) fn carry_out(
+    fields: &mut Vec<Field>,
+    sessions: &mut Vec<Session>,
+    next: &mut u32,
+    op: Op,
+)
+    requires sound { IsSound (contents_with fields.old.items sessions.old.items next.old) }
+    requires allowed { first_refusal (contents_with fields.old.items sessions.old.items next.old) op ≡ None }
+    requires room { room_for (held_of (record { fields = fields.old; sessions = sessions.old; next = next.old })) op ≡ true }
+    ensures { contents_with fields.new.items sessions.new.items next.new ≡ edited (contents_with fields.old.items sessions.old.items next.old) op }
+{
+    match op {
+        Op::Session { name, tab, words } => add_session(sessions, name, tab, words),
+        Op::New {
+            after,
+            session,
+            input,
+        } => {
+            let field = new_field(sessions, *next, session, input);
+            put_field(fields, after, field);
+            *next += 1;
+        }
+        Op::Set { id, input } => set_input(fields, id, text_of(input)),
+        Op::Remove { id } => remove_field(fields, id),
+        Op::Move { id, after } => move_field(fields, id, after),
+        Op::Clear { id } => set_answer(fields, id, None),
+        Op::Answer { id, prompt, output } => {
+            set_answer(fields, id, Some(Answer { prompt, output }))
+        }
+    }
+}
+
+/// Puts a session behind the others. There is room for it.
+fn add_session(sessions: &mut Vec<Session>, name: Octets, tab: bool, words: Sequence<Octets>)
+    requires named { is_name name ≡ true }
+    requires room { vec_len sessions.old < vec_capacity sessions.old }
+    ensures { sessions.new.items ≡ sessions.old.items ++ record { name = name; tab = tab; words = words } ∷ [] }
+{
+    let Some(name) = Name::new(name.as_slice()) else {
+        unreachable!();
+    };
+    sessions.push_reserved(Session { name, tab, words });
+}
+
+/// A field of this session without an answer.
+fn new_field(sessions: &[Session], id: u32, session: Octets, input: Octets) -> Field
+    requires there { is_some (session_named sessions.now session) ≡ true }
+    requires text { is_utf8 input ≡ true }
+    ensures { result ≡ record { id = id; session = session; input = input; answer = None } }
+{
+    Field {
+        id,
+        session: name_with(sessions, session.as_slice()),
+        input: text_of(input),
+        answer: None,
+    }
+}
+
+/// The name with these bytes of one of the sessions.
+fn name_with(sessions: &[Session], name: &[u8]) -> Name
+    requires { is_some (session_named sessions.now name.now) ≡ true }
+    ensures { result ≡ name.now }
+{
+    let Some(found) = session_with(sessions, name) else {
+        unreachable!();
+    };
+    found.name
+}
+
+/// The text of bytes that are UTF-8, in their buffer.
+fn text_of(bytes: Octets) -> Text
+    requires { is_utf8 bytes ≡ true }
+    ensures { result ≡ bytes }
+{
+    match String::from_utf8(bytes.into_vec()) {
+        Ok(text) => Text::from_string(text),
+        Err(_) => unreachable!(),
+    }
+}
+
+/// Takes the field with this number out and gives it up.
+fn remove_field(fields: &mut Vec<Field>, id: u32)
+    requires apart { AreApart (numbers fields.old.items) }
+    requires there { IsSome (field_in fields.old.items id) }
+    ensures { fields.new.items ≡ fields_without id fields.old.items }
+{
+    take_field(fields, id);
+}
+
+/// Moves a field directly behind another, or first for 0.
+fn move_field(fields: &mut Vec<Field>, id: u32, after: u32)
+    requires apart { AreApart (numbers fields.old.items) }
+    requires allowed { first_refusal (contents_with fields.old.items [] 0) (op.Move id after) ≡ None }
+    ensures { fields.new.items ≡ moved id after fields.old.items (field_in fields.old.items id) }
+{
+    let field = take_field(fields, id);
+    put_field(fields, after, field);
+}

@@ -1,0 +1,242 @@
+//! Whether a worksheet allows an op.
+ghost use Rattle.std.specs.Prelude.{◌≡◌, ◌==◌, ◌||◌, [], List, false, nat_le, is_some};
+ghost use Rattle.std.specs.List.{list_all};
+ghost use Rattle.std.specs.Option.{option_copied};
+ghost use Rattle.std.specs.Result.{result_err};
+ghost use Rattle.worksheet.specs.Checks.{is_input as input_test, is_input_byte as input_byte_test, is_word as word_test, are_words as words_test, field_in, session_named as session_found, stands_behind as place_test, numbers, first_refusal};
+ghost use Rattle.std.specs.Str.{is_utf8 as utf8_test};
+ghost use Rattle.block_tree.specs.Tree.{Tree};
+ghost use Rattle.worksheet.specs.Edits.{contents_with};
+ghost use Rattle.worksheet.specs.declared.op.Op.TheVariants as op;
+
+use crate::field::{Field, Session};
+use crate::limits::{
+    LAST_NUMBER, LONGEST_INPUT, LONGEST_PROMPT, LONGEST_WORD, MOST_FIELDS, MOST_SESSIONS,
+    MOST_WORDS,
+};
+use crate::name::is_name;
+use crate::op::Op;
+use crate::refusal::Refusal;
+use block_tree::Octets;
+
+/// Whether these bytes are an input: UTF-8, at most 4,095 bytes, with no character below U+0020 but
+/// TAB.
+pub fn is_input(bytes: &[u8]) -> bool
+    ensures { result ≡ input_test bytes.now }
+{
+    bytes.len() <= LONGEST_INPUT && are_input_bytes(bytes) && is_utf8(bytes)
+}
+
+fn are_input_bytes(bytes: &[u8]) -> bool
+    ensures { result ≡ list_all input_byte_test bytes.now }
+{
+    bytes.iter().all(|byte| *byte >= 32 || *byte == b'\t')
+}
+
+/// Whether these are words to start a session with: 1 to 16, each 1 to 1,024 bytes of UTF-8 with no
+/// byte below 32.
+pub fn are_words(words: &[Octets]) -> bool
+    ensures { result ≡ words_test words.now }
+{
+    !words.is_empty() && words.len() <= MOST_WORDS && are_each_words(words)
+}
+
+fn are_each_words(words: &[Octets]) -> bool
+    ensures { result ≡ list_all word_test words.now }
+{
+    words.iter().all(|word| is_word(word.as_slice()))
+}
+
+fn is_word(bytes: &[u8]) -> bool
+    ensures { result ≡ word_test bytes.now }
+{
+    !bytes.is_empty() && bytes.len() <= LONGEST_WORD && has_no_control(bytes) && is_utf8(bytes)
+}
+
+fn has_no_control(bytes: &[u8]) -> bool
+    ensures { result ≡ list_all (nat_le 32) bytes.now }
+{
+    bytes.iter().all(|byte| *byte >= 32)
+}
+
+fn is_utf8(bytes: &[u8]) -> bool
+    ensures { result ≡ utf8_test bytes.now }
+{
+    match str::from_utf8(bytes) {
+        Ok(_) => true,
+        Err(_) => false,
+    }
+}
+
+/// The field with this number.
+pub(crate) fn field_with(fields: &[Field], id: u32) -> Option<&Field>
+    ensures { option_copied result ≡ field_in fields.now id }
+{
+    fields.iter().find(|field| field.id == id)
+}
+
+/// The session with this name.
+pub(crate) fn session_with<'a>(sessions: &'a [Session], name: &[u8]) -> Option<&'a Session>
+    ensures { option_copied result ≡ session_found sessions.now name.now }
+{
+    sessions
+        .iter()
+        .find(|session| session.name.as_slice() == name)
+}
+
+/// Whether a field stands directly behind another, first for 0.
+fn stands_behind(fields: &[Field], after: u32, id: u32) -> bool
+    ensures { result ≡ place_test after id (numbers fields.now) }
+{
+    let mut before = 0;
+    for field in fields {
+        if before == after && field.id == id {
+            return true;
+        }
+        before = field.id;
+    }
+    false
+}
+
+fn has_field(fields: &[Field], id: u32) -> bool
+    ensures { result ≡ is_some (field_in fields.now id) }
+{
+    field_with(fields, id).is_some()
+}
+
+fn has_session(sessions: &[Session], name: &[u8]) -> bool
+    ensures { result ≡ is_some (session_found sessions.now name.now) }
+{
+    session_with(sessions, name).is_some()
+}
+
+fn has_place(fields: &[Field], after: u32) -> bool
+    ensures { result ≡ ((after == 0) || is_some (field_in fields.now after)) }
+{
+    after == 0 || has_field(fields, after)
+}
+
+/// The first refusal that an op meets in a worksheet of these parts.
+pub(crate) fn check_op(
+    fields: &[Field],
+    sessions: &[Session],
+    next: u32,
+    op: &Op,
+) -> Result<(), Refusal>
+    ensures { result_err result ≡ first_refusal (contents_with fields.now sessions.now next) op.now }
+{
+    match op {
+        Op::Session {
+            name,
+            tab: _,
+            words,
+        } => { check_session(sessions, name.as_slice(), words.as_slice()) }
+        Op::New {
+            after,
+            session,
+            input,
+        } => check_new(
+            fields,
+            sessions,
+            next,
+            *after,
+            session.as_slice(),
+            input.as_slice(),
+        ),
+        Op::Set { id, input } => check_set(fields, *id, input.as_slice()),
+        Op::Remove { id } | Op::Clear { id } => check_there(fields, *id),
+        Op::Move { id, after } => check_move(fields, *id, *after),
+        Op::Answer {
+            id,
+            prompt,
+            output: _,
+        } => check_answer(fields, *id, prompt.as_slice()),
+    }
+}
+
+fn check_session(sessions: &[Session], name: &[u8], words: &[Octets]) -> Result<(), Refusal>
+    ensures { result_err result ≡ first_refusal (contents_with [] sessions.now 0) (op.Session name.now false words.now) }
+{
+    if !is_name(name) {
+        Err(Refusal::BadName)
+    } else if has_session(sessions, name) {
+        Err(Refusal::SessionExists)
+    } else if !are_words(words) {
+        Err(Refusal::BadWords)
+    } else if sessions.len() >= MOST_SESSIONS {
+        Err(Refusal::TooManySessions)
+    } else {
+        Ok(())
+    }
+}
+
+fn check_new(
+    fields: &[Field],
+    sessions: &[Session],
+    next: u32,
+    after: u32,
+    session: &[u8],
+    input: &[u8],
+) -> Result<(), Refusal>
+    ensures { result_err result ≡ first_refusal (contents_with fields.now sessions.now next) (op.New after session.now input.now) }
+{
+    if !has_session(sessions, session) {
+        Err(Refusal::NoSession)
+    } else if !has_place(fields, after) {
+        Err(Refusal::NoField)
+    } else if !is_input(input) {
+        Err(Refusal::BadInput)
+    } else if fields.len() >= MOST_FIELDS {
+        Err(Refusal::TooManyFields)
+    } else if next > LAST_NUMBER {
+        Err(Refusal::IdsSpent)
+    } else {
+        Ok(())
+    }
+}
+
+fn check_set(fields: &[Field], id: u32, input: &[u8]) -> Result<(), Refusal>
+    ensures { result_err result ≡ first_refusal (contents_with fields.now [] 0) (op.Set id input.now) }
+{
+    if !has_field(fields, id) {
+        Err(Refusal::NoField)
+    } else if !is_input(input) {
+        Err(Refusal::BadInput)
+    } else {
+        Ok(())
+    }
+}
+
+fn check_there(fields: &[Field], id: u32) -> Result<(), Refusal>
+    ensures { result_err result ≡ first_refusal (contents_with fields.now [] 0) (op.Remove id) }
+{
+    if !has_field(fields, id) {
+        Err(Refusal::NoField)
+    } else {
+        Ok(())
+    }
+}
+
+fn check_move(fields: &[Field], id: u32, after: u32) -> Result<(), Refusal>
+    ensures { result_err result ≡ first_refusal (contents_with fields.now [] 0) (op.Move id after) }
+{
+    if !has_field(fields, id) || !has_place(fields, after) {
+        Err(Refusal::NoField)
+    } else if after == id || stands_behind(fields, after, id) {
+        Err(Refusal::SamePlace)
+    } else {
+        Ok(())
+    }
+}
+
+fn check_answer(fields: &[Field], id: u32, prompt: &[u8]) -> Result<(), Refusal>
+    ensures { (output : Tree) → result_err result ≡ first_refusal (contents_with fields.now [] 0) (op.Answer id prompt.now output) }
+{
+    if !has_field(fields, id) {
+        Err(Refusal::NoField)
+    } else if prompt.len() > LONGEST_PROMPT {
+        Err(Refusal::BadInput)
+    } else {
+        Ok(())
+    }
+}

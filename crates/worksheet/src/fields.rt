@@ -1,0 +1,82 @@
+//! Iterators over a worksheet.
+ghost use Rattle.std.specs.Prelude.{◌≡◌, List};
+ghost use Rattle.std.specs.Coded.{coded_list};
+ghost use Rattle.std.specs.Iterator.{YieldsFirstRef, item_count};
+ghost use Rattle.worksheet.specs.Codes.{coded_field};
+ghost use Rattle.worksheet.specs.declared.field.Field.{Field};
+ghost use Rattle.worksheet.specs.declared.field.Session.{Session};
+
+use crate::field::{Field, Session};
+use std::marker::Model;
+
+/// The fields of a worksheet that are still to come, in their order.
+#[derive(Drop)]
+pub struct Fields<'a> {
+    rest: &'a [Field],
+}
+
+impl<'a> Model for Fields<'a> {
+    ghost Value = { List Field };
+
+    ghost coded = { coded_list coded_field };
+
+    ghost view = { λ fields. fields.rest.now };
+}
+
+impl<'a> Fields<'a> {
+    /// These fields, first to last.
+    pub(crate) fn new(rest: &'a [Field]) -> Fields<'a>
+        ensures { result ≡ rest.entry.now }
+    {
+        Fields { rest }
+    }
+}
+
+impl<'a> Iterator for Fields<'a> {
+    type Item = &'a Field;
+
+    ghost next_gives = { YieldsFirstRef (λ rest. rest) };
+
+    ghost remaining = { item_count (λ rest. rest) };
+
+    fn next(&mut self) -> Option<&'a Field> {
+        let (first, others) = self.rest.split_first()?;
+        self.rest = others;
+        Some(first)
+    }
+}
+
+/// The sessions of a worksheet that are still to come, in the order of their making.
+#[derive(Drop)]
+pub struct Sessions<'a> {
+    rest: &'a [Session],
+}
+
+impl<'a> Model for Sessions<'a> {
+    ghost Value = { List Session };
+
+    ghost view = { λ sessions. sessions.rest.now };
+}
+
+impl<'a> Sessions<'a> {
+    /// These sessions, first to last.
+    pub(crate) fn new(rest: &'a [Session]) -> Sessions<'a>
+        ensures { result ≡ rest.entry.now }
+    {
+        Sessions { rest }
+    }
+}
+
+impl<'a> Iterator for Sessions<'a> {
+    type Item = &'a Session;
+
+    ghost next_gives = { YieldsFirstRef (λ rest. rest) };
+
+    ghost remaining = { item_count (λ rest. rest) };
+
+    fn next(&mut self) -> Option<&'a Session> {
+        let (first, others) = self.rest.split_first()?;
+        self.rest = others;
+        Some(first)
+    }
+}

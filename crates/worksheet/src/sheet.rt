@@ -1,0 +1,141 @@
+//! A worksheet.
+ghost use Rattle.std.specs.Prelude.{◌≡◌, ◌+◌, ◌∷◌, ◌++◌, [], List, ℕ, true, None, IsErr, IfErr, OnOk, OnErr, IsOk};
+ghost use Rattle.std.specs.Option.{option_copied};
+ghost use Rattle.std.specs.Result.{result_err};
+
+use crate::carry::carry_out;
+use crate::check::{check_op, field_with, session_with};
+use crate::field::{Field, Session};
+use crate::fields::{Fields, Sessions};
+use crate::op::Op;
+use crate::refusal::Refusal;
+use block_tree::OutOfMemory;
+use std::alloc::Global;
+use std::marker::Model;
+
+/// A worksheet: fields in their order, and the sessions that they belong to. It stands for a list of
+/// ops, those that it has taken, and contains what they say.
+#[derive(Drop)]
+pub struct Sheet {
+    fields: Vec<Field>,
+    sessions: Vec<Session>,
+    next: u32,
+}
+
+impl Model for Sheet {
+    ghost use Rattle.worksheet.specs.Contents.{Held};
+    ghost use Rattle.worksheet.specs.Codes.{coded_held};
+
+    ghost Value = { Held };
+
+    ghost coded = { coded_held };
+
+    ghost use Rattle.worksheet.specs.SheetInside.{held_of, IsSoundInside};
+
+    ghost view = { held_of };
+
+    ghost invariant = { IsSoundInside };
+}
+
+impl Sheet {
+    ghost use Rattle.worksheet.specs.declared.op.Op.{Op};
+    ghost use Rattle.worksheet.specs.Ops.{sheet_of};
+    ghost use Rattle.worksheet.specs.Checks.{first_refusal, room_for, field_in, session_named};
+
+    /// The empty worksheet, which stands for no op.
+    pub fn new(alloc: Global) -> Sheet
+        ensures { result.contents ≡ sheet_of [] }
+    {
+        Sheet {
+            fields: Vec::new(alloc),
+            sessions: Vec::new(alloc),
+            next: 1,
+        }
+    }
+
+    /// Whether an op is allowed now: if not, the first refusal that applies.
+    pub fn check(&self, op: &Op) -> Result<(), Refusal>
+        ensures { result_err result ≡ first_refusal self.now.contents op.now }
+    {
+        check_op(&self.fields, &self.sessions, self.next, op)
+    }
+
+    /// Whether memory is ready for an op, so that `apply` can't fail. Only a New and a Session need
+    /// any.
+    pub fn has_room(&self, op: &Op) -> bool
+        ensures { result ≡ room_for self.now op.now }
+    {
+        match op {
+            Op::New { .. } => self.fields.len() < self.fields.capacity(),
+            Op::Session { .. } => self.sessions.len() < self.sessions.capacity(),
+            _ => true,
+        }
+    }
+
+    /// Makes memory ready for an op. It changes nothing that the worksheet contains.
+    pub fn make_room(&mut self, op: &Op) -> Result<(), OutOfMemory>
+        ensures ok { OnOk result (room_for self.new op.now ≡ true) }
+        ensures same { self.new.contents ≡ self.old.contents }
+
+        // Where there is room, nothing is asked for.
+        ensures ready { room_for self.old op.now ≡ true → IsOk result }
+    {
+        match op {
+            Op::New { .. } => self.fields.reserve(1),
+            Op::Session { .. } => self.sessions.reserve(1),
+            _ => Ok(()),
+        }
+    }
+
+    /// Does what an op says, or gives it back where memory runs out.
+    pub fn apply(&mut self, op: Op) -> Result<(), (Op, OutOfMemory)>
+        requires { first_refusal self.old.contents op ≡ None }
+
+        // The worksheet stands for the ops before, and for this one behind them.
+        ensures ok { (ops : List Op) → self.old.contents ≡ sheet_of ops → OnOk result (self.new.contents ≡ sheet_of (ops ++ op ∷ [])) }
+        ensures returned { IfErr result (λ refused. refused.0 ≡ op) }
+        ensures err { OnErr result (self.new.contents ≡ self.old.contents) }
+        ensures ready { room_for self.old op ≡ true → IsOk result }
+    {
+        if let Err(refused) = self.make_room(&op) {
+            return Err((op, refused));
+        }
+        carry_out(&mut self.fields, &mut self.sessions, &mut self.next, op);
+        Ok(())
+    }
+
+    /// The fields in their order.
+    pub fn fields(&self) -> Fields<'_>
+        ensures { result ≡ self.now.contents.fields }
+    {
+        Fields::new(&self.fields)
+    }
+
+    /// The field with this number.
+    pub fn field(&self, id: u32) -> Option<&Field>
+        ensures { option_copied result ≡ field_in self.now.contents.fields id }
+    {
+        field_with(&self.fields, id)
+    }
+
+    /// The number that the next New takes, from 1 to 1,000,001. At the last of these it is refused.
+    pub fn next_id(&self) -> u32
+        ensures { result ≡ self.now.contents.next }
+    {
+        self.next
+    }
+
+    /// The sessions in the order of their making.
+    pub fn sessions(&self) -> Sessions<'_>
+        ensures { result ≡ self.now.contents.sessions }
+    {
+        Sessions::new(&self.sessions)
+    }
+
+    /// The session with this name. No session has bytes that are no name.
+    pub fn session(&self, name: &[u8]) -> Option<&Session>
+        ensures { option_copied result ≡ session_named self.now.contents.sessions name.now }
+    {
+        session_with(&self.sessions, name)
+    }
+}
