@@ -1,0 +1,17 @@
+pub mod Tags
+pub mod Leading
+pub mod Spelled
+pub mod Grown
+pub mod Bridge
+pub mod Rebuilt
+pub mod Unique
+pub mod Openings
+pub mod RightLevels
+pub mod Stacks
+pub mod Scans
+pub mod Places
+pub mod Tails
+pub mod Laws
+pub mod Sound
+pub mod Order
+pub mod Feeds

@@ -1,0 +1,10 @@
+pub mod Limits
+pub mod Spelling
+pub mod Canonical
+pub mod Stream
+pub mod Faults
+pub mod Reader
+pub mod Rows
+pub mod Machine
+pub mod Levels
+pub mod Scan

@@ -1,0 +1,74 @@
+-- What the fields of a scanner say. Private contracts cite this, but for `outers`.
+use Rattle.std.specs.Prelude.{◌≡◌, ◌≤◌, ◌<◌, ◌-◌, ℕ, List, [], length, map, Option, true, All, Result, Ok, Err, option_to_list}
+use Rattle.std.specs.List.{list_all}
+use Rattle.block_tree.specs.Shape.{is_tag_byte, max_tag, max_depth}
+use Rattle.meta_format.specs.Limits.{Limits}
+use Rattle.meta_format.specs.Stream.{Outer}
+use Rattle.meta_format.specs.Faults.{bad_tag, too_deep, too_long}
+use Rattle.meta_format.specs.Levels.{stack_marks, IsLevel, AreOpen}
+use Rattle.meta_format.specs.Machine.{Mode, outside, tag_of, body_of, escape_of, broken, State, next, run}
+use Rattle.meta_format.specs.declared.bounds.Bounds.{Bounds}
+use Rattle.meta_format.specs.declared.level.Level.{Level}
+use Rattle.meta_format.specs.declared.scan.Place.{Place}
+use Rattle.meta_format.specs.declared.scan.Place.TheVariants as place
+use Rattle.meta_format.specs.declared.scan.Scanner.{Scanner}
+use Rattle.meta_format.specs.declared.scan.Found.{Found}
+use Rattle.meta_format.specs.declared.scan.Stop.{Stop}
+use Rattle.meta_format.specs.declared.scan.Stop.TheVariants as stop
+
+-- what a reader found, as an outer block
+abbrev pub outer_of : Found → Outer
+outer_of f = record { start = f.start; stop = f.stop; block = f.block }
+
+abbrev pub outers : List Found → List Outer
+outers = map outer_of
+
+abbrev pub most_of : Bounds → Limits
+most_of b = record { tag = max_tag; levels = max_depth; block = b.block; stream = b.stream }
+
+abbrev pub mode_at : Place → ℕ → List Level → List ℕ → Mode
+mode_at place.Outside start levels name = outside
+mode_at place.Tag start levels name = tag_of start (stack_marks levels) (length levels) name
+mode_at place.Body start levels name = body_of start (stack_marks levels) (length levels - 1)
+mode_at place.Escape start levels name = escape_of start (stack_marks levels) (length levels - 1)
+
+abbrev pub mode_of : Scanner → Mode
+mode_of s = mode_at s.place s.start s.levels.items s.name.items
+
+abbrev pub state_of : Scanner → List Outer → State
+state_of s out = record { at = s.at; out = out; mode = mode_of s }
+
+-- There is no level outside a block, and one at least in a body. A block starts before the next byte. A name is held in a tag alone.
+abbrev pub IsPlacedAt : Place → ℕ → ℕ → List Level → List ℕ → Type 0
+IsPlacedAt place.Outside at start levels name = (levels ≡ []) × (name ≡ [])
+IsPlacedAt place.Tag at start levels name = (start ≤ at) × (length levels < max_depth) × (list_all is_tag_byte name ≡ true) × (length name ≤ max_tag)
+IsPlacedAt place.Body at start levels name = (start ≤ at) × (0 < length levels) × (name ≡ [])
+IsPlacedAt place.Escape at start levels name = (start ≤ at) × (0 < length levels) × (name ≡ [])
+
+-- The levels are right, and their marks say how many they are.
+pub record AreLevels (levels : List Level) : Type 0 where
+  pub right : All IsLevel levels
+  pub opened : AreOpen max_depth (stack_marks levels) (length levels)
+
+pub record IsPlaced (s : Scanner) : Type 0 where
+  pub place : IsPlacedAt s.place s.at s.start s.levels.items s.name.items
+  pub levels : AreLevels s.levels.items
+
+-- A byte there gave what the machine gives.
+abbrev pub StepsAt : Place → Limits → Scanner → ℕ → Result (Option Found) Stop → Scanner → Type 0
+StepsAt place most old c (Ok found) new = next most record { at = old.at; out = []; mode = mode_at place old.start old.levels.items old.name.items } c ≡ state_of new (map outer_of (option_to_list found))
+StepsAt place most old c (Err stop.BadTag) new = next most record { at = old.at; out = []; mode = mode_at place old.start old.levels.items old.name.items } c ≡ record { at = new.at; out = []; mode = broken bad_tag new.at }
+StepsAt place most old c (Err stop.TooDeep) new = next most record { at = old.at; out = []; mode = mode_at place old.start old.levels.items old.name.items } c ≡ record { at = new.at; out = []; mode = broken too_deep new.at }
+StepsAt place most old c (Err stop.TooLong) new = next most record { at = old.at; out = []; mode = mode_at place old.start old.levels.items old.name.items } c ≡ record { at = new.at; out = []; mode = broken too_long new.at }
+StepsAt place most old c (Err stop.OutOfMemory) new = Unit {0}
+
+abbrev pub Steps : Limits → Scanner → ℕ → Result (Option Found) Stop → Scanner → Type 0
+Steps most old c result new = StepsAt old.place most old c result new
+
+-- The bytes took the machine from one state to the other, or to a fault.
+abbrev pub Scans : Limits → Scanner → List Found → List ℕ → Result (Unit {0}) Stop → Scanner → List Found → Type 0
+Scans most old before bytes (Ok u) new found = run most (state_of old (outers before)) bytes ≡ state_of new (outers found)
+Scans most old before bytes (Err stop.BadTag) new found = run most (state_of old (outers before)) bytes ≡ record { at = new.at; out = outers found; mode = broken bad_tag new.at }
+Scans most old before bytes (Err stop.TooDeep) new found = run most (state_of old (outers before)) bytes ≡ record { at = new.at; out = outers found; mode = broken too_deep new.at }
+Scans most old before bytes (Err stop.TooLong) new found = run most (state_of old (outers before)) bytes ≡ record { at = new.at; out = outers found; mode = broken too_long new.at }
+Scans most old before bytes (Err stop.OutOfMemory) new found = Unit {0}

@@ -1,0 +1,14 @@
+//! How much a scanner takes.
+
+/// The most bytes of an outer block and of a stream. Tags and levels have the limits of every block.
+#[derive(Clone, Copy, Debug)]
+pub struct Bounds {
+    pub block: u64,
+    pub stream: u64,
+}
+
+/// The limits of a stream that an interpreter writes.
+pub const BOUNDS: Bounds = Bounds {
+    block: 1_048_576,
+    stream: 1 << 62,
+};
