@@ -1,21 +1,27 @@
 -- Bytes as they are printed.
-use Rattle.std.specs.Prelude.{ℕ, ◌+◌, ◌/◌, ◌%◌, List, [], ◌∷◌, ◌++◌, cond, nat_lt, nat_eq, ◌||◌}
+use Rattle.std.specs.Prelude.{ℕ, ◌+◌, ◌/◌, ◌%◌, Bool, true, false, List, [], ◌∷◌, cond, not, nat_lt, nat_eq, ◌||◌, ◌&&◌}
 use Rattle.std.specs.List.{flat_map}
 
 -- a hexadecimal digit, in lower case
 abbrev pub hex : ℕ → ℕ
 hex n = cond (nat_lt n 10) (48 + n) (87 + n)
 
--- on one line: a byte below 32, and 127, as \x and two digits
-abbrev pub line_byte : ℕ → List ℕ
-line_byte b = cond (nat_lt b 32 || nat_eq b 127) (92 ∷ 120 ∷ hex (b / 16) ∷ hex (b % 16) ∷ []) (b ∷ [])
+-- \x and two digits
+abbrev pub escaped_byte : ℕ → List ℕ
+escaped_byte b = 92 ∷ 120 ∷ hex (b / 16) ∷ hex (b % 16) ∷ []
 
--- on many lines: the same, but a tab and a line feed as themselves
-abbrev pub text_byte : ℕ → List ℕ
-text_byte b = cond (nat_eq b 9 || nat_eq b 10) (b ∷ []) (line_byte b)
+-- no byte below 32 and not 127, but a tab and a line feed where lines are kept
+abbrev pub is_plain : Bool → ℕ → Bool
+is_plain keeps_lines b = cond (nat_eq b 9 || nat_eq b 10) keeps_lines (not (nat_lt b 32) && not (nat_eq b 127))
 
+-- a plain byte as itself, every other one escaped
+abbrev pub printed_byte : Bool → ℕ → List ℕ
+printed_byte keeps_lines b = cond (is_plain keeps_lines b) (b ∷ []) (escaped_byte b)
+
+-- bytes on one line
 abbrev pub on_line : List ℕ → List ℕ
-on_line = flat_map line_byte
+on_line = flat_map (printed_byte false)
 
+-- bytes on as many lines as they have
 abbrev pub on_lines : List ℕ → List ℕ
-on_lines = flat_map text_byte
+on_lines = flat_map (printed_byte true)

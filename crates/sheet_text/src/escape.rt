@@ -1,7 +1,9 @@
 //! Bytes as they are printed.
 ghost use Rattle.std.specs.Prelude.{◌≡◌, ◌<◌, OnOk};
+ghost use Rattle.std.specs.List.{flat_map};
 ghost use Rattle.std.specs.Io.KnownBytes.{Appends};
-ghost use Rattle.sheet_text.specs.Escape.{hex, line_byte, on_line, on_lines, text_byte};
+ghost use Rattle.sheet_text.specs.Escape.{hex, on_line, on_lines, printed_byte};
+ghost use Rattle.sheet_text.specs.Escape as escape;
 
 use crate::WriteFault;
 use std::io::Write;
@@ -13,48 +15,58 @@ fn hex_digit(n: u8) -> u8
     if n < 10 { b'0' + n } else { b'a' - 10 + n }
 }
 
-fn write_line_byte<W: Write>(byte: u8, out: &mut W) -> Result<(), WriteFault>
-    ensures { OnOk result (Appends (W.contents out.old) (W.contents out.new) (line_byte byte)) }
+/// Whether a byte is printed as itself.
+fn is_plain(byte: u8, keeps_lines: bool) -> bool
+    ensures { result ≡ escape.is_plain keeps_lines byte }
 {
-    if byte < 32 || byte == 127 {
-        let high = hex_digit(byte / 16);
-        let low = hex_digit(byte % 16);
-        out.write_all(&[b'\\', b'x', high, low])
-            .map_err(|_| WriteFault)
+    if byte == b'\t' || byte == b'\n' {
+        keeps_lines
     } else {
-        out.write_all(&[byte]).map_err(|_| WriteFault)
+        byte >= 32 && byte != 127
     }
 }
 
-fn write_text_byte<W: Write>(byte: u8, out: &mut W) -> Result<(), WriteFault>
-    ensures { OnOk result (Appends (W.contents out.old) (W.contents out.new) (text_byte byte)) }
+fn write_byte<W: Write>(byte: u8, keeps_lines: bool, out: &mut W) -> Result<(), WriteFault>
+    ensures { OnOk result (Appends (W.contents out.old) (W.contents out.new) (printed_byte keeps_lines byte)) }
 {
-    if byte == b'\t' || byte == b'\n' {
-        out.write_all(&[byte]).map_err(|_| WriteFault)
-    } else {
-        write_line_byte(byte, out)
+    if is_plain(byte, keeps_lines) {
+        return out.write_all(&[byte]).map_err(|_| WriteFault);
     }
+    let high = hex_digit(byte / 16);
+    let low = hex_digit(byte % 16);
+    out.write_all(&[b'\\', b'x', high, low])
+        .map_err(|_| WriteFault)
+}
+
+/// Writes bytes, those that are printed as themselves as many at once as stand side by side.
+fn write_bytes<W: Write>(bytes: &[u8], keeps_lines: bool, out: &mut W) -> Result<(), WriteFault>
+    ensures { OnOk result (Appends (W.contents out.old) (W.contents out.new) (flat_map (printed_byte keeps_lines) bytes.now)) }
+{
+    let mut start = 0;
+    for i in 0..bytes.len() {
+        if !is_plain(bytes[i], keeps_lines) {
+            out.write_all(&bytes[start..i]).map_err(|_| WriteFault)?;
+            write_byte(bytes[i], keeps_lines, out)?;
+            start = i + 1;
+        }
+    }
+    out.write_all(&bytes[start..]).map_err(|_| WriteFault)?;
+    Ok(())
 }
 
 /// Writes bytes so that they stay on one line: each below 32, and 127, as `\x` and two hexadecimal
 /// digits in lower case, every other byte as itself.
-#[tactic(auto, using(crate::proofs::Appending::steps))]
 pub fn write_line<W: Write>(bytes: &[u8], out: &mut W) -> Result<(), WriteFault>
     ensures { OnOk result (Appends (W.contents out.old) (W.contents out.new) (on_line bytes.now)) }
 {
-    for byte in bytes {
-        write_line_byte(*byte, out)?;
-    }
+    write_bytes(bytes, false, out)?;
     Ok(())
 }
 
 /// Writes bytes like `write_line`, but tabs and line feeds as themselves.
-#[tactic(auto, using(crate::proofs::Appending::steps))]
 pub fn write_lines<W: Write>(bytes: &[u8], out: &mut W) -> Result<(), WriteFault>
     ensures { OnOk result (Appends (W.contents out.old) (W.contents out.new) (on_lines bytes.now)) }
 {
-    for byte in bytes {
-        write_text_byte(*byte, out)?;
-    }
+    write_bytes(bytes, true, out)?;
     Ok(())
 }

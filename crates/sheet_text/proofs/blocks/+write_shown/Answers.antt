@@ -1,9 +1,9 @@
-use Rattle.std.proofs.Common.{rules, take, ◌∷◌, [], flat_map, ap, sym, ◌∙◌, subst}
+use Rattle.std.proofs.Common.{rules, true, take, ◌∷◌, [], flat_map, ap, sym, ◌∙◌, subst}
 use Rattle.std.proofs.lemmas.Bool.{true≢false}
 use Rattle.std.specs.Io.KnownBytes.{Appends}
 use Rattle.block_tree.proofs.Views.{piece_text, piece_block}
 use Rattle.block_tree.specs.View.{piece_of}
-use Rattle.sheet_text.specs.Escape.{text_byte}
+use Rattle.sheet_text.specs.Escape.{printed_byte}
 use Rattle.sheet_text.specs.Blocks.{piece_block_text}
 use Rattle.sheet_text.proofs.Appending.{next_item, framed_done, bare_done}
 use Rattle.sheet_text.proofs.blocks.+write_shown.Goals.{in-Text+in_ok-write_lines-in-Text, in-Block+in_ok-write_shown-in-Block, then-not-bare+in_ok-open_tag, else-not-bare}
@@ -14,7 +14,7 @@ loop-item-preserved g t c =
     elim c.match-item.branch [
       | in-Text+in_ok-write_lines-in-Text w ↦
           subst (λ o. Appends _ (g.W.Write.contents o) _) (sym w.out-is)
-          (next_item _ _ _ _ _ _ _ _ c.loop-item-test.true c.item-item.is (ap (λ x. piece_block_text (piece_of x)) w.in-Text.is ∙ ap piece_block_text (piece_text w.in-Text.text) ∙ ap (flat_map text_byte) (sym w.as_slice.ensures)) c.loop-item.invariant
+          (next_item _ _ _ _ _ _ _ _ c.loop-item-test.true c.item-item.is (ap (λ x. piece_block_text (piece_of x)) w.in-Text.is ∙ ap piece_block_text (piece_text w.in-Text.text) ∙ ap (flat_map (printed_byte true)) (sym w.as_slice.ensures)) c.loop-item.invariant
           w.in_ok-write_lines-in-Text.ensures)
       | in-Block+in_ok-write_shown-in-Block w ↦
           subst (λ o. Appends _ (g.W.Write.contents o) _) (sym w.out-is)

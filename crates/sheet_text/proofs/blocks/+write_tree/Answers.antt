@@ -1,8 +1,8 @@
-use Rattle.std.proofs.Common.{rules, ◌∷◌, [], flat_map, ap, sym, ◌∙◌, subst}
+use Rattle.std.proofs.Common.{rules, false, ◌∷◌, [], flat_map, ap, sym, ◌∙◌, subst}
 use Rattle.std.specs.Io.KnownBytes.{Appends}
 use Rattle.block_tree.proofs.Views.{piece_text, piece_block}
 use Rattle.block_tree.specs.View.{piece_of}
-use Rattle.sheet_text.specs.Escape.{line_byte}
+use Rattle.sheet_text.specs.Escape.{printed_byte}
 use Rattle.sheet_text.specs.Blocks.{piece_tree_text}
 use Rattle.sheet_text.proofs.Appending.{next_item, tree_done}
 use Rattle.sheet_text.proofs.blocks.+write_tree.Goals.{in-Text+in_ok-write_line-in-Text, in-Block+in_ok-write_tree-in-Block}
@@ -13,7 +13,7 @@ loop-item-preserved g t c =
     elim c.match-item.branch [
       | in-Text+in_ok-write_line-in-Text w ↦
           subst (λ o. Appends _ (g.W.Write.contents o) _) (sym w.out-is)
-          (next_item _ _ _ _ _ _ _ _ c.loop-item-test.true c.item-item.is (ap (λ x. piece_tree_text (piece_of x)) w.in-Text.is ∙ ap piece_tree_text (piece_text w.in-Text.text) ∙ ap (flat_map line_byte) (sym w.as_slice.ensures)) c.loop-item.invariant
+          (next_item _ _ _ _ _ _ _ _ c.loop-item-test.true c.item-item.is (ap (λ x. piece_tree_text (piece_of x)) w.in-Text.is ∙ ap piece_tree_text (piece_text w.in-Text.text) ∙ ap (flat_map (printed_byte false)) (sym w.as_slice.ensures)) c.loop-item.invariant
           w.in_ok-write_line-in-Text.ensures)
       | in-Block+in_ok-write_tree-in-Block w ↦
           subst (λ o. Appends _ (g.W.Write.contents o) _) (sym w.out-is)
