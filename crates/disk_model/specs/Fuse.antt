@@ -8,7 +8,7 @@ use Rattle.disk_model.specs.declared.fuse.FuseMode.TheVariants.{From, Only}
 abbrev pub fused : DiskView → ℕ → DiskView
 fused v refused = record v { faults = min (v.faults + refused) max_faults }
 
--- after so many calls, the next one is the k-th or a later one, or the k-th
+-- after so many calls the next one is the k-th or a later one, or the k-th
 abbrev pub Blows : FuseMode → ℕ → ℕ → Type 0
 Blows From k calls = k ≤ calls + 1
 Blows Only k calls = calls + 1 ≡ k

@@ -5,3 +5,4 @@ pub mod Crash
 pub mod Drawing
 pub mod Memory
 pub mod Fuse
+pub mod Fused

@@ -1,7 +1,7 @@
 // A disk that fails from some call on, or at one call alone.
-ghost use Rattle.std.specs.Prelude.{◌≡◌, ◌+◌, ◌≤◌, ◌↔◌, min, IsErr, OnErr, OnOk, MatchResult};
-ghost use Rattle.disk_model.specs.Fuse.{fused, Blows};
-ghost use Rattle.disk_model.specs.Disk.{Rises};
+ghost use Rattle.std.specs.Prelude.{◌≡◌, ◌+◌, ◌≤◌, ◌↔◌, length, take, drop, min, IfOk, IsErr, OnErr, OnOk};
+ghost use Rattle.disk_model.specs.Fuse.{Blows};
+ghost use Rattle.disk_model.specs.Disk.{Called, InModel, Looks, Rises, Syncs, Writes, area_of, content_of};
 
 use crate::{Area, Disk, DiskFault};
 
@@ -59,10 +59,12 @@ pub struct FuseDisk<D: Disk> {
 }
 
 impl<D: Disk> FuseDisk<D> {
+    ghost use Rattle.disk_model.specs.Fused.{IsNew};
+
     /// Fails the k-th call on `inner` and all behind it, or the k-th alone. With `k` 0 the first
     /// fails all calls and the second none.
     pub fn new(inner: D, k: u64, mode: FuseMode) -> FuseDisk<D>
-        ensures { result.inner ≡ inner }
+        ensures { IsNew result inner k mode }
     {
         let fuse = Fuse {
             k,
@@ -83,7 +85,9 @@ impl<D: Disk> FuseDisk<D> {
 }
 
 impl<D: Disk> Disk for FuseDisk<D> {
-    ghost view = { λ f. fused (D.view f.inner) f.fuse.refused };
+    ghost use Rattle.disk_model.specs.Fused.{fuse_view, Spends};
+
+    ghost view = { fuse_view D.view };
 
     ghost small = { λ f. D.small f.inner };
 
@@ -93,22 +97,43 @@ impl<D: Disk> Disk for FuseDisk<D> {
         self.inner.room()
     }
 
-    fn len(&mut self, area: Area) -> Result<u64, DiskFault> {
+    fn len(&mut self, area: Area) -> Result<u64, DiskFault>
+        ensures called { Called result (fuse_view D.view self.old) (fuse_view D.view self.new) }
+        ensures bound { IfOk result (λ n. n ≤ (fuse_view D.view self.old).room) }
+        ensures looks { InModel (fuse_view D.view self.old) (Looks (fuse_view D.view self.old).history (fuse_view D.view self.new).history) }
+        ensures length { InModel (fuse_view D.view self.old) (IfOk result (λ n. n ≡ length (area_of area (content_of (fuse_view D.view self.old).history)))) }
+        ensures spends { Spends D.view result self.old self.new }
+    {
         self.fuse.spend()?;
         self.inner.len(area)
     }
 
-    fn read(&mut self, area: Area, offset: u64, buffer: &mut [u8]) -> Result<(), DiskFault> {
+    fn read(&mut self, area: Area, offset: u64, buffer: &mut [u8]) -> Result<(), DiskFault>
+        requires { InModel (fuse_view D.view self.old) (offset + length buffer.old ≤ length (area_of area (content_of (fuse_view D.view self.old).history))) }
+        ensures called { Called result (fuse_view D.view self.old) (fuse_view D.view self.new) }
+        ensures looks { InModel (fuse_view D.view self.old) (Looks (fuse_view D.view self.old).history (fuse_view D.view self.new).history) }
+        ensures bytes { InModel (fuse_view D.view self.old) (OnOk result (buffer.new ≡ take (length buffer.old) (drop offset (area_of area (content_of (fuse_view D.view self.old).history))))) }
+        ensures spends { Spends D.view result self.old self.new }
+    {
         self.fuse.spend()?;
         self.inner.read(area, offset, buffer)
     }
 
-    fn write_at(&mut self, area: Area, offset: u64, bytes: &[u8]) -> Result<(), DiskFault> {
+    fn write_at(&mut self, area: Area, offset: u64, bytes: &[u8]) -> Result<(), DiskFault>
+        requires { InModel (fuse_view D.view self.old) ((offset ≤ length (area_of area (content_of (fuse_view D.view self.old).history))) × (offset + length bytes.now ≤ (fuse_view D.view self.old).room)) }
+        ensures called { Called result (fuse_view D.view self.old) (fuse_view D.view self.new) }
+        ensures writes { InModel (fuse_view D.view self.old) (Writes area offset bytes.now result (fuse_view D.view self.old).history (fuse_view D.view self.new).history) }
+        ensures spends { Spends D.view result self.old self.new }
+    {
         self.fuse.spend()?;
         self.inner.write_at(area, offset, bytes)
     }
 
-    fn sync(&mut self, area: Area) -> Result<(), DiskFault> {
+    fn sync(&mut self, area: Area) -> Result<(), DiskFault>
+        ensures called { Called result (fuse_view D.view self.old) (fuse_view D.view self.new) }
+        ensures syncs { InModel (fuse_view D.view self.old) (Syncs area result (fuse_view D.view self.old).history (fuse_view D.view self.new).history) }
+        ensures spends { Spends D.view result self.old self.new }
+    {
         self.fuse.spend()?;
         self.inner.sync(area)
     }
