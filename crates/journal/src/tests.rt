@@ -125,7 +125,7 @@ fn a_crash_leaves_the_record_or_none(rt: HostRuntime) -> Result<(), Fail> {
         Fill::Byte(0),
         Fill::Byte(0x52),
     ];
-    for moment in start..end + 1 {
+    for moment in start..=end {
         for fill in fills {
             for grown in [false, true] {
                 let left = left_by(
