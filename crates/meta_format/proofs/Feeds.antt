@@ -14,7 +14,7 @@ use Rattle.meta_format.specs.declared.level.Level.{Level}
 use Rattle.meta_format.proofs.Spelled.{run-append}
 use Rattle.meta_format.proofs.Unique.{behind, run-behind}
 use Rattle.meta_format.proofs.Tails.{StartsAt}
-use Rattle.meta_format.proofs.Laws.{Reached, at_noise, at_tail, at_fault, reach, going_open}
+use Rattle.meta_format.proofs.Reaching.{Reached, at_noise, at_tail, at_fault, reach, going_open}
 use Rattle.meta_format.proofs.Sound.{alive_sound, broken_stopped}
 use Rattle.meta_format.proofs.Order.{closes}
 

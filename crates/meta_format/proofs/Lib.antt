@@ -11,7 +11,10 @@ pub mod Stacks
 pub mod Scans
 pub mod Places
 pub mod Tails
-pub mod Laws
+pub mod Reaching
 pub mod Sound
 pub mod Order
 pub mod Feeds
+pub mod Written
+pub mod Readings
+pub mod Readable

@@ -6,7 +6,7 @@ use Rattle.meta_format.specs.Stream.{Outer, Stream}
 use Rattle.meta_format.specs.Faults.{Kind, bad_tag, too_deep, too_long, IsFault, FaultAt, FirstFault, IsSound}
 use Rattle.meta_format.specs.Machine.{outside, broken, State, start_state, halts, apply, next, run, IsAlive}
 use Rattle.meta_format.proofs.Spelled.{run-append}
-use Rattle.meta_format.proofs.Laws.{IsBrokenWith, After, goes_on, ends_there, breaks, going_step, going_open, alive_before, right_outside, Left, clear, going, fallen, left, going_alive, Reached, at_noise, at_tail, at_fault, reach}
+use Rattle.meta_format.proofs.Reaching.{IsBrokenWith, After, goes_on, ends_there, breaks, going_step, going_open, alive_before, right_outside, Left, clear, going, fallen, left, going_alive, Reached, at_noise, at_tail, at_fault, reach}
 
 alive_front : (most : Limits) (front t : List ℕ) → IsAlive (run most start_state (front ++ t)).mode → IsAlive (run most start_state front).mode
 alive_front most front t h =
@@ -14,7 +14,7 @@ alive_front most front t h =
     alive_before most q.at q.out q.mode t (subst (λ p. IsAlive p.mode) (run-append most start_state front t) h)
 
 -- no stream is longer, where the machine still goes
-alive_early : (most : Limits) → IsRoomy most → (s : List ℕ) → IsAlive (run most start_state s).mode → length s ≤ most.stream
+pub alive_early : (most : Limits) → IsRoomy most → (s : List ℕ) → IsAlive (run most start_state s).mode → length s ≤ most.stream
 alive_early most fit s h = let r = reach most fit s in by_reach r.0 r.1
   where
     by_reach : (blocks : List Outer) → Reached most s blocks (run most start_state s) → length s ≤ most.stream

@@ -1,12 +1,13 @@
 -- What the fields of a scanner say. Private contracts cite this, but for `outers`.
-use Rattle.std.specs.Prelude.{◌≡◌, ◌≤◌, ◌<◌, ◌-◌, ℕ, List, [], length, map, Option, true, All, Result, Ok, Err, option_to_list}
+use Rattle.std.specs.Prelude.{◌≡◌, ◌≤◌, ◌<◌, ◌-◌, ℕ, List, [], ◌∷◌, length, map, Option, Some, None, true, All, Result, Ok, Err, option_to_list, cond, nat_eq, ◌&&◌}
 use Rattle.std.specs.List.{list_all}
 use Rattle.block_tree.specs.Shape.{is_tag_byte, max_tag, max_depth}
+use Rattle.block_tree.specs.Tree.{Tree}
 use Rattle.meta_format.specs.Limits.{Limits}
 use Rattle.meta_format.specs.Stream.{Outer}
 use Rattle.meta_format.specs.Faults.{bad_tag, too_deep, too_long}
 use Rattle.meta_format.specs.Levels.{stack_marks, IsLevel, AreOpen}
-use Rattle.meta_format.specs.Machine.{Mode, outside, tag_of, body_of, escape_of, broken, State, next, run}
+use Rattle.meta_format.specs.Machine.{Mode, outside, tag_of, body_of, escape_of, broken, State, next, run, start_state, IsAlive}
 use Rattle.meta_format.specs.declared.bounds.Bounds.{Bounds}
 use Rattle.meta_format.specs.declared.level.Level.{Level}
 use Rattle.meta_format.specs.declared.scan.Place.{Place}
@@ -72,3 +73,26 @@ Scans most old before bytes (Err stop.BadTag) new found = run most (state_of old
 Scans most old before bytes (Err stop.TooDeep) new found = run most (state_of old (outers before)) bytes ≡ record { at = new.at; out = outers found; mode = broken too_deep new.at }
 Scans most old before bytes (Err stop.TooLong) new found = run most (state_of old (outers before)) bytes ≡ record { at = new.at; out = outers found; mode = broken too_long new.at }
 Scans most old before bytes (Err stop.OutOfMemory) new found = Unit {0}
+
+-- Where bytes are read that have no limit of length.
+
+abbrev pub unbounded : Limits
+unbounded = record { tag = max_tag; levels = max_depth; block = 18446744073709551615; stream = 18446744073709551615 }
+
+abbrev pub last_behind : Outer → List Outer → Outer
+last_behind o [] = o
+last_behind o (p ∷ os) = last_behind p os
+
+abbrev pub last_of : List Outer → Option Outer
+last_of [] = None
+last_of (o ∷ os) = Some (last_behind o os)
+
+-- the block, where it begins the bytes and ends them
+abbrev pub filling : ℕ → Option Outer → Option Tree
+filling size None = None
+filling size (Some o) = cond (nat_eq o.start 0 && nat_eq o.stop size) (Some o.block) None
+
+-- The bytes have no fault, and these are their outer blocks.
+pub record Finds (s : List ℕ) (found : List Outer) : Type 0 where
+  pub out : (run unbounded start_state s).out ≡ found
+  pub alive : IsAlive (run unbounded start_state s).mode

@@ -12,3 +12,9 @@ pub const BOUNDS: Bounds = Bounds {
     block: 1_048_576,
     stream: 1 << 62,
 };
+
+/// No limit: as many bytes as a slice may have.
+pub const UNBOUNDED: Bounds = Bounds {
+    block: u64::MAX,
+    stream: u64::MAX,
+};

@@ -5,10 +5,16 @@
 #![tactic(auto)]
 
 mod bounds;
+mod laws;
 mod level;
 mod piece;
+mod read;
 mod reader;
 mod scan;
+mod write;
 
+pub use laws::{canonical_spelling, no_front, one_block, one_fault, one_reading};
+pub use read::{ReadFault, read_block};
 pub use reader::{FeedFault, Reader};
 pub use scan::Found;
+pub use write::write_block;

@@ -1,4 +1,4 @@
-use Rattle.std.proofs.Common.{◌≡◌, ◌++◌, ◌∷◌, [], map, drop, take, length}
+use Rattle.std.proofs.Common.{◌≡◌, ◌++◌, map, drop, take, length}
 use Rattle.block_tree.specs.Tree.{items_of}
 use Rattle.block_tree.specs.View.{piece_of}
 use Rattle.meta_format.specs.Canonical.{canonical_items}

@@ -32,7 +32,7 @@ pub record Going (most : Limits) (a : ℕ) (out : List Outer) (tail : List ℕ) 
   pub begins : (more : List ℕ) × (tail ≡ 2 ∷ more)
   pub ran : run most (begin a out) tail ≡ q
 
-only_at : (most : Limits) (a : ℕ) (out : List Outer) (tail : List ℕ) (q : State) → Going most a out tail q → (place : Place) → EndsIn most tail place → HasPlace q.mode place
+pub only_at : (most : Limits) (a : ℕ) (out : List Outer) (tail : List ℕ) (q : State) → Going most a out tail q → (place : Place) → EndsIn most tail place → HasPlace q.mode place
 only_at most a out tail q g place st =
     let at = g.at in let early = g.early in
     let there = place_run most a out tail place st g.short (omega arith) in

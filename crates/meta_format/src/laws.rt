@@ -1,0 +1,36 @@
+//! What the definitions imply, as contracts of functions that do nothing.
+
+ghost use Rattle.std.specs.Prelude.{◌≡◌, ℕ, List, [], ◌++◌, true};
+ghost use Rattle.block_tree.specs.Tree.{Tree};
+ghost use Rattle.block_tree.specs.Shape.{is_block_within};
+ghost use Rattle.meta_format.specs.Limits.{Limits, IsRoomy};
+ghost use Rattle.meta_format.specs.Spelling.{Spells};
+ghost use Rattle.meta_format.specs.Canonical.{canonical};
+ghost use Rattle.meta_format.specs.Stream.{Outer, Stream};
+ghost use Rattle.meta_format.specs.Faults.{Kind, FirstFault};
+
+/// No bytes spell two blocks.
+pub fn one_block()
+    ensures { (most : Limits) (b c : Tree) (s : List ℕ) → Spells most b s → Spells most c s → b ≡ c }
+{}
+
+/// No spelling of a block begins another: nothing stands behind it there.
+pub fn no_front()
+    ensures { (most : Limits) (b c : Tree) (s t : List ℕ) → Spells most b s → Spells most c (s ++ t) → t ≡ [] }
+{}
+
+/// The canonical spelling of a block spells it.
+pub fn canonical_spelling()
+    ensures { (most : Limits) (b : Tree) → is_block_within most.tag most.levels b ≡ true → Spells most b (canonical b) }
+{}
+
+/// A stream has one reading: its outer blocks with their offsets, and its open tail. So it does not
+/// matter how it is cut into pieces.
+pub fn one_reading()
+    ensures { (most : Limits) → IsRoomy most → (s : List ℕ) (blocks others : List Outer) (tail rest : List ℕ) → Stream most s blocks tail → Stream most s others rest → (blocks ≡ others) × (tail ≡ rest) }
+{}
+
+/// A stream has one first fault, of one kind.
+pub fn one_fault()
+    ensures { (most : Limits) → IsRoomy most → (s : List ℕ) (at place : ℕ) (kind other : Kind) → FirstFault most s at kind → FirstFault most s place other → (at ≡ place) × (kind ≡ other) }
+{}
