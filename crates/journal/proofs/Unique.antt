@@ -75,7 +75,7 @@ given i j ps qs same stands others =
     laid_out_once MAX_PAYLOAD (omega arith) s.selector others.selector i.first ps qs s.lays others.lays
 
 -- and then no cause lies in them
-pub refused : (i : Image) (qs : List (List ℕ)) (cause : OpenCause) → Tells i.first cause → Stands i qs → IsPassing cause
+pub refused : (i : Image) (qs : List (List ℕ)) (cause : OpenCause) → Tells i cause → Stands i qs → IsPassing cause
 refused i qs (causes.Damaged gate) told stands = undamaged MAX_PAYLOAD (omega arith) i.first qs gate stands told
 refused i qs causes.NotASheet told stands = told (has_header MAX_PAYLOAD (omega arith) i.first qs stands)
 refused i qs causes.Disk told stands = tt

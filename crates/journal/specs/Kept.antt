@@ -4,19 +4,26 @@ use Rattle.disk_model.specs.Disk.{Image, DiskState, DiskView, History, IsImage, 
 use Rattle.journal.specs.Area.{StandsFor, end_of}
 use Rattle.journal.specs.declared.frame.TheConstants.{MAX_PAYLOAD}
 
--- the active area of the image stands for these payloads. It is area First.
+-- the active area, in which the journal is, and the other one
+abbrev pub active_of : Image → List ℕ
+active_of i = i.first
+
+abbrev pub other_of : Image → List ℕ
+other_of i = i.second
+
+-- the image stands for these payloads
 abbrev pub Stands : Image → List (List ℕ) → Type 0
-Stands i payloads = StandsFor MAX_PAYLOAD i.first payloads
+Stands i payloads = StandsFor MAX_PAYLOAD (active_of i) payloads
 
 -- the disk stands for these payloads, they are durable, and the closed gate behind them is at `end`
 pub record Keeps (h : History) (end : ℕ) (payloads : List (List ℕ)) : Type 0 where
   pub stands : Stands (content_of h) payloads
   pub end_is : end ≡ end_of payloads
-  pub durable : (i : Image) → IsImage h.now i → i.first ≡ (content_of h).first
+  pub durable : (i : Image) → IsImage h.now i → active_of i ≡ active_of (content_of h)
 
 -- the area that isn't active is that of an image of this state
 abbrev pub OtherUntouched : DiskState → Image → Type 0
-OtherUntouched s i = (j : Image) × IsImage s j × (i.second ≡ j.second)
+OtherUntouched s i = (j : Image) × IsImage s j × (other_of i ≡ other_of j)
 
 -- the image stands for the payloads, with this one behind them or without it, and the other area is untouched
 abbrev pub BeforeOrAfter : DiskState → List (List ℕ) → List ℕ → Image → Type 0

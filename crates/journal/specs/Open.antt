@@ -2,6 +2,7 @@
 use Rattle.std.specs.Prelude.{◌≡◌, ℕ, List, []}
 use Rattle.disk_model.specs.Disk.{Image}
 use Rattle.journal.specs.Damage.{IsDamaged, HasHeader}
+use Rattle.journal.specs.Kept.{active_of}
 use Rattle.journal.specs.declared.frame.TheConstants.{MAX_PAYLOAD}
 use Rattle.journal.specs.declared.opening.OpenCause.{OpenCause}
 use Rattle.journal.specs.declared.opening.OpenCause.TheVariants.{Damaged, NotASheet, Disk, OutOfMemory}
@@ -11,11 +12,15 @@ abbrev pub AreEmpty : Image → Type 0
 AreEmpty i = (i.first ≡ []) × (i.second ≡ [])
 
 -- what a cause says of the bytes of area First: the first gate that is damaged, or that no header stands there
-abbrev pub Tells : List ℕ → OpenCause → Type 0
-Tells bytes (Damaged gate) = IsDamaged MAX_PAYLOAD bytes gate
-Tells bytes NotASheet = HasHeader bytes → ⊥
-Tells bytes Disk = Unit {0}
-Tells bytes OutOfMemory = Unit {0}
+abbrev pub TellsOf : List ℕ → OpenCause → Type 0
+TellsOf bytes (Damaged gate) = IsDamaged MAX_PAYLOAD bytes gate
+TellsOf bytes NotASheet = HasHeader bytes → ⊥
+TellsOf bytes Disk = Unit {0}
+TellsOf bytes OutOfMemory = Unit {0}
+
+-- what it says of a disk
+abbrev pub Tells : Image → OpenCause → Type 0
+Tells i cause = TellsOf (active_of i) cause
 
 -- a cause that isn't in the bytes
 abbrev pub IsPassing : OpenCause → Type 0

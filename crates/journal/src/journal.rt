@@ -3,7 +3,7 @@ ghost use Rattle.std.specs.Prelude.{◌≡◌, ◌<◌, ◌≤◌, ◌+◌, ◌+
 ghost use Rattle.disk_model.specs.Disk.{InModel, LeavesOnly, Looks, SameDisk, Rises, content_of};
 ghost use Rattle.journal.specs.Walk.{payloads_in, AreGates};
 ghost use Rattle.journal.specs.Open.{Tells};
-ghost use Rattle.journal.specs.Kept.{Keeps, BeforeOrAfter, Fits, Stands};
+ghost use Rattle.journal.specs.Kept.{BeforeOrAfter, Fits, Keeps, Stands, other_of};
 
 use crate::append::add;
 use crate::opening::scan;
@@ -38,7 +38,9 @@ impl<D: Disk> Model for Journal<D> {
 /// An opening that was refused, and the disk.
 #[derive(Drop)]
 pub struct OpenFault<D: Disk> {
+    /// Why it was refused.
     pub cause: OpenCause,
+    /// The disk, as it stands.
     pub disk: D,
 }
 
@@ -61,7 +63,7 @@ impl<D: Disk> Journal<D> {
 
         ensures found { InModel (D.view disk) (IfOk result (λ found. Keeps found.0.disk.history found.0.end (payloads_in found.1.items))) }
         ensures gates { InModel (D.view disk) (IfOk result (λ found. AreGates 10 found.1.items)) }
-        ensures fault { InModel (D.view disk) (IfErr result (λ e. Tells (content_of (D.view disk).history).first e.cause)) }
+        ensures fault { InModel (D.view disk) (IfErr result (λ e. Tells (content_of (D.view disk).history) e.cause)) }
 
         // A disk that stands for payloads gives these and no others, unless it fails or memory is refused.
         ensures exact { InModel (D.view disk) ((payloads : List (List ℕ)) → Stands (content_of (D.view disk).history) payloads → Gives payloads result) }
@@ -88,7 +90,7 @@ impl<D: Disk> Journal<D> {
     /// Adds a payload, which is durable at `Ok`. It takes no memory (docs/FORMAT.md, "Append").
     pub fn append(self, frame: &Frame) -> Result<Journal<D>, AppendFault<D>>
         ensures same { SameDisk self.disk (disk_after D.view result) }
-        ensures other { InModel self.disk ((content_of (disk_after D.view result).history).second ≡ (content_of self.disk.history).second) }
+        ensures other { InModel self.disk (other_of (content_of (disk_after D.view result).history) ≡ other_of (content_of self.disk.history)) }
 
         ensures ok { InModel self.disk ((payloads : List (List ℕ)) → Keeps self.disk.history self.end payloads
             → IfOk result (λ journal. Keeps journal.disk.history journal.end (payloads ++ frame.now ∷ []))) }

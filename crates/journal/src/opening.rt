@@ -32,7 +32,9 @@ impl From<DiskFault> for CreateCause {
 /// A creation that was refused, and the disk.
 #[derive(Drop)]
 pub struct CreateFault<D: Disk> {
+    /// Why it was refused.
     pub cause: CreateCause,
+    /// The disk, as it stands.
     pub disk: D,
 }
 
@@ -138,7 +140,7 @@ pub(crate) fn scan<D: Disk>(alloc: Global, disk: &mut D) -> Result<(u64, Vec<Pay
 
     ensures found { InModel (D.view disk.old) (IfOk result (λ found. Keeps (D.view disk.new).history found.0 (payloads_in found.1.items))) }
     ensures gates { InModel (D.view disk.old) (IfOk result (λ found. AreGates 10 found.1.items)) }
-    ensures fault { InModel (D.view disk.old) (IfErr result (Tells (content_of (D.view disk.old).history).first)) }
+    ensures fault { InModel (D.view disk.old) (IfErr result (Tells (content_of (D.view disk.old).history))) }
     ensures end { IfOk result (λ found. found.0 ≤ MAX_ROOM) }
 
     ensures looks { InModel (D.view disk.old) (Looks (D.view disk.old).history (D.view disk.new).history) }

@@ -3,17 +3,19 @@ ghost use Rattle.std.specs.Prelude.{◌≡◌, ◌≢◌, ◌<◌, ◌≤◌, �
 ghost use Rattle.journal.specs.Area.{StandsFor, end_of, header};
 ghost use Rattle.journal.specs.Damage.{HasHeader};
 ghost use Rattle.journal.specs.Walk.{AreGates, IsStep, payloads_in};
-ghost use Rattle.journal.specs.Open.{Tells};
+ghost use Rattle.journal.specs.Open.{TellsOf};
 ghost use Rattle.journal.specs.declared.opening.OpenCause.TheVariants.{Disk};
 
 use crate::{MAX_PAYLOAD, Octets, OpenCause};
 use disk_model::MAX_ROOM;
 use std::alloc::Global;
 
-/// A payload of an area, and the offset of its gate.
+/// A payload that an opening found.
 #[derive(Drop, Debug)]
 pub struct Payload {
+    /// The offset of its gate in the area.
     pub gate: u64,
+    /// Its bytes, of which there is at least one.
     pub bytes: Octets,
 }
 
@@ -69,7 +71,7 @@ pub(crate) fn read_area(alloc: Global, bytes: &[u8]) -> Result<(u64, Vec<Payload
     ensures found { IfOk result (λ found. StandsFor MAX_PAYLOAD bytes.now (payloads_in found.1.items)) }
     ensures end { IfOk result (λ found. found.0 ≡ end_of (payloads_in found.1.items)) }
     ensures gates { IfOk result (λ found. AreGates 10 found.1.items) }
-    ensures fault { IfErr result (Tells bytes.now) }
+    ensures fault { IfErr result (TellsOf bytes.now) }
     ensures no_call { IfErr result (λ cause. cause ≢ Disk) }
 {
     let Some(mut rest) = behind_header(bytes) else {
