@@ -2,12 +2,14 @@
 //! streams.
 #![tactic(auto)]
 
+mod block_lines;
 mod fault;
 mod input;
 #[cfg(test)]
 mod tests;
 mod words;
 
-pub use fault::{fault_text, RunFault};
-pub use input::{read_input, MAX_INPUT};
-pub use words::{read_words, Task};
+pub use block_lines::blocks;
+pub use fault::{RunFault, fault_text};
+pub use input::{MAX_INPUT, read_input};
+pub use words::{Task, read_words};
