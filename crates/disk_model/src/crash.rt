@@ -21,15 +21,18 @@ pub enum Fill {
     Byte(u8),
 }
 
-/// A crash after the first `moment` calls.
+/// A crash after the first `moment` calls (docs/FORMAT.md, "Crashes in tests").
 ///
 /// In each area, on what its last sync left, its later writes stand in the order of their calls,
 /// each with its range filled by `fill`; bytes that never were are 0. An area has the length that
 /// these writes gave it where `grown`, else the length that the sync left.
 #[derive(Clone, Copy, Debug, PartialEq, Eq)]
 pub struct Choice {
+    /// How many calls had been made.
     pub moment: u64,
+    /// What the ranges of pending writes hold.
     pub fill: Fill,
+    /// Whether an area has its new length.
     pub grown: bool,
 }
 

@@ -9,7 +9,9 @@ pub const MAX_ROOM: u64 = 2_147_483_648;
 /// One of the two areas of a disk.
 #[derive(Clone, Copy, Debug, PartialEq, Eq)]
 pub enum Area {
+    /// The area that is written first.
     First,
+    /// The other one.
     Second,
 }
 

@@ -19,9 +19,9 @@ pub(crate) enum Call {
 
 /// A disk in memory, for tests.
 ///
-/// It keeps the model, and a record of its calls, from which [`MemoryDisk::crash`] draws what a
-/// crash leaves. A call whose record can't grow is a fault: it does nothing, isn't on record, and
-/// counts as a failure.
+/// It keeps the model, and a record of its calls (`len`, `read`, `write_at` and `sync`), from which
+/// [`MemoryDisk::crash`] draws what a crash leaves. A call whose record can't grow is a fault: it
+/// does nothing, isn't on record, and counts as a failure.
 #[derive(Drop)]
 pub struct MemoryDisk {
     alloc: Global,
@@ -110,7 +110,8 @@ impl MemoryDisk {
         }
     }
 
-    /// A disk that holds what a crash by this choice leaves, with no call on record.
+    /// A disk that holds what a crash by this choice leaves, with no call on record. The choice's
+    /// moment is at most `calls()`.
     pub fn crash(&self, choice: &Choice) -> Result<MemoryDisk, OutOfMemory>
         requires { choice.now.moment ≤ length (view_of self.now).history.past }
         ensures { IfOk result (λ disk. Crashed choice.now.moment choice.now.fill choice.now.grown (view_of self.now) (view_of disk)) }

@@ -1,4 +1,4 @@
-use crate::{Area, Choice, Disk, Fill, FuseDisk, FuseMode, MemoryDisk};
+use crate::{Area, Choice, Disk, DiskFault, Fill, FuseDisk, FuseMode, MAX_ROOM, MemoryDisk};
 use std::alloc::{AllocError, Global};
 use std::test::Fail;
 
@@ -148,4 +148,63 @@ fn a_record_that_cannot_grow_is_a_fault(rt: HostRuntime) -> Result<(), Fail> {
     assert!(rt; disk.write_at(Area::First, 0, b"a").is_ok());
     assert_eq!(rt; disk.content(Area::First), b"a".as_slice());
     Ok(())
+}
+
+// A disk of which nothing is claimed but its count of failures, as a real file is.
+#[derive(Drop)]
+struct Unclaimed {
+    faults: u64,
+}
+
+impl Disk for Unclaimed {
+    ghost use Rattle.disk_model.specs.Disk.{unclaimed};
+    ghost use Rattle.disk_model.specs.Calls.{started_with};
+    ghost use Rattle.disk_model.specs.declared.disk.TheConstants.{MAX_ROOM};
+    ghost use Rattle.std.specs.Prelude.{false, []};
+    ghost use Rattle.std.proofs.Common.{arith};
+
+    ghost view = { λ d. record {
+      room = MAX_ROOM;
+      faults = d.faults;
+      keeps_model = false;
+      history = started_with (record { first = []; second = [] });
+    } };
+
+    ghost small = { λ d. Prim.omega arith };
+
+    ghost content_stays = { λ d h. unclaimed h };
+
+    fn room(&self) -> u64 {
+        MAX_ROOM
+    }
+
+    fn len(&mut self, _area: Area) -> Result<u64, DiskFault> {
+        let _faults = self.faults;
+        Ok(7)
+    }
+
+    fn read(&mut self, _area: Area, _offset: u64, _buffer: &mut [u8]) -> Result<(), DiskFault> {
+        let _faults = self.faults;
+        Ok(())
+    }
+
+    fn write_at(&mut self, _area: Area, _offset: u64, _bytes: &[u8]) -> Result<(), DiskFault> {
+        self.faults = self.faults.saturating_add(1);
+        Err(DiskFault)
+    }
+
+    fn sync(&mut self, _area: Area) -> Result<(), DiskFault> {
+        let _faults = self.faults;
+        Ok(())
+    }
+}
+
+#[test]
+fn a_disk_that_keeps_no_model_is_called_anywhere(rt: HostRuntime) {
+    let mut disk = FuseDisk::new(Unclaimed { faults: 0 }, 3, FuseMode::Only);
+    let mut buffer = [0u8; 4];
+    assert!(rt; disk.read(Area::First, 1_000, &mut buffer).is_ok());
+    assert!(rt; disk.write_at(Area::Second, 99, b"a").is_err());
+    assert!(rt; disk.sync(Area::First).is_err());
+    assert!(rt; disk.sync(Area::First).is_ok());
 }
