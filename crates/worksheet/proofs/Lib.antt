@@ -5,3 +5,4 @@ pub mod Finds
 pub mod SoundLaws
 pub mod OneMore
 pub mod SheetLaws
+pub mod Existence

@@ -7,3 +7,4 @@ pub mod Ops
 pub mod Checks
 pub mod Edits
 pub mod SheetInside
+pub mod Laws

@@ -3,7 +3,7 @@ use crate::name::Name;
 use block_tree::{Block, Octets, Sequence, Text};
 
 /// What an interpreter answered to the input of a field.
-#[derive(Drop)]
+#[derive(Drop, PartialEq, Eq)]
 pub struct Answer {
     /// The prompt under which the input was asked, at most 1,024 bytes. It may be cut inside a
     /// character.
@@ -13,7 +13,7 @@ pub struct Answer {
 }
 
 /// A field of a worksheet.
-#[derive(Drop)]
+#[derive(Drop, PartialEq, Eq)]
 pub struct Field {
     /// Its number, from 1.
     pub id: u32,

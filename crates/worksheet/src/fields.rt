@@ -40,9 +40,9 @@ impl<'a> Iterator for Fields<'a> {
     ghost remaining = { item_count (λ rest. rest) };
 
     fn next(&mut self) -> Option<&'a Field> {
-        let (first, others) = self.rest.split_first()?;
+        let (field, others) = self.rest.split_first()?;
         self.rest = others;
-        Some(first)
+        Some(field)
     }
 }
 
@@ -75,8 +75,8 @@ impl<'a> Iterator for Sessions<'a> {
     ghost remaining = { item_count (λ rest. rest) };
 
     fn next(&mut self) -> Option<&'a Session> {
-        let (first, others) = self.rest.split_first()?;
+        let (session, others) = self.rest.split_first()?;
         self.rest = others;
-        Some(first)
+        Some(session)
     }
 }

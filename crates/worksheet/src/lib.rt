@@ -9,11 +9,14 @@ pub mod check;
 mod edits;
 pub mod field;
 pub mod fields;
+pub mod laws;
 pub mod limits;
 pub mod name;
 pub mod op;
 pub mod refusal;
 pub mod sheet;
+#[cfg(test)]
+mod tests;
 
 pub use field::{Answer, Field, Session};
 pub use fields::{Fields, Sessions};

@@ -51,7 +51,8 @@ impl Name {
 
     /// Its bytes.
     pub fn as_slice(&self) -> &[u8]
-        ensures { result.now ≡ self.now }
+        ensures bytes { result.now ≡ self.now }
+        ensures named { IsTrue (name_test self.now) }
     {
         &self.bytes[..self.len as usize]
     }

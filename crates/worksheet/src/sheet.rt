@@ -132,7 +132,7 @@ impl Sheet {
         Sessions::new(&self.sessions)
     }
 
-    /// The session with this name. No session has bytes that are no name.
+    /// The session with this name. The bytes may be any.
     pub fn session(&self, name: &[u8]) -> Option<&Session>
         ensures { option_copied result ≡ session_named self.now.contents.sessions name.now }
     {
