@@ -1,3 +1,4 @@
+use crate::examples::append_all;
 use crate::{AppendFault, CreateCause, Frame, Journal, OpenCause, Payload, create};
 use disk_model::{Area, Choice, Disk, Fill, MemoryDisk};
 use std::alloc::{AllocError, Global};
@@ -39,6 +40,45 @@ fn a_record_that_fills_the_room(rt: HostRuntime) -> Result<(), Fail> {
     assert_eq!(rt; payloads.len(), 1);
     assert_eq!(rt; payloads[0].gate, 10);
     assert_eq!(rt; payloads[0].bytes.as_slice(), SESSION.as_slice());
+    Ok(())
+}
+
+#[test]
+fn payloads_in_order(rt: HostRuntime) -> Result<(), Fail> {
+    let alloc = rt.alloc();
+    let (journal, _) = opened(alloc, created(alloc, 40)?)?;
+    let frames = [Frame::new(alloc, &SESSION)?, Frame::new(alloc, &[7])?];
+    let journal = append_all(journal, &frames).map_err(|_| "append")?;
+    let (_, payloads) = opened(alloc, journal.into_disk())?;
+    assert_eq!(rt; payloads.len(), 2);
+    assert_eq!(rt; payloads[1].gate, 24);
+    assert_eq!(rt; payloads[1].bytes.as_slice(), [7].as_slice());
+    Ok(())
+}
+
+#[test]
+fn the_worked_example_opens(rt: HostRuntime) -> Result<(), Fail> {
+    let alloc = rt.alloc();
+    let area: [u8; 76] = [
+        0x54, 0x4d, 0x57, 0x53, 0x48, 0x45, 0x45, 0x54, 0x01, 0x41, // header
+        0x52, 0x00, 0x00, 0x00, 0x09, 0x01, 0x01, 0x61, 0x00, 0x01, 0x00, 0x02, 0x73, 0x68, // session
+        0x52, 0x00, 0x00, 0x00, 0x0a, 0x02, 0x00, 0x00, 0x00, 0x00, 0x01, 0x61, 0x00, 0x01, 0x78, // new
+        0x52, 0x00, 0x00, 0x00, 0x05, 0x06, 0x00, 0x00, 0x00, 0x01, // clear
+        0x52, 0x00, 0x00, 0x00, 0x15, 0x07, 0x00, 0x00, 0x00, 0x01, 0x00, 0x02, 0x3e, 0x20, 0x02,
+        0x76, 0x65, 0x72, 0x62, 0x61, 0x74, 0x69, 0x6d, 0x3a, 0x41, 0x05, // answer
+        0x00,
+    ];
+    let disk = MemoryDisk::holding(alloc, 100, area.as_slice().to_vec(alloc)?).map_err(
+        |_| "holding",
+    )?;
+    let (_, payloads) = opened(alloc, disk)?;
+    assert_eq!(rt; payloads.len(), 4);
+    assert_eq!(rt; payloads[0].gate, 10);
+    assert_eq!(rt; payloads[1].gate, 24);
+    assert_eq!(rt; payloads[2].gate, 39);
+    assert_eq!(rt; payloads[3].gate, 49);
+    assert_eq!(rt; payloads[0].bytes.as_slice(), SESSION.as_slice());
+    assert_eq!(rt; payloads[2].bytes.as_slice(), [6, 0, 0, 0, 1].as_slice());
     Ok(())
 }
 
