@@ -11,6 +11,8 @@ mod piece;
 mod read;
 mod reader;
 mod scan;
+#[cfg(test)]
+mod tests;
 mod write;
 
 pub use laws::{canonical_spelling, no_front, one_block, one_fault, one_reading};

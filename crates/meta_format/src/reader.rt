@@ -39,9 +39,15 @@ pub enum FeedFault {
 pub struct Reader {
     alloc: Global,
     failed: bool,
+    told: Told,
+    scanner: Scanner,
+}
+
+/// What is told of the stream up to the last piece without a fault.
+#[derive(Drop)]
+struct Told {
     offset: u64,
     pending: Option<u64>,
-    scanner: Scanner,
 }
 
 impl Model for Reader {
@@ -51,9 +57,9 @@ impl Model for Reader {
 
     ghost Value = { Known };
 
-    ghost view = { λ r. record { failed = r.failed; offset = r.offset; pending = r.pending; mode = mode_of r.scanner } };
+    ghost view = { λ r. record { failed = r.failed; offset = r.told.offset; pending = r.told.pending; mode = mode_of r.scanner } };
 
-    ghost invariant = { λ r. r.failed ≡ false → IsPlaced r.scanner × (r.scanner.at ≡ r.offset) };
+    ghost invariant = { λ r. r.failed ≡ false → IsPlaced r.scanner × (r.scanner.at ≡ r.told.offset) };
 }
 
 impl Reader {
@@ -64,8 +70,10 @@ impl Reader {
         Reader {
             alloc,
             failed: false,
-            offset: 0,
-            pending: None,
+            told: Told {
+                offset: 0,
+                pending: None,
+            },
             scanner: Scanner::new(alloc),
         }
     }
@@ -75,7 +83,7 @@ impl Reader {
         ensures kept { result ≡ self.now.offset }
         ensures length { (s : List ℕ) (blocks : List Outer) → Stands limits self.now s blocks → result ≡ length s }
     {
-        self.offset
+        self.told.offset
     }
 
     /// The offset of the 2 that begins the outer block that is open, if one is. After a fault it is what it
@@ -83,7 +91,7 @@ impl Reader {
     pub fn pending(&self) -> Option<u64>
         ensures { result ≡ self.now.pending }
     {
-        self.pending
+        self.told.pending
     }
 
     /// Takes the next piece of the stream, and gives the outer blocks that it closes, in order.
@@ -111,8 +119,10 @@ impl Reader {
         let mut found = Vec::new(self.alloc);
         match scan_piece(self.alloc, BOUNDS, &mut self.scanner, &mut found, piece) {
             Ok(()) => {
-                self.offset = self.scanner.at;
-                self.pending = begin_of(self.scanner.place, self.scanner.start);
+                self.told = Told {
+                    offset: self.scanner.at,
+                    pending: begin_of(self.scanner.place, self.scanner.start),
+                };
                 Ok(found)
             }
             Err(Stop::BadTag) => {

@@ -15,7 +15,7 @@ returns-in-Ok-clause-ok c s blocks h =
     let ran = scan_start limits inside.scanner k c.new-found.result.items c.args.piece.now (state_of after (outers c.scan_piece.new.found.items))
     ((c.self.invariant works).1 ∙ ap (λ q. q.offset) c.self.view_is) (ap (λ q. q.mode) c.self.view_is) c.new-found.ensures.items c.in-Ok.ensures.scans in
     fed_stands limits roomy k s c.args.piece.now blocks after.at (outers c.scan_piece.new.found.items) (mode_of after) h ran _ (mode_alive after.place after.start after.levels.items after.name.items) works refl refl
-    (c.begin_of-self-inside.ensures after.levels.items after.name.items)
+    (c.begin_of.ensures after.levels.items after.name.items)
 
 pub returns-in-Ok-clause-closes : goal.returns-in-Ok-clause-closes
 returns-in-Ok-clause-closes c s blocks h =
