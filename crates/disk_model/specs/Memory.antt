@@ -1,5 +1,5 @@
 -- A disk in memory as contracts see it.
-use Rattle.std.specs.Prelude.{true}
+use Rattle.std.specs.Prelude.{◌≡◌, ◌+◌, true, length, MatchResult, Result}
 use Rattle.disk_model.specs.Disk.{DiskView, Image}
 use Rattle.disk_model.specs.Calls.{history_after, started_with}
 use Rattle.disk_model.specs.declared.memory.MemoryDisk.{MemoryDisk}
@@ -11,3 +11,7 @@ start_of m = record { first = m.first_start.items; second = m.second_start.items
 -- it keeps the model, and its history is that of the calls on record
 abbrev pub view_of : MemoryDisk → DiskView
 view_of m = record { room = m.room; faults = m.faults; keeps_model = true; history = history_after (started_with (start_of m)) m.calls.items }
+
+-- one call: recorded as one moment more at Ok, else without a trace but the failure
+abbrev pub Records : {T E : Type 0} → Result T E → DiskView → DiskView → Type 0
+Records result old new = MatchResult result (λ _. (length new.history.past ≡ length old.history.past + 1) × (new.faults ≡ old.faults)) (λ _. new.history ≡ old.history)

@@ -1,6 +1,6 @@
 // A disk in memory, which keeps a record of its calls.
 ghost use Rattle.std.specs.Prelude.{◌≡◌, ◌≤◌, ◌<◌, ◌+◌, ◌^◌, ◌++◌, ◌∷◌, [], length, take, drop, IfOk, OnOk, OnErr};
-ghost use Rattle.disk_model.specs.Disk.{area_of, content_of, overwritten};
+ghost use Rattle.disk_model.specs.Disk.{Called, InModel, Looks, Syncs, Writes, area_of, content_of, overwritten};
 ghost use Rattle.disk_model.specs.Calls.{Notes, after_write, fresh, history_after, started_with, step, with_area};
 ghost use Rattle.disk_model.specs.Replay.{stays_an_image};
 ghost use Rattle.disk_model.specs.declared.disk.TheConstants.{MAX_ROOM};
@@ -173,7 +173,7 @@ fn note(calls: &mut Vec<Call>, call: Call) -> Result<(), AllocError>
 }
 
 impl Disk for MemoryDisk {
-    ghost use Rattle.disk_model.specs.Memory.{view_of, start_of};
+    ghost use Rattle.disk_model.specs.Memory.{Records, start_of, view_of};
 
     ghost view = { view_of };
 
@@ -186,7 +186,13 @@ impl Disk for MemoryDisk {
     }
 
     #[tactic(auto, using(crate::proofs::Record::looked))]
-    fn len(&mut self, area: Area) -> Result<u64, DiskFault> {
+    fn len(&mut self, area: Area) -> Result<u64, DiskFault>
+        ensures called { Called result (view_of self.old) (view_of self.new) }
+        ensures bound { IfOk result (λ n. n ≤ (view_of self.old).room) }
+        ensures looks { InModel (view_of self.old) (Looks (view_of self.old).history (view_of self.new).history) }
+        ensures length { InModel (view_of self.old) (IfOk result (λ n. n ≡ length (area_of area (content_of (view_of self.old).history)))) }
+        ensures records { Records result (view_of self.old) (view_of self.new) }
+    {
         let _faults = self.faults;
         if let Err(AllocError) = note(&mut self.calls, Call::Look) {
             self.faults = self.faults.saturating_add(1);
@@ -199,7 +205,13 @@ impl Disk for MemoryDisk {
     }
 
     #[tactic(auto, using(crate::proofs::Record::looked))]
-    fn read(&mut self, area: Area, offset: u64, buffer: &mut [u8]) -> Result<(), DiskFault> {
+    fn read(&mut self, area: Area, offset: u64, buffer: &mut [u8]) -> Result<(), DiskFault>
+        requires { InModel (view_of self.old) (offset + length buffer.old ≤ length (area_of area (content_of (view_of self.old).history))) }
+        ensures called { Called result (view_of self.old) (view_of self.new) }
+        ensures looks { InModel (view_of self.old) (Looks (view_of self.old).history (view_of self.new).history) }
+        ensures bytes { InModel (view_of self.old) (OnOk result (buffer.new ≡ take (length buffer.old) (drop offset (area_of area (content_of (view_of self.old).history))))) }
+        ensures records { Records result (view_of self.old) (view_of self.new) }
+    {
         let _faults = self.faults;
         if let Err(AllocError) = note(&mut self.calls, Call::Look) {
             self.faults = self.faults.saturating_add(1);
@@ -214,7 +226,12 @@ impl Disk for MemoryDisk {
         Ok(())
     }
 
-    fn write_at(&mut self, area: Area, offset: u64, bytes: &[u8]) -> Result<(), DiskFault> {
+    fn write_at(&mut self, area: Area, offset: u64, bytes: &[u8]) -> Result<(), DiskFault>
+        requires { InModel (view_of self.old) ((offset ≤ length (area_of area (content_of (view_of self.old).history))) × (offset + length bytes.now ≤ (view_of self.old).room)) }
+        ensures called { Called result (view_of self.old) (view_of self.new) }
+        ensures writes { InModel (view_of self.old) (Writes area offset bytes.now result (view_of self.old).history (view_of self.new).history) }
+        ensures records { Records result (view_of self.old) (view_of self.new) }
+    {
         let _faults = self.faults;
         match area {
             Area::First => {
@@ -247,7 +264,11 @@ impl Disk for MemoryDisk {
         Ok(())
     }
 
-    fn sync(&mut self, area: Area) -> Result<(), DiskFault> {
+    fn sync(&mut self, area: Area) -> Result<(), DiskFault>
+        ensures called { Called result (view_of self.old) (view_of self.new) }
+        ensures syncs { InModel (view_of self.old) (Syncs area result (view_of self.old).history (view_of self.new).history) }
+        ensures records { Records result (view_of self.old) (view_of self.new) }
+    {
         let _faults = self.faults;
         if let Err(AllocError) = note(&mut self.calls, Call::Sync(area)) {
             self.faults = self.faults.saturating_add(1);
