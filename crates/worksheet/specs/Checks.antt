@@ -14,9 +14,13 @@ use Rattle.worksheet.specs.Names.{is_name}
 use Rattle.worksheet.specs.Contents.{Contents, Held}
 use Rattle.worksheet.specs.Ops.{sheet_of}
 
--- no byte below 32 but TAB. In UTF-8 these bytes are the characters below U+0020.
+-- no byte below 32. In UTF-8 those bytes are the characters below U+0020.
+abbrev pub is_no_control : ℕ → Bool
+is_no_control byte = nat_le 32 byte
+
+-- the same, or TAB
 abbrev pub is_input_byte : ℕ → Bool
-is_input_byte byte = nat_le 32 byte || (byte == 9)
+is_input_byte byte = is_no_control byte || (byte == 9)
 
 -- an input: UTF-8, at most 4,095 bytes, with no character below U+0020 but TAB
 abbrev pub is_input : List ℕ → Bool
@@ -24,7 +28,7 @@ is_input bytes = nat_le (length bytes) LONGEST_INPUT && list_all is_input_byte b
 
 -- a word: 1 to 1,024 bytes of UTF-8 with no byte below 32
 abbrev pub is_word : List ℕ → Bool
-is_word bytes = nat_le 1 (length bytes) && nat_le (length bytes) LONGEST_WORD && list_all (nat_le 32) bytes && is_utf8 bytes
+is_word bytes = nat_le 1 (length bytes) && nat_le (length bytes) LONGEST_WORD && list_all is_no_control bytes && is_utf8 bytes
 
 -- 1 to 16 words
 abbrev pub are_words : List (List ℕ) → Bool

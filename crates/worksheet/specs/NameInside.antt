@@ -1,8 +1,9 @@
--- A name in its 32 bytes, of which those behind it are 0.
+-- A name in the bytes that the longest one takes, of which those behind it are 0.
 use Rattle.std.specs.Prelude.{◌≡◌, ◌-◌, ◌≤◌, ℕ, List, ◌++◌, length, take, drop, replicate, IsTrue, refl}
 use Rattle.std.proofs.Common.{ap, sym, ◌∙◌, arith}
 use Rattle.std.proofs.lemmas.List.{length-take, take-append-drop}
 use Rattle.worksheet.specs.declared.name.Name.TheInside.{Inside}
+use Rattle.worksheet.specs.declared.limits.TheConstants.{LONGEST_NAME}
 use Rattle.worksheet.specs.Names.{is_name}
 
 -- the bytes of the name
@@ -10,14 +11,14 @@ abbrev pub name_of : Inside → List ℕ
 name_of a = take a.len a.bytes
 
 pub record IsNameInside (a : Inside) : Type 0 where
-  pub whole : length a.bytes ≡ 32
-  pub short : a.len ≤ 32
-  pub behind : drop a.len a.bytes ≡ replicate (32 - a.len) 0
+  pub whole : length a.bytes ≡ LONGEST_NAME
+  pub short : a.len ≤ LONGEST_NAME
+  pub behind : drop a.len a.bytes ≡ replicate (LONGEST_NAME - a.len) 0
   pub named : IsTrue (is_name (take a.len a.bytes))
 
 -- where a name lies
 abbrev pub inside_of : List ℕ → Inside
-inside_of bytes = record { len = length bytes; bytes = bytes ++ replicate (32 - length bytes) 0 }
+inside_of bytes = record { len = length bytes; bytes = bytes ++ replicate (LONGEST_NAME - length bytes) 0 }
 
 abbrev inside_with : ℕ → List ℕ → Inside
 inside_with len bytes = record { len = len; bytes = bytes }
@@ -30,6 +31,6 @@ pub name_back : (a : Inside) → IsNameInside a → inside_of (name_of a) ≡ a
 name_back a h =
     let n : length (take a.len a.bytes) ≡ a.len = omega (arith, length-take a.len a.bytes, h.whole, h.short) in
     same_inside _ _ _ _ n
-    (ap (λ k. take a.len a.bytes ++ replicate (32 - k) 0) n
+    (ap (λ k. take a.len a.bytes ++ replicate (LONGEST_NAME - k) 0) n
     ∙ ap (λ rest. take a.len a.bytes ++ rest) (sym h.behind)
     ∙ take-append-drop a.len a.bytes)

@@ -13,7 +13,7 @@ use std::marker::Model;
 #[derive(Clone, Copy, Debug)]
 pub struct Name {
     len: u8,
-    bytes: [u8; 32],
+    bytes: [u8; LONGEST_NAME],
 }
 
 impl Model for Name {
@@ -41,7 +41,7 @@ impl Name {
         if !is_name(bytes) {
             return None;
         }
-        let mut all = [0; 32];
+        let mut all = [0; LONGEST_NAME];
         all[..bytes.len()].copy_from_slice(bytes);
         Some(Name {
             len: bytes.len() as u8,
