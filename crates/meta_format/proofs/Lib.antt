@@ -18,3 +18,4 @@ pub mod Feeds
 pub mod Written
 pub mod Readings
 pub mod Readable
+pub mod Held

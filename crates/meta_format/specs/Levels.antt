@@ -1,7 +1,7 @@
 -- What the open levels of a scanner hold. Private contracts cite this.
-use Rattle.std.specs.Prelude.{◌≡◌, ◌≤◌, ℕ, Bool, true, false, List, [], ◌∷◌, ◌++◌, map}
+use Rattle.std.specs.Prelude.{◌≡◌, ◌≤◌, ◌+◌, ℕ, Bool, true, false, List, [], ◌∷◌, ◌++◌, map, length}
 use Rattle.std.specs.List.{flat_map}
-use Rattle.block_tree.specs.Marks.{Mark, open_mark, letter}
+use Rattle.block_tree.specs.Marks.{Mark, open_mark, letter, close_mark}
 use Rattle.block_tree.specs.Nodes.{item_marks, is_plain_item, all_right, Tested}
 use Rattle.block_tree.specs.Shape.{is_tag_name, max_tag}
 use Rattle.meta_format.specs.Rows.{IsOpen}
@@ -35,3 +35,15 @@ pub record IsLevel (l : Level) : Type 0 where
 pub record AreOpen (most : ℕ) (ms : List Mark) (levels : ℕ) : Type 0 where
   pub open_marks : IsOpen most ms levels
   pub few : levels ≤ most
+
+-- the bytes of the tags and the texts in a row of marks
+abbrev pub weight : List Mark → ℕ
+weight [] = 0
+weight (open_mark channel name ∷ ms) = length name + weight ms
+weight (letter c ∷ ms) = 1 + weight ms
+weight (close_mark ∷ ms) = weight ms
+
+-- The marks, and so many bytes more, are held of the bytes from the start of a block on, which are not too many.
+pub record IsHeld (block start at : ℕ) (ms : List Mark) (more : ℕ) : Type 0 where
+  pub bytes : start + weight ms + more ≤ at
+  pub short : at ≤ start + block

@@ -1,12 +1,12 @@
 -- What the fields of a scanner say. Private contracts cite this, but for `outers`.
-use Rattle.std.specs.Prelude.{◌≡◌, ◌≤◌, ◌<◌, ◌-◌, ℕ, List, [], ◌∷◌, length, map, Option, Some, None, true, All, Result, Ok, Err, option_to_list, cond, nat_eq, ◌&&◌}
+use Rattle.std.specs.Prelude.{◌≡◌, ◌≤◌, ◌<◌, ◌-◌, ◌+◌, ℕ, List, [], ◌∷◌, length, map, Option, Some, None, true, All, Result, Ok, Err, option_to_list, cond, nat_eq, ◌&&◌}
 use Rattle.std.specs.List.{list_all}
 use Rattle.block_tree.specs.Shape.{is_tag_byte, max_tag, max_depth}
 use Rattle.block_tree.specs.Tree.{Tree}
 use Rattle.meta_format.specs.Limits.{Limits}
 use Rattle.meta_format.specs.Stream.{Outer}
 use Rattle.meta_format.specs.Faults.{bad_tag, too_deep, too_long}
-use Rattle.meta_format.specs.Levels.{stack_marks, IsLevel, AreOpen}
+use Rattle.meta_format.specs.Levels.{stack_marks, weight, IsHeld, IsLevel, AreOpen}
 use Rattle.meta_format.specs.Machine.{Mode, outside, tag_of, body_of, escape_of, broken, State, next, run, start_state, IsAlive}
 use Rattle.meta_format.specs.declared.bounds.Bounds.{Bounds}
 use Rattle.meta_format.specs.declared.level.Level.{Level}
@@ -40,20 +40,32 @@ abbrev pub state_of : Scanner → List Outer → State
 state_of s out = record { at = s.at; out = out; mode = mode_of s }
 
 -- There is no level outside a block, and one at least in a body. A block starts before the next byte. A name is held in a tag alone.
-abbrev pub IsPlacedAt : Place → ℕ → ℕ → List Level → List ℕ → Type 0
-IsPlacedAt place.Outside at start levels name = (levels ≡ []) × (name ≡ [])
-IsPlacedAt place.Tag at start levels name = (start ≤ at) × (length levels < max_depth) × (list_all is_tag_byte name ≡ true) × (length name ≤ max_tag)
-IsPlacedAt place.Body at start levels name = (start ≤ at) × (0 < length levels) × (name ≡ [])
-IsPlacedAt place.Escape at start levels name = (start ≤ at) × (0 < length levels) × (name ≡ [])
+abbrev pub IsPlacedAt : ℕ → Place → ℕ → ℕ → List Level → List ℕ → Type 0
+IsPlacedAt block place.Outside at start levels name = (levels ≡ []) × (name ≡ [])
+IsPlacedAt block place.Tag at start levels name = (start ≤ at) × (length levels < max_depth) × (list_all is_tag_byte name ≡ true) × (length name ≤ max_tag)
+    × IsHeld block start at (stack_marks levels) (length name)
+IsPlacedAt block place.Body at start levels name = (start ≤ at) × (0 < length levels) × (name ≡ []) × IsHeld block start at (stack_marks levels) 0
+IsPlacedAt block place.Escape at start levels name = (start ≤ at) × (0 < length levels) × (name ≡ []) × IsHeld block start at (stack_marks levels) 1
 
 -- The levels are right, and their marks say how many they are.
 pub record AreLevels (levels : List Level) : Type 0 where
   pub right : All IsLevel levels
   pub opened : AreOpen max_depth (stack_marks levels) (length levels)
 
-pub record IsPlaced (s : Scanner) : Type 0 where
-  pub place : IsPlacedAt s.place s.at s.start s.levels.items s.name.items
+pub record IsPlaced (block : ℕ) (s : Scanner) : Type 0 where
+  pub place : IsPlacedAt block s.place s.at s.start s.levels.items s.name.items
   pub levels : AreLevels s.levels.items
+
+-- a scanner before the first byte
+pub record IsFresh (s : Scanner) : Type 0 where
+  pub at : s.at ≡ 0
+  pub outside : s.place ≡ place.Outside
+  pub levels : s.levels.items ≡ []
+  pub name : s.name.items ≡ []
+
+-- the bytes of the tags and the texts that are held
+abbrev pub held_bytes : Scanner → ℕ
+held_bytes s = weight (stack_marks s.levels.items) + length s.name.items
 
 -- A byte there gave what the machine gives.
 abbrev pub StepsAt : Place → Limits → Scanner → ℕ → Result (Option Found) Stop → Scanner → Type 0

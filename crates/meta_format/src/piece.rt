@@ -16,10 +16,10 @@ fn scan_byte(
     found: &mut Vec<Found>,
     c: u8,
 ) -> Result<(), Stop>
-    requires placed { IsPlaced scanner.old }
+    requires placed { IsPlaced bounds.block scanner.old }
     requires block { 0 < bounds.block }
     ensures scans { Scans (most_of bounds) scanner.old found.old.items (c ∷ []) result scanner.new found.new.items }
-    ensures placed { OnOk result (IsPlaced scanner.new) }
+    ensures placed { OnOk result (IsPlaced bounds.block scanner.new) }
 {
     match scanner.step(alloc, bounds, c) {
         Ok(None) => Ok(()),
@@ -40,10 +40,10 @@ pub fn scan_piece(
     found: &mut Vec<Found>,
     piece: &[u8],
 ) -> Result<(), Stop>
-    requires placed { IsPlaced scanner.old }
+    requires placed { IsPlaced bounds.block scanner.old }
     requires block { 0 < bounds.block }
     ensures scans { Scans (most_of bounds) scanner.old found.old.items piece.now result scanner.new found.new.items }
-    ensures placed { OnOk result (IsPlaced scanner.new) }
+    ensures placed { OnOk result (IsPlaced bounds.block scanner.new) }
 {
     for c in piece {
         if let Err(stop) = scan_byte(alloc, bounds, scanner, found, *c) {

@@ -23,7 +23,7 @@ pub enum ReadFault {
 }
 
 /// The outer blocks of bytes without a fault.
-#[tactic(auto, using(crate::proofs::Readings::scan_rules))]
+#[tactic(auto, using(crate::proofs::Readings::scan_rules, crate::proofs::Held::placed_fresh))]
 fn scan_all(alloc: Global, bytes: &[u8]) -> Result<Vec<Found>, ReadFault>
     ensures found { IfOk result (λ found. Finds bytes.now (outers found.items)) }
     ensures small { length bytes.now ≤ unbounded.block }

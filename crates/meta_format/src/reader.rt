@@ -31,7 +31,8 @@ pub enum FeedFault {
 }
 
 /// Reads the blocks of a stream that comes in pieces, which may be cut anywhere. Each byte is looked at
-/// once. Noise and closed outer blocks are not kept.
+/// once. Noise and closed outer blocks are not kept, and after a fault nothing is: the bytes of the tags
+/// and texts that a reader holds are never more than 1,048,576 (that is in the type's invariant).
 ///
 /// A reader stands for the bytes that were fed so far, and for the blocks that were given: that is the
 /// relation `Stands`, which `new` begins and `feed` carries on.
@@ -51,19 +52,21 @@ struct Told {
 }
 
 impl Model for Reader {
-    ghost use Rattle.std.specs.Prelude.{◌≡◌, false};
+    ghost use Rattle.std.specs.Prelude.{◌≡◌, ◌≤◌, false};
+    ghost use Rattle.meta_format.specs.Limits.{limits};
     ghost use Rattle.meta_format.specs.Reader.{Known};
-    ghost use Rattle.meta_format.specs.Scan.{mode_of, IsPlaced};
+    ghost use Rattle.meta_format.specs.Scan.{mode_of, IsPlaced, held_bytes};
 
     ghost Value = { Known };
 
     ghost view = { λ r. record { failed = r.failed; offset = r.told.offset; pending = r.told.pending; mode = mode_of r.scanner } };
 
-    ghost invariant = { λ r. r.failed ≡ false → IsPlaced r.scanner × (r.scanner.at ≡ r.told.offset) };
+    ghost invariant = { λ r. IsPlaced limits.block r.scanner × (held_bytes r.scanner ≤ limits.block) × (r.failed ≡ false → r.scanner.at ≡ r.told.offset) };
 }
 
 impl Reader {
     /// A reader before the first byte of its stream. No memory is taken.
+    #[tactic(auto, using(crate::proofs::Held::reader_rules))]
     pub fn new(alloc: Global) -> Reader
         ensures { Stands limits result [] [] }
     {
@@ -98,6 +101,7 @@ impl Reader {
     ///
     /// After an error, want of memory too, the reader has failed: each later call answers `Failed`, and
     /// `offset` and `pending` stay as they were before the piece.
+    #[tactic(auto, using(crate::proofs::Held::reader_rules))]
     pub fn feed(&mut self, piece: &[u8]) -> Result<Vec<Found>, FeedFault>
         // The blocks found are those that the piece adds to the stream, whatever it was so far.
         ensures ok { IfOk result (λ found. (s : List ℕ) (blocks : List Outer) → Stands limits self.old s blocks → Stands limits self.new (s ++ piece.now) (blocks ++ outers found.items)) }
@@ -126,22 +130,26 @@ impl Reader {
                 Ok(found)
             }
             Err(Stop::BadTag) => {
-                self.failed = true;
                 let offset = self.scanner.at;
+                self.failed = true;
+                self.scanner = Scanner::new(self.alloc);
                 Err(FeedFault::BadTag { offset, found })
             }
             Err(Stop::TooDeep) => {
-                self.failed = true;
                 let offset = self.scanner.at;
+                self.failed = true;
+                self.scanner = Scanner::new(self.alloc);
                 Err(FeedFault::TooDeep { offset, found })
             }
             Err(Stop::TooLong) => {
-                self.failed = true;
                 let offset = self.scanner.at;
+                self.failed = true;
+                self.scanner = Scanner::new(self.alloc);
                 Err(FeedFault::TooLong { offset, found })
             }
             Err(Stop::OutOfMemory) => {
                 self.failed = true;
+                self.scanner = Scanner::new(self.alloc);
                 Err(FeedFault::OutOfMemory)
             }
         }

@@ -3,7 +3,8 @@
 ghost use Rattle.std.specs.Prelude.{◌≡◌, ◌≤◌, ◌<◌, ◌+◌, ◌-◌, ◌^◌, ℕ, List, [], ◌∷◌, ◌++◌, map, length, vec_len, OnOk, true, false};
 ghost use Rattle.std.specs.List.{list_all};
 ghost use Rattle.block_tree.specs.Shape.{is_tag_byte, max_tag, max_depth};
-ghost use Rattle.meta_format.specs.Scan.{most_of, mode_of, IsPlaced, AreLevels, Steps, StepsAt};
+ghost use Rattle.meta_format.specs.Scan.{most_of, mode_of, IsFresh, IsPlaced, AreLevels, Steps, StepsAt};
+ghost use Rattle.meta_format.specs.Levels.{IsHeld, stack_marks};
 ghost use Rattle.meta_format.specs.Machine.{is_bad_tag, is_late, outside};
 ghost use Rattle.meta_format.specs.Spelling.{is_separator as separates, is_special};
 ghost use Rattle.meta_format.specs.declared.scan.Place.TheVariants as place;
@@ -106,8 +107,7 @@ fn is_wrong_in_tag(name: &[u8], c: u8) -> bool
 impl Scanner {
     /// Before the first byte.
     pub fn new(alloc: Global) -> Scanner
-        ensures placed { IsPlaced result }
-        ensures at { result.at ≡ 0 }
+        ensures fresh { IsFresh result }
         ensures mode { mode_of result ≡ outside }
     {
         Scanner {
@@ -119,11 +119,13 @@ impl Scanner {
         }
     }
 
+    #[tactic(auto, using(crate::proofs::Held::held_rules, crate::proofs::Openings::none_open))]
     fn step_outside(&mut self, bounds: Bounds, c: u8) -> Result<Option<Found>, Stop>
         requires none { self.old.levels.items ≡ [] }
         requires nameless { self.old.name.items ≡ [] }
+        requires block { 0 < bounds.block }
         ensures steps { StepsAt place.Outside (most_of bounds) self.old c result self.new }
-        ensures placed { OnOk result (IsPlaced self.new) }
+        ensures placed { OnOk result (IsPlaced bounds.block self.new) }
     {
         let at = self.at;
         if at >= bounds.stream {
@@ -139,7 +141,7 @@ impl Scanner {
         Ok(None)
     }
 
-    #[tactic(auto, using(crate::proofs::Tags::name_rules, crate::proofs::Openings::open_rules))]
+    #[tactic(auto, using(crate::proofs::Tags::name_rules, crate::proofs::Openings::open_rules, crate::proofs::Held::held_rules))]
     fn step_in_tag(&mut self, alloc: Global, bounds: Bounds, c: u8) -> Result<Option<Found>, Stop>
         requires begun { self.old.start ≤ self.old.at }
         requires bytes { list_all is_tag_byte self.old.name.items ≡ true }
@@ -147,8 +149,9 @@ impl Scanner {
         requires shallow { length self.old.levels.items < max_depth }
         requires levels { AreLevels self.old.levels.items }
         requires block { 0 < bounds.block }
+        requires held { IsHeld bounds.block self.old.start self.old.at (stack_marks self.old.levels.items) (length self.old.name.items) }
         ensures steps { StepsAt place.Tag (most_of bounds) self.old c result self.new }
-        ensures placed { OnOk result (IsPlaced self.new) }
+        ensures placed { OnOk result (IsPlaced bounds.block self.new) }
     {
         let at = self.at;
         if is_wrong_in_tag(self.name.as_slice(), c) {
@@ -174,14 +177,16 @@ impl Scanner {
     }
 
     /// Takes the 2 of a block in the body of another.
+    #[tactic(auto, using(crate::proofs::Held::held_rules))]
     fn begin_inner(&mut self, bounds: Bounds) -> Result<Option<Found>, Stop>
         requires some { 0 < length self.old.levels.items }
         requires begun { self.old.start ≤ self.old.at }
         requires nameless { self.old.name.items ≡ [] }
         requires levels { AreLevels self.old.levels.items }
         requires block { 0 < bounds.block }
+        requires held { IsHeld bounds.block self.old.start self.old.at (stack_marks self.old.levels.items) 0 }
         ensures steps { StepsAt place.Body (most_of bounds) self.old 2 result self.new }
-        ensures placed { OnOk result (IsPlaced self.new) }
+        ensures placed { OnOk result (IsPlaced bounds.block self.new) }
     {
         if self.levels.len() >= MAX_DEPTH as usize {
             return Err(Stop::TooDeep);
@@ -196,15 +201,16 @@ impl Scanner {
     }
 
     /// Takes the 5 that ends the innermost block, and gives it where it is the outer one.
-    #[tactic(auto, using(crate::proofs::Openings::open_rules))]
+    #[tactic(auto, using(crate::proofs::Openings::open_rules, crate::proofs::Held::held_rules))]
     fn end_block(&mut self, alloc: Global, bounds: Bounds) -> Result<Option<Found>, Stop>
         requires some { 0 < length self.old.levels.items }
         requires begun { self.old.start ≤ self.old.at }
         requires nameless { self.old.name.items ≡ [] }
         requires levels { AreLevels self.old.levels.items }
         requires block { 0 < bounds.block }
+        requires held { IsHeld bounds.block self.old.start self.old.at (stack_marks self.old.levels.items) 0 }
         ensures steps { StepsAt place.Body (most_of bounds) self.old 5 result self.new }
-        ensures placed { OnOk result (IsPlaced self.new) }
+        ensures placed { OnOk result (IsPlaced bounds.block self.new) }
     {
         let at = self.at;
         let start = self.start;
@@ -233,7 +239,7 @@ impl Scanner {
     }
 
     /// Takes a byte of a text that spells itself.
-    #[tactic(auto, using(crate::proofs::Openings::open_rules))]
+    #[tactic(auto, using(crate::proofs::Openings::open_rules, crate::proofs::Held::held_rules))]
     fn take_text(&mut self, bounds: Bounds, c: u8) -> Result<Option<Found>, Stop>
         requires plain { is_special c ≡ false }
         requires some { 0 < length self.old.levels.items }
@@ -241,8 +247,9 @@ impl Scanner {
         requires nameless { self.old.name.items ≡ [] }
         requires levels { AreLevels self.old.levels.items }
         requires block { 0 < bounds.block }
+        requires held { IsHeld bounds.block self.old.start self.old.at (stack_marks self.old.levels.items) 0 }
         ensures steps { StepsAt place.Body (most_of bounds) self.old c result self.new }
-        ensures placed { OnOk result (IsPlaced self.new) }
+        ensures placed { OnOk result (IsPlaced bounds.block self.new) }
     {
         let at = self.at;
         if is_too_long(bounds, self.start, at) {
@@ -255,14 +262,16 @@ impl Scanner {
     }
 
     /// Takes a 27, whose second byte is to come.
+    #[tactic(auto, using(crate::proofs::Held::held_rules))]
     fn begin_escape(&mut self, bounds: Bounds) -> Result<Option<Found>, Stop>
         requires some { 0 < length self.old.levels.items }
         requires begun { self.old.start ≤ self.old.at }
         requires nameless { self.old.name.items ≡ [] }
         requires levels { AreLevels self.old.levels.items }
         requires block { 0 < bounds.block }
+        requires held { IsHeld bounds.block self.old.start self.old.at (stack_marks self.old.levels.items) 0 }
         ensures steps { StepsAt place.Body (most_of bounds) self.old 27 result self.new }
-        ensures placed { OnOk result (IsPlaced self.new) }
+        ensures placed { OnOk result (IsPlaced bounds.block self.new) }
     {
         let at = self.at;
         if is_too_long(bounds, self.start, at) {
@@ -279,8 +288,9 @@ impl Scanner {
         requires nameless { self.old.name.items ≡ [] }
         requires levels { AreLevels self.old.levels.items }
         requires block { 0 < bounds.block }
+        requires held { IsHeld bounds.block self.old.start self.old.at (stack_marks self.old.levels.items) 0 }
         ensures steps { StepsAt place.Body (most_of bounds) self.old c result self.new }
-        ensures placed { OnOk result (IsPlaced self.new) }
+        ensures placed { OnOk result (IsPlaced bounds.block self.new) }
     {
         match c {
             2 => self.begin_inner(bounds),
@@ -290,15 +300,16 @@ impl Scanner {
         }
     }
 
-    #[tactic(auto, using(crate::proofs::Openings::open_rules))]
+    #[tactic(auto, using(crate::proofs::Openings::open_rules, crate::proofs::Held::held_rules))]
     fn step_in_escape(&mut self, bounds: Bounds, c: u8) -> Result<Option<Found>, Stop>
         requires some { 0 < length self.old.levels.items }
         requires begun { self.old.start ≤ self.old.at }
         requires nameless { self.old.name.items ≡ [] }
         requires levels { AreLevels self.old.levels.items }
         requires block { 0 < bounds.block }
+        requires held { IsHeld bounds.block self.old.start self.old.at (stack_marks self.old.levels.items) 1 }
         ensures steps { StepsAt place.Escape (most_of bounds) self.old c result self.new }
-        ensures placed { OnOk result (IsPlaced self.new) }
+        ensures placed { OnOk result (IsPlaced bounds.block self.new) }
     {
         let at = self.at;
         if is_too_long(bounds, self.start, at) {
@@ -315,10 +326,10 @@ impl Scanner {
 
     /// Takes one byte, and gives the block that it closes.
     pub fn step(&mut self, alloc: Global, bounds: Bounds, c: u8) -> Result<Option<Found>, Stop>
-        requires placed { IsPlaced self.old }
+        requires placed { IsPlaced bounds.block self.old }
         requires block { 0 < bounds.block }
         ensures steps { Steps (most_of bounds) self.old c result self.new }
-        ensures placed { OnOk result (IsPlaced self.new) }
+        ensures placed { OnOk result (IsPlaced bounds.block self.new) }
     {
         match self.place {
             Place::Outside => self.step_outside(bounds, c),

@@ -5,6 +5,6 @@ use Rattle.meta_format.proofs.piece.scan_piece.Given as goal
 
 abbrev pub invariant-loop-c : goal.invariant-loop-c
 invariant-loop-c l = record {
-  placed : IsPlaced l.scanner;
+  placed : IsPlaced l.bounds.block l.scanner;
   rest : run (most_of l.bounds) (state_of l.scanner (outers l.found.items)) (drop l.c-index l.piece) ≡ run (most_of l.bounds) (state_of l.initial.scanner (outers l.initial.found.items)) l.piece;
 }
