@@ -8,14 +8,12 @@ mod append;
 pub mod examples;
 mod frame;
 mod journal;
-mod octets;
 mod opening;
 mod walk;
 
 pub use disk_model::OutOfMemory;
 pub use frame::{Frame, MAX_PAYLOAD};
 pub use journal::{AppendFault, Journal, OpenFault};
-pub use octets::Octets;
 pub use opening::{CreateCause, CreateFault, OpenCause, create};
 pub use walk::Payload;
 

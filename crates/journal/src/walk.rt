@@ -6,7 +6,8 @@ ghost use Rattle.journal.specs.Walk.{AreGates, IsStep, payloads_in};
 ghost use Rattle.journal.specs.Open.{TellsOf};
 ghost use Rattle.journal.specs.declared.opening.OpenCause.TheVariants.{Disk};
 
-use crate::{MAX_PAYLOAD, Octets, OpenCause};
+use crate::{MAX_PAYLOAD, OpenCause};
+use block_tree::Octets;
 use disk_model::MAX_ROOM;
 use std::alloc::Global;
 
