@@ -1,20 +1,23 @@
 -- Tests of texts and places.
-use Rattle.std.proofs.Common.{◌≡◌, ℕ, ◌+◌, ◌<◌, List, ◌∷◌, length, get_or, drop, refl, add-one, drop-cons, Bool, true, false}
-use Rattle.std.specs.Prelude.{◌==◌, ◌&&◌, ◌||◌, is_some}
+use Rattle.std.proofs.Common.{◌≡◌, ℕ, ◌+◌, ◌<◌, List, ◌∷◌, length, get_or, drop, refl, sym, add-one, drop-cons, Bool, true, false}
+use Rattle.std.specs.Prelude.{Result, Ok, Err, MatchResult, is_ok, ◌==◌, ◌&&◌, ◌||◌, is_some}
 use Rattle.std.specs.List.{list_any, zip}
 use Rattle.std.specs.Str.{IsUtf8, is_utf8}
-use Rattle.std.proofs.lemmas.Str.{IsUtf8-from_is_utf8}
+use Rattle.std.proofs.lemmas.Str.{IsUtf8-from_is_utf8, is_utf8-from_IsUtf8}
 use Rattle.worksheet.specs.declared.field.Field.{Field}
 use Rattle.worksheet.specs.Checks.{numbers, field_in}
 use Rattle.worksheet.specs.Edits.{fields_without}
 use Rattle.worksheet.proofs.Finds.{field_in-without}
 
-pub is_utf8-false : (bytes : List ℕ) → ¬ (IsUtf8 bytes) → is_utf8 bytes ≡ false
-is_utf8-false bytes no_text = go (is_utf8 bytes) (λ text. absurd (no_text (IsUtf8-from_is_utf8 bytes text)))
+-- reading a text tells whether it is one
+pub is_ok-text : {T E : Type 0} (P : T → Type 0) (Q : E → Type 0) (bytes : List ℕ) (read : Result T E)
+    → MatchResult read (λ text. P text × IsUtf8 bytes) (λ e. ¬ (IsUtf8 bytes) × Q e) → is_ok read ≡ is_utf8 bytes
+is_ok-text P Q bytes (Ok text) h = sym (is_utf8-from_IsUtf8 bytes h.1)
+is_ok-text P Q bytes (Err e) h = go (is_utf8 bytes) (λ text. absurd (h.0 (IsUtf8-from_is_utf8 bytes text)))
   where
-    go : (b : Bool) → (b ≡ true → b ≡ false) → b ≡ false
-    go true h = h refl
-    go false h = refl
+    go : (b : Bool) → (b ≡ true → false ≡ b) → false ≡ b
+    go true k = k refl
+    go false k = refl
 
 -- whether these fields, behind that number, hold one number directly behind the other
 abbrev pub stands_among : ℕ → ℕ → ℕ → List Field → Bool

@@ -62,10 +62,7 @@ fn has_no_control(bytes: &[u8]) -> bool
 fn is_utf8(bytes: &[u8]) -> bool
     ensures { result ≡ utf8_test bytes.now }
 {
-    match str::from_utf8(bytes) {
-        Ok(_) => true,
-        Err(_) => false,
-    }
+    str::from_utf8(bytes).is_ok()
 }
 
 /// The field with this number.
