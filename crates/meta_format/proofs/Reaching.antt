@@ -158,7 +158,7 @@ chain_run most _ _ (chain_next {blocks} {before} noise text x chain silent b) =
     ∙ ap (λ n. begin n (blocks ++ block_at (length (before ++ noise)) n x ∷ [])) whole
 
 -- after the noise
-lead_run : (most : Limits) (blocks : List Outer) (before noise : List ℕ) → Chain most blocks before → IsNoise noise → length (before ++ noise) ≤ most.stream
+pub lead_run : (most : Limits) (blocks : List Outer) (before noise : List ℕ) → Chain most blocks before → IsNoise noise → length (before ++ noise) ≤ most.stream
     → run most start_state (before ++ noise) ≡ begin (length (before ++ noise)) blocks
 lead_run most blocks before noise chain silent early =
     let long = length-append before noise in

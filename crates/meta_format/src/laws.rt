@@ -34,3 +34,8 @@ pub fn one_reading()
 pub fn one_fault()
     ensures { (most : Limits) → IsRoomy most → (s : List ℕ) (at place : ℕ) (kind other : Kind) → FirstFault most s at kind → FirstFault most s place other → (at ≡ place) × (kind ≡ other) }
 {}
+
+/// Every stream has a reading, also one with a fault.
+pub fn a_reading()
+    ensures { (most : Limits) → IsRoomy most → (s : List ℕ) → (blocks : List Outer) × (tail : List ℕ) × Stream most s blocks tail }
+{}
