@@ -1,0 +1,5 @@
+pub mod Pasts
+pub mod Spans
+pub mod Asks
+pub mod OneMore
+pub mod Pieces

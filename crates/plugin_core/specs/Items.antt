@@ -1,0 +1,49 @@
+-- The items of a life: which wait, which are asked, and what is sent for them. (docs/PROTOCOL.md, one life.)
+use Rattle.std.specs.Prelude.{ℕ, nat_eq, Bool, List, [], ◌∷◌, ◌++◌, length, take, drop, Option, Some, option_map, slice_get}
+use Rattle.block_tree.specs.Tree.{Tree}
+use Rattle.block_tree.specs.Output.{output}
+use Rattle.meta_format.specs.Stream.{Outer}
+use Rattle.plugin_core.specs.declared.item.Item.{Item}
+use Rattle.plugin_core.specs.declared.item.Item.TheVariants as item
+use Rattle.plugin_core.specs.declared.step.Answered.{Answered}
+use Rattle.plugin_core.specs.declared.step.Answered.TheVariants as answered
+use Rattle.plugin_core.specs.Past.{Event, items_of}
+use Rattle.plugin_core.specs.Answers.{answers_of}
+use Rattle.plugin_core.specs.Blocks.{first_prompt, prompt_behind}
+
+-- the items behind those that have one of these answers: the first answer is the banner, and the others answer an item each
+abbrev pub unanswered : List Outer → List Item → List Item
+unanswered [] items = items
+unanswered (banner ∷ answers) items = drop (length answers) items
+
+-- the items that wait: those without an answer
+abbrev pub waiting_of : List Event → List Outer → List Item
+waiting_of past blocks = unanswered (answers_of past blocks) (items_of past)
+
+-- The items that are asked so far: each where the answer before it has closed, the banner before the first.
+abbrev pub asked_of : List Event → List Outer → List Item
+asked_of past blocks = take (length (answers_of past blocks)) (items_of past)
+
+-- the next of a list behind so many
+abbrev pub next_behind : {T : Type 0} → List T → List T → Option T
+next_behind before after = slice_get after (length before)
+
+-- what is sent for an item: its text and a line feed
+abbrev pub bytes_of : Item → List ℕ
+bytes_of (item.Line id text) = text ++ 10 ∷ []
+
+-- the prompt of an item that has these answers before it
+abbrev pub prompt_of : List Event → List Outer → List ℕ
+prompt_of past blocks = prompt_behind first_prompt (answers_of past blocks)
+
+-- what is told of an answer with this output to an item
+abbrev pub answer_to : Item → List ℕ → Tree → Answered
+answer_to (item.Line id text) prompt out = answered.Line id prompt out
+
+-- What is told of an answer behind these: the first is the banner, and each other one answers an item.
+abbrev pub answer_behind : List Outer → List Item → List ℕ → Tree → Option Answered
+answer_behind [] items prompt b = Some (answered.Banner (output b))
+answer_behind (banner ∷ answers) items prompt b = option_map (λ i. answer_to i prompt (output b)) (slice_get items (length answers))
+
+abbrev pub is_line_of : ℕ → Item → Bool
+is_line_of id (item.Line other text) = nat_eq other id

@@ -1,0 +1,55 @@
+-- What a life keeps, and which pasts it stands for.
+use Rattle.std.specs.Prelude.{◌≡◌, ℕ, Bool, true, false, List, [], ◌∷◌, ◌++◌, Option, Some, None}
+use Rattle.meta_format.specs.Limits.{limits}
+use Rattle.meta_format.specs.Stream.{Outer}
+use Rattle.meta_format.specs.Faults.{Kind}
+use Rattle.meta_format.specs.Reader.{Known}
+use Rattle.meta_format.specs.Reader.{Stands as HasTaken}
+use Rattle.plugin_core.specs.declared.item.Item.{Item}
+use Rattle.plugin_core.specs.declared.step.Step.{Step}
+use Rattle.plugin_core.specs.Past.{Event, received, stream_of}
+use Rattle.plugin_core.specs.Answers.{answers_of, ask_of}
+use Rattle.plugin_core.specs.Items.{waiting_of, prompt_of}
+use Rattle.plugin_core.specs.Steps.{Reads, step_of}
+
+-- what a life keeps: the reader of its stream, the ask point of the first item that waits (or of the banner), whether
+-- the banner has closed, the items that wait, and the latest prompt
+pub record Kept : Type 0 where
+  pub number : ℕ
+  pub over : Bool
+  pub reader : Known
+  pub ask : Option ℕ
+  pub greeted : Bool
+  pub waiting : List Item
+  pub prompt : List ℕ
+
+abbrev pub has_banner : List Outer → Bool
+has_banner [] = false
+has_banner (banner ∷ answers) = true
+
+-- The reader has taken a stream that has no fault.
+abbrev pub IsFed : Known → Type 0
+IsFed reader = (s : List ℕ) × (blocks : List Outer) × HasTaken limits reader s blocks
+
+-- The life goes on behind this past, whose stream has these outer blocks and no fault.
+pub record Stands (life : Kept) (past : List Event) (blocks : List Outer) : Type 0 where
+  pub goes_on : life.over ≡ false
+  pub reader : HasTaken limits life.reader (stream_of past) blocks
+  pub ask : life.ask ≡ ask_of past blocks
+  pub greeted : life.greeted ≡ has_banner (answers_of past blocks)
+  pub waiting : life.waiting ≡ waiting_of past blocks
+  pub prompt : life.prompt ≡ prompt_of past blocks
+
+-- The life goes on where the stream has no fault, and is over else.
+abbrev pub GoesOn : Kept → List Event → List Outer → Option Kind → Type 0
+GoesOn life past blocks None = Stands life past blocks
+GoesOn life past blocks (Some kind) = life.over ≡ true
+
+-- What a piece gives behind a past whose stream has these blocks: the answer of the definitions, and the life goes on or ends.
+pub record Takes (past : List Event) (before : List Outer) (piece : List ℕ) (step : Step) (life : Kept) : Type 0 where
+  -- the blocks of the stream with the piece, and its fault
+  pub after : List Outer
+  pub fault : Option Kind
+  pub reads : Reads (stream_of (past ++ received piece ∷ [])) after fault
+  pub gives : step ≡ step_of past before piece after fault
+  pub then : GoesOn life (past ++ received piece ∷ []) after fault

@@ -1,0 +1,7 @@
+pub mod Past
+pub mod Answers
+pub mod Items
+pub mod Blocks
+pub mod Steps
+pub mod Kept
+pub mod Changes

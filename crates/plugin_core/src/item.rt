@@ -1,0 +1,26 @@
+//! What an interpreter is asked.
+ghost use Rattle.std.specs.Prelude.{◌≡◌, IfOk};
+ghost use Rattle.plugin_core.specs.Items.{bytes_of};
+
+use block_tree::{Octets, OutOfMemory};
+use std::alloc::Global;
+
+/// What an interpreter is asked: one at a time, in the order of their coming.
+#[derive(Drop)]
+pub enum Item {
+    /// A line of input, for the field with this number. Its text has no line feed.
+    Line { id: u32, text: Octets },
+}
+
+/// The bytes that are sent for an item.
+pub(crate) fn bytes_for(alloc: Global, item: &Item) -> Result<Octets, OutOfMemory>
+    ensures { IfOk result (λ bytes. bytes ≡ bytes_of item.now) }
+{
+    match item {
+        Item::Line { id: _, text } => {
+            let mut bytes = text.as_slice().to_vec(alloc)?;
+            bytes.push(b'\n')?;
+            Ok(Octets::from_vec(bytes))
+        }
+    }
+}

@@ -1,0 +1,15 @@
+//! One life of an interpreter: the items that it is asked, and which blocks of its stream answer them.
+//!
+//! (TeXmacs manual, interfacing: input and output using pipes; docs/PROTOCOL.md, one life.)
+#![tactic(auto)]
+
+mod item;
+mod life;
+mod limits;
+mod piece;
+mod step;
+
+pub use item::Item;
+pub use life::{AcceptFault, Life};
+pub use limits::{LONGEST_PROMPT, MOST_WAITING};
+pub use step::{Answered, Ended, Reason, Step};

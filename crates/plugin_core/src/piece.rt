@@ -1,0 +1,232 @@
+//! A piece of an interpreter's output.
+ghost use Rattle.std.specs.Prelude.{◌≡◌, ◌∷◌, ◌++◌, ℕ, List, [], true, false, IfOk, OnErr, option_map, option_and_then, slice_get, is_some, unwrap_or, option_copied, nat_le};
+ghost use Rattle.std.specs.List.{find};
+ghost use Rattle.meta_format.specs.Stream.{Outer};
+ghost use Rattle.meta_format.specs.Scan.{outer_of, outers};
+ghost use Rattle.plugin_core.specs.Past.{Event};
+ghost use Rattle.plugin_core.specs.Answers.{first_from};
+ghost use Rattle.plugin_core.specs.Blocks.{prompt_in};
+ghost use Rattle.plugin_core.specs.Items.{bytes_of, answer_to};
+
+use crate::item::bytes_for;
+use crate::limits::LONGEST_PROMPT;
+use crate::{Answered, Ended, Item, Life, Reason, Step};
+use block_tree::{Block, Octets, OutOfMemory, Queue, channel_text, output_of};
+use meta_format::{FeedFault, Found};
+use std::alloc::Global;
+use std::collections::VecDeque;
+
+/// What the closing of an answer tells.
+#[derive(Drop)]
+struct Closing {
+    answered: Option<Answered>,
+    default_input: Option<Octets>,
+}
+
+impl Life {
+    ghost use Rattle.plugin_core.specs.Kept.{Stands, Takes};
+    ghost use Rattle.plugin_core.specs.Changes.{Closes, Passes, Breaks, EndsAt, closed_in, answer_first, ask_then, waiting_then};
+
+    /// Takes the next piece of the interpreter's output, which may be cut anywhere, and tells the answer
+    /// that it closes and what is to be sent now. A fault of the stream ends the life behind that answer.
+    ///
+    /// After want of memory the life is over. Blocks that answer nothing are dropped here.
+    pub fn piece(&mut self, piece: &[u8]) -> Result<Step, OutOfMemory>
+        requires { self.old.over ≡ false }
+        ensures ok { (past : List Event) (before : List Outer) → Stands self.old past before → IfOk result (λ step. Takes past before piece.now step self.new) }
+        ensures ended { IfOk result (λ step. self.new.over ≡ is_some step.ended) }
+        ensures err { OnErr result (self.new.over ≡ true) }
+        ensures number { self.new.number ≡ self.old.number }
+    {
+        let step = match self.reader.feed(piece) {
+            Ok(found) => self.pass(found.as_slice()),
+            Err(fault) => {
+                self.over = true;
+                self.end_at(fault)
+            }
+        };
+        if step.is_err() {
+            self.over = true;
+        }
+        step
+    }
+
+    /// The end of the life, behind the answer that closes before the fault.
+    fn end_at(&mut self, fault: FeedFault) -> Result<Step, OutOfMemory>
+        requires works { fault ≡ FeedFault.Failed → ⊥ }
+        requires over { self.old.over ≡ true }
+        ensures ok { IfOk result (λ step. EndsAt fault self.old self.new step) }
+        ensures over { self.new.over ≡ true }
+        ensures number { self.new.number ≡ self.old.number }
+    {
+        match fault {
+            FeedFault::BadTag { offset: _, found } => self.break_off(
+                Reason::BadTag,
+                found.as_slice(),
+            ),
+            FeedFault::TooDeep { offset: _, found } => self.break_off(
+                Reason::TooDeep,
+                found.as_slice(),
+            ),
+            FeedFault::TooLong { offset: _, found } => self.break_off(
+                Reason::TooLong,
+                found.as_slice(),
+            ),
+            FeedFault::OutOfMemory => Err(OutOfMemory),
+            FeedFault::Failed => unreachable!(),
+        }
+    }
+
+    /// The blocks of a piece without a fault.
+    fn pass(&mut self, found: &[Found]) -> Result<Step, OutOfMemory>
+        ensures ok { IfOk result (λ step. Passes (closed_in self.old.ask (outers found.now)) self.old self.new step) }
+        ensures number { self.new.number ≡ self.old.number }
+    {
+        let Some(answer) = self.answer_in(found) else {
+            return Ok(Step {
+                answered: None,
+                default_input: None,
+                send: None,
+                ended: None,
+            });
+        };
+        let closing = self.close(&answer.block)?;
+        let send = self.first_bytes()?;
+        Ok(Step {
+            answered: closing.answered,
+            default_input: closing.default_input,
+            send,
+            ended: None,
+        })
+    }
+
+    /// The blocks of a piece with a fault behind them.
+    fn break_off(&mut self, reason: Reason, found: &[Found]) -> Result<Step, OutOfMemory>
+        requires { self.old.over ≡ true }
+        ensures ok { IfOk result (λ step. Breaks (closed_in self.old.ask (outers found.now)) self.old self.new reason step) }
+        ensures over { self.new.over ≡ true }
+        ensures number { self.new.number ≡ self.old.number }
+    {
+        let closing = match self.answer_in(found) {
+            Some(answer) => self.close(&answer.block)?,
+            None => Closing {
+                answered: None,
+                default_input: None,
+            },
+        };
+        let lost = std::mem::replace(&mut self.waiting, VecDeque::new(self.alloc));
+        Ok(Step {
+            answered: closing.answered,
+            default_input: closing.default_input,
+            send: None,
+            ended: Some(Ended {
+                reason,
+                lost: Queue::from_deque(lost),
+            }),
+        })
+    }
+
+    /// The block that closes the answer that is awaited, if one does.
+    fn answer_in<'a>(&self, found: &'a [Found]) -> Option<&'a Found>
+        ensures { option_map outer_of (option_copied result) ≡ closed_in self.now.ask (outers found.now) }
+    {
+        match self.ask {
+            Some(ask) => first_behind(found, ask),
+            None => None,
+        }
+    }
+
+    /// The answer of the first item, or the banner, closes with this block.
+    fn close(&mut self, block: &Block) -> Result<Closing, OutOfMemory>
+        ensures ok { IfOk result (λ closing. Closes self.old self.new block.now closing) }
+        ensures over { self.new.over ≡ self.old.over }
+        ensures number { self.new.number ≡ self.old.number }
+    {
+        let output = output_of(self.alloc, block)?;
+        let default_input = channel_text(self.alloc, block, b"input")?;
+        let next = self.prompt_behind(block)?;
+        let prompt = std::mem::replace(&mut self.prompt, next);
+        let answered = self.answer_first(prompt, output);
+        self.ask = self.next_ask();
+        Ok(Closing {
+            answered,
+            default_input,
+        })
+    }
+
+    /// The prompt of a block, or else the latest one.
+    fn prompt_behind(&self, block: &Block) -> Result<Octets, OutOfMemory>
+        ensures { IfOk result (λ prompt. prompt ≡ unwrap_or (prompt_in block.now) self.now.prompt) }
+    {
+        match prompt_of_block(self.alloc, block)? {
+            Some(prompt) => Ok(prompt),
+            None => self.prompt.copy(self.alloc),
+        }
+    }
+
+    /// What is told of the answer to the first item, or of the banner.
+    fn answer_first(&mut self, prompt: Octets, output: Block) -> Option<Answered>
+        ensures answered { result ≡ answer_first self.old.greeted self.old.waiting prompt output }
+        ensures kept { self.new ≡ record self.old { greeted = true; waiting = waiting_then self.old.greeted self.old.waiting } }
+    {
+        if !self.greeted {
+            self.greeted = true;
+            return Some(Answered::Banner(output));
+        }
+        match self.waiting.pop_front() {
+            Some(item) => Some(answer(item, prompt, output)),
+            None => None,
+        }
+    }
+
+    /// The ask point of the first item, where the answer before it closes now.
+    fn next_ask(&self) -> Option<u64>
+        ensures { result ≡ ask_then self.now.waiting self.now.reader.offset }
+    {
+        if self.waiting.is_empty() {
+            None
+        } else {
+            Some(self.reader.offset())
+        }
+    }
+
+    /// The bytes of the first item.
+    fn first_bytes(&self) -> Result<Option<Octets>, OutOfMemory>
+        ensures { IfOk result (λ bytes. bytes ≡ option_map bytes_of (slice_get self.now.waiting 0)) }
+    {
+        match self.waiting.front() {
+            Some(item) => Ok(Some(bytes_for(self.alloc, item)?)),
+            None => Ok(None),
+        }
+    }
+}
+
+/// The first block that starts at the ask point or behind it.
+fn first_behind(found: &[Found], ask: u64) -> Option<&Found>
+    ensures { option_copied result ≡ find (λ block. nat_le ask block.start) found.now }
+{
+    found.iter().find(|block| ask <= block.start)
+}
+
+/// The prompt of a block, cut to its first bytes.
+fn prompt_of_block(alloc: Global, block: &Block) -> Result<Option<Octets>, OutOfMemory>
+    ensures { IfOk result (λ prompt. prompt ≡ prompt_in block.now) }
+{
+    match channel_text(alloc, block, b"prompt")? {
+        Some(text) => {
+            let mut bytes = text.into_vec();
+            bytes.truncate(LONGEST_PROMPT);
+            Ok(Some(Octets::from_vec(bytes)))
+        }
+        None => Ok(None),
+    }
+}
+
+/// What is told of an answer to an item.
+fn answer(item: Item, prompt: Octets, output: Block) -> Answered
+    ensures { result ≡ answer_to item prompt output }
+{
+    match item {
+        Item::Line { id, text: _ } => Answered::Line { id, prompt, output },
+    }
+}

@@ -1,0 +1,60 @@
+//! What a life tells.
+use crate::Item;
+use block_tree::{Block, Octets, Queue};
+
+/// Why a life ended.
+#[derive(Clone, Copy, Debug, PartialEq, Eq)]
+pub enum Reason {
+    /// The interpreter could not be started.
+    StartRefused,
+    /// Its output came to an end.
+    Ended,
+    /// Its output could not be read.
+    ReadFault,
+    /// A line could not be sent to it.
+    SendFault,
+    /// It gave no answer for too long.
+    Stalled,
+    /// A bad tag in its output.
+    BadTag,
+    /// Blocks too deep in one another in its output.
+    TooDeep,
+    /// A block or an output that is too long.
+    TooLong,
+    /// It was told to stop.
+    Stopped,
+}
+
+/// What an outer block answers.
+#[derive(Drop)]
+pub enum Answered {
+    /// The first block of an interpreter: its output.
+    Banner(Block),
+    /// The answer to a line: the number of its field, the prompt that the line had, and the output.
+    Line {
+        id: u32,
+        prompt: Octets,
+        output: Block,
+    },
+}
+
+/// The end of a life.
+#[derive(Drop)]
+pub struct Ended {
+    pub reason: Reason,
+    /// The items without an answer, in order.
+    pub lost: Queue<Item>,
+}
+
+/// What a piece of an interpreter's output gives.
+#[derive(Drop)]
+pub struct Step {
+    /// The answer that it closes.
+    pub answered: Option<Answered>,
+    /// The default input of that answer, for the next line.
+    pub default_input: Option<Octets>,
+    /// The bytes that are to be sent now.
+    pub send: Option<Octets>,
+    /// The end of the life, at a fault of its stream.
+    pub ended: Option<Ended>,
+}
