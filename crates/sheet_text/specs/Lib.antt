@@ -1,2 +1,4 @@
 pub mod Escape
 pub mod Blocks
+pub mod Script
+pub mod Texts

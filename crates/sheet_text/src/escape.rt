@@ -1,6 +1,6 @@
 //! Bytes as they are printed.
-ghost use Rattle.std.specs.Prelude.{◌≡◌, ◌<◌, OnOk};
-ghost use Rattle.std.specs.List.{flat_map};
+ghost use Rattle.std.specs.Prelude.{◌≡◌, ◌<◌, OnOk, ℕ, Option, Some};
+ghost use Rattle.std.specs.List.{flat_map, last_or};
 ghost use Rattle.std.specs.Io.KnownBytes.{Appends};
 ghost use Rattle.sheet_text.specs.Escape.{hex, on_line, on_lines, printed_byte};
 ghost use Rattle.sheet_text.specs.Escape as escape;
@@ -23,6 +23,17 @@ fn is_plain(byte: u8, keeps_lines: bool) -> bool
         keeps_lines
     } else {
         byte >= 32 && byte != 127
+    }
+}
+
+/// The last byte of what is printed for a byte.
+pub(crate) fn last_printed(byte: u8, keeps_lines: bool) -> u8
+    ensures { (before : Option ℕ) → last_or before (printed_byte keeps_lines byte) ≡ Some result }
+{
+    if is_plain(byte, keeps_lines) {
+        byte
+    } else {
+        hex_digit(byte % 16)
     }
 }
 

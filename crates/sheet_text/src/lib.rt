@@ -1,12 +1,19 @@
-//! The texts that the programs print, written part by part to a writer. No call here takes memory.
+//! The lines of scripts, and the texts that the programs print, written part by part to a writer.
 #![tactic(auto)]
 
 mod blocks;
+mod ends;
 mod escape;
 mod fault;
+pub mod numbers;
+mod parts;
+mod script;
+mod sheet;
 #[cfg(test)]
 mod tests;
 
 pub use blocks::{block_text, tree_text};
 pub use escape::{write_line, write_lines};
 pub use fault::WriteFault;
+pub use script::{LineFault, ScriptLine, read_line};
+pub use sheet::{reply_text, sheet_text};

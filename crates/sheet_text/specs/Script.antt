@@ -1,0 +1,145 @@
+-- What a line of a script says, by docs/SCRIPT.md. Parts of a line are separated by exactly one space.
+use Rattle.std.specs.Prelude.{ℕ, ◌+◌, ◌==◌, ◌&&◌, ◌||◌, not, Bool, true, false, List, [], ◌∷◌, Option, Some, None, length, drop, nat_le, codes, if◌then◌else◌}
+use Rattle.std.specs.List.{before_first, position, slice_split, list_all}
+use Rattle.std.specs.Option.{option_map}
+use Rattle.std.specs.Str.{bytes_eq}
+use Rattle.std.specs.Str.Parse.{digits_value}
+use Rattle.session_engine.specs.declared.command.Command.{Command}
+use Rattle.session_engine.specs.declared.command.Command.TheVariants as command
+use Rattle.sheet_text.specs.declared.numbers.TheConstants.{GREATEST_NUMBER, MOST_DIGITS}
+use Rattle.sheet_text.specs.declared.script.ScriptLine.{ScriptLine}
+use Rattle.sheet_text.specs.declared.script.ScriptLine.TheVariants as line
+
+-- Parts of a line.
+
+abbrev pub is_space : ℕ → Bool
+is_space byte = byte == 32
+
+-- the bytes up to the next space, or all
+abbrev pub before_space : List ℕ → List ℕ
+before_space bytes = before_first is_space bytes
+
+-- the bytes behind that space, where there is one
+abbrev pub behind_space : List ℕ → Option (List ℕ)
+behind_space bytes = option_map (λ at. drop (at + 1) bytes) (position is_space bytes)
+
+-- a text is all that follows its space, and empty where the space is missing
+abbrev pub text_of : Option (List ℕ) → List ℕ
+text_of None = []
+text_of (Some bytes) = bytes
+
+-- words are split at each space, and there is none where the space in front of them is missing
+abbrev pub words_of : Option (List ℕ) → List (List ℕ)
+words_of None = []
+words_of (Some bytes) = slice_split is_space bytes
+
+-- Numbers.
+
+abbrev pub is_digit : ℕ → Bool
+is_digit byte = nat_le 48 byte && nat_le byte 57
+
+abbrev pub starts_with_zero : List ℕ → Bool
+starts_with_zero [] = false
+starts_with_zero (byte ∷ bytes) = byte == 48
+
+-- `0`, or 1 to 10 digits without a leading zero
+abbrev pub is_numeral : List ℕ → Bool
+is_numeral bytes = nat_le 1 (length bytes) && nat_le (length bytes) MOST_DIGITS && list_all is_digit bytes && (not (starts_with_zero bytes) || (length bytes == 1))
+
+-- the number that these bytes write, where it is at most 4,294,967,295
+abbrev pub number_of : List ℕ → Option ℕ
+number_of bytes = if is_numeral bytes && nat_le (digits_value 10 bytes) GREATEST_NUMBER then Some (digits_value 10 bytes) else None
+
+-- Commands: what stands behind the space after the name of one.
+
+-- the flag of a session, whether it is `tab`
+abbrev pub flag_of : List ℕ → Option Bool
+flag_of bytes = if bytes_eq bytes (codes "tab") then Some true else if bytes_eq bytes (codes "plain") then Some false else None
+
+abbrev pub session_with : List ℕ → Option Bool → List (List ℕ) → Option Command
+session_with name None words = None
+session_with name (Some tab) words = Some (command.Session name tab words)
+
+-- FLAG WORDS
+abbrev pub session_named : List ℕ → Option (List ℕ) → Option Command
+session_named name None = None
+session_named name (Some rest) = session_with name (flag_of (before_space rest)) (words_of (behind_space rest))
+
+-- NAME FLAG WORDS
+abbrev pub session_of : List ℕ → Option Command
+session_of rest = session_named (before_space rest) (behind_space rest)
+
+-- NAME TEXT
+abbrev pub new_behind : Option ℕ → Option (List ℕ) → Option Command
+new_behind None rest = None
+new_behind (Some after) None = None
+new_behind (Some after) (Some rest) = Some (command.New after (before_space rest) (text_of (behind_space rest)))
+
+-- AFTER NAME TEXT
+abbrev pub new_of : List ℕ → Option Command
+new_of rest = new_behind (number_of (before_space rest)) (behind_space rest)
+
+-- ID TEXT
+abbrev pub set_of : List ℕ → Option Command
+set_of rest = option_map (λ id. command.Set id (text_of (behind_space rest))) (number_of (before_space rest))
+
+-- AFTER
+abbrev pub move_behind : Option ℕ → Option (List ℕ) → Option Command
+move_behind None rest = None
+move_behind (Some id) None = None
+move_behind (Some id) (Some rest) = option_map (λ after. command.Move id after) (number_of rest)
+
+-- ID AFTER
+abbrev pub move_of : List ℕ → Option Command
+move_of rest = move_behind (number_of (before_space rest)) (behind_space rest)
+
+-- the command of this name, with what stands behind the space after the name
+abbrev pub command_of : List ℕ → List ℕ → Option Command
+command_of name rest =
+    if bytes_eq name (codes "session") then session_of rest
+    else if bytes_eq name (codes "new") then new_of rest
+    else if bytes_eq name (codes "set") then set_of rest
+    else if bytes_eq name (codes "remove") then option_map (λ id. command.Remove id) (number_of rest)
+    else if bytes_eq name (codes "move") then move_of rest
+    else if bytes_eq name (codes "clear") then option_map (λ id. command.Clear id) (number_of rest)
+    else if bytes_eq name (codes "eval") then option_map (λ id. command.Eval id) (number_of rest)
+    else if bytes_eq name (codes "stop") then Some (command.Stop rest)
+    else None
+
+abbrev pub command_named : List ℕ → Option (List ℕ) → Option Command
+command_named name None = None
+command_named name (Some rest) = command_of name rest
+
+-- Lines.
+
+-- an empty line, and a remark, which begins with '#'
+abbrev pub is_skipped : List ℕ → Bool
+is_skipped [] = true
+is_skipped (byte ∷ bytes) = byte == 35
+
+-- what the line says, and nothing where it has no such form
+abbrev pub line_of : List ℕ → Option ScriptLine
+line_of bytes =
+    if is_skipped bytes then Some line.Skip
+    else if bytes_eq bytes (codes "wait") then Some line.Wait
+    else if bytes_eq bytes (codes "print") then Some line.Print
+    else option_map (λ told. line.Command told) (command_named (before_space bytes) (behind_space bytes))
+
+-- Memory.
+
+-- a command with bytes of its own, which have to be kept
+abbrev pub keeps_bytes : Command → Bool
+keeps_bytes (command.Session name tab words) = true
+keeps_bytes (command.New after session input) = true
+keeps_bytes (command.Set id input) = true
+keeps_bytes (command.Stop name) = true
+keeps_bytes _ = false
+
+abbrev pub wants_memory_for : Option Command → Bool
+wants_memory_for None = false
+wants_memory_for (Some told) = keeps_bytes told
+
+-- a line that says such a command
+abbrev pub wants_memory : Option ScriptLine → Bool
+wants_memory (Some (line.Command told)) = keeps_bytes told
+wants_memory _ = false

@@ -1,0 +1,60 @@
+-- What a reply and a worksheet look like in print.
+use Rattle.std.specs.Prelude.{ℕ, ◌==◌, Bool, true, false, List, [], ◌∷◌, ◌++◌, Option, Some, None, codes, if◌then◌else◌}
+use Rattle.std.specs.Fmt.{decimal}
+use Rattle.std.specs.List.{flat_map, last_or}
+use Rattle.worksheet.specs.Contents.{Contents}
+use Rattle.worksheet.specs.Refusals.{number_of, name_of}
+use Rattle.worksheet.specs.declared.field.Answer.{Answer}
+use Rattle.worksheet.specs.declared.field.Field.{Field}
+use Rattle.worksheet.specs.declared.refusal.Refusal.{Refusal}
+use Rattle.session_engine.specs.declared.reply.Reply.{Reply}
+use Rattle.session_engine.specs.declared.reply.Reply.TheVariants as reply
+use Rattle.sheet_text.specs.Escape.{on_line}
+use Rattle.sheet_text.specs.Blocks.{block_text}
+
+-- 'refused', the number and the name
+abbrev pub refused_line : Refusal → List ℕ
+refused_line refusal = codes "refused " ++ decimal (number_of refusal) ++ codes " " ++ name_of refusal ++ 10 ∷ []
+
+-- the line of a reply
+abbrev pub reply_text : Reply → List ℕ
+reply_text reply.Done = codes "ok\n"
+reply_text (reply.Field id) = codes "field " ++ decimal id ++ 10 ∷ []
+reply_text (reply.Refused refusal) = refused_line refusal
+
+-- '#', the number, the session's name
+abbrev pub number_line : Field → List ℕ
+number_line field = codes "#" ++ decimal field.id ++ codes " " ++ field.session ++ 10 ∷ []
+
+-- the prompt of the answer, or `> ` where there is none
+abbrev pub prompt_of : Option Answer → List ℕ
+prompt_of None = codes "> "
+prompt_of (Some answer) = answer.prompt
+
+-- the prompt and the input
+abbrev pub input_line : Field → List ℕ
+input_line field = on_line (prompt_of field.answer) ++ on_line field.input ++ 10 ∷ []
+
+abbrev pub is_line_feed : Option ℕ → Bool
+is_line_feed None = false
+is_line_feed (Some byte) = byte == 10
+
+-- whether the last byte is a line feed
+abbrev pub ends_line : List ℕ → Bool
+ends_line text = is_line_feed (last_or None text)
+
+-- whole lines: a line feed behind a text that is empty or doesn't end in one
+abbrev pub in_lines : List ℕ → List ℕ
+in_lines text = if ends_line text then text else text ++ 10 ∷ []
+
+-- the output, or `?` where there is none
+abbrev pub output_lines : Option Answer → List ℕ
+output_lines None = codes "?\n"
+output_lines (Some answer) = in_lines (block_text answer.output)
+
+abbrev pub field_text : Field → List ℕ
+field_text field = number_line field ++ input_line field ++ output_lines field.answer
+
+-- the fields in order
+abbrev pub sheet_text : Contents → List ℕ
+sheet_text sheet = flat_map field_text sheet.fields

@@ -1,0 +1,105 @@
+//! Replies and worksheets as they are printed.
+ghost use Rattle.std.specs.Prelude.{◌≡◌, OnOk};
+ghost use Rattle.std.specs.Option.{option_copied};
+ghost use Rattle.std.specs.Io.KnownBytes.{Appends};
+ghost use Rattle.sheet_text.specs.Escape.{on_line};
+ghost use Rattle.sheet_text.specs.Texts as printed;
+
+use crate::blocks::block_text;
+use crate::ends::ends_line;
+use crate::escape::write_line;
+use crate::fault::WriteFault;
+use session_engine::Reply;
+use std::io::Write;
+use worksheet::{Answer, Field, Sheet};
+
+/// Writes the line of a reply: `ok`, `field ID`, or `refused N NAME` with the number and the name of
+/// the refusal.
+pub fn reply_text<W: Write>(reply: &Reply, out: &mut W) -> Result<(), WriteFault>
+    ensures { OnOk result (Appends (W.contents out.old) (W.contents out.new) (printed.reply_text reply.now)) }
+{
+    match reply {
+        Reply::Done => out.write_all(b"ok\n").map_err(|_| WriteFault)?,
+        Reply::Field(id) => writeln!(out, "field {id}").map_err(|_| WriteFault)?,
+        Reply::Refused(refusal) => {
+            writeln!(out, "refused {} {}", refusal.number(), refusal.name()).map_err(
+                |_| WriteFault,
+            )?
+        }
+    }
+    Ok(())
+}
+
+/// Writes `#`, the number of a field and its session.
+#[tactic(auto, using(crate::proofs::Appending::steps))]
+fn write_number<W: Write>(field: &Field, out: &mut W) -> Result<(), WriteFault>
+    ensures { OnOk result (Appends (W.contents out.old) (W.contents out.new) (printed.number_line field.now)) }
+{
+    write!(out, "#{} ", field.id).map_err(|_| WriteFault)?;
+    out.write_all(field.session.as_slice())
+        .map_err(|_| WriteFault)?;
+    out.write_all(b"\n").map_err(|_| WriteFault)?;
+    Ok(())
+}
+
+/// Writes the prompt of an answer, or `> ` where there is none.
+fn write_prompt<W: Write>(answer: &Option<Answer>, out: &mut W) -> Result<(), WriteFault>
+    ensures { OnOk result (Appends (W.contents out.old) (W.contents out.new) (on_line (printed.prompt_of answer.now))) }
+{
+    match answer {
+        None => write_line(b"> ", out),
+        Some(answer) => write_line(answer.prompt.as_slice(), out),
+    }
+}
+
+/// Writes the prompt and the input of a field.
+#[tactic(auto, using(crate::proofs::Appending::steps))]
+fn write_input<W: Write>(field: &Field, out: &mut W) -> Result<(), WriteFault>
+    ensures { OnOk result (Appends (W.contents out.old) (W.contents out.new) (printed.input_line field.now)) }
+{
+    write_prompt(&field.answer, out)?;
+    write_line(field.input.as_bytes(), out)?;
+    out.write_all(b"\n").map_err(|_| WriteFault)?;
+    Ok(())
+}
+
+/// Writes an output in whole lines, or `?` where there is none.
+#[tactic(auto, using(crate::proofs::Appending::steps))]
+fn write_output<W: Write>(answer: &Option<Answer>, out: &mut W) -> Result<(), WriteFault>
+    ensures { OnOk result (Appends (W.contents out.old) (W.contents out.new) (printed.output_lines answer.now)) }
+{
+    let Some(answer) = answer else {
+        return out.write_all(b"?\n").map_err(|_| WriteFault);
+    };
+    block_text(&answer.output, out)?;
+    if !ends_line(&answer.output) {
+        out.write_all(b"\n").map_err(|_| WriteFault)?;
+    }
+    Ok(())
+}
+
+#[tactic(auto, using(crate::proofs::Appending::steps))]
+fn write_field<W: Write>(field: &Field, out: &mut W) -> Result<(), WriteFault>
+    ensures { OnOk result (Appends (W.contents out.old) (W.contents out.new) (printed.field_text field.now)) }
+{
+    write_number(field, out)?;
+    write_input(field, out)?;
+    write_output(&field.answer, out)?;
+    Ok(())
+}
+
+/// Writes a worksheet: for each field in order `#`, its number and its session; its prompt and its
+/// input; and its output, or `?` where it has none. An output that is `?` looks the same;
+/// `Sheet::field` tells them apart. An empty worksheet has no line.
+///
+/// After a `WriteFault` a part of the text may have gone out.
+#[tactic(auto, using(crate::proofs::Fields::field_steps))]
+pub fn sheet_text<W: Write>(sheet: &Sheet, out: &mut W) -> Result<(), WriteFault>
+    ensures { OnOk result (Appends (W.contents out.old) (W.contents out.new) (printed.sheet_text sheet.now.contents)) }
+{
+    let mut fields = sheet.fields();
+    while let Some(field) = fields.next() {
+        write_field(field, out)?;
+    }
+    Ok(())
+}
