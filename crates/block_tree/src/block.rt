@@ -14,7 +14,7 @@ use std::marker::Model;
 /// no empty text and no two texts side by side, and at most 32 blocks in one another.
 ///
 /// Contracts see it as its tree. (TeXmacs manual, interfacing: formatted output.)
-#[derive(Drop)]
+#[derive(Debug, Drop)]
 pub struct Block {
     pub(crate) node: Node,
 }
@@ -41,7 +41,8 @@ impl Block {
     pub fn new(node: Node) -> Result<Block, Node>
         ensures cases { MatchResult result (λ block. (block ≡ tree_of node) × IsTrue (is_block (tree_of node))) (λ back. (back ≡ node) × (IsTrue (is_block (tree_of node)) → ⊥)) }
     {
-        if is_plain_node(&node) && fits_in(&node, MAX_DEPTH) {
+        // The depth first: it stops at the limit, however deep the node is.
+        if fits_in(&node, MAX_DEPTH) && is_plain_node(&node) {
             Ok(Block { node })
         } else {
             Err(node)

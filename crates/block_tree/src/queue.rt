@@ -9,7 +9,7 @@ use std::marker::Model;
 
 /// Values in the order of their coming. Contracts compare it by its values, and not by the buffer
 /// that holds them.
-#[derive(Drop)]
+#[derive(Debug, Drop)]
 pub struct Queue<T> {
     values: VecDeque<T>,
 }

@@ -1,7 +1,7 @@
 -- A disk in memory as contracts see it.
-use Rattle.std.specs.Prelude.{◌≡◌, ◌+◌, true, length, MatchResult, Result}
-use Rattle.disk_model.specs.Disk.{DiskView, Image}
-use Rattle.disk_model.specs.Calls.{history_after, started_with}
+use Rattle.std.specs.Prelude.{◌≡◌, true, MatchResult, Result}
+use Rattle.disk_model.specs.Disk.{DiskState, DiskView, Image}
+use Rattle.disk_model.specs.Calls.{advanced, history_after, started_with}
 use Rattle.disk_model.specs.declared.memory.MemoryDisk.{MemoryDisk}
 
 -- the bytes that it was made with
@@ -12,6 +12,6 @@ start_of m = record { first = m.first_start.items; second = m.second_start.items
 abbrev pub view_of : MemoryDisk → DiskView
 view_of m = record { room = m.room; faults = m.faults; keeps_model = true; history = history_after (started_with (start_of m)) m.calls.items }
 
--- one call: recorded as one moment more at Ok, else without a trace but the failure
-abbrev pub Records : {T E : Type 0} → Result T E → DiskView → DiskView → Type 0
-Records result old new = MatchResult result (λ _. (length new.history.past ≡ length old.history.past + 1) × (new.faults ≡ old.faults)) (λ _. new.history ≡ old.history)
+-- one call, which did this to the state: recorded as one moment more at Ok, else without a trace but the failure
+abbrev pub Records : {T E : Type 0} → Result T E → (DiskState → DiskState) → DiskView → DiskView → Type 0
+Records result does old new = MatchResult result (λ _. (new.history ≡ advanced old.history (does old.history.now)) × (new.faults ≡ old.faults)) (λ _. new.history ≡ old.history)

@@ -1,7 +1,7 @@
 // A disk in memory, which keeps a record of its calls.
 ghost use Rattle.std.specs.Prelude.{◌≡◌, ◌≤◌, ◌<◌, ◌+◌, ◌^◌, ◌++◌, ◌∷◌, [], length, take, drop, IfOk, OnOk, OnErr};
 ghost use Rattle.disk_model.specs.Disk.{Called, InModel, Looks, Syncs, Writes, area_of, content_of, overwritten};
-ghost use Rattle.disk_model.specs.Calls.{Notes, after_write, fresh, history_after, started_with, step, with_area};
+ghost use Rattle.disk_model.specs.Calls.{Notes, after_sync, after_write, fresh, history_after, started_with, step, with_area};
 ghost use Rattle.disk_model.specs.Replay.{stays_an_image};
 ghost use Rattle.disk_model.specs.declared.disk.TheConstants.{MAX_ROOM};
 
@@ -191,7 +191,7 @@ impl Disk for MemoryDisk {
         ensures bound { IfOk result (λ n. n ≤ (view_of self.old).room) }
         ensures looks { InModel (view_of self.old) (Looks (view_of self.old).history (view_of self.new).history) }
         ensures length { InModel (view_of self.old) (IfOk result (λ n. n ≡ length (area_of area (content_of (view_of self.old).history)))) }
-        ensures records { Records result (view_of self.old) (view_of self.new) }
+        ensures records { Records result (λ s. s) (view_of self.old) (view_of self.new) }
     {
         let _faults = self.faults;
         if let Err(AllocError) = note(&mut self.calls, Call::Look) {
@@ -210,7 +210,7 @@ impl Disk for MemoryDisk {
         ensures called { Called result (view_of self.old) (view_of self.new) }
         ensures looks { InModel (view_of self.old) (Looks (view_of self.old).history (view_of self.new).history) }
         ensures bytes { InModel (view_of self.old) (OnOk result (buffer.new ≡ take (length buffer.old) (drop offset (area_of area (content_of (view_of self.old).history))))) }
-        ensures records { Records result (view_of self.old) (view_of self.new) }
+        ensures records { Records result (λ s. s) (view_of self.old) (view_of self.new) }
     {
         let _faults = self.faults;
         if let Err(AllocError) = note(&mut self.calls, Call::Look) {
@@ -230,7 +230,7 @@ impl Disk for MemoryDisk {
         requires { InModel (view_of self.old) ((offset ≤ length (area_of area (content_of (view_of self.old).history))) × (offset + length bytes.now ≤ (view_of self.old).room)) }
         ensures called { Called result (view_of self.old) (view_of self.new) }
         ensures writes { InModel (view_of self.old) (Writes area offset bytes.now result (view_of self.old).history (view_of self.new).history) }
-        ensures records { Records result (view_of self.old) (view_of self.new) }
+        ensures records { Records result (with_area area (after_write offset bytes.now)) (view_of self.old) (view_of self.new) }
     {
         let _faults = self.faults;
         match area {
@@ -267,7 +267,7 @@ impl Disk for MemoryDisk {
     fn sync(&mut self, area: Area) -> Result<(), DiskFault>
         ensures called { Called result (view_of self.old) (view_of self.new) }
         ensures syncs { InModel (view_of self.old) (Syncs area result (view_of self.old).history (view_of self.new).history) }
-        ensures records { Records result (view_of self.old) (view_of self.new) }
+        ensures records { Records result (with_area area after_sync) (view_of self.old) (view_of self.new) }
     {
         let _faults = self.faults;
         if let Err(AllocError) = note(&mut self.calls, Call::Sync(area)) {

@@ -1,6 +1,6 @@
 -- What an area lays out while a record is added.
-use Rattle.std.proofs.Common.{◌≡◌, ◌≢◌, ◌⊎◌, inl, inr, ℕ, ◌+◌, ◌<◌, List, [], ◌∷◌, ◌++◌, length, get_or, take, drop, sym, ◌∙◌, ap, subst, arith, append_assoc, length-append, take-append-drop}
-use Rattle.std.proofs.lemmas.List.{take_at, drop_at, drop_more, append-nil}
+use Rattle.std.proofs.Common.{◌≡◌, ◌≢◌, ◌⊎◌, inl, inr, ap₂, ℕ, ◌+◌, ◌<◌, List, [], ◌∷◌, ◌++◌, length, get_or, take, drop, sym, ◌∙◌, ap, subst, arith, append_assoc, length-append, take-append-drop}
+use Rattle.std.proofs.lemmas.List.{take_at, drop_at, drop_more, take_more, length-take-le, append-nil}
 use Rattle.std.proofs.lemmas.Bool.{cases_eq}
 use Rattle.disk_model.specs.Disk.{Torn, overwritten}
 use Rattle.journal.specs.Area.{Lays, header, records, record_of, body_of, IsPayload, ArePayloads, end_of}
@@ -115,3 +115,20 @@ module _ (limit selector : ℕ) (content : List ℕ) (payloads : List (List ℕ)
 
 pub end-push : (payloads : List (List ℕ)) (payload : List ℕ) → end_of (payloads ++ payload ∷ []) ≡ end_of payloads + length (record_of payload)
 end-push payloads payload = ap (λ (l : List ℕ). 10 + length l) (records-push payloads payload) ∙ omega (arith, length-append (records payloads) (record_of payload))
+
+-- two writes, of what stands behind an offset and then of the byte there, are one
+pub overwritten-overwritten : (old : List ℕ) (end c : ℕ) (bytes : List ℕ) → end < length old → overwritten (overwritten old (end + 1) bytes) end (c ∷ []) ≡ overwritten old end (c ∷ bytes)
+overwritten-overwritten old end c bytes h =
+    let last = get_or old end 0 in
+    let rest = drop (end + 1 + length bytes) old in
+    let size : length (take end old) ≡ end = length-take-le end old (omega (arith, h)) in
+    let size1 : length (take (end + 1) old) ≡ end + 1 = length-take-le (end + 1) old (omega (arith, h)) in
+    let split : overwritten old (end + 1) bytes ≡ take (end + 1) old ++ (bytes ++ rest) = append_assoc (take (end + 1) old) bytes rest in
+    let split1 : overwritten old (end + 1) bytes ≡ take end old ++ (last ∷ (bytes ++ rest)) =
+    split ∙ ap (λ l. l ++ (bytes ++ rest)) (take_more old end 0 h) ∙ append_assoc (take end old) (last ∷ []) (bytes ++ rest) in
+    let front : take end (overwritten old (end + 1) bytes) ≡ take end old = ap (take end) split1 ∙ take_at (take end old) (last ∷ (bytes ++ rest)) end size in
+    let back : drop (end + 1) (overwritten old (end + 1) bytes) ≡ bytes ++ rest = ap (drop (end + 1)) split ∙ drop_at (take (end + 1) old) (bytes ++ rest) (end + 1) size1 in
+    ap₂ (λ (a b : List ℕ). (a ++ c ∷ []) ++ b) front back
+    ∙ append_assoc (take end old) (c ∷ []) (bytes ++ rest)
+    ∙ sym (append_assoc (take end old) (c ∷ bytes) rest)
+    ∙ ap (λ (n : ℕ). (take end old ++ c ∷ bytes) ++ drop n old) (omega arith)

@@ -1,6 +1,7 @@
 -- The bytes of a journal's area (docs/FORMAT.md, "The journal").
 use Rattle.std.specs.Prelude.{◌≡◌, ◌≢◌, ℕ, ◌+◌, ◌≤◌, List, [], ◌∷◌, ◌++◌, length}
 use Rattle.std.specs.Int.{to_be_bytes, w32}
+use Rattle.disk_model.specs.Disk.{overwritten}
 
 -- the text `TMWSHEET`, the version 1, and the selector
 abbrev pub header : ℕ → List ℕ
@@ -44,3 +45,11 @@ pub record StandsFor (limit : ℕ) (bytes : List ℕ) (payloads : List (List ℕ
   pub selector : ℕ
   pub first_area : selector ≢ 66
   pub lays : Lays limit selector bytes payloads
+
+-- an area behind whose closed gate a payload was added: its record, with the gate open, and the next gate, written closed
+abbrev pub added_at : ℕ → List ℕ → List ℕ → List ℕ
+added_at end payload old = overwritten old end (record_of payload ++ 0 ∷ [])
+
+-- an area that was just created: the header, its selector written as `A`, and the first gate, written closed
+abbrev pub created : List ℕ
+created = header 65 ++ 0 ∷ []

@@ -1,6 +1,6 @@
 // The calls on the disk that add a record.
 ghost use Rattle.std.specs.Prelude.{◌≡◌, ◌<◌, ◌≤◌, ◌+◌, ◌++◌, ◌∷◌, [], List, ℕ, length, OnOk};
-ghost use Rattle.disk_model.specs.Disk.{InModel, Called, LeavesOnly, content_of};
+ghost use Rattle.disk_model.specs.Disk.{InModel, Called, LeavesOnly, content_of, overwritten};
 ghost use Rattle.journal.specs.Area.{body_of, IsPayload};
 ghost use Rattle.journal.specs.Kept.{Keeps, BeforeOrAfter};
 ghost use Rattle.disk_model.specs.declared.disk.TheConstants.{MAX_ROOM};
@@ -16,6 +16,7 @@ pub(crate) fn add<D: Disk>(disk: &mut D, end: u64, bytes: &[u8]) -> Result<(), D
 
     ensures called { Called result (D.view disk.old) (D.view disk.new) }
     ensures second { InModel (D.view disk.old) ((content_of (D.view disk.new).history).second ≡ (content_of (D.view disk.old).history).second) }
+    ensures written { OnOk result (InModel (D.view disk.old) ((content_of (D.view disk.new).history).first ≡ overwritten (content_of (D.view disk.old).history).first end (82 ∷ bytes.now))) }
     ensures inside { OnOk result (InModel (D.view disk.old) (end + length bytes.now < length (content_of (D.view disk.new).history).first)) }
 
     ensures any_moment { InModel (D.view disk.old) ((payloads : List (List ℕ)) (payload : List ℕ) → IsPayload MAX_PAYLOAD payload → bytes.now ≡ body_of payload ++ 0 ∷ []

@@ -3,7 +3,8 @@ ghost use Rattle.std.specs.Prelude.{◌≡◌, ◌<◌, ◌≤◌, ◌+◌, ◌+
 ghost use Rattle.disk_model.specs.Disk.{InModel, LeavesOnly, Looks, SameDisk, Rises, content_of};
 ghost use Rattle.journal.specs.Walk.{payloads_in, AreGates};
 ghost use Rattle.journal.specs.Open.{Tells};
-ghost use Rattle.journal.specs.Kept.{BeforeOrAfter, Fits, Keeps, Stands, other_of};
+ghost use Rattle.journal.specs.Kept.{BeforeOrAfter, Fits, Keeps, Stands, active_of, other_of};
+ghost use Rattle.journal.specs.Area.{added_at};
 
 use crate::append::add;
 use crate::opening::scan;
@@ -94,6 +95,9 @@ impl<D: Disk> Journal<D> {
 
         ensures ok { InModel self.disk ((payloads : List (List ℕ)) → Keeps self.disk.history self.end payloads
             → IfOk result (λ journal. Keeps journal.disk.history journal.end (payloads ++ frame.now ∷ []))) }
+
+        // These bytes are then on the disk.
+        ensures written { InModel self.disk (IfOk result (λ journal. active_of (content_of journal.disk.history) ≡ added_at self.end frame.now (active_of (content_of self.disk.history)))) }
 
         // A crash at any moment of the call leaves the payloads from before it, with the new one or without.
         ensures any_moment { InModel self.disk ((payloads : List (List ℕ)) → Keeps self.disk.history self.end payloads

@@ -1,6 +1,7 @@
 // Making a journal's disk, and reading it.
 ghost use Rattle.std.specs.Prelude.{◌≡◌, ◌≤◌, ◌<◌, ◌⊎◌, [], List, ℕ, length, IfOk, IfErr, OnOk, IsErrOf, MatchResult};
 ghost use Rattle.disk_model.specs.Disk.{InModel, Looks, SameDisk, Rises, content_of};
+ghost use Rattle.journal.specs.Area.{created};
 ghost use Rattle.journal.specs.Kept.{Keeps, Holds};
 ghost use Rattle.journal.specs.Walk.{payloads_in, AreGates};
 ghost use Rattle.journal.specs.Open.{AreEmpty, IsPassing, Tells};
@@ -87,6 +88,8 @@ pub fn create<D: Disk>(disk: D) -> Result<D, CreateFault<D>>
     // The journal is durable, and stands for no payload.
     ensures empty { InModel (D.view disk) (IfOk result (λ d. AreEmpty (content_of (D.view disk).history) × Keeps (D.view d).history 10 [])) }
 
+    ensures bytes { InModel (D.view disk) (IfOk result (λ d. content_of (D.view d).history ≡ record { first = created; second = [] })) }
+
     ensures not_empty { InModel (D.view disk) (IfErr result (λ e. e.cause ≡ CreateCause.NotEmpty → (AreEmpty (content_of (D.view disk).history) → ⊥) × Looks (D.view disk).history (D.view e.disk).history)) }
     ensures faulty { IfErr result (λ e. e.cause ≡ CreateCause.Disk → Rises (D.view disk).faults (D.view e.disk).faults) }
 {
@@ -102,6 +105,7 @@ fn lay<D: Disk>(disk: &mut D) -> Result<(), CreateCause>
     requires { 11 ≤ (D.view disk.old).room }
     ensures same { SameDisk (D.view disk.old) (D.view disk.new) }
     ensures empty { InModel (D.view disk.old) (OnOk result (AreEmpty (content_of (D.view disk.old).history) × Keeps (D.view disk.new).history 10 [])) }
+    ensures bytes { InModel (D.view disk.old) (OnOk result (content_of (D.view disk.new).history ≡ record { first = created; second = [] })) }
     ensures not_empty { InModel (D.view disk.old) (IsErrOf result CreateCause.NotEmpty → (AreEmpty (content_of (D.view disk.old).history) → ⊥) × Looks (D.view disk.old).history (D.view disk.new).history) }
     ensures faulty { IsErrOf result CreateCause.Disk → Rises (D.view disk.old).faults (D.view disk.new).faults }
 {
