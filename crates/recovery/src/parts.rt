@@ -1,0 +1,73 @@
+// The parts of a payload, read from left to right.
+ghost use Rattle.std.specs.Prelude.{◌≡◌, length, IfSome, IfOk};
+ghost use Rattle.std.specs.List.{AllByRecursion};
+ghost use Rattle.recovery.specs.Code.{IsShort, IsLong};
+ghost use Rattle.recovery.specs.Reading.{Reads, Gives, front_at, number_at, short_at, long_at, words_at};
+
+use crate::DecodeFault;
+use block_tree::{Octets, Sequence};
+use std::alloc::Global;
+
+fn front_of(len: usize, bytes: &[u8]) -> Option<(&[u8], &[u8])>
+    ensures { Reads (λ x. (x.0.now, x.1.now)) result (front_at len bytes.now) }
+{
+    if bytes.len() < len {
+        return None;
+    }
+    Some(bytes.split_at(len))
+}
+
+/// A number, and what stands behind it.
+#[tactic(auto, unfolding(crate::specs::Reading::number_at))]
+pub(crate) fn number_of(bytes: &[u8]) -> Option<(u32, &[u8])>
+    ensures { Reads (λ x. (x.0, x.1.now)) result (number_at bytes.now) }
+{
+    let (front, rest) = front_of(4, bytes)?;
+    let number = u32::from_be_bytes([front[0], front[1], front[2], front[3]]);
+    Some((number, rest))
+}
+
+/// Bytes behind a length of one byte, and what stands behind them.
+#[tactic(auto, unfolding(crate::specs::Reading::short_at))]
+pub(crate) fn short_of(bytes: &[u8]) -> Option<(&[u8], &[u8])>
+    ensures read { Reads (λ x. (x.0.now, x.1.now)) result (short_at bytes.now) }
+    ensures short { IfSome result (λ x. IsShort x.0.now) }
+{
+    let [len, rest @ ..] = bytes else {
+        return None;
+    };
+    front_of(usize::from(*len), rest)
+}
+
+/// Bytes behind a length of two bytes, and what stands behind them.
+#[tactic(auto, unfolding(crate::specs::Reading::long_at))]
+pub(crate) fn long_of(bytes: &[u8]) -> Option<(&[u8], &[u8])>
+    ensures read { Reads (λ x. (x.0.now, x.1.now)) result (long_at bytes.now) }
+    ensures long { IfSome result (λ x. IsLong x.0.now) }
+{
+    let (len, rest) = front_of(2, bytes)?;
+    let len = u16::from_be_bytes([len[0], len[1]]);
+    front_of(usize::from(len), rest)
+}
+
+/// So many words, each behind a length of two bytes.
+pub(crate) fn words_of(
+    alloc: Global,
+    count: u8,
+    bytes: &[u8],
+) -> Result<Sequence<Octets>, DecodeFault>
+    ensures read { Gives (λ words. words) result (words_at count bytes.now) }
+    ensures count { IfOk result (λ words. length words ≡ count) }
+    ensures long { IfOk result (AllByRecursion IsLong) }
+{
+    let mut words = Vec::new(alloc);
+    let mut rest = bytes;
+    for _ in 0..count {
+        let Some((word, after)) = long_of(rest) else {
+            return Err(DecodeFault::Unreadable);
+        };
+        words.push(Octets::from_slice(alloc, word)?)?;
+        rest = after;
+    }
+    Ok(Sequence::from_vec(words))
+}

@@ -1,0 +1,168 @@
+//! Payloads as ops.
+ghost use Rattle.std.specs.Prelude.{◌≡◌, ◌∷◌, IfOk, IsErrOf};
+ghost use Rattle.worksheet.specs.declared.op.Op.{Op};
+ghost use Rattle.recovery.specs.declared.reading.DecodeFault.TheVariants.{OutOfMemory};
+ghost use Rattle.recovery.specs.Code.{HasCode, IsLong, IsPayloadOf};
+ghost use Rattle.recovery.specs.Reading.{Gives, Finds, session_at, new_at, set_at, remove_at, move_at, clear_at, asked_at};
+
+use crate::parts::{long_of, number_of, short_of, words_of};
+use crate::writing::encode;
+use block_tree::Octets;
+use meta_format::{ReadFault, read_block};
+use std::alloc::{AllocError, AllocFailed, Global};
+use worksheet::Op;
+
+/// Why bytes are not read as an op.
+#[derive(Clone, Copy, Debug, PartialEq, Eq)]
+pub enum DecodeFault {
+    /// They are the payload of no op.
+    Unreadable,
+    /// A growth was refused.
+    OutOfMemory,
+}
+
+impl From<AllocError> for DecodeFault {
+    ghost from_gives = { λ _ e. e ≡ OutOfMemory };
+
+    fn from(_: AllocError) -> Self {
+        DecodeFault::OutOfMemory
+    }
+}
+
+impl<T: Drop> From<AllocFailed<T>> for DecodeFault {
+    ghost from_gives = { λ _ e. e ≡ OutOfMemory };
+
+    fn from(_: AllocFailed<T>) -> Self {
+        DecodeFault::OutOfMemory
+    }
+}
+
+#[tactic(auto, unfolding(crate::specs::Reading::session_at))]
+fn session_of(alloc: Global, bytes: &[u8]) -> Result<Op, DecodeFault>
+    ensures read { Gives (λ op. op) result (session_at bytes.now) }
+    ensures fits { IfOk result HasCode }
+{
+    let (name, rest) = short_of(bytes).ok_or(DecodeFault::Unreadable)?;
+    let [tab, count, rest @ ..] = rest else {
+        return Err(DecodeFault::Unreadable);
+    };
+    let name = Octets::from_slice(alloc, name)?;
+    let words = words_of(alloc, *count, rest)?;
+    Ok(Op::Session {
+        name,
+        tab: *tab == 1,
+        words,
+    })
+}
+
+#[tactic(auto, unfolding(crate::specs::Reading::new_at))]
+fn new_of(alloc: Global, bytes: &[u8]) -> Result<Op, DecodeFault>
+    ensures read { Gives (λ op. op) result (new_at bytes.now) }
+    ensures fits { IfOk result HasCode }
+{
+    let (after, rest) = number_of(bytes).ok_or(DecodeFault::Unreadable)?;
+    let (session, rest) = short_of(rest).ok_or(DecodeFault::Unreadable)?;
+    let (input, _) = long_of(rest).ok_or(DecodeFault::Unreadable)?;
+    Ok(Op::New {
+        after,
+        session: Octets::from_slice(alloc, session)?,
+        input: Octets::from_slice(alloc, input)?,
+    })
+}
+
+#[tactic(auto, unfolding(crate::specs::Reading::set_at))]
+fn set_of(alloc: Global, bytes: &[u8]) -> Result<Op, DecodeFault>
+    ensures read { Gives (λ op. op) result (set_at bytes.now) }
+    ensures fits { IfOk result HasCode }
+{
+    let (id, rest) = number_of(bytes).ok_or(DecodeFault::Unreadable)?;
+    let (input, _) = long_of(rest).ok_or(DecodeFault::Unreadable)?;
+    let input = Octets::from_slice(alloc, input)?;
+    Ok(Op::Set { id, input })
+}
+
+#[tactic(auto, unfolding(crate::specs::Reading::remove_at))]
+fn remove_of(bytes: &[u8]) -> Result<Op, DecodeFault>
+    ensures read { Gives (λ op. op) result (remove_at bytes.now) }
+    ensures fits { IfOk result HasCode }
+{
+    let (id, _) = number_of(bytes).ok_or(DecodeFault::Unreadable)?;
+    Ok(Op::Remove { id })
+}
+
+#[tactic(auto, unfolding(crate::specs::Reading::move_at))]
+fn move_of(bytes: &[u8]) -> Result<Op, DecodeFault>
+    ensures read { Gives (λ op. op) result (move_at bytes.now) }
+    ensures fits { IfOk result HasCode }
+{
+    let (id, rest) = number_of(bytes).ok_or(DecodeFault::Unreadable)?;
+    let (after, _) = number_of(rest).ok_or(DecodeFault::Unreadable)?;
+    Ok(Op::Move { id, after })
+}
+
+#[tactic(auto, unfolding(crate::specs::Reading::clear_at))]
+fn clear_of(bytes: &[u8]) -> Result<Op, DecodeFault>
+    ensures read { Gives (λ op. op) result (clear_at bytes.now) }
+    ensures fits { IfOk result HasCode }
+{
+    let (id, _) = number_of(bytes).ok_or(DecodeFault::Unreadable)?;
+    Ok(Op::Clear { id })
+}
+
+#[tactic(auto, unfolding(crate::specs::Reading::asked_at))]
+fn asked_of(bytes: &[u8]) -> Result<(u32, &[u8], &[u8]), DecodeFault>
+    ensures read { Gives (λ x. ((x.0, x.1.now), x.2.now)) result (asked_at bytes.now) }
+    ensures fits { IfOk result (λ x. IsLong x.1.now) }
+{
+    let (id, rest) = number_of(bytes).ok_or(DecodeFault::Unreadable)?;
+    let (prompt, rest) = long_of(rest).ok_or(DecodeFault::Unreadable)?;
+    Ok((id, prompt, rest))
+}
+
+fn answer_of(alloc: Global, bytes: &[u8]) -> Result<Op, DecodeFault>
+    ensures read { (o : Op) → IsPayloadOf o (7 ∷ bytes.now) → Finds o result }
+    ensures fits { IfOk result HasCode }
+{
+    let (id, prompt, rest) = asked_of(bytes)?;
+    let prompt = Octets::from_slice(alloc, prompt)?;
+    match read_block(alloc, rest) {
+        Ok(output) => Ok(Op::Answer { id, prompt, output }),
+        Err(ReadFault::NotABlock) => Err(DecodeFault::Unreadable),
+        Err(ReadFault::OutOfMemory) => Err(DecodeFault::OutOfMemory),
+    }
+}
+
+// The op whose payload begins so, where one does. The bytes need not be its payload.
+fn op_of(alloc: Global, bytes: &[u8]) -> Result<Op, DecodeFault>
+    ensures read { (o : Op) → IsPayloadOf o bytes.now → Finds o result }
+    ensures fits { IfOk result HasCode }
+{
+    let [kind, rest @ ..] = bytes else {
+        return Err(DecodeFault::Unreadable);
+    };
+    match *kind {
+        1 => session_of(alloc, rest),
+        2 => new_of(alloc, rest),
+        3 => set_of(alloc, rest),
+        4 => remove_of(rest),
+        5 => move_of(rest),
+        6 => clear_of(rest),
+        7 => answer_of(alloc, rest),
+        _ => Err(DecodeFault::Unreadable),
+    }
+}
+
+/// The op of a payload (docs/FORMAT.md, "Payloads"). An op has one payload: other bytes are
+/// `Unreadable`, also where bytes are left over, or an output is a block in another spelling.
+pub fn decode(alloc: Global, bytes: &[u8]) -> Result<Op, DecodeFault>
+    ensures op { IfOk result (λ op. IsPayloadOf op bytes.now) }
+    ensures unreadable { IsErrOf result DecodeFault.Unreadable → (op : Op) → IsPayloadOf op bytes.now → ⊥ }
+{
+    let op = op_of(alloc, bytes)?;
+    // Bytes from which an op was read are its payload only where it is written so.
+    let payload = encode(alloc, &op)?;
+    if payload.as_slice() != bytes {
+        return Err(DecodeFault::Unreadable);
+    }
+    Ok(op)
+}

@@ -1,0 +1,93 @@
+//! The length of a payload, told without making it.
+ghost use Rattle.std.specs.Prelude.{◌≡◌, ◌+◌, ◌≤◌, min, length};
+ghost use Rattle.std.specs.List.{flat_map};
+ghost use Rattle.block_tree.specs.View.{tree_of};
+ghost use Rattle.meta_format.specs.Canonical.{escape, canonical};
+ghost use Rattle.recovery.specs.Code.{code_of, long, HasCode};
+
+use block_tree::{Item, Node, Octets};
+use worksheet::Op;
+
+/// The greatest length that `code_len` tells, in bytes.
+pub const LONGEST_TOLD: u64 = 4_294_967_295;
+
+// A length with so many bytes more, up to the greatest that is told.
+fn longer(len: u64, more: u64) -> u64
+    requires { len ≤ LONGEST_TOLD }
+    ensures { result ≡ min (len + more) LONGEST_TOLD }
+{
+    if more < LONGEST_TOLD - len {
+        len + more
+    } else {
+        LONGEST_TOLD
+    }
+}
+
+#[tactic(auto, using(crate::proofs::Sizes::size_rules))]
+fn with_text(before: u64, text: &[u8]) -> u64
+    requires { before ≤ LONGEST_TOLD }
+    ensures { result ≡ min (before + length (flat_map escape text.now)) LONGEST_TOLD }
+{
+    let mut len = before;
+    for byte in text {
+        let is_special = *byte == 2 || *byte == 5 || *byte == 27;
+        len = longer(len, if is_special { 2 } else { 1 });
+    }
+    len
+}
+
+#[tactic(auto, using(crate::proofs::Sizes::size_rules))]
+fn with_node(before: u64, node: &Node) -> u64
+    requires { before ≤ LONGEST_TOLD }
+    ensures { result ≡ min (before + length (canonical (tree_of node.now))) LONGEST_TOLD }
+{
+    // Around the name and the items stand the two ends of the block and the separator.
+    let mut len = longer(longer(before, 3), node.tag.name.as_slice().len() as u64);
+    for item in &node.items {
+        match item {
+            Item::Text(text) => len = with_text(len, text.as_slice()),
+            Item::Block(inner) => len = with_node(len, inner),
+        }
+    }
+    len
+}
+
+#[tactic(auto, using(crate::proofs::Sizes::size_rules))]
+fn with_words(before: u64, words: &[Octets]) -> u64
+    requires { before ≤ LONGEST_TOLD }
+    ensures { result ≡ min (before + length (flat_map long words.now)) LONGEST_TOLD }
+{
+    let mut len = before;
+    for word in words {
+        len = longer(longer(len, 2), word.as_slice().len() as u64);
+    }
+    len
+}
+
+#[tactic(auto, using(crate::proofs::Sizes::size_rules))]
+/// The length of an op's payload in bytes, or 4,294,967,295 where it is longer. It takes no memory.
+pub fn code_len(op: &Op) -> u64
+    requires { HasCode op.now }
+    ensures { result ≡ min (length (code_of op.now)) LONGEST_TOLD }
+{
+    match op {
+        Op::Session {
+            name,
+            tab: _,
+            words,
+        } => { with_words(name.as_slice().len() as u64 + 4, words.as_slice()) }
+        Op::New {
+            after: _,
+            session,
+            input,
+        } => { 8 + session.as_slice().len() as u64 + input.as_slice().len() as u64 }
+        Op::Set { id: _, input } => 7 + input.as_slice().len() as u64,
+        Op::Remove { id: _ } | Op::Clear { id: _ } => 5,
+        Op::Move { id: _, after: _ } => 9,
+        Op::Answer {
+            id: _,
+            prompt,
+            output,
+        } => with_node(7 + prompt.as_slice().len() as u64, output.node()),
+    }
+}

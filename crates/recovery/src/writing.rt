@@ -1,0 +1,108 @@
+//! Ops as payloads.
+ghost use Rattle.std.specs.Prelude.{◌≡◌, ◌++◌, true, OnOk, IfOk};
+ghost use Rattle.std.specs.List.{flat_map, AllByRecursion};
+ghost use Rattle.block_tree.specs.Shape.{is_block};
+ghost use Rattle.meta_format.specs.Canonical.{canonical};
+ghost use Rattle.recovery.specs.Code.{code_of, short, long, HasCode, IsShort, IsLong, IsTyped};
+
+use block_tree::{Block, Octets, OutOfMemory};
+use meta_format::write_block;
+use std::alloc::Global;
+use worksheet::Op;
+
+fn put_short(bytes: &[u8], out: &mut Vec<u8>) -> Result<(), OutOfMemory>
+    requires { IsShort bytes.now }
+    ensures { OnOk result (out.new.items ≡ out.old.items ++ short bytes.now) }
+{
+    out.push(bytes.len() as u8)?;
+    out.extend_from_slice(bytes)?;
+    Ok(())
+}
+
+fn put_long(bytes: &[u8], out: &mut Vec<u8>) -> Result<(), OutOfMemory>
+    requires { IsLong bytes.now }
+    ensures { OnOk result (out.new.items ≡ out.old.items ++ long bytes.now) }
+{
+    out.extend_from_slice(&(bytes.len() as u16).to_be_bytes())?;
+    out.extend_from_slice(bytes)?;
+    Ok(())
+}
+
+fn put_words(words: &[Octets], out: &mut Vec<u8>) -> Result<(), OutOfMemory>
+    requires { AllByRecursion IsLong words.now }
+    ensures { OnOk result (out.new.items ≡ out.old.items ++ flat_map long words.now) }
+{
+    for word in words {
+        put_long(word.as_slice(), out)?;
+    }
+    Ok(())
+}
+
+fn put_block(block: &Block, out: &mut Vec<u8>) -> Result<(), OutOfMemory>
+    ensures spelled { OnOk result (out.new.items ≡ out.old.items ++ canonical block.now) }
+    ensures right { is_block block.now ≡ true }
+{
+    let _node = block.node();
+    write_block(block, out)
+}
+
+fn put_op(op: &Op, out: &mut Vec<u8>) -> Result<(), OutOfMemory>
+    requires { HasCode op.now }
+    ensures code { OnOk result (out.new.items ≡ out.old.items ++ code_of op.now) }
+    ensures typed { OnOk result (IsTyped op.now) }
+{
+    match op {
+        Op::Session { name, tab, words } => {
+            out.push(1)?;
+            put_short(name.as_slice(), out)?;
+            out.push(u8::from(*tab))?;
+            out.push(words.as_slice().len() as u8)?;
+            put_words(words.as_slice(), out)
+        }
+        Op::New {
+            after,
+            session,
+            input,
+        } => {
+            out.push(2)?;
+            out.extend_from_slice(&after.to_be_bytes())?;
+            put_short(session.as_slice(), out)?;
+            put_long(input.as_slice(), out)
+        }
+        Op::Set { id, input } => {
+            out.push(3)?;
+            out.extend_from_slice(&id.to_be_bytes())?;
+            put_long(input.as_slice(), out)
+        }
+        Op::Remove { id } => {
+            out.push(4)?;
+            out.extend_from_slice(&id.to_be_bytes())
+        }
+        Op::Move { id, after } => {
+            out.push(5)?;
+            out.extend_from_slice(&id.to_be_bytes())?;
+            out.extend_from_slice(&after.to_be_bytes())
+        }
+        Op::Clear { id } => {
+            out.push(6)?;
+            out.extend_from_slice(&id.to_be_bytes())
+        }
+        Op::Answer { id, prompt, output } => {
+            out.push(7)?;
+            out.extend_from_slice(&id.to_be_bytes())?;
+            put_long(prompt.as_slice(), out)?;
+            put_block(output, out)
+        }
+    }
+}
+
+/// The payload of an op (docs/FORMAT.md, "Payloads").
+pub fn encode(alloc: Global, op: &Op) -> Result<Vec<u8>, OutOfMemory>
+    requires { HasCode op.now }
+    ensures code { IfOk result (λ payload. payload.items ≡ code_of op.now) }
+    ensures typed { IfOk result (λ payload. IsTyped op.now) }
+{
+    let mut payload = Vec::new(alloc);
+    put_op(op, &mut payload)?;
+    Ok(payload)
+}
