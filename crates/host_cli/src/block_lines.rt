@@ -1,5 +1,5 @@
 //! The program `blocks`: the outer blocks of a stream, a line each.
-ghost use Rattle.std.specs.Prelude.{◌≡◌, ◌++◌, ◌<◌, ℕ, List, IfErr, IfOk, IfSome, IsErrOf, OnOk, length};
+ghost use Rattle.std.specs.Prelude.{◌≡◌, ◌++◌, ◌<◌, ◌≤◌, ℕ, List, IfErr, IfOk, IfSome, IsErrOf, OnOk, length};
 ghost use Rattle.std.specs.Io.KnownBytes.{Appends};
 ghost use Rattle.meta_format.specs.Limits.{limits};
 ghost use Rattle.meta_format.specs.Scan.{outer_of, outers};
@@ -66,6 +66,7 @@ fn write_stream<W: Write>(alloc: Global, stream: &[u8], out: &mut W) -> Result<b
     ensures printed { IfOk result (λ whole. (text : List ℕ) × Printed limits stream.now text whole × Appends (W.contents out.old) (W.contents out.new) text) }
     ensures not_input { IsErrOf result RunFault.Input → ⊥ }
     ensures not_too_long { IsErrOf result RunFault.InputTooLong → ⊥ }
+    ensures nothing_at_memory { IsErrOf result RunFault.OutOfMemory → out.new ≡ out.old }
 {
     let mut reader = Reader::new(alloc);
     match reader.feed(stream) {
@@ -109,12 +110,21 @@ pub fn blocks<R: Read, W: Write>(
     writer: &mut W,
 ) -> Result<bool, RunFault>
     ensures printed { IfOk result (λ whole. IfSome (R.remaining reader.old) (λ stream. (text : List ℕ) × Printed limits stream text whole × Appends (W.contents writer.old) (W.contents writer.new) text)) }
+
+    // An input that is too long is told as such, whatever else would go wrong with its text.
+    ensures short { IfOk result (λ whole. IfSome (R.remaining reader.old) (λ stream. length stream ≤ MAX_INPUT)) }
+    ensures output_short { IsErrOf result RunFault.Output → IfSome (R.remaining reader.old) (λ stream. length stream ≤ MAX_INPUT) }
     ensures too_long { IsErrOf result RunFault.InputTooLong → IfSome (R.remaining reader.old) (λ stream. MAX_INPUT < length stream) }
+
     ensures nothing_at_input { IsErrOf result RunFault.Input → writer.new ≡ writer.old }
     ensures nothing_at_too_long { IsErrOf result RunFault.InputTooLong → writer.new ≡ writer.old }
+    ensures nothing_at_memory { IsErrOf result RunFault.OutOfMemory → writer.new ≡ writer.old }
 {
     let stream = read_input(alloc, reader)?;
     let whole = write_stream(alloc, stream.as_slice(), writer)?;
     writer.flush().map_err(|_| RunFault::Output)?;
     Ok(whole)
 }
+
+#[cfg(test)]
+mod tests;
