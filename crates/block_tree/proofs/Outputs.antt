@@ -1,9 +1,9 @@
 -- The output, an item at a time.
-use Rattle.std.proofs.Common.{◌≡◌, ◌≤◌, ◌+◌, ℕ, suc, Bool, true, false, not, ◌&&◌, nat_le, max, cond, length, List, [], ◌∷◌, ◌++◌, map, refl, ap, sym, ◌∙◌, append_assoc, append-nil, arith, codes, subst, ap₂, take, get_or, ◌<◌}
+use Rattle.std.proofs.Common.{◌≡◌, ◌≤◌, ◌+◌, ℕ, Bool, true, false, not, ◌&&◌, nat_le, max, cond, length, List, [], ◌∷◌, ◌++◌, map, refl, ap, sym, ◌∙◌, append_assoc, arith, subst, ap₂, take, get_or, ◌<◌}
 use Rattle.std.proofs.lemmas.List.{map-append, take_more}
 use Rattle.std.proofs.lemmas.Bool.{and_parts, and_from, false≢true, le-leb, leb-true}
 use Rattle.std.proofs.Math.Nat.{le-max_left, le-max_right, max-le}
-use Rattle.block_tree.specs.Tree.{Items, Tree, Piece, text_piece, block_piece, items_of, end, text, block, put}
+use Rattle.block_tree.specs.Tree.{Items, Tree, Piece, text_piece, block_piece, items_of, end, text, block}
 use Rattle.block_tree.specs.Output.{output, no_output, output_items, is_aside, join}
 use Rattle.block_tree.specs.Growing.{text_behind, block_behind}
 use Rattle.block_tree.specs.View.{piece_of, tree_of}

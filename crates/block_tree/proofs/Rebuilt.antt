@@ -1,22 +1,10 @@
--- A tree, from its marks.
-use Rattle.std.proofs.Common.{◌≡◌, ℕ, Bool, true, false, not, ◌&&◌, nat_le, length, List, [], ◌∷◌, ◌++◌, map, refl, ap, sym, ◌∙◌, append_assoc, arith, ◌+◌}
+-- The marks of a block give its tree again.
+use Rattle.std.proofs.Common.{◌≡◌, ℕ, true, not, ◌&&◌, nat_le, length, List, [], ◌∷◌, ◌++◌, map, refl, ap, sym, ◌∙◌, append_assoc, arith}
 use Rattle.std.proofs.lemmas.Bool.{and_parts, false≢true, le-leb}
 use Rattle.block_tree.specs.Tree.{Items, Tree, end, text, block}
 use Rattle.block_tree.specs.Code.{with_block}
 use Rattle.block_tree.specs.Shape.{is_proper, begins_with_text, is_block_within, is_tag_name, depth}
-use Rattle.block_tree.specs.Marks.{Mark, open_mark, letter, close_mark, marks_of, marks}
-
-abbrev letter_before : ℕ → List Items → List Items
-letter_before c [] = []
-letter_before c (end ∷ st) = text (c ∷ []) end ∷ st
-letter_before c (text t f ∷ st) = text (c ∷ t) f ∷ st
-letter_before c (block d n i f ∷ st) = text (c ∷ []) (block d n i f) ∷ st
-
-abbrev rebuilt : List Mark → List Items
-rebuilt [] = end ∷ []
-rebuilt (open_mark c n ∷ ms) = with_block c n (rebuilt ms)
-rebuilt (letter c ∷ ms) = letter_before c (rebuilt ms)
-rebuilt (close_mark ∷ ms) = end ∷ rebuilt ms
+use Rattle.block_tree.specs.Marks.{Mark, letter, close_mark, marks_of, marks, letter_before, rebuilt, first_tree, tree_from}
 
 rebuilt-letters : (t : List ℕ) (rest : Items) (k : List Mark) (st : List Items) → nat_le 1 (length t) ≡ true → not (begins_with_text rest) ≡ true → rebuilt k ≡ rest ∷ st
     → rebuilt (map letter t ++ k) ≡ text t rest ∷ st
@@ -38,17 +26,11 @@ rebuilt-marks most (block c n i rest) ms st r e =
     ap (λ k. with_block c n (rebuilt k)) (append_assoc (marks_of i) (close_mark ∷ marks_of rest) ms)
     ∙ ap (with_block c n) (rebuilt-marks most i (close_mark ∷ (marks_of rest ++ ms)) (rest ∷ st) q.1 (ap (λ k. end ∷ k) (rebuilt-marks most rest ms st p.1 e)))
 
-abbrev first_tree : List Items → Tree → Tree
-first_tree [] other = other
-first_tree (end ∷ st) other = other
-first_tree (text t f ∷ st) other = other
-first_tree (block c n i f ∷ st) other = record { channel = c; name = n; items = i }
-
-from_marks : (tag deep : ℕ) (a other : Tree) → is_block_within tag deep a ≡ true → first_tree (rebuilt (marks a)) other ≡ a
-from_marks tag deep a other h =
-    let p = and_parts (is_tag_name tag a.name && is_proper tag a.items) (nat_le (depth a) deep) h in
-    let q = and_parts (is_tag_name tag a.name) (is_proper tag a.items) p.0 in
-    ap (λ k. first_tree (with_block a.channel a.name k) other) (rebuilt-marks tag a.items (close_mark ∷ []) (end ∷ []) q.1 refl)
+pub tree_from_marks : (tag deep : ℕ) (b : Tree) → is_block_within tag deep b ≡ true → tree_from (marks b) ≡ b
+tree_from_marks tag deep b h =
+    let p = and_parts (is_tag_name tag b.name && is_proper tag b.items) (nat_le (depth b) deep) h in
+    let q = and_parts (is_tag_name tag b.name) (is_proper tag b.items) p.0 in
+    ap (λ k. first_tree (with_block b.channel b.name k)) (rebuilt-marks tag b.items (close_mark ∷ []) (end ∷ []) q.1 refl)
 
 pub marks_tell : (tag deep : ℕ) (a b : Tree) → is_block_within tag deep a ≡ true → is_block_within tag deep b ≡ true → marks a ≡ marks b → a ≡ b
-marks_tell tag deep a b h k e = sym (from_marks tag deep a a h) ∙ ap (λ ms. first_tree (rebuilt ms) a) e ∙ from_marks tag deep b a k
+marks_tell tag deep a b h k e = sym (tree_from_marks tag deep a h) ∙ ap tree_from e ∙ tree_from_marks tag deep b k

@@ -1,17 +1,16 @@
 -- The equations of a node.
 use Rattle.std.proofs.Common.{◌≡◌, ℕ, Bool, true, false, not, ◌&&◌, nat_le, max, ◌+◌, length, List, [], ◌∷◌, ◌++◌, map, refl, ap, sym, ◌∙◌, append_assoc, arith, ◌≤◌}
 use Rattle.std.specs.List.{flat_map}
-use Rattle.block_tree.specs.Tree.{Items, Tree, Piece, text_piece, block_piece, items_of, put}
+use Rattle.block_tree.specs.Tree.{Items, Piece, text_piece, block_piece, items_of, put}
 use Rattle.block_tree.specs.View.{piece_of, tree_of}
-use Rattle.block_tree.specs.Marks.{Mark, open_mark, letter, close_mark, marks_of, marks}
+use Rattle.block_tree.specs.Marks.{open_mark, letter, close_mark, marks_of, marks}
 use Rattle.std.proofs.lemmas.Bool.{and_from, le-leb}
-use Rattle.block_tree.specs.Shape.{is_tag_name, is_proper, levels, depth, is_block, max_tag, max_depth}
+use Rattle.block_tree.specs.Shape.{is_tag_name, levels, depth, is_block, max_tag, max_depth}
 use Rattle.block_tree.specs.Reading.{is_right}
 use Rattle.block_tree.proofs.Shapes.{right_proper}
-use Rattle.block_tree.specs.Nodes.{piece_marks, node_marks, item_marks, piece_depth, node_depth, item_depth, largest, Tested, tree_plain, piece_plain, is_plain, is_plain_item, all_right}
-use Rattle.block_tree.specs.declared.tree.Item.{Item, Item-F, out-Item, roll-Item, roll-out-Item}
-use Rattle.block_tree.specs.declared.tree.Item.TheVariants.{Block, Text, rolls-Block, rolls-Text}
-use Rattle.block_tree.specs.declared.tree.Item.TheOpen as layer
+use Rattle.block_tree.specs.Nodes.{piece_marks, node_marks, item_marks, piece_depth, node_depth, item_depth, largest, tree_plain, piece_plain, is_plain, is_plain_item, all_right}
+use Rattle.block_tree.specs.declared.tree.Item.{Item}
+use Rattle.block_tree.specs.declared.tree.Item.TheVariants.{Block, Text}
 use Rattle.block_tree.specs.declared.tree.Node.{Node, Node-F, out-Node, roll-Node}
 use Rattle.block_tree.proofs.Views.{tree_out, tree_roll, piece_text, piece_block}
 

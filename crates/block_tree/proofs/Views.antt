@@ -1,13 +1,12 @@
 -- The equations of the tree of a node.
 use Rattle.std.proofs.lemmas.List.{length-map}
-use Rattle.std.proofs.lemmas.Slice.Eq.{bytes_eq-Decides}
-use Rattle.std.proofs.Common.{◌≡◌, ℕ, suc, Bool, true, false, not, ◌&&◌, length, List, [], ◌∷◌, ◌++◌, map, refl, ap, sym, ◌∙◌}
+use Rattle.std.proofs.Common.{◌≡◌, ℕ, suc, false, ◌&&◌, length, List, [], ◌∷◌, map, refl, ap, sym, ◌∙◌}
 use Rattle.std.proofs.lemmas.Bool.{and_parts, and_from, true≢false, false≢true, and_right}
-use Rattle.block_tree.specs.Tree.{Items, Tree, Piece, text_piece, block_piece, items_of, end, text, block, put}
+use Rattle.block_tree.specs.Tree.{Items, Tree, Piece, text_piece, block_piece, items_of, put}
 use Rattle.std.specs.Bool.{Decides}
 use Rattle.block_tree.specs.Same.{same_items, same_tree, same_piece, same_tree-Decides}
 use Rattle.block_tree.specs.View.{item_step, node_step, piece_of, tree_of}
-use Rattle.block_tree.specs.declared.tree.Item.{Item, Item-F, fold-roll-Item}
+use Rattle.block_tree.specs.declared.tree.Item.{Item, fold-roll-Item}
 use Rattle.block_tree.specs.declared.tree.Item.TheVariants.{Block, rolls-Block, Text, rolls-Text}
 use Rattle.block_tree.specs.declared.tree.Item.TheOpen as layer
 use Rattle.block_tree.specs.declared.tree.Node.{Node, Node-F, out-Node, roll-Node, fold-roll-Node, fold_out-Node}

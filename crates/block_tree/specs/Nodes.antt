@@ -1,6 +1,6 @@
 -- What a node or an item has, by its tree.
-use Rattle.std.specs.Prelude.{ℕ, ◌+◌, max, Bool, true, false, ◌&&◌, nat_le, not, List, [], ◌∷◌, ◌++◌, length, map}
-use Rattle.block_tree.specs.Tree.{Items, Tree, Piece, text_piece, block_piece}
+use Rattle.std.specs.Prelude.{ℕ, max, Bool, true, false, ◌&&◌, nat_le, not, List, [], ◌∷◌, length, map}
+use Rattle.block_tree.specs.Tree.{Tree, Piece, text_piece, block_piece}
 use Rattle.block_tree.specs.View.{piece_of, tree_of}
 use Rattle.block_tree.specs.Marks.{Mark, letter, marks}
 use Rattle.block_tree.specs.Shape.{is_tag_name, is_proper, depth, max_tag}

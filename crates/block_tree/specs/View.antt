@@ -1,6 +1,5 @@
 -- The tree of a node.
-use Rattle.std.specs.Prelude.{ℕ, List, [], ◌∷◌, Bool}
-use Rattle.block_tree.specs.Tree.{Items, Tree, Piece, text_piece, block_piece, items_of}
+use Rattle.block_tree.specs.Tree.{Tree, Piece, text_piece, block_piece, items_of}
 use Rattle.block_tree.specs.declared.tree.Item.{Item, Item-F, fold-Item}
 use Rattle.block_tree.specs.declared.tree.Item.TheOpen as layer
 use Rattle.block_tree.specs.declared.tree.Node.{Node, Node-F, fold-Node}

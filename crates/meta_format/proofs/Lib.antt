@@ -3,7 +3,6 @@ pub mod Leading
 pub mod Spelled
 pub mod Grown
 pub mod Bridge
-pub mod Rebuilt
 pub mod Unique
 pub mod Openings
 pub mod RightLevels

@@ -7,10 +7,11 @@ use Rattle.block_tree.specs.Shape.{is_block, levels, depth, max_tag, max_depth}
 use Rattle.block_tree.specs.View.{tree_of}
 use Rattle.block_tree.proofs.Trees.{block_from, tree_marks}
 use Rattle.block_tree.specs.declared.tree.Node.{Node}
-use Rattle.meta_format.specs.Rows.{Leads, Begins, IsOpen, tree_from}
+use Rattle.meta_format.specs.Rows.{Leads, Begins, IsOpen}
+use Rattle.block_tree.specs.Marks.{tree_from}
 use Rattle.meta_format.specs.Levels.{AreOpen}
 use Rattle.meta_format.proofs.Leading.{Begins-append, open_more, IsOpen-from_Begins, Begins-from_IsOpen}
-use Rattle.meta_format.proofs.Rebuilt.{tree_from_marks}
+use Rattle.block_tree.proofs.Rebuilt.{tree_from_marks}
 
 -- marks that lead on are those of items that are not too deep
 

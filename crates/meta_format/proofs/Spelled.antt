@@ -7,7 +7,8 @@ use Rattle.meta_format.specs.Limits.{Limits}
 use Rattle.meta_format.proofs.Tags.{tag_some, tag_few, tag_bytes, byte_high, byte_apart}
 use Rattle.block_tree.specs.Shape.{is_tag_byte}
 use Rattle.meta_format.specs.Spelling.{is_special, separator}
-use Rattle.meta_format.specs.Rows.{SpellsMarks, nothing, plain, escaped, both, opened, closed, Leads, tree_from}
+use Rattle.meta_format.specs.Rows.{SpellsMarks, nothing, plain, escaped, both, opened, closed, Leads}
+use Rattle.block_tree.specs.Marks.{tree_from}
 use Rattle.meta_format.specs.Stream.{Outer}
 use Rattle.meta_format.specs.Machine.{Mode, outside, tag_of, body_of, escape_of, State, turns, apply, is_bad_tag, is_late, unless_late, after, next, run}
 

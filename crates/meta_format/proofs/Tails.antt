@@ -6,7 +6,8 @@ use Rattle.block_tree.specs.Shape.{is_tag_byte, is_tag_name}
 use Rattle.block_tree.specs.Marks.{Mark, open_mark, letter, close_mark}
 use Rattle.meta_format.specs.Limits.{Limits}
 use Rattle.meta_format.specs.Spelling.{separator, is_special, is_separator}
-use Rattle.meta_format.specs.Rows.{SpellsMarks, nothing, plain, escaped, both, opened, closed, Begins, IsOpen, tree_from}
+use Rattle.meta_format.specs.Rows.{SpellsMarks, nothing, plain, escaped, both, opened, closed, Begins, IsOpen}
+use Rattle.block_tree.specs.Marks.{tree_from}
 use Rattle.meta_format.specs.Stream.{IsOuter}
 use Rattle.meta_format.specs.Faults.{Kind, bad_tag, too_deep, too_long, Place, in_tag, in_body, EndsIn, IsBadTag, IsWrong, Closes, IsFault}
 use Rattle.meta_format.specs.Machine.{Mode, outside, tag_of, body_of, escape_of, broken, Change, halts, turns, ends, stays, is_bad_tag, is_late, unless_late, closing, after}

@@ -6,14 +6,15 @@ use Rattle.meta_format.specs.Limits.{Limits}
 use Rattle.block_tree.specs.Tree.{Tree}
 use Rattle.block_tree.specs.Shape.{is_block_within}
 use Rattle.meta_format.specs.Spelling.{separator, Spells}
-use Rattle.meta_format.specs.Rows.{SpellsMarks, nothing, plain, escaped, both, opened, closed, Begins, tree_from}
+use Rattle.meta_format.specs.Rows.{SpellsMarks, nothing, plain, escaped, both, opened, closed, Begins}
+use Rattle.block_tree.specs.Marks.{tree_from}
 use Rattle.meta_format.specs.Stream.{Outer, IsOuter}
 use Rattle.meta_format.specs.Faults.{Kind}
 use Rattle.meta_format.specs.Machine.{outside, tag_of, broken, State, Change, halts, turns, ends, stays, apply, after, next, run}
 use Rattle.meta_format.proofs.Spelled.{run-append, length_marks, Leads-room, room, landing, landing_at, tag_run, tag_ends, spelled_run}
 use Rattle.meta_format.proofs.Tags.{tag_some, tag_few, tag_bytes}
 use Rattle.meta_format.proofs.Bridge.{spelled_marks, whole_marks, begun_ended}
-use Rattle.meta_format.proofs.Rebuilt.{tree_from_marks}
+use Rattle.block_tree.proofs.Rebuilt.{tree_from_marks}
 
 -- the same state with blocks found before
 abbrev pub behind : List Outer → State → State

@@ -1,9 +1,9 @@
--- What a reader knows after each byte. No public clause cites it.
+-- What a reader knows after each byte. `Stands` carries it for the proof alone: what a reader stands for is said by its stream, fault, offset and pending.
 use Rattle.std.specs.Prelude.{ℕ, zero, suc, ◌+◌, Bool, cond, ◌||◌, ◌&&◌, nat_eq, nat_le, nat_lt, not, List, [], ◌∷◌, ◌++◌, length, Option, Some, None}
 use Rattle.block_tree.specs.Marks.{Mark, open_mark, letter, close_mark}
 use Rattle.meta_format.specs.Limits.{Limits}
 use Rattle.meta_format.specs.Spelling.{is_special, is_separator}
-use Rattle.meta_format.specs.Rows.{tree_from}
+use Rattle.block_tree.specs.Marks.{tree_from}
 use Rattle.meta_format.specs.Stream.{Outer}
 use Rattle.meta_format.specs.Faults.{Kind, bad_tag, too_deep, too_long}
 

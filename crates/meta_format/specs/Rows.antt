@@ -1,7 +1,5 @@
--- Blocks and open levels as rows of marks, for the proofs: no public clause cites this.
+-- Blocks and open levels as rows of marks, for the proofs. What a reader must believe is said on trees (Spelling, Stream, Faults).
 use Rattle.std.specs.Prelude.{◌≡◌, ℕ, zero, suc, ◌<◌, Bool, true, false, List, [], ◌∷◌, ◌++◌}
-use Rattle.block_tree.specs.Tree.{Items, Tree, end, text, block}
-use Rattle.block_tree.specs.Code.{with_block}
 use Rattle.block_tree.specs.Shape.{is_tag_name}
 use Rattle.block_tree.specs.Marks.{Mark, open_mark, letter, close_mark}
 use Rattle.meta_format.specs.Spelling.{is_special, separator}
@@ -35,25 +33,3 @@ Begins most (open_mark channel name ∷ ms) e = (0 < most) × Leads most 1 ms e
 abbrev pub IsOpen : ℕ → List Mark → ℕ → Type 0
 IsOpen most [] levels = levels ≡ 0
 IsOpen most (m ∷ ms) levels = (0 < levels) × Begins most (m ∷ ms) levels
-
--- The tree that has these marks, read from the right: the items of each level that is closed behind them.
-abbrev pub letter_before : ℕ → List Items → List Items
-letter_before c [] = []
-letter_before c (end ∷ st) = text (c ∷ []) end ∷ st
-letter_before c (text t f ∷ st) = text (c ∷ t) f ∷ st
-letter_before c (block d n i f ∷ st) = text (c ∷ []) (block d n i f) ∷ st
-
-abbrev pub rebuilt : List Mark → List Items
-rebuilt [] = end ∷ []
-rebuilt (open_mark c n ∷ ms) = with_block c n (rebuilt ms)
-rebuilt (letter c ∷ ms) = letter_before c (rebuilt ms)
-rebuilt (close_mark ∷ ms) = end ∷ rebuilt ms
-
-abbrev pub first_tree : List Items → Tree
-first_tree [] = record { channel = false; name = []; items = end }
-first_tree (end ∷ st) = record { channel = false; name = []; items = end }
-first_tree (text t f ∷ st) = record { channel = false; name = []; items = end }
-first_tree (block c n i f ∷ st) = record { channel = c; name = n; items = i }
-
-abbrev pub tree_from : List Mark → Tree
-tree_from ms = first_tree (rebuilt ms)
