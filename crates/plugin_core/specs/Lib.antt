@@ -3,5 +3,6 @@ pub mod Answers
 pub mod Items
 pub mod Blocks
 pub mod Steps
+pub mod AskPoints
 pub mod Kept
 pub mod Changes

@@ -4,12 +4,14 @@
 #![tactic(auto)]
 
 mod item;
+mod laws;
 mod life;
 mod limits;
 mod piece;
 mod step;
 
 pub use item::Item;
+pub use laws::{answers_by_ask_points, one_reading};
 pub use life::{AcceptFault, Life};
 pub use limits::{LONGEST_PROMPT, MOST_WAITING};
 pub use step::{Answered, Ended, Reason, Step};

@@ -83,12 +83,7 @@ impl Life {
         ensures number { self.new.number ≡ self.old.number }
     {
         let Some(answer) = self.answer_in(found) else {
-            return Ok(Step {
-                answered: None,
-                default_input: None,
-                send: None,
-                ended: None,
-            });
+            return Ok(Step::nothing());
         };
         let closing = self.close(&answer.block)?;
         let send = self.first_bytes()?;

@@ -1,4 +1,6 @@
 //! What a life tells.
+ghost use Rattle.std.specs.Prelude.{◌≡◌, None};
+
 use crate::Item;
 use block_tree::{Block, Octets, Queue};
 
@@ -57,4 +59,18 @@ pub struct Step {
     pub send: Option<Octets>,
     /// The end of the life, at a fault of its stream.
     pub ended: Option<Ended>,
+}
+
+impl Step {
+    /// What a piece gives that closes no answer and brings no fault.
+    pub(crate) fn nothing() -> Step
+        ensures { result ≡ record { answered = None; default_input = None; send = None; ended = None } }
+    {
+        Step {
+            answered: None,
+            default_input: None,
+            send: None,
+            ended: None,
+        }
+    }
 }

@@ -1,0 +1,38 @@
+-- Ask points and answers by the events of a past, in the words of docs/PROTOCOL.md, ask points: what `answers_of` lists.
+use Rattle.std.specs.Prelude.{◌≡◌, ◌<◌, ◌≤◌, ◌↔◌, ℕ, suc, max, List, length, take, Option, Some, slice_get}
+use Rattle.meta_format.specs.Stream.{Outer}
+use Rattle.meta_format.specs.Faults.{Kind}
+use Rattle.plugin_core.specs.declared.item.Item.{Item}
+use Rattle.plugin_core.specs.Past.{Event, accepted, stream_of, items_of}
+use Rattle.plugin_core.specs.Answers.{first_from, answers_of}
+use Rattle.plugin_core.specs.Steps.{Reads}
+
+-- the length of the stream after the first so many events
+abbrev pub length_after : List Event → ℕ → ℕ
+length_after past n = length (stream_of (take n past))
+
+-- The event at this place, counted from 0, closes the block: its piece has the last byte of it.
+abbrev pub ClosesIn : List Event → ℕ → Outer → Type 0
+ClosesIn past e b = (length_after past e < b.stop) × (b.stop ≤ length_after past (suc e))
+
+-- The event at this place accepts the item with this number, counted from 1.
+abbrev pub AcceptsIn : List Event → ℕ → ℕ → Type 0
+AcceptsIn past f k = (item : Item) × (slice_get past f ≡ Some (accepted item)) × (suc (length (items_of (take f past))) ≡ k)
+
+-- Answer 0, the banner, is the first block of the stream. The ask point of an item is the length of the stream after the later
+-- of two events: the one in which the answer before it closes, and the one that accepts the item. Its answer is the first
+-- block that starts at the ask point or behind it.
+pub data IsAnswer (past : List Event) (blocks : List Outer) : ℕ → Outer → Type 0 where
+  banner : (b : Outer) → first_from 0 blocks ≡ Some b → IsAnswer past blocks 0 b
+  next : (k e f : ℕ) (a b : Outer) → IsAnswer past blocks k a → ClosesIn past e a → AcceptsIn past f (suc k)
+      → first_from (length_after past (suc (max e f))) blocks ≡ Some b → IsAnswer past blocks (suc k) b
+
+-- The list of a past's answers has them and no others, each at its number.
+abbrev pub AnswersByAskPoints : Type 0
+AnswersByAskPoints = (past : List Event) (blocks : List Outer) (fault : Option Kind) → Reads (stream_of past) blocks fault
+    → (k : ℕ) (b : Outer) → IsAnswer past blocks k b ↔ (slice_get (answers_of past blocks) k ≡ Some b)
+
+-- A stream has one list of blocks before its fault, and one fault or none.
+abbrev pub OneReading : Type 0
+OneReading = (s : List ℕ) (blocks others : List Outer) (fault other : Option Kind) → Reads s blocks fault → Reads s others other
+    → (blocks ≡ others) × (fault ≡ other)

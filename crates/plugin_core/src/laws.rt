@@ -1,0 +1,17 @@
+//! Laws of the definitions that the contracts cite. Each function does nothing: its contract is the law.
+ghost use Rattle.plugin_core.specs.AskPoints.{AnswersByAskPoints, OneReading};
+
+/// The answers of a past are those that its ask points give: each is the first block that starts at its
+/// ask point or behind it, and this is where the stream ends after the later of two events, the one that
+/// closes the answer before and the one that accepts the item.
+pub fn answers_by_ask_points()
+    ensures { AnswersByAskPoints }
+{}
+
+/// A stream has one reading: its blocks before its fault, and that fault. So a piece gives one step.
+pub fn one_reading()
+    ensures { OneReading }
+{
+    meta_format::one_reading();
+    meta_format::one_fault();
+}
