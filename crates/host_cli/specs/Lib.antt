@@ -1,3 +1,4 @@
 pub mod Faults
 pub mod Asked
 pub mod Printed
+pub mod Memory

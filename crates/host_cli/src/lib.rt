@@ -5,6 +5,7 @@
 mod block_lines;
 mod fault;
 mod input;
+mod memory;
 #[cfg(test)]
 mod tests;
 mod words;
@@ -12,4 +13,5 @@ mod words;
 pub use block_lines::blocks;
 pub use fault::{RunFault, fault_text};
 pub use input::{MAX_INPUT, read_input};
+pub use memory::run_memory;
 pub use words::{Task, read_words};
