@@ -9,6 +9,8 @@ mod life;
 mod limits;
 mod piece;
 mod step;
+#[cfg(test)]
+mod tests;
 
 pub use item::Item;
 pub use laws::{answers_by_ask_points, one_reading};
