@@ -1,5 +1,5 @@
 -- An op is read again from its payload.
-use Rattle.std.proofs.Common.{◌≡◌, ℕ, ◌+◌, ◌<◌, ◌≤◌, ◌-◌, ◌^◌, ◌==◌, Bool, true, false, List, [], ◌∷◌, ◌++◌, length, drop, get_or, take, Option, Some, None, Result, Ok, Err, refl, sym, ap, ◌∙◌, subst, append_assoc, append-nil, arith}
+use Rattle.std.proofs.Common.{◌≡◌, ℕ, ◌<◌, ◌≤◌, ◌-◌, ◌^◌, ◌==◌, Bool, true, false, List, [], ◌∷◌, ◌++◌, length, drop, get_or, take, Option, Some, None, Result, Ok, Err, refl, sym, ap, ◌∙◌, subst, append-nil, arith}
 use Rattle.std.specs.List.{flat_map}
 use Rattle.std.proofs.lemmas.List.{take_all}
 use Rattle.block_tree.specs.Tree.{Tree}
@@ -13,7 +13,7 @@ use Rattle.worksheet.specs.declared.op.Op.TheVariants as op
 use Rattle.recovery.specs.declared.reading.DecodeFault.{DecodeFault}
 use Rattle.recovery.specs.declared.reading.DecodeFault.TheVariants as faults
 use Rattle.recovery.specs.Code.{kind_of, parts_of, code_of, number, short, long, flag, HasCode, IsTyped, IsPayloadOf}
-use Rattle.recovery.specs.Reading.{◌>>=◌, Gives, Fails, Finds, session_behind, words_at, session_at, new_at, set_at, remove_at, move_at, clear_at, asked_at}
+use Rattle.recovery.specs.Reading.{Gives, Fails, Finds, session_at, new_at, set_at, remove_at, move_at, clear_at, asked_at}
 use Rattle.recovery.proofs.Fields.{number_again, short_again, long_again, words_again}
 
 -- reading the parts of an op of this kind gives the op
@@ -130,10 +130,10 @@ no_answer bytes none (op.Remove id) payload = let no : 7 ∷ bytes ≡ code_of (
 no_answer bytes none (op.Move id after) payload = let no : 7 ∷ bytes ≡ code_of (op.Move id after) = payload.is in absurd cc
 no_answer bytes none (op.Clear id) payload = let no : 7 ∷ bytes ≡ code_of (op.Clear id) = payload.is in absurd cc
 
-abbrev just : {A : Type 0} → A → Option A
+abbrev pub just : {A : Type 0} → A → Option A
 just x = Some x
 
-some_is : {A : Type 0} (x y : A) → just x ≡ just y → x ≡ y
+pub some_is : {A : Type 0} (x y : A) → just x ≡ just y → x ≡ y
 some_is x y e = cc
 
 -- a fault of reading them is none that an answer's payload meets

@@ -1,12 +1,12 @@
 -- What was written is read again, part by part.
-use Rattle.std.proofs.Common.{◌≡◌, ℕ, ◌+◌, ◌^◌, ◌<◌, ◌≤◌, true, false, ltb, List, [], ◌∷◌, ◌++◌, length, take, drop, Option, Some, None, refl, sym, ap, ◌∙◌, append_assoc, arith}
-use Rattle.std.specs.Int.{w16, w32, from_be_bytes, to_be_bytes}
+use Rattle.std.proofs.Common.{◌≡◌, ℕ, false, ltb, List, [], ◌∷◌, ◌++◌, length, Some, refl, arith}
+use Rattle.std.specs.Int.{w16, to_be_bytes}
 use Rattle.std.specs.List.{flat_map, AllByRecursion}
 use Rattle.std.proofs.lemmas.Bool.{le-ltb}
 use Rattle.std.proofs.lemmas.List.{take_at, drop_at, length-append}
 use Rattle.std.proofs.lemmas.Nat.{from_be_bytes-to_be_bytes_2, from_be_bytes-to_be_bytes_4}
 use Rattle.recovery.specs.Code.{number, short, long, IsLong, IsNumber}
-use Rattle.recovery.specs.Reading.{◌>>=◌, front_at, number_at, short_at, long_at, words_at}
+use Rattle.recovery.specs.Reading.{front_at, number_at, short_at, long_at, words_at}
 
 pub front_again : (n : ℕ) (a rest : List ℕ) → length a ≡ n → front_at n (a ++ rest) ≡ Some (a, rest)
 front_again n a rest len =

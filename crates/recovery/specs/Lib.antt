@@ -1,2 +1,9 @@
 pub mod Code
 pub mod Reading
+pub mod Laws
+pub mod Sheets
+pub mod Codes
+pub mod Taken
+pub mod Base
+pub mod Opened
+pub mod Committed

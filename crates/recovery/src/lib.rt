@@ -2,11 +2,19 @@
 //! in memory and in a journal alike.
 #![tactic(auto)]
 
+mod base;
+mod fault;
+mod laws;
+mod opening;
 mod parts;
 mod reading;
 mod size;
+mod store;
 mod writing;
 
+pub use fault::{CommitFault, PrepareFault};
+pub use laws::{allowed_have_code, one_op};
 pub use reading::{DecodeFault, decode};
 pub use size::code_len;
+pub use store::Store;
 pub use writing::encode;

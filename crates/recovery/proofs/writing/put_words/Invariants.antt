@@ -1,6 +1,6 @@
 use Rattle.std.proofs.Common.{◌≡◌, ◌++◌, drop}
-use Rattle.std.specs.List.{flat_map, AllByRecursion}
-use Rattle.recovery.specs.Code.{long, IsLong}
+use Rattle.std.specs.List.{flat_map}
+use Rattle.recovery.specs.Code.{long}
 use Rattle.recovery.proofs.writing.put_words.Given as goal
 
 abbrev pub invariant-loop-word : goal.invariant-loop-word

@@ -1,0 +1,8 @@
+use Rattle.recovery.proofs.Images.{stays_either}
+use Rattle.recovery.proofs.store.Store.commit.Goals as goal
+
+pub returns-in-Err-Full-clause-any_moment : goal.returns-in-Err-Full-clause-any_moment
+returns-in-Err-Full-clause-any_moment g c = λ model is_open. stays_either c.args.self.now.disk c.prepare.new.self.disk c.args.self.now.sheet.contents c.args.op c.prepare.ensures.same.disk (c.sheet-sheet.ensures.images model is_open)
+
+pub returns-in-Err-OutOfMemory-clause-any_moment : goal.returns-in-Err-OutOfMemory-clause-any_moment
+returns-in-Err-OutOfMemory-clause-any_moment g c = λ model is_open. stays_either c.args.self.now.disk c.prepare.new.self.disk c.args.self.now.sheet.contents c.args.op c.prepare.ensures.same.disk (c.sheet-sheet.ensures.images model is_open)

@@ -1,0 +1,77 @@
+-- The worksheet that a disk stands for (docs/FORMAT.md, "Payloads").
+use Rattle.std.specs.Prelude.{◌≡◌, ◌⊎◌, ℕ, Bool, true, false, List, [], ◌∷◌, ◌++◌, length, map, None}
+use Rattle.std.specs.List.{AllByRecursion}
+use Rattle.disk_model.specs.Disk.{DiskView, Image}
+use Rattle.worksheet.specs.declared.op.Op.{Op}
+use Rattle.worksheet.specs.Contents.{Contents, Held}
+use Rattle.worksheet.specs.Ops.{sheet_of}
+use Rattle.worksheet.specs.Checks.{Allowed, first_refusal, room_for}
+use Rattle.journal.specs.Area.{end_of}
+use Rattle.journal.specs.Kept.{Stands, Fits}
+use Rattle.journal.specs.Open.{Tells}
+use Rattle.journal.specs.declared.opening.OpenCause.{OpenCause}
+use Rattle.journal.specs.declared.opening.OpenCause.TheVariants as causes
+use Rattle.recovery.specs.Code.{code_of, IsTyped, IsPayloadOf}
+
+-- the payloads of these ops
+abbrev pub codes_of : List Op → List (List ℕ)
+codes_of ops = map code_of ops
+
+-- the sheet is what these ops make of an empty worksheet, which allows each of them behind those before it
+pub record Makes (ops : List Op) (sheet : Contents) : Type 0 where
+  pub typed : AllByRecursion IsTyped ops
+  pub allowed : Allowed ops
+  pub is : sheet ≡ sheet_of ops
+
+-- an image of the sheet: it stands for the payloads of ops that make it
+pub record IsSheetImage (sheet : Contents) (i : Image) : Type 0 where
+  pub ops : List Op
+  pub stands : Stands i (codes_of ops)
+  pub makes : Makes ops sheet
+
+-- an image of the sheet of these ops, or of the sheet with one op more
+abbrev pub IsEither : List Op → Op → Image → Type 0
+IsEither ops o i = IsSheetImage (sheet_of ops) i ⊎ IsSheetImage (sheet_of (ops ++ o ∷ [])) i
+
+-- The payload behind this gate is the first that no worksheet has taken: those before it are of ops that make one, and this
+-- is of no op that it allows.
+pub record IsRefusedAt (payloads : List (List ℕ)) (gate : ℕ) : Type 0 where
+  pub ops : List Op
+  pub payload : List ℕ
+  pub more : List (List ℕ)
+  pub is : payloads ≡ codes_of ops ++ payload ∷ more
+  pub gate_is : gate ≡ end_of (codes_of ops)
+  pub makes : Makes ops (sheet_of ops)
+  pub wrong : (o : Op) → IsPayloadOf o payload → first_refusal (sheet_of ops) o ≡ None → ⊥
+
+-- What a cause says of a disk. Damage is that of the walk, or where the gates are whole the first payload that is refused.
+abbrev pub TellsOfSheet : Image → OpenCause → Type 0
+TellsOfSheet i (causes.Damaged gate) = Tells i (causes.Damaged gate) ⊎ ((payloads : List (List ℕ)) × Stands i payloads × IsRefusedAt payloads gate)
+TellsOfSheet i causes.NotASheet = Tells i causes.NotASheet
+TellsOfSheet i causes.Disk = Unit {0}
+TellsOfSheet i causes.OutOfMemory = Unit {0}
+
+-- a store as contracts see it: its disk, the offset of the journal's closed gate, its worksheet, and whether it is closed
+pub record StoreView : Type 0 where
+  pub disk : DiskView
+  pub end : ℕ
+  pub sheet : Held
+  pub closed : Bool
+
+-- the store isn't closed, and a payload of so many bytes fits on its disk
+abbrev pub HasPlace : StoreView → ℕ → Type 0
+HasPlace store n = (store.closed ≡ false) × Fits store.disk.room store.end n
+
+-- the op is allowed, it fits, memory is ready for it, and the payload is its own
+pub record IsReady (store : StoreView) (o : Op) (payload : List ℕ) : Type 0 where
+  pub allowed : first_refusal store.sheet.contents o ≡ None
+  pub fits : HasPlace store (length (code_of o))
+  pub room : room_for store.sheet o ≡ true
+  pub own : IsPayloadOf o payload
+
+-- memory may have been made ready, and nothing else has changed
+pub record SameStore (old new : StoreView) : Type 0 where
+  pub disk : new.disk ≡ old.disk
+  pub end : new.end ≡ old.end
+  pub contents : new.sheet.contents ≡ old.sheet.contents
+  pub closed : new.closed ≡ old.closed

@@ -1,0 +1,200 @@
+//! A worksheet on a disk.
+ghost use Rattle.std.specs.Prelude.{◌≡◌, ◌++◌, ◌∷◌, ◌↔◌, [], List, length, false, true, None, IfOk, IfErr, OnOk, OnErr, IsErrOf, IsTrue};
+ghost use Rattle.disk_model.specs.Disk.{InModel, Image, Leaves, LeavesOnly, Looks, SameDisk, Rises, content_of};
+ghost use Rattle.worksheet.specs.declared.op.Op.{Op};
+ghost use Rattle.worksheet.specs.Contents.{Contents};
+ghost use Rattle.worksheet.specs.Ops.{sheet_of};
+ghost use Rattle.worksheet.specs.Checks.{first_refusal, room_for};
+ghost use Rattle.journal.specs.Kept.{Fits};
+ghost use Rattle.recovery.specs.Code.{code_of, HasCode, IsPayloadOf};
+ghost use Rattle.recovery.specs.Sheets.{IsSheetImage, IsEither, TellsOfSheet, HasPlace, IsReady, SameStore};
+
+use crate::base::Base;
+use crate::fault::{CommitFault, PrepareFault};
+use crate::opening::sheet_of_payloads;
+use crate::size::code_len;
+use crate::writing::encode;
+use disk_model::{Disk, DiskFault};
+use journal::{Frame, Journal, OpenCause, OpenFault};
+use std::alloc::Global;
+use std::marker::Model;
+use worksheet::{Op, Sheet};
+
+/// A worksheet in memory and in a journal on a disk that it owns. Each op is durable there before the
+/// worksheet has it (docs/FORMAT.md, "Payloads").
+///
+/// After a failure of the disk it is closed: it changes nothing any more, and is to be opened again.
+#[derive(Drop)]
+pub struct Store<D: Disk> {
+    alloc: Global,
+    // A base is always there but within a call.
+    base: Option<Base<D>>,
+    sheet: Sheet,
+}
+
+impl<D: Disk> Model for Store<D> {
+    ghost use Rattle.recovery.specs.Sheets.{StoreView};
+    ghost use Rattle.recovery.specs.Codes.{coded_store};
+
+    ghost Value = { StoreView };
+
+    ghost coded = { coded_store };
+
+    ghost use Rattle.recovery.specs.Base.{disk_in, end_of_base, closed_in, Holds};
+
+    ghost view = { λ s. record { disk = disk_in D.view s.base; end = end_of_base s.base; sheet = s.sheet; closed = closed_in s.base } };
+
+    ghost invariant = { λ s. Holds D.view s.base s.sheet.contents };
+}
+
+impl<D: Disk> Store<D> {
+    ghost use Rattle.recovery.specs.Opened.{disk_after, GivesSheet};
+    ghost use Rattle.recovery.specs.Committed.{IsFull, LeftBy};
+
+    /// Opens a disk that a crash may have left, and gives the worksheet that it stands for. It writes
+    /// nothing. A disk that stands for none is refused with its first damage: that of the gates
+    /// (docs/FORMAT.md, "Opening") before a payload that is no op's, or whose op the worksheet so far
+    /// refuses.
+    pub fn open(alloc: Global, disk: D) -> Result<Store<D>, OpenFault<D>>
+        ensures same { SameDisk (D.view disk) (disk_after D.view result) }
+        ensures open { IfOk result (λ store. store.closed ≡ false) }
+
+        ensures sheet { InModel (D.view disk) (IfOk result (λ store. IsSheetImage store.sheet.contents (content_of (D.view disk).history))) }
+        ensures exact { InModel (D.view disk) ((sheet : Contents) → IsSheetImage sheet (content_of (D.view disk).history) → GivesSheet sheet result) }
+        ensures fault { InModel (D.view disk) (IfErr result (λ e. TellsOfSheet (content_of (D.view disk).history) e.cause)) }
+
+        // It changes no byte, and at every moment each image is one that a crash could leave at the start.
+        ensures looks { InModel (D.view disk) (Looks (D.view disk).history (disk_after D.view result).history) }
+        ensures images { InModel (D.view disk) (IfOk result (λ store. Leaves (IsSheetImage store.sheet.contents) store.disk.history.now)) }
+
+        ensures faulty { IfErr result (λ e. e.cause ≡ OpenCause.Disk → Rises (D.view disk).faults (D.view e.disk).faults) }
+    {
+        let (journal, payloads) = Journal::open(alloc, disk)?;
+        match sheet_of_payloads(alloc, &payloads) {
+            Ok(sheet) => Ok(Store {
+                alloc,
+                base: Some(Base::Open(journal)),
+                sheet,
+            }),
+            Err(cause) => Err(OpenFault {
+                cause,
+                disk: journal.into_disk(),
+            }),
+        }
+    }
+
+    /// Whether the payload of an op fits on the disk. It takes no memory, and is false once the store
+    /// is closed.
+    pub fn fits(&self, op: &Op) -> bool
+        requires { HasCode op.now }
+        ensures { IsTrue result ↔ HasPlace self.now (length (code_of op.now)) }
+    {
+        match &self.base {
+            Some(base) => base.has_place(code_len(op)),
+            None => unreachable!(),
+        }
+    }
+
+    /// Makes the record of an op, and room for it in the worksheet, so that `commit_ready` takes no
+    /// memory. It changes nothing that the worksheet contains, and touches no disk.
+    pub fn prepare(&mut self, op: &Op) -> Result<Frame, PrepareFault>
+        requires { first_refusal self.old.sheet.contents op.now ≡ None }
+
+        ensures same { SameStore self.old self.new }
+        ensures ready { IfOk result (IsReady self.new op.now) }
+        ensures closed { IsErrOf result PrepareFault.Closed ↔ (self.old.closed ≡ true) }
+        ensures full { IsErrOf result PrepareFault.Full ↔ (self.old.closed ≡ false) × (Fits self.old.disk.room self.old.end (length (code_of op.now)) → ⊥) }
+    {
+        let Some(base) = &self.base else {
+            unreachable!();
+        };
+        if base.is_closed() {
+            return Err(PrepareFault::Closed);
+        }
+        if !base.has_place(code_len(op)) {
+            return Err(PrepareFault::Full);
+        }
+        self.sheet.make_room(op)?;
+        let payload = encode(self.alloc, op)?;
+        Ok(Frame::new(self.alloc, &payload)?)
+    }
+
+    /// Puts an op that was prepared on the disk, and then into the worksheet. It takes no memory. At
+    /// `Err` the worksheet is as before, and the store is closed.
+    pub fn commit_ready(&mut self, op: Op, frame: Frame) -> Result<(), DiskFault>
+        requires { IsReady self.old op frame }
+
+        ensures same { SameDisk self.old.disk self.new.disk }
+        ensures sheet { (ops : List Op) → self.old.sheet.contents ≡ sheet_of ops → OnOk result (self.new.sheet.contents ≡ sheet_of (ops ++ op ∷ [])) }
+        ensures as_before { OnErr result (self.new.sheet.contents ≡ self.old.sheet.contents) }
+        ensures open { OnOk result (self.new.closed ≡ false) }
+        ensures closed { OnErr result ((self.new.closed ≡ true) × Rises self.old.disk.faults self.new.disk.faults) }
+
+        // A crash at any moment of the call leaves the worksheet from before it, or this with the op.
+        ensures any_moment { InModel self.old.disk ((ops : List Op) → self.old.sheet.contents ≡ sheet_of ops → LeavesOnly (IsEither ops op) self.old.disk.history self.new.disk.history) }
+        ensures acknowledged { OnOk result (InModel self.old.disk (Leaves (IsSheetImage self.new.sheet.contents) self.new.disk.history.now)) }
+    {
+        let (base, result) = self.base.take().unwrap().with(&frame);
+        self.base = Some(base);
+        result?;
+        match self.sheet.apply(op) {
+            Ok(()) => Ok(()),
+            Err(_) => unreachable!(),
+        }
+    }
+
+    /// Puts an op on the disk, and then into the worksheet. Before its first write it has all the
+    /// memory that it takes.
+    pub fn commit(&mut self, op: Op) -> Result<(), CommitFault>
+        requires { first_refusal self.old.sheet.contents op ≡ None }
+
+        ensures same { SameDisk self.old.disk self.new.disk }
+        ensures sheet { (ops : List Op) → self.old.sheet.contents ≡ sheet_of ops → OnOk result (self.new.sheet.contents ≡ sheet_of (ops ++ op ∷ [])) }
+        ensures open { OnOk result (self.new.closed ≡ false) }
+
+        // Which refusal it is, and what it leaves.
+        ensures closed { IsErrOf result CommitFault.Closed ↔ (self.old.closed ≡ true) }
+        ensures full { IsFull result ↔ (self.old.closed ≡ false) × (Fits self.old.disk.room self.old.end (length (code_of op)) → ⊥) }
+        ensures refused { IfErr result (LeftBy self.old self.new op) }
+
+        // A crash at any moment of the call leaves the worksheet from before it, or this with the op.
+        ensures any_moment { InModel self.old.disk (self.old.closed ≡ false → (ops : List Op) → self.old.sheet.contents ≡ sheet_of ops → LeavesOnly (IsEither ops op) self.old.disk.history self.new.disk.history) }
+        ensures acknowledged { OnOk result (InModel self.old.disk (Leaves (IsSheetImage self.new.sheet.contents) self.new.disk.history.now)) }
+    {
+        // While the store is open each image is one of its worksheet: no exit before a write adds one.
+        let _sheet = self.sheet();
+        let frame = match self.prepare(&op) {
+            Ok(frame) => frame,
+            Err(PrepareFault::Closed) => return Err(CommitFault::Closed),
+            Err(PrepareFault::Full) => return Err(CommitFault::Full(op)),
+            Err(PrepareFault::OutOfMemory) => return Err(CommitFault::OutOfMemory(op)),
+        };
+        match self.commit_ready(op, frame) {
+            Ok(()) => Ok(()),
+            Err(DiskFault) => Err(CommitFault::Disk),
+        }
+    }
+
+    /// The worksheet.
+    pub fn sheet(&self) -> &Sheet
+        ensures sheet { result.now ≡ self.now.sheet }
+        ensures images { InModel self.now.disk (self.now.closed ≡ false → Leaves (IsSheetImage self.now.sheet.contents) self.now.disk.history.now) }
+    {
+        &self.sheet
+    }
+
+    /// The disk, as it stands.
+    pub fn into_disk(self) -> D
+        ensures { D.view result ≡ self.disk }
+    {
+        let Store {
+            alloc: _,
+            base,
+            sheet: _,
+        } = self;
+        match base {
+            Some(base) => base.into_disk(),
+            None => unreachable!(),
+        }
+    }
+}
