@@ -122,6 +122,7 @@ passes_gives old mid new ts bs p fs step s fed over taken close h =
       after = bs ++ fs;
       fault = None;
       reads = ((taken_now.tail, taken_now.stream), taken_now.no_fault);
+      answers = answers_of-received ts bs p fs a ∙ ap (λ o. answers_of ts bs ++ option_to_list o) (sym (closed_by-received ts bs p fs a));
       gives = parts.0;
       then = parts.1;
     }
@@ -201,6 +202,7 @@ breaks_gives old mid new ts bs p fs at kind step s fed fault close h =
       after = bs ++ fs;
       fault = Some kind;
       reads = (at, subst (λ (t : List ℕ). Faults limits t at kind (bs ++ fs)) (sym (stream_of-received ts p)) fault);
+      answers = answers_of-received ts bs p fs a ∙ ap (λ o. answers_of ts bs ++ option_to_list o) (sym (closed_by-received ts bs p fs a));
       gives = same_step step _ _ _ _
           (ap (λ (x : Closing). x.answered) k ∙ sym (ap (λ o. option_and_then (answered_with ts bs) o) c))
           (ap (λ (x : Closing). x.default_input) k ∙ sym (ap (λ o. option_and_then (λ (b : Outer). default_in b.block) o) c))

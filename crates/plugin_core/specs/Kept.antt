@@ -1,5 +1,5 @@
 -- What a life keeps, and which pasts it stands for.
-use Rattle.std.specs.Prelude.{◌≡◌, ℕ, Bool, true, false, List, [], ◌∷◌, ◌++◌, Option, Some, None}
+use Rattle.std.specs.Prelude.{◌≡◌, ℕ, Bool, true, false, List, [], ◌∷◌, ◌++◌, Option, Some, None, option_to_list}
 use Rattle.meta_format.specs.Limits.{limits}
 use Rattle.meta_format.specs.Stream.{Outer}
 use Rattle.meta_format.specs.Faults.{Kind}
@@ -10,7 +10,7 @@ use Rattle.plugin_core.specs.declared.step.Step.{Step}
 use Rattle.plugin_core.specs.Past.{Event, received, stream_of}
 use Rattle.plugin_core.specs.Answers.{answers_of, ask_of}
 use Rattle.plugin_core.specs.Items.{waiting_of, prompt_of}
-use Rattle.plugin_core.specs.Steps.{Reads, step_of}
+use Rattle.plugin_core.specs.Steps.{Reads, closed_by, step_of}
 
 -- what a life keeps: the reader of its stream, the ask point of the first item that waits (or of the banner), whether
 -- the banner has closed, the items that wait, and the latest prompt
@@ -51,5 +51,7 @@ pub record Takes (past : List Event) (before : List Outer) (piece : List ℕ) (s
   pub after : List Outer
   pub fault : Option Kind
   pub reads : Reads (stream_of (past ++ received piece ∷ [])) after fault
+  -- the answers before stay, and at most one closes
+  pub answers : answers_of (past ++ received piece ∷ []) after ≡ answers_of past before ++ option_to_list (closed_by past before (received piece) after)
   pub gives : step ≡ step_of past before piece after fault
   pub then : GoesOn life (past ++ received piece ∷ []) after fault
