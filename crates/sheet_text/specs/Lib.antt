@@ -2,3 +2,4 @@ pub mod Escape
 pub mod Blocks
 pub mod Script
 pub mod Texts
+pub mod Laws

@@ -5,6 +5,7 @@ mod blocks;
 mod ends;
 mod escape;
 mod fault;
+pub mod laws;
 pub mod numbers;
 mod parts;
 mod script;
