@@ -64,8 +64,8 @@ fn with_words(before: u64, words: &[Octets]) -> u64
     len
 }
 
-#[tactic(auto, using(crate::proofs::Sizes::size_rules))]
 /// The length of an op's payload in bytes, or 4,294,967,295 where it is longer. It takes no memory.
+#[tactic(auto, using(crate::proofs::Sizes::size_rules))]
 pub fn code_len(op: &Op) -> u64
     requires { HasCode op.now }
     ensures { result ≡ min (length (code_of op.now)) LONGEST_TOLD }

@@ -38,6 +38,7 @@ fn put_words(words: &[Octets], out: &mut Vec<u8>) -> Result<(), OutOfMemory>
     Ok(())
 }
 
+// Writes a block. Its node tells that it is one, so that its spelling is read again.
 fn put_block(block: &Block, out: &mut Vec<u8>) -> Result<(), OutOfMemory>
     ensures spelled { OnOk result (out.new.items ≡ out.old.items ++ canonical block.now) }
     ensures right { is_block block.now ≡ true }
