@@ -35,6 +35,7 @@ number_is_decimal bytes n h = go (is_numeral bytes) (nat_le v GREATEST_NUMBER) r
   where
     v : ℕ
     v = digits_value 10 bytes
+
     go : (a b : Bool) → is_numeral bytes ≡ a → (if a && b then Some v else None) ≡ Some n → (b ≡ true → v ≤ GREATEST_NUMBER) → (n ≤ GREATEST_NUMBER) × (bytes ≡ decimal n)
     go true true e k small =
         let parts = all_four (nat_le 1 (length bytes)) (nat_le (length bytes) MOST_DIGITS) (list_all is_digit bytes) (not (starts_with_zero bytes) || (length bytes == 1)) e in
