@@ -6,11 +6,10 @@ use Rattle.std.proofs.Math.Nat.{le-max_left, le-max_right, max-le}
 use Rattle.block_tree.specs.Tree.{Items, Tree, Piece, text_piece, block_piece, items_of, end, text, block}
 use Rattle.block_tree.specs.Output.{output, no_output, output_items, is_aside, join}
 use Rattle.block_tree.specs.Growing.{text_behind, block_behind}
-use Rattle.block_tree.specs.View.{piece_of, tree_of}
+use Rattle.block_tree.specs.View.{piece_of, tree_of, piece_text, piece_block, tree_roll, tree_out}
 use Rattle.block_tree.specs.declared.tree.Item.{Item}
 use Rattle.block_tree.specs.declared.tree.Item.TheVariants.{Block, Text}
 use Rattle.block_tree.specs.declared.tree.Node.{Node, Node-F, roll-Node, out-Node}
-use Rattle.block_tree.proofs.Views.{piece_text, piece_block, tree_roll, tree_out}
 use Rattle.block_tree.specs.Shape.{is_proper, begins_with_text, is_block_within, is_block, is_tag_name, levels, depth, max_tag, max_depth}
 
 pub text_behind_text : (ps : List Piece) (s t : List ℕ) → text_behind (items_of (ps ++ text_piece s ∷ [])) t ≡ items_of (ps ++ text_piece (s ++ t) ∷ [])

@@ -2,7 +2,7 @@
 use Rattle.std.proofs.Common.{◌≡◌, ℕ, Bool, true, false, not, ◌&&◌, nat_le, max, ◌+◌, length, List, [], ◌∷◌, ◌++◌, map, refl, ap, sym, ◌∙◌, append_assoc, arith, ◌≤◌}
 use Rattle.std.specs.List.{flat_map}
 use Rattle.block_tree.specs.Tree.{Items, Piece, text_piece, block_piece, items_of, put}
-use Rattle.block_tree.specs.View.{piece_of, tree_of}
+use Rattle.block_tree.specs.View.{piece_of, tree_of, tree_out, tree_roll, piece_text, piece_block}
 use Rattle.block_tree.specs.Marks.{open_mark, letter, close_mark, marks_of, marks}
 use Rattle.std.proofs.lemmas.Bool.{and_from, le-leb}
 use Rattle.block_tree.specs.Shape.{is_tag_name, levels, depth, is_block, max_tag, max_depth}
@@ -12,7 +12,6 @@ use Rattle.block_tree.specs.Nodes.{piece_marks, node_marks, item_marks, piece_de
 use Rattle.block_tree.specs.declared.tree.Item.{Item}
 use Rattle.block_tree.specs.declared.tree.Item.TheVariants.{Block, Text}
 use Rattle.block_tree.specs.declared.tree.Node.{Node, Node-F, out-Node, roll-Node}
-use Rattle.block_tree.proofs.Views.{tree_out, tree_roll, piece_text, piece_block}
 
 put_marks : (p : Piece) (rest : Items) → marks_of (put p rest) ≡ piece_marks p ++ marks_of rest
 put_marks (text_piece t) rest = refl

@@ -7,13 +7,13 @@ use crate::compare::same_node;
 use crate::copy::copy_node;
 use crate::shape::{MAX_DEPTH, fits_in, is_plain_node};
 use crate::{Node, OutOfMemory};
-use std::alloc::Global;
 use std::marker::Model;
 
 /// A block: a tree whose tags are right (1 to 64 bytes, each at least 32, no ':' and no '#'), which has
 /// no empty text and no two texts side by side, and at most 32 blocks in one another.
 ///
-/// Contracts see it as its tree. (TeXmacs manual, interfacing: formatted output.)
+/// Contracts see it as its tree. (TeXmacs manual, interfacing: formatted output. What a tag is, and the limits:
+/// docs/PROTOCOL.md, "Spelling of blocks".)
 #[derive(Debug, Drop)]
 pub struct Block {
     pub(crate) node: Node,
@@ -49,7 +49,7 @@ impl Block {
         }
     }
 
-    /// The tree.
+    /// The tree of the block, as plain data.
     pub fn node(&self) -> &Node
         ensures same { tree_of result.now ≡ self.now }
         ensures right { IsTrue (is_block self.now) }
@@ -57,11 +57,11 @@ impl Block {
         &self.node
     }
 
-    /// A copy.
-    pub fn copy(&self, alloc: Global) -> Result<Block, OutOfMemory>
+    /// A copy, by the allocator of this block. It fails where memory is refused.
+    pub fn copy(&self) -> Result<Block, OutOfMemory>
         ensures { IfOk result (λ copy. copy ≡ self.now) }
     {
-        let node = copy_node(alloc, &self.node)?;
+        let node = copy_node(&self.node)?;
         Ok(Block { node })
     }
 }

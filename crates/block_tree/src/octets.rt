@@ -58,11 +58,11 @@ impl Octets {
         self.bytes.extend_from_slice(more)
     }
 
-    /// A copy.
-    pub fn copy(&self, alloc: Global) -> Result<Octets, OutOfMemory>
+    /// A copy, by the allocator of these bytes. It fails where memory is refused.
+    pub fn copy(&self) -> Result<Octets, OutOfMemory>
         ensures { IfOk result (λ copy. copy ≡ self.now) }
     {
-        let bytes = self.bytes.as_slice().to_vec(alloc)?;
+        let bytes = self.bytes.as_slice().to_vec(*self.bytes.allocator())?;
         Ok(Octets { bytes })
     }
 }

@@ -57,7 +57,7 @@ fn without_asides(alloc: Global, node: &Node) -> Result<Node, OutOfMemory>
             }
         }
     }
-    let name = node.tag.name.copy(alloc)?;
+    let name = node.tag.name.copy()?;
     let tag = Tag {
         channel: node.tag.channel,
         name,

@@ -34,7 +34,7 @@ fn output_leaves_the_prompt_and_joins_texts(rt: HostRuntime) -> Result<(), Fail>
     let block = Block::new(answer_with_prompt(alloc)?).map_err(|_| "no block")?;
     let wanted = Block::new(joined).map_err(|_| "no block")?;
     assert!(rt; output_of(alloc, &block)? == wanted);
-    assert!(rt; block.copy(alloc)? == block);
+    assert!(rt; block.copy()? == block);
     assert!(rt; block != wanted);
     Ok(())
 }
@@ -79,6 +79,6 @@ fn lists_keep_what_they_are_given(rt: HostRuntime) -> Result<(), Fail> {
     sequence.push(7u8).map_err(|_| "memory")?;
     assert!(rt; sequence.as_slice() == [7u8].as_slice());
     let text = Text::from_string(String::from_str(alloc, "é")?);
-    assert!(rt; text.copy(alloc)? == text && text.as_str() == "é");
+    assert!(rt; text.copy()? == text && text.as_str() == "é");
     Ok(())
 }

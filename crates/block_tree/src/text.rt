@@ -4,7 +4,6 @@ ghost use Rattle.std.proofs.Common.{rules};
 ghost use Rattle.std.specs.Str.{bytes_eq};
 
 use crate::OutOfMemory;
-use std::alloc::Global;
 use std::marker::Model;
 
 /// A text in UTF-8. Contracts compare it by its bytes, and not by the buffer that holds them.
@@ -48,8 +47,8 @@ impl Text {
         self.text.as_bytes()
     }
 
-    /// A copy.
-    pub fn copy(&self, alloc: Global) -> Result<Text, OutOfMemory>
+    /// A copy, by the allocator of this text. It fails where memory is refused.
+    pub fn copy(&self) -> Result<Text, OutOfMemory>
         ensures { IfOk result (λ copy. copy ≡ self.now) }
     {
         let text = self.text.clone()?;

@@ -155,7 +155,7 @@ impl Life {
     {
         match prompt_of_block(self.alloc, block)? {
             Some(prompt) => Ok(prompt),
-            None => self.prompt.copy(self.alloc),
+            None => self.prompt.copy(),
         }
     }
 

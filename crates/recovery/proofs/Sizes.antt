@@ -1,6 +1,6 @@
 -- Lengths of spellings, part by part.
 use Rattle.std.proofs.Common.{◌≡◌, ℕ, ◌+◌, min, List, [], ◌∷◌, ◌++◌, length, length-append, append_assoc, append-nil, arith}
-use Rattle.block_tree.proofs.Views.{piece_text, piece_block, tree_out, tree_roll}
+use Rattle.block_tree.specs.View.{piece_text, piece_block, tree_out, tree_roll}
 
 -- a part that is added to a capped sum
 pub capped : (most a b c : ℕ) → min (min (a + b) most + c) most ≡ min (a + (b + c)) most

@@ -4,10 +4,9 @@ use Rattle.std.specs.List.{last_or}
 use Rattle.std.proofs.lemmas.List.{take_more, take_all}
 use Rattle.std.proofs.lemmas.Grind.{flat_map-append}
 use Rattle.block_tree.specs.Tree.{text_piece, block_piece}
-use Rattle.block_tree.specs.View.{piece_of, tree_of}
+use Rattle.block_tree.specs.View.{piece_of, tree_of, piece_text, piece_block}
 use Rattle.block_tree.specs.declared.tree.Item.{Item}
 use Rattle.block_tree.specs.declared.tree.Node.{Node, out-Node}
-use Rattle.block_tree.proofs.Views.{piece_text, piece_block}
 use Rattle.sheet_text.specs.Escape.{on_line, on_lines, printed_byte}
 use Rattle.sheet_text.specs.Blocks.{sign, framed, is_bare, shown, block_text, piece_block_text}
 use Rattle.sheet_text.proofs.Appending.{block_text_out}

@@ -1,8 +1,7 @@
 use Rattle.std.proofs.Common.{rules, true, take, ◌∷◌, [], flat_map, ap, sym, ◌∙◌, subst}
 use Rattle.std.proofs.lemmas.Bool.{true≢false}
 use Rattle.std.specs.Io.KnownBytes.{Appends}
-use Rattle.block_tree.proofs.Views.{piece_text, piece_block}
-use Rattle.block_tree.specs.View.{piece_of}
+use Rattle.block_tree.specs.View.{piece_text, piece_block, piece_of}
 use Rattle.sheet_text.specs.Escape.{printed_byte}
 use Rattle.sheet_text.specs.Blocks.{piece_block_text}
 use Rattle.sheet_text.proofs.Appending.{next_item, framed_done, bare_done}
