@@ -103,6 +103,9 @@ impl<D: Disk> Journal<D> {
         ensures any_moment { InModel self.disk ((payloads : List (List ℕ)) → Keeps self.disk.history self.end payloads
             → LeavesOnly (BeforeOrAfter self.disk.history.now payloads frame.now) self.disk.history (disk_after D.view result).history) }
 
+        // The record takes five bytes and its payload's, also over a disk outside the model.
+        ensures ends { IfOk result (λ journal. journal.end ≡ self.end + 5 + length frame.now) }
+
         ensures unchanged { HandsBack result self }
         ensures full { IsFull result ↔ (Fits self.disk.room self.end (length frame.now) → ⊥) }
         ensures faulty { IsFaulty result → Rises self.disk.faults (disk_after D.view result).faults }
