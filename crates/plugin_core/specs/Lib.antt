@@ -1,3 +1,4 @@
+pub mod Limits
 pub mod Past
 pub mod Answers
 pub mod Items

@@ -5,7 +5,7 @@ ghost use Rattle.meta_format.specs.Stream.{Outer};
 ghost use Rattle.plugin_core.specs.Past.{Event, accepted, received};
 ghost use Rattle.plugin_core.specs.Items.{waiting_of, prompt_of, is_line_of};
 ghost use Rattle.plugin_core.specs.Steps.{sent_by};
-ghost use Rattle.plugin_core.specs.declared.limits.TheConstants.{MOST_WAITING as most_waiting};
+ghost use Rattle.plugin_core.specs.Limits.{most_waiting};
 
 use crate::item::bytes_for;
 use crate::limits::MOST_WAITING;
@@ -38,7 +38,7 @@ pub struct Life {
 impl Model for Life {
     ghost use Rattle.std.specs.Prelude.{◌≡◌, ◌≤◌, false, length};
     ghost use Rattle.plugin_core.specs.Kept.{Kept, IsFed};
-    ghost use Rattle.plugin_core.specs.declared.limits.TheConstants.{MOST_WAITING as most_waiting};
+    ghost use Rattle.plugin_core.specs.Limits.{most_waiting};
 
     ghost Value = { Kept };
 
@@ -148,26 +148,29 @@ impl Life {
         }
     }
 
-    /// How many items have no answer yet, the one that is asked among them.
+    /// How many items have no answer yet, the one that is asked among them: at most 1,024.
+    ///
+    /// Of a life that is over nothing is claimed but that the call returns.
     pub fn waiting(&self) -> u32
-        requires { self.now.over ≡ false }
         ensures { (past : List Event) (blocks : List Outer) → Stands self.now past blocks → result ≡ length (waiting_of past blocks) }
     {
         self.waiting.len() as u32
     }
 
     /// Whether a line for the field with this number has no answer yet.
+    ///
+    /// Of a life that is over nothing is claimed but that the call returns.
     pub fn waits_for(&self, id: u32) -> bool
-        requires { self.now.over ≡ false }
         ensures { (past : List Event) (blocks : List Outer) → Stands self.now past blocks → result ≡ list_any (λ item. is_line_of id item) (waiting_of past blocks) }
     {
         has_line(&self.waiting, id)
     }
 
     /// The prompt that an item asked now would have: that of the latest answer that has one, cut to its
-    /// first 1,024 bytes, or `> `.
+    /// first 1,024 bytes, or `> ` where none has.
+    ///
+    /// Of a life that is over nothing is claimed but that the call returns.
     pub fn prompt(&self) -> &[u8]
-        requires { self.now.over ≡ false }
         ensures { (past : List Event) (blocks : List Outer) → Stands self.now past blocks → result.now ≡ prompt_of past blocks }
     {
         self.prompt.as_slice()
