@@ -6,3 +6,4 @@ pub mod SoundLaws
 pub mod OneMore
 pub mod SheetLaws
 pub mod Existence
+pub mod NextLaws

@@ -3,7 +3,7 @@
 use Rattle.std.specs.Prelude.{ℕ, ◌≡◌, ◌==◌, ◌||◌, ◌&&◌, not, Bool, true, List, [], ◌∷◌, ◌++◌, length, map, nat_le, nat_lt, Option, Some, None, is_some, if◌then◌else◌}
 use Rattle.std.specs.List.{find, list_any, list_all, zip}
 use Rattle.std.specs.Str.{bytes_eq, is_utf8}
-use Rattle.worksheet.specs.declared.limits.TheConstants.{MOST_SESSIONS, MOST_WORDS, LONGEST_WORD, MOST_FIELDS, LAST_NUMBER, LONGEST_INPUT, LONGEST_PROMPT}
+use Rattle.worksheet.specs.Limits.{most_sessions, most_words, longest_word, most_fields, last_number, longest_input, longest_prompt}
 use Rattle.worksheet.specs.declared.refusal.Refusal.{Refusal}
 use Rattle.worksheet.specs.declared.refusal.Refusal.TheVariants as refusal
 use Rattle.worksheet.specs.declared.op.Op.{Op}
@@ -24,15 +24,15 @@ is_input_byte byte = is_no_control byte || (byte == 9)
 
 -- an input: UTF-8, at most 4,095 bytes, with no character below U+0020 but TAB
 abbrev pub is_input : List ℕ → Bool
-is_input bytes = nat_le (length bytes) LONGEST_INPUT && list_all is_input_byte bytes && is_utf8 bytes
+is_input bytes = nat_le (length bytes) longest_input && list_all is_input_byte bytes && is_utf8 bytes
 
 -- a word: 1 to 1,024 bytes of UTF-8 with no byte below 32
 abbrev pub is_word : List ℕ → Bool
-is_word bytes = nat_le 1 (length bytes) && nat_le (length bytes) LONGEST_WORD && list_all is_no_control bytes && is_utf8 bytes
+is_word bytes = nat_le 1 (length bytes) && nat_le (length bytes) longest_word && list_all is_no_control bytes && is_utf8 bytes
 
 -- 1 to 16 words
 abbrev pub are_words : List (List ℕ) → Bool
-are_words words = nat_le 1 (length words) && nat_le (length words) MOST_WORDS && list_all is_word words
+are_words words = nat_le 1 (length words) && nat_le (length words) most_words && list_all is_word words
 
 -- the field with this number
 abbrev pub field_in : List Field → ℕ → Option Field
@@ -66,14 +66,14 @@ refusals sheet (op.Session name tab words) =
     (refusal.BadName, not (is_name name))
     ∷ (refusal.SessionExists, has_session sheet name)
     ∷ (refusal.BadWords, not (are_words words))
-    ∷ (refusal.TooManySessions, nat_le MOST_SESSIONS (length sheet.sessions))
+    ∷ (refusal.TooManySessions, nat_le most_sessions (length sheet.sessions))
     ∷ []
 refusals sheet (op.New after session input) =
     (refusal.NoSession, not (has_session sheet session))
     ∷ (refusal.NoField, not (has_place sheet after))
     ∷ (refusal.BadInput, not (is_input input))
-    ∷ (refusal.TooManyFields, nat_le MOST_FIELDS (length sheet.fields))
-    ∷ (refusal.IdsSpent, nat_lt LAST_NUMBER sheet.next)
+    ∷ (refusal.TooManyFields, nat_le most_fields (length sheet.fields))
+    ∷ (refusal.IdsSpent, nat_lt last_number sheet.next)
     ∷ []
 refusals sheet (op.Set id input) =
     (refusal.NoField, not (has_field sheet id))
@@ -92,7 +92,7 @@ refusals sheet (op.Clear id) =
     ∷ []
 refusals sheet (op.Answer id prompt output) =
     (refusal.NoField, not (has_field sheet id))
-    ∷ (refusal.BadInput, nat_lt LONGEST_PROMPT (length prompt))
+    ∷ (refusal.BadInput, nat_lt longest_prompt (length prompt))
     ∷ []
 
 -- the first that applies
