@@ -2,6 +2,8 @@ pub mod Pasts
 pub mod Spans
 pub mod Asks
 pub mod OneMore
+pub mod Told
 pub mod Pieces
 pub mod ByAskPoints
 pub mod Readings
+pub mod Prompts

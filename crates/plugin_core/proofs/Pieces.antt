@@ -1,6 +1,6 @@
 -- What a life keeps and tells, after one more item or one more piece.
 use Rattle.std.proofs.Common.{◌≡◌, ℕ, ◌+◌, List, [], ◌∷◌, ◌++◌, length, drop, refl, ap, sym, ◌∙◌, subst, arith, true, false, Option, Some, None, suc, zero, unwrap_or, length-append}
-use Rattle.std.specs.Prelude.{option_to_list, slice_get, option_map, option_and_then}
+use Rattle.std.specs.Prelude.{is_some, option_to_list, slice_get, option_map, option_and_then}
 use Rattle.std.proofs.lemmas.List.{append-nil, drop-drop}
 use Rattle.block_tree.specs.Tree.{Tree}
 use Rattle.block_tree.specs.Output.{output}
@@ -22,10 +22,11 @@ use Rattle.plugin_core.specs.Answers.{answers_of, ask_of}
 use Rattle.plugin_core.specs.Blocks.{prompt_in, default_in, prompt_behind, first_prompt}
 use Rattle.plugin_core.specs.Items.{unanswered, waiting_of, prompt_of, bytes_of, answer_to, answer_behind}
 use Rattle.plugin_core.specs.Steps.{reason_of, closed_by, sent_by, answered_with, step_of}
-use Rattle.plugin_core.specs.Kept.{Kept, Stands, Takes, has_banner}
+use Rattle.plugin_core.specs.Kept.{Kept, Stands, Accepts, Takes, has_banner}
 use Rattle.plugin_core.specs.Changes.{answer_first, waiting_then, ask_then, Joins, closed_in, closing_by, waiting_after, Passes, Breaks, EndsAt}
 use Rattle.plugin_core.proofs.Pasts.{stream_of-received, stream_of-accepted, items_of-received}
 use Rattle.plugin_core.proofs.Spans.{LieWithin, LieWithin-behind, LieWithin-closed, stream_lies}
+use Rattle.plugin_core.proofs.Told.{told-received, silent-received}
 use Rattle.plugin_core.proofs.OneMore.{answers_of-accepted, waiting_of-accepted, ask_now-accepted, sent_by-accepted, Adds, answers_of-received, ask_of-received, closed_by-received, sent_by-received, next_ask, next_item}
 
 kept_lies : (k : Known) (s : List ℕ) (bs : List Outer) → HasTaken limits k s bs → LieWithin 0 (length s) bs
@@ -33,12 +34,15 @@ kept_lies k s bs h = stream_lies limits s bs h.tail h.stream
 
 -- A life that takes an item goes on.
 pub takes_item : (old new : Kept) (ts : List Event) (bs : List Outer) (i : Item) → Stands old ts bs → (sent : Option (List ℕ)) → Joins old new i sent
-    → (sent ≡ sent_by ts bs (accepted i) bs) × Stands new (ts ++ accepted i ∷ []) bs
+    → Accepts ts bs i sent new
 takes_item old new ts bs i s sent j =
     let l = kept_lies old.reader (stream_of ts) bs s.reader in
-    let a = answers_of-accepted ts bs i l in (
-      j.sent ∙ (rw (s.greeted, s.waiting) (sent_by-accepted ts bs i l)),
-      record {
+    let a = answers_of-accepted ts bs i l in
+    record {
+      answers = a;
+      waiting = waiting_of-accepted ts bs i l;
+      gives = j.sent ∙ (rw (s.greeted, s.waiting) (sent_by-accepted ts bs i l));
+      then = record {
         goes_on = j.over ∙ s.goes_on;
         reader = subst (λ (r : Known). HasTaken limits r (stream_of (ts ++ accepted i ∷ [])) bs) (sym j.reader)
             (subst (λ (b : List ℕ). HasTaken limits old.reader b bs) (sym (stream_of-accepted ts i)) s.reader);
@@ -46,8 +50,8 @@ takes_item old new ts bs i s sent j =
         greeted = j.greeted ∙ s.greeted ∙ ap has_banner (sym a);
         waiting = j.waiting ∙ ap (λ q. q ++ i ∷ []) s.waiting ∙ sym (waiting_of-accepted ts bs i l);
         prompt = j.prompt ∙ s.prompt ∙ ap (λ fs. prompt_behind first_prompt fs) (sym a);
-      },
-    )
+      };
+    }
 
 -- One more answer.
 
@@ -124,6 +128,10 @@ passes_gives old mid new ts bs p fs step s fed over taken close h =
       reads = ((taken_now.tail, taken_now.stream), taken_now.no_fault);
       answers = answers_of-received ts bs p fs a ∙ ap (λ o. answers_of ts bs ++ option_to_list o) (sym (closed_by-received ts bs p fs a));
       gives = parts.0;
+      told = ap (λ (x : Step). is_some x.answered) parts.0 ∙ told-received ts bs p fs None a;
+      silent = λ none.
+          let n = silent-received ts bs p fs None a none in
+          (ap (λ (x : Step). x.default_input) parts.0 ∙ n.0, ap (λ (x : Step). x.send) parts.0 ∙ n.1);
       then = parts.1;
     }
   where
@@ -198,16 +206,21 @@ breaks_gives old mid new ts bs p fs at kind step s fed fault close h =
     let e : closed_in mid.ask fs ≡ o = ap (λ ask. closed_in ask fs) (fed.ask ∙ s.ask) in
     let c : closed_by ts bs (received p) (bs ++ fs) ≡ o = closed_by-received ts bs p fs a in
     let k = h.closing ∙ ap (λ o. closing_by o mid) e ∙ closing_first old mid ts bs o s fed in
+    let gives : step ≡ step_of ts bs p (bs ++ fs) (Some kind) = same_step step _ _ _ _
+    (ap (λ (x : Closing). x.answered) k ∙ sym (ap (λ o. option_and_then (answered_with ts bs) o) c))
+    (ap (λ (x : Closing). x.default_input) k ∙ sym (ap (λ o. option_and_then (λ (b : Outer). default_in b.block) o) c))
+    h.send
+    (h.ended ∙ ap (λ is. Some (record { reason = reason_of kind; lost = is })) (ap (λ o. waiting_after o mid) e ∙ waiting_after-received old mid ts bs p fs o s fed a refl)) in
     record {
       after = bs ++ fs;
       fault = Some kind;
       reads = (at, subst (λ (t : List ℕ). Faults limits t at kind (bs ++ fs)) (sym (stream_of-received ts p)) fault);
       answers = answers_of-received ts bs p fs a ∙ ap (λ o. answers_of ts bs ++ option_to_list o) (sym (closed_by-received ts bs p fs a));
-      gives = same_step step _ _ _ _
-          (ap (λ (x : Closing). x.answered) k ∙ sym (ap (λ o. option_and_then (answered_with ts bs) o) c))
-          (ap (λ (x : Closing). x.default_input) k ∙ sym (ap (λ o. option_and_then (λ (b : Outer). default_in b.block) o) c))
-          h.send
-          (h.ended ∙ ap (λ is. Some (record { reason = reason_of kind; lost = is })) (ap (λ o. waiting_after o mid) e ∙ waiting_after-received old mid ts bs p fs o s fed a refl));
+      gives = gives;
+      told = ap (λ (x : Step). is_some x.answered) gives ∙ told-received ts bs p fs (Some kind) a;
+      silent = λ none.
+          let n = silent-received ts bs p fs (Some kind) a none in
+          (ap (λ (x : Step). x.default_input) gives ∙ n.0, ap (λ (x : Step). x.send) gives ∙ n.1);
       then = h.over;
     }
 

@@ -31,8 +31,3 @@ pub data IsAnswer (past : List Event) (blocks : List Outer) : ℕ → Outer → 
 abbrev pub AnswersByAskPoints : Type 0
 AnswersByAskPoints = (past : List Event) (blocks : List Outer) (fault : Option Kind) → Reads (stream_of past) blocks fault
     → (k : ℕ) (b : Outer) → IsAnswer past blocks k b ↔ (slice_get (answers_of past blocks) k ≡ Some b)
-
--- A stream has one list of blocks before its fault, and one fault or none.
-abbrev pub OneReading : Type 0
-OneReading = (s : List ℕ) (blocks others : List Outer) (fault other : Option Kind) → Reads s blocks fault → Reads s others other
-    → (blocks ≡ others) × (fault ≡ other)

@@ -1,5 +1,5 @@
 -- What a life keeps, and which pasts it stands for.
-use Rattle.std.specs.Prelude.{◌≡◌, ℕ, Bool, true, false, List, [], ◌∷◌, ◌++◌, Option, Some, None, option_to_list}
+use Rattle.std.specs.Prelude.{◌≡◌, ℕ, Bool, true, false, List, [], ◌∷◌, ◌++◌, Option, Some, None, is_some, option_to_list}
 use Rattle.meta_format.specs.Limits.{limits}
 use Rattle.meta_format.specs.Stream.{Outer}
 use Rattle.meta_format.specs.Faults.{Kind}
@@ -7,10 +7,10 @@ use Rattle.meta_format.specs.Reader.{Known}
 use Rattle.meta_format.specs.Reader.{Stands as HasTaken}
 use Rattle.plugin_core.specs.declared.item.Item.{Item}
 use Rattle.plugin_core.specs.declared.step.Step.{Step}
-use Rattle.plugin_core.specs.Past.{Event, received, stream_of}
+use Rattle.plugin_core.specs.Past.{Event, accepted, received, stream_of}
 use Rattle.plugin_core.specs.Answers.{answers_of, ask_of}
 use Rattle.plugin_core.specs.Items.{waiting_of, prompt_of}
-use Rattle.plugin_core.specs.Steps.{Reads, closed_by, step_of}
+use Rattle.plugin_core.specs.Steps.{Reads, closed_by, sent_by, step_of}
 
 -- what a life keeps: the reader of its stream, the ask point of the first item that waits (or of the banner), whether
 -- the banner has closed, the items that wait, and the latest prompt
@@ -45,7 +45,15 @@ abbrev pub GoesOn : Kept → List Event → List Outer → Option Kind → Type 
 GoesOn life past blocks None = Stands life past blocks
 GoesOn life past blocks (Some kind) = life.over ≡ true
 
--- What a piece gives behind a past whose stream has these blocks: the answer of the definitions, and the life goes on or ends.
+-- What an item gives that is accepted after a past whose stream has these blocks: the bytes that are sent now, if any. No answer
+-- closes, the item waits behind the others, and the life goes on.
+pub record Accepts (past : List Event) (blocks : List Outer) (item : Item) (sent : Option (List ℕ)) (life : Kept) : Type 0 where
+  pub answers : answers_of (past ++ accepted item ∷ []) blocks ≡ answers_of past blocks
+  pub waiting : waiting_of (past ++ accepted item ∷ []) blocks ≡ waiting_of past blocks ++ item ∷ []
+  pub gives : sent ≡ sent_by past blocks (accepted item) blocks
+  pub then : Stands life (past ++ accepted item ∷ []) blocks
+
+-- What a piece gives after a past whose stream has these blocks: the answer of the definitions, and the life goes on or ends.
 pub record Takes (past : List Event) (before : List Outer) (piece : List ℕ) (step : Step) (life : Kept) : Type 0 where
   -- the blocks of the stream with the piece, and its fault
   pub after : List Outer
@@ -54,4 +62,7 @@ pub record Takes (past : List Event) (before : List Outer) (piece : List ℕ) (s
   -- the answers before stay, and at most one closes
   pub answers : answers_of (past ++ received piece ∷ []) after ≡ answers_of past before ++ option_to_list (closed_by past before (received piece) after)
   pub gives : step ≡ step_of past before piece after fault
+  -- an answer that closes is told, and where none closes there is no default input and nothing is sent
+  pub told : is_some step.answered ≡ is_some (closed_by past before (received piece) after)
+  pub silent : closed_by past before (received piece) after ≡ None → (step.default_input ≡ None) × (step.send ≡ None)
   pub then : GoesOn life (past ++ received piece ∷ []) after fault

@@ -6,4 +6,5 @@ pub mod Blocks
 pub mod Steps
 pub mod AskPoints
 pub mod Kept
+pub mod Laws
 pub mod Changes

@@ -1,5 +1,6 @@
 //! Laws of the definitions that the contracts cite. Each function does nothing: its contract is the law.
-ghost use Rattle.plugin_core.specs.AskPoints.{AnswersByAskPoints, OneReading};
+ghost use Rattle.plugin_core.specs.AskPoints.{AnswersByAskPoints};
+ghost use Rattle.plugin_core.specs.Laws.{OneReading, OneStep, ShortPrompts};
 
 /// The answers of a past are those that its ask points give: each is the first block that starts at its
 /// ask point or behind it, and this is where the stream ends after the later of two events, the one that
@@ -8,10 +9,22 @@ pub fn answers_by_ask_points()
     ensures { AnswersByAskPoints }
 {}
 
-/// A stream has one reading: its blocks before its fault, and that fault. So a piece gives one step.
+/// A stream has one reading: its blocks before its fault, and that fault.
 pub fn one_reading()
     ensures { OneReading }
 {
     meta_format::one_reading();
     meta_format::one_fault();
 }
+
+/// A piece gives one step: what lives tell of it that stand for one past is the same.
+pub fn one_step()
+    ensures { OneStep }
+{
+    one_reading();
+}
+
+/// The prompt after any past has at most 1,024 bytes.
+pub fn short_prompts()
+    ensures { ShortPrompts }
+{}

@@ -1,11 +1,10 @@
 //! One life of an interpreter.
-ghost use Rattle.std.specs.Prelude.{◌≡◌, ◌↔◌, ◌∷◌, ◌++◌, ◌⊎◌, ℕ, List, [], Bool, true, false, length, Some, None, IsTrue, IfOk, IfErr, OnErr, IsErrOf};
+ghost use Rattle.std.specs.Prelude.{◌≡◌, ◌≤◌, ◌↔◌, ◌∷◌, ◌++◌, ◌⊎◌, ℕ, List, [], Bool, true, false, length, Some, None, IsTrue, IfOk, IfErr, OnErr, IsErrOf};
 ghost use Rattle.std.specs.List.{list_any};
 ghost use Rattle.meta_format.specs.Stream.{Outer};
 ghost use Rattle.plugin_core.specs.Past.{Event, accepted, received};
 ghost use Rattle.plugin_core.specs.Items.{waiting_of, prompt_of, is_line_of};
-ghost use Rattle.plugin_core.specs.Steps.{sent_by};
-ghost use Rattle.plugin_core.specs.Limits.{most_waiting};
+ghost use Rattle.plugin_core.specs.Limits.{longest_prompt, most_waiting};
 
 use crate::item::bytes_for;
 use crate::limits::MOST_WAITING;
@@ -38,13 +37,13 @@ pub struct Life {
 impl Model for Life {
     ghost use Rattle.std.specs.Prelude.{◌≡◌, ◌≤◌, false, length};
     ghost use Rattle.plugin_core.specs.Kept.{Kept, IsFed};
-    ghost use Rattle.plugin_core.specs.Limits.{most_waiting};
+    ghost use Rattle.plugin_core.specs.Limits.{longest_prompt, most_waiting};
 
     ghost Value = { Kept };
 
     ghost view = { λ life. record { number = life.number; over = life.over; reader = life.reader; ask = life.ask; greeted = life.greeted; waiting = life.waiting.items; prompt = life.prompt } };
 
-    ghost invariant = { λ life. (length life.waiting.items ≤ most_waiting) × (life.over ≡ false → IsFed life.reader) };
+    ghost invariant = { λ life. (length life.waiting.items ≤ most_waiting) × (life.over ≡ false → IsFed life.reader) × (length life.prompt ≤ longest_prompt) };
 }
 
 /// Why an item was not accepted. It is given back.
@@ -57,7 +56,7 @@ pub enum AcceptFault {
 }
 
 impl Life {
-    ghost use Rattle.plugin_core.specs.Kept.{Stands};
+    ghost use Rattle.plugin_core.specs.Kept.{Stands, Accepts};
     ghost use Rattle.plugin_core.specs.Changes.{Joins};
 
     /// A life with this number that begins with an item, before the first byte of its stream. The item is
@@ -94,7 +93,7 @@ impl Life {
     /// An error gives the item back, and changes nothing.
     pub fn accept(&mut self, item: Item) -> Result<Option<Octets>, AcceptFault>
         requires { self.old.over ≡ false }
-        ensures ok { (past : List Event) (blocks : List Outer) → Stands self.old past blocks → IfOk result (λ sent. (sent ≡ sent_by past blocks (accepted item) blocks) × Stands self.new (past ++ accepted item ∷ []) blocks) }
+        ensures ok { (past : List Event) (blocks : List Outer) → Stands self.old past blocks → IfOk result (λ sent. Accepts past blocks item sent self.new) }
         ensures full { (past : List Event) (blocks : List Outer) → Stands self.old past blocks → IsErrOf result (AcceptFault.Full item) ↔ (length (waiting_of past blocks) ≡ most_waiting) }
         ensures err { IfErr result (λ fault. (fault ≡ AcceptFault.Full item) ⊎ (fault ≡ AcceptFault.OutOfMemory item)) }
         ensures same { OnErr result (self.new ≡ self.old) }
@@ -171,7 +170,8 @@ impl Life {
     ///
     /// Of a life that is over nothing is claimed but that the call returns.
     pub fn prompt(&self) -> &[u8]
-        ensures { (past : List Event) (blocks : List Outer) → Stands self.now past blocks → result.now ≡ prompt_of past blocks }
+        ensures prompt { (past : List Event) (blocks : List Outer) → Stands self.now past blocks → result.now ≡ prompt_of past blocks }
+        ensures short { length result.now ≤ longest_prompt }
     {
         self.prompt.as_slice()
     }

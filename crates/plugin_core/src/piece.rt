@@ -1,10 +1,11 @@
 //! A piece of an interpreter's output.
-ghost use Rattle.std.specs.Prelude.{◌≡◌, ◌∷◌, ◌++◌, ℕ, List, [], true, false, IfOk, OnErr, option_map, option_and_then, slice_get, is_some, unwrap_or, option_copied, nat_le};
+ghost use Rattle.std.specs.Prelude.{◌≡◌, ◌≤◌, ◌∷◌, ◌++◌, ℕ, List, [], length, true, false, IfOk, OnErr, option_map, option_and_then, slice_get, is_some, unwrap_or, option_copied, nat_le};
 ghost use Rattle.std.specs.List.{find};
 ghost use Rattle.meta_format.specs.Stream.{Outer};
 ghost use Rattle.meta_format.specs.Scan.{outer_of, outers};
 ghost use Rattle.plugin_core.specs.Past.{Event};
 ghost use Rattle.plugin_core.specs.Answers.{first_from};
+ghost use Rattle.plugin_core.specs.Limits.{longest_prompt};
 ghost use Rattle.plugin_core.specs.Blocks.{prompt_in};
 ghost use Rattle.plugin_core.specs.Items.{bytes_of, answer_to};
 
@@ -151,7 +152,8 @@ impl Life {
 
     /// The prompt of a block, or else the latest one.
     fn prompt_behind(&self, block: &Block) -> Result<Octets, OutOfMemory>
-        ensures { IfOk result (λ prompt. prompt ≡ unwrap_or (prompt_in block.now) self.now.prompt) }
+        ensures value { IfOk result (λ prompt. prompt ≡ unwrap_or (prompt_in block.now) self.now.prompt) }
+        ensures short { IfOk result (λ prompt. length prompt ≤ longest_prompt) }
     {
         match prompt_of_block(self.alloc, block)? {
             Some(prompt) => Ok(prompt),

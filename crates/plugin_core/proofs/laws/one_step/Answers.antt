@@ -1,0 +1,5 @@
+use Rattle.plugin_core.proofs.Readings.{one_of_steps}
+use Rattle.plugin_core.proofs.laws.one_step.Goals as goal
+
+pub returns : goal.returns
+returns c = one_of_steps c.one_reading.ensures
