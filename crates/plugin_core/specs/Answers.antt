@@ -3,12 +3,13 @@ use Rattle.std.specs.Prelude.{ℕ, max, nat_le, List, [], ◌∷◌, Option, Som
 use Rattle.meta_format.specs.Stream.{Outer}
 use Rattle.plugin_core.specs.Past.{Event, places_from, ends_from}
 
--- the first of these blocks that starts at the ask point or behind it
+-- the first of these blocks that starts at or after the ask point
 abbrev pub first_from : ℕ → List Outer → Option Outer
 first_from ask [] = None
 first_from ask (b ∷ bs) = if nat_le ask b.start then Some b else first_from ask bs
 
--- the length of the stream after the piece with the last byte of a block: the first of these ends that is not before its stop
+-- The length of the stream after the piece with the last byte of a block, where the pieces end there: the first of these ends that
+-- is not before its stop. A block of the stream has one; the first line is for a stop that lies past them all.
 abbrev pub end_behind : List ℕ → ℕ → ℕ
 end_behind [] stop = stop
 end_behind (e ∷ ends) stop = if nat_le stop e then e else end_behind ends stop
@@ -20,7 +21,7 @@ if_found (Some b) none some = some b
 
 -- The answers, where `places` has the length of the stream at which each item was accepted, `closed` is its length after the
 -- event that closed the answer before the first of them, and `ends` are its lengths after each piece. The ask point is the
--- later of `place` and `closed`, and the answer is the first block that starts there or behind it.
+-- later of `place` and `closed`, and the answer is the first block that starts at or after it.
 abbrev pub answers_from : List ℕ → List Outer → ℕ → List ℕ → List Outer
 answers_from ends blocks closed [] = []
 answers_from ends blocks closed (place ∷ places) =

@@ -13,19 +13,19 @@ length_after past n = length (stream_of (take n past))
 
 -- The event at this place, counted from 0, closes the block: its piece has the last byte of it.
 abbrev pub ClosesIn : List Event → ℕ → Outer → Type 0
-ClosesIn past e b = (length_after past e < b.stop) × (b.stop ≤ length_after past (suc e))
+ClosesIn past event b = (length_after past event < b.stop) × (b.stop ≤ length_after past (suc event))
 
 -- The event at this place accepts the item with this number, counted from 1.
 abbrev pub AcceptsIn : List Event → ℕ → ℕ → Type 0
-AcceptsIn past f k = (item : Item) × (slice_get past f ≡ Some (accepted item)) × (suc (length (items_of (take f past))) ≡ k)
+AcceptsIn past event k = (item : Item) × (slice_get past event ≡ Some (accepted item)) × (suc (length (items_of (take event past))) ≡ k)
 
 -- Answer 0, the banner, is the first block of the stream. The ask point of an item is the length of the stream after the later
 -- of two events: the one in which the answer before it closes, and the one that accepts the item. Its answer is the first
--- block that starts at the ask point or behind it.
+-- block that starts at or after the ask point.
 pub data IsAnswer (past : List Event) (blocks : List Outer) : ℕ → Outer → Type 0 where
-  banner : (b : Outer) → first_from 0 blocks ≡ Some b → IsAnswer past blocks 0 b
-  next : (k e f : ℕ) (a b : Outer) → IsAnswer past blocks k a → ClosesIn past e a → AcceptsIn past f (suc k)
-      → first_from (length_after past (suc (max e f))) blocks ≡ Some b → IsAnswer past blocks (suc k) b
+  banner : (answer : Outer) → first_from 0 blocks ≡ Some answer → IsAnswer past blocks 0 answer
+  next : (k closing accepting : ℕ) (before answer : Outer) → IsAnswer past blocks k before → ClosesIn past closing before → AcceptsIn past accepting (suc k)
+      → first_from (length_after past (suc (max closing accepting))) blocks ≡ Some answer → IsAnswer past blocks (suc k) answer
 
 -- The list of a past's answers has them and no others, each at its number.
 abbrev pub AnswersByAskPoints : Type 0

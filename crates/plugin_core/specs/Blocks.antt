@@ -1,4 +1,4 @@
--- What an answer's block says of the lines behind it. (docs/PROTOCOL.md, prompts and default input.)
+-- What an answer's block says of the lines after it. (docs/PROTOCOL.md, prompts and default input.)
 use Rattle.std.specs.Prelude.{ℕ, List, [], ◌∷◌, take, codes, Option, option_map, unwrap_or}
 use Rattle.block_tree.specs.Tree.{Tree}
 use Rattle.block_tree.specs.Output.{text_on_channel}

@@ -11,7 +11,7 @@ use Rattle.plugin_core.specs.Past.{Event, items_of}
 use Rattle.plugin_core.specs.Answers.{answers_of}
 use Rattle.plugin_core.specs.Blocks.{first_prompt, prompt_behind}
 
--- the items behind those that have one of these answers: the first answer is the banner, and the others answer an item each
+-- the items after those that have one of these answers: the first answer is the banner, and the others answer an item each
 abbrev pub unanswered : List Outer → List Item → List Item
 unanswered [] items = items
 unanswered (banner ∷ answers) items = drop (length answers) items
@@ -24,7 +24,7 @@ waiting_of past blocks = unanswered (answers_of past blocks) (items_of past)
 abbrev pub asked_of : List Event → List Outer → List Item
 asked_of past blocks = take (length (answers_of past blocks)) (items_of past)
 
--- the next of a list behind so many
+-- the element of the second list that stands after as many as the first one has
 abbrev pub next_behind : {T : Type 0} → List T → List T → Option T
 next_behind before after = slice_get after (length before)
 
@@ -40,7 +40,7 @@ prompt_of past blocks = prompt_behind first_prompt (answers_of past blocks)
 abbrev pub answer_to : Item → List ℕ → Tree → Answered
 answer_to (item.Line id text) prompt out = answered.Line id prompt out
 
--- What is told of an answer behind these: the first is the banner, and each other one answers an item.
+-- What is told of an answer that comes after these: the first is the banner, and each other one answers an item.
 abbrev pub answer_behind : List Outer → List Item → List ℕ → Tree → Option Answered
 answer_behind [] items prompt b = Some (answered.Banner (output b))
 answer_behind (banner ∷ answers) items prompt b = option_map (λ i. answer_to i prompt (output b)) (slice_get items (length answers))

@@ -31,7 +31,7 @@ has_banner (banner ∷ answers) = true
 abbrev pub IsFed : Known → Type 0
 IsFed reader = (s : List ℕ) × (blocks : List Outer) × HasTaken limits reader s blocks
 
--- The life goes on behind this past, whose stream has these outer blocks and no fault.
+-- The life goes on after this past, whose stream has these outer blocks and no fault.
 pub record Stands (life : Kept) (past : List Event) (blocks : List Outer) : Type 0 where
   pub goes_on : life.over ≡ false
   pub reader : HasTaken limits life.reader (stream_of past) blocks

@@ -38,7 +38,7 @@ abbrev pub unless_ended : Option Kind → Option (List ℕ) → Option (List ℕ
 unless_ended None bytes = bytes
 unless_ended (Some kind) bytes = None
 
--- what is told of a block that answers behind this past
+-- what is told of a block that is the next answer after this past
 abbrev pub answered_with : List Event → List Outer → Outer → Option Answered
 answered_with past before b = answer_behind (answers_of past before) (items_of past) (prompt_of past before) b.block
 
@@ -46,7 +46,7 @@ answered_with past before b = answer_behind (answers_of past before) (items_of p
 abbrev pub ended_by : List Event → List Outer → Kind → Ended
 ended_by past blocks kind = record { reason = reason_of kind; lost = waiting_of past blocks }
 
--- What a piece gives behind a past, where these are the blocks of the stream before it and after it, and this the fault
+-- What a piece gives after a past, where these are the blocks of the stream before it and after it, and this the fault
 -- that it brings.
 abbrev pub step_of : List Event → List Outer → List ℕ → List Outer → Option Kind → Step
 step_of past before piece after fault = record {

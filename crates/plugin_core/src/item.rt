@@ -6,9 +6,10 @@ use block_tree::{Octets, OutOfMemory};
 use std::alloc::Global;
 
 /// What an interpreter is asked: one at a time, in the order of their coming.
-#[derive(Drop)]
+#[derive(Debug, Drop)]
 pub enum Item {
-    /// A line of input, for the field with this number. Its text has no line feed.
+    /// A line of input, for the field with this number. The caller sees to it that its text has no line
+    /// feed, which would make two lines of it; the inputs of a worksheet have none.
     Line { id: u32, text: Octets },
 }
 

@@ -2,8 +2,8 @@
 ghost use Rattle.plugin_core.specs.AskPoints.{AnswersByAskPoints};
 ghost use Rattle.plugin_core.specs.Laws.{OneReading, OneStep, ShortPrompts};
 
-/// The answers of a past are those that its ask points give: each is the first block that starts at its
-/// ask point or behind it, and this is where the stream ends after the later of two events, the one that
+/// The answers of a past are those that its ask points give: each is the first block that starts at or
+/// after its ask point, and this is where the stream ends after the later of two events, the one that
 /// closes the answer before and the one that accepts the item.
 pub fn answers_by_ask_points()
     ensures { AnswersByAskPoints }

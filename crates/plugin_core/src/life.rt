@@ -47,7 +47,7 @@ impl Model for Life {
 }
 
 /// Why an item was not accepted. It is given back.
-#[derive(Drop)]
+#[derive(Debug, Drop)]
 pub enum AcceptFault {
     /// 1,024 items wait.
     Full(Item),

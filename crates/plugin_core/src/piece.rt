@@ -29,7 +29,7 @@ impl Life {
     ghost use Rattle.plugin_core.specs.Changes.{Closes, Passes, Breaks, EndsAt, closed_in, answer_first, ask_then, waiting_then};
 
     /// Takes the next piece of the interpreter's output, which may be cut anywhere, and tells the answer
-    /// that it closes and what is to be sent now. A fault of the stream ends the life behind that answer.
+    /// that it closes and what is to be sent now. A fault of the stream ends the life after that answer.
     ///
     /// After want of memory the life is over. Blocks that answer nothing are dropped here.
     pub fn piece(&mut self, piece: &[u8]) -> Result<Step, OutOfMemory>
@@ -52,7 +52,7 @@ impl Life {
         step
     }
 
-    /// The end of the life, behind the answer that closes before the fault.
+    /// The end of the life, after the answer that closes before the fault.
     fn end_at(&mut self, fault: FeedFault) -> Result<Step, OutOfMemory>
         requires works { fault ≡ FeedFault.Failed → ⊥ }
         requires over { self.old.over ≡ true }
@@ -96,7 +96,7 @@ impl Life {
         })
     }
 
-    /// The blocks of a piece with a fault behind them.
+    /// The blocks of a piece with a fault after them.
     fn break_off(&mut self, reason: Reason, found: &[Found]) -> Result<Step, OutOfMemory>
         requires { self.old.over ≡ true }
         ensures ok { IfOk result (λ step. Breaks (closed_in self.old.ask (outers found.now)) self.old self.new reason step) }
@@ -198,7 +198,7 @@ impl Life {
     }
 }
 
-/// The first block that starts at the ask point or behind it.
+/// The first block that starts at or after the ask point.
 fn first_behind(found: &[Found], ask: u64) -> Option<&Found>
     ensures { option_copied result ≡ find (λ block. nat_le ask block.start) found.now }
 {

@@ -30,7 +30,7 @@ pub enum Reason {
 /// What an outer block answers.
 #[derive(Drop)]
 pub enum Answered {
-    /// The first block of an interpreter: its output.
+    /// The banner, which is the first block of an interpreter: the output of this block.
     Banner(Block),
     /// The answer to a line: the number of its field, the prompt that the line had, and the output.
     Line {
@@ -40,9 +40,10 @@ pub enum Answered {
     },
 }
 
-/// The end of a life.
+/// The end of a life. (docs/PROTOCOL.md, how a life ends.)
 #[derive(Drop)]
 pub struct Ended {
+    /// The fault of its stream, or what `finish` was told.
     pub reason: Reason,
     /// The items without an answer, in order.
     pub lost: Queue<Item>,
