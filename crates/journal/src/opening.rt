@@ -1,5 +1,5 @@
 // Making a journal's disk, and reading it.
-ghost use Rattle.std.specs.Prelude.{◌≡◌, ◌≤◌, ◌<◌, ◌⊎◌, [], List, ℕ, length, IfOk, IfErr, OnOk, IsErrOf, MatchResult};
+ghost use Rattle.std.specs.Prelude.{◌≡◌, ◌≤◌, ◌<◌, ◌⊎◌, [], List, ℕ, length, IfOk, IfErr, OnErr, OnOk, IsErrOf, MatchResult};
 ghost use Rattle.disk_model.specs.Disk.{InModel, Looks, SameDisk, Rises, content_of};
 ghost use Rattle.journal.specs.Area.{created};
 ghost use Rattle.journal.specs.Kept.{Keeps, Holds};
@@ -91,6 +91,10 @@ pub fn create<D: Disk>(disk: D) -> Result<D, CreateFault<D>>
     ensures bytes { InModel (D.view disk) (IfOk result (λ d. content_of (D.view d).history ≡ record { first = created; second = [] })) }
 
     ensures not_empty { InModel (D.view disk) (IfErr result (λ e. e.cause ≡ CreateCause.NotEmpty → (AreEmpty (content_of (D.view disk).history) → ⊥) × Looks (D.view disk).history (D.view e.disk).history)) }
+
+    // A disk that isn't empty is left as it was, whatever fails.
+    ensures untouched { InModel (D.view disk) (IfErr result (λ e. (AreEmpty (content_of (D.view disk).history) → ⊥) → Looks (D.view disk).history (D.view e.disk).history)) }
+
     ensures faulty { IfErr result (λ e. e.cause ≡ CreateCause.Disk → Rises (D.view disk).faults (D.view e.disk).faults) }
 {
     let mut disk = disk;
@@ -107,6 +111,7 @@ fn lay<D: Disk>(disk: &mut D) -> Result<(), CreateCause>
     ensures empty { InModel (D.view disk.old) (OnOk result (AreEmpty (content_of (D.view disk.old).history) × Keeps (D.view disk.new).history 10 [])) }
     ensures bytes { InModel (D.view disk.old) (OnOk result (content_of (D.view disk.new).history ≡ record { first = created; second = [] })) }
     ensures not_empty { InModel (D.view disk.old) (IsErrOf result CreateCause.NotEmpty → (AreEmpty (content_of (D.view disk.old).history) → ⊥) × Looks (D.view disk.old).history (D.view disk.new).history) }
+    ensures untouched { InModel (D.view disk.old) ((AreEmpty (content_of (D.view disk.old).history) → ⊥) → OnErr result (Looks (D.view disk.old).history (D.view disk.new).history)) }
     ensures faulty { IsErrOf result CreateCause.Disk → Rises (D.view disk.old).faults (D.view disk.new).faults }
 {
     let first = disk.len(Area::First)?;
