@@ -13,7 +13,7 @@ use Rattle.worksheet.specs.declared.op.Op.TheVariants as op
 use Rattle.recovery.specs.declared.reading.DecodeFault.{DecodeFault}
 use Rattle.recovery.specs.declared.reading.DecodeFault.TheVariants as faults
 use Rattle.recovery.specs.Code.{kind_of, parts_of, code_of, number, short, long, flag, HasCode, IsTyped, IsPayloadOf}
-use Rattle.recovery.specs.Reading.{Gives, Fails, Finds, session_at, new_at, set_at, remove_at, move_at, clear_at, asked_at}
+use Rattle.recovery.specs.Reading.{ReadsOrFails, Fails, Finds, session_at, new_at, set_at, remove_at, move_at, clear_at, asked_at}
 use Rattle.recovery.proofs.Fields.{number_again, short_again, long_again, words_again}
 
 -- reading the parts of an op of this kind gives the op
@@ -94,12 +94,12 @@ unfolding asked_at
 asked_again id prompt rest typed fits = rw (number_again id (long prompt ++ rest) typed, long_again prompt rest fits) refl
 
 -- what a reader of this kind found
-found : (read : Option Op) (result : Result Op DecodeFault) (o : Op) → Gives (λ x. x) result read → read ≡ Some o → Finds o result
+found : (read : Option Op) (result : Result Op DecodeFault) (o : Op) → ReadsOrFails (λ x. x) result read → read ≡ Some o → Finds o result
 found read (Ok x) o gives is = let same : Some x ≡ Some o = sym gives ∙ is in cc
 found read (Err faults.OutOfMemory) o gives is = tt
 found read (Err faults.Unreadable) o gives is = let no : None ≡ Some o = sym gives ∙ is in absurd cc
 
-pub found_by : (kind : ℕ) (read : List ℕ → Option Op) → IsReader kind read → (bytes rest : List ℕ) → bytes ≡ kind ∷ rest → (result : Result Op DecodeFault) → Gives (λ x. x) result (read rest)
+pub found_by : (kind : ℕ) (read : List ℕ → Option Op) → IsReader kind read → (bytes rest : List ℕ) → bytes ≡ kind ∷ rest → (result : Result Op DecodeFault) → ReadsOrFails (λ x. x) result (read rest)
     → (o : Op) → IsPayloadOf o bytes → Finds o result
 found_by kind read reads bytes rest front result gives o payload =
     let same : kind ∷ rest ≡ kind_of o ∷ parts_of o = sym front ∙ payload.is in

@@ -17,13 +17,14 @@ use Rattle.journal.specs.declared.frame.TheConstants.{MAX_PAYLOAD}
 use Rattle.journal.specs.declared.opening.OpenCause.{OpenCause}
 use Rattle.journal.specs.declared.opening.OpenCause.TheVariants as causes
 use Rattle.journal.specs.Open.{IsPassing}
-use Rattle.recovery.specs.declared.size.TheConstants.{LONGEST_TOLD}
-use Rattle.recovery.specs.Code.{code_of, IsTyped, IsPayloadOf}
+use Rattle.journal.proofs.Unique.{given}
+use Rattle.recovery.specs.Code.{code_of, longest_told, IsTyped, IsPayloadOf}
 use Rattle.recovery.specs.Sheets.{codes_of, Makes, IsSheetImage, IsEither}
 use Rattle.recovery.specs.Taken.{RefusesFrom}
 use Rattle.recovery.specs.declared.base.Base.{Base}
 use Rattle.recovery.specs.declared.base.Base.TheVariants.{Open, Closed}
-use Rattle.recovery.specs.Base.{disk_of, is_closed, KeepsIn, KeepsSheet, IsBaseOf, Holds}
+use Rattle.recovery.specs.Base.{disk_of, is_closed, KeepsIn, KeepsSheet, IsBaseOf, IsStoreOf}
+use Rattle.recovery.specs.Laws.{OneListOfOps, OneSheet}
 use Rattle.recovery.proofs.Unique.{one_op}
 use Rattle.recovery.proofs.Allowed.{allowed_have_code, makes_more, same_next}
 use Rattle.recovery.proofs.Taking.{codes_push}
@@ -44,12 +45,12 @@ on_ok (Ok y) x is holds = holds
 on_ok (Err e) x is holds = cc
 
 -- what fits by a capped length fits
-pub fits_uncapped : (room end n : ℕ) → Fits room end (min n LONGEST_TOLD) → Fits room end n
+pub fits_uncapped : (room end n : ℕ) → Fits room end (min n longest_told) → Fits room end n
 fits_uncapped room end n fits =
     let short : n ≤ MAX_PAYLOAD = omega (arith, fits.0) in
     (short, omega (arith, fits.1, short))
 
-pub made_in : {D : Type 0} (view : D → DiskView) (b : Option (Base D)) (sheet : Contents) → Holds view b sheet → (ops : List Op) × Makes ops sheet
+pub made_in : {D : Type 0} (view : D → DiskView) (b : Option (Base D)) (sheet : Contents) → IsStoreOf view b sheet → (ops : List Op) × Makes ops sheet
 made_in view None sheet holds = absurd holds
 made_in view (Some base) sheet holds = holds.made
 
@@ -123,8 +124,14 @@ same_ops_from before (x ∷ a) (y ∷ b) allowed p q ta tb same =
     let behind : AllowedFrom (before ++ x ∷ []) b = subst (λ (z : Op). AllowedFrom (before ++ z ∷ []) b) (sym first) q.1 in
     ap (λ (z : Op). z ∷ a) first ∙ ap (λ (l : List Op). y ∷ l) (same_ops_from (before ++ x ∷ []) a b (allowed_goes_on before x allowed p.0) p.1 behind ta.1 tb.1 parts.1)
 
+pub one_list_of_ops : OneListOfOps
+one_list_of_ops a b s t i p q stands other = same_ops_from [] a b tt p.allowed q.allowed p.typed q.typed (given i i (codes_of a) (codes_of b) refl stands other)
+
 pub same_sheet : (a b : List Op) (s t : Contents) → Makes a s → Makes b t → codes_of a ≡ codes_of b → s ≡ t
 same_sheet a b s t p q same = p.is ∙ ap sheet_of (same_ops_from [] a b tt p.allowed q.allowed p.typed q.typed same) ∙ sym q.is
+
+pub one_sheet : OneSheet
+one_sheet s t i p q = same_sheet p.ops q.ops s t p.makes q.makes (given i i (codes_of p.ops) (codes_of q.ops) refl p.stands q.stands)
 
 -- no payload of allowed ops is refused
 taken_from : (before ops taken : List Op) (payload : List ℕ) (more : List (List ℕ)) → Allowed before → AllowedFrom before ops → AllowedFrom before taken → AllByRecursion IsTyped ops → AllByRecursion IsTyped taken

@@ -6,3 +6,4 @@ pub mod Unique
 pub mod Allowed
 pub mod Taking
 pub mod Images
+pub mod Kept

@@ -2,9 +2,9 @@
 use Rattle.std.specs.Prelude.{◌≡◌, ℕ, Bool, true, false, List, [], Option, Some, None}
 use Rattle.disk_model.specs.Disk.{DiskView, InModel}
 use Rattle.worksheet.specs.declared.op.Op.{Op}
-use Rattle.worksheet.specs.Contents.{Contents}
+use Rattle.worksheet.specs.Contents.{Contents, Held}
 use Rattle.journal.specs.Kept.{Fits, Keeps}
-use Rattle.recovery.specs.Sheets.{codes_of, Makes}
+use Rattle.recovery.specs.Sheets.{StoreView, codes_of, Makes}
 use Rattle.recovery.specs.declared.base.Base.{Base}
 use Rattle.recovery.specs.declared.base.Base.TheVariants.{Open, Closed}
 
@@ -56,7 +56,11 @@ abbrev pub closed_in : {D : Type 0} → Option (Base D) → Bool
 closed_in None = true
 closed_in (Some base) = is_closed base
 
+-- a store on a base, with this sheet
+abbrev pub store_on : {D : Type 0} → (D → DiskView) → Option (Base D) → Held → StoreView
+store_on view base sheet = record { disk = disk_in view base; end = end_of_base base; sheet = sheet; closed = closed_in base }
+
 -- there is a base, and it is that of this sheet
-abbrev pub Holds : {D : Type 0} → (D → DiskView) → Option (Base D) → Contents → Type 0
-Holds view None sheet = ⊥
-Holds view (Some base) sheet = IsBaseOf view base sheet
+abbrev pub IsStoreOf : {D : Type 0} → (D → DiskView) → Option (Base D) → Contents → Type 0
+IsStoreOf view None sheet = ⊥
+IsStoreOf view (Some base) sheet = IsBaseOf view base sheet

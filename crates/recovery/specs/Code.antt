@@ -54,6 +54,10 @@ IsShort bytes = length bytes < 2 ^ 8
 abbrev pub IsLong : List ℕ → Type 0
 IsLong bytes = length bytes < 2 ^ 16
 
+-- the greatest length of a payload that is told
+abbrev pub longest_told : ℕ
+longest_told = 4294967295
+
 -- each length in the payload fits its field
 abbrev pub HasCode : Op → Type 0
 HasCode (op.Session name tab words) = IsShort name × (length words < 2 ^ 8) × AllByRecursion IsLong words

@@ -7,9 +7,9 @@ use Rattle.recovery.specs.declared.fault.CommitFault.{CommitFault}
 use Rattle.recovery.specs.declared.fault.CommitFault.TheVariants as faults
 
 -- the payload doesn't fit
-abbrev pub IsFull : Result Unit CommitFault → Type 0
-IsFull (Err (faults.Full o)) = Unit {0}
-IsFull other = ⊥
+abbrev pub DoesNotFit : Result Unit CommitFault → Type 0
+DoesNotFit (Err (faults.Full o)) = Unit {0}
+DoesNotFit other = ⊥
 
 -- what a fault leaves: the op is handed back and nothing has changed, or the disk failed, the worksheet is as before, and the
 -- store is closed

@@ -7,9 +7,9 @@ use Rattle.journal.specs.declared.journal.OpenFault.{OpenFault}
 use Rattle.recovery.specs.Sheets.{StoreView}
 
 -- the disk that an opening leaves
-abbrev pub disk_after : {D : Type 0} → (D → DiskView) → Result StoreView (OpenFault D) → DiskView
-disk_after view (Ok store) = store.disk
-disk_after view (Err fault) = view fault.disk
+abbrev pub disk_left : {D : Type 0} → (D → DiskView) → Result StoreView (OpenFault D) → DiskView
+disk_left view (Ok store) = store.disk
+disk_left view (Err fault) = view fault.disk
 
 -- this sheet, or a cause that isn't in the bytes
 abbrev pub GivesSheet : {D : Type 0} → Contents → Result StoreView (OpenFault D) → Type 0

@@ -21,9 +21,9 @@ Fails faults.OutOfMemory read = Unit {0}
 Fails faults.Unreadable read = read ≡ None
 
 -- the same, unless memory ran out
-abbrev pub Gives : {X Y : Type 0} → (X → Y) → Result X DecodeFault → Option Y → Type 0
-Gives view (Ok x) read = read ≡ Some (view x)
-Gives view (Err e) read = Fails e read
+abbrev pub ReadsOrFails : {X Y : Type 0} → (X → Y) → Result X DecodeFault → Option Y → Type 0
+ReadsOrFails view (Ok x) read = read ≡ Some (view x)
+ReadsOrFails view (Err e) read = Fails e read
 
 -- so many bytes, and what stands behind them
 abbrev pub front_at : ℕ → List ℕ → Option (List ℕ × List ℕ)

@@ -7,7 +7,7 @@ use Rattle.worksheet.specs.Contents.{Contents, Held}
 use Rattle.worksheet.specs.Ops.{sheet_of}
 use Rattle.worksheet.specs.Checks.{Allowed, first_refusal, room_for}
 use Rattle.journal.specs.Area.{end_of}
-use Rattle.journal.specs.Kept.{Stands, Fits}
+use Rattle.journal.specs.Kept.{Stands, Keeps, Fits}
 use Rattle.journal.specs.Open.{Tells}
 use Rattle.journal.specs.declared.opening.OpenCause.{OpenCause}
 use Rattle.journal.specs.declared.opening.OpenCause.TheVariants as causes
@@ -29,12 +29,15 @@ pub record IsSheetImage (sheet : Contents) (i : Image) : Type 0 where
   pub stands : Stands i (codes_of ops)
   pub makes : Makes ops sheet
 
+-- the image stands for the payloads of these ops, or for these and the payload of one op more
+abbrev pub StandsWithOrWithout : List Op → Op → Image → Type 0
+StandsWithOrWithout ops o i = Stands i (codes_of ops) ⊎ Stands i (codes_of (ops ++ o ∷ []))
+
 -- an image of the sheet of these ops, or of the sheet with one op more
 abbrev pub IsEither : List Op → Op → Image → Type 0
 IsEither ops o i = IsSheetImage (sheet_of ops) i ⊎ IsSheetImage (sheet_of (ops ++ o ∷ [])) i
 
--- The payload behind this gate is the first that no worksheet has taken: those before it are of ops that make one, and this
--- is of no op that it allows.
+-- The payloads before this gate are those of allowed ops; the payload behind it is of no op that is allowed next.
 pub record IsRefusedAt (payloads : List (List ℕ)) (gate : ℕ) : Type 0 where
   pub ops : List Op
   pub payload : List ℕ
@@ -51,12 +54,20 @@ TellsOfSheet i causes.NotASheet = Tells i causes.NotASheet
 TellsOfSheet i causes.Disk = Unit {0}
 TellsOfSheet i causes.OutOfMemory = Unit {0}
 
--- a store as contracts see it: its disk, the offset of the journal's closed gate, its worksheet, and whether it is closed
+-- a store as contracts see it: its disk, while it is open the offset of the closed gate behind the disk's payloads, its
+-- worksheet, and whether it is closed
 pub record StoreView : Type 0 where
   pub disk : DiskView
   pub end : ℕ
   pub sheet : Held
   pub closed : Bool
+
+-- The store isn't closed, and keeps these ops: its disk stands for their payloads, which are durable, its end is the gate
+-- behind them, and they make its worksheet.
+pub record KeepsOps (store : StoreView) (ops : List Op) : Type 0 where
+  pub still_open : store.closed ≡ false
+  pub keeps : Keeps store.disk.history store.end (codes_of ops)
+  pub makes : Makes ops store.sheet.contents
 
 -- the store isn't closed, and a payload of so many bytes fits on its disk
 abbrev pub HasPlace : StoreView → ℕ → Type 0

@@ -1,5 +1,5 @@
 // What a store stands on.
-ghost use Rattle.std.specs.Prelude.{◌≡◌, ◌++◌, ◌∷◌, ◌↔◌, [], List, ℕ, length, false, true, OnOk, OnErr, IsTrue};
+ghost use Rattle.std.specs.Prelude.{◌≡◌, ◌+◌, ◌++◌, ◌∷◌, ◌↔◌, [], List, ℕ, length, false, true, OnOk, OnErr, IsTrue};
 ghost use Rattle.disk_model.specs.Disk.{InModel, LeavesOnly, SameDisk, Rises};
 ghost use Rattle.journal.specs.Kept.{BeforeOrAfter, Fits};
 
@@ -22,6 +22,7 @@ impl<D: Disk> Base<D> {
 
         ensures same { SameDisk (disk_of D.view self) (disk_of D.view result.0) }
         ensures open { OnOk result.1 (is_closed result.0 ≡ false) }
+        ensures ends { OnOk result.1 (end_in result.0 ≡ end_in self + 5 + length frame.now) }
         ensures closed { OnErr result.1 ((is_closed result.0 ≡ true) × Rises (disk_of D.view self).faults (disk_of D.view result.0).faults) }
 
         ensures ok { InModel (disk_of D.view self) ((payloads : List (List ℕ)) → KeepsIn self payloads → OnOk result.1 (KeepsIn result.0 (payloads ++ frame.now ∷ []))) }

@@ -2,7 +2,7 @@
 ghost use Rattle.std.specs.Prelude.{◌≡◌, length, IfSome, IfOk};
 ghost use Rattle.std.specs.List.{AllByRecursion};
 ghost use Rattle.recovery.specs.Code.{IsShort, IsLong};
-ghost use Rattle.recovery.specs.Reading.{Reads, Gives, front_at, number_at, short_at, long_at, words_at};
+ghost use Rattle.recovery.specs.Reading.{Reads, ReadsOrFails, front_at, number_at, short_at, long_at, words_at};
 
 use crate::DecodeFault;
 use block_tree::{Octets, Sequence};
@@ -56,7 +56,7 @@ pub(crate) fn words_of(
     count: u8,
     bytes: &[u8],
 ) -> Result<Sequence<Octets>, DecodeFault>
-    ensures read { Gives (λ words. words) result (words_at count bytes.now) }
+    ensures read { ReadsOrFails (λ words. words) result (words_at count bytes.now) }
     ensures count { IfOk result (λ words. length words ≡ count) }
     ensures long { IfOk result (AllByRecursion IsLong) }
 {

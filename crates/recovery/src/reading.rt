@@ -3,7 +3,7 @@ ghost use Rattle.std.specs.Prelude.{◌≡◌, ◌∷◌, IfOk, IsErrOf};
 ghost use Rattle.worksheet.specs.declared.op.Op.{Op};
 ghost use Rattle.recovery.specs.declared.reading.DecodeFault.TheVariants.{OutOfMemory};
 ghost use Rattle.recovery.specs.Code.{HasCode, IsLong, IsPayloadOf};
-ghost use Rattle.recovery.specs.Reading.{Gives, Finds, session_at, new_at, set_at, remove_at, move_at, clear_at, asked_at};
+ghost use Rattle.recovery.specs.Reading.{ReadsOrFails, Finds, session_at, new_at, set_at, remove_at, move_at, clear_at, asked_at};
 
 use crate::parts::{long_of, number_of, short_of, words_of};
 use crate::writing::encode;
@@ -39,7 +39,7 @@ impl<T: Drop> From<AllocFailed<T>> for DecodeFault {
 
 #[tactic(auto, unfolding(crate::specs::Reading::session_at))]
 fn session_of(alloc: Global, bytes: &[u8]) -> Result<Op, DecodeFault>
-    ensures read { Gives (λ op. op) result (session_at bytes.now) }
+    ensures read { ReadsOrFails (λ op. op) result (session_at bytes.now) }
     ensures fits { IfOk result HasCode }
 {
     let (name, rest) = short_of(bytes).ok_or(DecodeFault::Unreadable)?;
@@ -57,7 +57,7 @@ fn session_of(alloc: Global, bytes: &[u8]) -> Result<Op, DecodeFault>
 
 #[tactic(auto, unfolding(crate::specs::Reading::new_at))]
 fn new_of(alloc: Global, bytes: &[u8]) -> Result<Op, DecodeFault>
-    ensures read { Gives (λ op. op) result (new_at bytes.now) }
+    ensures read { ReadsOrFails (λ op. op) result (new_at bytes.now) }
     ensures fits { IfOk result HasCode }
 {
     let (after, rest) = number_of(bytes).ok_or(DecodeFault::Unreadable)?;
@@ -72,7 +72,7 @@ fn new_of(alloc: Global, bytes: &[u8]) -> Result<Op, DecodeFault>
 
 #[tactic(auto, unfolding(crate::specs::Reading::set_at))]
 fn set_of(alloc: Global, bytes: &[u8]) -> Result<Op, DecodeFault>
-    ensures read { Gives (λ op. op) result (set_at bytes.now) }
+    ensures read { ReadsOrFails (λ op. op) result (set_at bytes.now) }
     ensures fits { IfOk result HasCode }
 {
     let (id, rest) = number_of(bytes).ok_or(DecodeFault::Unreadable)?;
@@ -83,7 +83,7 @@ fn set_of(alloc: Global, bytes: &[u8]) -> Result<Op, DecodeFault>
 
 #[tactic(auto, unfolding(crate::specs::Reading::remove_at))]
 fn remove_of(bytes: &[u8]) -> Result<Op, DecodeFault>
-    ensures read { Gives (λ op. op) result (remove_at bytes.now) }
+    ensures read { ReadsOrFails (λ op. op) result (remove_at bytes.now) }
     ensures fits { IfOk result HasCode }
 {
     let (id, _) = number_of(bytes).ok_or(DecodeFault::Unreadable)?;
@@ -92,7 +92,7 @@ fn remove_of(bytes: &[u8]) -> Result<Op, DecodeFault>
 
 #[tactic(auto, unfolding(crate::specs::Reading::move_at))]
 fn move_of(bytes: &[u8]) -> Result<Op, DecodeFault>
-    ensures read { Gives (λ op. op) result (move_at bytes.now) }
+    ensures read { ReadsOrFails (λ op. op) result (move_at bytes.now) }
     ensures fits { IfOk result HasCode }
 {
     let (id, rest) = number_of(bytes).ok_or(DecodeFault::Unreadable)?;
@@ -102,7 +102,7 @@ fn move_of(bytes: &[u8]) -> Result<Op, DecodeFault>
 
 #[tactic(auto, unfolding(crate::specs::Reading::clear_at))]
 fn clear_of(bytes: &[u8]) -> Result<Op, DecodeFault>
-    ensures read { Gives (λ op. op) result (clear_at bytes.now) }
+    ensures read { ReadsOrFails (λ op. op) result (clear_at bytes.now) }
     ensures fits { IfOk result HasCode }
 {
     let (id, _) = number_of(bytes).ok_or(DecodeFault::Unreadable)?;
@@ -111,7 +111,7 @@ fn clear_of(bytes: &[u8]) -> Result<Op, DecodeFault>
 
 #[tactic(auto, unfolding(crate::specs::Reading::asked_at))]
 fn asked_of(bytes: &[u8]) -> Result<(u32, &[u8], &[u8]), DecodeFault>
-    ensures read { Gives (λ x. ((x.0, x.1.now), x.2.now)) result (asked_at bytes.now) }
+    ensures read { ReadsOrFails (λ x. ((x.0, x.1.now), x.2.now)) result (asked_at bytes.now) }
     ensures fits { IfOk result (λ x. IsLong x.1.now) }
 {
     let (id, rest) = number_of(bytes).ok_or(DecodeFault::Unreadable)?;

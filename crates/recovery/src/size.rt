@@ -3,18 +3,18 @@ ghost use Rattle.std.specs.Prelude.{◌≡◌, ◌+◌, ◌≤◌, min, length};
 ghost use Rattle.std.specs.List.{flat_map};
 ghost use Rattle.block_tree.specs.View.{tree_of};
 ghost use Rattle.meta_format.specs.Canonical.{escape, canonical};
-ghost use Rattle.recovery.specs.Code.{code_of, long, HasCode};
+ghost use Rattle.recovery.specs.Code.{code_of, long, longest_told, HasCode};
 
 use block_tree::{Item, Node, Octets};
 use worksheet::Op;
 
-/// The greatest length that `code_len` tells, in bytes.
-pub const LONGEST_TOLD: u64 = 4_294_967_295;
+// The greatest length that `code_len` tells, in bytes.
+const LONGEST_TOLD: u64 = 4_294_967_295;
 
 // A length with so many bytes more, up to the greatest that is told.
 fn longer(len: u64, more: u64) -> u64
-    requires { len ≤ LONGEST_TOLD }
-    ensures { result ≡ min (len + more) LONGEST_TOLD }
+    requires { len ≤ longest_told }
+    ensures { result ≡ min (len + more) longest_told }
 {
     if more < LONGEST_TOLD - len {
         len + more
@@ -25,8 +25,8 @@ fn longer(len: u64, more: u64) -> u64
 
 #[tactic(auto, using(crate::proofs::Sizes::size_rules))]
 fn with_text(before: u64, text: &[u8]) -> u64
-    requires { before ≤ LONGEST_TOLD }
-    ensures { result ≡ min (before + length (flat_map escape text.now)) LONGEST_TOLD }
+    requires { before ≤ longest_told }
+    ensures { result ≡ min (before + length (flat_map escape text.now)) longest_told }
 {
     let mut len = before;
     for byte in text {
@@ -38,8 +38,8 @@ fn with_text(before: u64, text: &[u8]) -> u64
 
 #[tactic(auto, using(crate::proofs::Sizes::size_rules))]
 fn with_node(before: u64, node: &Node) -> u64
-    requires { before ≤ LONGEST_TOLD }
-    ensures { result ≡ min (before + length (canonical (tree_of node.now))) LONGEST_TOLD }
+    requires { before ≤ longest_told }
+    ensures { result ≡ min (before + length (canonical (tree_of node.now))) longest_told }
 {
     // Around the name and the items stand the two ends of the block and the separator.
     let mut len = longer(longer(before, 3), node.tag.name.as_slice().len() as u64);
@@ -54,8 +54,8 @@ fn with_node(before: u64, node: &Node) -> u64
 
 #[tactic(auto, using(crate::proofs::Sizes::size_rules))]
 fn with_words(before: u64, words: &[Octets]) -> u64
-    requires { before ≤ LONGEST_TOLD }
-    ensures { result ≡ min (before + length (flat_map long words.now)) LONGEST_TOLD }
+    requires { before ≤ longest_told }
+    ensures { result ≡ min (before + length (flat_map long words.now)) longest_told }
 {
     let mut len = before;
     for word in words {
@@ -65,10 +65,11 @@ fn with_words(before: u64, words: &[Octets]) -> u64
 }
 
 /// The length of an op's payload in bytes, or 4,294,967,295 where it is longer. It takes no memory.
+/// Of the op is asked what `encode` asks: that each length in the payload fits its field.
 #[tactic(auto, using(crate::proofs::Sizes::size_rules))]
 pub fn code_len(op: &Op) -> u64
     requires { HasCode op.now }
-    ensures { result ≡ min (length (code_of op.now)) LONGEST_TOLD }
+    ensures { result ≡ min (length (code_of op.now)) longest_told }
 {
     match op {
         Op::Session {

@@ -1,5 +1,5 @@
 //! A worksheet on a disk.
-ghost use Rattle.std.specs.Prelude.{◌≡◌, ◌++◌, ◌∷◌, ◌↔◌, [], List, length, false, true, None, IfOk, IfErr, OnOk, OnErr, IsErrOf, IsTrue};
+ghost use Rattle.std.specs.Prelude.{◌≡◌, ◌+◌, ◌++◌, ◌∷◌, ◌↔◌, [], List, length, false, true, None, IfOk, IfErr, OnOk, OnErr, IsErrOf, IsTrue};
 ghost use Rattle.disk_model.specs.Disk.{InModel, Image, Leaves, LeavesOnly, Looks, SameDisk, Rises, content_of};
 ghost use Rattle.worksheet.specs.declared.op.Op.{Op};
 ghost use Rattle.worksheet.specs.Contents.{Contents};
@@ -7,7 +7,7 @@ ghost use Rattle.worksheet.specs.Ops.{sheet_of};
 ghost use Rattle.worksheet.specs.Checks.{first_refusal, room_for};
 ghost use Rattle.journal.specs.Kept.{Fits};
 ghost use Rattle.recovery.specs.Code.{code_of, HasCode, IsPayloadOf};
-ghost use Rattle.recovery.specs.Sheets.{IsSheetImage, IsEither, TellsOfSheet, HasPlace, IsReady, SameStore};
+ghost use Rattle.recovery.specs.Sheets.{IsSheetImage, IsEither, KeepsOps, Makes, StandsWithOrWithout, TellsOfSheet, HasPlace, IsReady, SameStore};
 
 use crate::base::Base;
 use crate::fault::{CommitFault, PrepareFault};
@@ -40,31 +40,35 @@ impl<D: Disk> Model for Store<D> {
 
     ghost coded = { coded_store };
 
-    ghost use Rattle.recovery.specs.Base.{disk_in, end_of_base, closed_in, Holds};
+    ghost use Rattle.recovery.specs.Base.{disk_in, end_of_base, closed_in, IsStoreOf};
 
     ghost view = { λ s. record { disk = disk_in D.view s.base; end = end_of_base s.base; sheet = s.sheet; closed = closed_in s.base } };
 
-    ghost invariant = { λ s. Holds D.view s.base s.sheet.contents };
+    ghost invariant = { λ s. IsStoreOf D.view s.base s.sheet.contents };
 }
 
 impl<D: Disk> Store<D> {
-    ghost use Rattle.recovery.specs.Opened.{disk_after, GivesSheet};
-    ghost use Rattle.recovery.specs.Committed.{IsFull, LeftBy};
+    ghost use Rattle.recovery.specs.Opened.{disk_left, GivesSheet};
+    ghost use Rattle.recovery.specs.Committed.{DoesNotFit, LeftBy};
 
     /// Opens a disk that a crash may have left, and gives the worksheet that it stands for. It writes
     /// nothing. A disk that stands for none is refused with its first damage: that of the gates
     /// (docs/FORMAT.md, "Opening") before a payload that is no op's, or whose op the worksheet so far
     /// refuses.
     pub fn open(alloc: Global, disk: D) -> Result<Store<D>, OpenFault<D>>
-        ensures same { SameDisk (D.view disk) (disk_after D.view result) }
+        ensures same { SameDisk (D.view disk) (disk_left D.view result) }
         ensures open { IfOk result (λ store. store.closed ≡ false) }
+
+        // Whether the disk keeps the model or not, the worksheet is made by allowed ops.
+        ensures made { IfOk result (λ store. (ops : List Op) × Makes ops store.sheet.contents) }
 
         ensures sheet { InModel (D.view disk) (IfOk result (λ store. IsSheetImage store.sheet.contents (content_of (D.view disk).history))) }
         ensures exact { InModel (D.view disk) ((sheet : Contents) → IsSheetImage sheet (content_of (D.view disk).history) → GivesSheet sheet result) }
+        ensures kept { InModel (D.view disk) (IfOk result (λ store. (ops : List Op) × KeepsOps store ops)) }
         ensures fault { InModel (D.view disk) (IfErr result (λ e. TellsOfSheet (content_of (D.view disk).history) e.cause)) }
 
         // It changes no byte, and at every moment each image is one that a crash could leave at the start.
-        ensures looks { InModel (D.view disk) (Looks (D.view disk).history (disk_after D.view result).history) }
+        ensures looks { InModel (D.view disk) (Looks (D.view disk).history (disk_left D.view result).history) }
         ensures images { InModel (D.view disk) (IfOk result (λ store. Leaves (IsSheetImage store.sheet.contents) store.disk.history.now)) }
 
         ensures faulty { IfErr result (λ e. e.cause ≡ OpenCause.Disk → Rises (D.view disk).faults (D.view e.disk).faults) }
@@ -83,8 +87,11 @@ impl<D: Disk> Store<D> {
         }
     }
 
-    /// Whether the payload of an op fits on the disk. It takes no memory, and is false once the store
-    /// is closed.
+    /// Whether the payload of an op fits on the disk: it has at most 2,097,152 bytes, and 6 more fit
+    /// with it behind the end. It takes no memory, and is false once the store is closed.
+    ///
+    /// Each length in the payload must fit its field, as `encode` asks. Of an op that `check` allows
+    /// the law `allowed_have_code` gives this, by the ops that `sheet` tells of.
     pub fn fits(&self, op: &Op) -> bool
         requires { HasCode op.now }
         ensures { IsTrue result ↔ HasPlace self.now (length (code_of op.now)) }
@@ -128,11 +135,16 @@ impl<D: Disk> Store<D> {
         ensures sheet { (ops : List Op) → self.old.sheet.contents ≡ sheet_of ops → OnOk result (self.new.sheet.contents ≡ sheet_of (ops ++ op ∷ [])) }
         ensures as_before { OnErr result (self.new.sheet.contents ≡ self.old.sheet.contents) }
         ensures open { OnOk result (self.new.closed ≡ false) }
+        ensures ends { OnOk result (self.new.end ≡ self.old.end + 5 + length (code_of op)) }
         ensures closed { OnErr result ((self.new.closed ≡ true) × Rises self.old.disk.faults self.new.disk.faults) }
 
         // A crash at any moment of the call leaves the worksheet from before it, or this with the op.
         ensures any_moment { InModel self.old.disk ((ops : List Op) → self.old.sheet.contents ≡ sheet_of ops → LeavesOnly (IsEither ops op) self.old.disk.history self.new.disk.history) }
         ensures acknowledged { OnOk result (InModel self.old.disk (Leaves (IsSheetImage self.new.sheet.contents) self.new.disk.history.now)) }
+
+        // So it does of the payloads that the disk stands for, and at `Ok` the op's stands behind them, once.
+        ensures payloads { InModel self.old.disk ((ops : List Op) → KeepsOps self.old ops → LeavesOnly (StandsWithOrWithout ops op) self.old.disk.history self.new.disk.history) }
+        ensures kept { InModel self.old.disk ((ops : List Op) → KeepsOps self.old ops → OnOk result (KeepsOps self.new (ops ++ op ∷ []))) }
     {
         let (base, result) = self.base.take().unwrap().with(&frame);
         self.base = Some(base);
@@ -151,15 +163,20 @@ impl<D: Disk> Store<D> {
         ensures same { SameDisk self.old.disk self.new.disk }
         ensures sheet { (ops : List Op) → self.old.sheet.contents ≡ sheet_of ops → OnOk result (self.new.sheet.contents ≡ sheet_of (ops ++ op ∷ [])) }
         ensures open { OnOk result (self.new.closed ≡ false) }
+        ensures ends { OnOk result (self.new.end ≡ self.old.end + 5 + length (code_of op)) }
 
         // Which refusal it is, and what it leaves.
         ensures closed { IsErrOf result CommitFault.Closed ↔ (self.old.closed ≡ true) }
-        ensures full { IsFull result ↔ (self.old.closed ≡ false) × (Fits self.old.disk.room self.old.end (length (code_of op)) → ⊥) }
+        ensures full { DoesNotFit result ↔ (self.old.closed ≡ false) × (Fits self.old.disk.room self.old.end (length (code_of op)) → ⊥) }
         ensures refused { IfErr result (LeftBy self.old self.new op) }
 
         // A crash at any moment of the call leaves the worksheet from before it, or this with the op.
         ensures any_moment { InModel self.old.disk (self.old.closed ≡ false → (ops : List Op) → self.old.sheet.contents ≡ sheet_of ops → LeavesOnly (IsEither ops op) self.old.disk.history self.new.disk.history) }
         ensures acknowledged { OnOk result (InModel self.old.disk (Leaves (IsSheetImage self.new.sheet.contents) self.new.disk.history.now)) }
+
+        // So it does of the payloads that the disk stands for, and at `Ok` the op's stands behind them, once.
+        ensures payloads { InModel self.old.disk ((ops : List Op) → KeepsOps self.old ops → LeavesOnly (StandsWithOrWithout ops op) self.old.disk.history self.new.disk.history) }
+        ensures kept { InModel self.old.disk ((ops : List Op) → KeepsOps self.old ops → OnOk result (KeepsOps self.new (ops ++ op ∷ []))) }
     {
         // While the store is open each image is one of its worksheet: no exit before a write adds one.
         let _sheet = self.sheet();
@@ -178,6 +195,10 @@ impl<D: Disk> Store<D> {
     /// The worksheet.
     pub fn sheet(&self) -> &Sheet
         ensures sheet { result.now ≡ self.now.sheet }
+
+        // It is made by allowed ops, and while the store is open the disk stands for their payloads.
+        ensures made { (ops : List Op) × Makes ops self.now.sheet.contents }
+        ensures kept { InModel self.now.disk (self.now.closed ≡ false → (ops : List Op) × KeepsOps self.now ops) }
         ensures images { InModel self.now.disk (self.now.closed ≡ false → Leaves (IsSheetImage self.now.sheet.contents) self.now.disk.history.now) }
     {
         &self.sheet

@@ -98,9 +98,15 @@ fn put_op(op: &Op, out: &mut Vec<u8>) -> Result<(), OutOfMemory>
 }
 
 /// The payload of an op (docs/FORMAT.md, "Payloads").
+///
+/// Each length in it must fit its field: those of a session's name and of its list of words one byte,
+/// those of a word, an input and a prompt two. So it is with each op that the worksheet allows, by the
+/// law `allowed_have_code`. `OutOfMemory` is answered where a growth was refused.
 pub fn encode(alloc: Global, op: &Op) -> Result<Vec<u8>, OutOfMemory>
     requires { HasCode op.now }
     ensures code { IfOk result (λ payload. payload.items ≡ code_of op.now) }
+
+    // An op in memory has numbers of four bytes and a block, so the payload is read as this op again.
     ensures typed { IfOk result (λ payload. IsTyped op.now) }
 {
     let mut payload = Vec::new(alloc);

@@ -2,7 +2,7 @@ use Rattle.std.proofs.Common.{◌≡◌, ◌+◌, ◌≤◌, min, length, drop, 
 use Rattle.block_tree.specs.Tree.{items_of}
 use Rattle.block_tree.specs.View.{piece_of}
 use Rattle.meta_format.specs.Canonical.{canonical_items}
-use Rattle.recovery.specs.declared.size.TheConstants.{LONGEST_TOLD}
+use Rattle.recovery.specs.Code.{longest_told}
 use Rattle.recovery.proofs.size.+with_node.Given as goal
 
 abbrev pub decreases-with_node : goal.decreases-with_node
@@ -10,7 +10,7 @@ decreases-with_node l = goal.size-with_node l
 
 abbrev pub invariant-loop-item : goal.invariant-loop-item
 invariant-loop-item l = record {
-  capped : l.len ≤ LONGEST_TOLD;
-  rest : min (l.len + length (canonical_items (items_of (map piece_of (drop l.item-index l.item-items))))) LONGEST_TOLD
-      ≡ min (l.initial.len + length (canonical_items (items_of (map piece_of l.item-items)))) LONGEST_TOLD;
+  capped : l.len ≤ longest_told;
+  rest : min (l.len + length (canonical_items (items_of (map piece_of (drop l.item-index l.item-items))))) longest_told
+      ≡ min (l.initial.len + length (canonical_items (items_of (map piece_of l.item-items)))) longest_told;
 }

@@ -1,0 +1,79 @@
+-- The ops that a store keeps.
+use Rattle.std.proofs.Common.{◌≡◌, inl, inr, ⊎_elim, ℕ, false, List, [], ◌∷◌, ◌++◌, Option, Some, None, sym, ap, ◌∙◌, subst}
+use Rattle.disk_model.specs.Disk.{DiskView, History, InModel, LeavesOnly}
+use Rattle.disk_model.proofs.Moments.{started, weakens}
+use Rattle.worksheet.specs.declared.op.Op.{Op}
+use Rattle.worksheet.specs.Contents.{Contents, Held}
+use Rattle.worksheet.specs.Ops.{sheet_of}
+use Rattle.worksheet.specs.Checks.{first_refusal}
+use Rattle.journal.specs.Area.{StandsFor}
+use Rattle.journal.specs.Kept.{Stands, Keeps, BeforeOrAfter}
+use Rattle.journal.specs.declared.frame.TheConstants.{MAX_PAYLOAD}
+use Rattle.recovery.specs.Code.{IsPayloadOf}
+use Rattle.recovery.specs.Sheets.{StoreView, codes_of, Makes, KeepsOps, SameStore, StandsWithOrWithout}
+use Rattle.recovery.specs.declared.base.Base.{Base}
+use Rattle.recovery.specs.declared.base.Base.TheVariants.{Open, Closed}
+use Rattle.recovery.specs.Base.{disk_of, disk_in, end_in, is_closed, closed_in, KeepsIn, IsStoreOf, store_on}
+use Rattle.recovery.proofs.Allowed.{makes_more}
+use Rattle.recovery.proofs.Taking.{codes_push}
+
+-- what a store's disk keeps is what its open base keeps
+inside : {D : Type 0} (view : D → DiskView) (base : Base D) (payloads : List (List ℕ)) → is_closed base ≡ false → Keeps (disk_of view base).history (end_in base) payloads → KeepsIn base payloads
+inside view (Open journal) payloads opened keeps = keeps
+inside view (Closed disk) payloads opened keeps = absurd cc
+
+outside : {D : Type 0} (view : D → DiskView) (base : Base D) (payloads : List (List ℕ)) → KeepsIn base payloads → Keeps (disk_of view base).history (end_in base) payloads
+outside view (Open journal) payloads keeps = keeps
+outside view (Closed disk) payloads keeps = absurd keeps
+
+-- an open store keeps some ops
+pub some_kept : {D : Type 0} (view : D → DiskView) (base : Option (Base D)) (sheet : Held) → IsStoreOf view base sheet.contents
+    → InModel (disk_in view base) (closed_in base ≡ false → (ops : List Op) × KeepsOps (store_on view base sheet) ops)
+some_kept view None sheet holds model opened = absurd holds
+some_kept view (Some base) sheet holds model opened =
+    let kept = holds.kept opened model in
+    (kept.ops, record { still_open = opened; keeps = outside view base (codes_of kept.ops) kept.keeps; makes = kept.makes })
+
+-- memory that was made ready changes nothing of it
+pub keeps_still : (old new : StoreView) (ops : List Op) → SameStore old new → KeepsOps old ops → KeepsOps new ops
+keeps_still old new ops same kept = record {
+  still_open = same.closed ∙ kept.still_open;
+  keeps = subst (λ (d : DiskView). Keeps d.history new.end (codes_of ops)) (sym same.disk) (subst (λ (n : ℕ). Keeps old.disk.history n (codes_of ops)) (sym same.end) kept.keeps);
+  makes = subst (λ (s : Contents). Makes ops s) (sym same.contents) kept.makes;
+}
+
+-- and adds no moment
+pub stays_kept : (old new : StoreView) (o : Op) (ops : List Op) → SameStore old new → KeepsOps old ops → LeavesOnly (StandsWithOrWithout ops o) old.disk.history new.disk.history
+stays_kept old new o ops same kept =
+    subst (λ (d : DiskView). LeavesOnly (StandsWithOrWithout ops o) old.disk.history d.history) (sym same.disk)
+    (started (StandsWithOrWithout ops o) old.disk.history
+    (λ i image. inl (subst (λ (l : List ℕ). StandsFor MAX_PAYLOAD l (codes_of ops)) (sym (kept.keeps.durable i image)) kept.keeps.stands)))
+
+-- and is none before a run of calls
+pub goes_kept : (old mid : StoreView) (new : History) (o : Op) (ops : List Op) → SameStore old mid → KeepsOps old ops
+    → (KeepsOps mid ops → LeavesOnly (StandsWithOrWithout ops o) mid.disk.history new) → LeavesOnly (StandsWithOrWithout ops o) old.disk.history new
+goes_kept old mid new o ops same kept run = subst (λ (d : DiskView). LeavesOnly (StandsWithOrWithout ops o) d.history new) same.disk (run (keeps_still old mid ops same kept))
+
+module _ {D : Type 0} (view : D → DiskView) (base : Base D) (sheet : Held) (o : Op) (payload : List ℕ) (own : IsPayloadOf o payload) where
+  codes_more : (ops : List Op) → codes_of ops ++ payload ∷ [] ≡ codes_of (ops ++ o ∷ [])
+  codes_more ops = ap (λ (b : List ℕ). codes_of ops ++ b ∷ []) own.is ∙ sym (codes_push ops o)
+
+  -- at every moment of an append the payloads are those of before, or these and the op's
+  pub payload_moments : (new : History)
+      → InModel (disk_of view base) ((payloads : List (List ℕ)) → KeepsIn base payloads → LeavesOnly (BeforeOrAfter (disk_of view base).history.now payloads payload) (disk_of view base).history new)
+      → InModel (disk_of view base) ((ops : List Op) → KeepsOps (store_on view (Some base) sheet) ops → LeavesOnly (StandsWithOrWithout ops o) (disk_of view base).history new)
+  payload_moments new each model ops kept =
+      weakens (BeforeOrAfter (disk_of view base).history.now (codes_of ops) payload) (StandsWithOrWithout ops o) (disk_of view base).history new
+      (λ i stands. ⊎_elim (λ before. inl before) (λ behind. inr (subst (λ (l : List (List ℕ)). Stands i l) (codes_more ops) behind)) stands.0)
+      (each model (codes_of ops) (inside view base (codes_of ops) kept.still_open kept.keeps))
+
+  -- and at Ok the latter
+  pub keeps_more : (new : Base D) (after : Held) → first_refusal sheet.contents o ≡ None → is_closed new ≡ false
+      → InModel (disk_of view base) ((payloads : List (List ℕ)) → KeepsIn base payloads → KeepsIn new (payloads ++ payload ∷ []))
+      → ((ops : List Op) → sheet.contents ≡ sheet_of ops → after.contents ≡ sheet_of (ops ++ o ∷ []))
+      → InModel (disk_of view base) ((ops : List Op) → KeepsOps (store_on view (Some base) sheet) ops → KeepsOps (store_on view (Some new) after) (ops ++ o ∷ []))
+  keeps_more new after next opened ok applied model ops kept = record {
+    still_open = opened;
+    keeps = outside view new (codes_of (ops ++ o ∷ [])) (subst (λ (l : List (List ℕ)). KeepsIn new l) (codes_more ops) (ok model (codes_of ops) (inside view base (codes_of ops) kept.still_open kept.keeps)));
+    makes = makes_more ops o sheet.contents after.contents kept.makes own.typed next (applied ops kept.makes.is);
+  }
