@@ -1,6 +1,6 @@
 -- What a reader knows is what is printed.
 use Rattle.std.proofs.KnownBytes.{Appends-trans, Appends-nil}
-use Rattle.std.proofs.Common.{◌≡◌, ℕ, Bool, true, false, List, [], ◌++◌, Option, None, Some, refl, subst}
+use Rattle.std.proofs.Common.{◌≡◌, ℕ, true, false, List, [], ◌++◌, None, Some, refl, subst}
 use Rattle.meta_format.specs.Limits.{Limits}
 use Rattle.meta_format.specs.Stream.{Outer, Stream}
 use Rattle.meta_format.specs.Faults.{Kind}

@@ -1,3 +1,4 @@
+pub mod Input
 pub mod Faults
 pub mod Asked
 pub mod Printed

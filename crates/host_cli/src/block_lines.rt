@@ -4,7 +4,7 @@ ghost use Rattle.std.specs.Io.KnownBytes.{Appends};
 ghost use Rattle.meta_format.specs.Limits.{limits};
 ghost use Rattle.meta_format.specs.Scan.{outer_of, outers};
 ghost use Rattle.host_cli.specs.Printed.{Printed, named_fault_line, outer_line, outer_lines, unfinished_line};
-ghost use Rattle.host_cli.specs.declared.input.TheConstants.{MAX_INPUT};
+ghost use Rattle.host_cli.specs.Input.{max_input};
 
 use crate::{RunFault, read_input};
 use meta_format::{FeedFault, Found, Reader};
@@ -112,9 +112,9 @@ pub fn blocks<R: Read, W: Write>(
     ensures printed { IfOk result (λ whole. IfSome (R.remaining reader.old) (λ stream. (text : List ℕ) × Printed limits stream text whole × Appends (W.contents writer.old) (W.contents writer.new) text)) }
 
     // An input that is too long is told as such, whatever else would go wrong with its text.
-    ensures short { IfOk result (λ whole. IfSome (R.remaining reader.old) (λ stream. length stream ≤ MAX_INPUT)) }
-    ensures output_short { IsErrOf result RunFault.Output → IfSome (R.remaining reader.old) (λ stream. length stream ≤ MAX_INPUT) }
-    ensures too_long { IsErrOf result RunFault.InputTooLong → IfSome (R.remaining reader.old) (λ stream. MAX_INPUT < length stream) }
+    ensures short { IfOk result (λ whole. IfSome (R.remaining reader.old) (λ stream. length stream ≤ max_input)) }
+    ensures output_short { IsErrOf result RunFault.Output → IfSome (R.remaining reader.old) (λ stream. length stream ≤ max_input) }
+    ensures too_long { IsErrOf result RunFault.InputTooLong → IfSome (R.remaining reader.old) (λ stream. max_input < length stream) }
 
     ensures nothing_at_input { IsErrOf result RunFault.Input → writer.new ≡ writer.old }
     ensures nothing_at_too_long { IsErrOf result RunFault.InputTooLong → writer.new ≡ writer.old }

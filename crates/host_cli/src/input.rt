@@ -1,5 +1,6 @@
 //! A program's input, whole.
 ghost use Rattle.std.specs.Prelude.{◌≡◌, ◌<◌, ◌≤◌, IfOk, IfSome, IsErrOf, length};
+ghost use Rattle.host_cli.specs.Input.{max_input};
 
 use crate::RunFault;
 use std::alloc::Global;
@@ -14,8 +15,8 @@ pub const MAX_INPUT: usize = 67_108_864;
 /// `MAX_INPUT` bytes; `OutOfMemory`. What was read before a fault is dropped.
 pub fn read_input<R: Read>(alloc: Global, reader: &mut R) -> Result<Vec<u8>, RunFault>
     ensures whole { IfOk result (λ input. IfSome (R.remaining reader.old) (λ bytes. input.items ≡ bytes)) }
-    ensures short { IfOk result (λ input. length input.items ≤ MAX_INPUT) }
-    ensures long { IsErrOf result RunFault.InputTooLong → IfSome (R.remaining reader.old) (λ bytes. MAX_INPUT < length bytes) }
+    ensures short { IfOk result (λ input. length input.items ≤ max_input) }
+    ensures long { IsErrOf result RunFault.InputTooLong → IfSome (R.remaining reader.old) (λ bytes. max_input < length bytes) }
     ensures no_output { IsErrOf result RunFault.Output → ⊥ }
 {
     let mut input = Vec::new(alloc);

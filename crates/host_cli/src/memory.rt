@@ -7,7 +7,7 @@ ghost use Rattle.sheet_text.specs.Script.{line_of};
 ghost use Rattle.sheet_text.specs.Texts as printed;
 ghost use Rattle.sheet_text.specs.declared.script.ScriptLine.TheVariants as said;
 ghost use Rattle.host_cli.specs.Memory.{LineRan, LinesRan, OpRan, ScriptRan, bad_line, reply_to as reply_of, script_lines};
-ghost use Rattle.host_cli.specs.declared.input.TheConstants.{MAX_INPUT};
+ghost use Rattle.host_cli.specs.Input.{max_input};
 
 use crate::{RunFault, read_input};
 use bstr::ByteSlice;
@@ -144,7 +144,7 @@ pub fn run_memory<R: Read, W: Write>(
     writer: &mut W,
 ) -> Result<(), RunFault>
     ensures ran { OnOk result (IfSome (R.remaining reader.old) (λ script. (text : List ℕ) × ScriptRan script text × Appends (W.contents writer.old) (W.contents writer.new) text)) }
-    ensures too_long { IsErrOf result RunFault.InputTooLong → IfSome (R.remaining reader.old) (λ script. MAX_INPUT < length script) }
+    ensures too_long { IsErrOf result RunFault.InputTooLong → IfSome (R.remaining reader.old) (λ script. max_input < length script) }
     ensures nothing_at_input { IsErrOf result RunFault.Input → writer.new ≡ writer.old }
     ensures nothing_at_too_long { IsErrOf result RunFault.InputTooLong → writer.new ≡ writer.old }
     ensures nothing_at_memory { IsErrOf result RunFault.OutOfMemory → writer.new ≡ writer.old }

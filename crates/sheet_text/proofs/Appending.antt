@@ -1,15 +1,14 @@
 -- Bytes written after bytes.
 use Rattle.std.proofs.KnownBytes.{Appends-trans, Appends-nil}
-use Rattle.std.proofs.Common.{◌≡◌, ℕ, Bool, true, false, cond, List, [], ◌∷◌, ◌++◌, map, flat_map, refl, ap, sym, ◌∙◌, subst, append_assoc, append-nil, Option, Some, None, length, take, get_or, ◌<◌, ◌≤◌, ◌+◌}
+use Rattle.std.proofs.Common.{◌≡◌, ℕ, Bool, true, false, cond, List, [], ◌∷◌, ◌++◌, map, flat_map, refl, ap, sym, ◌∙◌, subst, append_assoc, append-nil, Option, length, take, get_or, ◌<◌, ◌≤◌, ◌+◌}
 use Rattle.std.proofs.lemmas.List.{take_more, take_all}
 use Rattle.std.proofs.lemmas.Grind.{flat_map-append}
 use Rattle.std.specs.Io.KnownBytes.{Appends}
-use Rattle.block_tree.specs.Tree.{Items, Tree, Piece, text_piece, block_piece, items_of, end, text, block, put}
+use Rattle.block_tree.specs.Tree.{Items, Piece, text_piece, block_piece, items_of, put}
 use Rattle.block_tree.specs.View.{piece_of, tree_of, piece_text, piece_block, tree_out}
 use Rattle.block_tree.specs.declared.tree.Item.{Item}
-use Rattle.block_tree.specs.declared.tree.Item.TheVariants.{Block, Text}
 use Rattle.block_tree.specs.declared.tree.Node.{Node, out-Node}
-use Rattle.sheet_text.specs.Escape.{on_line, on_lines}
+use Rattle.sheet_text.specs.Escape.{on_line}
 use Rattle.sheet_text.specs.Blocks.{sign, framed, items_tree_text, tree_text, piece_tree_text, is_bare, shown, items_block_text, block_text, piece_block_text}
 
 pub ruleset steps = (Appends-trans, Appends-nil)

@@ -1,14 +1,13 @@
 -- The last byte of printed text.
-use Rattle.std.proofs.Common.{◌≡◌, ◌≤◌, ◌<◌, ◌+◌, ◌-◌, ℕ, Bool, true, false, cond, List, [], ◌∷◌, ◌++◌, map, flat_map, refl, ap, sym, ◌∙◌, append-nil, Option, Some, None, length, take, get_or, slice_get, arith}
+use Rattle.std.proofs.Common.{◌≡◌, ◌≤◌, ◌<◌, ◌+◌, ◌-◌, ℕ, Bool, true, false, cond, List, [], ◌∷◌, ◌++◌, flat_map, refl, ap, sym, ◌∙◌, append-nil, Option, Some, None, length, take, get_or, slice_get, arith}
 use Rattle.std.specs.List.{last_or}
 use Rattle.std.proofs.lemmas.List.{take_more, take_all}
 use Rattle.std.proofs.lemmas.Grind.{flat_map-append}
-use Rattle.block_tree.specs.Tree.{text_piece, block_piece}
-use Rattle.block_tree.specs.View.{piece_of, tree_of, piece_text, piece_block}
+use Rattle.block_tree.specs.View.{piece_of, tree_of}
 use Rattle.block_tree.specs.declared.tree.Item.{Item}
 use Rattle.block_tree.specs.declared.tree.Node.{Node, out-Node}
 use Rattle.sheet_text.specs.Escape.{on_line, on_lines, printed_byte}
-use Rattle.sheet_text.specs.Blocks.{sign, framed, is_bare, shown, block_text, piece_block_text}
+use Rattle.sheet_text.specs.Blocks.{sign, framed, is_bare, block_text, piece_block_text}
 use Rattle.sheet_text.proofs.Appending.{block_text_out}
 
 pub last_or-append : {A : Type 0} (o : Option A) (xs ys : List A) → last_or o (xs ++ ys) ≡ last_or (last_or o xs) ys

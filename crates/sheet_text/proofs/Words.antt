@@ -1,7 +1,7 @@
 -- The parts between spaces, taken one at a time.
-use Rattle.std.proofs.Common.{◌≡◌, ◌≤◌, ◌<◌, ◌+◌, ℕ, List, [], ◌∷◌, ◌++◌, length, take, drop, arith, Bool, true, false, cond, refl, ap, sym, ◌∙◌, append_assoc, Option, Some, None, not}
+use Rattle.std.proofs.Common.{◌≡◌, ◌≤◌, ◌<◌, ◌+◌, ℕ, List, [], ◌∷◌, ◌++◌, length, arith, Bool, true, false, refl, ap, sym, ◌∙◌, append_assoc, Some, None}
 use Rattle.std.specs.Prelude.{nat_lt}
-use Rattle.std.specs.List.{position, position_or_len, prefix_len, slice_split, onto_first, after_first}
+use Rattle.std.specs.List.{position_or_len, slice_split, onto_first, after_first}
 use Rattle.std.proofs.lemmas.Bool.Decides.{nat_tests}
 use Rattle.std.proofs.lemmas.List.{take_all, length-drop}
 use Rattle.std.proofs.lemmas.List.Splits.{slice_split_first}

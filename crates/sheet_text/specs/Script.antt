@@ -6,7 +6,6 @@ use Rattle.std.specs.Str.{bytes_eq}
 use Rattle.std.specs.Str.Parse.{digits_value}
 use Rattle.session_engine.specs.declared.command.Command.{Command}
 use Rattle.session_engine.specs.declared.command.Command.TheVariants as command
-use Rattle.sheet_text.specs.declared.numbers.TheConstants.{GREATEST_NUMBER, MOST_DIGITS}
 use Rattle.sheet_text.specs.declared.script.ScriptLine.{ScriptLine}
 use Rattle.sheet_text.specs.declared.script.ScriptLine.TheVariants as line
 
@@ -42,13 +41,20 @@ abbrev pub starts_with_zero : List ℕ → Bool
 starts_with_zero [] = false
 starts_with_zero (byte ∷ bytes) = byte == 48
 
+-- the most digits of a number, and the greatest one
+abbrev pub most_digits : ℕ
+most_digits = 10
+
+abbrev pub greatest_number : ℕ
+greatest_number = 4294967295
+
 -- `0`, or 1 to 10 digits without a leading zero
 abbrev pub is_numeral : List ℕ → Bool
-is_numeral bytes = nat_le 1 (length bytes) && nat_le (length bytes) MOST_DIGITS && list_all is_digit bytes && (not (starts_with_zero bytes) || (length bytes == 1))
+is_numeral bytes = nat_le 1 (length bytes) && nat_le (length bytes) most_digits && list_all is_digit bytes && (not (starts_with_zero bytes) || (length bytes == 1))
 
 -- the number that these bytes write, where it is at most 4,294,967,295
 abbrev pub number_of : List ℕ → Option ℕ
-number_of bytes = if is_numeral bytes && nat_le (digits_value 10 bytes) GREATEST_NUMBER then Some (digits_value 10 bytes) else None
+number_of bytes = if is_numeral bytes && nat_le (digits_value 10 bytes) greatest_number then Some (digits_value 10 bytes) else None
 
 -- Commands: what stands behind the space after the name of one.
 

@@ -12,7 +12,7 @@ use session_engine::Command;
 use std::alloc::Global;
 
 /// What a line of a script says.
-#[derive(Drop)]
+#[derive(Debug, Drop)]
 pub enum ScriptLine {
     /// Nothing: the line is empty or a remark.
     Skip,

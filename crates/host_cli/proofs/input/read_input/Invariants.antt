@@ -1,11 +1,11 @@
 use Rattle.std.proofs.Common.{◌≤◌, length}
 use Rattle.std.specs.Io.KnownBytes.{Consumes}
-use Rattle.host_cli.specs.declared.input.TheConstants.{MAX_INPUT}
+use Rattle.host_cli.specs.Input.{max_input}
 use Rattle.host_cli.proofs.input.read_input.Given as goal
 
 abbrev pub invariant-loop : goal.invariant-loop
 invariant-loop g l = record {
   taken : Consumes (g.R.Read.remaining l.initial.reader) (g.R.Read.remaining l.reader) l.input.items;
   many : l.counter ≤ length l.input.items;
-  few : length l.input.items ≤ MAX_INPUT;
+  few : length l.input.items ≤ max_input;
 }

@@ -1,4 +1,4 @@
-use Rattle.std.proofs.Common.{[], Some, ap, sym, ◌∙◌, subst, ◌≡◌}
+use Rattle.std.proofs.Common.{[], Some, ap, ◌∙◌, subst}
 use Rattle.std.proofs.KnownBytes.{Appends-nil}
 use Rattle.std.proofs.lemmas.Result.{on_ok_weaker}
 use Rattle.std.specs.Io.KnownBytes.{Appends}

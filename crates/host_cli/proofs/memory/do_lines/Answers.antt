@@ -1,6 +1,4 @@
-use Rattle.std.proofs.Common.{ap, sym, ◌∙◌, subst, length, arith, []}
-use Rattle.std.specs.Prelude.{◌≡◌}
-use Rattle.worksheet.specs.Ops.{sheet_of}
+use Rattle.std.proofs.Common.{ap, sym, subst, length, arith}
 use Rattle.host_cli.specs.Memory.{script_lines}
 use Rattle.host_cli.proofs.Scripting.{nothing_so_far, one_more, all_done, SoFar}
 use Rattle.host_cli.proofs.memory.do_lines.Goals as goal

@@ -1,4 +1,4 @@
-use Rattle.std.proofs.Common.{◌++◌, ◌∷◌, [], ◌≡◌, subst, sym, ◌∙◌}
+use Rattle.std.proofs.Common.{◌++◌, ◌∷◌, [], ◌≡◌, subst, ◌∙◌}
 use Rattle.std.specs.Prelude.{OnOk, OnErr}
 use Rattle.worksheet.specs.Ops.{sheet_of}
 use Rattle.host_cli.proofs.Scripting.{op_refused, op_done, op_unkept}

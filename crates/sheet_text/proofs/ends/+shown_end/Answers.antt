@@ -1,5 +1,4 @@
 use Rattle.std.proofs.Common.{true, flat_map, ap, sym, ◌∙◌}
-use Rattle.std.specs.List.{last_or}
 use Rattle.block_tree.specs.View.{piece_of, piece_text, piece_block}
 use Rattle.sheet_text.specs.Escape.{printed_byte}
 use Rattle.sheet_text.specs.Blocks.{piece_block_text}

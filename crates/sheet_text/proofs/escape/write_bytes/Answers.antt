@@ -1,4 +1,4 @@
-use Rattle.std.proofs.Common.{rules, ◌≡◌, ◌+◌, ◌-◌, ℕ, List, ◌∷◌, [], cond, subst, ap, sym, ◌∙◌, take, drop, flat_map, get_or, arith}
+use Rattle.std.proofs.Common.{rules, ◌+◌, ◌-◌, ℕ, List, ◌∷◌, [], cond, subst, ap, sym, ◌∙◌, take, drop, flat_map, get_or, arith}
 use Rattle.std.specs.Io.KnownBytes.{Appends}
 use Rattle.sheet_text.specs.Escape.{printed_byte, escaped_byte}
 use Rattle.sheet_text.proofs.Runs.{plain_step, escaped_step, Follows}
