@@ -19,3 +19,4 @@ pub mod Readings
 pub mod Readable
 pub mod Held
 pub mod EveryStream
+pub mod Lengths

@@ -1,7 +1,8 @@
 //! What the definitions imply, as contracts of functions that do nothing.
 
-ghost use Rattle.std.specs.Prelude.{◌≡◌, ℕ, List, [], ◌++◌, true};
+ghost use Rattle.std.specs.Prelude.{◌≡◌, ◌≤◌, ◌*◌, ℕ, List, [], ◌++◌, length, max, true};
 ghost use Rattle.block_tree.specs.Tree.{Tree};
+ghost use Rattle.block_tree.specs.Output.{output};
 ghost use Rattle.block_tree.specs.Shape.{is_block_within};
 ghost use Rattle.meta_format.specs.Limits.{Limits, IsRoomy};
 ghost use Rattle.meta_format.specs.Spelling.{Spells};
@@ -22,6 +23,16 @@ pub fn no_front()
 /// The canonical spelling of a block spells it.
 pub fn canonical_spelling()
     ensures { (most : Limits) (b : Tree) → is_block_within most.tag most.levels b ≡ true → Spells most b (canonical b) }
+{}
+
+/// A block grows to at most one and a half times its length when it is written canonically.
+pub fn canonical_growth()
+    ensures { (most : Limits) (b : Tree) (s : List ℕ) → Spells most b s → 2 * length (canonical b) ≤ 3 * length s }
+{}
+
+/// An output has no more bytes than its block, both written canonically, or the 11 of an empty `verbatim` block.
+pub fn output_length()
+    ensures { (b : Tree) → length (canonical (output b)) ≤ max 11 (length (canonical b)) }
 {}
 
 /// A stream has one reading: its outer blocks with their offsets, and its open tail. So it does not

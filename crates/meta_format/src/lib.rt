@@ -15,7 +15,10 @@ mod scan;
 mod tests;
 mod write;
 
-pub use laws::{a_reading, canonical_spelling, no_front, one_block, one_fault, one_reading};
+pub use laws::{
+    a_reading, canonical_growth, canonical_spelling, no_front, one_block, one_fault, one_reading,
+    output_length,
+};
 pub use read::{ReadFault, read_block};
 pub use reader::{FeedFault, Reader};
 pub use scan::Found;
