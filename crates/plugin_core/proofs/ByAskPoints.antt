@@ -16,7 +16,7 @@ use Rattle.plugin_core.proofs.Asks.{found-stop}
 
 -- Events and lengths.
 
-after_mono : (past : List Event) (m n : ℕ) → m ≤ n → length_after past m ≤ length_after past n
+pub after_mono : (past : List Event) (m n : ℕ) → m ≤ n → length_after past m ≤ length_after past n
 after_mono past zero n h = omega arith
 after_mono past (suc m) zero h = absurd (omega arith)
 after_mono [] (suc m) (suc n) h = omega arith
@@ -50,7 +50,7 @@ end_is at (received q ∷ past) stop zero lo hi = grind (arith, nat_tests, lengt
 end_is at (received q ∷ past) stop (suc e) lo hi =
     grind (arith, nat_tests, length-append q (stream_of (take e past)), length-append q (stream_of (take (suc e) past)), end_is (at + length q) past stop e)
 
-closed_in_some : (at : ℕ) (past : List Event) (stop : ℕ) → at < stop → stop ≤ at + length (stream_of past) → (e : ℕ) × (at + length_after past e < stop) × (stop ≤ at + length_after past (suc e))
+pub closed_in_some : (at : ℕ) (past : List Event) (stop : ℕ) → at < stop → stop ≤ at + length (stream_of past) → (e : ℕ) × (at + length_after past e < stop) × (stop ≤ at + length_after past (suc e))
 closed_in_some at [] stop lo hi = absurd (omega arith)
 closed_in_some at (accepted i ∷ past) stop lo hi = let r = closed_in_some at past stop lo hi in (suc r.0, r.1, r.2)
 closed_in_some at (received q ∷ past) stop lo hi = go (nat_le stop (at + length q)) refl (λ l. closed_in_some (at + length q) past stop l)
@@ -127,7 +127,7 @@ answer_last ends bs closed (p ∷ places) k b e = go (first_from (max closed p) 
     go (Some c) zero ih e = first c places e
     go (Some c) (suc k) ih e = let r = ih (end_behind ends c.stop) k e in record { answer = r.answer; place = r.place; is = r.is; at = r.at; first = r.first }
 
-answer_lies : (ends : List ℕ) (bs : List Outer) (n closed : ℕ) (places : List ℕ) (k : ℕ) (a : Outer) → LieWithin 0 n bs → slice_get (answers_from ends bs closed places) k ≡ Some a → (0 < a.stop) × (a.stop ≤ n)
+pub answer_lies : (ends : List ℕ) (bs : List Outer) (n closed : ℕ) (places : List ℕ) (k : ℕ) (a : Outer) → LieWithin 0 n bs → slice_get (answers_from ends bs closed places) k ≡ Some a → (0 < a.stop) × (a.stop ≤ n)
 answer_lies ends bs n closed [] k a l e = cc
 answer_lies ends bs n closed (p ∷ places) k a l e = go (first_from (max closed p) bs) refl k (λ r k e. answer_lies ends bs n r places k a l e) e
   where
@@ -139,14 +139,14 @@ answer_lies ends bs n closed (p ∷ places) k a l e = go (first_from (max closed
 
 -- The law.
 
-reads_lie : (s : List ℕ) (blocks : List Outer) (fault : Option Kind) → Reads s blocks fault → LieWithin 0 (length s) blocks
+pub reads_lie : (s : List ℕ) (blocks : List Outer) (fault : Option Kind) → Reads s blocks fault → LieWithin 0 (length s) blocks
 reads_lie s blocks None h = stream_lies limits s blocks h.0.0 h.0.1
 reads_lie s blocks (Some kind) h =
     let f = h.1 in
     let e : length s ≡ length f.front + length f.rest = ap length f.is ∙ length-append f.front f.rest in
     LieWithin-wider 0 (length f.front) 0 (length s) blocks (omega arith) (omega arith) (stream_lies limits f.front blocks f.tail f.stream)
 
-listed : (past : List Event) (blocks : List Outer) (k : ℕ) (b : Outer) → IsAnswer past blocks k b → slice_get (answers_of past blocks) k ≡ Some b
+pub listed : (past : List Event) (blocks : List Outer) (k : ℕ) (b : Outer) → IsAnswer past blocks k b → slice_get (answers_of past blocks) k ≡ Some b
 listed past blocks _ _ (banner b e) = rw e refl
 listed past blocks _ _ (next k e f a b before closes accepts first) =
     let p = place_is 0 past f accepts.0 accepts.1 in
@@ -163,7 +163,7 @@ first_answer ends bs places b (Some c) e = e
 same_later : (n x y p q : ℕ) → n ≡ max x y → p ≡ 0 + x → q ≡ 0 + y → n ≡ max p q
 same_later n x y p q h e f = omega arith
 
-by_events : (past : List Event) (blocks : List Outer) → LieWithin 0 (length (stream_of past)) blocks → (k : ℕ) (b : Outer) → slice_get (answers_of past blocks) k ≡ Some b → IsAnswer past blocks k b
+pub by_events : (past : List Event) (blocks : List Outer) → LieWithin 0 (length (stream_of past)) blocks → (k : ℕ) (b : Outer) → slice_get (answers_of past blocks) k ≡ Some b → IsAnswer past blocks k b
 by_events past blocks l zero b e = banner b (first_answer (ends_from 0 past) blocks (places_from 0 past) b (first_from 0 blocks) e)
 by_events past blocks l (suc k) b e =
     let r = answer_last (ends_from 0 past) blocks 0 (asked_places past) k b e in

@@ -5,5 +5,6 @@ pub mod OneMore
 pub mod Told
 pub mod Pieces
 pub mod ByAskPoints
+pub mod Sends
 pub mod Readings
 pub mod Prompts

@@ -48,7 +48,7 @@ answered_some ts bs p e =
     let h : length (answers_of ts bs) < suc (length (places_from 0 ts)) = ask-some (ends_from 0 ts) 0 p bs (asked_places ts) e in
     omega (arith, length-places_from 0 ts)
 
-answered_most : (ts : List Event) (bs : List Outer) → length (answers_of ts bs) ≤ suc (length (items_of ts))
+pub answered_most : (ts : List Event) (bs : List Outer) → length (answers_of ts bs) ≤ suc (length (items_of ts))
 answered_most ts bs = go (ask_of ts bs) refl
   where
     go : (o : Option ℕ) → ask_of ts bs ≡ o → length (answers_of ts bs) ≤ suc (length (items_of ts))

@@ -71,7 +71,7 @@ prompt_behind-next : (q : List ℕ) (fs : List Outer) (b : Outer) → prompt_beh
 prompt_behind-next q [] b = refl
 prompt_behind-next q (f ∷ fs) b = prompt_behind-next (unwrap_or (prompt_in f.block) q) fs b
 
-slice_get-drop : {X : Type 0} (k : ℕ) (xs : List X) → slice_get (drop k xs) 0 ≡ slice_get xs k
+pub slice_get-drop : {X : Type 0} (k : ℕ) (xs : List X) → slice_get (drop k xs) 0 ≡ slice_get xs k
 slice_get-drop zero [] = refl
 slice_get-drop zero (x ∷ xs) = refl
 slice_get-drop (suc k) [] = refl
@@ -126,6 +126,9 @@ passes_gives old mid new ts bs p fs step s fed over taken close h =
       after = bs ++ fs;
       fault = None;
       reads = ((taken_now.tail, taken_now.stream), taken_now.no_fault);
+      more = fs;
+      grows = refl;
+      late = subst (λ (t : List ℕ). CloseWithin (length (stream_of ts)) (length t) fs) (sym (stream_of-received ts p)) close;
       answers = answers_of-received ts bs p fs a ∙ ap (λ o. answers_of ts bs ++ option_to_list o) (sym (closed_by-received ts bs p fs a));
       gives = parts.0;
       told = ap (λ (x : Step). is_some x.answered) parts.0 ∙ told-received ts bs p fs None a;
@@ -215,6 +218,9 @@ breaks_gives old mid new ts bs p fs at kind step s fed fault close h =
       after = bs ++ fs;
       fault = Some kind;
       reads = (at, subst (λ (t : List ℕ). Faults limits t at kind (bs ++ fs)) (sym (stream_of-received ts p)) fault);
+      more = fs;
+      grows = refl;
+      late = subst (λ (t : List ℕ). CloseWithin (length (stream_of ts)) (length t) fs) (sym (stream_of-received ts p)) close;
       answers = answers_of-received ts bs p fs a ∙ ap (λ o. answers_of ts bs ++ option_to_list o) (sym (closed_by-received ts bs p fs a));
       gives = gives;
       told = ap (λ (x : Step). is_some x.answered) gives ∙ told-received ts bs p fs (Some kind) a;

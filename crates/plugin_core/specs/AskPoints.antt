@@ -1,11 +1,13 @@
 -- Ask points and answers by the events of a past, in the words of docs/PROTOCOL.md, ask points: what `answers_of` lists.
-use Rattle.std.specs.Prelude.{◌≡◌, ◌<◌, ◌≤◌, ◌↔◌, ℕ, suc, max, List, length, take, Option, Some, slice_get}
+use Rattle.std.specs.Prelude.{◌≡◌, ◌<◌, ◌≤◌, ◌↔◌, ℕ, suc, max, List, [], ◌∷◌, ◌++◌, length, take, Option, Some, None, slice_get}
 use Rattle.meta_format.specs.Stream.{Outer}
 use Rattle.meta_format.specs.Faults.{Kind}
+use Rattle.meta_format.specs.Reader.{CloseWithin}
 use Rattle.plugin_core.specs.declared.item.Item.{Item}
 use Rattle.plugin_core.specs.Past.{Event, accepted, stream_of, items_of}
 use Rattle.plugin_core.specs.Answers.{first_from, answers_of}
-use Rattle.plugin_core.specs.Steps.{Reads}
+use Rattle.plugin_core.specs.Items.{bytes_of}
+use Rattle.plugin_core.specs.Steps.{Reads, sent_by}
 
 -- the length of the stream after the first so many events
 abbrev pub length_after : List Event → ℕ → ℕ
@@ -31,3 +33,25 @@ pub data IsAnswer (past : List Event) (blocks : List Outer) : ℕ → Outer → 
 abbrev pub AnswersByAskPoints : Type 0
 AnswersByAskPoints = (past : List Event) (blocks : List Outer) (fault : Option Kind) → Reads (stream_of past) blocks fault
     → (k : ℕ) (b : Outer) → IsAnswer past blocks k b ↔ (slice_get (answers_of past blocks) k ≡ Some b)
+
+-- An item is asked in the event at this place: the later of the two that give its ask point.
+pub record IsAskedIn (past : List Event) (blocks : List Outer) (event : ℕ) (item : Item) : Type 0 where
+  -- the answer before it, and its number
+  pub number : ℕ
+  pub before : Outer
+  pub answer : IsAnswer past blocks number before
+  pub closing : ℕ
+  pub closes : ClosesIn past closing before
+  pub accepting : ℕ
+  pub accepts : AcceptsIn past accepting (suc number)
+  pub is : accepts.0 ≡ item
+  pub later : event ≡ max closing accepting
+
+-- Where an event brings these further blocks and doesn't end the life, what is sent in it are the bytes of the item that is
+-- asked in it, and nothing is sent where none is.
+abbrev pub SendsWhatIsAsked : Type 0
+SendsWhatIsAsked = (past : List Event) (event : Event) (before more : List Outer) (fault : Option Kind)
+    → Reads (stream_of past) before None → Reads (stream_of (past ++ event ∷ [])) (before ++ more) fault
+    → CloseWithin (length (stream_of past)) (length (stream_of (past ++ event ∷ []))) more
+    → (bytes : List ℕ) → (sent_by past before event (before ++ more) ≡ Some bytes)
+    ↔ ((item : Item) × IsAskedIn (past ++ event ∷ []) (before ++ more) (length past) item × (bytes ≡ bytes_of item))

@@ -1,9 +1,9 @@
 -- What a life keeps, and which pasts it stands for.
-use Rattle.std.specs.Prelude.{◌≡◌, ℕ, Bool, true, false, List, [], ◌∷◌, ◌++◌, Option, Some, None, is_some, option_to_list}
+use Rattle.std.specs.Prelude.{◌≡◌, ℕ, Bool, true, false, List, [], ◌∷◌, ◌++◌, length, Option, Some, None, is_some, option_to_list}
 use Rattle.meta_format.specs.Limits.{limits}
 use Rattle.meta_format.specs.Stream.{Outer}
 use Rattle.meta_format.specs.Faults.{Kind}
-use Rattle.meta_format.specs.Reader.{Known}
+use Rattle.meta_format.specs.Reader.{Known, CloseWithin}
 use Rattle.meta_format.specs.Reader.{Stands as HasTaken}
 use Rattle.plugin_core.specs.declared.item.Item.{Item}
 use Rattle.plugin_core.specs.declared.step.Step.{Step}
@@ -59,6 +59,10 @@ pub record Takes (past : List Event) (before : List Outer) (piece : List ℕ) (s
   pub after : List Outer
   pub fault : Option Kind
   pub reads : Reads (stream_of (past ++ received piece ∷ [])) after fault
+  -- the blocks before stay, and the further ones close in this piece
+  pub more : List Outer
+  pub grows : after ≡ before ++ more
+  pub late : CloseWithin (length (stream_of past)) (length (stream_of (past ++ received piece ∷ []))) more
   -- the answers before stay, and at most one closes
   pub answers : answers_of (past ++ received piece ∷ []) after ≡ answers_of past before ++ option_to_list (closed_by past before (received piece) after)
   pub gives : step ≡ step_of past before piece after fault

@@ -1,5 +1,5 @@
 //! Laws of the definitions that the contracts cite. Each function does nothing: its contract is the law.
-ghost use Rattle.plugin_core.specs.AskPoints.{AnswersByAskPoints};
+ghost use Rattle.plugin_core.specs.AskPoints.{AnswersByAskPoints, SendsWhatIsAsked};
 ghost use Rattle.plugin_core.specs.Laws.{OneReading, OneStep, ShortPrompts};
 
 /// The answers of a past are those that its ask points give: each is the first block that starts at or
@@ -7,6 +7,13 @@ ghost use Rattle.plugin_core.specs.Laws.{OneReading, OneStep, ShortPrompts};
 /// closes the answer before and the one that accepts the item.
 pub fn answers_by_ask_points()
     ensures { AnswersByAskPoints }
+{}
+
+/// What is sent is what is asked: an event that doesn't end the life sends the bytes of the item that it
+/// asks. This is the item for which it is the later of two events, the one that closes the answer before
+/// and the one that accepts the item.
+pub fn sends_what_is_asked()
+    ensures { SendsWhatIsAsked }
 {}
 
 /// A stream has one reading: its blocks before its fault, and that fault.
