@@ -6,7 +6,7 @@ use Rattle.std.proofs.lemmas.Bool.Decides.{nat_tests}
 use Rattle.disk_model.specs.Disk.{Torn, Written}
 use Rattle.disk_model.specs.Crash.{left_by, laid}
 use Rattle.disk_model.specs.Replay.{torn_by_write}
-use Rattle.disk_model.proofs.Written.{length-overwritten}
+use Rattle.disk_model.specs.Moments.{length-overwritten}
 use Rattle.disk_model.specs.declared.crash.Fill.{Fill}
 use Rattle.disk_model.specs.declared.crash.Fill.TheVariants as fills
 

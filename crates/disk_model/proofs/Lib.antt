@@ -1,5 +1,3 @@
-pub mod Moments
-pub mod Written
 pub mod Record
 pub mod Drawn
 pub mod Laid

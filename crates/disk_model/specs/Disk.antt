@@ -3,6 +3,10 @@ use Rattle.std.specs.Prelude.{◌≡◌, ℕ, ◌+◌, ◌-◌, ◌≤◌, ◌^�
 use Rattle.disk_model.specs.declared.disk.Area.{Area}
 use Rattle.disk_model.specs.declared.disk.Area.TheVariants.{First, Second}
 
+-- the most bytes of an area, whatever the disk
+abbrev pub max_room : ℕ
+max_room = 2147483648
+
 -- the bytes of both areas
 pub record Image : Type 0 where
   pub first : List ℕ
@@ -117,7 +121,8 @@ max_faults = 2 ^ 64 - 1
 abbrev pub Rises : ℕ → ℕ → Type 0
 Rises old new = min (old + 1) max_faults ≤ new
 
--- a disk after calls on it: the same room, the model kept or not as before, no failure forgotten
+-- a disk and the same disk after calls on it, whatever they did to its bytes: the same room, the model kept or not as before,
+-- no failure forgotten
 pub record SameDisk (old new : DiskView) : Type 0 where
   pub room : new.room ≡ old.room
   pub keeps_model : new.keeps_model ≡ old.keeps_model
@@ -131,7 +136,8 @@ pub record Called {T E : Type 0} (result : Result T E) (old new : DiskView) : Ty
   pub bounded : new.faults ≤ max_faults
   pub cause : MatchResult result (λ _. Unit {0}) (λ _. Rises old.faults new.faults)
 
--- a call that only looks: a read gives what it gave, and no moment of it leaves an image that is new
+-- calls that change no byte: a read gives what it gave, and no moment of them leaves an image that is new.
+-- They may make written bytes durable, as a sync does.
 pub record Looks (old new : History) : Type 0 where
   pub content : content_of new ≡ content_of old
   pub moments : LeavesOnly (IsImage old.now) old new

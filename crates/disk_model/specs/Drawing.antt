@@ -1,4 +1,4 @@
--- What `crash` has drawn of an area so far.
+-- What `crash` has drawn of an area so far. No public clause speaks of it.
 use Rattle.std.specs.Prelude.{◌≡◌, length}
 use Rattle.disk_model.specs.Disk.{AreaState}
 use Rattle.disk_model.specs.Crash.{all_laid}

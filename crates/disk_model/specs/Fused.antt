@@ -1,6 +1,6 @@
 -- What a call does to a disk with a fuse.
 use Rattle.std.specs.Prelude.{◌≡◌, ℕ, ◌+◌, min, Result, IsErr}
-use Rattle.disk_model.specs.Disk.{Called, DiskView}
+use Rattle.disk_model.specs.Disk.{Called, DiskView, max_faults}
 use Rattle.disk_model.specs.Fuse.{Blows, fused}
 use Rattle.disk_model.specs.declared.fuse.FuseDisk.{FuseDisk}
 use Rattle.disk_model.specs.declared.fuse.FuseMode.{FuseMode}
@@ -21,10 +21,11 @@ pub record IsNew {D : Type 0} (f : FuseDisk D) (inner : D) (k : ℕ) (mode : Fus
 abbrev pub IsBlown : {D : Type 0} → FuseDisk D → Type 0
 IsBlown f = Blows f.fuse.mode f.fuse.k f.fuse.calls
 
--- one call: counted up to the k-th, failed without passing it on where the fuse is blown, else answered by the disk inside
+-- one call: counted up to the k-th; where the fuse is blown failed without passing it on, and counted as one failure more;
+-- else answered by the disk inside
 pub record Spends {D T E : Type 0} (view : D → DiskView) (result : Result T E) (old new : FuseDisk D) : Type 0 where
   pub k : new.fuse.k ≡ old.fuse.k
   pub mode : new.fuse.mode ≡ old.fuse.mode
   pub calls : new.fuse.calls ≡ min (old.fuse.calls + 1) old.fuse.k
-  pub failed : IsBlown old → IsErr result × (new.inner ≡ old.inner)
+  pub failed : IsBlown old → IsErr result × (new.inner ≡ old.inner) × (new.fuse.refused ≡ min (old.fuse.refused + 1) max_faults)
   pub passed_on : (IsBlown old → ⊥) → (new.fuse.refused ≡ old.fuse.refused) × Called result (view old.inner) (view new.inner)

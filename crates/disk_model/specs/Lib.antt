@@ -6,3 +6,5 @@ pub mod Drawing
 pub mod Memory
 pub mod Fuse
 pub mod Fused
+pub mod Moments
+pub mod Laws

@@ -1,4 +1,4 @@
--- Each content of a memory disk is one of its images.
+-- Each content of a memory disk is one of its images. No public clause speaks of it: `MemoryDisk` cites it where it meets the trait.
 use Rattle.std.specs.Prelude.{◌≡◌, ℕ, ◌+◌, ◌≤◌, Bool, true, false, nat_le, List, [], ◌∷◌, ◌++◌, length, take, drop, refl}
 use Rattle.std.proofs.Common.{◌∙◌, ap, arith, append_assoc, length-append, length-take, length-drop}
 use Rattle.std.proofs.lemmas.List.{take_at, drop_at}

@@ -1,7 +1,6 @@
 // A disk as a journal sees it.
 ghost use Rattle.std.specs.Prelude.{◌≡◌, ◌+◌, ◌≤◌, length, take, drop, IsTrue, IfOk, OnOk};
-ghost use Rattle.disk_model.specs.Disk.{DiskView, InModel, Called, Looks, Writes, Syncs, IsImage, content_of, area_of};
-ghost use Rattle.disk_model.specs.declared.disk.TheConstants.{MAX_ROOM};
+ghost use Rattle.disk_model.specs.Disk.{DiskView, InModel, Called, Looks, Writes, Syncs, IsImage, content_of, area_of, max_room};
 
 /// The greatest room of a disk, in bytes.
 pub const MAX_ROOM: u64 = 2_147_483_648;
@@ -9,9 +8,9 @@ pub const MAX_ROOM: u64 = 2_147_483_648;
 /// One of the two areas of a disk.
 #[derive(Clone, Copy, Debug, PartialEq, Eq)]
 pub enum Area {
-    /// The area that is written first.
+    /// It holds the header with the selector, which says what area is active, and the records.
     First,
-    /// The other one.
+    /// It is empty, and nothing but a creation looks at it.
     Second,
 }
 
@@ -34,9 +33,9 @@ pub trait Disk: Drop {
     /// How long an area may become, in bytes.
     fn room(&self) -> u64
         ensures room { result ≡ (view self.now).room }
-        ensures bound { result ≤ MAX_ROOM };
+        ensures bound { result ≤ max_room };
 
-    /// The length of an area in bytes.
+    /// The length of an area in bytes, at most the room.
     fn len(&mut self, area: Area) -> Result<u64, DiskFault>
         ensures called { Called result (view self.old) (view self.new) }
         ensures bound { IfOk result (λ n. n ≤ (view self.old).room) }
@@ -44,7 +43,7 @@ pub trait Disk: Drop {
         ensures looks { InModel (view self.old) (Looks (view self.old).history (view self.new).history) }
         ensures length { InModel (view self.old) (IfOk result (λ n. n ≡ length (area_of area (content_of (view self.old).history)))) };
 
-    /// Fills the buffer with the bytes from `offset` on.
+    /// Fills the buffer with the bytes from `offset` on, all of them within the area's length.
     fn read(&mut self, area: Area, offset: u64, buffer: &mut [u8]) -> Result<(), DiskFault>
         requires { InModel (view self.old) (offset + length buffer.old ≤ length (area_of area (content_of (view self.old).history))) }
 
@@ -53,7 +52,8 @@ pub trait Disk: Drop {
         ensures looks { InModel (view self.old) (Looks (view self.old).history (view self.new).history) }
         ensures bytes { InModel (view self.old) (OnOk result (buffer.new ≡ take (length buffer.old) (drop offset (area_of area (content_of (view self.old).history))))) };
 
-    /// Puts bytes over what stands at `offset`, and past the end. A write that fails may be torn.
+    /// Puts bytes over what stands at `offset`, and past the end. They begin at most at the area's
+    /// length, and end at most at the room. A write that fails may be torn.
     fn write_at(&mut self, area: Area, offset: u64, bytes: &[u8]) -> Result<(), DiskFault>
         requires { InModel (view self.old) ((offset ≤ length (area_of area (content_of (view self.old).history))) × (offset + length bytes.now ≤ (view self.old).room)) }
 
@@ -68,7 +68,7 @@ pub trait Disk: Drop {
         ensures syncs { InModel (view self.old) (Syncs area result (view self.old).history (view self.new).history) };
 
     /// No area may become longer.
-    ghost small: { (disk : Self) → (view disk).room ≤ MAX_ROOM };
+    ghost small: { (disk : Self) → (view disk).room ≤ max_room };
 
     /// What a read gives is one of the images that a crash may leave.
     ghost content_stays: { (disk : Self) → InModel (view disk) (IsImage (view disk).history.now (content_of (view disk).history)) };

@@ -1,7 +1,7 @@
 // A disk that fails from some call on, or at one call alone.
 ghost use Rattle.std.specs.Prelude.{◌≡◌, ◌+◌, ◌≤◌, ◌↔◌, length, take, drop, min, IfOk, IsErr, OnErr, OnOk};
 ghost use Rattle.disk_model.specs.Fuse.{Blows};
-ghost use Rattle.disk_model.specs.Disk.{Called, InModel, Looks, Rises, Syncs, Writes, area_of, content_of};
+ghost use Rattle.disk_model.specs.Disk.{Called, InModel, Looks, Rises, Syncs, Writes, area_of, content_of, max_faults};
 
 use crate::{Area, Disk, DiskFault};
 
@@ -31,6 +31,7 @@ impl Fuse {
         ensures counts { self.new.calls ≡ min (self.old.calls + 1) self.old.k }
         ensures same { (self.new.k ≡ self.old.k) × (self.new.mode ≡ self.old.mode) }
         ensures passed { OnOk result (self.new.refused ≡ self.old.refused) }
+        ensures counted { OnErr result (self.new.refused ≡ min (self.old.refused + 1) max_faults) }
         ensures refused { OnErr result (Rises self.old.refused self.new.refused × (self.old.refused ≤ self.new.refused)) }
     {
         let blows = match self.mode {

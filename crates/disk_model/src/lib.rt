@@ -7,6 +7,7 @@
 mod crash;
 mod disk;
 mod fuse;
+pub mod laws;
 mod memory;
 
 pub use crash::{Choice, Fill};

@@ -1,12 +1,11 @@
 // A disk in memory, which keeps a record of its calls.
 ghost use Rattle.std.specs.Prelude.{◌≡◌, ◌≤◌, ◌<◌, ◌+◌, ◌^◌, ◌++◌, ◌∷◌, [], length, take, drop, IfOk, OnOk, OnErr};
-ghost use Rattle.disk_model.specs.Disk.{Called, InModel, Looks, Syncs, Writes, area_of, content_of, overwritten};
+ghost use Rattle.disk_model.specs.Disk.{Called, InModel, Looks, Syncs, Writes, area_of, content_of, max_room, overwritten};
 ghost use Rattle.disk_model.specs.Calls.{Notes, after_sync, after_write, fresh, history_after, started_with, step, with_area};
 ghost use Rattle.disk_model.specs.Replay.{stays_an_image};
-ghost use Rattle.disk_model.specs.declared.disk.TheConstants.{MAX_ROOM};
 
 use crate::crash::area_image;
-use crate::{Area, Choice, Disk, DiskFault, MAX_ROOM, OutOfMemory};
+use crate::{Area, Choice, Disk, DiskFault, OutOfMemory};
 use std::alloc::{AllocError, Global};
 
 /// A call that was made, and did something.
@@ -32,7 +31,7 @@ pub struct MemoryDisk {
     calls: Vec<Call>,
     first: Vec<u8>,
     second: Vec<u8>,
-    ghost small: { room ≤ MAX_ROOM },
+    ghost small: { room ≤ max_room },
     ghost first_is: { first.items ≡ (history_after (started_with (record { first = first_start.items; second = second_start.items })) calls.items).now.first.content },
     ghost second_is: { second.items ≡ (history_after (started_with (record { first = first_start.items; second = second_start.items })) calls.items).now.second.content },
     ghost first_fits: { length first.items ≤ room },
@@ -45,7 +44,7 @@ impl MemoryDisk {
 
     /// An empty disk of this room, in bytes.
     pub fn new(alloc: Global, room: u64) -> MemoryDisk
-        requires { room ≤ MAX_ROOM }
+        requires { room ≤ max_room }
         ensures { view_of result ≡ fresh room (record { first = []; second = [] }) }
     {
         MemoryDisk {
@@ -62,7 +61,7 @@ impl MemoryDisk {
 
     /// A disk of this room whose first area holds these bytes, and whose second area is empty.
     pub fn holding(alloc: Global, room: u64, first: Vec<u8>) -> Result<MemoryDisk, OutOfMemory>
-        requires room { room ≤ MAX_ROOM }
+        requires room { room ≤ max_room }
         requires fits { length first.items ≤ room }
         ensures { IfOk result (λ disk. view_of disk ≡ fresh room (record { first = first.items; second = [] })) }
     {
@@ -76,7 +75,7 @@ impl MemoryDisk {
         first: Vec<u8>,
         second: Vec<u8>,
     ) -> Result<MemoryDisk, OutOfMemory>
-        requires room { room ≤ MAX_ROOM }
+        requires room { room ≤ max_room }
         requires first_fits { length first.items ≤ room }
         requires second_fits { length second.items ≤ room }
         ensures { IfOk result (λ disk. view_of disk ≡ fresh room (record { first = first.items; second = second.items })) }

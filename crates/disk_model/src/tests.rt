@@ -112,6 +112,61 @@ fn fuse_fails_the_kth_call_alone(rt: HostRuntime) {
     assert_eq!(rt; spent(alloc, 3, FuseMode::Only), ([true, true, false], 2));
 }
 
+// A disk with a write that no sync follows, behind a fuse that never blows.
+fn behind_a_fuse(alloc: Global) -> Result<FuseDisk<MemoryDisk>, Fail> {
+    Ok(FuseDisk::new(half_written(alloc)?, 0, FuseMode::Only))
+}
+
+// Whether so many calls are on record, and a crash still leaves the pending write or not.
+fn is_still_pending(disk: FuseDisk<MemoryDisk>, calls: u64) -> Result<bool, Fail> {
+    let disk = disk.into_inner();
+    let mut choice = Choice {
+        moment: calls,
+        fill: Fill::Old,
+        grown: false,
+    };
+    let without = crashed(&disk, &choice)?;
+    choice.fill = Fill::New;
+    choice.grown = true;
+    let with = crashed(&disk, &choice)?;
+    Ok(
+        disk.calls() == calls
+            && without.content(Area::First) == b"abcd".as_slice()
+            && with.content(Area::First) == b"abcXY".as_slice(),
+    )
+}
+
+#[test]
+fn fuse_passes_each_call_on_once(rt: HostRuntime) -> Result<(), Fail> {
+    let alloc = rt.alloc();
+    let mut disk = behind_a_fuse(alloc)?;
+    let len = disk.len(Area::First).map_err(|_| "len")?;
+    assert_eq!(rt; len, 5);
+    assert!(rt; is_still_pending(disk, 4)?);
+
+    let mut disk = behind_a_fuse(alloc)?;
+    let len = disk.len(Area::First).map_err(|_| "len")?;
+    let mut buffer = [0u8; 4];
+    if len < 4 {
+        return Err("short".into());
+    }
+    disk.read(Area::First, 0, &mut buffer).map_err(|_| "read")?;
+    assert_eq!(rt; buffer, *b"abcX");
+    assert!(rt; is_still_pending(disk, 5)?);
+
+    let mut disk = behind_a_fuse(alloc)?;
+    if disk.room() < 1 {
+        return Err("no room".into());
+    }
+    disk.write_at(Area::Second, 0, b"a").map_err(|_| "write")?;
+    assert!(rt; is_still_pending(disk, 4)?);
+
+    let mut disk = behind_a_fuse(alloc)?;
+    disk.sync(Area::Second).map_err(|_| "sync")?;
+    assert!(rt; is_still_pending(disk, 4)?);
+    Ok(())
+}
+
 // All memory, in blocks of falling size.
 fn exhausted(alloc: Global) -> Result<Vec<Vec<u8>>, AllocError> {
     let mut held: Vec<Vec<u8>> = Vec::with_capacity(alloc, 200_000)?;
@@ -157,14 +212,13 @@ struct Unclaimed {
 }
 
 impl Disk for Unclaimed {
-    ghost use Rattle.disk_model.specs.Disk.{unclaimed};
+    ghost use Rattle.disk_model.specs.Disk.{max_room, unclaimed};
     ghost use Rattle.disk_model.specs.Calls.{started_with};
-    ghost use Rattle.disk_model.specs.declared.disk.TheConstants.{MAX_ROOM};
     ghost use Rattle.std.specs.Prelude.{false, []};
     ghost use Rattle.std.proofs.Common.{arith};
 
     ghost view = { λ d. record {
-      room = MAX_ROOM;
+      room = max_room;
       faults = d.faults;
       keeps_model = false;
       history = started_with (record { first = []; second = [] });

@@ -2,7 +2,7 @@
 use Rattle.std.proofs.Common.{◌≡◌, ⊎_elim, ℕ, ◌+◌, ◌<◌, List, [], ◌∷◌, ◌++◌, length, take, refl, sym, ◌∙◌, ap, subst, arith, append_assoc, IsTrue}
 use Rattle.std.proofs.lemmas.List.{append-nil}
 use Rattle.disk_model.specs.Disk.{Image, History, InModel, LeavesOnly, SameDisk}
-use Rattle.disk_model.proofs.Moments.{started, weakens, goes_on}
+use Rattle.disk_model.specs.Moments.{started, weakens, goes_on}
 use Rattle.journal.specs.Kept.{BeforeOrAfter, JournalView, Keeps, Stands}
 use Rattle.journal.specs.Batch.{Appended, SomeFirst}
 use Rattle.journal.proofs.Kept.{images_stand}

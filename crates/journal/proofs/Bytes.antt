@@ -3,7 +3,7 @@ use Rattle.std.proofs.Common.{◌≡◌, ◌≢◌, ◌⊎◌, inl, inr, ap₂, 
 use Rattle.std.proofs.lemmas.List.{take_at, drop_at, drop_more, take_more, length-take-le, append-nil}
 use Rattle.std.proofs.lemmas.Bool.{cases_eq}
 use Rattle.disk_model.specs.Disk.{Torn, overwritten}
-use Rattle.journal.specs.Area.{Lays, header, records, record_of, body_of, IsPayload, ArePayloads, end_of}
+use Rattle.journal.specs.Area.{Lays, header, records, record_of, body_of, IsPayload, ArePayloads, end_of, first_gate}
 
 pub records-push : (payloads : List (List ℕ)) (payload : List ℕ) → records (payloads ++ payload ∷ []) ≡ records payloads ++ record_of payload
 records-push [] payload = append-nil (record_of payload)
@@ -114,7 +114,7 @@ module _ (limit selector : ℕ) (content : List ℕ) (payloads : List (List ℕ)
           subst (λ (l : List ℕ). Lays limit selector l (payloads ++ payload ∷ [])) (sym whole) (opened rest)
 
 pub end-push : (payloads : List (List ℕ)) (payload : List ℕ) → end_of (payloads ++ payload ∷ []) ≡ end_of payloads + length (record_of payload)
-end-push payloads payload = ap (λ (l : List ℕ). 10 + length l) (records-push payloads payload) ∙ omega (arith, length-append (records payloads) (record_of payload))
+end-push payloads payload = ap (λ (l : List ℕ). first_gate + length l) (records-push payloads payload) ∙ omega (arith, length-append (records payloads) (record_of payload))
 
 -- two writes, of what stands behind an offset and then of the byte there, are one
 pub overwritten-overwritten : (old : List ℕ) (end c : ℕ) (bytes : List ℕ) → end < length old → overwritten (overwritten old (end + 1) bytes) end (c ∷ []) ≡ overwritten old end (c ∷ bytes)

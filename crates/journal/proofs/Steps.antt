@@ -2,15 +2,15 @@
 use Rattle.std.proofs.Common.{◌≡◌, inl, inr, ⊎_elim, ℕ, ◌+◌, List, [], ◌∷◌, ◌++◌, length, drop, refl, sym, ◌∙◌, ap, subst, arith, Result, Ok, length-append}
 use Rattle.disk_model.specs.Disk.{Image, History, IsImage, Torn, LeavesOnly, Writes, Syncs, content_of, overwritten}
 use Rattle.disk_model.specs.declared.disk.Area.TheVariants.{First}
-use Rattle.disk_model.proofs.Moments.{started, goes_on, weakens, at_end, stays}
+use Rattle.disk_model.specs.Moments.{started, goes_on, weakens, at_end, stays}
 use Rattle.journal.specs.Area.{Lays, StandsFor, body_of, IsPayload}
-use Rattle.journal.specs.declared.frame.TheConstants.{MAX_PAYLOAD}
+use Rattle.journal.specs.Limits.{max_payload}
 use Rattle.journal.specs.Kept.{Keeps, BeforeOrAfter}
 use Rattle.journal.proofs.Bytes.{torn_behind, staged, after_stage, torn_gate, after_gate, end-push}
 
-module _ (h0 : History) (end : ℕ) (payloads : List (List ℕ)) (keeps : Keeps h0 end payloads) (payload : List ℕ) (is_payload : IsPayload MAX_PAYLOAD payload) (bytes : List ℕ) (are : bytes ≡ body_of payload ++ 0 ∷ []) where
+module _ (h0 : History) (end : ℕ) (payloads : List (List ℕ)) (keeps : Keeps h0 end payloads) (payload : List ℕ) (is_payload : IsPayload max_payload payload) (bytes : List ℕ) (are : bytes ≡ body_of payload ++ 0 ∷ []) where
   abbrev limit : ℕ
-  limit = MAX_PAYLOAD
+  limit = max_payload
 
   -- the same selector, and other payloads
   stands : (bytes : List ℕ) (others : List (List ℕ)) → Lays limit keeps.stands.selector bytes others → StandsFor limit bytes others

@@ -3,12 +3,12 @@ use Rattle.std.proofs.Common.{◌≡◌, ◌≢◌, ⊎_elim, ℕ, ◌<◌, ◌^
 use Rattle.std.specs.Int.{to_be_bytes, from_be_bytes, w32}
 use Rattle.std.proofs.lemmas.List.{take_at, drop_at}
 use Rattle.std.proofs.lemmas.Nat.{from_be_bytes-to_be_bytes_4}
-use Rattle.journal.specs.Area.{Lays, StandsFor, header, records, record_of, body_of, IsPayload, ArePayloads}
+use Rattle.journal.specs.Area.{Lays, StandsFor, header, records, record_of, body_of, IsPayload, ArePayloads, end_of}
 use Rattle.journal.specs.Damage.{HasHeader, IsBroken, IsDamaged}
 use Rattle.disk_model.specs.Disk.{Image}
 use Rattle.journal.specs.Kept.{Stands}
 use Rattle.journal.specs.Open.{IsPassing, Tells}
-use Rattle.journal.specs.declared.frame.TheConstants.{MAX_PAYLOAD}
+use Rattle.journal.specs.Limits.{max_payload}
 use Rattle.journal.specs.declared.opening.OpenCause.{OpenCause}
 use Rattle.journal.specs.declared.opening.OpenCause.TheVariants as causes
 
@@ -54,6 +54,36 @@ module _ (limit : ℕ) (fits : limit < 2 ^ 32) where
       let rest : records ps ++ g ∷ x ≡ records qs ++ 82 ∷ more = sym (drop_at p (records ps ++ g ∷ x) (length p) refl) ∙ ap (λ (l : List ℕ). drop (length p) l) behind ∙ drop_at q (records qs ++ 82 ∷ more) (length p) (sym size) in
       none_broken ps qs g x more eps.1 eqs.1 closed broken rest
 
+  -- a record and what stands behind it are not broken
+  whole_record : (p rest : List ℕ) → IsPayload limit p → 0 < length rest → IsBroken limit (body_of p ++ rest) → ⊥
+  whole_record p rest is some broken =
+      let told : from_be_bytes w32 (to_be_bytes w32 (length p)) ≡ length p = from_be_bytes-to_be_bytes_4 (length p) (omega (arith, is.1, fits)) in
+      let longer = length-append p rest in
+      ⊎_elim (λ none. omega (arith, none, told, is.0)) (λ other. ⊎_elim (λ large. omega (arith, large, told, is.1)) (λ short. omega (arith, short, told, longer, some)) other) broken
+
+  -- the records before what is broken are the same, however they are read
+  same_damage : (ps qs : List (List ℕ)) (x y : List ℕ) → ArePayloads limit ps → ArePayloads limit qs → IsBroken limit x → IsBroken limit y → records ps ++ 82 ∷ x ≡ records qs ++ 82 ∷ y → ps ≡ qs
+  same_damage [] [] x y eps eqs bx bn same = refl
+  same_damage [] (q ∷ qs) x y eps eqs bx bn same =
+      let behind : x ≡ body_of q ++ (records qs ++ 82 ∷ y) = ap (λ (l : List ℕ). drop 1 l) (same ∙ append_assoc (record_of q) (records qs) (82 ∷ y)) in
+      absurd (whole_record q (records qs ++ 82 ∷ y) eqs.0 (omega (arith, length-append (records qs) (82 ∷ y))) (subst (λ (l : List ℕ). IsBroken limit l) behind bx))
+  same_damage (p ∷ ps) [] x y eps eqs bx bn same =
+      let behind : y ≡ body_of p ++ (records ps ++ 82 ∷ x) = ap (λ (l : List ℕ). drop 1 l) (sym same ∙ append_assoc (record_of p) (records ps) (82 ∷ x)) in
+      absurd (whole_record p (records ps ++ 82 ∷ x) eps.0 (omega (arith, length-append (records ps) (82 ∷ x))) (subst (λ (l : List ℕ). IsBroken limit l) behind bn))
+  same_damage (p ∷ ps) (q ∷ qs) x y eps eqs bx bn same =
+      let tail : body_of p ++ (records ps ++ 82 ∷ x) ≡ body_of q ++ (records qs ++ 82 ∷ y) = ap (λ (l : List ℕ). drop 1 l) (sym (append_assoc (record_of p) (records ps) (82 ∷ x)) ∙ same ∙ append_assoc (record_of q) (records qs) (82 ∷ y)) in
+      let size = length_told p q (records ps ++ 82 ∷ x) (records qs ++ 82 ∷ y) eps.0 eqs.0 tail in
+      let behind : p ++ (records ps ++ 82 ∷ x) ≡ q ++ (records qs ++ 82 ∷ y) = ap (λ (l : List ℕ). drop 4 l) tail in
+      let first : p ≡ q = sym (take_at p (records ps ++ 82 ∷ x) (length p) refl) ∙ ap (λ (l : List ℕ). take (length p) l) behind ∙ take_at q (records qs ++ 82 ∷ y) (length p) (sym size) in
+      let rest : records ps ++ 82 ∷ x ≡ records qs ++ 82 ∷ y = sym (drop_at p (records ps ++ 82 ∷ x) (length p) refl) ∙ ap (λ (l : List ℕ). drop (length p) l) behind ∙ drop_at q (records qs ++ 82 ∷ y) (length p) (sym size) in
+      let others = same_damage ps qs x y eps.1 eqs.1 bx bn rest in
+      cc
+
+  pub damaged_once : (bytes : List ℕ) (g h : ℕ) → IsDamaged limit bytes g → IsDamaged limit bytes h → g ≡ h
+  damaged_once bytes g h d e =
+      d.4 ∙ ap end_of (same_damage d.1 e.1 d.2 e.2 d.3.each e.3.each d.5 e.5
+      (ap (λ (b : List ℕ). drop 10 b) (sym (append_assoc (header d.0) (records d.1) (82 ∷ d.2)) ∙ sym d.3.is ∙ e.3.is ∙ append_assoc (header e.0) (records e.1) (82 ∷ e.2)))) ∙ sym e.4
+
   pub undamaged : (bytes : List ℕ) (ps : List (List ℕ)) (gate : ℕ) → StandsFor limit bytes ps → IsDamaged limit bytes gate → ⊥
   undamaged bytes ps gate s d =
       none_broken ps d.1 s.lays.gate s.lays.rest d.2 s.lays.each d.3.each s.lays.closed d.5
@@ -68,15 +98,19 @@ module _ (limit : ℕ) (fits : limit < 2 ^ 32) where
     omega (arith, length-append (records ps) (s.lays.gate ∷ s.lays.rest)),
   )
 
+-- bytes stand for one list of payloads
+pub one_list : (limit : ℕ) → limit < 2 ^ 32 → (area : List ℕ) (payloads others : List (List ℕ)) → StandsFor limit area payloads → StandsFor limit area others → payloads ≡ others
+one_list limit fits area payloads others s t = laid_out_once limit fits s.selector t.selector area payloads others s.lays t.lays
+
 -- what a disk stands for is what its bytes lay out
 pub given : (i j : Image) (ps qs : List (List ℕ)) → j ≡ i → Stands j ps → Stands i qs → ps ≡ qs
 given i j ps qs same stands others =
     let s = subst (λ (k : Image). Stands k ps) same stands in
-    laid_out_once MAX_PAYLOAD (omega arith) s.selector others.selector i.first ps qs s.lays others.lays
+    one_list max_payload (omega arith) i.first ps qs s others
 
 -- and then no cause lies in them
 pub refused : (i : Image) (qs : List (List ℕ)) (cause : OpenCause) → Tells i cause → Stands i qs → IsPassing cause
-refused i qs (causes.Damaged gate) told stands = undamaged MAX_PAYLOAD (omega arith) i.first qs gate stands told
-refused i qs causes.NotASheet told stands = told (has_header MAX_PAYLOAD (omega arith) i.first qs stands)
+refused i qs (causes.Damaged gate) told stands = undamaged max_payload (omega arith) i.first qs gate stands told
+refused i qs causes.NotASheet told stands = told (has_header max_payload (omega arith) i.first qs stands)
 refused i qs causes.Disk told stands = tt
 refused i qs causes.OutOfMemory told stands = tt

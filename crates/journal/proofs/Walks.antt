@@ -1,6 +1,6 @@
 -- One record more on a walk.
 use Rattle.std.proofs.Common.{◌≡◌, ℕ, ◌+◌, ◌<◌, List, [], ◌∷◌, ◌++◌, length, refl, sym, ◌∙◌, ap, subst, arith, append_assoc, length-append}
-use Rattle.journal.specs.Area.{header, records, record_of, IsPayload, end_of}
+use Rattle.journal.specs.Area.{header, records, record_of, IsPayload, end_of, first_gate}
 use Rattle.journal.specs.Damage.{Walked}
 use Rattle.journal.specs.Walk.{payloads_in, AreGates}
 use Rattle.journal.specs.declared.walk.Payload.{Payload}
@@ -29,5 +29,5 @@ module _ (limit : ℕ) (bytes : List ℕ) (ps new : List Payload) (p : Payload) 
   pub gate_on : (gate : ℕ) → gate ≡ end_of (payloads_in ps) → gate + (5 + length p.bytes) ≡ end_of (payloads_in new)
   gate_on gate at = omega (arith, at, ap end_of (ap payloads_in is_push ∙ payloads_in-push ps p), end-push (payloads_in ps) p.bytes)
 
-  pub gates_on : p.gate ≡ end_of (payloads_in ps) → AreGates 10 ps → AreGates 10 new
-  gates_on at gates = subst (λ l. AreGates 10 l) (sym is_push) (AreGates-push ps p 10 gates at)
+  pub gates_on : p.gate ≡ end_of (payloads_in ps) → AreGates first_gate ps → AreGates first_gate new
+  gates_on at gates = subst (λ l. AreGates first_gate l) (sym is_push) (AreGates-push ps p first_gate gates at)

@@ -28,9 +28,13 @@ abbrev pub ArePayloads : ℕ → List (List ℕ) → Type 0
 ArePayloads limit [] = Unit {0}
 ArePayloads limit (payload ∷ payloads) = IsPayload limit payload × ArePayloads limit payloads
 
+-- the offset of the first gate, which stands behind the header
+abbrev pub first_gate : ℕ
+first_gate = 10
+
 -- the offset of the gate behind the records of these payloads
 abbrev pub end_of : List (List ℕ) → ℕ
-end_of payloads = 10 + length (records payloads)
+end_of payloads = first_gate + length (records payloads)
 
 -- a header with this selector, the records of these payloads, a closed gate, and then anything
 pub record Lays (limit selector : ℕ) (bytes : List ℕ) (payloads : List (List ℕ)) : Type 0 where

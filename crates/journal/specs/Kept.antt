@@ -2,7 +2,7 @@
 use Rattle.std.specs.Prelude.{◌≡◌, ◌⊎◌, ℕ, ◌+◌, ◌≤◌, List, [], ◌∷◌, ◌++◌}
 use Rattle.disk_model.specs.Disk.{Image, DiskState, DiskView, History, IsImage, content_of}
 use Rattle.journal.specs.Area.{StandsFor, end_of}
-use Rattle.journal.specs.declared.frame.TheConstants.{MAX_PAYLOAD}
+use Rattle.journal.specs.Limits.{max_payload}
 
 -- the active area, in which the journal is, and the other one
 abbrev pub active_of : Image → List ℕ
@@ -13,7 +13,7 @@ other_of i = i.second
 
 -- the image stands for these payloads
 abbrev pub Stands : Image → List (List ℕ) → Type 0
-Stands i payloads = StandsFor MAX_PAYLOAD (active_of i) payloads
+Stands i payloads = StandsFor max_payload (active_of i) payloads
 
 -- the disk stands for these payloads, they are durable, and the closed gate behind them is at `end`
 pub record Keeps (h : History) (end : ℕ) (payloads : List (List ℕ)) : Type 0 where
@@ -36,9 +36,4 @@ pub record JournalView : Type 0 where
 
 -- a payload of n bytes, its record and the next gate fit behind the end
 abbrev pub Fits : ℕ → ℕ → ℕ → Type 0
-Fits room end n = (n ≤ MAX_PAYLOAD) × (end + 5 + n + 1 ≤ room)
-
--- area First has these bytes, and they are durable
-pub record Holds (h : History) (bytes : List ℕ) : Type 0 where
-  pub content : (content_of h).first ≡ bytes
-  pub durable : (i : Image) → IsImage h.now i → i.first ≡ (content_of h).first
+Fits room end n = (n ≤ max_payload) × (end + 5 + n + 1 ≤ room)

@@ -1,3 +1,4 @@
+pub mod Limits
 pub mod Area
 pub mod Damage
 pub mod Kept
@@ -6,3 +7,5 @@ pub mod Journal
 pub mod Walk
 pub mod Open
 pub mod Batch
+pub mod Loaded
+pub mod Laws

@@ -3,7 +3,7 @@ use Rattle.std.specs.Prelude.{◌≡◌, ℕ, List, []}
 use Rattle.disk_model.specs.Disk.{Image}
 use Rattle.journal.specs.Damage.{IsDamaged, HasHeader}
 use Rattle.journal.specs.Kept.{active_of}
-use Rattle.journal.specs.declared.frame.TheConstants.{MAX_PAYLOAD}
+use Rattle.journal.specs.Limits.{max_payload}
 use Rattle.journal.specs.declared.opening.OpenCause.{OpenCause}
 use Rattle.journal.specs.declared.opening.OpenCause.TheVariants.{Damaged, NotASheet, Disk, OutOfMemory}
 
@@ -13,7 +13,7 @@ AreEmpty i = (i.first ≡ []) × (i.second ≡ [])
 
 -- what a cause says of the bytes of area First: the first gate that is damaged, or that no header stands there
 abbrev pub TellsOf : List ℕ → OpenCause → Type 0
-TellsOf bytes (Damaged gate) = IsDamaged MAX_PAYLOAD bytes gate
+TellsOf bytes (Damaged gate) = IsDamaged max_payload bytes gate
 TellsOf bytes NotASheet = HasHeader bytes → ⊥
 TellsOf bytes Disk = Unit {0}
 TellsOf bytes OutOfMemory = Unit {0}

@@ -1,4 +1,4 @@
--- A walk over the gates of an area.
+-- A walk over the gates of an area. No public clause speaks of `IsStep`.
 use Rattle.std.specs.Prelude.{◌≡◌, ◌≢◌, ℕ, ◌+◌, ◌<◌, List, [], ◌∷◌, ◌++◌, length, slice_index}
 use Rattle.journal.specs.Area.{record_of, IsPayload}
 use Rattle.journal.specs.Damage.{IsBroken}

@@ -1,17 +1,16 @@
 // The calls on the disk that add a record.
 ghost use Rattle.std.specs.Prelude.{◌≡◌, ◌<◌, ◌≤◌, ◌+◌, ◌++◌, ◌∷◌, [], List, ℕ, length, OnOk};
-ghost use Rattle.disk_model.specs.Disk.{InModel, Called, LeavesOnly, content_of, overwritten};
+ghost use Rattle.disk_model.specs.Disk.{InModel, Called, LeavesOnly, content_of, max_room, overwritten};
 ghost use Rattle.journal.specs.Area.{body_of, IsPayload};
 ghost use Rattle.journal.specs.Kept.{Keeps, BeforeOrAfter};
-ghost use Rattle.disk_model.specs.declared.disk.TheConstants.{MAX_ROOM};
-ghost use Rattle.journal.specs.declared.frame.TheConstants.{MAX_PAYLOAD};
+ghost use Rattle.journal.specs.Limits.{max_payload};
 
 use disk_model::{Area, Disk, DiskFault};
 
 /// Writes the bytes of a frame behind the closed gate at `end`, and opens the gate once they are
 /// durable.
 pub(crate) fn add<D: Disk>(disk: &mut D, end: u64, bytes: &[u8]) -> Result<(), DiskFault>
-    requires room { end + length bytes.now + 1 ≤ MAX_ROOM }
+    requires room { end + length bytes.now + 1 ≤ max_room }
     requires inside { InModel (D.view disk.old) ((end < length (content_of (D.view disk.old).history).first) × (end + 1 + length bytes.now ≤ (D.view disk.old).room)) }
 
     ensures called { Called result (D.view disk.old) (D.view disk.new) }
@@ -19,10 +18,10 @@ pub(crate) fn add<D: Disk>(disk: &mut D, end: u64, bytes: &[u8]) -> Result<(), D
     ensures written { OnOk result (InModel (D.view disk.old) ((content_of (D.view disk.new).history).first ≡ overwritten (content_of (D.view disk.old).history).first end (82 ∷ bytes.now))) }
     ensures inside { OnOk result (InModel (D.view disk.old) (end + length bytes.now < length (content_of (D.view disk.new).history).first)) }
 
-    ensures any_moment { InModel (D.view disk.old) ((payloads : List (List ℕ)) (payload : List ℕ) → IsPayload MAX_PAYLOAD payload → bytes.now ≡ body_of payload ++ 0 ∷ []
+    ensures any_moment { InModel (D.view disk.old) ((payloads : List (List ℕ)) (payload : List ℕ) → IsPayload max_payload payload → bytes.now ≡ body_of payload ++ 0 ∷ []
         → Keeps (D.view disk.old).history end payloads
         → LeavesOnly (BeforeOrAfter (D.view disk.old).history.now payloads payload) (D.view disk.old).history (D.view disk.new).history) }
-    ensures acknowledged { OnOk result (InModel (D.view disk.old) ((payloads : List (List ℕ)) (payload : List ℕ) → IsPayload MAX_PAYLOAD payload → bytes.now ≡ body_of payload ++ 0 ∷ []
+    ensures acknowledged { OnOk result (InModel (D.view disk.old) ((payloads : List (List ℕ)) (payload : List ℕ) → IsPayload max_payload payload → bytes.now ≡ body_of payload ++ 0 ∷ []
         → Keeps (D.view disk.old).history end payloads
         → Keeps (D.view disk.new).history (end + length bytes.now) (payloads ++ payload ∷ []))) }
 {

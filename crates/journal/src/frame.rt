@@ -1,6 +1,7 @@
 // The bytes of a record behind its gate, and the closed gate after it.
 ghost use Rattle.std.specs.Prelude.{◌≡◌, ◌<◌, ◌≤◌, ◌+◌, ◌++◌, ◌∷◌, [], List, ℕ, length, IfOk};
 ghost use Rattle.journal.specs.Area.{body_of, IsPayload};
+ghost use Rattle.journal.specs.Limits.{max_payload};
 
 use crate::OutOfMemory;
 use std::alloc::Global;
@@ -18,19 +19,20 @@ pub struct Frame {
 impl Model for Frame {
     ghost use Rattle.std.specs.Prelude.{List, ℕ};
     ghost use Rattle.journal.specs.Frame.{payload_in, IsFrame};
-    ghost use Rattle.journal.specs.declared.frame.TheConstants.{MAX_PAYLOAD};
+    ghost use Rattle.journal.specs.Limits.{max_payload};
 
     ghost Value = { List ℕ };
 
     ghost view = { λ f. payload_in f.bytes.items };
 
-    ghost invariant = { λ f. IsFrame MAX_PAYLOAD f.bytes.items };
+    ghost invariant = { λ f. IsFrame max_payload f.bytes.items };
 }
 
 impl Frame {
-    /// Makes the bytes that an append of this payload writes (docs/FORMAT.md, "Append").
+    /// Makes the bytes that an append of this payload of 1 to 2,097,152 bytes writes
+    /// (docs/FORMAT.md, "Append").
     pub fn new(alloc: Global, payload: &[u8]) -> Result<Frame, OutOfMemory>
-        requires { IsPayload MAX_PAYLOAD payload.now }
+        requires { IsPayload max_payload payload.now }
         ensures { IfOk result (λ frame. frame ≡ payload.now) }
     {
         let mut bytes = (payload.len() as u32).to_be_bytes().to_vec(alloc)?;
@@ -49,7 +51,7 @@ impl Frame {
     // The payload's length and the payload, and a closed gate.
     pub(crate) fn bytes(&self) -> &[u8]
         ensures bytes { result.now ≡ body_of self.now ++ 0 ∷ [] }
-        ensures payload { IsPayload MAX_PAYLOAD self.now }
+        ensures payload { IsPayload max_payload self.now }
     {
         &self.bytes
     }

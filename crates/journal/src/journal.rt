@@ -4,7 +4,7 @@ ghost use Rattle.disk_model.specs.Disk.{InModel, LeavesOnly, Looks, SameDisk, Ri
 ghost use Rattle.journal.specs.Walk.{payloads_in, AreGates};
 ghost use Rattle.journal.specs.Open.{Tells};
 ghost use Rattle.journal.specs.Kept.{BeforeOrAfter, Fits, Keeps, Stands, active_of, other_of};
-ghost use Rattle.journal.specs.Area.{added_at};
+ghost use Rattle.journal.specs.Area.{added_at, first_gate};
 
 use crate::append::add;
 use crate::opening::scan;
@@ -25,15 +25,14 @@ pub struct Journal<D: Disk> {
 
 impl<D: Disk> Model for Journal<D> {
     ghost use Rattle.std.specs.Prelude.{◌<◌, ◌≤◌, length};
-    ghost use Rattle.disk_model.specs.Disk.{InModel, content_of};
-    ghost use Rattle.disk_model.specs.declared.disk.TheConstants.{MAX_ROOM};
-    ghost use Rattle.journal.specs.Kept.{JournalView};
+    ghost use Rattle.disk_model.specs.Disk.{InModel, content_of, max_room};
+    ghost use Rattle.journal.specs.Kept.{JournalView, active_of};
 
     ghost Value = { JournalView };
 
     ghost view = { λ j. record { disk = D.view j.disk; end = j.end } };
 
-    ghost invariant = { λ j. (j.end ≤ MAX_ROOM) × InModel (D.view j.disk) (j.end < length (content_of (D.view j.disk).history).first) };
+    ghost invariant = { λ j. (j.end ≤ max_room) × InModel (D.view j.disk) (j.end < length (active_of (content_of (D.view j.disk).history))) };
 }
 
 /// An opening that was refused, and the disk.
@@ -63,7 +62,7 @@ impl<D: Disk> Journal<D> {
         ensures same { SameDisk (D.view disk) (opened D.view result) }
 
         ensures found { InModel (D.view disk) (IfOk result (λ found. Keeps found.0.disk.history found.0.end (payloads_in found.1.items))) }
-        ensures gates { InModel (D.view disk) (IfOk result (λ found. AreGates 10 found.1.items)) }
+        ensures gates { InModel (D.view disk) (IfOk result (λ found. AreGates first_gate found.1.items)) }
         ensures fault { InModel (D.view disk) (IfErr result (λ e. Tells (content_of (D.view disk).history) e.cause)) }
 
         // A disk that stands for payloads gives these and no others, unless it fails or memory is refused.
@@ -81,7 +80,9 @@ impl<D: Disk> Journal<D> {
         }
     }
 
-    /// Whether a payload of so many bytes fits behind the end. It takes no memory.
+    /// Whether a payload of so many bytes fits behind the end: it has at most 2,097,152 bytes, and
+    /// the end, 5 bytes, the payload and the next gate are together at most the disk's room. It
+    /// takes no memory.
     pub fn fits(&self, payload_len: u64) -> bool
         ensures { IsTrue result ↔ Fits self.now.disk.room self.now.end payload_len }
     {
@@ -89,6 +90,9 @@ impl<D: Disk> Journal<D> {
     }
 
     /// Adds a payload, which is durable at `Ok`. It takes no memory (docs/FORMAT.md, "Append").
+    ///
+    /// A payload that doesn't fit, as [`Journal::fits`] tells, is refused with `JournalFull`; a call
+    /// on the disk that fails, with `Disk`.
     pub fn append(self, frame: &Frame) -> Result<Journal<D>, AppendFault<D>>
         ensures same { SameDisk self.disk (disk_after D.view result) }
         ensures other { InModel self.disk (other_of (content_of (disk_after D.view result).history) ≡ other_of (content_of self.disk.history)) }

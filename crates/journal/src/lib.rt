@@ -8,6 +8,7 @@ mod append;
 pub mod examples;
 mod frame;
 mod journal;
+pub mod laws;
 mod opening;
 mod walk;
 

@@ -1,13 +1,13 @@
 // Making a journal's disk, and reading it.
 ghost use Rattle.std.specs.Prelude.{◌≡◌, ◌≤◌, ◌<◌, ◌⊎◌, [], List, ℕ, length, IfOk, IfErr, OnErr, OnOk, IsErrOf, MatchResult};
-ghost use Rattle.disk_model.specs.Disk.{InModel, Looks, SameDisk, Rises, content_of};
-ghost use Rattle.journal.specs.Area.{created};
-ghost use Rattle.journal.specs.Kept.{Keeps, Holds};
+ghost use Rattle.disk_model.specs.Disk.{InModel, Looks, SameDisk, Rises, content_of, max_room};
+ghost use Rattle.journal.specs.Area.{created, first_gate};
+ghost use Rattle.journal.specs.Kept.{Keeps};
+ghost use Rattle.journal.specs.Loaded.{Holds};
 ghost use Rattle.journal.specs.Walk.{payloads_in, AreGates};
 ghost use Rattle.journal.specs.Open.{AreEmpty, IsPassing, Tells};
 ghost use Rattle.journal.specs.declared.opening.CreateCause.TheVariants.{Disk as CreateDisk};
 ghost use Rattle.journal.specs.declared.opening.OpenCause.TheVariants.{Disk as OpenDisk, OutOfMemory};
-ghost use Rattle.disk_model.specs.declared.disk.TheConstants.{MAX_ROOM};
 
 use crate::walk::{Payload, read_area};
 use disk_model::{Area, Disk, DiskFault};
@@ -42,10 +42,10 @@ pub struct CreateFault<D: Disk> {
 /// Why a disk couldn't be opened.
 #[derive(Clone, Copy, Debug, PartialEq, Eq)]
 pub enum OpenCause {
-    /// What stands behind the open gate at this offset is no record. The records before it are
-    /// whole.
+    /// Behind the open gate at this offset stands no record, or a payload that the layer above
+    /// can't take. The records before it are whole.
     Damaged(u64),
-    /// Area First has no header of this version, or another area is active.
+    /// Area First has fewer than 11 bytes or no header of this version, or another area is active.
     NotASheet,
     /// The disk failed.
     Disk,
@@ -86,7 +86,7 @@ pub fn create<D: Disk>(disk: D) -> Result<D, CreateFault<D>>
     ensures same { MatchResult result (λ d. SameDisk (D.view disk) (D.view d)) (λ e. SameDisk (D.view disk) (D.view e.disk)) }
 
     // The journal is durable, and stands for no payload.
-    ensures empty { InModel (D.view disk) (IfOk result (λ d. AreEmpty (content_of (D.view disk).history) × Keeps (D.view d).history 10 [])) }
+    ensures empty { InModel (D.view disk) (IfOk result (λ d. AreEmpty (content_of (D.view disk).history) × Keeps (D.view d).history first_gate [])) }
 
     ensures bytes { InModel (D.view disk) (IfOk result (λ d. content_of (D.view d).history ≡ record { first = created; second = [] })) }
 
@@ -108,7 +108,7 @@ pub fn create<D: Disk>(disk: D) -> Result<D, CreateFault<D>>
 fn lay<D: Disk>(disk: &mut D) -> Result<(), CreateCause>
     requires { 11 ≤ (D.view disk.old).room }
     ensures same { SameDisk (D.view disk.old) (D.view disk.new) }
-    ensures empty { InModel (D.view disk.old) (OnOk result (AreEmpty (content_of (D.view disk.old).history) × Keeps (D.view disk.new).history 10 [])) }
+    ensures empty { InModel (D.view disk.old) (OnOk result (AreEmpty (content_of (D.view disk.old).history) × Keeps (D.view disk.new).history first_gate [])) }
     ensures bytes { InModel (D.view disk.old) (OnOk result (content_of (D.view disk.new).history ≡ record { first = created; second = [] })) }
     ensures not_empty { InModel (D.view disk.old) (IsErrOf result CreateCause.NotEmpty → (AreEmpty (content_of (D.view disk.old).history) → ⊥) × Looks (D.view disk.old).history (D.view disk.new).history) }
     ensures untouched { InModel (D.view disk.old) ((AreEmpty (content_of (D.view disk.old).history) → ⊥) → OnErr result (Looks (D.view disk.old).history (D.view disk.new).history)) }
@@ -131,7 +131,7 @@ fn lay<D: Disk>(disk: &mut D) -> Result<(), CreateCause>
 fn load<D: Disk>(alloc: Global, disk: &mut D) -> Result<Vec<u8>, OpenCause>
     ensures same { SameDisk (D.view disk.old) (D.view disk.new) }
     ensures bytes { InModel (D.view disk.old) (IfOk result (λ bytes. (bytes.items ≡ (content_of (D.view disk.old).history).first) × Holds (D.view disk.new).history bytes.items)) }
-    ensures small { IfOk result (λ bytes. length bytes.items ≤ MAX_ROOM) }
+    ensures small { IfOk result (λ bytes. length bytes.items ≤ max_room) }
     ensures looks { InModel (D.view disk.old) (Looks (D.view disk.old).history (D.view disk.new).history) }
     ensures faulty { IsErrOf result OpenCause.Disk → Rises (D.view disk.old).faults (D.view disk.new).faults }
     ensures cause { IfErr result IsPassing }
@@ -148,9 +148,9 @@ pub(crate) fn scan<D: Disk>(alloc: Global, disk: &mut D) -> Result<(u64, Vec<Pay
     ensures same { SameDisk (D.view disk.old) (D.view disk.new) }
 
     ensures found { InModel (D.view disk.old) (IfOk result (λ found. Keeps (D.view disk.new).history found.0 (payloads_in found.1.items))) }
-    ensures gates { InModel (D.view disk.old) (IfOk result (λ found. AreGates 10 found.1.items)) }
+    ensures gates { InModel (D.view disk.old) (IfOk result (λ found. AreGates first_gate found.1.items)) }
     ensures fault { InModel (D.view disk.old) (IfErr result (Tells (content_of (D.view disk.old).history))) }
-    ensures end { IfOk result (λ found. found.0 ≤ MAX_ROOM) }
+    ensures end { IfOk result (λ found. found.0 ≤ max_room) }
 
     ensures looks { InModel (D.view disk.old) (Looks (D.view disk.old).history (D.view disk.new).history) }
     ensures faulty { IsErrOf result OpenCause.Disk → Rises (D.view disk.old).faults (D.view disk.new).faults }

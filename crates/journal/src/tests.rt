@@ -1,6 +1,6 @@
 use crate::examples::append_all;
 use crate::{AppendFault, CreateCause, Frame, Journal, OpenCause, Payload, create};
-use disk_model::{Area, Choice, Disk, Fill, MemoryDisk};
+use disk_model::{Area, Choice, Disk, DiskFault, Fill, MemoryDisk};
 use std::alloc::{AllocError, Global};
 use std::test::Fail;
 
@@ -227,5 +227,101 @@ fn without_memory_the_disk_fails_and_nothing_breaks(rt: HostRuntime) -> Result<(
     let (journal, payloads) = opened(alloc, disk)?;
     assert_eq!(rt; payloads.len(), 0);
     assert!(rt; journal.append(&frame).is_ok());
+    Ok(())
+}
+
+// A disk of an array, whose calls take no memory. Nothing is claimed of its bytes.
+#[derive(Drop)]
+struct ArrayDisk {
+    first: [u8; 64],
+    len: usize,
+    faults: u64,
+    ghost fits: { len ≤ 64 },
+}
+
+impl Disk for ArrayDisk {
+    ghost use Rattle.disk_model.specs.Disk.{unclaimed};
+    ghost use Rattle.disk_model.specs.Calls.{started_with};
+    ghost use Rattle.std.specs.Prelude.{false, []};
+    ghost use Rattle.std.proofs.Common.{arith};
+
+    ghost view = { λ d. record {
+      room = 64;
+      faults = d.faults;
+      keeps_model = false;
+      history = started_with (record { first = []; second = [] });
+    } };
+
+    ghost small = { λ d. Prim.omega arith };
+
+    ghost content_stays = { λ d h. unclaimed h };
+
+    fn room(&self) -> u64 {
+        64
+    }
+
+    fn len(&mut self, area: Area) -> Result<u64, DiskFault> {
+        let _faults = self.faults;
+        match area {
+            Area::First => Ok(self.len as u64),
+            Area::Second => Ok(0),
+        }
+    }
+
+    fn read(&mut self, _area: Area, offset: u64, buffer: &mut [u8]) -> Result<(), DiskFault> {
+        let _faults = self.faults;
+        let at = offset as usize;
+        if at > 64 || buffer.len() > 64 - at {
+            self.faults = self.faults.saturating_add(1);
+            return Err(DiskFault);
+        }
+        buffer.copy_from_slice(&self.first[at..at + buffer.len()]);
+        Ok(())
+    }
+
+    fn write_at(&mut self, _area: Area, offset: u64, bytes: &[u8]) -> Result<(), DiskFault> {
+        let _faults = self.faults;
+        let at = offset as usize;
+        if at > 64 || bytes.len() > 64 - at {
+            self.faults = self.faults.saturating_add(1);
+            return Err(DiskFault);
+        }
+        let end = at + bytes.len();
+        self.first[at..end].copy_from_slice(bytes);
+        if self.len < end {
+            self.len = end;
+        }
+        Ok(())
+    }
+
+    fn sync(&mut self, _area: Area) -> Result<(), DiskFault> {
+        let _faults = self.faults;
+        Ok(())
+    }
+}
+
+#[test]
+fn create_and_append_take_no_memory(rt: HostRuntime) -> Result<(), Fail> {
+    let alloc = rt.alloc();
+    let frame = Frame::new(alloc, &SESSION)?;
+    let empty = ArrayDisk {
+        first: [0; 64],
+        len: 0,
+        faults: 0,
+    };
+    let held = exhausted(alloc)?;
+    let created = create(empty);
+    drop(held);
+    let disk = created.map_err(|_| "create")?;
+    let (journal, _) = Journal::open(alloc, disk).map_err(|_| "open")?;
+    let held = exhausted(alloc)?;
+    let fits = journal.fits(9);
+    let appended = journal.append(&frame);
+    drop(held);
+    assert!(rt; fits);
+    let disk = appended.map_err(|_| "append")?.into_disk();
+    let (_, payloads) = Journal::open(alloc, disk).map_err(|_| "open")?;
+    assert_eq!(rt; payloads.len(), 1);
+    assert_eq!(rt; payloads[0].bytes.as_slice(), SESSION.as_slice());
     Ok(())
 }

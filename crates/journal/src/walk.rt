@@ -1,6 +1,8 @@
 // The records of an area, gate by gate.
 ghost use Rattle.std.specs.Prelude.{◌≡◌, ◌≢◌, ◌<◌, ◌≤◌, ◌+◌, ◌++◌, ℕ, length, IfOk, IfErr, IfSome, IfNone};
-ghost use Rattle.journal.specs.Area.{StandsFor, end_of, header};
+ghost use Rattle.disk_model.specs.Disk.{max_room};
+ghost use Rattle.journal.specs.Limits.{max_payload};
+ghost use Rattle.journal.specs.Area.{StandsFor, end_of, first_gate, header};
 ghost use Rattle.journal.specs.Damage.{HasHeader};
 ghost use Rattle.journal.specs.Walk.{AreGates, IsStep, payloads_in};
 ghost use Rattle.journal.specs.Open.{TellsOf};
@@ -8,7 +10,6 @@ ghost use Rattle.journal.specs.declared.opening.OpenCause.TheVariants.{Disk};
 
 use crate::{MAX_PAYLOAD, OpenCause};
 use block_tree::Octets;
-use disk_model::MAX_ROOM;
 use std::alloc::Global;
 
 /// A payload that an opening found.
@@ -33,7 +34,7 @@ enum Step<'a> {
 // What stands at the gate that these bytes begin with.
 fn step_at(rest: &[u8]) -> Step<'_>
     requires { 0 < length rest.now }
-    ensures { IsStep MAX_PAYLOAD rest.now result }
+    ensures { IsStep max_payload rest.now result }
 {
     let [0x52, more @ ..] = rest else {
         return Step::End;
@@ -68,10 +69,10 @@ fn behind_header(bytes: &[u8]) -> Option<&[u8]>
 /// The payloads that the bytes of area First stand for, and the offset of the closed gate behind
 /// them.
 pub(crate) fn read_area(alloc: Global, bytes: &[u8]) -> Result<(u64, Vec<Payload>), OpenCause>
-    requires { length bytes.now ≤ MAX_ROOM }
-    ensures found { IfOk result (λ found. StandsFor MAX_PAYLOAD bytes.now (payloads_in found.1.items)) }
+    requires { length bytes.now ≤ max_room }
+    ensures found { IfOk result (λ found. StandsFor max_payload bytes.now (payloads_in found.1.items)) }
     ensures end { IfOk result (λ found. found.0 ≡ end_of (payloads_in found.1.items)) }
-    ensures gates { IfOk result (λ found. AreGates 10 found.1.items) }
+    ensures gates { IfOk result (λ found. AreGates first_gate found.1.items) }
     ensures fault { IfErr result (TellsOf bytes.now) }
     ensures no_call { IfErr result (λ cause. cause ≢ Disk) }
 {

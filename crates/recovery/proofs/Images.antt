@@ -4,7 +4,7 @@ use Rattle.std.specs.Prelude.{is_err, OnOk}
 use Rattle.std.specs.List.{AllByRecursion}
 use Rattle.std.specs.Result.{result_err}
 use Rattle.disk_model.specs.Disk.{Image, DiskState, DiskView, History, InModel, SameDisk, Leaves, LeavesOnly}
-use Rattle.disk_model.proofs.Moments.{started, weakens}
+use Rattle.disk_model.specs.Moments.{started, weakens}
 use Rattle.worksheet.specs.declared.op.Op.{Op}
 use Rattle.worksheet.specs.declared.refusal.Refusal.{Refusal}
 use Rattle.worksheet.specs.Contents.{Contents}

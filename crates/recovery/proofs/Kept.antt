@@ -1,7 +1,7 @@
 -- The ops that a store keeps.
 use Rattle.std.proofs.Common.{◌≡◌, inl, inr, ⊎_elim, ℕ, false, List, [], ◌∷◌, ◌++◌, Option, Some, None, sym, ap, ◌∙◌, subst}
 use Rattle.disk_model.specs.Disk.{DiskView, History, InModel, LeavesOnly}
-use Rattle.disk_model.proofs.Moments.{started, weakens}
+use Rattle.disk_model.specs.Moments.{started, weakens}
 use Rattle.worksheet.specs.declared.op.Op.{Op}
 use Rattle.worksheet.specs.Contents.{Contents, Held}
 use Rattle.worksheet.specs.Ops.{sheet_of}

@@ -1,6 +1,7 @@
--- How runs of calls go on.
-use Rattle.std.proofs.Common.{◌≡◌, ℕ, List, [], ◌∷◌, ◌++◌, refl, sym, ◌∙◌, ap, subst, arith, append_assoc, ◌≤◌, length, length-append, drop, Result, Ok, Err, IsTrue}
-use Rattle.disk_model.specs.Disk.{Image, AtMoment, DiskState, History, DiskView, Leaves, LeavesOnly, Each, states_of, Called, Looks, Syncs, IsImage}
+-- Lemmas for the layers above: how runs of calls go on. No clause speaks of them.
+use Rattle.std.proofs.Common.{◌≡◌, ℕ, List, [], ◌∷◌, ◌++◌, refl, sym, ◌∙◌, ap, subst, arith, append_assoc, ◌+◌, ◌≤◌, max, length, length-append, length-drop, take, drop, Result, Ok, Err, IsTrue}
+use Rattle.std.proofs.lemmas.List.{length-take}
+use Rattle.disk_model.specs.Disk.{overwritten, Image, AtMoment, DiskState, History, DiskView, Leaves, LeavesOnly, Each, states_of, Called, Looks, Syncs, IsImage}
 use Rattle.disk_model.specs.declared.disk.Area.{Area}
 use Rattle.disk_model.specs.Fuse.{fused}
 
@@ -70,3 +71,7 @@ at_moment P old new moment s run since at = go run.more at.later (sym run.states
     go [] (x ∷ later) same each = absurd (omega (arith, since, at.moment_is, ap length same, length-append later (s ∷ at.earlier)))
     go (x ∷ more) [] same each = let here : x ≡ s = cc in subst (λ t. Leaves P t) here each.0
     go (x ∷ more) (y ∷ later) same each = go more later (ap (λ (l : List DiskState). drop 1 l) same) each.1
+
+-- the length after a write that begins within the area
+pub length-overwritten : (old : List ℕ) (at : ℕ) (bytes : List ℕ) → at ≤ length old → length (overwritten old at bytes) ≡ max (length old) (at + length bytes)
+length-overwritten old at bytes le = omega (arith, length-append (take at old ++ bytes) (drop (at + length bytes) old), length-append (take at old) bytes, length-drop (at + length bytes) old, length-take at old)

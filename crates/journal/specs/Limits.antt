@@ -1,0 +1,6 @@
+-- The limit of a journal (docs/FORMAT.md, "The journal").
+use Rattle.std.specs.Prelude.{ℕ}
+
+-- the most bytes of a payload
+abbrev pub max_payload : ℕ
+max_payload = 2097152

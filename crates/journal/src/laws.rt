@@ -1,0 +1,18 @@
+//! Laws of the definitions that the contracts cite. Each function does nothing: its contract is the
+//! law.
+ghost use Rattle.journal.specs.Laws.{NoDamage, OneDamage, OneList};
+
+/// An area stands for at most one list of payloads.
+pub fn one_list()
+    ensures { OneList }
+{}
+
+/// An area is damaged at one gate at most.
+pub fn one_damage()
+    ensures { OneDamage }
+{}
+
+/// An area that stands for payloads isn't damaged.
+pub fn no_damage()
+    ensures { NoDamage }
+{}
