@@ -8,9 +8,9 @@ pub const MAX_ROOM: u64 = 2_147_483_648;
 /// One of the two areas of a disk.
 #[derive(Clone, Copy, Debug, PartialEq, Eq)]
 pub enum Area {
-    /// It holds the header with the selector, which says what area is active, and the records.
+    /// A journal's header, whose selector names the active area, and its records.
     First,
-    /// It is empty, and nothing but a creation looks at it.
+    /// Empty in a journal of this version.
     Second,
 }
 
