@@ -26,7 +26,8 @@ use Rattle.recovery.specs.declared.base.Base.TheVariants.{Open, Closed}
 use Rattle.recovery.specs.Base.{disk_of, is_closed, KeepsIn, KeepsSheet, IsBaseOf, IsStoreOf}
 use Rattle.recovery.specs.Laws.{OneListOfOps, OneSheet}
 use Rattle.recovery.proofs.Unique.{one_op}
-use Rattle.recovery.proofs.Allowed.{allowed_have_code, makes_more, same_next}
+use Rattle.worksheet.proofs.NextLaws.{same_next}
+use Rattle.recovery.proofs.Allowed.{allowed_have_code, makes_more}
 use Rattle.recovery.proofs.Taking.{codes_push}
 
 -- a check that refuses doesn't allow

@@ -1,7 +1,11 @@
 -- Laws of payloads and of the images of worksheets.
 use Rattle.std.specs.Prelude.{◌≡◌, ◌≤◌, ℕ, List, None, length}
 use Rattle.block_tree.specs.Tree.{Tree}
-use Rattle.meta_format.specs.Canonical.{canonical}
+use Rattle.block_tree.specs.Output.{output}
+use Rattle.meta_format.specs.Limits.{limits}
+use Rattle.meta_format.specs.Spelling.{Spells}
+use Rattle.worksheet.specs.Limits.{longest_prompt}
+use Rattle.journal.specs.Limits.{max_payload}
 use Rattle.worksheet.specs.declared.op.Op.{Op}
 use Rattle.worksheet.specs.declared.op.Op.TheVariants as op
 use Rattle.worksheet.specs.Ops.{sheet_of}
@@ -28,7 +32,8 @@ OneListOfOps = (a b : List Op) (s t : Contents) (i : Image) → Makes a s → Ma
 abbrev pub OneSheet : Type 0
 OneSheet = (s t : Contents) (i : Image) → IsSheetImage s i → IsSheetImage t i → s ≡ t
 
--- an answer whose output has at most 1,572,870 bytes in its canonical spelling, and whose prompt is one that a worksheet allows,
--- has a payload of at most 2,097,152 bytes
-abbrev pub AnswersFit : Type 0
-AnswersFit = (id : ℕ) (prompt : List ℕ) (output : Tree) → length prompt ≤ 1024 → length (canonical output) ≤ 1572870 → length (code_of (op.Answer id prompt output)) ≤ 2097152
+-- An answer fits a record: where the bytes of its block were no more than an outer block may have, and its prompt is one that a
+-- worksheet allows.
+abbrev pub ReceivedAnswersFit : Type 0
+ReceivedAnswersFit = (id : ℕ) (prompt : List ℕ) (block : Tree) (received : List ℕ) → Spells limits block received → length received ≤ limits.block
+    → length prompt ≤ longest_prompt → length (code_of (op.Answer id prompt (output block))) ≤ max_payload

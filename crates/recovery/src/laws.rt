@@ -1,6 +1,6 @@
 //! Laws of the definitions that the contracts cite. Each function does nothing: its contract is the
 //! law.
-ghost use Rattle.recovery.specs.Laws.{AllowedHaveCode, AnswersFit, OneListOfOps, OneOp, OneSheet};
+ghost use Rattle.recovery.specs.Laws.{AllowedHaveCode, OneListOfOps, OneOp, OneSheet, ReceivedAnswersFit};
 
 /// No two ops have one payload.
 pub fn one_op()
@@ -22,8 +22,11 @@ pub fn one_sheet()
     ensures { OneSheet }
 {}
 
-/// An answer with an output of at most 1,572,870 bytes in its canonical spelling and a prompt of at
-/// most 1,024 has a payload of at most 2,097,152 bytes, as a record can hold.
-pub fn answers_fit()
-    ensures { AnswersFit }
-{}
+/// An answer that was received within the limit of an outer block fits a record, with any prompt that
+/// a worksheet allows: its block grows to at most one and a half times its length.
+pub fn received_answers_fit()
+    ensures { ReceivedAnswersFit }
+{
+    meta_format::canonical_growth();
+    meta_format::output_length();
+}

@@ -13,7 +13,7 @@ mod store;
 mod writing;
 
 pub use fault::{CommitFault, PrepareFault};
-pub use laws::{allowed_have_code, answers_fit, one_list_of_ops, one_op, one_sheet};
+pub use laws::{allowed_have_code, one_list_of_ops, one_op, one_sheet, received_answers_fit};
 pub use reading::{DecodeFault, decode};
 pub use size::code_len;
 pub use store::Store;
