@@ -5,7 +5,6 @@
 #![tactic(auto)]
 
 mod append;
-pub mod examples;
 mod frame;
 mod journal;
 pub mod laws;
