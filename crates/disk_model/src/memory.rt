@@ -42,7 +42,7 @@ impl MemoryDisk {
     ghost use Rattle.disk_model.specs.Memory.{view_of};
     ghost use Rattle.disk_model.specs.Crash.{Crashed};
 
-    /// An empty disk of this room, in bytes.
+    /// An empty disk of this room in bytes, of which there are at most 2,147,483,648.
     pub fn new(alloc: Global, room: u64) -> MemoryDisk
         requires { room ≤ max_room }
         ensures { view_of result ≡ fresh room (record { first = []; second = [] }) }
@@ -60,6 +60,8 @@ impl MemoryDisk {
     }
 
     /// A disk of this room whose first area holds these bytes, and whose second area is empty.
+    /// There are at most as many as the room, which is at most 2,147,483,648. It fails where memory
+    /// is refused.
     pub fn holding(alloc: Global, room: u64, first: Vec<u8>) -> Result<MemoryDisk, OutOfMemory>
         requires room { room ≤ max_room }
         requires fits { length first.items ≤ room }
@@ -110,7 +112,7 @@ impl MemoryDisk {
     }
 
     /// A disk that holds what a crash by this choice leaves, with no call on record. The choice's
-    /// moment is at most `calls()`.
+    /// moment is at most `calls()`. It fails where memory is refused.
     pub fn crash(&self, choice: &Choice) -> Result<MemoryDisk, OutOfMemory>
         requires { choice.now.moment ≤ length (view_of self.now).history.past }
         ensures { IfOk result (λ disk. Crashed choice.now.moment choice.now.fill choice.now.grown (view_of self.now) (view_of disk)) }

@@ -3,5 +3,4 @@ pub mod Loads
 pub mod Steps
 pub mod Unique
 pub mod Walks
-pub mod Kept
 pub mod Batches

@@ -1,4 +1,5 @@
--- Payloads that are appended one after another.
+-- Payloads that are appended one after another. No public clause speaks of them: a test shows by them how a layer above
+-- carries the promises of `append` on.
 use Rattle.std.specs.Prelude.{ℕ, ◌≤◌, List, ◌++◌, length, take}
 use Rattle.disk_model.specs.Disk.{Image, InModel, LeavesOnly, SameDisk}
 use Rattle.journal.specs.Kept.{JournalView, Keeps, Stands}
