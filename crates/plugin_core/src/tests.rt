@@ -143,6 +143,66 @@ fn a_default_input_in_an_answer(rt: HostRuntime) -> Result<(), Fail> {
     Ok(())
 }
 
+// The banner's block, with a prompt of so many bytes in it.
+fn banner_with_prompt(alloc: Global, length: usize) -> Result<Vec<u8>, Fail> {
+    let mut stream = Vec::from_slice(alloc, b"\x02verbatim:\x02prompt#")?;
+    for _ in 0..length {
+        stream.push(b'p')?;
+    }
+    stream.extend_from_slice(b"\x05\x05")?;
+    Ok(stream)
+}
+
+// The length of the prompt that the banner leaves, where its prompt has so many bytes.
+fn kept_prompt(alloc: Global, length: usize) -> Result<usize, Fail> {
+    let mut life = life_of(alloc, "x")?;
+    let stream = banner_with_prompt(alloc, length)?;
+    feed(alloc, &mut life, stream.as_slice())?;
+    Ok(life.prompt().len())
+}
+
+#[test]
+fn long_prompts(rt: HostRuntime) -> Result<(), Fail> {
+    let alloc = rt.alloc();
+    assert_eq!(rt; kept_prompt(alloc, 1_023)?, 1_023);
+    assert_eq!(rt; kept_prompt(alloc, 1_024)?, 1_024);
+    assert_eq!(rt; kept_prompt(alloc, 1_025)?, 1_024);
+    Ok(())
+}
+
+#[test]
+fn a_default_input_is_a_whole_answer(rt: HostRuntime) -> Result<(), Fail> {
+    let alloc = rt.alloc();
+    let mut life = life_of(alloc, "x")?;
+    feed(alloc, &mut life, BANNER)?;
+    let step = feed(alloc, &mut life, b"\x02input#y\x05")?;
+    assert!(rt;
+        is(
+            step.as_slice(),
+            b"line 1 [> ] \x02verbatim:\x05\ndefault y\n"
+        )
+    );
+    assert!(rt; has_prompt(&life, b"> "));
+    Ok(())
+}
+
+// It is told once, and neither the line nor its answer has it.
+#[test]
+fn a_default_input_in_the_banner(rt: HostRuntime) -> Result<(), Fail> {
+    let alloc = rt.alloc();
+    let mut life = life_of(alloc, "x")?;
+    let step = feed(alloc, &mut life, b"\x02verbatim:Hi\x02input#y\x05\x05")?;
+    assert!(rt;
+        is(
+            step.as_slice(),
+            b"banner \x02verbatim:Hi\x05\ndefault y\nsend x\n"
+        )
+    );
+    let step = feed(alloc, &mut life, b"\x02verbatim:A\x05")?;
+    assert!(rt; is(step.as_slice(), b"line 1 [> ] \x02verbatim:A\x05\n"));
+    Ok(())
+}
+
 #[test]
 fn two_answers_in_one_piece(rt: HostRuntime) -> Result<(), Fail> {
     let alloc = rt.alloc();
@@ -252,6 +312,57 @@ fn one_line_more_than_may_wait(rt: HostRuntime) -> Result<(), Fail> {
     Ok(())
 }
 
+#[test]
+fn half_a_block_from_before_the_line(rt: HostRuntime) -> Result<(), Fail> {
+    let alloc = rt.alloc();
+    let mut life = life_of(alloc, "x")?;
+    feed(alloc, &mut life, BANNER)?;
+    let step = feed(alloc, &mut life, b"\x02verbatim:A\x05\x02verb")?;
+    assert!(rt; is(step.as_slice(), b"line 1 [> ] \x02verbatim:A\x05\n"));
+    let sent = accept(alloc, &mut life, 2, "y")?;
+    assert!(rt; is(sent.as_slice(), b"y\n"));
+    let step = feed(alloc, &mut life, b"atim:B\x05")?;
+    assert!(rt; step.is_empty());
+    let step = feed(alloc, &mut life, b"\x02verbatim:C\x05")?;
+    assert!(rt; is(step.as_slice(), b"line 2 [> ] \x02verbatim:C\x05\n"));
+    Ok(())
+}
+
+// The first 1,048,575 bytes of an outer block.
+fn long_block(alloc: Global) -> Result<Vec<u8>, Fail> {
+    let mut stream = Vec::from_slice(alloc, b"\x02verbatim:")?;
+    for _ in 0..1_048_565u32 {
+        stream.push(b'a')?;
+    }
+    Ok(stream)
+}
+
+#[test]
+fn the_longest_answer(rt: HostRuntime) -> Result<(), Fail> {
+    let alloc = rt.alloc();
+    let stream = long_block(alloc)?;
+    let mut life = life_of(alloc, "x")?;
+    feed(alloc, &mut life, BANNER)?;
+    feed(alloc, &mut life, stream.as_slice())?;
+    let step = feed(alloc, &mut life, b"\x05")?;
+    assert!(rt; step.starts_with(b"line 1 [> ] \x02verbatim:aa"));
+    assert_eq!(rt; step.len(), 1_048_589);
+    Ok(())
+}
+
+#[test]
+fn an_answer_that_is_too_long(rt: HostRuntime) -> Result<(), Fail> {
+    let alloc = rt.alloc();
+    let stream = long_block(alloc)?;
+    let mut life = asked_twice(alloc)?;
+    let step = feed(alloc, &mut life, stream.as_slice())?;
+    assert!(rt; step.is_empty());
+    let step = feed(alloc, &mut life, b"a\x05")?;
+    assert!(rt; is(step.as_slice(), b"ended TooLong lost 2\n"));
+    assert!(rt; life.over());
+    Ok(())
+}
+
 // A stream of so many blocks in one another, without its end.
 fn opened(alloc: Global, levels: usize) -> Result<Vec<u8>, Fail> {
     let mut stream = Vec::new(alloc);
@@ -301,24 +412,18 @@ fn exhausted(alloc: Global) -> Result<Vec<Vec<u8>>, OutOfMemory> {
 }
 
 #[test]
-fn refused_memory(rt: HostRuntime) -> Result<(), Fail> {
+fn an_item_without_memory(rt: HostRuntime) -> Result<(), Fail> {
     let alloc = rt.alloc();
     let mut idle = life_of(alloc, "x")?;
     feed(alloc, &mut idle, BANNER)?;
     feed(alloc, &mut idle, BANNER)?;
-    let mut starved = asked_twice(alloc)?;
-    let ending = asked_twice(alloc)?;
     let item = line(alloc, 2, "y")?;
-    if idle.over() || starved.over() || ending.over() {
-        return Err("a life is over".into());
+    if idle.over() {
+        return Err("the life is over".into());
     }
-
     let held = exhausted(alloc)?;
     let refused = idle.accept(item);
-    let step = starved.piece(b"\x02verbatim:A\x05");
-    let ended = ending.finish(Reason::Stopped);
     drop(held);
-
     match refused {
         Err(AcceptFault::OutOfMemory(Item::Line { id, text })) => {
             assert_eq!(rt; id, 2);
@@ -326,7 +431,33 @@ fn refused_memory(rt: HostRuntime) -> Result<(), Fail> {
         }
         _ => return Err("the line was not given back".into()),
     }
-    assert!(rt; step.is_err() && starved.over());
+    Ok(())
+}
+
+#[test]
+fn a_piece_without_memory(rt: HostRuntime) -> Result<(), Fail> {
+    let alloc = rt.alloc();
+    let mut life = asked_twice(alloc)?;
+    if life.over() {
+        return Err("the life is over".into());
+    }
+    let held = exhausted(alloc)?;
+    let step = life.piece(b"\x02verbatim:A\x05");
+    drop(held);
+    assert!(rt; step.is_err() && life.over());
+    Ok(())
+}
+
+#[test]
+fn an_end_without_memory(rt: HostRuntime) -> Result<(), Fail> {
+    let alloc = rt.alloc();
+    let life = asked_twice(alloc)?;
+    if life.over() {
+        return Err("the life is over".into());
+    }
+    let held = exhausted(alloc)?;
+    let ended = life.finish(Reason::Stopped);
+    drop(held);
     assert_eq!(rt; ended.lost.len(), 2);
     Ok(())
 }
