@@ -1,10 +1,12 @@
-//! What no clause says: the worked examples, byte by byte.
-use crate::{CommitFault, DecodeFault, Store, decode, encode};
+//! What no clause says: the worked examples, byte by byte, and what happens where a disk or memory fails.
+ghost use Rattle.std.specs.Prelude.{◌≤◌, ◌+◌, IfSome};
+
+use crate::{CommitFault, DecodeFault, PrepareFault, Store, code_len, decode, encode};
 use block_tree::{Octets, OutOfMemory, Sequence};
-use disk_model::{Area, Choice, Fill, MemoryDisk};
+use disk_model::{Area, Choice, Disk, DiskFault, Fill, FuseDisk, FuseMode, MemoryDisk};
 use journal::{OpenCause, create};
 use meta_format::read_block;
-use std::alloc::Global;
+use std::alloc::{AllocError, Global};
 use std::test::Fail;
 use worksheet::Op;
 
@@ -49,27 +51,75 @@ fn answer(alloc: Global, output: &[u8]) -> Result<Op, Fail> {
     })
 }
 
-fn created(alloc: Global, room: u64) -> Result<Store<MemoryDisk>, Fail> {
+fn empty_disk(alloc: Global, room: u64) -> Result<MemoryDisk, Fail> {
     if room < 11 || room > 100 {
         return Err("room".into());
     }
-    let disk = create(MemoryDisk::new(alloc, room)).map_err(|_| "create")?;
+    Ok(create(MemoryDisk::new(alloc, room)).map_err(|_| "create")?)
+}
+
+fn store_on<D: Disk>(alloc: Global, disk: D) -> Result<Store<D>, Fail> {
     Ok(Store::open(alloc, disk).map_err(|_| "open")?)
 }
 
-// Commits an op that is allowed.
-fn put(store: &mut Store<MemoryDisk>, op: Op) -> Result<(), CommitFault> {
+fn created(alloc: Global, room: u64) -> Result<Store<MemoryDisk>, Fail> {
+    store_on(alloc, empty_disk(alloc, room)?)
+}
+
+// What came of an op.
+#[derive(Clone, Copy, Debug, PartialEq, Eq)]
+enum Outcome {
+    Done,
+    // The worksheet doesn't allow it.
+    Refused,
+    Full,
+    OutOfMemory,
+    Disk,
+    Closed,
+}
+
+fn put<D: Disk>(store: &mut Store<D>, op: Op) -> Outcome {
     if let Err(_) = store.sheet().check(&op) {
-        return Err(CommitFault::Closed);
+        return Outcome::Refused;
     }
-    store.commit(op)
+    match store.commit(op) {
+        Ok(()) => Outcome::Done,
+        Err(CommitFault::Full(_)) => Outcome::Full,
+        Err(CommitFault::OutOfMemory(_)) => Outcome::OutOfMemory,
+        Err(CommitFault::Disk) => Outcome::Disk,
+        Err(CommitFault::Closed) => Outcome::Closed,
+    }
+}
+
+// The same of a record that is only prepared.
+fn prepared<D: Disk>(store: &mut Store<D>, op: &Op) -> Outcome {
+    if let Err(_) = store.sheet().check(op) {
+        return Outcome::Refused;
+    }
+    match store.prepare(op) {
+        Ok(_) => Outcome::Done,
+        Err(PrepareFault::Full) => Outcome::Full,
+        Err(PrepareFault::OutOfMemory) => Outcome::OutOfMemory,
+        Err(PrepareFault::Closed) => Outcome::Closed,
+    }
+}
+
+fn has_session<D: Disk>(store: &Store<D>) -> bool {
+    store.sheet().session(b"a").is_some()
+}
+
+fn done(outcome: Outcome) -> Result<(), Fail> {
+    if outcome != Outcome::Done {
+        return Err("not committed".into());
+    }
+    Ok(())
 }
 
 fn put_all(alloc: Global, store: &mut Store<MemoryDisk>) -> Result<(), Fail> {
-    put(store, session(alloc)?).map_err(|_| "session")?;
-    put(store, new(alloc)?).map_err(|_| "new")?;
-    put(store, Op::Clear { id: 1 }).map_err(|_| "clear")?;
-    put(store, answer(alloc, b"\x02verbatim:A\x05")?).map_err(|_| "answer")?;
+    done(put(store, session(alloc)?))?;
+    done(put(store, new(alloc)?))?;
+    done(put(store, Op::Clear { id: 1 }))?;
+    done(put(store, answer(alloc, b"\x02verbatim:A\x05")?))?;
     Ok(())
 }
 
@@ -139,13 +189,13 @@ fn each_op_lengthens_the_area(rt: HostRuntime) -> Result<(), Fail> {
     for (ops, len) in [(0, 11), (1, 25), (2, 40), (3, 50)] {
         let mut store = created(alloc, 100)?;
         if ops > 0 {
-            put(&mut store, session(alloc)?).map_err(|_| "session")?;
+            done(put(&mut store, session(alloc)?))?;
         }
         if ops > 1 {
-            put(&mut store, new(alloc)?).map_err(|_| "new")?;
+            done(put(&mut store, new(alloc)?))?;
         }
         if ops > 2 {
-            put(&mut store, Op::Clear { id: 1 }).map_err(|_| "clear")?;
+            done(put(&mut store, Op::Clear { id: 1 }))?;
         }
         assert_eq!(rt; store.into_disk().content(Area::First).len(), len);
     }
@@ -214,11 +264,273 @@ fn a_crash_before_the_last_sync(rt: HostRuntime) -> Result<(), Fail> {
 fn an_op_that_does_not_fit(rt: HostRuntime) -> Result<(), Fail> {
     let alloc = rt.alloc();
     let mut store = created(alloc, 40)?;
-    put(&mut store, session(alloc)?).map_err(|_| "session")?;
-    put(&mut store, new(alloc)?).map_err(|_| "new")?;
+    done(put(&mut store, session(alloc)?))?;
+    done(put(&mut store, new(alloc)?))?;
     assert!(rt; !store.fits(&Op::Clear { id: 1 }));
-    let refused = put(&mut store, Op::Clear { id: 1 });
-    assert!(rt; matches!(refused, Err(CommitFault::Full(Op::Clear { id: 1 }))));
+    assert_eq!(rt; put(&mut store, Op::Clear { id: 1 }), Outcome::Full);
     assert_eq!(rt; store.into_disk().content(Area::First).len(), 40);
+    Ok(())
+}
+
+#[test]
+fn the_lengths_of_payloads(rt: HostRuntime) -> Result<(), Fail> {
+    let alloc = rt.alloc();
+    assert_eq!(rt; code_len(&Op::Remove { id: 1 }), 5);
+    assert_eq!(rt; code_len(&Op::Move { id: 1, after: 2 }), 9);
+    assert_eq!(rt; code_len(&Op::Clear { id: 1 }), 5);
+    let input = octets(alloc, b"x")?;
+    if input.as_slice().len() > 1 {
+        return Err("input".into());
+    }
+    assert_eq!(rt; code_len(&Op::Set { id: 1, input }), 8);
+    let (session, input) = (octets(alloc, b"a")?, octets(alloc, b"x")?);
+    if session.as_slice().len() > 1 || input.as_slice().len() > 1 {
+        return Err("session".into());
+    }
+    assert_eq!(rt;
+        code_len(&Op::New {
+            after: 0,
+            session,
+            input
+        }),
+        10
+    );
+    for (output, len) in [
+        (b"\x02verbatim:A\x05".as_slice(), 21),
+        (
+            b"\x02verbatim:\x1b\x02\x1b\x05\x1b\x1b\x1b[\x05".as_slice(),
+            29,
+        ),
+    ] {
+        let prompt = octets(alloc, b"> ")?;
+        if prompt.as_slice().len() > 2 {
+            return Err("prompt".into());
+        }
+        let output = read_block(alloc, output).map_err(|_| "no block")?;
+        assert_eq!(rt;
+            code_len(&Op::Answer {
+                id: 1,
+                prompt,
+                output
+            }),
+            len
+        );
+    }
+    Ok(())
+}
+
+// Commits the session by two calls, and tells the length of its payload.
+fn put_prepared<D: Disk>(alloc: Global, store: &mut Store<D>) -> Result<u64, Fail> {
+    let op = session(alloc)?;
+    if let Err(_) = store.sheet().check(&op) {
+        return Err("the worksheet refuses the op".into());
+    }
+    let Ok(frame) = store.prepare(&op) else {
+        return Err("not prepared".into());
+    };
+    let len = frame.payload_len();
+    if let Err(DiskFault) = store.commit_ready(op, frame) {
+        return Err("no disk".into());
+    }
+    Ok(len)
+}
+
+#[test]
+fn a_prepared_op_is_committed(rt: HostRuntime) -> Result<(), Fail> {
+    let alloc = rt.alloc();
+    let mut store = created(alloc, 25)?;
+    assert_eq!(rt; put_prepared(alloc, &mut store)?, 9);
+    assert!(rt; has_session(&store));
+    let op = new(alloc)?;
+    assert_eq!(rt; prepared(&mut store, &op), Outcome::Full);
+    let disk = store.into_disk();
+    assert_eq!(rt; disk.content(Area::First).len(), 25);
+    Ok(())
+}
+
+// Whether the session is there again after the disk failed within its commit. The opening took the
+// calls 1 to 3.
+fn is_kept(alloc: Global, k: u64, mode: FuseMode) -> Result<bool, Fail> {
+    let disk = FuseDisk::new(empty_disk(alloc, 100)?, k, mode);
+    let mut store = store_on(alloc, disk)?;
+    if put(&mut store, session(alloc)?) != Outcome::Disk || has_session(&store) {
+        return Err("no fault".into());
+    }
+    if put(&mut store, session(alloc)?) != Outcome::Closed || has_session(&store) {
+        return Err("not closed".into());
+    }
+    let op = session(alloc)?;
+    if prepared(&mut store, &op) != Outcome::Closed || store.fits(&Op::Clear { id: 1 }) {
+        return Err("still fits".into());
+    }
+    let store = store_on(alloc, store.into_disk().into_inner())?;
+    Ok(has_session(&store))
+}
+
+#[test]
+fn a_store_whose_disk_failed_is_closed(rt: HostRuntime) -> Result<(), Fail> {
+    let alloc = rt.alloc();
+    // The record is written and synced, and then its gate is.
+    assert!(rt; !is_kept(alloc, 4, FuseMode::From)?);
+    assert!(rt; !is_kept(alloc, 5, FuseMode::Only)?);
+    assert!(rt; !is_kept(alloc, 6, FuseMode::From)?);
+    assert!(rt; is_kept(alloc, 7, FuseMode::From)?);
+    assert!(rt; is_kept(alloc, 7, FuseMode::Only)?);
+    Ok(())
+}
+
+// A disk in an array: its calls take no memory, and it keeps no model.
+#[derive(Drop)]
+struct FixedDisk {
+    first: [u8; 100],
+    len: usize,
+    faults: u64,
+}
+
+impl FixedDisk {
+    // Where so many bytes stand, where they lie in the array.
+    fn place(area: Area, offset: u64, len: usize) -> Option<usize>
+        ensures { IfSome result (λ start. start + len ≤ 100) }
+    {
+        if area == Area::Second || offset > 100 || len > 100 - offset as usize {
+            return None;
+        }
+        Some(offset as usize)
+    }
+}
+
+impl Disk for FixedDisk {
+    ghost use Rattle.disk_model.specs.Disk.{unclaimed};
+    ghost use Rattle.disk_model.specs.Calls.{started_with};
+    ghost use Rattle.std.specs.Prelude.{false, []};
+    ghost use Rattle.std.proofs.Common.{arith};
+
+    ghost view = { λ d. record {
+      room = 100;
+      faults = d.faults;
+      keeps_model = false;
+      history = started_with (record { first = []; second = [] });
+    } };
+
+    ghost small = { λ d. Prim.omega arith };
+
+    ghost content_stays = { λ d h. unclaimed h };
+
+    fn room(&self) -> u64 {
+        100
+    }
+
+    fn len(&mut self, area: Area) -> Result<u64, DiskFault> {
+        let _faults = self.faults;
+        match area {
+            Area::First => Ok(self.len.min(100) as u64),
+            Area::Second => Ok(0),
+        }
+    }
+
+    fn read(&mut self, area: Area, offset: u64, buffer: &mut [u8]) -> Result<(), DiskFault> {
+        let _faults = self.faults;
+        let Some(start) = FixedDisk::place(area, offset, buffer.len()) else {
+            self.faults = self.faults.saturating_add(1);
+            return Err(DiskFault);
+        };
+        buffer.copy_from_slice(&self.first[start..start + buffer.len()]);
+        Ok(())
+    }
+
+    fn write_at(&mut self, area: Area, offset: u64, bytes: &[u8]) -> Result<(), DiskFault> {
+        let _faults = self.faults;
+        let Some(start) = FixedDisk::place(area, offset, bytes.len()) else {
+            self.faults = self.faults.saturating_add(1);
+            return Err(DiskFault);
+        };
+        self.first[start..start + bytes.len()].copy_from_slice(bytes);
+        self.len = self.len.max(start + bytes.len());
+        Ok(())
+    }
+
+    fn sync(&mut self, _area: Area) -> Result<(), DiskFault> {
+        let _faults = self.faults;
+        Ok(())
+    }
+}
+
+// All memory, in blocks of falling size.
+fn exhausted(alloc: Global) -> Result<Vec<Vec<u8>>, AllocError> {
+    let mut held: Vec<Vec<u8>> = Vec::with_capacity(alloc, 200_000)?;
+    let mut size: usize = 1 << 44;
+    for _ in 0..45 {
+        for _ in 0..12_000 {
+            match Vec::with_capacity(alloc, size) {
+                Ok(block) => {
+                    if held.len() >= 199_000 {
+                        return Ok(held);
+                    }
+                    held.push(block)?;
+                }
+                Err(_) => break,
+            }
+        }
+        if size > 1 {
+            size /= 2;
+        }
+    }
+    Ok(held)
+}
+
+// Whether the session is committed while no memory is left.
+fn is_put_without_memory<D: Disk>(alloc: Global, store: &mut Store<D>) -> Result<bool, Fail> {
+    let op = session(alloc)?;
+    if let Err(_) = store.sheet().check(&op) {
+        return Err("the worksheet refuses the op".into());
+    }
+    let Ok(frame) = store.prepare(&op) else {
+        return Err("not prepared".into());
+    };
+    let _held = exhausted(alloc)?;
+    let fits = store.fits(&Op::Clear { id: 1 }) && code_len(&Op::Clear { id: 1 }) == 5;
+    let is_put = store.commit_ready(op, frame).is_ok();
+    Ok(fits && is_put && has_session(store))
+}
+
+#[test]
+fn a_prepared_commit_takes_no_memory(rt: HostRuntime) -> Result<(), Fail> {
+    let alloc = rt.alloc();
+    let empty = FixedDisk {
+        first: [0; 100],
+        len: 0,
+        faults: 0,
+    };
+    let Ok(disk) = create(empty) else {
+        return Err("create".into());
+    };
+    let mut store = store_on(alloc, disk)?;
+    assert!(rt; is_put_without_memory(alloc, &mut store)?);
+    let store = store_on(alloc, store.into_disk())?;
+    assert!(rt; has_session(&store));
+    Ok(())
+}
+
+#[test]
+fn without_memory_a_disk_in_memory_fails(rt: HostRuntime) -> Result<(), Fail> {
+    let alloc = rt.alloc();
+    let mut store = created(alloc, 100)?;
+    assert!(rt; !is_put_without_memory(alloc, &mut store)?);
+    assert!(rt; !has_session(&store));
+    assert_eq!(rt; put(&mut store, session(alloc)?), Outcome::Closed);
+    Ok(())
+}
+
+#[test]
+fn without_memory_nothing_is_committed(rt: HostRuntime) -> Result<(), Fail> {
+    let alloc = rt.alloc();
+    let mut store = created(alloc, 100)?;
+    let (op, other) = (session(alloc)?, session(alloc)?);
+    let held = exhausted(alloc)?;
+    let no_frame = prepared(&mut store, &op);
+    let refused = put(&mut store, other);
+    drop(held);
+    assert!(rt; no_frame == Outcome::OutOfMemory && refused == Outcome::OutOfMemory);
+    assert!(rt; !has_session(&store) && store.fits(&Op::Clear { id: 1 }));
     Ok(())
 }
