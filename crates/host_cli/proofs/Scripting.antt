@@ -6,18 +6,19 @@ use Rattle.std.proofs.lemmas.List.{length-map}
 use Rattle.std.specs.Io.KnownBytes.{Appends}
 use Rattle.bstr.specs.Text.{lines_of, lines_from, line_len, without_terminator}
 use Rattle.worksheet.specs.declared.op.Op.{Op}
+use Rattle.worksheet.specs.declared.op.Op.TheVariants as op
 use Rattle.worksheet.specs.declared.refusal.Refusal.{Refusal}
 use Rattle.worksheet.specs.declared.refusal.Refusal.TheVariants as refusal
-use Rattle.worksheet.specs.Contents.{Contents}
+use Rattle.worksheet.specs.Contents.{Contents, Held}
 use Rattle.worksheet.specs.Ops.{sheet_of}
-use Rattle.worksheet.specs.Checks.{first_refusal}
+use Rattle.worksheet.specs.Checks.{first_refusal, room_for}
 use Rattle.session_engine.specs.declared.reply.Reply.{Reply}
 use Rattle.session_engine.specs.declared.reply.Reply.TheVariants as reply
 use Rattle.sheet_text.specs.Script.{line_of, wants_memory}
 use Rattle.sheet_text.specs.Texts.{reply_text}
 use Rattle.sheet_text.specs.declared.script.ScriptLine.{ScriptLine}
 use Rattle.sheet_text.specs.declared.script.ScriptLine.TheVariants as line
-use Rattle.host_cli.specs.Memory.{OpRan, done, refused, unkept, LineRan, unread, LinesRan, script_lines, reply_to}
+use Rattle.host_cli.specs.Memory.{takes_memory, OpRan, done, refused, unkept, LineRan, unread, LinesRan, script_lines, reply_to}
 
 -- An op.
 
@@ -31,9 +32,19 @@ pub op_done : (ops : List Op) (o : Op) (s t : Contents) (answer : Reply) → s �
 op_done ops o s t answer h e is k =
     (ops ++ o ∷ [], subst (λ a. OpRan ops o a (ops ++ o ∷ [])) (sym (is ∙ ap (λ c. reply_to c o) h)) (done (subst (λ c. first_refusal c o ≡ None) h (sym e))), k)
 
-pub op_unkept : (ops : List Op) (o : Op) (s t : Contents) (answer : Reply) → s ≡ sheet_of ops → None ≡ first_refusal s o → answer ≡ reply.Refused refusal.OutOfMemory → t ≡ s → OpDone ops o answer t
-op_unkept ops o s t answer h e is k =
-    (ops, subst (λ a. OpRan ops o a ops) (sym is) (unkept (subst (λ c. first_refusal c o ≡ None) h (sym e))), k ∙ h)
+-- an op for which there may be no room takes memory
+pub takes_when_refused : (held : Held) (o : Op) → (room_for held o ≡ true → ⊥) → takes_memory o ≡ true
+takes_when_refused held (op.Session name tab words) h = refl
+takes_when_refused held (op.New after session input) h = refl
+takes_when_refused held (op.Set id input) h = absurd (h refl)
+takes_when_refused held (op.Remove id) h = absurd (h refl)
+takes_when_refused held (op.Move id after) h = absurd (h refl)
+takes_when_refused held (op.Clear id) h = absurd (h refl)
+takes_when_refused held (op.Answer id prompt output) h = absurd (h refl)
+
+pub op_unkept : (ops : List Op) (o : Op) (s t : Contents) (answer : Reply) → takes_memory o ≡ true → s ≡ sheet_of ops → None ≡ first_refusal s o → answer ≡ reply.Refused refusal.OutOfMemory → t ≡ s → OpDone ops o answer t
+op_unkept ops o s t answer grows h e is k =
+    (ops, subst (λ a. OpRan ops o a ops) (sym is) (unkept grows (subst (λ c. first_refusal c o ≡ None) h (sym e))), k ∙ h)
 
 -- A line.
 

@@ -1,5 +1,5 @@
 -- What a script over a worksheet in memory writes. The worksheet is that of the ops so far.
-use Rattle.std.specs.Prelude.{◌≡◌, ◌+◌, ℕ, true, List, [], ◌∷◌, ◌++◌, Option, Some, None, map, codes}
+use Rattle.std.specs.Prelude.{◌≡◌, ◌+◌, ℕ, Bool, true, false, List, [], ◌∷◌, ◌++◌, Option, Some, None, map, codes}
 use Rattle.std.specs.Fmt.{decimal}
 use Rattle.bstr.specs.Text.{lines_of, without_terminator}
 use Rattle.worksheet.specs.declared.op.Op.{Op}
@@ -32,12 +32,22 @@ abbrev pub reply_to : Contents → Op → Reply
 reply_to sheet (op.New after session input) = reply.Field sheet.next
 reply_to sheet _ = reply.Done
 
+-- a worksheet takes memory for a new session and for a new field, and for nothing else
+abbrev pub takes_memory : Op → Bool
+takes_memory (op.Session name tab words) = true
+takes_memory (op.New after session input) = true
+takes_memory (op.Set id input) = false
+takes_memory (op.Remove id) = false
+takes_memory (op.Move id after) = false
+takes_memory (op.Clear id) = false
+takes_memory (op.Answer id prompt output) = false
+
 -- An op on the worksheet of these ops, what is replied, and the ops behind it. Which refusal comes is
--- told by the worksheet; want of memory is told only of an op that it allows.
+-- told by the worksheet; want of memory is told only of an op that it allows and that takes memory.
 pub data OpRan (ops : List Op) (o : Op) : Reply → List Op → Type 0 where
   done : first_refusal (sheet_of ops) o ≡ None → OpRan ops o (reply_to (sheet_of ops) o) (ops ++ o ∷ [])
   refused : (why : Refusal) → first_refusal (sheet_of ops) o ≡ Some why → OpRan ops o (reply.Refused why) ops
-  unkept : first_refusal (sheet_of ops) o ≡ None → OpRan ops o (reply.Refused refusal.OutOfMemory) ops
+  unkept : takes_memory o ≡ true → first_refusal (sheet_of ops) o ≡ None → OpRan ops o (reply.Refused refusal.OutOfMemory) ops
 
 -- What the line with this number says, what is written of it, and the ops behind it.
 pub data LineRan (number : ℕ) (ops : List Op) : Option ScriptLine → List ℕ → List Op → Type 0 where

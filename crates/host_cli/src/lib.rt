@@ -3,6 +3,8 @@
 #![tactic(auto)]
 
 mod block_lines;
+#[cfg(test)]
+mod failing;
 mod fault;
 mod input;
 mod memory;

@@ -1,5 +1,5 @@
 //! A script over a worksheet in memory, without interpreters.
-ghost use Rattle.std.specs.Prelude.{◌≡◌, ◌<◌, ◌^◌, ℕ, List, [], IfErr, IfSome, IsErrOf, OnOk, length, Some};
+ghost use Rattle.std.specs.Prelude.{◌≡◌, ◌<◌, ◌≤◌, ◌^◌, ℕ, List, [], IfErr, IfSome, IsErrOf, OnOk, length, Some};
 ghost use Rattle.std.specs.Io.KnownBytes.{Appends};
 ghost use Rattle.worksheet.specs.declared.op.Op.{Op};
 ghost use Rattle.worksheet.specs.Ops.{sheet_of};
@@ -144,7 +144,12 @@ pub fn run_memory<R: Read, W: Write>(
     writer: &mut W,
 ) -> Result<(), RunFault>
     ensures ran { OnOk result (IfSome (R.remaining reader.old) (λ script. (text : List ℕ) × ScriptRan script text × Appends (W.contents writer.old) (W.contents writer.new) text)) }
+
+    // A script that is too long is told as such, whatever else would go wrong with its text.
+    ensures short { OnOk result (IfSome (R.remaining reader.old) (λ script. length script ≤ max_input)) }
+    ensures output_short { IsErrOf result RunFault.Output → IfSome (R.remaining reader.old) (λ script. length script ≤ max_input) }
     ensures too_long { IsErrOf result RunFault.InputTooLong → IfSome (R.remaining reader.old) (λ script. max_input < length script) }
+
     ensures nothing_at_input { IsErrOf result RunFault.Input → writer.new ≡ writer.old }
     ensures nothing_at_too_long { IsErrOf result RunFault.InputTooLong → writer.new ≡ writer.old }
     ensures nothing_at_memory { IsErrOf result RunFault.OutOfMemory → writer.new ≡ writer.old }

@@ -1,6 +1,7 @@
 //! Scripts and what they write, with the bytes typed in.
+use crate::failing::{Full, InterruptedOnce, Parts, Unflushed};
 use crate::memory::do_line;
-use crate::run_memory;
+use crate::{RunFault, run_memory};
 use block_tree::OutOfMemory;
 use std::alloc::Global;
 use std::fmt::Write;
@@ -40,9 +41,9 @@ fn bad_lines_are_told_by_number(rt: HostRuntime) -> Result<(), Fail> {
 fn fields_move_and_lose_their_input(rt: HostRuntime) -> Result<(), Fail> {
     let alloc = rt.alloc();
     let script =
-        b"print\nsession a plain p\nnew 0 a x\nnew 1 a y\nnew 2 a z\nmove 3 0\nmove 3 0\nset 1\nprint\n".as_slice();
+        b"print\nsession a plain p\nnew 0 a x\nnew 1 a y\nnew 2 a z\nmove 3 0\nmove 3 0\nset 1\nclear 2\nprint\n".as_slice();
     let expected =
-        b"ok\nfield 1\nfield 2\nfield 3\nok\nrefused 8 SamePlace\nok\n#3 a\n> z\n?\n#1 a\n> \n?\n#2 a\n> y\n?\n".as_slice();
+        b"ok\nfield 1\nfield 2\nfield 3\nok\nrefused 8 SamePlace\nok\nok\n#3 a\n> z\n?\n#1 a\n> \n?\n#2 a\n> y\n?\n".as_slice();
     assert_eq!(rt; written(alloc, script)?.as_slice(), expected);
     Ok(())
 }
@@ -135,5 +136,28 @@ fn without_memory_a_script_goes_on(rt: HostRuntime) -> Result<(), Fail> {
         out.as_slice(),
         b"refused 17 OutOfMemory\nrefused 2 NoField\nbad line 3\n".as_slice()
     );
+    Ok(())
+}
+
+#[test]
+fn a_reader_or_a_writer_of_a_script_that_fails(rt: HostRuntime) -> Result<(), Fail> {
+    let alloc = rt.alloc();
+    let script = b"remove 1\n".as_slice();
+    let mut out: Vec<u8> = Vec::new(alloc);
+    let mut reader = Parts {
+        rest: script,
+        fails: true,
+    };
+    assert!(rt; run_memory(alloc, &mut reader, &mut out) == Err(RunFault::Input));
+    let mut reader = InterruptedOnce {
+        rest: script,
+        interrupted: false,
+    };
+    assert!(rt; run_memory(alloc, &mut reader, &mut out) == Err(RunFault::Input));
+    assert!(rt; out.is_empty());
+    let mut reader = script;
+    assert!(rt; run_memory(alloc, &mut reader, &mut Full) == Err(RunFault::Output));
+    let mut reader = script;
+    assert!(rt; run_memory(alloc, &mut reader, &mut Unflushed) == Err(RunFault::Output));
     Ok(())
 }

@@ -1,43 +1,8 @@
 //! The printed lines, with their bytes typed in, and readers and writers that fail.
+use crate::failing::{Full, InterruptedOnce, Parts, Unflushed};
 use crate::{RunFault, blocks};
 use std::alloc::Global;
-use std::io;
-use std::io::{Read, Write};
 use std::test::Fail;
-
-/// Gives a part of its bytes at each read, at most three, and then fails or ends.
-#[derive(Drop)]
-struct Parts<'a> {
-    rest: &'a [u8],
-    fails: bool,
-}
-
-impl Read for Parts<'_> {
-    fn read(&mut self, buf: &mut [u8]) -> io::Result<usize> {
-        if self.rest.is_empty() && self.fails {
-            return Err(io::Error::from(io::ErrorKind::Interrupted));
-        }
-        let count = self.rest.len().min(buf.len()).min(3);
-        buf[..count].copy_from_slice(&self.rest[..count]);
-        self.rest = &self.rest[count..];
-        Ok(count)
-    }
-}
-
-/// Takes nothing.
-#[derive(Drop)]
-struct Full;
-
-impl Write for Full {
-    fn write(&mut self, buf: &[u8]) -> io::Result<usize> {
-        let _ = buf;
-        Err(io::Error::from(io::ErrorKind::StorageFull))
-    }
-
-    fn flush(&mut self) -> io::Result<()> {
-        Err(io::Error::from(io::ErrorKind::StorageFull))
-    }
-}
 
 // Whether `blocks` prints this text of the stream, and gives this answer.
 fn prints(alloc: Global, stream: &[u8], text: &[u8], whole: bool) -> bool {
@@ -203,7 +168,15 @@ fn a_reader_or_a_writer_that_fails(rt: HostRuntime) -> Result<(), Fail> {
     let mut out: Vec<u8> = Vec::new(alloc);
     assert!(rt; blocks(alloc, &mut reader, &mut out) == Err(RunFault::Input));
     assert!(rt; out.is_empty());
+    let mut reader = InterruptedOnce {
+        rest: b"\x02a:\x05".as_slice(),
+        interrupted: false,
+    };
+    assert!(rt; blocks(alloc, &mut reader, &mut out) == Err(RunFault::Input));
+    assert!(rt; out.is_empty());
     let mut reader = b"\x02a:\x05".as_slice();
     assert!(rt; blocks(alloc, &mut reader, &mut Full) == Err(RunFault::Output));
+    let mut reader = b"\x02a:\x05".as_slice();
+    assert!(rt; blocks(alloc, &mut reader, &mut Unflushed) == Err(RunFault::Output));
     Ok(())
 }
