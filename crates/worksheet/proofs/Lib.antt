@@ -7,3 +7,4 @@ pub mod OneMore
 pub mod SheetLaws
 pub mod Existence
 pub mod NextLaws
+pub mod ApartLaws
