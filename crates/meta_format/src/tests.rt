@@ -182,7 +182,7 @@ fn longest_block(rt: HostRuntime) -> Result<(), Fail> {
     let mut longer = stream.as_slice().to_vec(alloc)?;
     stream.push(5)?;
     longer.extend_from_slice(b"x\x05")?;
-    for size in [2_000_000, 65_536, 4_099] {
+    for size in [2_000_000, 65_536, 4_099, 1] {
         let block = stream.as_slice();
         let got = read(alloc, block, size)?;
         expect(&rt, alloc, got, &[(0, 1_048_576, block)], End::Whole)?;

@@ -168,7 +168,7 @@ impl Life {
     /// The prompt that an item asked now would have: that of the latest answer that has one, cut to its
     /// first 1,024 bytes, or `> ` where none has.
     ///
-    /// Of a life that is over nothing is claimed but that the call returns.
+    /// Of a life that is over nothing is claimed but that it has at most 1,024 bytes.
     pub fn prompt(&self) -> &[u8]
         ensures prompt { (past : List Event) (blocks : List Outer) → Stands self.now past blocks → result.now ≡ prompt_of past blocks }
         ensures short { length result.now ≤ longest_prompt }

@@ -1,5 +1,5 @@
 //! The printed lines, with their bytes typed in, and readers and writers that fail.
-use crate::failing::{Full, InterruptedOnce, Parts, Unflushed};
+use crate::failing::{Full, InterruptedOnce, Noise, Parts, Unflushed};
 use crate::{RunFault, blocks};
 use std::alloc::Global;
 use std::test::Fail;
@@ -178,5 +178,17 @@ fn a_reader_or_a_writer_that_fails(rt: HostRuntime) -> Result<(), Fail> {
     assert!(rt; blocks(alloc, &mut reader, &mut Full) == Err(RunFault::Output));
     let mut reader = b"\x02a:\x05".as_slice();
     assert!(rt; blocks(alloc, &mut reader, &mut Unflushed) == Err(RunFault::Output));
+    Ok(())
+}
+
+#[test]
+fn the_longest_input_and_one_byte_more(rt: HostRuntime) -> Result<(), Fail> {
+    let alloc = rt.alloc();
+    let mut out: Vec<u8> = Vec::new(alloc);
+    let mut reader = Noise { left: 67_108_864 };
+    assert!(rt; blocks(alloc, &mut reader, &mut out) == Ok(true));
+    let mut reader = Noise { left: 67_108_865 };
+    assert!(rt; blocks(alloc, &mut reader, &mut out) == Err(RunFault::InputTooLong));
+    assert!(rt; out.is_empty());
     Ok(())
 }
