@@ -2,9 +2,9 @@
 use Rattle.std.proofs.Common.{◌≡◌, ℕ, true, not, ◌&&◌, nat_le, length, List, [], ◌∷◌, ◌++◌, map, refl, ap, sym, ◌∙◌, append_assoc, arith}
 use Rattle.std.proofs.lemmas.Bool.{and_parts, false≢true, le-leb}
 use Rattle.block_tree.specs.Tree.{Items, Tree, end, text, block}
-use Rattle.block_tree.specs.Code.{with_block}
+use Rattle.block_tree.specs.inside.Code.{with_block}
 use Rattle.block_tree.specs.Shape.{is_proper, begins_with_text, is_block_within, is_tag_name, depth}
-use Rattle.block_tree.specs.Marks.{Mark, letter, close_mark, marks_of, marks, letter_before, rebuilt, first_tree, tree_from}
+use Rattle.block_tree.specs.inside.Marks.{Mark, letter, close_mark, marks_of, marks, letter_before, rebuilt, first_tree, tree_from}
 
 rebuilt-letters : (t : List ℕ) (rest : Items) (k : List Mark) (st : List Items) → nat_le 1 (length t) ≡ true → not (begins_with_text rest) ≡ true → rebuilt k ≡ rest ∷ st
     → rebuilt (map letter t ++ k) ≡ text t rest ∷ st

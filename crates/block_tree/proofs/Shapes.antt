@@ -2,7 +2,7 @@
 use Rattle.std.proofs.Common.{◌≡◌, ℕ, Bool, true, false, not, ◌&&◌, nat_le, length, refl, ap, ap₂, ◌∙◌}
 use Rattle.block_tree.specs.Tree.{Items, end, text, block}
 use Rattle.block_tree.specs.Shape.{is_proper, is_tag_name, begins_with_text}
-use Rattle.block_tree.specs.Reading.{is_right}
+use Rattle.block_tree.specs.inside.Reading.{is_right}
 
 and_assoc : (a b c : Bool) → (a && (b && c)) ≡ (a && b && c)
 and_assoc true b c = refl

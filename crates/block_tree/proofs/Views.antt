@@ -2,7 +2,7 @@
 use Rattle.std.proofs.lemmas.List.{length-map}
 use Rattle.std.proofs.Common.{◌≡◌, suc, false, ◌&&◌, length, List, [], ◌∷◌, map, refl, ap, sym, ◌∙◌}
 use Rattle.std.proofs.lemmas.Bool.{and_parts, and_from, true≢false, false≢true, and_right}
-use Rattle.block_tree.specs.Tree.{Items, Tree, Piece, text_piece, block_piece, items_of, put}
+use Rattle.block_tree.specs.Tree.{Items, Tree, Piece, text_piece, block_piece, items_from, put}
 use Rattle.std.specs.Bool.{Decides}
 use Rattle.block_tree.specs.Same.{same_items, same_tree, same_piece, same_tree-Decides}
 use Rattle.block_tree.specs.View.{piece_of, tree_out}
@@ -14,15 +14,15 @@ put_same (text_piece s) (block_piece y) a b = refl
 put_same (block_piece x) (text_piece t) a b = refl
 put_same (block_piece x) (block_piece y) a b = refl
 
-pub items_apart : (ps qs : List Piece) → (length ps ≡ length qs → ⊥) → false ≡ same_items (items_of ps) (items_of qs)
+pub items_apart : (ps qs : List Piece) → (length ps ≡ length qs → ⊥) → false ≡ same_items (items_from ps) (items_from qs)
 items_apart [] [] h = absurd (h refl)
 items_apart [] (text_piece t ∷ qs) h = refl
 items_apart [] (block_piece t ∷ qs) h = refl
 items_apart (text_piece t ∷ ps) [] h = refl
 items_apart (block_piece t ∷ ps) [] h = refl
-items_apart (p ∷ ps) (q ∷ qs) h = sym (put_same p q (items_of ps) (items_of qs) ∙ and_right (same_piece p q) (same_items (items_of ps) (items_of qs)) (sym (items_apart ps qs (λ e. h (ap suc e)))))
+items_apart (p ∷ ps) (q ∷ qs) h = sym (put_same p q (items_from ps) (items_from qs) ∙ and_right (same_piece p q) (same_items (items_from ps) (items_from qs)) (sym (items_apart ps qs (λ e. h (ap suc e)))))
 
-pub pieces_apart : (xs ys : List Item) → (length xs ≡ length ys → ⊥) → false ≡ same_items (items_of (map piece_of xs)) (items_of (map piece_of ys))
+pub pieces_apart : (xs ys : List Item) → (length xs ≡ length ys → ⊥) → false ≡ same_items (items_from (map piece_of xs)) (items_from (map piece_of ys))
 pieces_apart xs ys h = items_apart (map piece_of xs) (map piece_of ys) (λ e. h (sym (length-map xs piece_of) ∙ e ∙ length-map ys piece_of))
 
 pub trees_decide : (a b : Tree) → Decides (same_tree a b) (a ≡ b)

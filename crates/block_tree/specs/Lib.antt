@@ -3,8 +3,4 @@ pub mod Shape
 pub mod Output
 pub mod View
 pub mod Same
-pub mod Code
-pub mod Marks
-pub mod Nodes
-pub mod Growing
-pub mod Reading
+pub mod inside

@@ -27,6 +27,6 @@ put (text_piece t) rest = text t rest
 put (block_piece b) rest = block b.channel b.name b.items rest
 
 -- pieces in a row
-abbrev pub items_of : List Piece → Items
-items_of [] = end
-items_of (p ∷ ps) = put p (items_of ps)
+abbrev pub items_from : List Piece → Items
+items_from [] = end
+items_from (p ∷ ps) = put p (items_from ps)

@@ -1,6 +1,6 @@
 //! Laws of blocks: functions without a body, whose contracts are the statements.
 ghost use Rattle.std.specs.Prelude.{◌≡◌, ◌↔◌, ℕ, true, IsTrue};
-ghost use Rattle.block_tree.specs.Marks.{marks};
+ghost use Rattle.block_tree.specs.inside.Marks.{marks};
 ghost use Rattle.block_tree.specs.Same.{same_tree};
 ghost use Rattle.block_tree.specs.Shape.{is_block_within};
 ghost use Rattle.block_tree.specs.Tree.{Tree};

@@ -1,6 +1,6 @@
 //! Which trees are blocks.
 ghost use Rattle.std.specs.Prelude.{◌≡◌, ◌&&◌, false, nat_le};
-ghost use Rattle.block_tree.specs.Reading.{is_right};
+ghost use Rattle.block_tree.specs.inside.Reading.{is_right};
 ghost use Rattle.block_tree.specs.Shape.{depth, is_tag_name, max_tag};
 ghost use Rattle.block_tree.specs.View.{tree_of};
 

@@ -2,7 +2,7 @@
 use Rattle.std.proofs.Common.{◌≡◌, List, [], ◌∷◌, ◌++◌, sym, ◌∙◌, ap, subst}
 use Rattle.disk_model.specs.Disk.{DiskState, History, state_of}
 use Rattle.disk_model.specs.Calls.{step, history_after}
-use Rattle.disk_model.specs.Drawing.{Draws}
+use Rattle.disk_model.specs.inside.Drawing.{Draws}
 use Rattle.disk_model.specs.declared.disk.Area.{Area}
 use Rattle.disk_model.specs.declared.crash.Drawing.{Drawing}
 use Rattle.disk_model.specs.declared.memory.Call.{Call}

@@ -5,8 +5,8 @@ use Rattle.std.proofs.lemmas.List.{append-nil, drop-drop, drop_all, length-repli
 use Rattle.std.proofs.lemmas.Bool.Decides.{nat_tests}
 use Rattle.disk_model.specs.Disk.{Torn, Written}
 use Rattle.disk_model.specs.Crash.{left_by, laid}
-use Rattle.disk_model.specs.Replay.{torn_by_write}
-use Rattle.disk_model.specs.Moments.{length-overwritten}
+use Rattle.disk_model.specs.inside.Replay.{torn_by_write}
+use Rattle.disk_model.specs.inside.Moments.{length-overwritten}
 use Rattle.disk_model.specs.declared.crash.Fill.{Fill}
 use Rattle.disk_model.specs.declared.crash.Fill.TheVariants as fills
 

@@ -5,7 +5,7 @@ use Rattle.std.specs.declared.alloc.Global.{Global}
 use Rattle.std.proofs.lemmas.Bool.Decides.{nat_tests}
 use Rattle.disk_model.specs.Disk.{AreaState, DiskState, History, Image, IsImage, AreaImage, Torn, Looks, Writes, Syncs, area_of, content_of, overwritten}
 use Rattle.disk_model.specs.Calls.{Notes, after_write, after_sync, with_area, step, advanced, history_after, started_with}
-use Rattle.disk_model.specs.Replay.{stays_an_image, torn_by_write}
+use Rattle.disk_model.specs.inside.Replay.{stays_an_image, torn_by_write}
 use Rattle.disk_model.specs.declared.disk.Area.{Area}
 use Rattle.disk_model.specs.declared.disk.Area.TheVariants.{First, Second}
 use Rattle.disk_model.specs.declared.memory.Call.{Call}

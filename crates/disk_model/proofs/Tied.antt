@@ -7,7 +7,7 @@ use Rattle.disk_model.specs.Disk.{AreaState, AreaImage, AtMoment, DiskState, Dis
 use Rattle.disk_model.specs.Calls.{advanced, after_write, fresh, history_after, settled, started_with, step}
 use Rattle.disk_model.specs.Crash.{Crashed, all_laid, image_named, image_of, laid}
 use Rattle.disk_model.proofs.Laid.{length-laid, torn_by_fill, torn_cut}
-use Rattle.disk_model.specs.Moments.{length-overwritten}
+use Rattle.disk_model.specs.inside.Moments.{length-overwritten}
 use Rattle.disk_model.specs.declared.disk.Area.TheVariants.{First, Second}
 use Rattle.disk_model.specs.declared.memory.Call.{Call}
 use Rattle.disk_model.specs.declared.memory.Call.TheVariants.{Look, Write, Sync}

@@ -1,6 +1,6 @@
 -- The image that a choice names (docs/FORMAT.md, "Crashes in tests").
 use Rattle.std.specs.Prelude.{◌≡◌, ℕ, ◌+◌, ◌-◌, Bool, if◌then◌else◌, List, [], ◌∷◌, ◌++◌, length, take, replicate}
-use Rattle.disk_model.specs.Disk.{AreaState, AtMoment, DiskState, DiskView, Image, IsImage, Written, content_of, overwritten}
+use Rattle.disk_model.specs.Disk.{AreaState, AtMoment, DiskState, DiskView, Image, IsImage, Written, overwritten, bytes_on}
 use Rattle.disk_model.specs.Calls.{fresh}
 use Rattle.disk_model.specs.declared.crash.Fill.{Fill}
 use Rattle.disk_model.specs.declared.crash.Fill.TheVariants.{Old, New, Torn, Byte}
@@ -34,4 +34,4 @@ pub record Crashed (moment : ℕ) (fill : Fill) (grown : Bool) (old new : DiskVi
   pub state : DiskState
   pub at_moment : AtMoment moment old.history state
   pub named : new ≡ fresh old.room (image_named fill grown state)
-  pub image : IsImage state (content_of new.history)
+  pub image : IsImage state (bytes_on new)

@@ -1,10 +1,8 @@
 pub mod Disk
 pub mod Calls
-pub mod Replay
 pub mod Crash
-pub mod Drawing
 pub mod Memory
 pub mod Fuse
 pub mod Fused
-pub mod Moments
 pub mod Laws
+pub mod inside

@@ -49,12 +49,12 @@ struct Drawing {
 impl Drawing {
     ghost use Rattle.disk_model.specs.Disk.{AreaState, DiskState};
     ghost use Rattle.disk_model.specs.Calls.{after_write, after_sync};
-    ghost use Rattle.disk_model.specs.Drawing.{Draws, IsLevel};
+    ghost use Rattle.disk_model.specs.inside.Drawing.{Draws, IsEven};
 
     fn write(&mut self, offset: u64, bytes: &[u8]) -> Result<(), AllocError>
-        requires { IsLevel self.old }
+        requires { IsEven self.old }
         ensures fill { self.new.fill ≡ self.old.fill }
-        ensures level { OnOk result (IsLevel self.new) }
+        ensures level { OnOk result (IsEven self.new) }
         ensures draws { OnOk result ((a : AreaState) → Draws self.old a → Draws self.new (after_write offset bytes.now a)) }
     {
         let at = offset as usize;
@@ -67,7 +67,7 @@ impl Drawing {
 
     fn sync(&mut self) -> Result<(), AllocError>
         ensures fill { self.new.fill ≡ self.old.fill }
-        ensures level { OnOk result (IsLevel self.new) }
+        ensures level { OnOk result (IsEven self.new) }
         ensures draws { OnOk result ((a : AreaState) → Draws self.old a → Draws self.new (after_sync a)) }
     {
         self.image = Vec::from_slice(self.alloc, &self.content)?;
@@ -77,9 +77,9 @@ impl Drawing {
 
     // Goes through one call more.
     fn follow(&mut self, call: &Call, area: Area) -> Result<(), AllocError>
-        requires { IsLevel self.old }
+        requires { IsEven self.old }
         ensures fill { self.new.fill ≡ self.old.fill }
-        ensures level { OnOk result (IsLevel self.new) }
+        ensures level { OnOk result (IsEven self.new) }
         ensures draws { OnOk result ((s : DiskState) → Draws self.old (state_of area s) → Draws self.new (state_of area (step s call.now))) }
     {
         match call {

@@ -1,6 +1,6 @@
 // A disk as a journal sees it.
 ghost use Rattle.std.specs.Prelude.{◌≡◌, ◌+◌, ◌≤◌, length, take, drop, IsTrue, IfOk, OnOk};
-ghost use Rattle.disk_model.specs.Disk.{DiskView, InModel, Called, Looks, Writes, Syncs, IsImage, content_of, area_of, max_room};
+ghost use Rattle.disk_model.specs.Disk.{DiskView, InModel, Called, Looks, Writes, Syncs, IsImage, area_of, max_room, bytes_on};
 
 /// The greatest room of a disk, in bytes.
 pub const MAX_ROOM: u64 = 2_147_483_648;
@@ -8,9 +8,9 @@ pub const MAX_ROOM: u64 = 2_147_483_648;
 /// One of the two areas of a disk.
 #[derive(Clone, Copy, Debug, PartialEq, Eq)]
 pub enum Area {
-    /// A journal's header, whose selector names the active area, and its records.
+    /// The first one. A journal has its header here.
     First,
-    /// Empty in a journal of this version.
+    /// The second one, which a journal of this version leaves empty.
     Second,
 }
 
@@ -41,21 +41,21 @@ pub trait Disk: Drop {
         ensures bound { IfOk result (λ n. n ≤ (view self.old).room) }
 
         ensures looks { InModel (view self.old) (Looks (view self.old).history (view self.new).history) }
-        ensures length { InModel (view self.old) (IfOk result (λ n. n ≡ length (area_of area (content_of (view self.old).history)))) };
+        ensures length { InModel (view self.old) (IfOk result (λ n. n ≡ length (area_of area (bytes_on (view self.old))))) };
 
     /// Fills the buffer with the bytes from `offset` on, all of them within the area's length.
     fn read(&mut self, area: Area, offset: u64, buffer: &mut [u8]) -> Result<(), DiskFault>
-        requires { InModel (view self.old) (offset + length buffer.old ≤ length (area_of area (content_of (view self.old).history))) }
+        requires { InModel (view self.old) (offset + length buffer.old ≤ length (area_of area (bytes_on (view self.old)))) }
 
         ensures called { Called result (view self.old) (view self.new) }
 
         ensures looks { InModel (view self.old) (Looks (view self.old).history (view self.new).history) }
-        ensures bytes { InModel (view self.old) (OnOk result (buffer.new ≡ take (length buffer.old) (drop offset (area_of area (content_of (view self.old).history))))) };
+        ensures bytes { InModel (view self.old) (OnOk result (buffer.new ≡ take (length buffer.old) (drop offset (area_of area (bytes_on (view self.old)))))) };
 
     /// Puts bytes over what stands at `offset`, and past the end. They begin at most at the area's
     /// length, and end at most at the room. A write that fails may be torn.
     fn write_at(&mut self, area: Area, offset: u64, bytes: &[u8]) -> Result<(), DiskFault>
-        requires { InModel (view self.old) ((offset ≤ length (area_of area (content_of (view self.old).history))) × (offset + length bytes.now ≤ (view self.old).room)) }
+        requires { InModel (view self.old) ((offset ≤ length (area_of area (bytes_on (view self.old)))) × (offset + length bytes.now ≤ (view self.old).room)) }
 
         ensures called { Called result (view self.old) (view self.new) }
 
@@ -71,5 +71,5 @@ pub trait Disk: Drop {
     ghost small: { (disk : Self) → (view disk).room ≤ max_room };
 
     /// What a read gives is one of the images that a crash may leave.
-    ghost content_stays: { (disk : Self) → InModel (view disk) (IsImage (view disk).history.now (content_of (view disk).history)) };
+    ghost content_stays: { (disk : Self) → InModel (view disk) (IsImage (view disk).history.now (bytes_on (view disk))) };
 }

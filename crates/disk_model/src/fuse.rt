@@ -1,7 +1,7 @@
 // A disk that fails from some call on, or at one call alone.
 ghost use Rattle.std.specs.Prelude.{◌≡◌, ◌+◌, ◌≤◌, ◌↔◌, length, take, drop, min, IfOk, IsErr, OnErr, OnOk};
 ghost use Rattle.disk_model.specs.Fuse.{Blows};
-ghost use Rattle.disk_model.specs.Disk.{Called, InModel, Looks, Rises, Syncs, Writes, area_of, content_of, max_faults};
+ghost use Rattle.disk_model.specs.Disk.{Called, InModel, Looks, Rises, Syncs, Writes, area_of, max_faults, bytes_on};
 
 use crate::{Area, Disk, DiskFault};
 
@@ -102,7 +102,7 @@ impl<D: Disk> Disk for FuseDisk<D> {
         ensures called { Called result (fuse_view D.view self.old) (fuse_view D.view self.new) }
         ensures bound { IfOk result (λ n. n ≤ (fuse_view D.view self.old).room) }
         ensures looks { InModel (fuse_view D.view self.old) (Looks (fuse_view D.view self.old).history (fuse_view D.view self.new).history) }
-        ensures length { InModel (fuse_view D.view self.old) (IfOk result (λ n. n ≡ length (area_of area (content_of (fuse_view D.view self.old).history)))) }
+        ensures length { InModel (fuse_view D.view self.old) (IfOk result (λ n. n ≡ length (area_of area (bytes_on (fuse_view D.view self.old))))) }
         ensures spends { Spends D.view result self.old self.new }
     {
         self.fuse.spend()?;
@@ -110,10 +110,10 @@ impl<D: Disk> Disk for FuseDisk<D> {
     }
 
     fn read(&mut self, area: Area, offset: u64, buffer: &mut [u8]) -> Result<(), DiskFault>
-        requires { InModel (fuse_view D.view self.old) (offset + length buffer.old ≤ length (area_of area (content_of (fuse_view D.view self.old).history))) }
+        requires { InModel (fuse_view D.view self.old) (offset + length buffer.old ≤ length (area_of area (bytes_on (fuse_view D.view self.old)))) }
         ensures called { Called result (fuse_view D.view self.old) (fuse_view D.view self.new) }
         ensures looks { InModel (fuse_view D.view self.old) (Looks (fuse_view D.view self.old).history (fuse_view D.view self.new).history) }
-        ensures bytes { InModel (fuse_view D.view self.old) (OnOk result (buffer.new ≡ take (length buffer.old) (drop offset (area_of area (content_of (fuse_view D.view self.old).history))))) }
+        ensures bytes { InModel (fuse_view D.view self.old) (OnOk result (buffer.new ≡ take (length buffer.old) (drop offset (area_of area (bytes_on (fuse_view D.view self.old)))))) }
         ensures spends { Spends D.view result self.old self.new }
     {
         self.fuse.spend()?;
@@ -121,7 +121,7 @@ impl<D: Disk> Disk for FuseDisk<D> {
     }
 
     fn write_at(&mut self, area: Area, offset: u64, bytes: &[u8]) -> Result<(), DiskFault>
-        requires { InModel (fuse_view D.view self.old) ((offset ≤ length (area_of area (content_of (fuse_view D.view self.old).history))) × (offset + length bytes.now ≤ (fuse_view D.view self.old).room)) }
+        requires { InModel (fuse_view D.view self.old) ((offset ≤ length (area_of area (bytes_on (fuse_view D.view self.old)))) × (offset + length bytes.now ≤ (fuse_view D.view self.old).room)) }
         ensures called { Called result (fuse_view D.view self.old) (fuse_view D.view self.new) }
         ensures writes { InModel (fuse_view D.view self.old) (Writes area offset bytes.now result (fuse_view D.view self.old).history (fuse_view D.view self.new).history) }
         ensures spends { Spends D.view result self.old self.new }

@@ -1,8 +1,8 @@
 // A disk in memory, which keeps a record of its calls.
 ghost use Rattle.std.specs.Prelude.{◌≡◌, ◌≤◌, ◌<◌, ◌+◌, ◌^◌, ◌++◌, ◌∷◌, [], length, take, drop, IfOk, OnOk, OnErr};
-ghost use Rattle.disk_model.specs.Disk.{Called, InModel, Looks, Syncs, Writes, area_of, content_of, max_room, overwritten};
+ghost use Rattle.disk_model.specs.Disk.{Called, InModel, Looks, Syncs, Writes, area_of, max_room, overwritten, bytes_on};
 ghost use Rattle.disk_model.specs.Calls.{Notes, after_sync, after_write, fresh, history_after, started_with, step, with_area};
-ghost use Rattle.disk_model.specs.Replay.{stays_an_image};
+ghost use Rattle.disk_model.specs.inside.Replay.{stays_an_image};
 
 use crate::crash::area_image;
 use crate::{Area, Choice, Disk, DiskFault, OutOfMemory};
@@ -103,7 +103,7 @@ impl MemoryDisk {
 
     /// What a read would give of an area. It is no call on the disk.
     pub fn content(&self, area: Area) -> &[u8]
-        ensures { result.now ≡ area_of area (content_of (view_of self.now).history) }
+        ensures { result.now ≡ area_of area (bytes_on (view_of self.now)) }
     {
         match area {
             Area::First => &self.first,
@@ -191,7 +191,7 @@ impl Disk for MemoryDisk {
         ensures called { Called result (view_of self.old) (view_of self.new) }
         ensures bound { IfOk result (λ n. n ≤ (view_of self.old).room) }
         ensures looks { InModel (view_of self.old) (Looks (view_of self.old).history (view_of self.new).history) }
-        ensures length { InModel (view_of self.old) (IfOk result (λ n. n ≡ length (area_of area (content_of (view_of self.old).history)))) }
+        ensures length { InModel (view_of self.old) (IfOk result (λ n. n ≡ length (area_of area (bytes_on (view_of self.old))))) }
         ensures records { Records result (λ s. s) (view_of self.old) (view_of self.new) }
     {
         let _faults = self.faults;
@@ -207,10 +207,10 @@ impl Disk for MemoryDisk {
 
     #[tactic(auto, using(crate::proofs::Record::looked))]
     fn read(&mut self, area: Area, offset: u64, buffer: &mut [u8]) -> Result<(), DiskFault>
-        requires { InModel (view_of self.old) (offset + length buffer.old ≤ length (area_of area (content_of (view_of self.old).history))) }
+        requires { InModel (view_of self.old) (offset + length buffer.old ≤ length (area_of area (bytes_on (view_of self.old)))) }
         ensures called { Called result (view_of self.old) (view_of self.new) }
         ensures looks { InModel (view_of self.old) (Looks (view_of self.old).history (view_of self.new).history) }
-        ensures bytes { InModel (view_of self.old) (OnOk result (buffer.new ≡ take (length buffer.old) (drop offset (area_of area (content_of (view_of self.old).history))))) }
+        ensures bytes { InModel (view_of self.old) (OnOk result (buffer.new ≡ take (length buffer.old) (drop offset (area_of area (bytes_on (view_of self.old)))))) }
         ensures records { Records result (λ s. s) (view_of self.old) (view_of self.new) }
     {
         let _faults = self.faults;
@@ -228,7 +228,7 @@ impl Disk for MemoryDisk {
     }
 
     fn write_at(&mut self, area: Area, offset: u64, bytes: &[u8]) -> Result<(), DiskFault>
-        requires { InModel (view_of self.old) ((offset ≤ length (area_of area (content_of (view_of self.old).history))) × (offset + length bytes.now ≤ (view_of self.old).room)) }
+        requires { InModel (view_of self.old) ((offset ≤ length (area_of area (bytes_on (view_of self.old)))) × (offset + length bytes.now ≤ (view_of self.old).room)) }
         ensures called { Called result (view_of self.old) (view_of self.new) }
         ensures writes { InModel (view_of self.old) (Writes area offset bytes.now result (view_of self.old).history (view_of self.new).history) }
         ensures records { Records result (with_area area (after_write offset bytes.now)) (view_of self.old) (view_of self.new) }

@@ -4,18 +4,18 @@ use Rattle.std.proofs.Common.{◌≡◌, ℕ, true, false, List, [], ◌++◌, N
 use Rattle.meta_format.specs.Limits.{Limits}
 use Rattle.meta_format.specs.Stream.{Outer, Stream}
 use Rattle.meta_format.specs.Faults.{Kind}
-use Rattle.meta_format.specs.Reader.{Known, Stands, IsPending, Faults}
+use Rattle.meta_format.specs.Reader.{ReaderView, ReaderHasRead, IsPending, Faults}
 use Rattle.host_cli.specs.Printed.{Printed, whole, unfinished, faulty, outer_lines, unfinished_line, fault_line}
 
 pub ruleset steps = (Appends-trans, Appends-nil)
 
-pub whole_printed : (most : Limits) (k : Known) (s : List ℕ) (blocks : List Outer) → Stands most k s blocks → k.pending ≡ None
+pub whole_printed : (most : Limits) (k : ReaderView) (s : List ℕ) (blocks : List Outer) → ReaderHasRead most k s blocks → k.pending ≡ None
     → Printed most s (outer_lines blocks) true
 whole_printed most k s blocks h e =
     let no_tail : h.tail ≡ [] = subst (IsPending s h.tail) e h.pending in
     whole blocks h.no_fault (subst (Stream most s blocks) no_tail h.stream) refl
 
-pub unfinished_printed : (most : Limits) (k : Known) (s : List ℕ) (blocks : List Outer) (start : ℕ) → Stands most k s blocks → k.pending ≡ Some start
+pub unfinished_printed : (most : Limits) (k : ReaderView) (s : List ℕ) (blocks : List Outer) (start : ℕ) → ReaderHasRead most k s blocks → k.pending ≡ Some start
     → Printed most s (outer_lines blocks ++ unfinished_line start) false
 unfinished_printed most k s blocks start h e =
     let open_at = subst (IsPending s h.tail) e h.pending in

@@ -9,16 +9,16 @@ use Rattle.worksheet.specs.declared.op.Op.{Op}
 use Rattle.worksheet.specs.declared.op.Op.TheVariants as op
 use Rattle.worksheet.specs.declared.refusal.Refusal.{Refusal}
 use Rattle.worksheet.specs.declared.refusal.Refusal.TheVariants as refusal
-use Rattle.worksheet.specs.Contents.{Contents, Held}
+use Rattle.worksheet.specs.Contents.{Contents, SheetView}
 use Rattle.worksheet.specs.Ops.{sheet_of}
-use Rattle.worksheet.specs.Checks.{first_refusal, room_for}
+use Rattle.worksheet.specs.Checks.{first_refusal, room_for, takes_memory}
 use Rattle.session_engine.specs.declared.reply.Reply.{Reply}
 use Rattle.session_engine.specs.declared.reply.Reply.TheVariants as reply
 use Rattle.sheet_text.specs.Script.{line_of, wants_memory}
 use Rattle.sheet_text.specs.Texts.{reply_text}
 use Rattle.sheet_text.specs.declared.script.ScriptLine.{ScriptLine}
 use Rattle.sheet_text.specs.declared.script.ScriptLine.TheVariants as line
-use Rattle.host_cli.specs.Memory.{takes_memory, OpRan, done, refused, unkept, LineRan, unread, LinesRan, script_lines, reply_to}
+use Rattle.host_cli.specs.Memory.{OpRan, done, refused, unkept, LineRan, unread, LinesRan, script_lines, reply_to}
 
 -- An op.
 
@@ -33,7 +33,7 @@ op_done ops o s t answer h e is k =
     (ops ++ o ∷ [], subst (λ a. OpRan ops o a (ops ++ o ∷ [])) (sym (is ∙ ap (λ c. reply_to c o) h)) (done (subst (λ c. first_refusal c o ≡ None) h (sym e))), k)
 
 -- an op for which there may be no room takes memory
-pub takes_when_refused : (held : Held) (o : Op) → (room_for held o ≡ true → ⊥) → takes_memory o ≡ true
+pub takes_when_refused : (held : SheetView) (o : Op) → (room_for held o ≡ true → ⊥) → takes_memory o ≡ true
 takes_when_refused held (op.Session name tab words) h = refl
 takes_when_refused held (op.New after session input) h = refl
 takes_when_refused held (op.Set id input) h = absurd (h refl)

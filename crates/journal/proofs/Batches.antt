@@ -2,9 +2,9 @@
 use Rattle.std.proofs.Common.{◌≡◌, ⊎_elim, ℕ, ◌+◌, ◌<◌, List, [], ◌∷◌, ◌++◌, length, take, refl, sym, ◌∙◌, ap, subst, arith, append_assoc, IsTrue}
 use Rattle.std.proofs.lemmas.List.{append-nil}
 use Rattle.disk_model.specs.Disk.{Image, History, InModel, LeavesOnly, SameDisk}
-use Rattle.disk_model.specs.Moments.{started, weakens, goes_on}
-use Rattle.journal.specs.Kept.{BeforeOrAfter, JournalView, Keeps, Stands}
-use Rattle.journal.specs.Batch.{Appended, SomeFirst}
+use Rattle.disk_model.specs.inside.Moments.{started, weakens, goes_on}
+use Rattle.journal.specs.Kept.{BeforeOrAfter, JournalView, Keeps, ImageStandsFor}
+use Rattle.journal.specs.inside.Batch.{Appended, SomeFirst}
 use Rattle.journal.specs.Area.{StandsFor}
 use Rattle.journal.specs.Limits.{max_payload}
 
@@ -12,7 +12,7 @@ pub none_yet : (old : JournalView) (more : List (List ℕ)) → Appended old old
 none_yet old more = record {
   same = record { room = refl; keeps_model = refl; later = omega arith };
   kept = λ model payloads keeps. subst (λ (l : List (List ℕ)). Keeps old.disk.history old.end l) (sym (append-nil payloads)) keeps;
-  moments = λ model payloads keeps. started (SomeFirst payloads more) old.disk.history (λ i image. (0, omega arith, subst (λ (l : List (List ℕ)). Stands i l) (sym (append-nil payloads)) (subst (λ (bytes : List ℕ). StandsFor max_payload bytes payloads) (sym (keeps.durable i image)) keeps.stands)));
+  moments = λ model payloads keeps. started (SomeFirst payloads more) old.disk.history (λ i image. (0, omega arith, subst (λ (l : List (List ℕ)). ImageStandsFor i l) (sym (append-nil payloads)) (subst (λ (bytes : List ℕ). StandsFor max_payload bytes payloads) (sym (keeps.durable i image)) keeps.stands)));
 }
 
 module _ (old mid : JournalView) (more : List (List ℕ)) (n : ℕ) (so_far : Appended old mid more n) (payload : List ℕ) (next : take (n + 1) more ≡ take n more ++ payload ∷ []) (lt : n < length more) where
@@ -26,7 +26,7 @@ module _ (old mid : JournalView) (more : List (List ℕ)) (n : ℕ) (so_far : Ap
   first_ones : (s : History) (payloads : List (List ℕ)) (i : Image) → BeforeOrAfter s.now (payloads ++ take n more) payload i → SomeFirst payloads more i
   first_ones s payloads i either = ⊎_elim
       (λ before. (n, omega (arith, lt), before))
-      (λ after. (n + 1, omega (arith, lt), subst (λ (l : List (List ℕ)). Stands i l) (longer payloads) after)) either.0
+      (λ after. (n + 1, omega (arith, lt), subst (λ (l : List (List ℕ)). ImageStandsFor i l) (longer payloads) after)) either.0
 
   pub run_on : (new : History)
       → InModel mid.disk ((payloads : List (List ℕ)) → Keeps mid.disk.history mid.end payloads → LeavesOnly (BeforeOrAfter mid.disk.history.now payloads payload) mid.disk.history new)

@@ -2,7 +2,7 @@
 use Rattle.std.proofs.Common.{◌≡◌, inl, inr, ⊎_elim, ℕ, ◌+◌, List, [], ◌∷◌, ◌++◌, length, drop, refl, sym, ◌∙◌, ap, subst, arith, Result, Ok, length-append}
 use Rattle.disk_model.specs.Disk.{Image, History, IsImage, Torn, LeavesOnly, Writes, Syncs, content_of, overwritten}
 use Rattle.disk_model.specs.declared.disk.Area.TheVariants.{First}
-use Rattle.disk_model.specs.Moments.{started, goes_on, weakens, at_end, stays}
+use Rattle.disk_model.specs.inside.Moments.{started, goes_on, weakens, at_end, stays}
 use Rattle.journal.specs.Area.{Lays, StandsFor, body_of, IsPayload}
 use Rattle.journal.specs.Limits.{max_payload}
 use Rattle.journal.specs.Kept.{Keeps, BeforeOrAfter}

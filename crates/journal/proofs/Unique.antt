@@ -6,7 +6,7 @@ use Rattle.std.proofs.lemmas.Nat.{from_be_bytes-to_be_bytes_4}
 use Rattle.journal.specs.Area.{Lays, StandsFor, header, records, record_of, body_of, IsPayload, ArePayloads, end_of}
 use Rattle.journal.specs.Damage.{HasHeader, IsBroken, IsDamaged}
 use Rattle.disk_model.specs.Disk.{Image}
-use Rattle.journal.specs.Kept.{Stands}
+use Rattle.journal.specs.Kept.{ImageStandsFor}
 use Rattle.journal.specs.Open.{IsPassing, Tells}
 use Rattle.journal.specs.Limits.{max_payload}
 use Rattle.journal.specs.declared.opening.OpenCause.{OpenCause}
@@ -103,13 +103,13 @@ pub one_list : (limit : ℕ) → limit < 2 ^ 32 → (area : List ℕ) (payloads 
 one_list limit fits area payloads others s t = laid_out_once limit fits s.selector t.selector area payloads others s.lays t.lays
 
 -- what a disk stands for is what its bytes lay out
-pub given : (i j : Image) (ps qs : List (List ℕ)) → j ≡ i → Stands j ps → Stands i qs → ps ≡ qs
+pub given : (i j : Image) (ps qs : List (List ℕ)) → j ≡ i → ImageStandsFor j ps → ImageStandsFor i qs → ps ≡ qs
 given i j ps qs same stands others =
-    let s = subst (λ (k : Image). Stands k ps) same stands in
+    let s = subst (λ (k : Image). ImageStandsFor k ps) same stands in
     one_list max_payload (omega arith) i.first ps qs s others
 
 -- and then no cause lies in them
-pub refused : (i : Image) (qs : List (List ℕ)) (cause : OpenCause) → Tells i cause → Stands i qs → IsPassing cause
+pub refused : (i : Image) (qs : List (List ℕ)) (cause : OpenCause) → Tells i cause → ImageStandsFor i qs → IsPassing cause
 refused i qs (causes.Damaged gate) told stands = undamaged max_payload (omega arith) i.first qs gate stands told
 refused i qs causes.NotASheet told stands = told (has_header max_payload (omega arith) i.first qs stands)
 refused i qs causes.Disk told stands = tt

@@ -2,7 +2,7 @@
 use Rattle.std.proofs.Common.{◌≡◌, ℕ, ◌+◌, ◌<◌, List, [], ◌∷◌, ◌++◌, length, refl, sym, ◌∙◌, ap, subst, arith, append_assoc, length-append}
 use Rattle.journal.specs.Area.{header, records, record_of, IsPayload, end_of, first_gate}
 use Rattle.journal.specs.Damage.{Walked}
-use Rattle.journal.specs.Walk.{payloads_in, AreGates}
+use Rattle.journal.specs.Payloads.{payloads_in, AreGates}
 use Rattle.journal.specs.declared.walk.Payload.{Payload}
 use Rattle.journal.proofs.Bytes.{records-push, ArePayloads-push, end-push}
 

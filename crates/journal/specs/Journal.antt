@@ -3,7 +3,7 @@ use Rattle.std.specs.Prelude.{◌≡◌, ℕ, List, Result, Ok, Err}
 use Rattle.disk_model.specs.Disk.{DiskView}
 use Rattle.journal.specs.Kept.{JournalView}
 use Rattle.journal.specs.Open.{IsPassing}
-use Rattle.journal.specs.Walk.{payloads_in}
+use Rattle.journal.specs.Payloads.{payloads_in}
 use Rattle.journal.specs.declared.walk.Payload.{Payload}
 use Rattle.std.specs.declared.alloc.Global.{Global}
 use Rattle.std.specs.Prelude.{Vec}

@@ -12,12 +12,12 @@ abbrev pub other_of : Image → List ℕ
 other_of i = i.second
 
 -- the image stands for these payloads
-abbrev pub Stands : Image → List (List ℕ) → Type 0
-Stands i payloads = StandsFor max_payload (active_of i) payloads
+abbrev pub ImageStandsFor : Image → List (List ℕ) → Type 0
+ImageStandsFor i payloads = StandsFor max_payload (active_of i) payloads
 
 -- the disk stands for these payloads, they are durable, and the closed gate behind them is at `end`
 pub record Keeps (h : History) (end : ℕ) (payloads : List (List ℕ)) : Type 0 where
-  pub stands : Stands (content_of h) payloads
+  pub stands : ImageStandsFor (content_of h) payloads
   pub end_is : end ≡ end_of payloads
   pub durable : (i : Image) → IsImage h.now i → active_of i ≡ active_of (content_of h)
 
@@ -27,7 +27,7 @@ OtherUntouched s i = (j : Image) × IsImage s j × (other_of i ≡ other_of j)
 
 -- the image stands for the payloads, with this one behind them or without it, and the other area is untouched
 abbrev pub BeforeOrAfter : DiskState → List (List ℕ) → List ℕ → Image → Type 0
-BeforeOrAfter s payloads payload i = (Stands i payloads ⊎ Stands i (payloads ++ payload ∷ [])) × OtherUntouched s i
+BeforeOrAfter s payloads payload i = (ImageStandsFor i payloads ⊎ ImageStandsFor i (payloads ++ payload ∷ [])) × OtherUntouched s i
 
 -- a journal as contracts see it: its disk, and the offset of the closed gate
 pub record JournalView : Type 0 where

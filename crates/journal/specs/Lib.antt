@@ -2,10 +2,8 @@ pub mod Limits
 pub mod Area
 pub mod Damage
 pub mod Kept
-pub mod Frame
 pub mod Journal
-pub mod Walk
 pub mod Open
-pub mod Batch
-pub mod Loaded
 pub mod Laws
+pub mod Payloads
+pub mod inside

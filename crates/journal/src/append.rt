@@ -1,6 +1,6 @@
 // The calls on the disk that add a record.
 ghost use Rattle.std.specs.Prelude.{◌≡◌, ◌<◌, ◌≤◌, ◌+◌, ◌++◌, ◌∷◌, [], List, ℕ, length, OnOk};
-ghost use Rattle.disk_model.specs.Disk.{InModel, Called, LeavesOnly, content_of, max_room, overwritten};
+ghost use Rattle.disk_model.specs.Disk.{InModel, Called, LeavesOnly, max_room, overwritten, bytes_on};
 ghost use Rattle.journal.specs.Area.{body_of, IsPayload};
 ghost use Rattle.journal.specs.Kept.{Keeps, BeforeOrAfter};
 ghost use Rattle.journal.specs.Limits.{max_payload};
@@ -11,12 +11,12 @@ use disk_model::{Area, Disk, DiskFault};
 /// durable.
 pub(crate) fn add<D: Disk>(disk: &mut D, end: u64, bytes: &[u8]) -> Result<(), DiskFault>
     requires room { end + length bytes.now + 1 ≤ max_room }
-    requires inside { InModel (D.view disk.old) ((end < length (content_of (D.view disk.old).history).first) × (end + 1 + length bytes.now ≤ (D.view disk.old).room)) }
+    requires inside { InModel (D.view disk.old) ((end < length (bytes_on (D.view disk.old)).first) × (end + 1 + length bytes.now ≤ (D.view disk.old).room)) }
 
     ensures called { Called result (D.view disk.old) (D.view disk.new) }
-    ensures second { InModel (D.view disk.old) ((content_of (D.view disk.new).history).second ≡ (content_of (D.view disk.old).history).second) }
-    ensures written { OnOk result (InModel (D.view disk.old) ((content_of (D.view disk.new).history).first ≡ overwritten (content_of (D.view disk.old).history).first end (82 ∷ bytes.now))) }
-    ensures inside { OnOk result (InModel (D.view disk.old) (end + length bytes.now < length (content_of (D.view disk.new).history).first)) }
+    ensures second { InModel (D.view disk.old) ((bytes_on (D.view disk.new)).second ≡ (bytes_on (D.view disk.old)).second) }
+    ensures written { OnOk result (InModel (D.view disk.old) ((bytes_on (D.view disk.new)).first ≡ overwritten (bytes_on (D.view disk.old)).first end (82 ∷ bytes.now))) }
+    ensures inside { OnOk result (InModel (D.view disk.old) (end + length bytes.now < length (bytes_on (D.view disk.new)).first)) }
 
     ensures any_moment { InModel (D.view disk.old) ((payloads : List (List ℕ)) (payload : List ℕ) → IsPayload max_payload payload → bytes.now ≡ body_of payload ++ 0 ∷ []
         → Keeps (D.view disk.old).history end payloads

@@ -18,7 +18,7 @@ pub struct Frame {
 
 impl Model for Frame {
     ghost use Rattle.std.specs.Prelude.{List, ℕ};
-    ghost use Rattle.journal.specs.Frame.{payload_in, IsFrame};
+    ghost use Rattle.journal.specs.inside.Frame.{payload_in, IsFrame};
     ghost use Rattle.journal.specs.Limits.{max_payload};
 
     ghost Value = { List ℕ };

@@ -1,10 +1,10 @@
 // Making a journal's disk, and reading it.
 ghost use Rattle.std.specs.Prelude.{◌≡◌, ◌≤◌, ◌<◌, ◌⊎◌, [], List, ℕ, length, IfOk, IfErr, OnErr, OnOk, IsErrOf, MatchResult};
-ghost use Rattle.disk_model.specs.Disk.{InModel, Looks, SameDisk, Rises, content_of, max_room};
+ghost use Rattle.disk_model.specs.Disk.{ChangesArea, InModel, LeavesOnly, Looks, Reaches, SameDisk, Rises, Torn, max_room, bytes_on};
 ghost use Rattle.journal.specs.Area.{created, first_gate};
 ghost use Rattle.journal.specs.Kept.{Keeps};
-ghost use Rattle.journal.specs.Loaded.{Holds};
-ghost use Rattle.journal.specs.Walk.{payloads_in, AreGates};
+ghost use Rattle.journal.specs.inside.Loaded.{Holds};
+ghost use Rattle.journal.specs.Payloads.{payloads_in, AreGates};
 ghost use Rattle.journal.specs.Open.{AreEmpty, IsPassing, Tells};
 ghost use Rattle.journal.specs.declared.opening.CreateCause.TheVariants.{Disk as CreateDisk};
 ghost use Rattle.journal.specs.declared.opening.OpenCause.TheVariants.{Disk as OpenDisk, OutOfMemory};
@@ -86,14 +86,18 @@ pub fn create<D: Disk>(disk: D) -> Result<D, CreateFault<D>>
     ensures same { MatchResult result (λ d. SameDisk (D.view disk) (D.view d)) (λ e. SameDisk (D.view disk) (D.view e.disk)) }
 
     // The journal is durable, and stands for no payload.
-    ensures empty { InModel (D.view disk) (IfOk result (λ d. AreEmpty (content_of (D.view disk).history) × Keeps (D.view d).history first_gate [])) }
+    ensures empty { InModel (D.view disk) (IfOk result (λ d. AreEmpty (bytes_on (D.view disk)) × Keeps (D.view d).history first_gate [])) }
 
-    ensures bytes { InModel (D.view disk) (IfOk result (λ d. content_of (D.view d).history ≡ record { first = created; second = [] })) }
+    ensures bytes { InModel (D.view disk) (IfOk result (λ d. bytes_on (D.view d) ≡ record { first = created; second = [] })) }
 
-    ensures not_empty { InModel (D.view disk) (IfErr result (λ e. e.cause ≡ CreateCause.NotEmpty → (AreEmpty (content_of (D.view disk).history) → ⊥) × Looks (D.view disk).history (D.view e.disk).history)) }
+    ensures not_empty { InModel (D.view disk) (IfErr result (λ e. e.cause ≡ CreateCause.NotEmpty → (AreEmpty (bytes_on (D.view disk)) → ⊥) × Looks (D.view disk).history (D.view e.disk).history)) }
 
     // A disk that isn't empty is left as it was, whatever fails.
-    ensures untouched { InModel (D.view disk) (IfErr result (λ e. (AreEmpty (content_of (D.view disk).history) → ⊥) → Looks (D.view disk).history (D.view e.disk).history)) }
+    ensures untouched { InModel (D.view disk) (IfErr result (λ e. (AreEmpty (bytes_on (D.view disk)) → ⊥) → Looks (D.view disk).history (D.view e.disk).history)) }
+
+    ensures any_moment { InModel (D.view disk) (MatchResult result
+        (λ d. LeavesOnly (Reaches (ChangesArea Area.First (Torn 0 11)) (D.view disk).history.now) (D.view disk).history (D.view d).history)
+        (λ e. LeavesOnly (Reaches (ChangesArea Area.First (Torn 0 11)) (D.view disk).history.now) (D.view disk).history (D.view e.disk).history)) }
 
     ensures faulty { IfErr result (λ e. e.cause ≡ CreateCause.Disk → Rises (D.view disk).faults (D.view e.disk).faults) }
 {
@@ -108,10 +112,11 @@ pub fn create<D: Disk>(disk: D) -> Result<D, CreateFault<D>>
 fn lay<D: Disk>(disk: &mut D) -> Result<(), CreateCause>
     requires { 11 ≤ (D.view disk.old).room }
     ensures same { SameDisk (D.view disk.old) (D.view disk.new) }
-    ensures empty { InModel (D.view disk.old) (OnOk result (AreEmpty (content_of (D.view disk.old).history) × Keeps (D.view disk.new).history first_gate [])) }
-    ensures bytes { InModel (D.view disk.old) (OnOk result (content_of (D.view disk.new).history ≡ record { first = created; second = [] })) }
-    ensures not_empty { InModel (D.view disk.old) (IsErrOf result CreateCause.NotEmpty → (AreEmpty (content_of (D.view disk.old).history) → ⊥) × Looks (D.view disk.old).history (D.view disk.new).history) }
-    ensures untouched { InModel (D.view disk.old) ((AreEmpty (content_of (D.view disk.old).history) → ⊥) → OnErr result (Looks (D.view disk.old).history (D.view disk.new).history)) }
+    ensures empty { InModel (D.view disk.old) (OnOk result (AreEmpty (bytes_on (D.view disk.old)) × Keeps (D.view disk.new).history first_gate [])) }
+    ensures bytes { InModel (D.view disk.old) (OnOk result (bytes_on (D.view disk.new) ≡ record { first = created; second = [] })) }
+    ensures not_empty { InModel (D.view disk.old) (IsErrOf result CreateCause.NotEmpty → (AreEmpty (bytes_on (D.view disk.old)) → ⊥) × Looks (D.view disk.old).history (D.view disk.new).history) }
+    ensures untouched { InModel (D.view disk.old) ((AreEmpty (bytes_on (D.view disk.old)) → ⊥) → OnErr result (Looks (D.view disk.old).history (D.view disk.new).history)) }
+    ensures any_moment { InModel (D.view disk.old) (LeavesOnly (Reaches (ChangesArea Area.First (Torn 0 11)) (D.view disk.old).history.now) (D.view disk.old).history (D.view disk.new).history) }
     ensures faulty { IsErrOf result CreateCause.Disk → Rises (D.view disk.old).faults (D.view disk.new).faults }
 {
     let first = disk.len(Area::First)?;
@@ -130,10 +135,11 @@ fn lay<D: Disk>(disk: &mut D) -> Result<(), CreateCause>
 // The bytes of area First, once they are durable.
 fn load<D: Disk>(alloc: Global, disk: &mut D) -> Result<Vec<u8>, OpenCause>
     ensures same { SameDisk (D.view disk.old) (D.view disk.new) }
-    ensures bytes { InModel (D.view disk.old) (IfOk result (λ bytes. (bytes.items ≡ (content_of (D.view disk.old).history).first) × Holds (D.view disk.new).history bytes.items)) }
+    ensures bytes { InModel (D.view disk.old) (IfOk result (λ bytes. (bytes.items ≡ (bytes_on (D.view disk.old)).first) × Holds (D.view disk.new).history bytes.items)) }
     ensures small { IfOk result (λ bytes. length bytes.items ≤ max_room) }
     ensures looks { InModel (D.view disk.old) (Looks (D.view disk.old).history (D.view disk.new).history) }
     ensures faulty { IsErrOf result OpenCause.Disk → Rises (D.view disk.old).faults (D.view disk.new).faults }
+    ensures steady { (IsErrOf result OpenCause.Disk → ⊥) → (D.view disk.new).faults ≡ (D.view disk.old).faults }
     ensures cause { IfErr result IsPassing }
 {
     disk.sync(Area::First)?;
@@ -149,11 +155,12 @@ pub(crate) fn scan<D: Disk>(alloc: Global, disk: &mut D) -> Result<(u64, Vec<Pay
 
     ensures found { InModel (D.view disk.old) (IfOk result (λ found. Keeps (D.view disk.new).history found.0 (payloads_in found.1.items))) }
     ensures gates { InModel (D.view disk.old) (IfOk result (λ found. AreGates first_gate found.1.items)) }
-    ensures fault { InModel (D.view disk.old) (IfErr result (Tells (content_of (D.view disk.old).history))) }
+    ensures fault { InModel (D.view disk.old) (IfErr result (Tells (bytes_on (D.view disk.old)))) }
     ensures end { IfOk result (λ found. found.0 ≤ max_room) }
 
     ensures looks { InModel (D.view disk.old) (Looks (D.view disk.old).history (D.view disk.new).history) }
     ensures faulty { IsErrOf result OpenCause.Disk → Rises (D.view disk.old).faults (D.view disk.new).faults }
+    ensures steady { (IsErrOf result OpenCause.Disk → ⊥) → (D.view disk.new).faults ≡ (D.view disk.old).faults }
 {
     let bytes = load(alloc, disk)?;
     read_area(alloc, &bytes)

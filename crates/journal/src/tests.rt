@@ -1,7 +1,7 @@
 ghost use Rattle.std.specs.Prelude.{◌≡◌, ◌≤◌, ◌++◌, List, ℕ, IfOk};
 ghost use Rattle.disk_model.specs.Disk.{InModel, LeavesOnly, SameDisk};
 ghost use Rattle.journal.specs.Kept.{Keeps};
-ghost use Rattle.journal.specs.Batch.{SomeFirst};
+ghost use Rattle.journal.specs.inside.Batch.{SomeFirst};
 ghost use Rattle.journal.specs.Journal.{disk_after};
 
 use crate::{AppendFault, CreateCause, Frame, Journal, OpenCause, Payload, create};

@@ -4,7 +4,8 @@ ghost use Rattle.disk_model.specs.Disk.{max_room};
 ghost use Rattle.journal.specs.Limits.{max_payload};
 ghost use Rattle.journal.specs.Area.{StandsFor, end_of, first_gate, header};
 ghost use Rattle.journal.specs.Damage.{HasHeader};
-ghost use Rattle.journal.specs.Walk.{AreGates, IsStep, payloads_in};
+ghost use Rattle.journal.specs.Payloads.{AreGates, payloads_in};
+ghost use Rattle.journal.specs.inside.Walk.{IsStep};
 ghost use Rattle.journal.specs.Open.{TellsOf};
 ghost use Rattle.journal.specs.declared.opening.OpenCause.TheVariants.{Disk};
 

@@ -2,14 +2,14 @@
 use Rattle.std.proofs.Common.{◌≡◌, ℕ, zero, suc, ◌+◌, ◌-◌, ◌<◌, ◌≤◌, Bool, true, not, ◌&&◌, nat_le, List, [], ◌∷◌, ◌++◌, length, map, refl, sym, ap, ◌∙◌, subst, arith, append_assoc, append-nil}
 use Rattle.std.proofs.lemmas.Bool.{and_parts, and_from, le-leb, leb-true}
 use Rattle.block_tree.specs.Tree.{Items, Tree, end, text, block}
-use Rattle.block_tree.specs.Growing.{text_behind, block_behind}
+use Rattle.block_tree.specs.inside.Growing.{text_behind, block_behind}
 use Rattle.block_tree.specs.Shape.{is_proper, is_tag_name, begins_with_text, is_block_within, levels, depth}
-use Rattle.block_tree.specs.Marks.{Mark, open_mark, letter, close_mark, marks_of, marks}
+use Rattle.block_tree.specs.inside.Marks.{Mark, open_mark, letter, close_mark, marks_of, marks}
 use Rattle.meta_format.specs.Limits.{Limits}
 use Rattle.meta_format.specs.Spelling as spelling
 use Rattle.meta_format.specs.Spelling.{SpellsText, SpellsItems, no_item, text_first, block_first, with_body, separator, Spells}
 use Rattle.meta_format.specs.Faults.{OpenLevels, no_level, one_more}
-use Rattle.meta_format.specs.Rows.{SpellsMarks, nothing, plain, escaped, both, opened, closed, Leads, Begins, IsOpen}
+use Rattle.meta_format.specs.inside.Rows.{SpellsMarks, nothing, plain, escaped, both, opened, closed, Leads, Begins, IsOpen}
 use Rattle.meta_format.proofs.Spelled.{Spells-append}
 use Rattle.meta_format.proofs.Leading.{Leads-append, Begins-append, open_more, IsOpen-from_Begins}
 use Rattle.meta_format.proofs.Grown.{spelled_text, spelled_block, proper_text, levels_text, proper_block, levels_block}

@@ -6,7 +6,7 @@ use Rattle.block_tree.specs.Tree.{Tree}
 use Rattle.meta_format.specs.Limits.{Limits, IsRoomy}
 use Rattle.meta_format.specs.Stream.{Outer, IsNoise, IsOuter, Chain, IsOpenTail, Stream}
 use Rattle.meta_format.specs.Faults.{Kind, bad_tag, too_deep, too_long, IsFault}
-use Rattle.meta_format.specs.Machine.{outside, broken, start_state, run}
+use Rattle.meta_format.specs.inside.Machine.{outside, broken, start_state, run}
 use Rattle.meta_format.proofs.Spelled.{run-append}
 use Rattle.meta_format.proofs.Reaching.{front_seen, lead_run, right_outside, going_open, Reached, at_noise, at_tail, at_fault, reach}
 use Rattle.meta_format.proofs.Sound.{alive_early}

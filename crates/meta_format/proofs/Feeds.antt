@@ -3,9 +3,10 @@ use Rattle.std.proofs.Common.{◌≡◌, ℕ, ◌+◌, ◌<◌, false, List, [],
 use Rattle.meta_format.specs.Limits.{Limits, IsRoomy, limits}
 use Rattle.meta_format.specs.Stream.{Outer, Stream}
 use Rattle.meta_format.specs.Faults.{Kind}
-use Rattle.meta_format.specs.Machine.{Mode, outside, tag_of, body_of, escape_of, broken, State, start_state, run, IsAlive, begun}
-use Rattle.meta_format.specs.Reader.{Known, Stands, IsPending, Faults, CloseWithin}
-use Rattle.meta_format.specs.Scan.{mode_at, mode_of, state_of, outers}
+use Rattle.meta_format.specs.inside.Machine.{Mode, outside, tag_of, body_of, escape_of, broken, State, start_state, run, IsAlive, begun}
+use Rattle.meta_format.specs.Reader.{ReaderView, ReaderHasRead, IsPending, Faults, CloseWithin}
+use Rattle.meta_format.specs.inside.Scan.{mode_at, mode_of, scan_state}
+use Rattle.meta_format.specs.Found.{outers}
 use Rattle.meta_format.specs.declared.scan.Scanner.{Scanner}
 use Rattle.meta_format.specs.declared.scan.Found.{Found}
 use Rattle.meta_format.specs.declared.scan.Place.{Place}
@@ -38,7 +39,7 @@ alive_at most fit s alive = let r = reach most fit s in by_reach r.0 r.1
     by_reach blocks (at_fault front byte more tail kind e stream fault alive2 there) = absurd (subst (λ q. IsAlive q.mode) there alive)
 
 -- the whole run
-fed : (most : Limits) (k : Known) (s piece : List ℕ) (blocks : List Outer) (q : State) → Stands most k s blocks → run most record { at = k.offset; out = []; mode = k.mode } piece ≡ q
+fed : (most : Limits) (k : ReaderView) (s piece : List ℕ) (blocks : List Outer) (q : State) → ReaderHasRead most k s blocks → run most record { at = k.offset; out = []; mode = k.mode } piece ≡ q
     → run most start_state (s ++ piece) ≡ behind blocks q
 fed most k s piece blocks q h e =
     run-append most start_state s piece
@@ -55,8 +56,8 @@ open_start (escape_of start ms d) a h = ap Some h
 open_start (broken kind f) a h = absurd h
 
 -- what the machine tells of a stream without a fault
-pub made_stands : (most : Limits) → IsRoomy most → (k : Known) (s : List ℕ) (blocks : List Outer) → run most start_state s ≡ record { at = k.offset; out = blocks; mode = k.mode } → IsAlive k.mode
-    → k.failed ≡ false → k.pending ≡ begun k.mode → Stands most k s blocks
+pub made_stands : (most : Limits) → IsRoomy most → (k : ReaderView) (s : List ℕ) (blocks : List Outer) → run most start_state s ≡ record { at = k.offset; out = blocks; mode = k.mode } → IsAlive k.mode
+    → k.failed ≡ false → k.pending ≡ begun k.mode → ReaderHasRead most k s blocks
 made_stands most fit k s blocks ran alive works pending = let r = reach most fit s in by_reach r.0 r.1
   where
     here : IsAlive (run most start_state s).mode
@@ -65,7 +66,7 @@ made_stands most fit k s blocks ran alive works pending = let r = reach most fit
     at_is : k.offset ≡ length s
     at_is = sym (ap (λ q. q.at) ran) ∙ alive_at most fit s here
 
-    by_reach : (others : List Outer) → Reached most s others (run most start_state s) → Stands most k s blocks
+    by_reach : (others : List Outer) → Reached most s others (run most start_state s) → ReaderHasRead most k s blocks
     by_reach others (at_noise before noise e chain silent there early) =
         let made : Stream most s others [] = record { before = before; noise = noise; is = e ∙ sym (append-nil (before ++ noise)); chain = chain; silent = silent; rest = inl refl } in
         let same : others ≡ blocks = ap (λ q. q.out) (sym there ∙ ran) in
@@ -100,29 +101,29 @@ made_stands most fit k s blocks ran alive works pending = let r = reach most fit
         }
     by_reach others (at_fault front byte more tail kind e stream fault alive2 there) = absurd (subst (λ q. IsAlive q.mode) there here)
 
-pub fed_stands : (most : Limits) → IsRoomy most → (k : Known) (s piece : List ℕ) (blocks : List Outer) (at : ℕ) (new : List Outer) (mode : Mode) → Stands most k s blocks
+pub fed_stands : (most : Limits) → IsRoomy most → (k : ReaderView) (s piece : List ℕ) (blocks : List Outer) (at : ℕ) (new : List Outer) (mode : Mode) → ReaderHasRead most k s blocks
     → run most record { at = k.offset; out = []; mode = k.mode } piece ≡ record { at = at; out = new; mode = mode }
-    → (then : Known) → IsAlive mode → then.failed ≡ false → then.offset ≡ at → then.mode ≡ mode → then.pending ≡ begun mode → Stands most then (s ++ piece) (blocks ++ new)
+    → (then : ReaderView) → IsAlive mode → then.failed ≡ false → then.offset ≡ at → then.mode ≡ mode → then.pending ≡ begun mode → ReaderHasRead most then (s ++ piece) (blocks ++ new)
 fed_stands most fit k s piece blocks at new mode h ran then alive f o m p =
     made_stands most fit then (s ++ piece) (blocks ++ new)
     (fed most k s piece blocks record { at = at; out = new; mode = mode } h ran ∙ ap (λ n. record { at = n; out = blocks ++ new; mode = mode }) (sym o) ∙ ap (λ n. record { at = then.offset; out = blocks ++ new; mode = n }) (sym m))
     (subst IsAlive (sym m) alive) f (p ∙ ap begun (sym m))
 
-pub fed_faults : (most : Limits) → IsRoomy most → (k : Known) (s piece : List ℕ) (blocks : List Outer) (at f : ℕ) (new : List Outer) (kind : Kind) → Stands most k s blocks
+pub fed_faults : (most : Limits) → IsRoomy most → (k : ReaderView) (s piece : List ℕ) (blocks : List Outer) (at f : ℕ) (new : List Outer) (kind : Kind) → ReaderHasRead most k s blocks
     → run most record { at = k.offset; out = []; mode = k.mode } piece ≡ record { at = at; out = new; mode = broken kind f } → Faults most (s ++ piece) f kind (blocks ++ new)
 fed_faults most fit k s piece blocks at f new kind h ran =
     let stopped = broken_stopped most fit (s ++ piece) f at (blocks ++ new) kind (fed most k s piece blocks record { at = at; out = new; mode = broken kind f } h ran) in
     record { first = stopped.first; front = stopped.front; rest = stopped.rest; is = stopped.is; at_is = stopped.at_is; tail = stopped.tail; stream = stopped.stream }
 
 -- a scan from where a reader stands
-pub scan_start : (most : Limits) (scanner : Scanner) (k : Known) (items : List Found) (piece : List ℕ) (q : State) → scanner.at ≡ k.offset → mode_of scanner ≡ k.mode → items ≡ []
-    → run most (state_of scanner (outers items)) piece ≡ q → run most record { at = k.offset; out = []; mode = k.mode } piece ≡ q
+pub scan_start : (most : Limits) (scanner : Scanner) (k : ReaderView) (items : List Found) (piece : List ℕ) (q : State) → scanner.at ≡ k.offset → mode_of scanner ≡ k.mode → items ≡ []
+    → run most (scan_state scanner (outers items)) piece ≡ q → run most record { at = k.offset; out = []; mode = k.mode } piece ≡ q
 scan_start most scanner k items piece q e f g h =
     sym (ap (λ n. run most record { at = n; out = outers items; mode = mode_of scanner } piece) e
     ∙ ap (λ o. run most record { at = k.offset; out = outers o; mode = mode_of scanner } piece) g
     ∙ ap (λ m. run most record { at = k.offset; out = []; mode = m } piece) f) ∙ h
 
-pub fed_closes : (most : Limits) (k : Known) (s piece : List ℕ) (blocks : List Outer) (q : State) → Stands most k s blocks → run most record { at = k.offset; out = []; mode = k.mode } piece ≡ q
+pub fed_closes : (most : Limits) (k : ReaderView) (s piece : List ℕ) (blocks : List Outer) (q : State) → ReaderHasRead most k s blocks → run most record { at = k.offset; out = []; mode = k.mode } piece ≡ q
     → CloseWithin (length s) (length (s ++ piece)) q.out
 fed_closes most k s piece blocks q h e =
     let offset = h.offset in

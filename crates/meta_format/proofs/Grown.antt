@@ -2,7 +2,7 @@
 use Rattle.std.proofs.Common.{◌≡◌, ℕ, ◌+◌, ◌≤◌, max, true, false, ◌&&◌, nat_le, List, [], ◌++◌, length, refl, sym, ap, ◌∙◌, subst, arith, append_assoc, append-nil, length-append}
 use Rattle.std.proofs.lemmas.Bool.{and_parts, and_from, le-leb, false≢true}
 use Rattle.block_tree.specs.Tree.{Items, Tree, end, text, block}
-use Rattle.block_tree.specs.Growing.{text_behind, block_behind}
+use Rattle.block_tree.specs.inside.Growing.{text_behind, block_behind}
 use Rattle.block_tree.specs.Shape.{is_proper, is_tag_name, levels, depth}
 use Rattle.meta_format.specs.Spelling.{SpellsText, nothing, plain, escaped, both, SpellsItems, no_item, text_first, block_first, with_body}
 

@@ -4,10 +4,10 @@ use Rattle.std.proofs.lemmas.Bool.{or_parts, leb-false}
 use Rattle.std.specs.Prelude.{nat_le}
 use Rattle.block_tree.specs.Shape.{max_depth}
 use Rattle.meta_format.proofs.Openings.{none_open}
-use Rattle.block_tree.specs.Marks.{Mark, open_mark, letter, close_mark}
-use Rattle.meta_format.specs.Levels.{weight, IsHeld, stack_marks}
-use Rattle.meta_format.specs.Machine.{is_late}
-use Rattle.meta_format.specs.Scan.{most_of, IsFresh, AreLevels, IsPlacedAt, IsPlaced, held_bytes}
+use Rattle.block_tree.specs.inside.Marks.{Mark, open_mark, letter, close_mark}
+use Rattle.meta_format.specs.inside.Levels.{weight, IsHeld, stack_marks}
+use Rattle.meta_format.specs.inside.Machine.{is_late}
+use Rattle.meta_format.specs.inside.Scan.{most_of, IsFresh, AreLevels, IsPlacedAt, IsPlaced, held_bytes}
 use Rattle.meta_format.specs.declared.bounds.Bounds.{Bounds}
 use Rattle.meta_format.specs.declared.level.Level.{Level}
 use Rattle.meta_format.specs.declared.scan.Place.{Place}
@@ -20,7 +20,7 @@ weight-append (open_mark channel name ∷ ms) ns = let rest = weight-append ms n
 weight-append (letter c ∷ ms) ns = let rest = weight-append ms ns in omega arith
 weight-append (close_mark ∷ ms) ns = weight-append ms ns
 
-weight_of : (ms ns more : List Mark) → ns ≡ ms ++ more → weight ns ≡ weight ms + weight more
+pub weight_of : (ms ns more : List Mark) → ns ≡ ms ++ more → weight ns ≡ weight ms + weight more
 weight_of ms ns more e = ap weight e ∙ weight-append ms more
 
 not_late : (b : Bounds) (start at : ℕ) → is_late (most_of b) start at ≡ false → suc at < b.block + start

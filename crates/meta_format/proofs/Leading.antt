@@ -1,7 +1,7 @@
 -- Where rows of marks lead.
 use Rattle.std.proofs.Common.{◌≡◌, ℕ, zero, suc, ◌<◌, ◌≤◌, Bool, List, [], ◌∷◌, ◌++◌, refl, sym, subst, arith}
-use Rattle.block_tree.specs.Marks.{Mark, open_mark, letter, close_mark}
-use Rattle.meta_format.specs.Rows.{Leads, Begins, IsOpen}
+use Rattle.block_tree.specs.inside.Marks.{Mark, open_mark, letter, close_mark}
+use Rattle.meta_format.specs.inside.Rows.{Leads, Begins, IsOpen}
 
 pub Leads-append : (most d e f : ℕ) (ms ns : List Mark) → Leads most d ms e → Leads most e ns f → Leads most d (ms ++ ns) f
 Leads-append most d e f [] ns l k = subst (λ x. Leads most x ns f) (sym l) k

@@ -1,15 +1,15 @@
 -- Levels that are open.
 use Rattle.std.proofs.Common.{◌≡◌, ℕ, zero, suc, ◌+◌, ◌<◌, ◌≤◌, Bool, true, List, [], ◌∷◌, ◌++◌, map, refl, sym, ap, ◌∙◌, subst, arith, append_assoc}
 use Rattle.block_tree.specs.Tree.{Items, Tree, end, text, block}
-use Rattle.block_tree.specs.Marks.{Mark, open_mark, letter, close_mark, marks_of, marks}
-use Rattle.block_tree.specs.Nodes.{node_marks, node_depth, is_plain}
+use Rattle.block_tree.specs.inside.Marks.{Mark, open_mark, letter, close_mark, marks_of, marks}
+use Rattle.block_tree.specs.inside.Nodes.{node_marks, node_depth, is_right_node}
 use Rattle.block_tree.specs.Shape.{is_block, levels, depth, max_tag, max_depth}
 use Rattle.block_tree.specs.View.{tree_of}
 use Rattle.block_tree.proofs.Trees.{block_from, tree_marks}
 use Rattle.block_tree.specs.declared.tree.Node.{Node}
-use Rattle.meta_format.specs.Rows.{Leads, Begins, IsOpen}
-use Rattle.block_tree.specs.Marks.{tree_from}
-use Rattle.meta_format.specs.Levels.{AreOpen}
+use Rattle.meta_format.specs.inside.Rows.{Leads, Begins, IsOpen}
+use Rattle.block_tree.specs.inside.Marks.{tree_from}
+use Rattle.meta_format.specs.inside.Levels.{AreOpen}
 use Rattle.meta_format.proofs.Leading.{Begins-append, open_more, IsOpen-from_Begins, Begins-from_IsOpen}
 use Rattle.block_tree.proofs.Rebuilt.{tree_from_marks}
 
@@ -70,7 +70,7 @@ depth_of : (n : Node) (k : ℕ) → depth (tree_of n) ≤ k → node_depth n ≤
 unfolding node_depth
 depth_of n k h = h
 
-pub block_made : (n : Node) (d : ℕ) (ms : List Mark) → node_marks n ≡ ms ++ close_mark ∷ [] → d ≡ 1 → AreOpen max_depth ms d → is_plain n ≡ true → is_block (tree_of n) ≡ true
+pub block_made : (n : Node) (d : ℕ) (ms : List Mark) → node_marks n ≡ ms ++ close_mark ∷ [] → d ≡ 1 → AreOpen max_depth ms d → is_right_node n ≡ true → is_block (tree_of n) ≡ true
 block_made n d ms e g o p =
     let one = subst (λ k. AreOpen max_depth ms k) g o in
     let whole = subst (λ xs. Begins max_depth xs 0) (sym (tree_marks n ∙ e)) (Begins-append max_depth 1 0 ms (close_mark ∷ []) (Begins-from_IsOpen max_depth 0 ms one.open_marks) refl) in

@@ -1,13 +1,13 @@
 -- The blocks that the machine finds lie in order, and close within the bytes that it takes.
 use Rattle.std.proofs.Common.{◌≡◌, ℕ, zero, suc, ◌+◌, ◌≤◌, cond, nat_eq, nat_le, List, [], ◌∷◌, ◌++◌, length, sym, ap, subst, arith}
 use Rattle.std.proofs.lemmas.Bool.{cond_both}
-use Rattle.block_tree.specs.Marks.{Mark, open_mark, letter, close_mark}
+use Rattle.block_tree.specs.inside.Marks.{Mark, open_mark, letter, close_mark}
 use Rattle.meta_format.specs.Limits.{Limits}
 use Rattle.meta_format.specs.Spelling.{is_special, is_separator}
-use Rattle.block_tree.specs.Marks.{tree_from}
+use Rattle.block_tree.specs.inside.Marks.{tree_from}
 use Rattle.meta_format.specs.Stream.{Outer}
 use Rattle.meta_format.specs.Faults.{bad_tag, too_deep, too_long}
-use Rattle.meta_format.specs.Machine.{Mode, outside, tag_of, body_of, escape_of, broken, Change, halts, turns, ends, stays, apply, is_bad_tag, is_late, unless_late, closing, after, run}
+use Rattle.meta_format.specs.inside.Machine.{Mode, outside, tag_of, body_of, escape_of, broken, Change, halts, turns, ends, stays, apply, is_bad_tag, is_late, unless_late, closing, after, run}
 use Rattle.meta_format.specs.Reader.{CloseWithin, StartBehind}
 use Rattle.meta_format.proofs.Unique.{run-behind, run_broken, block_at}
 

@@ -3,12 +3,12 @@ use Rattle.std.proofs.Common.{◌≡◌, ℕ, zero, suc, ◌+◌, ◌<◌, ◌�
 use Rattle.std.proofs.lemmas.Bool.{cond-false, lt-leb}
 use Rattle.std.specs.List.{list_all}
 use Rattle.block_tree.specs.Shape.{is_tag_byte}
-use Rattle.block_tree.specs.Marks.{Mark}
+use Rattle.block_tree.specs.inside.Marks.{Mark}
 use Rattle.meta_format.specs.Limits.{Limits}
-use Rattle.meta_format.specs.Rows.{SpellsMarks, nothing, Begins, IsOpen}
+use Rattle.meta_format.specs.inside.Rows.{SpellsMarks, nothing, Begins, IsOpen}
 use Rattle.meta_format.specs.Stream.{Outer}
 use Rattle.meta_format.specs.Faults.{Place, in_tag, in_body, in_escape, EndsIn}
-use Rattle.meta_format.specs.Machine.{Mode, outside, tag_of, body_of, escape_of, apply, run}
+use Rattle.meta_format.specs.inside.Machine.{Mode, outside, tag_of, body_of, escape_of, apply, run}
 use Rattle.meta_format.proofs.Spelled.{run-append, tag_run, body_opens, body_escape}
 use Rattle.meta_format.proofs.Leading.{Begins-from_IsOpen, IsOpen-from_Begins}
 use Rattle.meta_format.proofs.Bridge.{levels_row, row_levels}

@@ -5,11 +5,11 @@ use Rattle.std.specs.List.{list_all}
 use Rattle.block_tree.specs.Tree.{Tree}
 use Rattle.meta_format.specs.Limits.{Limits, IsRoomy}
 use Rattle.meta_format.specs.Spelling.{separator}
-use Rattle.meta_format.specs.Rows.{nothing}
-use Rattle.block_tree.specs.Marks.{tree_from}
+use Rattle.meta_format.specs.inside.Rows.{nothing}
+use Rattle.block_tree.specs.inside.Marks.{tree_from}
 use Rattle.meta_format.specs.Stream.{Outer, IsNoise, IsOuter, Chain, none, next as chain_next, IsOpenTail, Stream}
 use Rattle.meta_format.specs.Faults.{OpenLevels, no_level, one_more, Kind, bad_tag, too_deep, too_long, Place, EndsIn, IsWrong, Closes, IsFault}
-use Rattle.meta_format.specs.Machine.{Mode, outside, tag_of, body_of, escape_of, broken, State, start_state, Change, halts, turns, ends, stays, apply, after, next, run, IsAlive}
+use Rattle.meta_format.specs.inside.Machine.{Mode, outside, tag_of, body_of, escape_of, broken, State, start_state, Change, halts, turns, ends, stays, apply, after, next, run, IsAlive}
 use Rattle.meta_format.proofs.Spelled.{run-append}
 use Rattle.meta_format.proofs.Tags.{list_all-push}
 use Rattle.meta_format.proofs.Unique.{run-behind, run_broken, block_at, block_run}

@@ -5,7 +5,7 @@ use Rattle.std.specs.List.{list_all}
 use Rattle.meta_format.specs.Limits.{Limits, IsRoomy}
 use Rattle.meta_format.specs.Stream.{Outer, IsNoise, Chain, none, next as chain_next, IsOpenTail, Stream}
 use Rattle.meta_format.specs.Faults.{Kind, bad_tag, too_deep, too_long, in_tag, in_body, EndsIn, IsFault, FirstFault, IsSound}
-use Rattle.meta_format.specs.Machine.{Mode, outside, tag_of, body_of, escape_of, broken, State, start_state, run, IsAlive}
+use Rattle.meta_format.specs.inside.Machine.{Mode, outside, tag_of, body_of, escape_of, broken, State, start_state, run, IsAlive}
 use Rattle.meta_format.proofs.Places.{HasPlace}
 use Rattle.meta_format.proofs.Reaching.{only_at, Left, clear, going, fallen, left, right_outside}
 use Rattle.meta_format.proofs.Sound.{stream_out, alive_early, broken_stopped}

@@ -1,17 +1,17 @@
 -- Levels stay right.
 use Rattle.std.proofs.lemmas.Grind.{flat_map-append}
 use Rattle.std.proofs.Common.{ℕ, append_assoc, append-nil, flat_map}
-use Rattle.block_tree.specs.Marks.{letter}
-use Rattle.block_tree.specs.Nodes.{item_marks, node_marks}
+use Rattle.block_tree.specs.inside.Marks.{letter}
+use Rattle.block_tree.specs.inside.Nodes.{item_marks, node_marks}
 use Rattle.block_tree.specs.declared.tree.Item.{Item}
 use Rattle.block_tree.specs.declared.tree.Item.TheVariants.{Text, Block}
 use Rattle.block_tree.specs.declared.tree.Node.{Node}
 use Rattle.std.proofs.Common.{◌≡◌, ℕ, Bool, true, false, not, ◌&&◌, List, [], ◌∷◌, ◌++◌, map, refl, sym, ap, ◌∙◌}
 use Rattle.std.proofs.lemmas.Bool.{and_parts, and_from}
 use Rattle.std.proofs.lemmas.List.{map-append}
-use Rattle.block_tree.specs.Nodes.{Tested, all_right}
+use Rattle.block_tree.specs.inside.Nodes.{Tested, all_right}
 use Rattle.block_tree.proofs.Trees.{item_marks_text, item_marks_block, plain_roll, plain_out, plain_item_text, plain_item_block}
-use Rattle.meta_format.specs.Levels.{ends_in_text}
+use Rattle.meta_format.specs.inside.Levels.{ends_in_text}
 
 pub all_right-push : (after : Bool) (ts : List Tested) (t : Tested) → all_right after ts ≡ true → not (ends_in_text after ts && t.0) ≡ true → t.1 ≡ true → all_right after (ts ++ t ∷ []) ≡ true
 all_right-push after [] t h k m = and_from _ _ (and_from _ _ k m) refl

@@ -4,7 +4,7 @@ use Rattle.std.proofs.lemmas.Bool.{cond-true, le-leb}
 use Rattle.meta_format.specs.Limits.{Limits, IsRoomy}
 use Rattle.meta_format.specs.Stream.{Outer, Stream}
 use Rattle.meta_format.specs.Faults.{Kind, bad_tag, too_deep, too_long, IsFault, FaultAt, FirstFault, IsSound}
-use Rattle.meta_format.specs.Machine.{outside, broken, State, start_state, halts, apply, next, run, IsAlive}
+use Rattle.meta_format.specs.inside.Machine.{outside, broken, State, start_state, halts, apply, next, run, IsAlive}
 use Rattle.meta_format.proofs.Spelled.{run-append}
 use Rattle.meta_format.proofs.Reaching.{IsBrokenWith, After, goes_on, ends_there, breaks, going_step, going_open, alive_before, right_outside, Left, clear, going, fallen, left, going_alive, Reached, at_noise, at_tail, at_fault, reach}
 

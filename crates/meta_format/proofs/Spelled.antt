@@ -2,15 +2,15 @@
 use Rattle.std.proofs.Common.{◌≡◌, ℕ, zero, suc, ◌+◌, ◌<◌, ◌≤◌, Bool, true, false, ◌||◌, nat_eq, List, [], ◌∷◌, ◌++◌, length, refl, sym, ap, ◌∙◌, arith, append_assoc, append-nil, add-zero, length-append}
 use Rattle.std.proofs.lemmas.Bool.{or_from, or_parts, and_parts, lt-leb, cond-true, cond-false, and_left, and_right, ne_eqb, le-ltb}
 use Rattle.std.specs.List.{list_all}
-use Rattle.block_tree.specs.Marks.{Mark, open_mark, letter, close_mark}
+use Rattle.block_tree.specs.inside.Marks.{Mark, open_mark, letter, close_mark}
 use Rattle.meta_format.specs.Limits.{Limits}
 use Rattle.meta_format.proofs.Tags.{tag_some, tag_few, tag_bytes, byte_high, byte_apart}
 use Rattle.block_tree.specs.Shape.{is_tag_byte}
 use Rattle.meta_format.specs.Spelling.{is_special, separator}
-use Rattle.meta_format.specs.Rows.{SpellsMarks, nothing, plain, escaped, both, opened, closed, Leads}
-use Rattle.block_tree.specs.Marks.{tree_from}
+use Rattle.meta_format.specs.inside.Rows.{SpellsMarks, nothing, plain, escaped, both, opened, closed, Leads}
+use Rattle.block_tree.specs.inside.Marks.{tree_from}
 use Rattle.meta_format.specs.Stream.{Outer}
-use Rattle.meta_format.specs.Machine.{Mode, outside, tag_of, body_of, escape_of, State, turns, apply, is_bad_tag, is_late, unless_late, after, next, run}
+use Rattle.meta_format.specs.inside.Machine.{Mode, outside, tag_of, body_of, escape_of, State, turns, apply, is_bad_tag, is_late, unless_late, after, next, run}
 
 pub Spells-append : {tag : ℕ} {ms ns : List Mark} {s t : List ℕ} → SpellsMarks tag ms s → SpellsMarks tag ns t → SpellsMarks tag (ms ++ ns) (s ++ t)
 Spells-append nothing q = q

@@ -1,6 +1,6 @@
 -- The last level of a stack.
 use Rattle.std.proofs.Common.{◌≡◌, ℕ, zero, suc, ◌+◌, ◌-◌, ◌<◌, List, [], ◌∷◌, ◌++◌, length, get_or, set, refl, ap, sym, ◌∙◌, append_assoc, append-nil, arith, map}
-use Rattle.block_tree.specs.Marks.{letter}
+use Rattle.block_tree.specs.inside.Marks.{letter}
 use Rattle.block_tree.proofs.Trees.{marks_roll, marks_out, item_marks_text, item_marks_block}
 use Rattle.std.specs.List.{flat_map}
 

@@ -4,7 +4,7 @@ use Rattle.std.proofs.lemmas.Bool.{and_parts, and_from, or_parts, or_from, eqb-f
 use Rattle.std.specs.List.{list_all}
 use Rattle.block_tree.specs.Shape.{is_tag_byte, is_tag_name}
 use Rattle.meta_format.specs.Spelling.{is_separator}
-use Rattle.meta_format.specs.Machine.{is_bad_tag}
+use Rattle.meta_format.specs.inside.Machine.{is_bad_tag}
 
 -- the parts of a right tag
 pub tag_some : (most : ℕ) (name : List ℕ) → is_tag_name most name ≡ true → 0 < length name

@@ -3,14 +3,14 @@ use Rattle.std.proofs.Common.{◌≡◌, ℕ, zero, suc, ◌+◌, ◌<◌, ◌�
 use Rattle.std.proofs.lemmas.Bool.{cond_both, or_left, or_right, ltb-true, lt-ltb, eq-eqb, not-true, true≢false, and_parts, or_from, leb-false, leb-true, ltb-false, eqb-true, eqb-false, or_parts, or_cases, and_from, not_from_false}
 use Rattle.std.specs.List.{list_all}
 use Rattle.block_tree.specs.Shape.{is_tag_byte, is_tag_name}
-use Rattle.block_tree.specs.Marks.{Mark, open_mark, letter, close_mark}
+use Rattle.block_tree.specs.inside.Marks.{Mark, open_mark, letter, close_mark}
 use Rattle.meta_format.specs.Limits.{Limits}
 use Rattle.meta_format.specs.Spelling.{separator, is_special, is_separator}
-use Rattle.meta_format.specs.Rows.{SpellsMarks, nothing, plain, escaped, both, opened, closed, Begins, IsOpen}
-use Rattle.block_tree.specs.Marks.{tree_from}
+use Rattle.meta_format.specs.inside.Rows.{SpellsMarks, nothing, plain, escaped, both, opened, closed, Begins, IsOpen}
+use Rattle.block_tree.specs.inside.Marks.{tree_from}
 use Rattle.meta_format.specs.Stream.{IsOuter}
 use Rattle.meta_format.specs.Faults.{Kind, bad_tag, too_deep, too_long, Place, in_tag, in_body, EndsIn, IsBadTag, IsWrong, Closes, IsFault}
-use Rattle.meta_format.specs.Machine.{Mode, outside, tag_of, body_of, escape_of, broken, Change, halts, turns, ends, stays, is_bad_tag, is_late, unless_late, closing, after}
+use Rattle.meta_format.specs.inside.Machine.{Mode, outside, tag_of, body_of, escape_of, broken, Change, halts, turns, ends, stays, is_bad_tag, is_late, unless_late, closing, after}
 use Rattle.meta_format.proofs.Tags.{tag_from, byte_from, and_true_left, list_all-push}
 use Rattle.meta_format.proofs.Leading.{Begins-append, open_more, IsOpen-from_Begins, Begins-bound}
 use Rattle.meta_format.proofs.Spelled.{Spells-append}

@@ -1,16 +1,16 @@
 -- One block for each spelling, and no spelling begins another.
 use Rattle.std.proofs.Common.{◌≡◌, ℕ, suc, ◌+◌, ◌<◌, ◌≤◌, true, List, [], ◌∷◌, ◌++◌, length, refl, sym, ap, ◌∙◌, subst, arith, append_assoc, length-append}
 use Rattle.std.proofs.lemmas.Bool.{cond-false, lt-leb}
-use Rattle.block_tree.specs.Marks.{Mark, open_mark, marks}
+use Rattle.block_tree.specs.inside.Marks.{Mark, open_mark, marks}
 use Rattle.meta_format.specs.Limits.{Limits}
 use Rattle.block_tree.specs.Tree.{Tree}
 use Rattle.block_tree.specs.Shape.{is_block_within}
 use Rattle.meta_format.specs.Spelling.{separator, Spells}
-use Rattle.meta_format.specs.Rows.{SpellsMarks, nothing, plain, escaped, both, opened, closed, Begins}
-use Rattle.block_tree.specs.Marks.{tree_from}
+use Rattle.meta_format.specs.inside.Rows.{SpellsMarks, nothing, plain, escaped, both, opened, closed, Begins}
+use Rattle.block_tree.specs.inside.Marks.{tree_from}
 use Rattle.meta_format.specs.Stream.{Outer, IsOuter}
 use Rattle.meta_format.specs.Faults.{Kind}
-use Rattle.meta_format.specs.Machine.{outside, tag_of, broken, State, Change, halts, turns, ends, stays, apply, after, next, run}
+use Rattle.meta_format.specs.inside.Machine.{outside, tag_of, broken, State, Change, halts, turns, ends, stays, apply, after, next, run}
 use Rattle.meta_format.proofs.Spelled.{run-append, length_marks, Leads-room, room, landing, landing_at, tag_run, tag_ends, spelled_run}
 use Rattle.meta_format.proofs.Tags.{tag_some, tag_few, tag_bytes}
 use Rattle.meta_format.proofs.Bridge.{spelled_marks, whole_marks, begun_ended}

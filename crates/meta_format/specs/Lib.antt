@@ -4,7 +4,5 @@ pub mod Canonical
 pub mod Stream
 pub mod Faults
 pub mod Reader
-pub mod Rows
-pub mod Machine
-pub mod Levels
-pub mod Scan
+pub mod Found
+pub mod inside

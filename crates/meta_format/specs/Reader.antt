@@ -3,13 +3,13 @@ use Rattle.std.specs.Prelude.{◌≡◌, ◌+◌, ◌<◌, ◌≤◌, ℕ, Bool,
 use Rattle.meta_format.specs.Limits.{Limits}
 use Rattle.meta_format.specs.Stream.{Outer, Stream}
 use Rattle.meta_format.specs.Faults.{Kind, bad_tag, too_deep, too_long, FirstFault, IsSound}
-use Rattle.meta_format.specs.Machine.{Mode, IsAlive, start_state, run}
-use Rattle.meta_format.specs.Scan.{outers}
+use Rattle.meta_format.specs.inside.Machine.{Mode, IsAlive, start_state, run}
+use Rattle.meta_format.specs.Found.{outers}
 use Rattle.meta_format.specs.declared.reader.FeedFault.{FeedFault}
 use Rattle.meta_format.specs.declared.reader.FeedFault.TheVariants as fault
 
 -- what a reader keeps: whether it met a fault, the bytes taken, where the open block starts, and how it goes on
-pub record Known : Type 0 where
+pub record ReaderView : Type 0 where
   pub failed : Bool
   pub offset : ℕ
   pub pending : Option ℕ
@@ -21,7 +21,7 @@ IsPending s tail None = tail ≡ []
 IsPending s tail (Some start) = (0 < length tail) × (start + length tail ≡ length s)
 
 -- What the reader keeps stands for this stream, which has these blocks and no fault: it is all that was fed since `new`.
-pub record Stands (most : Limits) (k : Known) (s : List ℕ) (blocks : List Outer) : Type 0 where
+pub record ReaderHasRead (most : Limits) (k : ReaderView) (s : List ℕ) (blocks : List Outer) : Type 0 where
   pub works : k.failed ≡ false
   pub offset : k.offset ≡ length s
   pub tail : List ℕ

@@ -1,10 +1,10 @@
 //! The levels that are open.
 
 ghost use Rattle.std.specs.Prelude.{◌≡◌, ◌≤◌, ◌<◌, ◌+◌, ℕ, List, [], ◌∷◌, ◌++◌, map, length, vec_len, OnOk, IfOk, IfSome, IfNone, take, slice_get, ◌-◌, true, All};
-ghost use Rattle.block_tree.specs.Marks.{Mark, letter, open_mark, close_mark};
-ghost use Rattle.block_tree.specs.Nodes.{node_marks as marks, item_marks, is_plain};
+ghost use Rattle.block_tree.specs.inside.Marks.{Mark, letter, open_mark, close_mark};
+ghost use Rattle.block_tree.specs.inside.Nodes.{node_marks as marks, item_marks, is_right_node};
 ghost use Rattle.block_tree.specs.Shape.{is_tag_name, max_tag};
-ghost use Rattle.meta_format.specs.Levels.{level_marks, stack_marks, IsRight, IsLevel};
+ghost use Rattle.meta_format.specs.inside.Levels.{level_marks, stack_marks, IsRight, IsLevel};
 
 use block_tree::{Item, Node, Octets, OutOfMemory, Tag};
 use std::alloc::Global;
@@ -39,9 +39,17 @@ fn put_letter(level: &mut Level, c: u8) -> Result<(), OutOfMemory>
     Ok(())
 }
 
+fn put_letters(level: &mut Level, text: &[u8]) -> Result<(), OutOfMemory>
+    ensures right { OnOk result (IsLevel level.old → IsLevel level.new) }
+    ensures marks { OnOk result (level_marks level.new ≡ level_marks level.old ++ map letter text.now) }
+{
+    level.text.extend_from_slice(text)?;
+    Ok(())
+}
+
 #[tactic(auto, using(crate::proofs::Stacks::tree_rules, crate::proofs::RightLevels::level_rules))]
 fn put_block(alloc: Global, level: &mut Level, node: Node) -> Result<(), OutOfMemory>
-    requires { is_plain node ≡ true }
+    requires { is_right_node node ≡ true }
     ensures right { OnOk result (IsLevel level.old → IsLevel level.new) }
     ensures marks { OnOk result (level_marks level.new ≡ level_marks level.old ++ marks node) }
 {
@@ -62,11 +70,24 @@ pub fn add_letter(levels: &mut Vec<Level>, c: u8) -> Result<(), OutOfMemory>
     Ok(())
 }
 
+/// The bytes of a text, many at once.
+pub fn add_letters(levels: &mut Vec<Level>, text: &[u8]) -> Result<(), OutOfMemory>
+    requires some { 0 < vec_len levels.old }
+    requires right { All IsLevel levels.old.items }
+    ensures right { OnOk result (All IsLevel levels.new.items) }
+    ensures marks { OnOk result (stack_marks levels.new.items ≡ stack_marks levels.old.items ++ map letter text.now) }
+    ensures count { OnOk result (vec_len levels.new ≡ vec_len levels.old) }
+{
+    let top = levels.len() - 1;
+    put_letters(&mut levels[top], text)?;
+    Ok(())
+}
+
 /// The block that a level makes.
 #[tactic(auto, using(crate::proofs::Stacks::tree_rules, crate::proofs::RightLevels::level_rules))]
 pub fn node_of(alloc: Global, mut level: Level) -> Result<Node, OutOfMemory>
     requires { IsLevel level }
-    ensures right { IfOk result (λ n. is_plain n ≡ true) }
+    ensures right { IfOk result (λ n. is_right_node n ≡ true) }
     ensures marks { IfOk result (λ n. marks n ≡ level_marks level ++ close_mark ∷ []) }
 {
     flush(alloc, &mut level)?;
@@ -79,7 +100,7 @@ pub fn node_of(alloc: Global, mut level: Level) -> Result<Node, OutOfMemory>
 pub fn add_block(alloc: Global, levels: &mut Vec<Level>, node: Node) -> Result<(), OutOfMemory>
     requires some { 0 < vec_len levels.old }
     requires right { All IsLevel levels.old.items }
-    requires plain { is_plain node ≡ true }
+    requires plain { is_right_node node ≡ true }
     ensures right { OnOk result (All IsLevel levels.new.items) }
     ensures marks { OnOk result (stack_marks levels.new.items ≡ stack_marks levels.old.items ++ marks node) }
     ensures count { OnOk result (vec_len levels.new ≡ vec_len levels.old) }
@@ -110,7 +131,7 @@ pub fn end_level(alloc: Global, levels: &mut Vec<Level>) -> Result<Option<Node>,
     requires some { 0 < vec_len levels.old }
     requires right { All IsLevel levels.old.items }
     ensures right { OnOk result (All IsLevel levels.new.items) }
-    ensures plain { IfOk result (λ node. IfSome node (λ n. is_plain n ≡ true)) }
+    ensures plain { IfOk result (λ node. IfSome node (λ n. is_right_node n ≡ true)) }
     ensures outer { IfOk result (λ node. IfSome node (λ n. (vec_len levels.old ≡ 1) × (levels.new.items ≡ []) × (marks n ≡ stack_marks levels.old.items ++ close_mark ∷ []))) }
     ensures inner { IfOk result (λ node. IfNone node ((vec_len levels.new + 1 ≡ vec_len levels.old) × (1 ≤ vec_len levels.new)
         × (stack_marks levels.new.items ≡ stack_marks levels.old.items ++ close_mark ∷ []))) }

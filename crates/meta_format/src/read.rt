@@ -4,8 +4,9 @@ ghost use Rattle.std.specs.Prelude.{◌≡◌, ◌≤◌, length, IfOk, IsErrOf}
 ghost use Rattle.block_tree.specs.Tree.{Tree};
 ghost use Rattle.meta_format.specs.Limits.{limits};
 ghost use Rattle.meta_format.specs.Spelling.{Spells};
-ghost use Rattle.meta_format.specs.Machine.{run, start_state, IsAlive};
-ghost use Rattle.meta_format.specs.Scan.{outers, last_of, filling, Finds, unbounded};
+ghost use Rattle.meta_format.specs.inside.Machine.{run, start_state, IsAlive};
+ghost use Rattle.meta_format.specs.Found.{outers};
+ghost use Rattle.meta_format.specs.inside.Scan.{last_outer, filling, FindsBlocks, unbounded};
 
 use crate::bounds::UNBOUNDED;
 use crate::piece::scan_piece;
@@ -25,7 +26,7 @@ pub enum ReadFault {
 /// The outer blocks of bytes without a fault.
 #[tactic(auto, using(crate::proofs::Readings::scan_rules, crate::proofs::Held::placed_fresh))]
 fn scan_all(alloc: Global, bytes: &[u8]) -> Result<Vec<Found>, ReadFault>
-    ensures found { IfOk result (λ found. Finds bytes.now (outers found.items)) }
+    ensures found { IfOk result (λ found. FindsBlocks bytes.now (outers found.items)) }
     ensures small { length bytes.now ≤ unbounded.block }
     ensures fault { IsErrOf result ReadFault.NotABlock → IsAlive (run unbounded start_state bytes.now).mode → ⊥ }
 {
@@ -41,7 +42,7 @@ fn scan_all(alloc: Global, bytes: &[u8]) -> Result<Vec<Found>, ReadFault>
 /// The last block, where it begins at the first byte and ends at the last.
 #[tactic(auto, using(crate::proofs::Readings::last_rules))]
 fn filling_block(mut found: Vec<Found>, size: u64) -> Option<Block>
-    ensures { result ≡ filling size (last_of (outers found.items)) }
+    ensures { result ≡ filling size (last_outer (outers found.items)) }
 {
     let last = found.pop()?;
     if last.start == 0 && last.stop == size {

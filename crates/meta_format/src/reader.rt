@@ -2,10 +2,11 @@
 
 ghost use Rattle.std.specs.Prelude.{◌≡◌, ◌+◌, ◌↔◌, ℕ, List, [], ◌++◌, length, true, false, OnErr, IfOk, IfErr, IsErrOf};
 ghost use Rattle.meta_format.specs.Limits.{limits};
-ghost use Rattle.meta_format.specs.Scan.{outers, mode_at};
-ghost use Rattle.meta_format.specs.Machine.{begun};
+ghost use Rattle.meta_format.specs.Found.{outers};
+ghost use Rattle.meta_format.specs.inside.Scan.{mode_at};
+ghost use Rattle.meta_format.specs.inside.Machine.{begun};
 ghost use Rattle.meta_format.specs.Stream.{Outer};
-ghost use Rattle.meta_format.specs.Reader.{Stands, Explains, CloseWithin, found_before};
+ghost use Rattle.meta_format.specs.Reader.{ReaderHasRead, Explains, CloseWithin, found_before};
 ghost use Rattle.meta_format.specs.declared.level.Level.{Level};
 
 use crate::bounds::BOUNDS;
@@ -54,10 +55,10 @@ struct Told {
 impl Model for Reader {
     ghost use Rattle.std.specs.Prelude.{◌≡◌, ◌≤◌, false};
     ghost use Rattle.meta_format.specs.Limits.{limits};
-    ghost use Rattle.meta_format.specs.Reader.{Known};
-    ghost use Rattle.meta_format.specs.Scan.{mode_of, IsPlaced, held_bytes};
+    ghost use Rattle.meta_format.specs.Reader.{ReaderView};
+    ghost use Rattle.meta_format.specs.inside.Scan.{mode_of, IsPlaced, held_bytes};
 
-    ghost Value = { Known };
+    ghost Value = { ReaderView };
 
     ghost view = { λ r. record { failed = r.failed; offset = r.told.offset; pending = r.told.pending; mode = mode_of r.scanner } };
 
@@ -68,7 +69,7 @@ impl Reader {
     /// A reader before the first byte of its stream. No memory is taken.
     #[tactic(auto, using(crate::proofs::Held::reader_rules))]
     pub fn new(alloc: Global) -> Reader
-        ensures { Stands limits result [] [] }
+        ensures { ReaderHasRead limits result [] [] }
     {
         Reader {
             alloc,
@@ -84,7 +85,7 @@ impl Reader {
     /// How many bytes were taken: those of all pieces but the one with a fault, and those behind it.
     pub fn offset(&self) -> u64
         ensures kept { result ≡ self.now.offset }
-        ensures length { (s : List ℕ) (blocks : List Outer) → Stands limits self.now s blocks → result ≡ length s }
+        ensures length { (s : List ℕ) (blocks : List Outer) → ReaderHasRead limits self.now s blocks → result ≡ length s }
     {
         self.told.offset
     }
@@ -104,14 +105,14 @@ impl Reader {
     #[tactic(auto, using(crate::proofs::Held::reader_rules))]
     pub fn feed(&mut self, piece: &[u8]) -> Result<Vec<Found>, FeedFault>
         // The blocks found are those that the piece adds to the stream, whatever it was so far.
-        ensures ok { IfOk result (λ found. (s : List ℕ) (blocks : List Outer) → Stands limits self.old s blocks → Stands limits self.new (s ++ piece.now) (blocks ++ outers found.items)) }
+        ensures ok { IfOk result (λ found. (s : List ℕ) (blocks : List Outer) → ReaderHasRead limits self.old s blocks → ReaderHasRead limits self.new (s ++ piece.now) (blocks ++ outers found.items)) }
 
         // Each closes in this piece, and starts behind the one before it.
-        ensures closes { IfOk result (λ found. (s : List ℕ) (blocks : List Outer) → Stands limits self.old s blocks → CloseWithin (length s) (length (s ++ piece.now)) (outers found.items)) }
-        ensures closes_before { IfErr result (λ e. (s : List ℕ) (blocks : List Outer) → Stands limits self.old s blocks → CloseWithin (length s) (length (s ++ piece.now)) (found_before e)) }
+        ensures closes { IfOk result (λ found. (s : List ℕ) (blocks : List Outer) → ReaderHasRead limits self.old s blocks → CloseWithin (length s) (length (s ++ piece.now)) (outers found.items)) }
+        ensures closes_before { IfErr result (λ e. (s : List ℕ) (blocks : List Outer) → ReaderHasRead limits self.old s blocks → CloseWithin (length s) (length (s ++ piece.now)) (found_before e)) }
 
         // Why it fails, and that it fails at each fault: where it is Ok the stream has none.
-        ensures fault { IfErr result (λ e. (s : List ℕ) (blocks : List Outer) → Stands limits self.old s blocks → Explains limits (s ++ piece.now) blocks e) }
+        ensures fault { IfErr result (λ e. (s : List ℕ) (blocks : List Outer) → ReaderHasRead limits self.old s blocks → Explains limits (s ++ piece.now) blocks e) }
         ensures failed { IsErrOf result FeedFault.Failed ↔ (self.old.failed ≡ true) }
 
         // What a fault leaves.

@@ -4,7 +4,7 @@ use Rattle.std.specs.Prelude.{max, nat_le, if◌then◌else◌, option_to_list, 
 use Rattle.std.specs.List.{find}
 use Rattle.std.proofs.lemmas.Bool.Decides.{nat_tests}
 use Rattle.meta_format.specs.Stream.{Outer}
-use Rattle.meta_format.specs.Scan.{outer_of, outers}
+use Rattle.meta_format.specs.Found.{outer_of, outers}
 use Rattle.meta_format.specs.declared.scan.Found.{Found}
 use Rattle.plugin_core.specs.Answers.{first_from, end_behind, answers_from, ask_from, if_found}
 use Rattle.plugin_core.proofs.Spans.{LieWithin, LieWithin-append}

@@ -9,7 +9,7 @@ use Rattle.plugin_core.specs.Answers.{first_from, end_behind, if_found, answers_
 use Rattle.plugin_core.specs.Items.{unanswered, waiting_of, bytes_of, next_behind}
 use Rattle.plugin_core.specs.Steps.{sent_by, closed_by}
 use Rattle.plugin_core.specs.Kept.{has_banner}
-use Rattle.plugin_core.specs.Changes.{ask_now, ask_then, sent_for, closed_in}
+use Rattle.plugin_core.specs.inside.Changes.{ask_now, ask_then, sent_for, closed_among}
 use Rattle.plugin_core.proofs.Pasts.{items_of-received, items_of-accepted, places_from-received, places_from-accepted, ends_from-received, ends_from-accepted, end_behind-known, end_behind-le, end_behind-new}
 use Rattle.plugin_core.proofs.Spans.{LieWithin}
 use Rattle.plugin_core.proofs.Asks.{Grows, answers-grow, ask-grow, answers-accept, ask-accept, ask-none, ask-some, AllLe, some_if_any}
@@ -142,13 +142,13 @@ grows ts bs p fs a = record {
 ends_now : (ts : List Event) (p : List ℕ) → ends_from 0 (ts ++ received p ∷ []) ≡ ends_from 0 ts ++ (length (stream_of ts) + length p) ∷ []
 ends_now ts p = ends_from-received 0 ts p ∙ ap (λ n. ends_from 0 ts ++ n ∷ []) (omega arith)
 
-as_list : (o : Option ℕ) (fs : List Outer) → elim o [ None ↦ [] | Some p ↦ option_to_list (first_from p fs) ] ≡ option_to_list (closed_in o fs)
+as_list : (o : Option ℕ) (fs : List Outer) → elim o [ None ↦ [] | Some p ↦ option_to_list (first_from p fs) ] ≡ option_to_list (closed_among o fs)
 as_list None fs = refl
 as_list (Some p) fs = refl
 
 -- at most one more answer
 pub answers_of-received : (ts : List Event) (bs : List Outer) (p : List ℕ) (fs : List Outer) → Adds ts bs p fs
-    → answers_of (ts ++ received p ∷ []) (bs ++ fs) ≡ answers_of ts bs ++ option_to_list (closed_in (ask_of ts bs) fs)
+    → answers_of (ts ++ received p ∷ []) (bs ++ fs) ≡ answers_of ts bs ++ option_to_list (closed_among (ask_of ts bs) fs)
 answers_of-received ts bs p fs a =
     let n = length (stream_of ts) in
     same_answers (bs ++ fs) _ _ _ _ (ends_now ts p) (ap (λ ns. 0 ∷ ns) (places_from-received 0 ts p))
@@ -160,7 +160,7 @@ next_ask None ask waiting end = ask
 next_ask (Some b) ask waiting end = ask_then waiting end
 
 next_asked : (o : Option ℕ) (fs : List Outer) (ns : List ℕ) (is : List Item) (m : ℕ) → length ns ≡ length is
-    → elim o [ None ↦ None | Some p ↦ if_found (first_from p fs) (Some p) (λ b. some_if_any ns m) ] ≡ next_ask (closed_in o fs) o is m
+    → elim o [ None ↦ None | Some p ↦ if_found (first_from p fs) (Some p) (λ b. some_if_any ns m) ] ≡ next_ask (closed_among o fs) o is m
 next_asked None fs ns is m e = refl
 next_asked (Some p) fs ns is m e = go (first_from p fs) ns is e
   where
@@ -172,7 +172,7 @@ next_asked (Some p) fs ns is m e = go (first_from p fs) ns is e
     go (Some b) (n ∷ ns) [] e = absurd (omega arith)
 
 pub ask_of-received : (ts : List Event) (bs : List Outer) (p : List ℕ) (fs : List Outer) → Adds ts bs p fs
-    → ask_of (ts ++ received p ∷ []) (bs ++ fs) ≡ next_ask (closed_in (ask_of ts bs) fs) (ask_of ts bs) (drop (length (answers_of ts bs)) (items_of ts)) (length (stream_of ts) + length p)
+    → ask_of (ts ++ received p ∷ []) (bs ++ fs) ≡ next_ask (closed_among (ask_of ts bs) fs) (ask_of ts bs) (drop (length (answers_of ts bs)) (items_of ts)) (length (stream_of ts) + length p)
 ask_of-received ts bs p fs a =
     let n = length (stream_of ts) in
     let k = length (answers_of ts bs) in
@@ -186,8 +186,8 @@ slice_get-end [] None = refl
 slice_get-end [] (Some x) = refl
 slice_get-end (x ∷ xs) o = slice_get-end xs o
 
-pub closed_by-received : (ts : List Event) (bs : List Outer) (p : List ℕ) (fs : List Outer) → Adds ts bs p fs → closed_by ts bs (received p) (bs ++ fs) ≡ closed_in (ask_of ts bs) fs
-closed_by-received ts bs p fs a = ap (λ more. next_behind (answers_of ts bs) more) (answers_of-received ts bs p fs a) ∙ slice_get-end (answers_of ts bs) (closed_in (ask_of ts bs) fs)
+pub closed_by-received : (ts : List Event) (bs : List Outer) (p : List ℕ) (fs : List Outer) → Adds ts bs p fs → closed_by ts bs (received p) (bs ++ fs) ≡ closed_among (ask_of ts bs) fs
+closed_by-received ts bs p fs a = ap (λ more. next_behind (answers_of ts bs) more) (answers_of-received ts bs p fs a) ∙ slice_get-end (answers_of ts bs) (closed_among (ask_of ts bs) fs)
 
 next_none : {X : Type 0} (xs : List X) → next_behind xs xs ≡ None
 next_none [] = refl
@@ -205,11 +205,11 @@ next_item (Some b) waiting = slice_get waiting 0
 
 -- the item that a piece asks, where it closes this answer
 pub sent_by-received : (ts : List Event) (bs : List Outer) (p : List ℕ) (fs : List Outer) → Adds ts bs p fs
-    → sent_by ts bs (received p) (bs ++ fs) ≡ option_map bytes_of (next_item (closed_in (ask_of ts bs) fs) (drop (length (answers_of ts bs)) (items_of ts)))
+    → sent_by ts bs (received p) (bs ++ fs) ≡ option_map bytes_of (next_item (closed_among (ask_of ts bs) fs) (drop (length (answers_of ts bs)) (items_of ts)))
 sent_by-received ts bs p fs a =
     ap (λ (is : List Item). option_map bytes_of (next_behind (take (length (answers_of ts bs)) (items_of ts)) (take (length (answers_of (ts ++ received p ∷ []) (bs ++ fs))) is))) (items_of-received ts p)
     ∙ ap (λ (xs : List Outer). option_map bytes_of (next_behind (take (length (answers_of ts bs)) (items_of ts)) (take (length xs) (items_of ts)))) (answers_of-received ts bs p fs a)
-    ∙ go (closed_in (ask_of ts bs) fs)
+    ∙ go (closed_among (ask_of ts bs) fs)
   where
     go : (o : Option Outer) → option_map bytes_of (next_behind (take (length (answers_of ts bs)) (items_of ts)) (take (length (answers_of ts bs ++ option_to_list o)) (items_of ts))) ≡ option_map bytes_of (next_item o (drop (length (answers_of ts bs)) (items_of ts)))
     go None = ap (λ (xs : List Outer). option_map bytes_of (next_behind (take (length (answers_of ts bs)) (items_of ts)) (take (length xs) (items_of ts)))) (append-nil (answers_of ts bs))

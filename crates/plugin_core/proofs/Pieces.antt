@@ -7,11 +7,11 @@ use Rattle.block_tree.specs.Output.{output}
 use Rattle.meta_format.specs.Limits.{limits}
 use Rattle.meta_format.specs.Stream.{Outer}
 use Rattle.meta_format.specs.Faults.{Kind, bad_tag, too_deep, too_long}
-use Rattle.meta_format.specs.Reader.{Known, Faults, CloseWithin, Explains, found_before}
-use Rattle.meta_format.specs.Scan.{outers}
+use Rattle.meta_format.specs.Reader.{ReaderView, Faults, CloseWithin, Explains, found_before}
+use Rattle.meta_format.specs.Found.{outers}
 use Rattle.meta_format.specs.declared.reader.FeedFault.{FeedFault}
 use Rattle.meta_format.specs.declared.reader.FeedFault.TheVariants as fault
-use Rattle.meta_format.specs.Reader.{Stands as HasTaken}
+use Rattle.meta_format.specs.Reader.{ReaderHasRead}
 use Rattle.plugin_core.specs.declared.item.Item.{Item}
 use Rattle.plugin_core.specs.declared.step.Answered.{Answered}
 use Rattle.plugin_core.specs.declared.step.Ended.{Ended}
@@ -22,18 +22,18 @@ use Rattle.plugin_core.specs.Answers.{answers_of, ask_of}
 use Rattle.plugin_core.specs.Blocks.{prompt_in, default_in, prompt_behind, first_prompt}
 use Rattle.plugin_core.specs.Items.{unanswered, waiting_of, prompt_of, bytes_of, answer_to, answer_behind}
 use Rattle.plugin_core.specs.Steps.{reason_of, closed_by, sent_by, answered_with, step_of}
-use Rattle.plugin_core.specs.Kept.{Kept, Stands, Accepts, Takes, has_banner}
-use Rattle.plugin_core.specs.Changes.{answer_first, waiting_then, ask_then, Joins, closed_in, closing_by, waiting_after, Passes, Breaks, EndsAt}
+use Rattle.plugin_core.specs.Kept.{InterpreterView, LifeHasPast, Accepts, Takes, has_banner}
+use Rattle.plugin_core.specs.inside.Changes.{answer_first, waiting_then, ask_then, Joins, closed_among, closing_by, waiting_after, Passes, Breaks, EndsAt}
 use Rattle.plugin_core.proofs.Pasts.{stream_of-received, stream_of-accepted, items_of-received}
 use Rattle.plugin_core.proofs.Spans.{LieWithin, LieWithin-behind, LieWithin-closed, stream_lies}
 use Rattle.plugin_core.proofs.Told.{told-received, silent-received}
 use Rattle.plugin_core.proofs.OneMore.{answers_of-accepted, waiting_of-accepted, ask_now-accepted, sent_by-accepted, Adds, answers_of-received, ask_of-received, closed_by-received, sent_by-received, next_ask, next_item}
 
-kept_lies : (k : Known) (s : List ℕ) (bs : List Outer) → HasTaken limits k s bs → LieWithin 0 (length s) bs
+kept_lies : (k : ReaderView) (s : List ℕ) (bs : List Outer) → ReaderHasRead limits k s bs → LieWithin 0 (length s) bs
 kept_lies k s bs h = stream_lies limits s bs h.tail h.stream
 
 -- A life that takes an item goes on.
-pub takes_item : (old new : Kept) (ts : List Event) (bs : List Outer) (i : Item) → Stands old ts bs → (sent : Option (List ℕ)) → Joins old new i sent
+pub takes_item : (old new : InterpreterView) (ts : List Event) (bs : List Outer) (i : Item) → LifeHasPast old ts bs → (sent : Option (List ℕ)) → Joins old new i sent
     → Accepts ts bs i sent new
 takes_item old new ts bs i s sent j =
     let l = kept_lies old.reader (stream_of ts) bs s.reader in
@@ -44,8 +44,8 @@ takes_item old new ts bs i s sent j =
       gives = j.sent ∙ (rw (s.greeted, s.waiting) (sent_by-accepted ts bs i l));
       then = record {
         goes_on = j.over ∙ s.goes_on;
-        reader = subst (λ (r : Known). HasTaken limits r (stream_of (ts ++ accepted i ∷ [])) bs) (sym j.reader)
-            (subst (λ (b : List ℕ). HasTaken limits old.reader b bs) (sym (stream_of-accepted ts i)) s.reader);
+        reader = subst (λ (r : ReaderView). ReaderHasRead limits r (stream_of (ts ++ accepted i ∷ [])) bs) (sym j.reader)
+            (subst (λ (b : List ℕ). ReaderHasRead limits old.reader b bs) (sym (stream_of-accepted ts i)) s.reader);
         ask = j.ask ∙ (rw (s.greeted, s.waiting, s.ask, s.reader.offset) (ask_now-accepted ts bs i l));
         greeted = j.greeted ∙ s.greeted ∙ ap has_banner (sym a);
         waiting = j.waiting ∙ ap (λ q. q ++ i ∷ []) s.waiting ∙ sym (waiting_of-accepted ts bs i l);
@@ -85,7 +85,7 @@ answer_first-behind (f ∷ fs) is q b = go (drop (length fs) is) (slice_get is (
     go [] o e = ap (λ (o : Option Item). option_map (λ i. answer_to i q (output b)) o) (sym e)
     go (i ∷ rest) o e = ap (λ (o : Option Item). option_map (λ i. answer_to i q (output b)) o) (sym e)
 
-waiting_of-received : (ts : List Event) (bs : List Outer) (p : List ℕ) (fs : List Outer) (o : Option Outer) → Adds ts bs p fs → closed_in (ask_of ts bs) fs ≡ o
+waiting_of-received : (ts : List Event) (bs : List Outer) (p : List ℕ) (fs : List Outer) (o : Option Outer) → Adds ts bs p fs → closed_among (ask_of ts bs) fs ≡ o
     → waiting_of (ts ++ received p ∷ []) (bs ++ fs) ≡ elim o [ None ↦ waiting_of ts bs | Some b ↦ drop (length (answers_of ts bs)) (items_of ts) ]
 waiting_of-received ts bs p fs o a e =
     ap (λ xs. unanswered xs (items_of (ts ++ received p ∷ []))) (answers_of-received ts bs p fs a ∙ ap (λ o. answers_of ts bs ++ option_to_list o) e)
@@ -99,7 +99,7 @@ waiting_of-received ts bs p fs o a e =
 -- A piece.
 
 -- the reader of a life was fed, and the items, the ask point and the prompt are as before
-pub record Fed (old mid : Kept) : Type 0 where
+pub record Fed (old mid : InterpreterView) : Type 0 where
   pub ask : mid.ask ≡ old.ask
   pub greeted : mid.greeted ≡ old.greeted
   pub waiting : mid.waiting ≡ old.waiting
@@ -117,11 +117,11 @@ adds ts bs p fs n old all close = record {
 }
 
 -- A piece that brings no fault.
-pub passes_gives : (old mid new : Kept) (ts : List Event) (bs : List Outer) (p : List ℕ) (fs : List Outer) (step : Step) → Stands old ts bs → Fed old mid → mid.over ≡ false
-    → HasTaken limits mid.reader (stream_of ts ++ p) (bs ++ fs) → CloseWithin (length (stream_of ts)) (length (stream_of ts ++ p)) fs
-    → Passes (closed_in mid.ask fs) mid new step → Takes ts bs p step new
+pub passes_gives : (old mid new : InterpreterView) (ts : List Event) (bs : List Outer) (p : List ℕ) (fs : List Outer) (step : Step) → LifeHasPast old ts bs → Fed old mid → mid.over ≡ false
+    → ReaderHasRead limits mid.reader (stream_of ts ++ p) (bs ++ fs) → CloseWithin (length (stream_of ts)) (length (stream_of ts ++ p)) fs
+    → Passes (closed_among mid.ask fs) mid new step → Takes ts bs p step new
 passes_gives old mid new ts bs p fs step s fed over taken close h =
-    let parts = go (closed_in (ask_of ts bs) fs) refl (subst (λ (o : Option Outer). Passes o mid new step) (ap (λ ask. closed_in ask fs) (fed.ask ∙ s.ask)) h) in
+    let parts = go (closed_among (ask_of ts bs) fs) refl (subst (λ (o : Option Outer). Passes o mid new step) (ap (λ ask. closed_among ask fs) (fed.ask ∙ s.ask)) h) in
     record {
       after = bs ++ fs;
       fault = None;
@@ -138,17 +138,17 @@ passes_gives old mid new ts bs p fs step s fed over taken close h =
       then = parts.1;
     }
   where
-    taken_now : HasTaken limits mid.reader (stream_of (ts ++ received p ∷ [])) (bs ++ fs)
-    taken_now = subst (λ (t : List ℕ). HasTaken limits mid.reader t (bs ++ fs)) (sym (stream_of-received ts p)) taken
+    taken_now : ReaderHasRead limits mid.reader (stream_of (ts ++ received p ∷ [])) (bs ++ fs)
+    taken_now = subst (λ (t : List ℕ). ReaderHasRead limits mid.reader t (bs ++ fs)) (sym (stream_of-received ts p)) taken
 
     a : Adds ts bs p fs
     a = adds ts bs p fs _ (kept_lies old.reader (stream_of ts) bs s.reader) (kept_lies mid.reader (stream_of ts ++ p) (bs ++ fs) taken) close
 
-    ask_next : (o : Option Outer) → closed_in (ask_of ts bs) fs ≡ o → next_ask o (ask_of ts bs) (drop (length (answers_of ts bs)) (items_of ts)) (length (stream_of ts) + length p) ≡ ask_of (ts ++ received p ∷ []) (bs ++ fs)
+    ask_next : (o : Option Outer) → closed_among (ask_of ts bs) fs ≡ o → next_ask o (ask_of ts bs) (drop (length (answers_of ts bs)) (items_of ts)) (length (stream_of ts) + length p) ≡ ask_of (ts ++ received p ∷ []) (bs ++ fs)
     ask_next o e = sym (ask_of-received ts bs p fs a ∙ ap (λ o. next_ask o (ask_of ts bs) (drop (length (answers_of ts bs)) (items_of ts)) (length (stream_of ts) + length p)) e)
 
-    go : (o : Option Outer) → closed_in (ask_of ts bs) fs ≡ o → Passes o mid new step
-        → (step ≡ step_of ts bs p (bs ++ fs) None) × Stands new (ts ++ received p ∷ []) (bs ++ fs)
+    go : (o : Option Outer) → closed_among (ask_of ts bs) fs ≡ o → Passes o mid new step
+        → (step ≡ step_of ts bs p (bs ++ fs) None) × LifeHasPast new (ts ++ received p ∷ []) (bs ++ fs)
     go None e h =
         let c : closed_by ts bs (received p) (bs ++ fs) ≡ None = closed_by-received ts bs p fs a ∙ e in
         let w : answers_of (ts ++ received p ∷ []) (bs ++ fs) ≡ answers_of ts bs = answers_of-received ts bs p fs a ∙ ap (λ o. answers_of ts bs ++ option_to_list o) e ∙ append-nil (answers_of ts bs) in
@@ -158,7 +158,7 @@ passes_gives old mid new ts bs p fs step s fed over taken close h =
               (ap (λ (x : Step). x.default_input) h.1 ∙ sym (ap (λ o. option_and_then (λ (b : Outer). default_in b.block) o) c))
               (ap (λ (x : Step). x.send) h.1 ∙ sym n)
               (ap (λ (x : Step). x.ended) h.1),
-          subst (λ (l : Kept). Stands l (ts ++ received p ∷ []) (bs ++ fs)) (sym h.0) record {
+          subst (λ (l : InterpreterView). LifeHasPast l (ts ++ received p ∷ []) (bs ++ fs)) (sym h.0) record {
             goes_on = over;
             reader = taken_now;
             ask = fed.ask ∙ s.ask ∙ ask_next None e;
@@ -180,7 +180,7 @@ passes_gives old mid new ts bs p fs step s fed over taken close h =
               h.2,
           record {
             goes_on = h.0.over ∙ over;
-            reader = subst (λ (r : Known). HasTaken limits r (stream_of (ts ++ received p ∷ [])) (bs ++ fs)) (sym h.0.reader) taken_now;
+            reader = subst (λ (r : ReaderView). ReaderHasRead limits r (stream_of (ts ++ received p ∷ [])) (bs ++ fs)) (sym h.0.reader) taken_now;
             ask = h.0.ask ∙ ap (λ is. ask_then is mid.reader.offset) q ∙ ap (λ n. ask_then (drop (length (answers_of ts bs)) (items_of ts)) n) (taken.offset ∙ length-append (stream_of ts) p) ∙ ask_next (Some b) e;
             greeted = h.0.greeted ∙ sym (ap has_banner w ∙ has_banner-next (answers_of ts bs) b);
             waiting = h.0.waiting ∙ q ∙ sym (waiting_of-received ts bs p fs (Some b) a e);
@@ -188,25 +188,25 @@ passes_gives old mid new ts bs p fs step s fed over taken close h =
           },
         )
 
-closing_first : (old mid : Kept) (ts : List Event) (bs : List Outer) (o : Option Outer) → Stands old ts bs → Fed old mid
+closing_first : (old mid : InterpreterView) (ts : List Event) (bs : List Outer) (o : Option Outer) → LifeHasPast old ts bs → Fed old mid
     → closing_by o mid ≡ record { answered = option_and_then (answered_with ts bs) o; default_input = option_and_then (λ (b : Outer). default_in b.block) o }
 closing_first old mid ts bs None s fed = refl
 closing_first old mid ts bs (Some b) s fed = rw (fed.greeted, fed.waiting, fed.prompt, s.greeted, s.waiting, s.prompt, answer_first-behind (answers_of ts bs) (items_of ts) (prompt_of ts bs) b.block) refl
 
-waiting_after-received : (old mid : Kept) (ts : List Event) (bs : List Outer) (p : List ℕ) (fs : List Outer) (o : Option Outer) → Stands old ts bs → Fed old mid → Adds ts bs p fs → closed_in (ask_of ts bs) fs ≡ o
+waiting_after-received : (old mid : InterpreterView) (ts : List Event) (bs : List Outer) (p : List ℕ) (fs : List Outer) (o : Option Outer) → LifeHasPast old ts bs → Fed old mid → Adds ts bs p fs → closed_among (ask_of ts bs) fs ≡ o
     → waiting_after o mid ≡ waiting_of (ts ++ received p ∷ []) (bs ++ fs)
 waiting_after-received old mid ts bs p fs None s fed a e = fed.waiting ∙ s.waiting ∙ sym (waiting_of-received ts bs p fs None a e)
 waiting_after-received old mid ts bs p fs (Some b) s fed a e =
     rw (fed.greeted, fed.waiting, s.greeted, s.waiting) (waiting_then-next (answers_of ts bs) (items_of ts)) ∙ sym (waiting_of-received ts bs p fs (Some b) a e)
 
 -- A piece that brings a fault.
-pub breaks_gives : (old mid new : Kept) (ts : List Event) (bs : List Outer) (p : List ℕ) (fs : List Outer) (at : ℕ) (kind : Kind) (step : Step) → Stands old ts bs → Fed old mid
+pub breaks_gives : (old mid new : InterpreterView) (ts : List Event) (bs : List Outer) (p : List ℕ) (fs : List Outer) (at : ℕ) (kind : Kind) (step : Step) → LifeHasPast old ts bs → Fed old mid
     → Faults limits (stream_of ts ++ p) at kind (bs ++ fs) → CloseWithin (length (stream_of ts)) (length (stream_of ts ++ p)) fs
-    → Breaks (closed_in mid.ask fs) mid new (reason_of kind) step → Takes ts bs p step new
+    → Breaks (closed_among mid.ask fs) mid new (reason_of kind) step → Takes ts bs p step new
 breaks_gives old mid new ts bs p fs at kind step s fed fault close h =
     let a = adds ts bs p fs _ (kept_lies old.reader (stream_of ts) bs s.reader) (stream_lies limits fault.front (bs ++ fs) fault.tail fault.stream) close in
-    let o = closed_in (ask_of ts bs) fs in
-    let e : closed_in mid.ask fs ≡ o = ap (λ ask. closed_in ask fs) (fed.ask ∙ s.ask) in
+    let o = closed_among (ask_of ts bs) fs in
+    let e : closed_among mid.ask fs ≡ o = ap (λ ask. closed_among ask fs) (fed.ask ∙ s.ask) in
     let c : closed_by ts bs (received p) (bs ++ fs) ≡ o = closed_by-received ts bs p fs a in
     let k = h.closing ∙ ap (λ o. closing_by o mid) e ∙ closing_first old mid ts bs o s fed in
     let gives : step ≡ step_of ts bs p (bs ++ fs) (Some kind) = same_step step _ _ _ _
@@ -231,7 +231,7 @@ breaks_gives old mid new ts bs p fs at kind step s fed fault close h =
     }
 
 -- A fault of the reader.
-pub ends_gives : (old mid new : Kept) (ts : List Event) (bs : List Outer) (p : List ℕ) (e : FeedFault) (step : Step) → Stands old ts bs → Fed old mid
+pub ends_gives : (old mid new : InterpreterView) (ts : List Event) (bs : List Outer) (p : List ℕ) (e : FeedFault) (step : Step) → LifeHasPast old ts bs → Fed old mid
     → Explains limits (stream_of ts ++ p) bs e → CloseWithin (length (stream_of ts)) (length (stream_of ts ++ p)) (found_before e) → EndsAt e mid new step → Takes ts bs p step new
 ends_gives old mid new ts bs p (fault.BadTag at found) step s fed why close h = breaks_gives old mid new ts bs p (outers found.items) at bad_tag step s fed why close h
 ends_gives old mid new ts bs p (fault.TooDeep at found) step s fed why close h = breaks_gives old mid new ts bs p (outers found.items) at too_deep step s fed why close h

@@ -2,18 +2,18 @@
 use Rattle.std.proofs.Common.{◌≡◌, ℕ, ◌+◌, ◌<◌, ◌≤◌, List, [], ◌∷◌, ◌++◌, length, take, drop, refl, ap, sym, ◌∙◌, subst, arith, Bool, true, false, Option, Some, None, suc, zero, length-append}
 use Rattle.std.specs.Prelude.{nat_le, slice_get, option_map, option_to_list}
 use Rattle.std.proofs.Math.Seq.{take-append_seam}
+use Rattle.std.proofs.lemmas.Option.{slice_get_within}
 use Rattle.std.proofs.lemmas.List.{append-nil, drop_all, length-drop, take_all}
 use Rattle.std.proofs.lemmas.Bool.Decides.{nat_tests}
 use Rattle.meta_format.specs.Stream.{Outer}
 use Rattle.meta_format.specs.Reader.{CloseWithin}
 use Rattle.plugin_core.specs.declared.item.Item.{Item}
-use Rattle.plugin_core.specs.Past.{Event, accepted, received, stream_of, items_of}
+use Rattle.plugin_core.specs.Past.{Event, accepted, received, stream_of, items_of, ends_from}
 use Rattle.plugin_core.specs.Answers.{asked_places, answers_of, ask_of}
-use Rattle.plugin_core.specs.Past.{ends_from}
 use Rattle.plugin_core.specs.Items.{unanswered, bytes_of}
 use Rattle.plugin_core.specs.Steps.{sent_by}
 use Rattle.plugin_core.specs.Kept.{has_banner}
-use Rattle.plugin_core.specs.Changes.{closed_in, sent_for}
+use Rattle.plugin_core.specs.inside.Changes.{closed_among, sent_for}
 use Rattle.plugin_core.specs.AskPoints.{length_after, IsAskedIn, SendsWhatIsAsked}
 use Rattle.plugin_core.proofs.Pasts.{stream_of-received, stream_of-accepted, items_of-received}
 use Rattle.plugin_core.proofs.Spans.{LieWithin, LieWithin-behind, LieWithin-closed}
@@ -52,11 +52,6 @@ item_at (received q ∷ past) (suc f) i e = item_at past f i e
 
 -- Places in lists.
 
-slice_in : {X : Type 0} (xs : List X) (k : ℕ) (x : X) → slice_get xs k ≡ Some x → k < length xs
-slice_in [] k x e = cc
-slice_in (y ∷ xs) zero x e = omega arith
-slice_in (y ∷ xs) (suc k) x e = let h = slice_in xs k x e in omega arith
-
 some_in : {X : Type 0} (xs : List X) (k : ℕ) → k < length xs → (x : X) × (slice_get xs k ≡ Some x)
 some_in [] k h = absurd (omega arith)
 some_in (y ∷ xs) zero h = (y, refl)
@@ -89,13 +84,13 @@ closes_before past e closing stop lo hi = go (nat_le (length past) closing) refl
 
 received_asks : (ts : List Event) (p : List ℕ) (bs fs : List Outer) → Adds ts bs p fs → LieWithin 0 (length (stream_of (ts ++ received p ∷ []))) (bs ++ fs)
     → (bytes : List ℕ) → sent_by ts bs (received p) (bs ++ fs) ≡ Some bytes → (item : Item) × IsAskedIn (ts ++ received p ∷ []) (bs ++ fs) (length ts) item × (bytes ≡ bytes_of item)
-received_asks ts p bs fs a l bytes e = closing (closed_in (ask_of ts bs) fs) refl (sym (sent_by-received ts bs p fs a) ∙ e)
+received_asks ts p bs fs a l bytes e = closing (closed_among (ask_of ts bs) fs) refl (sym (sent_by-received ts bs p fs a) ∙ e)
   where
-    stops : (b : Outer) (o : Option ℕ) → closed_in o fs ≡ Some b → (length (stream_of ts) < b.stop) × (b.stop ≤ length (stream_of ts) + length p)
+    stops : (b : Outer) (o : Option ℕ) → closed_among o fs ≡ Some b → (length (stream_of ts) < b.stop) × (b.stop ≤ length (stream_of ts) + length p)
     stops b None e = cc
     stops b (Some place) e = found-stop (length (stream_of ts)) (length (stream_of ts) + length p) place fs b a.fresh e
 
-    asks : (b : Outer) → closed_in (ask_of ts bs) fs ≡ Some b → (o : Option Item) → slice_get (drop (length (answers_of ts bs)) (items_of ts)) 0 ≡ o → option_map bytes_of o ≡ Some bytes
+    asks : (b : Outer) → closed_among (ask_of ts bs) fs ≡ Some b → (o : Option Item) → slice_get (drop (length (answers_of ts bs)) (items_of ts)) 0 ≡ o → option_map bytes_of o ≡ Some bytes
         → (item : Item) × IsAskedIn (ts ++ received p ∷ []) (bs ++ fs) (length ts) item × (bytes ≡ bytes_of item)
     asks b c None d e = cc
     asks b c (Some i) d e =
@@ -121,7 +116,7 @@ received_asks ts p bs fs a l bytes e = closing (closed_in (ask_of ts bs) fs) ref
           cc,
         )
 
-    closing : (o : Option Outer) → closed_in (ask_of ts bs) fs ≡ o → option_map bytes_of (next_item o (drop (length (answers_of ts bs)) (items_of ts))) ≡ Some bytes
+    closing : (o : Option Outer) → closed_among (ask_of ts bs) fs ≡ o → option_map bytes_of (next_item o (drop (length (answers_of ts bs)) (items_of ts))) ≡ Some bytes
         → (item : Item) × IsAskedIn (ts ++ received p ∷ []) (bs ++ fs) (length ts) item × (bytes ≡ bytes_of item)
     closing None c e = cc
     closing (Some b) c e = asks b c (slice_get (drop (length (answers_of ts bs)) (items_of ts)) 0) refl e
@@ -148,13 +143,13 @@ received_sends ts p bs fs a i h = go (nat_le (length (answers_of ts bs)) h.numbe
         let c : length_after (ts ++ received p ∷ []) (length ts) < h.before.stop = subst (λ (n : ℕ). length_after (ts ++ received p ∷ []) n < h.before.stop) (closes_last ts p (bs ++ fs) i h) h.closes.0 in
         omega (arith, c, before_last ts (received p))
 
-    in_list : slice_get (answers_of ts bs ++ option_to_list (closed_in (ask_of ts bs) fs)) h.number ≡ Some h.before
+    in_list : slice_get (answers_of ts bs ++ option_to_list (closed_among (ask_of ts bs) fs)) h.number ≡ Some h.before
     in_list = ap (λ (xs : List Outer). slice_get xs h.number) (sym (answers_of-received ts bs p fs a)) ∙ listed (ts ++ received p ∷ []) (bs ++ fs) h.number h.before h.answer
 
     go : (t : Bool) → nat_le (length (answers_of ts bs)) h.number ≡ t → sent_by ts bs (received p) (bs ++ fs) ≡ Some (bytes_of i)
     go true e =
         let k : length (answers_of ts bs) ≤ h.number = grind (arith, nat_tests) in
-        let r = at_end (answers_of ts bs) (closed_in (ask_of ts bs) fs) h.number h.before in_list k in
+        let r = at_end (answers_of ts bs) (closed_among (ask_of ts bs) fs) h.number h.before in_list k in
         let m : length (items_of (take h.accepting (ts ++ received p ∷ []))) ≡ length (answers_of ts bs) = omega (arith, h.accepts.2, r.0) in
         let x : slice_get (items_of ts) (length (answers_of ts bs)) ≡ Some i =
         ap (λ (is : List Item). slice_get is (length (answers_of ts bs))) (sym (items_of-received ts p))
@@ -165,7 +160,7 @@ received_sends ts p bs fs a i h = go (nat_le (length (answers_of ts bs)) h.numbe
         ∙ ap (λ (o : Option Item). option_map bytes_of o) (slice_get-drop (length (answers_of ts bs)) (items_of ts) ∙ x)
     go false e =
         let k : h.number < length (answers_of ts bs) = grind (arith, nat_tests) in
-        let s = answer_lies (ends_from 0 ts) bs (length (stream_of ts)) 0 (asked_places ts) h.number h.before a.old (at_front (answers_of ts bs) (option_to_list (closed_in (ask_of ts bs) fs)) h.number h.before in_list k) in
+        let s = answer_lies (ends_from 0 ts) bs (length (stream_of ts)) 0 (asked_places ts) h.number h.before a.old (at_front (answers_of ts bs) (option_to_list (closed_among (ask_of ts bs) fs)) h.number h.before in_list k) in
         absurd (omega (arith, s.1, late))
 
 -- An item.
@@ -221,7 +216,7 @@ accepted_sends ts j bs l i h =
     let y : Some (accepted j) ≡ Some (accepted h.accepts.0) = sym (last_is ts (accepted j)) ∙ x in
     let same : j ≡ h.accepts.0 = cc in
     let n : suc (length (items_of ts)) ≡ suc h.number = ap suc (sym (seam_items ts (accepted j))) ∙ subst (λ (n : ℕ). suc (length (items_of (take n (ts ++ accepted j ∷ [])))) ≡ suc h.number) m h.accepts.2 in
-    let k : length (items_of ts) < length (answers_of ts bs) = omega (arith, n, slice_in (answers_of ts bs) h.number h.before e) in
+    let k : length (items_of ts) < length (answers_of ts bs) = omega (arith, n, slice_get_within (answers_of ts bs) h.number h.before e) in
     sym (sent_by-accepted ts bs j l) ∙ sent_for_is (answers_of ts bs) (items_of ts) j k ∙ ap (λ (i : Item). Some (bytes_of i)) (same ∙ h.is)
 
 -- The law.

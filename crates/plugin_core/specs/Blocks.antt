@@ -3,11 +3,11 @@ use Rattle.std.specs.Prelude.{ℕ, List, [], ◌∷◌, take, codes, Option, opt
 use Rattle.block_tree.specs.Tree.{Tree}
 use Rattle.block_tree.specs.Output.{text_on_channel}
 use Rattle.meta_format.specs.Stream.{Outer}
-use Rattle.plugin_core.specs.Limits.{longest_prompt}
+use Rattle.plugin_core.specs.Limits.{prompt_limit}
 
 -- the prompt of a block, cut to its first bytes
 abbrev pub prompt_in : Tree → Option (List ℕ)
-prompt_in b = option_map (λ text. take longest_prompt text) (text_on_channel (codes "prompt") b)
+prompt_in b = option_map (λ text. take prompt_limit text) (text_on_channel (codes "prompt") b)
 
 -- the default input of a block
 abbrev pub default_in : Tree → Option (List ℕ)

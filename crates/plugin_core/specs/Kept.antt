@@ -3,8 +3,8 @@ use Rattle.std.specs.Prelude.{◌≡◌, ℕ, Bool, true, false, List, [], ◌�
 use Rattle.meta_format.specs.Limits.{limits}
 use Rattle.meta_format.specs.Stream.{Outer}
 use Rattle.meta_format.specs.Faults.{Kind}
-use Rattle.meta_format.specs.Reader.{Known, CloseWithin}
-use Rattle.meta_format.specs.Reader.{Stands as HasTaken}
+use Rattle.meta_format.specs.Reader.{ReaderView, CloseWithin}
+use Rattle.meta_format.specs.Reader.{ReaderHasRead}
 use Rattle.plugin_core.specs.declared.item.Item.{Item}
 use Rattle.plugin_core.specs.declared.step.Step.{Step}
 use Rattle.plugin_core.specs.Past.{Event, accepted, received, stream_of}
@@ -14,10 +14,10 @@ use Rattle.plugin_core.specs.Steps.{Reads, closed_by, sent_by, step_of}
 
 -- what a life keeps: the reader of its stream, the ask point of the first item that waits (or of the banner), whether
 -- the banner has closed, the items that wait, and the latest prompt
-pub record Kept : Type 0 where
+pub record InterpreterView : Type 0 where
   pub number : ℕ
   pub over : Bool
-  pub reader : Known
+  pub reader : ReaderView
   pub ask : Option ℕ
   pub greeted : Bool
   pub waiting : List Item
@@ -28,33 +28,33 @@ has_banner [] = false
 has_banner (banner ∷ answers) = true
 
 -- The reader has taken a stream that has no fault.
-abbrev pub IsFed : Known → Type 0
-IsFed reader = (s : List ℕ) × (blocks : List Outer) × HasTaken limits reader s blocks
+abbrev pub IsFed : ReaderView → Type 0
+IsFed reader = (s : List ℕ) × (blocks : List Outer) × ReaderHasRead limits reader s blocks
 
 -- The life goes on after this past, whose stream has these outer blocks and no fault.
-pub record Stands (life : Kept) (past : List Event) (blocks : List Outer) : Type 0 where
+pub record LifeHasPast (life : InterpreterView) (past : List Event) (blocks : List Outer) : Type 0 where
   pub goes_on : life.over ≡ false
-  pub reader : HasTaken limits life.reader (stream_of past) blocks
+  pub reader : ReaderHasRead limits life.reader (stream_of past) blocks
   pub ask : life.ask ≡ ask_of past blocks
   pub greeted : life.greeted ≡ has_banner (answers_of past blocks)
   pub waiting : life.waiting ≡ waiting_of past blocks
   pub prompt : life.prompt ≡ prompt_of past blocks
 
 -- The life goes on where the stream has no fault, and is over else.
-abbrev pub GoesOn : Kept → List Event → List Outer → Option Kind → Type 0
-GoesOn life past blocks None = Stands life past blocks
+abbrev pub GoesOn : InterpreterView → List Event → List Outer → Option Kind → Type 0
+GoesOn life past blocks None = LifeHasPast life past blocks
 GoesOn life past blocks (Some kind) = life.over ≡ true
 
 -- What an item gives that is accepted after a past whose stream has these blocks: the bytes that are sent now, if any. No answer
 -- closes, the item waits behind the others, and the life goes on.
-pub record Accepts (past : List Event) (blocks : List Outer) (item : Item) (sent : Option (List ℕ)) (life : Kept) : Type 0 where
+pub record Accepts (past : List Event) (blocks : List Outer) (item : Item) (sent : Option (List ℕ)) (life : InterpreterView) : Type 0 where
   pub answers : answers_of (past ++ accepted item ∷ []) blocks ≡ answers_of past blocks
   pub waiting : waiting_of (past ++ accepted item ∷ []) blocks ≡ waiting_of past blocks ++ item ∷ []
   pub gives : sent ≡ sent_by past blocks (accepted item) blocks
-  pub then : Stands life (past ++ accepted item ∷ []) blocks
+  pub then : LifeHasPast life (past ++ accepted item ∷ []) blocks
 
 -- What a piece gives after a past whose stream has these blocks: the answer of the definitions, and the life goes on or ends.
-pub record Takes (past : List Event) (before : List Outer) (piece : List ℕ) (step : Step) (life : Kept) : Type 0 where
+pub record Takes (past : List Event) (before : List Outer) (piece : List ℕ) (step : Step) (life : InterpreterView) : Type 0 where
   -- the blocks of the stream with the piece, and its fault
   pub after : List Outer
   pub fault : Option Kind

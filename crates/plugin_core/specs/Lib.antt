@@ -7,4 +7,6 @@ pub mod Steps
 pub mod AskPoints
 pub mod Kept
 pub mod Laws
-pub mod Changes
+pub mod Whole
+pub mod Waits
+pub mod inside

@@ -4,7 +4,7 @@ ghost use Rattle.std.specs.List.{list_any};
 ghost use Rattle.meta_format.specs.Stream.{Outer};
 ghost use Rattle.plugin_core.specs.Past.{Event, accepted, received};
 ghost use Rattle.plugin_core.specs.Items.{waiting_of, prompt_of, is_line_of};
-ghost use Rattle.plugin_core.specs.Limits.{longest_prompt, most_waiting};
+ghost use Rattle.plugin_core.specs.Limits.{prompt_limit, most_waiting};
 
 use crate::item::bytes_for;
 use crate::limits::MOST_WAITING;
@@ -36,14 +36,14 @@ pub struct Life {
 
 impl Model for Life {
     ghost use Rattle.std.specs.Prelude.{◌≡◌, ◌≤◌, false, length};
-    ghost use Rattle.plugin_core.specs.Kept.{Kept, IsFed};
-    ghost use Rattle.plugin_core.specs.Limits.{longest_prompt, most_waiting};
+    ghost use Rattle.plugin_core.specs.Kept.{InterpreterView, IsFed};
+    ghost use Rattle.plugin_core.specs.Limits.{prompt_limit, most_waiting};
 
-    ghost Value = { Kept };
+    ghost Value = { InterpreterView };
 
     ghost view = { λ life. record { number = life.number; over = life.over; reader = life.reader; ask = life.ask; greeted = life.greeted; waiting = life.waiting.items; prompt = life.prompt } };
 
-    ghost invariant = { λ life. (length life.waiting.items ≤ most_waiting) × (life.over ≡ false → IsFed life.reader) × (length life.prompt ≤ longest_prompt) };
+    ghost invariant = { λ life. (length life.waiting.items ≤ most_waiting) × (life.over ≡ false → IsFed life.reader) × (length life.prompt ≤ prompt_limit) };
 }
 
 /// Why an item was not accepted. It is given back.
@@ -56,13 +56,13 @@ pub enum AcceptFault {
 }
 
 impl Life {
-    ghost use Rattle.plugin_core.specs.Kept.{Stands, Accepts};
-    ghost use Rattle.plugin_core.specs.Changes.{Joins};
+    ghost use Rattle.plugin_core.specs.Kept.{LifeHasPast, Accepts};
+    ghost use Rattle.plugin_core.specs.inside.Changes.{Joins};
 
     /// A life with this number that begins with an item, before the first byte of its stream. The item is
     /// asked once the banner has closed. Where memory is refused the item is given back.
     pub fn begin(alloc: Global, number: u32, item: Item) -> Result<Life, (Item, OutOfMemory)>
-        ensures ok { IfOk result (λ life. Stands life (accepted item ∷ []) []) }
+        ensures ok { IfOk result (λ life. LifeHasPast life (accepted item ∷ []) []) }
         ensures number { IfOk result (λ life. life.number ≡ number) }
         ensures err { IfErr result (λ refused. refused.0 ≡ item) }
     {
@@ -93,8 +93,8 @@ impl Life {
     /// An error gives the item back, and changes nothing.
     pub fn accept(&mut self, item: Item) -> Result<Option<Octets>, AcceptFault>
         requires { self.old.over ≡ false }
-        ensures ok { (past : List Event) (blocks : List Outer) → Stands self.old past blocks → IfOk result (λ sent. Accepts past blocks item sent self.new) }
-        ensures full { (past : List Event) (blocks : List Outer) → Stands self.old past blocks → IsErrOf result (AcceptFault.Full item) ↔ (length (waiting_of past blocks) ≡ most_waiting) }
+        ensures ok { (past : List Event) (blocks : List Outer) → LifeHasPast self.old past blocks → IfOk result (λ sent. Accepts past blocks item sent self.new) }
+        ensures full { (past : List Event) (blocks : List Outer) → LifeHasPast self.old past blocks → IsErrOf result (AcceptFault.Full item) ↔ (length (waiting_of past blocks) ≡ most_waiting) }
         ensures err { IfErr result (λ fault. (fault ≡ AcceptFault.Full item) ⊎ (fault ≡ AcceptFault.OutOfMemory item)) }
         ensures same { OnErr result (self.new ≡ self.old) }
         ensures number { self.new.number ≡ self.old.number }
@@ -139,7 +139,7 @@ impl Life {
     /// taken.
     pub fn finish(self, reason: Reason) -> Ended
         requires { self.over ≡ false }
-        ensures { (past : List Event) (blocks : List Outer) → Stands self past blocks → result ≡ record { reason = reason; lost = waiting_of past blocks } }
+        ensures { (past : List Event) (blocks : List Outer) → LifeHasPast self past blocks → result ≡ record { reason = reason; lost = waiting_of past blocks } }
     {
         Ended {
             reason,
@@ -151,7 +151,7 @@ impl Life {
     ///
     /// Of a life that is over nothing is claimed but that the call returns.
     pub fn waiting(&self) -> u32
-        ensures { (past : List Event) (blocks : List Outer) → Stands self.now past blocks → result ≡ length (waiting_of past blocks) }
+        ensures { (past : List Event) (blocks : List Outer) → LifeHasPast self.now past blocks → result ≡ length (waiting_of past blocks) }
     {
         self.waiting.len() as u32
     }
@@ -160,7 +160,7 @@ impl Life {
     ///
     /// Of a life that is over nothing is claimed but that the call returns.
     pub fn waits_for(&self, id: u32) -> bool
-        ensures { (past : List Event) (blocks : List Outer) → Stands self.now past blocks → result ≡ list_any (λ item. is_line_of id item) (waiting_of past blocks) }
+        ensures { (past : List Event) (blocks : List Outer) → LifeHasPast self.now past blocks → result ≡ list_any (λ item. is_line_of id item) (waiting_of past blocks) }
     {
         has_line(&self.waiting, id)
     }
@@ -170,8 +170,8 @@ impl Life {
     ///
     /// Of a life that is over nothing is claimed but that it has at most 1,024 bytes.
     pub fn prompt(&self) -> &[u8]
-        ensures prompt { (past : List Event) (blocks : List Outer) → Stands self.now past blocks → result.now ≡ prompt_of past blocks }
-        ensures short { length result.now ≤ longest_prompt }
+        ensures prompt { (past : List Event) (blocks : List Outer) → LifeHasPast self.now past blocks → result.now ≡ prompt_of past blocks }
+        ensures short { length result.now ≤ prompt_limit }
     {
         self.prompt.as_slice()
     }

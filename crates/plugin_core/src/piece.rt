@@ -2,10 +2,10 @@
 ghost use Rattle.std.specs.Prelude.{◌≡◌, ◌≤◌, ◌∷◌, ◌++◌, ℕ, List, [], length, true, false, IfOk, OnErr, option_map, option_and_then, slice_get, is_some, unwrap_or, option_copied, nat_le};
 ghost use Rattle.std.specs.List.{find};
 ghost use Rattle.meta_format.specs.Stream.{Outer};
-ghost use Rattle.meta_format.specs.Scan.{outer_of, outers};
+ghost use Rattle.meta_format.specs.Found.{outer_of, outers};
 ghost use Rattle.plugin_core.specs.Past.{Event};
 ghost use Rattle.plugin_core.specs.Answers.{first_from};
-ghost use Rattle.plugin_core.specs.Limits.{longest_prompt};
+ghost use Rattle.plugin_core.specs.Limits.{prompt_limit};
 ghost use Rattle.plugin_core.specs.Blocks.{prompt_in};
 ghost use Rattle.plugin_core.specs.Items.{bytes_of, answer_to};
 
@@ -25,8 +25,8 @@ struct Closing {
 }
 
 impl Life {
-    ghost use Rattle.plugin_core.specs.Kept.{Stands, Takes};
-    ghost use Rattle.plugin_core.specs.Changes.{Closes, Passes, Breaks, EndsAt, closed_in, answer_first, ask_then, waiting_then};
+    ghost use Rattle.plugin_core.specs.Kept.{LifeHasPast, Takes};
+    ghost use Rattle.plugin_core.specs.inside.Changes.{AnswerCloses, Passes, Breaks, EndsAt, closed_among, answer_first, ask_then, waiting_then};
 
     /// Takes the next piece of the interpreter's output, which may be cut anywhere, and tells the answer
     /// that it closes and what is to be sent now. A fault of the stream ends the life after that answer.
@@ -34,7 +34,7 @@ impl Life {
     /// After want of memory the life is over. Blocks that answer nothing are dropped here.
     pub fn piece(&mut self, piece: &[u8]) -> Result<Step, OutOfMemory>
         requires { self.old.over ≡ false }
-        ensures ok { (past : List Event) (before : List Outer) → Stands self.old past before → IfOk result (λ step. Takes past before piece.now step self.new) }
+        ensures ok { (past : List Event) (before : List Outer) → LifeHasPast self.old past before → IfOk result (λ step. Takes past before piece.now step self.new) }
         ensures ended { IfOk result (λ step. self.new.over ≡ is_some step.ended) }
         ensures err { OnErr result (self.new.over ≡ true) }
         ensures number { self.new.number ≡ self.old.number }
@@ -80,7 +80,7 @@ impl Life {
 
     /// The blocks of a piece without a fault.
     fn pass(&mut self, found: &[Found]) -> Result<Step, OutOfMemory>
-        ensures ok { IfOk result (λ step. Passes (closed_in self.old.ask (outers found.now)) self.old self.new step) }
+        ensures ok { IfOk result (λ step. Passes (closed_among self.old.ask (outers found.now)) self.old self.new step) }
         ensures number { self.new.number ≡ self.old.number }
     {
         let Some(answer) = self.answer_in(found) else {
@@ -99,7 +99,7 @@ impl Life {
     /// The blocks of a piece with a fault after them.
     fn break_off(&mut self, reason: Reason, found: &[Found]) -> Result<Step, OutOfMemory>
         requires { self.old.over ≡ true }
-        ensures ok { IfOk result (λ step. Breaks (closed_in self.old.ask (outers found.now)) self.old self.new reason step) }
+        ensures ok { IfOk result (λ step. Breaks (closed_among self.old.ask (outers found.now)) self.old self.new reason step) }
         ensures over { self.new.over ≡ true }
         ensures number { self.new.number ≡ self.old.number }
     {
@@ -124,7 +124,7 @@ impl Life {
 
     /// The block that closes the answer that is awaited, if one does.
     fn answer_in<'a>(&self, found: &'a [Found]) -> Option<&'a Found>
-        ensures { option_map outer_of (option_copied result) ≡ closed_in self.now.ask (outers found.now) }
+        ensures { option_map outer_of (option_copied result) ≡ closed_among self.now.ask (outers found.now) }
     {
         match self.ask {
             Some(ask) => first_behind(found, ask),
@@ -134,7 +134,7 @@ impl Life {
 
     /// The answer of the first item, or the banner, closes with this block.
     fn close(&mut self, block: &Block) -> Result<Closing, OutOfMemory>
-        ensures ok { IfOk result (λ closing. Closes self.old self.new block.now closing) }
+        ensures ok { IfOk result (λ closing. AnswerCloses self.old self.new block.now closing) }
         ensures over { self.new.over ≡ self.old.over }
         ensures number { self.new.number ≡ self.old.number }
     {
@@ -153,7 +153,7 @@ impl Life {
     /// The prompt of a block, or else the latest one.
     fn prompt_behind(&self, block: &Block) -> Result<Octets, OutOfMemory>
         ensures value { IfOk result (λ prompt. prompt ≡ unwrap_or (prompt_in block.now) self.now.prompt) }
-        ensures short { IfOk result (λ prompt. length prompt ≤ longest_prompt) }
+        ensures short { IfOk result (λ prompt. length prompt ≤ prompt_limit) }
     {
         match prompt_of_block(self.alloc, block)? {
             Some(prompt) => Ok(prompt),

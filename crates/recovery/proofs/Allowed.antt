@@ -12,7 +12,7 @@ use Rattle.worksheet.specs.Names.{is_name}
 use Rattle.worksheet.specs.Contents.{Contents}
 use Rattle.worksheet.specs.Ops.{sheet_of}
 use Rattle.worksheet.specs.Laws.{IsNamed}
-use Rattle.worksheet.specs.Checks.{first_refusal, refusals, has_session, is_input, is_input_byte, is_no_control, is_word, are_words}
+use Rattle.worksheet.specs.Checks.{first_refusal, refusals, has_session, is_input, is_input_byte, is_no_low_byte, is_word, are_words}
 use Rattle.worksheet.proofs.Finds.{none_applies, true_from_not}
 use Rattle.worksheet.proofs.NameLaws.{short_name}
 use Rattle.worksheet.proofs.NextLaws.{named, sessions_have_names}
@@ -52,8 +52,8 @@ short_input bytes h =
 
 short_word : (bytes : List ℕ) → is_word bytes ≡ true → IsLong bytes
 short_word bytes h =
-    let u = and_parts (nat_le 1 (length bytes) && nat_le (length bytes) longest_word && list_all is_no_control bytes) (is_utf8 bytes) h in
-    let v = and_parts (nat_le 1 (length bytes) && nat_le (length bytes) longest_word) (list_all is_no_control bytes) u.0 in
+    let u = and_parts (nat_le 1 (length bytes) && nat_le (length bytes) longest_word && list_all is_no_low_byte bytes) (is_utf8 bytes) h in
+    let v = and_parts (nat_le 1 (length bytes) && nat_le (length bytes) longest_word) (list_all is_no_low_byte bytes) u.0 in
     let w = and_parts (nat_le 1 (length bytes)) (nat_le (length bytes) longest_word) v.0 in
     omega (arith, at_most (length bytes) longest_word w.1)
 

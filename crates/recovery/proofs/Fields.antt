@@ -6,7 +6,7 @@ use Rattle.std.proofs.lemmas.Bool.{le-ltb}
 use Rattle.std.proofs.lemmas.List.{take_at, drop_at, length-append}
 use Rattle.std.proofs.lemmas.Nat.{from_be_bytes-to_be_bytes_2, from_be_bytes-to_be_bytes_4}
 use Rattle.recovery.specs.Code.{number, short, long, IsLong, IsNumber}
-use Rattle.recovery.specs.Reading.{front_at, number_at, short_at, long_at, words_at}
+use Rattle.recovery.specs.inside.Reading.{front_at, number_at, short_at, long_at, words_at}
 
 pub front_again : (n : ℕ) (a rest : List ℕ) → length a ≡ n → front_at n (a ++ rest) ≡ Some (a, rest)
 front_again n a rest len =

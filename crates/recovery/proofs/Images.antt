@@ -4,26 +4,26 @@ use Rattle.std.specs.Prelude.{is_err, OnOk}
 use Rattle.std.specs.List.{AllByRecursion}
 use Rattle.std.specs.Result.{result_err}
 use Rattle.disk_model.specs.Disk.{Image, DiskState, DiskView, History, InModel, SameDisk, Leaves, LeavesOnly}
-use Rattle.disk_model.specs.Moments.{started, weakens}
+use Rattle.disk_model.specs.inside.Moments.{started, weakens}
 use Rattle.worksheet.specs.declared.op.Op.{Op}
 use Rattle.worksheet.specs.declared.refusal.Refusal.{Refusal}
 use Rattle.worksheet.specs.Contents.{Contents}
 use Rattle.worksheet.specs.Ops.{sheet_of}
 use Rattle.worksheet.specs.Checks.{Allowed, AllowedFrom, first_refusal}
 use Rattle.worksheet.proofs.Existence.{allowed_goes_on}
-use Rattle.journal.specs.Kept.{Fits, Stands, BeforeOrAfter}
+use Rattle.journal.specs.Kept.{Fits, ImageStandsFor, BeforeOrAfter}
 use Rattle.journal.specs.Area.{StandsFor}
-use Rattle.journal.specs.declared.frame.TheConstants.{MAX_PAYLOAD}
+use Rattle.journal.specs.Limits.{max_payload}
 use Rattle.journal.specs.declared.opening.OpenCause.{OpenCause}
 use Rattle.journal.specs.declared.opening.OpenCause.TheVariants as causes
 use Rattle.journal.specs.Open.{IsPassing}
 use Rattle.journal.proofs.Unique.{given}
 use Rattle.recovery.specs.Code.{code_of, longest_told, IsTyped, IsPayloadOf}
 use Rattle.recovery.specs.Sheets.{codes_of, Makes, IsSheetImage, IsEither}
-use Rattle.recovery.specs.Taken.{RefusesFrom}
+use Rattle.recovery.specs.inside.Taken.{RefusesFrom}
 use Rattle.recovery.specs.declared.base.Base.{Base}
 use Rattle.recovery.specs.declared.base.Base.TheVariants.{Open, Closed}
-use Rattle.recovery.specs.Base.{disk_of, is_closed, KeepsIn, KeepsSheet, IsBaseOf, IsStoreOf}
+use Rattle.recovery.specs.inside.Base.{disk_of, is_closed, KeepsIn, KeepsSheet, IsBaseOf, IsStoreOf}
 use Rattle.recovery.specs.Laws.{OneListOfOps, OneSheet}
 use Rattle.recovery.proofs.Unique.{one_op}
 use Rattle.worksheet.proofs.NextLaws.{same_next}
@@ -48,7 +48,7 @@ on_ok (Err e) x is holds = cc
 -- what fits by a capped length fits
 pub fits_uncapped : (room end n : ℕ) → Fits room end (min n longest_told) → Fits room end n
 fits_uncapped room end n fits =
-    let short : n ≤ MAX_PAYLOAD = omega (arith, fits.0) in
+    let short : n ≤ max_payload = omega (arith, fits.0) in
     (short, omega (arith, fits.1, short))
 
 pub made_in : {D : Type 0} (view : D → DiskView) (b : Option (Base D)) (sheet : Contents) → IsStoreOf view b sheet → (ops : List Op) × Makes ops sheet
@@ -59,7 +59,7 @@ made_in view (Some base) sheet holds = holds.made
 pub all_images : {D : Type 0} (view : D → DiskView) (base : Base D) (sheet : Contents) → KeepsSheet base sheet → Leaves (IsSheetImage sheet) (disk_of view base).history.now
 all_images view (Open journal) sheet kept i image = record {
   ops = kept.ops;
-  stands = subst (λ (l : List ℕ). StandsFor MAX_PAYLOAD l (codes_of kept.ops)) (sym (kept.keeps.durable i image)) kept.keeps.stands;
+  stands = subst (λ (l : List ℕ). StandsFor max_payload l (codes_of kept.ops)) (sym (kept.keeps.durable i image)) kept.keeps.stands;
   makes = kept.makes;
 }
 all_images view (Closed disk) sheet kept i image = absurd kept.keeps
@@ -77,7 +77,7 @@ module _ {D : Type 0} (view : D → DiskView) (base : Base D) (sheet : Contents)
       (λ before. inl (record { ops = kept.ops; stands = before; makes = record { typed = kept.makes.typed; allowed = kept.makes.allowed; is = sym is ∙ kept.makes.is } }))
       (λ behind. inr (record {
         ops = kept.ops ++ o ∷ [];
-        stands = subst (λ (l : List (List ℕ)). Stands i l) (codes_more kept.ops) behind;
+        stands = subst (λ (l : List (List ℕ)). ImageStandsFor i l) (codes_more kept.ops) behind;
         makes = makes_more kept.ops o sheet (sheet_of (ops ++ o ∷ [])) kept.makes own.typed next after;
       }))
       stands.0

@@ -1,19 +1,19 @@
 -- The ops that a store keeps.
 use Rattle.std.proofs.Common.{◌≡◌, inl, inr, ⊎_elim, ℕ, false, List, [], ◌∷◌, ◌++◌, Option, Some, None, sym, ap, ◌∙◌, subst}
 use Rattle.disk_model.specs.Disk.{DiskView, History, InModel, LeavesOnly}
-use Rattle.disk_model.specs.Moments.{started, weakens}
+use Rattle.disk_model.specs.inside.Moments.{started, weakens}
 use Rattle.worksheet.specs.declared.op.Op.{Op}
-use Rattle.worksheet.specs.Contents.{Contents, Held}
+use Rattle.worksheet.specs.Contents.{Contents, SheetView}
 use Rattle.worksheet.specs.Ops.{sheet_of}
 use Rattle.worksheet.specs.Checks.{first_refusal}
 use Rattle.journal.specs.Area.{StandsFor}
-use Rattle.journal.specs.Kept.{Stands, Keeps, BeforeOrAfter}
-use Rattle.journal.specs.declared.frame.TheConstants.{MAX_PAYLOAD}
+use Rattle.journal.specs.Kept.{ImageStandsFor, Keeps, BeforeOrAfter}
+use Rattle.journal.specs.Limits.{max_payload}
 use Rattle.recovery.specs.Code.{IsPayloadOf}
 use Rattle.recovery.specs.Sheets.{StoreView, codes_of, Makes, KeepsOps, SameStore, StandsWithOrWithout}
 use Rattle.recovery.specs.declared.base.Base.{Base}
 use Rattle.recovery.specs.declared.base.Base.TheVariants.{Open, Closed}
-use Rattle.recovery.specs.Base.{disk_of, disk_in, end_in, is_closed, closed_in, KeepsIn, IsStoreOf, store_on}
+use Rattle.recovery.specs.inside.Base.{disk_of, disk_in, end_in, is_closed, is_closed_store, KeepsIn, IsStoreOf, store_on}
 use Rattle.recovery.proofs.Allowed.{makes_more}
 use Rattle.recovery.proofs.Taking.{codes_push}
 
@@ -27,8 +27,8 @@ outside view (Open journal) payloads keeps = keeps
 outside view (Closed disk) payloads keeps = absurd keeps
 
 -- an open store keeps some ops
-pub some_kept : {D : Type 0} (view : D → DiskView) (base : Option (Base D)) (sheet : Held) → IsStoreOf view base sheet.contents
-    → InModel (disk_in view base) (closed_in base ≡ false → (ops : List Op) × KeepsOps (store_on view base sheet) ops)
+pub some_kept : {D : Type 0} (view : D → DiskView) (base : Option (Base D)) (sheet : SheetView) → IsStoreOf view base sheet.contents
+    → InModel (disk_in view base) (is_closed_store base ≡ false → (ops : List Op) × KeepsOps (store_on view base sheet) ops)
 some_kept view None sheet holds model opened = absurd holds
 some_kept view (Some base) sheet holds model opened =
     let kept = holds.kept opened model in
@@ -47,14 +47,14 @@ pub stays_kept : (old new : StoreView) (o : Op) (ops : List Op) → SameStore ol
 stays_kept old new o ops same kept =
     subst (λ (d : DiskView). LeavesOnly (StandsWithOrWithout ops o) old.disk.history d.history) (sym same.disk)
     (started (StandsWithOrWithout ops o) old.disk.history
-    (λ i image. inl (subst (λ (l : List ℕ). StandsFor MAX_PAYLOAD l (codes_of ops)) (sym (kept.keeps.durable i image)) kept.keeps.stands)))
+    (λ i image. inl (subst (λ (l : List ℕ). StandsFor max_payload l (codes_of ops)) (sym (kept.keeps.durable i image)) kept.keeps.stands)))
 
 -- and is none before a run of calls
 pub goes_kept : (old mid : StoreView) (new : History) (o : Op) (ops : List Op) → SameStore old mid → KeepsOps old ops
     → (KeepsOps mid ops → LeavesOnly (StandsWithOrWithout ops o) mid.disk.history new) → LeavesOnly (StandsWithOrWithout ops o) old.disk.history new
 goes_kept old mid new o ops same kept run = subst (λ (d : DiskView). LeavesOnly (StandsWithOrWithout ops o) d.history new) same.disk (run (keeps_still old mid ops same kept))
 
-module _ {D : Type 0} (view : D → DiskView) (base : Base D) (sheet : Held) (o : Op) (payload : List ℕ) (own : IsPayloadOf o payload) where
+module _ {D : Type 0} (view : D → DiskView) (base : Base D) (sheet : SheetView) (o : Op) (payload : List ℕ) (own : IsPayloadOf o payload) where
   codes_more : (ops : List Op) → codes_of ops ++ payload ∷ [] ≡ codes_of (ops ++ o ∷ [])
   codes_more ops = ap (λ (b : List ℕ). codes_of ops ++ b ∷ []) own.is ∙ sym (codes_push ops o)
 
@@ -64,11 +64,11 @@ module _ {D : Type 0} (view : D → DiskView) (base : Base D) (sheet : Held) (o 
       → InModel (disk_of view base) ((ops : List Op) → KeepsOps (store_on view (Some base) sheet) ops → LeavesOnly (StandsWithOrWithout ops o) (disk_of view base).history new)
   payload_moments new each model ops kept =
       weakens (BeforeOrAfter (disk_of view base).history.now (codes_of ops) payload) (StandsWithOrWithout ops o) (disk_of view base).history new
-      (λ i stands. ⊎_elim (λ before. inl before) (λ behind. inr (subst (λ (l : List (List ℕ)). Stands i l) (codes_more ops) behind)) stands.0)
+      (λ i stands. ⊎_elim (λ before. inl before) (λ behind. inr (subst (λ (l : List (List ℕ)). ImageStandsFor i l) (codes_more ops) behind)) stands.0)
       (each model (codes_of ops) (inside view base (codes_of ops) kept.still_open kept.keeps))
 
   -- and at Ok the latter
-  pub keeps_more : (new : Base D) (after : Held) → first_refusal sheet.contents o ≡ None → is_closed new ≡ false
+  pub keeps_more : (new : Base D) (after : SheetView) → first_refusal sheet.contents o ≡ None → is_closed new ≡ false
       → InModel (disk_of view base) ((payloads : List (List ℕ)) → KeepsIn base payloads → KeepsIn new (payloads ++ payload ∷ []))
       → ((ops : List Op) → sheet.contents ≡ sheet_of ops → after.contents ≡ sheet_of (ops ++ o ∷ []))
       → InModel (disk_of view base) ((ops : List Op) → KeepsOps (store_on view (Some base) sheet) ops → KeepsOps (store_on view (Some new) after) (ops ++ o ∷ []))

@@ -8,10 +8,10 @@ use Rattle.journal.specs.declared.walk.Payload.{Payload}
 use Rattle.journal.specs.declared.opening.OpenCause.{OpenCause}
 use Rattle.journal.specs.declared.opening.OpenCause.TheVariants as causes
 use Rattle.journal.specs.Area.{record_of, records, end_of}
-use Rattle.journal.specs.Walk.{payloads_in, AreGates}
+use Rattle.journal.specs.Payloads.{payloads_in, AreGates}
 use Rattle.recovery.specs.Code.{code_of}
 use Rattle.recovery.specs.Sheets.{codes_of, Makes}
-use Rattle.recovery.specs.Taken.{Takes, Refuses, RefusesFrom}
+use Rattle.recovery.specs.inside.Taken.{TakesOps, Refuses, RefusesFrom}
 
 -- the first i payloads were taken
 pub record Reached (ps : List Payload) (i : ℕ) (sheet : Contents) : Type 0 where
@@ -51,7 +51,7 @@ end_push os o =
 pub nothing_reached : (ps : List Payload) (sheet : Contents) → Makes [] sheet → Reached ps 0 sheet
 nothing_reached ps sheet makes = record { ops = []; is = refl; makes = makes; gates = λ gates. gates }
 
-pub reached_more : (ps : List Payload) (i : ℕ) (d : Payload) (before after : Contents) → i < length ps → (far : Reached ps i before) → Takes far.ops (get_or ps i d).bytes after → Reached ps (suc i) after
+pub reached_more : (ps : List Payload) (i : ℕ) (d : Payload) (before after : Contents) → i < length ps → (far : Reached ps i before) → TakesOps far.ops (get_or ps i d).bytes after → Reached ps (suc i) after
 reached_more ps i d before after lt far takes = record {
   ops = far.ops ++ takes.next ∷ [];
   is = payloads_more ps i d lt ∙ ap (λ (l : List (List ℕ)). l ++ (get_or ps i d).bytes ∷ []) far.is ∙ ap (λ (b : List ℕ). codes_of far.ops ++ b ∷ []) takes.is ∙ sym (codes_push far.ops takes.next);

@@ -7,7 +7,7 @@ use Rattle.worksheet.specs.declared.op.Op.{Op}
 use Rattle.worksheet.specs.declared.op.Op.TheVariants as op
 use Rattle.recovery.specs.Code.{kind_of, parts_of, IsPayloadOf}
 use Rattle.recovery.specs.Laws.{OneOp}
-use Rattle.recovery.specs.Reading.{session_at, new_at, set_at, remove_at, move_at, clear_at}
+use Rattle.recovery.specs.inside.Reading.{session_at, new_at, set_at, remove_at, move_at, clear_at}
 use Rattle.recovery.proofs.Again.{IsReader, some_is, session_again, new_again, set_again, remove_again, move_again, clear_again, asked_again, answer_in, same_answer}
 
 tail_is : (x y : ℕ) (xs ys : List ℕ) → x ∷ xs ≡ y ∷ ys → (x ≡ y) × (xs ≡ ys)

@@ -2,7 +2,7 @@
 use Rattle.std.proofs.Common.{◌≡◌, ℕ, zero, suc, ◌-◌, ◌+◌, ◌≤◌, ◌<◌, List, [], ◌∷◌, ◌++◌, length, get_or, Option, Some, None, refl, sym, ap, ◌∙◌, append_assoc, append-nil, arith}
 use Rattle.std.specs.List.{AllByRecursion}
 use Rattle.recovery.specs.Code.{IsLong}
-use Rattle.recovery.specs.Reading.{◌>>=◌, long_at, words_at}
+use Rattle.recovery.specs.inside.Reading.{◌>>=◌, long_at, words_at}
 
 -- what was read before, and what is still read
 abbrev pub with_front : List (List ℕ) → Option (List (List ℕ)) → Option (List (List ℕ))

@@ -12,7 +12,7 @@ use Rattle.worksheet.specs.Ops.{sheet_of}
 use Rattle.worksheet.specs.Checks.{Allowed, first_refusal}
 use Rattle.worksheet.specs.Contents.{Contents}
 use Rattle.disk_model.specs.Disk.{Image}
-use Rattle.journal.specs.Kept.{Stands}
+use Rattle.journal.specs.Kept.{ImageStandsFor}
 use Rattle.recovery.specs.Code.{code_of, HasCode, IsPayloadOf}
 use Rattle.recovery.specs.Sheets.{codes_of, Makes, IsSheetImage}
 
@@ -26,7 +26,7 @@ AllowedHaveCode = (os : List Op) (o : Op) → Allowed os → first_refusal (shee
 
 -- an image stands for the payloads of one list of allowed ops at most
 abbrev pub OneListOfOps : Type 0
-OneListOfOps = (a b : List Op) (s t : Contents) (i : Image) → Makes a s → Makes b t → Stands i (codes_of a) → Stands i (codes_of b) → a ≡ b
+OneListOfOps = (a b : List Op) (s t : Contents) (i : Image) → Makes a s → Makes b t → ImageStandsFor i (codes_of a) → ImageStandsFor i (codes_of b) → a ≡ b
 
 -- and is that of one worksheet at most
 abbrev pub OneSheet : Type 0

@@ -1,9 +1,6 @@
 pub mod Code
-pub mod Reading
 pub mod Laws
 pub mod Sheets
-pub mod Codes
-pub mod Taken
-pub mod Base
 pub mod Opened
 pub mod Committed
+pub mod inside

@@ -3,11 +3,11 @@ use Rattle.std.specs.Prelude.{◌≡◌, ◌⊎◌, ℕ, Bool, true, false, List
 use Rattle.std.specs.List.{AllByRecursion}
 use Rattle.disk_model.specs.Disk.{DiskView, Image}
 use Rattle.worksheet.specs.declared.op.Op.{Op}
-use Rattle.worksheet.specs.Contents.{Contents, Held}
+use Rattle.worksheet.specs.Contents.{Contents, SheetView}
 use Rattle.worksheet.specs.Ops.{sheet_of}
 use Rattle.worksheet.specs.Checks.{Allowed, first_refusal, room_for}
 use Rattle.journal.specs.Area.{end_of}
-use Rattle.journal.specs.Kept.{Stands, Keeps, Fits}
+use Rattle.journal.specs.Kept.{ImageStandsFor, Keeps, Fits}
 use Rattle.journal.specs.Open.{Tells}
 use Rattle.journal.specs.declared.opening.OpenCause.{OpenCause}
 use Rattle.journal.specs.declared.opening.OpenCause.TheVariants as causes
@@ -26,12 +26,12 @@ pub record Makes (ops : List Op) (sheet : Contents) : Type 0 where
 -- an image of the sheet: it stands for the payloads of ops that make it
 pub record IsSheetImage (sheet : Contents) (i : Image) : Type 0 where
   pub ops : List Op
-  pub stands : Stands i (codes_of ops)
+  pub stands : ImageStandsFor i (codes_of ops)
   pub makes : Makes ops sheet
 
 -- the image stands for the payloads of these ops, or for these and the payload of one op more
 abbrev pub StandsWithOrWithout : List Op → Op → Image → Type 0
-StandsWithOrWithout ops o i = Stands i (codes_of ops) ⊎ Stands i (codes_of (ops ++ o ∷ []))
+StandsWithOrWithout ops o i = ImageStandsFor i (codes_of ops) ⊎ ImageStandsFor i (codes_of (ops ++ o ∷ []))
 
 -- an image of the sheet of these ops, or of the sheet with one op more
 abbrev pub IsEither : List Op → Op → Image → Type 0
@@ -49,7 +49,7 @@ pub record IsRefusedAt (payloads : List (List ℕ)) (gate : ℕ) : Type 0 where
 
 -- What a cause says of a disk. Damage is that of the walk, or where the gates are whole the first payload that is refused.
 abbrev pub TellsOfSheet : Image → OpenCause → Type 0
-TellsOfSheet i (causes.Damaged gate) = Tells i (causes.Damaged gate) ⊎ ((payloads : List (List ℕ)) × Stands i payloads × IsRefusedAt payloads gate)
+TellsOfSheet i (causes.Damaged gate) = Tells i (causes.Damaged gate) ⊎ ((payloads : List (List ℕ)) × ImageStandsFor i payloads × IsRefusedAt payloads gate)
 TellsOfSheet i causes.NotASheet = Tells i causes.NotASheet
 TellsOfSheet i causes.Disk = Unit {0}
 TellsOfSheet i causes.OutOfMemory = Unit {0}
@@ -59,7 +59,7 @@ TellsOfSheet i causes.OutOfMemory = Unit {0}
 pub record StoreView : Type 0 where
   pub disk : DiskView
   pub end : ℕ
-  pub sheet : Held
+  pub sheet : SheetView
   pub closed : Bool
 
 -- The store isn't closed, and keeps these ops: its disk stands for their payloads, which are durable, its end is the gate

@@ -14,7 +14,7 @@ pub(crate) enum Base<D: Disk> {
 }
 
 impl<D: Disk> Base<D> {
-    ghost use Rattle.recovery.specs.Base.{disk_of, end_in, is_closed, HasPlaceIn, KeepsIn};
+    ghost use Rattle.recovery.specs.inside.Base.{disk_of, end_in, is_closed, HasPlaceIn, KeepsIn};
 
     /// Adds a payload for which there is a place. A failure of the disk closes it.
     pub(crate) fn with(self, frame: &Frame) -> (Base<D>, Result<(), DiskFault>)

@@ -1,9 +1,9 @@
 // The worksheet of payloads.
 ghost use Rattle.std.specs.Prelude.{◌≡◌, List, IfOk, IfErr, OnOk, IsErrOf};
 ghost use Rattle.worksheet.specs.declared.op.Op.{Op};
-ghost use Rattle.journal.specs.Walk.{payloads_in, AreGates};
+ghost use Rattle.journal.specs.Payloads.{payloads_in, AreGates};
 ghost use Rattle.recovery.specs.Sheets.{codes_of, Makes};
-ghost use Rattle.recovery.specs.Taken.{Takes, Refuses, RefusesFrom};
+ghost use Rattle.recovery.specs.inside.Taken.{TakesOps, Refuses, RefusesFrom};
 
 use crate::reading::{DecodeFault, decode};
 use journal::{OpenCause, Payload};
@@ -12,7 +12,7 @@ use worksheet::Sheet;
 
 // Does what a payload says.
 fn take(alloc: Global, sheet: &mut Sheet, payload: &Payload) -> Result<(), OpenCause>
-    ensures taken { (ops : List Op) → Makes ops sheet.old.contents → OnOk result (Takes ops payload.now.bytes sheet.new.contents) }
+    ensures taken { (ops : List Op) → Makes ops sheet.old.contents → OnOk result (TakesOps ops payload.now.bytes sheet.new.contents) }
     ensures refused { (ops : List Op) → Makes ops sheet.old.contents → IfErr result (Refuses ops payload.now) }
     ensures passing { IsErrOf result OpenCause.Disk → ⊥ }
 {

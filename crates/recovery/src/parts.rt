@@ -2,14 +2,14 @@
 ghost use Rattle.std.specs.Prelude.{◌≡◌, length, IfSome, IfOk};
 ghost use Rattle.std.specs.List.{AllByRecursion};
 ghost use Rattle.recovery.specs.Code.{IsShort, IsLong};
-ghost use Rattle.recovery.specs.Reading.{Reads, ReadsOrFails, front_at, number_at, short_at, long_at, words_at};
+ghost use Rattle.recovery.specs.inside.Reading.{ReadsPart, ReadsOrFails, front_at, number_at, short_at, long_at, words_at};
 
 use crate::DecodeFault;
 use block_tree::{Octets, Sequence};
 use std::alloc::Global;
 
 fn front_of(len: usize, bytes: &[u8]) -> Option<(&[u8], &[u8])>
-    ensures { Reads (λ x. (x.0.now, x.1.now)) result (front_at len bytes.now) }
+    ensures { ReadsPart (λ x. (x.0.now, x.1.now)) result (front_at len bytes.now) }
 {
     if bytes.len() < len {
         return None;
@@ -20,7 +20,7 @@ fn front_of(len: usize, bytes: &[u8]) -> Option<(&[u8], &[u8])>
 /// A number, and what stands behind it.
 #[tactic(auto, unfolding(crate::specs::Reading::number_at))]
 pub(crate) fn number_of(bytes: &[u8]) -> Option<(u32, &[u8])>
-    ensures { Reads (λ x. (x.0, x.1.now)) result (number_at bytes.now) }
+    ensures { ReadsPart (λ x. (x.0, x.1.now)) result (number_at bytes.now) }
 {
     let (front, rest) = front_of(4, bytes)?;
     let number = u32::from_be_bytes([front[0], front[1], front[2], front[3]]);
@@ -30,7 +30,7 @@ pub(crate) fn number_of(bytes: &[u8]) -> Option<(u32, &[u8])>
 /// Bytes behind a length of one byte, and what stands behind them.
 #[tactic(auto, unfolding(crate::specs::Reading::short_at))]
 pub(crate) fn short_of(bytes: &[u8]) -> Option<(&[u8], &[u8])>
-    ensures read { Reads (λ x. (x.0.now, x.1.now)) result (short_at bytes.now) }
+    ensures read { ReadsPart (λ x. (x.0.now, x.1.now)) result (short_at bytes.now) }
     ensures short { IfSome result (λ x. IsShort x.0.now) }
 {
     let [len, rest @ ..] = bytes else {
@@ -42,7 +42,7 @@ pub(crate) fn short_of(bytes: &[u8]) -> Option<(&[u8], &[u8])>
 /// Bytes behind a length of two bytes, and what stands behind them.
 #[tactic(auto, unfolding(crate::specs::Reading::long_at))]
 pub(crate) fn long_of(bytes: &[u8]) -> Option<(&[u8], &[u8])>
-    ensures read { Reads (λ x. (x.0.now, x.1.now)) result (long_at bytes.now) }
+    ensures read { ReadsPart (λ x. (x.0.now, x.1.now)) result (long_at bytes.now) }
     ensures long { IfSome result (λ x. IsLong x.0.now) }
 {
     let (len, rest) = front_of(2, bytes)?;

@@ -3,7 +3,7 @@ ghost use Rattle.std.specs.Prelude.{◌≡◌, ◌∷◌, IfOk, IsErrOf};
 ghost use Rattle.worksheet.specs.declared.op.Op.{Op};
 ghost use Rattle.recovery.specs.declared.reading.DecodeFault.TheVariants.{OutOfMemory};
 ghost use Rattle.recovery.specs.Code.{HasCode, IsLong, IsPayloadOf};
-ghost use Rattle.recovery.specs.Reading.{ReadsOrFails, Finds, session_at, new_at, set_at, remove_at, move_at, clear_at, asked_at};
+ghost use Rattle.recovery.specs.inside.Reading.{ReadsOrFails, FindsOp, session_at, new_at, set_at, remove_at, move_at, clear_at, asked_at};
 
 use crate::parts::{long_of, number_of, short_of, words_of};
 use crate::writing::encode;
@@ -120,7 +120,7 @@ fn asked_of(bytes: &[u8]) -> Result<(u32, &[u8], &[u8]), DecodeFault>
 }
 
 fn answer_of(alloc: Global, bytes: &[u8]) -> Result<Op, DecodeFault>
-    ensures read { (o : Op) → IsPayloadOf o (7 ∷ bytes.now) → Finds o result }
+    ensures read { (o : Op) → IsPayloadOf o (7 ∷ bytes.now) → FindsOp o result }
     ensures fits { IfOk result HasCode }
 {
     let (id, prompt, rest) = asked_of(bytes)?;
@@ -134,7 +134,7 @@ fn answer_of(alloc: Global, bytes: &[u8]) -> Result<Op, DecodeFault>
 
 // The op whose payload begins so, where one does. The bytes need not be its payload.
 fn op_of(alloc: Global, bytes: &[u8]) -> Result<Op, DecodeFault>
-    ensures read { (o : Op) → IsPayloadOf o bytes.now → Finds o result }
+    ensures read { (o : Op) → IsPayloadOf o bytes.now → FindsOp o result }
     ensures fits { IfOk result HasCode }
 {
     let [kind, rest @ ..] = bytes else {

@@ -1,6 +1,6 @@
 //! A worksheet on a disk.
 ghost use Rattle.std.specs.Prelude.{◌≡◌, ◌+◌, ◌++◌, ◌∷◌, ◌↔◌, [], List, length, false, true, None, IfOk, IfErr, OnOk, OnErr, IsErrOf, IsTrue};
-ghost use Rattle.disk_model.specs.Disk.{InModel, Image, Leaves, LeavesOnly, Looks, SameDisk, Rises, content_of};
+ghost use Rattle.disk_model.specs.Disk.{InModel, Image, Leaves, LeavesOnly, Looks, SameDisk, Rises, bytes_on};
 ghost use Rattle.worksheet.specs.declared.op.Op.{Op};
 ghost use Rattle.worksheet.specs.Contents.{Contents};
 ghost use Rattle.worksheet.specs.Ops.{sheet_of};
@@ -34,15 +34,15 @@ pub struct Store<D: Disk> {
 
 impl<D: Disk> Model for Store<D> {
     ghost use Rattle.recovery.specs.Sheets.{StoreView};
-    ghost use Rattle.recovery.specs.Codes.{coded_store};
+    ghost use Rattle.recovery.specs.inside.Codes.{coded_store};
 
     ghost Value = { StoreView };
 
     ghost coded = { coded_store };
 
-    ghost use Rattle.recovery.specs.Base.{disk_in, end_of_base, closed_in, IsStoreOf};
+    ghost use Rattle.recovery.specs.inside.Base.{store_on, IsStoreOf};
 
-    ghost view = { λ s. record { disk = disk_in D.view s.base; end = end_of_base s.base; sheet = s.sheet; closed = closed_in s.base } };
+    ghost view = { λ s. store_on D.view s.base s.sheet };
 
     ghost invariant = { λ s. IsStoreOf D.view s.base s.sheet.contents };
 }
@@ -62,10 +62,10 @@ impl<D: Disk> Store<D> {
         // Whether the disk keeps the model or not, the worksheet is made by allowed ops.
         ensures made { IfOk result (λ store. (ops : List Op) × Makes ops store.sheet.contents) }
 
-        ensures sheet { InModel (D.view disk) (IfOk result (λ store. IsSheetImage store.sheet.contents (content_of (D.view disk).history))) }
-        ensures exact { InModel (D.view disk) ((sheet : Contents) → IsSheetImage sheet (content_of (D.view disk).history) → GivesSheet sheet result) }
+        ensures sheet { InModel (D.view disk) (IfOk result (λ store. IsSheetImage store.sheet.contents (bytes_on (D.view disk)))) }
+        ensures exact { InModel (D.view disk) ((sheet : Contents) → IsSheetImage sheet (bytes_on (D.view disk)) → GivesSheet sheet result) }
         ensures kept { InModel (D.view disk) (IfOk result (λ store. (ops : List Op) × KeepsOps store ops)) }
-        ensures fault { InModel (D.view disk) (IfErr result (λ e. TellsOfSheet (content_of (D.view disk).history) e.cause)) }
+        ensures fault { InModel (D.view disk) (IfErr result (λ e. TellsOfSheet (bytes_on (D.view disk)) e.cause)) }
 
         // It changes no byte, and at every moment each image is one that a crash could leave at the start.
         ensures looks { InModel (D.view disk) (Looks (D.view disk).history (disk_left D.view result).history) }

@@ -4,7 +4,7 @@ use Rattle.std.proofs.Common.{◌≡◌, ℕ, Bool, true, false, cond, List, [],
 use Rattle.std.proofs.lemmas.List.{take_more, take_all}
 use Rattle.std.proofs.lemmas.Grind.{flat_map-append}
 use Rattle.std.specs.Io.KnownBytes.{Appends}
-use Rattle.block_tree.specs.Tree.{Items, Piece, text_piece, block_piece, items_of, put}
+use Rattle.block_tree.specs.Tree.{Items, Piece, text_piece, block_piece, items_from, put}
 use Rattle.block_tree.specs.View.{piece_of, tree_of, piece_text, piece_block, tree_out}
 use Rattle.block_tree.specs.declared.tree.Item.{Item}
 use Rattle.block_tree.specs.declared.tree.Node.{Node, out-Node}
@@ -29,13 +29,13 @@ put_block_text : (p : Piece) (rest : Items) → items_block_text (put p rest) �
 put_block_text (text_piece t) rest = refl
 put_block_text (block_piece b) rest = refl
 
-items_tree_flat : (xs : List Item) → items_tree_text (items_of (map piece_of xs)) ≡ flat_map (λ x. piece_tree_text (piece_of x)) xs
+items_tree_flat : (xs : List Item) → items_tree_text (items_from (map piece_of xs)) ≡ flat_map (λ x. piece_tree_text (piece_of x)) xs
 items_tree_flat [] = refl
-items_tree_flat (x ∷ xs) = put_tree_text (piece_of x) (items_of (map piece_of xs)) ∙ ap (λ r. piece_tree_text (piece_of x) ++ r) (items_tree_flat xs)
+items_tree_flat (x ∷ xs) = put_tree_text (piece_of x) (items_from (map piece_of xs)) ∙ ap (λ r. piece_tree_text (piece_of x) ++ r) (items_tree_flat xs)
 
-items_block_flat : (xs : List Item) → items_block_text (items_of (map piece_of xs)) ≡ flat_map (λ x. piece_block_text (piece_of x)) xs
+items_block_flat : (xs : List Item) → items_block_text (items_from (map piece_of xs)) ≡ flat_map (λ x. piece_block_text (piece_of x)) xs
 items_block_flat [] = refl
-items_block_flat (x ∷ xs) = put_block_text (piece_of x) (items_of (map piece_of xs)) ∙ ap (λ r. piece_block_text (piece_of x) ++ r) (items_block_flat xs)
+items_block_flat (x ∷ xs) = put_block_text (piece_of x) (items_from (map piece_of xs)) ∙ ap (λ r. piece_block_text (piece_of x) ++ r) (items_block_flat xs)
 
 pub tree_text_out : (n : Node) → tree_text (tree_of n) ≡ framed (out-Node n).tag.channel (out-Node n).tag.name (flat_map (λ x. piece_tree_text (piece_of x)) (out-Node n).items.items)
 tree_text_out n = ap tree_text (tree_out n) ∙ ap (framed (out-Node n).tag.channel (out-Node n).tag.name) (items_tree_flat (out-Node n).items.items)

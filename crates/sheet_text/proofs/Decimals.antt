@@ -8,7 +8,7 @@ use Rattle.std.proofs.lemmas.Bool.{false≢true}
 use Rattle.std.proofs.lemmas.Bool.Decides.{nat_tests}
 use Rattle.std.proofs.lemmas.Fmt.{decimal-digits_value, decimal_is_IsNumeral, length-decimal-le, first_decimal, decimal_digit}
 use Rattle.std.proofs.lemmas.Str.Parse.{numerals_by_value, tells_digits, digit_from_value}
-use Rattle.sheet_text.specs.Script.{greatest_number, most_digits, is_digit, is_numeral, number_of, starts_with_zero}
+use Rattle.sheet_text.specs.Script.{greatest_number, most_digits, is_digit, is_numeral, number_written, starts_with_zero}
 use Rattle.sheet_text.proofs.Numerals.{are_digits}
 
 all_four : (a b c d : Bool) → (a && b && c && d) ≡ true → (a ≡ true) × (b ≡ true) × (c ≡ true) × (d ≡ true)
@@ -28,7 +28,7 @@ lead_alone (c ∷ cs) some h e =
 none_some : (n : ℕ) → None ≡ Some n → ⊥
 none_some n h = false≢true (ap is_some h)
 
-pub number_is_decimal : (bytes : List ℕ) (n : ℕ) → number_of bytes ≡ Some n → (n ≤ greatest_number) × (bytes ≡ decimal n)
+pub number_is_decimal : (bytes : List ℕ) (n : ℕ) → number_written bytes ≡ Some n → (n ≤ greatest_number) × (bytes ≡ decimal n)
 number_is_decimal bytes n h = go (is_numeral bytes) (nat_le v greatest_number) refl h (λ small. grind (arith, nat_tests))
   where
     v : ℕ
@@ -58,7 +58,7 @@ no_zero_first : (bytes : List ℕ) → 48 < get_or bytes 0 0 → starts_with_zer
 no_zero_first [] h = refl
 no_zero_first (c ∷ cs) h = grind (arith, nat_tests)
 
-pub decimal_is_number : (n : ℕ) → n ≤ greatest_number → number_of (decimal n) ≡ Some n
+pub decimal_is_number : (n : ℕ) → n ≤ greatest_number → number_written (decimal n) ≡ Some n
 decimal_is_number n h =
     let k = decimal_is_IsNumeral n (omega (arith, h)) in
     let few = length-decimal-le 10 n (omega arith) (omega (arith, h)) (omega (arith, h)) in
@@ -71,5 +71,5 @@ decimal_is_number n h =
     lead zero h = rw (decimal_digit 0 (omega arith)) refl
     lead (suc m) h = rw (no_zero_first (decimal (suc m)) (first_decimal (suc m) (omega arith) (omega (arith, h)))) refl
 
-pub numbers_decimals : (bytes : List ℕ) (n : ℕ) → (number_of bytes ≡ Some n) ↔ ((n ≤ greatest_number) × (bytes ≡ decimal n))
-numbers_decimals bytes n = (number_is_decimal bytes n, λ p. ap number_of p.1 ∙ decimal_is_number n p.0)
+pub numbers_decimals : (bytes : List ℕ) (n : ℕ) → (number_written bytes ≡ Some n) ↔ ((n ≤ greatest_number) × (bytes ≡ decimal n))
+numbers_decimals bytes n = (number_is_decimal bytes n, λ p. ap number_written p.1 ∙ decimal_is_number n p.0)

@@ -23,9 +23,9 @@ abbrev pub behind_space : List ℕ → Option (List ℕ)
 behind_space bytes = option_map (λ at. drop (at + 1) bytes) (position is_space bytes)
 
 -- a text is all that follows its space, and empty where the space is missing
-abbrev pub text_of : Option (List ℕ) → List ℕ
-text_of None = []
-text_of (Some bytes) = bytes
+abbrev pub text_given : Option (List ℕ) → List ℕ
+text_given None = []
+text_given (Some bytes) = bytes
 
 -- words are split at each space, and there is none where the space in front of them is missing
 abbrev pub words_of : Option (List ℕ) → List (List ℕ)
@@ -53,8 +53,8 @@ abbrev pub is_numeral : List ℕ → Bool
 is_numeral bytes = nat_le 1 (length bytes) && nat_le (length bytes) most_digits && list_all is_digit bytes && (not (starts_with_zero bytes) || (length bytes == 1))
 
 -- the number that these bytes write, where it is at most 4,294,967,295
-abbrev pub number_of : List ℕ → Option ℕ
-number_of bytes = if is_numeral bytes && nat_le (digits_value 10 bytes) greatest_number then Some (digits_value 10 bytes) else None
+abbrev pub number_written : List ℕ → Option ℕ
+number_written bytes = if is_numeral bytes && nat_le (digits_value 10 bytes) greatest_number then Some (digits_value 10 bytes) else None
 
 -- Commands: what stands behind the space after the name of one.
 
@@ -67,37 +67,37 @@ session_with name None words = None
 session_with name (Some tab) words = Some (command.Session name tab words)
 
 -- FLAG WORDS
-abbrev pub session_named : List ℕ → Option (List ℕ) → Option Command
-session_named name None = None
-session_named name (Some rest) = session_with name (flag_of (before_space rest)) (words_of (behind_space rest))
+abbrev pub session_flagged : List ℕ → Option (List ℕ) → Option Command
+session_flagged name None = None
+session_flagged name (Some rest) = session_with name (flag_of (before_space rest)) (words_of (behind_space rest))
 
 -- NAME FLAG WORDS
 abbrev pub session_of : List ℕ → Option Command
-session_of rest = session_named (before_space rest) (behind_space rest)
+session_of rest = session_flagged (before_space rest) (behind_space rest)
 
 -- NAME TEXT
 abbrev pub new_behind : Option ℕ → Option (List ℕ) → Option Command
 new_behind None rest = None
 new_behind (Some after) None = None
-new_behind (Some after) (Some rest) = Some (command.New after (before_space rest) (text_of (behind_space rest)))
+new_behind (Some after) (Some rest) = Some (command.New after (before_space rest) (text_given (behind_space rest)))
 
 -- AFTER NAME TEXT
 abbrev pub new_of : List ℕ → Option Command
-new_of rest = new_behind (number_of (before_space rest)) (behind_space rest)
+new_of rest = new_behind (number_written (before_space rest)) (behind_space rest)
 
 -- ID TEXT
 abbrev pub set_of : List ℕ → Option Command
-set_of rest = option_map (λ id. command.Set id (text_of (behind_space rest))) (number_of (before_space rest))
+set_of rest = option_map (λ id. command.Set id (text_given (behind_space rest))) (number_written (before_space rest))
 
 -- AFTER
 abbrev pub move_behind : Option ℕ → Option (List ℕ) → Option Command
 move_behind None rest = None
 move_behind (Some id) None = None
-move_behind (Some id) (Some rest) = option_map (λ after. command.Move id after) (number_of rest)
+move_behind (Some id) (Some rest) = option_map (λ after. command.Move id after) (number_written rest)
 
 -- ID AFTER
 abbrev pub move_of : List ℕ → Option Command
-move_of rest = move_behind (number_of (before_space rest)) (behind_space rest)
+move_of rest = move_behind (number_written (before_space rest)) (behind_space rest)
 
 -- the command of this name, with what stands behind the space after the name
 abbrev pub command_of : List ℕ → List ℕ → Option Command
@@ -105,10 +105,10 @@ command_of name rest =
     if bytes_eq name (codes "session") then session_of rest
     else if bytes_eq name (codes "new") then new_of rest
     else if bytes_eq name (codes "set") then set_of rest
-    else if bytes_eq name (codes "remove") then option_map (λ id. command.Remove id) (number_of rest)
+    else if bytes_eq name (codes "remove") then option_map (λ id. command.Remove id) (number_written rest)
     else if bytes_eq name (codes "move") then move_of rest
-    else if bytes_eq name (codes "clear") then option_map (λ id. command.Clear id) (number_of rest)
-    else if bytes_eq name (codes "eval") then option_map (λ id. command.Eval id) (number_of rest)
+    else if bytes_eq name (codes "clear") then option_map (λ id. command.Clear id) (number_written rest)
+    else if bytes_eq name (codes "eval") then option_map (λ id. command.Eval id) (number_written rest)
     else if bytes_eq name (codes "stop") then Some (command.Stop rest)
     else None
 
@@ -138,8 +138,11 @@ abbrev pub keeps_bytes : Command → Bool
 keeps_bytes (command.Session name tab words) = true
 keeps_bytes (command.New after session input) = true
 keeps_bytes (command.Set id input) = true
+keeps_bytes (command.Remove id) = false
+keeps_bytes (command.Move id after) = false
+keeps_bytes (command.Clear id) = false
+keeps_bytes (command.Eval id) = false
 keeps_bytes (command.Stop name) = true
-keeps_bytes _ = false
 
 abbrev pub wants_memory_for : Option Command → Bool
 wants_memory_for None = false

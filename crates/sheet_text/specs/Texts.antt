@@ -3,7 +3,7 @@ use Rattle.std.specs.Prelude.{ℕ, ◌==◌, Bool, false, List, [], ◌∷◌, �
 use Rattle.std.specs.Fmt.{decimal}
 use Rattle.std.specs.List.{flat_map, last_or}
 use Rattle.worksheet.specs.Contents.{Contents}
-use Rattle.worksheet.specs.Refusals.{number_of, name_of}
+use Rattle.worksheet.specs.Refusals.{refusal_number, refusal_name}
 use Rattle.worksheet.specs.declared.field.Answer.{Answer}
 use Rattle.worksheet.specs.declared.field.Field.{Field}
 use Rattle.worksheet.specs.declared.refusal.Refusal.{Refusal}
@@ -14,7 +14,7 @@ use Rattle.sheet_text.specs.Blocks.{block_text}
 
 -- 'refused', the number and the name
 abbrev pub refused_line : Refusal → List ℕ
-refused_line refusal = codes "refused " ++ decimal (number_of refusal) ++ codes " " ++ name_of refusal ++ 10 ∷ []
+refused_line refusal = codes "refused " ++ decimal (refusal_number refusal) ++ codes " " ++ refusal_name refusal ++ 10 ∷ []
 
 -- the line of a reply
 abbrev pub reply_text : Reply → List ℕ
@@ -27,13 +27,13 @@ abbrev pub number_line : Field → List ℕ
 number_line field = codes "#" ++ decimal field.id ++ codes " " ++ field.session ++ 10 ∷ []
 
 -- the prompt of the answer, or `> ` where there is none
-abbrev pub prompt_of : Option Answer → List ℕ
-prompt_of None = codes "> "
-prompt_of (Some answer) = answer.prompt
+abbrev pub prompt_shown : Option Answer → List ℕ
+prompt_shown None = codes "> "
+prompt_shown (Some answer) = answer.prompt
 
 -- the prompt and the input
 abbrev pub input_line : Field → List ℕ
-input_line field = on_line (prompt_of field.answer) ++ on_line field.input ++ 10 ∷ []
+input_line field = on_line (prompt_shown field.answer) ++ on_line field.input ++ 10 ∷ []
 
 abbrev pub is_line_feed : Option ℕ → Bool
 is_line_feed None = false

@@ -42,7 +42,7 @@ fn copied(alloc: Global, bytes: &[u8]) -> Result<Octets, LineFault>
 
 /// A copy of the text behind a space, which may be missing.
 fn text(alloc: Global, rest: Option<&[u8]>) -> Result<Octets, LineFault>
-    ensures ok { IfOk result (λ copy. copy ≡ said.text_of (option_copied rest.entry)) }
+    ensures ok { IfOk result (λ copy. copy ≡ said.text_given (option_copied rest.entry)) }
     ensures good { IsErrOf result fault.BadLine → ⊥ }
 {
     match rest {
@@ -63,8 +63,8 @@ fn words(alloc: Global, rest: Option<&[u8]>) -> Result<Sequence<Octets>, LineFau
 }
 
 fn number(bytes: &[u8]) -> Result<u32, LineFault>
-    ensures ok { IfOk result (λ n. said.number_of bytes.now ≡ Some n) }
-    ensures bad { IsErrOf result fault.BadLine → said.number_of bytes.now ≡ None }
+    ensures ok { IfOk result (λ n. said.number_written bytes.now ≡ Some n) }
+    ensures bad { IsErrOf result fault.BadLine → said.number_written bytes.now ≡ None }
     ensures held { IsErrOf result fault.OutOfMemory → ⊥ }
 {
     match read_number(bytes) {

@@ -44,7 +44,7 @@ fn write_number<W: Write>(field: &Field, out: &mut W) -> Result<(), WriteFault>
 
 /// Writes the prompt of an answer, or `> ` where there is none.
 fn write_prompt<W: Write>(answer: &Option<Answer>, out: &mut W) -> Result<(), WriteFault>
-    ensures { OnOk result (Appends (W.contents out.old) (W.contents out.new) (on_line (printed.prompt_of answer.now))) }
+    ensures { OnOk result (Appends (W.contents out.old) (W.contents out.new) (on_line (printed.prompt_shown answer.now))) }
 {
     match answer {
         None => write_line(b"> ", out),

@@ -10,7 +10,7 @@ use Rattle.worksheet.specs.declared.field.Session.{Session}
 use Rattle.worksheet.specs.Names.{is_name}
 use Rattle.worksheet.specs.Contents.{Contents}
 use Rattle.worksheet.specs.Ops.{sheet_of, sessions_of}
-use Rattle.worksheet.specs.Edits.{IsSound, edited}
+use Rattle.worksheet.specs.Edits.{HasNumbersApart, edited}
 use Rattle.worksheet.specs.Checks.{Allowed, AllowedFrom, first_refusal, refusals, session_named}
 use Rattle.worksheet.specs.Laws.{IsNamed}
 use Rattle.worksheet.proofs.Finds.{none_applies, true_from_not}
@@ -48,13 +48,13 @@ all_named before (o ∷ os) names allowed =
     subst (λ (qs : List Op). AllByRecursion IsNamed (sessions_of qs)) (append_assoc before (o ∷ []) os) (all_named (before ++ o ∷ []) os more allowed.1)
 
 -- the worksheet of allowed ops is sound
-all_sound : (before os : List Op) → IsSound (sheet_of before) → AllowedFrom before os → IsSound (sheet_of (before ++ os))
-all_sound before [] sound allowed = subst (λ (os : List Op). IsSound (sheet_of os)) (sym (append-nil before)) sound
+all_sound : (before os : List Op) → HasNumbersApart (sheet_of before) → AllowedFrom before os → HasNumbersApart (sheet_of (before ++ os))
+all_sound before [] sound allowed = subst (λ (os : List Op). HasNumbersApart (sheet_of os)) (sym (append-nil before)) sound
 all_sound before (o ∷ os) sound allowed =
-    let more : IsSound (sheet_of (before ++ o ∷ [])) = subst (λ (s : Contents). IsSound s) (sym (sheet_of-push before o sound allowed.0)) (IsSound-edited (sheet_of before) o sound) in
-    subst (λ (qs : List Op). IsSound (sheet_of qs)) (append_assoc before (o ∷ []) os) (all_sound (before ++ o ∷ []) os more allowed.1)
+    let more : HasNumbersApart (sheet_of (before ++ o ∷ [])) = subst (λ (s : Contents). HasNumbersApart s) (sym (sheet_of-push before o sound allowed.0)) (IsSound-edited (sheet_of before) o sound) in
+    subst (λ (qs : List Op). HasNumbersApart (sheet_of qs)) (append_assoc before (o ∷ []) os) (all_sound (before ++ o ∷ []) os more allowed.1)
 
-pub sound_of : (os : List Op) → Allowed os → IsSound (sheet_of os)
+pub sound_of : (os : List Op) → Allowed os → HasNumbersApart (sheet_of os)
 sound_of os allowed = all_sound [] os (record { apart = tt; below = tt }) allowed
 
 -- an op makes one worksheet of another, whatever ops had made that
@@ -62,7 +62,7 @@ pub same_next : (a b : List Op) (o : Op) → Allowed a → sheet_of a ≡ sheet_
 same_next a b o allowed same next =
     let sound = sound_of a allowed in
     sheet_of-push a o sound next ∙ ap (λ (s : Contents). edited s o) same
-    ∙ sym (sheet_of-push b o (subst (λ (s : Contents). IsSound s) same sound) (subst (λ (s : Contents). first_refusal s o ≡ None) same next))
+    ∙ sym (sheet_of-push b o (subst (λ (s : Contents). HasNumbersApart s) same sound) (subst (λ (s : Contents). first_refusal s o ≡ None) same next))
 
 pub sessions_have_names : (os : List Op) → Allowed os → AllByRecursion IsNamed (sheet_of os).sessions
 sessions_have_names os allowed = all_named [] os tt allowed

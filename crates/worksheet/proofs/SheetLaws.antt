@@ -9,7 +9,7 @@ use Rattle.worksheet.specs.declared.field.Field.{Field}
 use Rattle.worksheet.specs.declared.field.Session.{Session}
 use Rattle.worksheet.specs.Ops.{next_after, next_of, field_of, put_behind, placed, without, order_of, sessions_of, sheet_of}
 use Rattle.worksheet.specs.Checks.{numbers, field_in, first_refusal, refusals}
-use Rattle.worksheet.specs.Edits.{AllBelow, IsSound, contents_with, at_field, with_input, with_answer, fields_without, placed_field, moved, edited}
+use Rattle.worksheet.specs.Edits.{AllBelow, HasNumbersApart, contents_with, at_field, with_input, with_answer, fields_without, placed_field, moved, edited}
 use Rattle.worksheet.proofs.Finds.{none_applies, true_from_not}
 use Rattle.worksheet.proofs.OneMore.{next_from-push, order_from-push, sessions_of-push, field_of-push}
 
@@ -103,7 +103,7 @@ sheet_of-fields os o fs ss n p q r = same_contents _ _ _ _ _ _ p (sessions_of-pu
 ordered : (os : List Op) (o : Op) (ids : List ℕ) (fs : List Field) → order_of (os ++ o ∷ []) ≡ ids → map (field_of (os ++ o ∷ [])) ids ≡ fs → map (field_of (os ++ o ∷ [])) (order_of (os ++ o ∷ [])) ≡ fs
 ordered os o ids fs p q = ap (λ (ns : List ℕ). map (field_of (os ++ o ∷ [])) ns) p ∙ q
 
-pub sheet_of-push : (os : List Op) (o : Op) → IsSound (sheet_of os) → first_refusal (sheet_of os) o ≡ None → sheet_of (os ++ o ∷ []) ≡ edited (sheet_of os) o
+pub sheet_of-push : (os : List Op) (o : Op) → HasNumbersApart (sheet_of os) → first_refusal (sheet_of os) o ≡ None → sheet_of (os ++ o ∷ []) ≡ edited (sheet_of os) o
 sheet_of-push os (op.Session name tab words) sound allowed = sheet_of-fields os (op.Session name tab words) _ _ _
     (ordered os (op.Session name tab words) _ _ (order_from-push 1 [] os (op.Session name tab words)) (unchanged os (op.Session name tab words) (field_of-push os (op.Session name tab words)) (order_of os)))
     refl refl

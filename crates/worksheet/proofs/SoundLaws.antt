@@ -8,7 +8,7 @@ use Rattle.worksheet.specs.declared.field.Field.{Field}
 use Rattle.worksheet.specs.Contents.{Contents}
 use Rattle.worksheet.specs.Ops.{put_behind}
 use Rattle.worksheet.specs.Checks.{numbers, field_in}
-use Rattle.worksheet.specs.Edits.{Lacks, AreApart, AllBelow, IsSound, at_field, with_input, with_answer, fields_without, placed_field, moved, edited}
+use Rattle.worksheet.specs.Edits.{Lacks, AreApart, AllBelow, HasNumbersApart, at_field, with_input, with_answer, fields_without, placed_field, moved, edited}
 use Rattle.worksheet.proofs.Finds.{field_in-id}
 
 -- what is below a number isn't it
@@ -107,7 +107,7 @@ numbers-at_field id change keeps (f ∷ fs) = go (f.id == id) (numbers-at_field 
     go true rest = rw (keeps f, rest) refl
     go false rest = rw rest refl
 
-changed_sound : (sheet : Contents) (id : ℕ) (change : Field → Field) → ((f : Field) → (change f).id ≡ f.id) → IsSound sheet → IsSound (record sheet { fields = map (at_field id change) sheet.fields })
+changed_sound : (sheet : Contents) (id : ℕ) (change : Field → Field) → ((f : Field) → (change f).id ≡ f.id) → HasNumbersApart sheet → HasNumbersApart (record sheet { fields = map (at_field id change) sheet.fields })
 changed_sound sheet id change keeps s =
     let same = numbers-at_field id change keeps sheet.fields in
     record {
@@ -123,7 +123,7 @@ below-found n (g ∷ fs) id f a h = go (g.id == id) h (below-found n fs id f a.1
     go true h rest = let is : g ≡ f = cc in rw (← is) a.0
     go false h rest = rest h
 
-moved_sound : (sheet : Contents) (id after : ℕ) (found : Option Field) → field_in sheet.fields id ≡ found → IsSound sheet → IsSound (record sheet { fields = moved id after sheet.fields found })
+moved_sound : (sheet : Contents) (id after : ℕ) (found : Option Field) → field_in sheet.fields id ≡ found → HasNumbersApart sheet → HasNumbersApart (record sheet { fields = moved id after sheet.fields found })
 moved_sound sheet id after None is s = s
 moved_sound sheet id after (Some f) is s = record {
   apart = AreApart-placed after f (fields_without id sheet.fields) (AreApart-without id sheet.fields s.apart)
@@ -131,7 +131,7 @@ moved_sound sheet id after (Some f) is s = record {
   below = AllBelow-placed sheet.next after f (fields_without id sheet.fields) (AllBelow-without sheet.next id sheet.fields s.below) (below-found sheet.next sheet.fields id f s.below is);
 }
 
-pub IsSound-edited : (sheet : Contents) (o : Op) → IsSound sheet → IsSound (edited sheet o)
+pub IsSound-edited : (sheet : Contents) (o : Op) → HasNumbersApart sheet → HasNumbersApart (edited sheet o)
 IsSound-edited sheet (op.Session name tab words) s = record { apart = s.apart; below = s.below }
 IsSound-edited sheet (op.New after session input) s = record {
   apart = AreApart-placed after (record { id = sheet.next; session = session; input = input; answer = None }) sheet.fields s.apart (Lacks-AllBelow sheet.next (numbers sheet.fields) s.below);

@@ -1,11 +1,9 @@
 pub mod Limits
 pub mod Names
-pub mod NameInside
 pub mod Refusals
 pub mod Contents
-pub mod Codes
 pub mod Ops
 pub mod Checks
 pub mod Edits
-pub mod SheetInside
 pub mod Laws
+pub mod inside

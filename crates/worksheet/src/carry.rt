@@ -4,8 +4,8 @@ ghost use Rattle.std.specs.Str.{is_utf8};
 ghost use Rattle.worksheet.specs.declared.op.Op.TheVariants as op;
 ghost use Rattle.worksheet.specs.Names.{is_name};
 ghost use Rattle.worksheet.specs.Checks.{field_in, first_refusal, numbers, room_for, session_named};
-ghost use Rattle.worksheet.specs.Edits.{AreApart, IsSound, contents_with, edited, fields_without, moved};
-ghost use Rattle.worksheet.specs.SheetInside.{held_of};
+ghost use Rattle.worksheet.specs.Edits.{AreApart, HasNumbersApart, contents_with, edited, fields_without, moved};
+ghost use Rattle.worksheet.specs.inside.SheetInside.{held_of};
 
 use crate::check::session_with;
 use crate::edits::{put_field, set_answer, set_input, take_field};
@@ -21,7 +21,7 @@ pub(crate) fn carry_out(
     next: &mut u32,
     op: Op,
 )
-    requires sound { IsSound (contents_with fields.old.items sessions.old.items next.old) }
+    requires sound { HasNumbersApart (contents_with fields.old.items sessions.old.items next.old) }
     requires allowed { first_refusal (contents_with fields.old.items sessions.old.items next.old) op ≡ None }
     requires room { room_for (held_of (record { fields = fields.old; sessions = sessions.old; next = next.old })) op ≡ true }
     ensures { contents_with fields.new.items sessions.new.items next.new ≡ edited (contents_with fields.old.items sessions.old.items next.old) op }

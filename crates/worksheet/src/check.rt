@@ -3,7 +3,7 @@ ghost use Rattle.std.specs.Prelude.{◌≡◌, ◌==◌, ◌||◌, [], List, fal
 ghost use Rattle.std.specs.List.{list_all};
 ghost use Rattle.std.specs.Option.{option_copied};
 ghost use Rattle.std.specs.Result.{result_err};
-ghost use Rattle.worksheet.specs.Checks.{is_input as input_test, is_input_byte as input_byte_test, is_no_control as no_control_test, is_word as word_test, are_words as words_test, field_in, session_named as session_found, stands_behind as place_test, numbers, first_refusal};
+ghost use Rattle.worksheet.specs.Checks.{is_input as input_test, is_input_byte as input_byte_test, is_no_low_byte as low_byte_test, is_word as word_test, are_words as words_test, field_in, session_named as session_found, stands_behind as place_test, numbers, first_refusal};
 ghost use Rattle.std.specs.Str.{is_utf8 as utf8_test};
 ghost use Rattle.block_tree.specs.Tree.{Tree};
 ghost use Rattle.worksheet.specs.Edits.{contents_with};
@@ -54,7 +54,7 @@ fn is_word(bytes: &[u8]) -> bool
 }
 
 fn has_no_control(bytes: &[u8]) -> bool
-    ensures { result ≡ list_all no_control_test bytes.now }
+    ensures { result ≡ list_all low_byte_test bytes.now }
 {
     bytes.iter().all(|byte| *byte >= b' ')
 }

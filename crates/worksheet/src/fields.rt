@@ -2,7 +2,7 @@
 ghost use Rattle.std.specs.Prelude.{◌≡◌, List};
 ghost use Rattle.std.specs.Coded.{coded_list};
 ghost use Rattle.std.specs.Iterator.{YieldsFirstRef, item_count};
-ghost use Rattle.worksheet.specs.Codes.{coded_field};
+ghost use Rattle.worksheet.specs.inside.Codes.{coded_field};
 ghost use Rattle.worksheet.specs.declared.field.Field.{Field};
 ghost use Rattle.worksheet.specs.declared.field.Session.{Session};
 

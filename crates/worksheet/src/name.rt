@@ -21,7 +21,7 @@ impl Model for Name {
 
     ghost Value = { List ℕ };
 
-    ghost use Rattle.worksheet.specs.NameInside.{name_of, IsNameInside, inside_of, name_back};
+    ghost use Rattle.worksheet.specs.inside.NameInside.{name_of, IsNameInside, inside_of, name_back};
 
     ghost view = { name_of };
 

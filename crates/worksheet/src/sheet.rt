@@ -23,14 +23,14 @@ pub struct Sheet {
 }
 
 impl Model for Sheet {
-    ghost use Rattle.worksheet.specs.Contents.{Held};
-    ghost use Rattle.worksheet.specs.Codes.{coded_held};
+    ghost use Rattle.worksheet.specs.Contents.{SheetView};
+    ghost use Rattle.worksheet.specs.inside.Codes.{coded_held};
 
-    ghost Value = { Held };
+    ghost Value = { SheetView };
 
     ghost coded = { coded_held };
 
-    ghost use Rattle.worksheet.specs.SheetInside.{held_of, IsSoundInside};
+    ghost use Rattle.worksheet.specs.inside.SheetInside.{held_of, IsSoundInside};
 
     ghost view = { held_of };
 

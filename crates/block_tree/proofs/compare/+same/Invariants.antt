@@ -1,5 +1,5 @@
 use Rattle.std.proofs.Common.{◌≡◌, drop, map}
-use Rattle.block_tree.specs.Tree.{items_of}
+use Rattle.block_tree.specs.Tree.{items_from}
 use Rattle.block_tree.specs.Same.{same_items}
 use Rattle.block_tree.specs.View.{piece_of}
 use Rattle.block_tree.proofs.compare.+same.Given as goal
@@ -11,5 +11,5 @@ abbrev pub decreases-same_node : goal.decreases-same_node
 decreases-same_node l = goal.size-same_node l
 
 abbrev pub invariant-same_node-loop-i : goal.invariant-same_node-loop-i
-invariant-same_node-loop-i l = same_items (items_of (map piece_of (drop l.i l.a.items.items))) (items_of (map piece_of (drop l.i l.b.items.items)))
-    ≡ same_items (items_of (map piece_of l.a.items.items)) (items_of (map piece_of l.b.items.items))
+invariant-same_node-loop-i l = same_items (items_from (map piece_of (drop l.i l.a.items.items))) (items_from (map piece_of (drop l.i l.b.items.items)))
+    ≡ same_items (items_from (map piece_of l.a.items.items)) (items_from (map piece_of l.b.items.items))

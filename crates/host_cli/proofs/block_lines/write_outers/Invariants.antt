@@ -1,6 +1,6 @@
 use Rattle.std.proofs.Common.{take}
 use Rattle.std.specs.Io.KnownBytes.{Appends}
-use Rattle.meta_format.specs.Scan.{outers}
+use Rattle.meta_format.specs.Found.{outers}
 use Rattle.host_cli.specs.Printed.{outer_lines}
 use Rattle.host_cli.proofs.block_lines.write_outers.Given as goal
 

@@ -1,7 +1,7 @@
 use Rattle.std.proofs.Common.{◌∙◌, ap, length, drop, arith}
 use Rattle.std.proofs.lemmas.List.{take_at, take_all}
 use Rattle.disk_model.specs.Disk.{Image, content_of}
-use Rattle.disk_model.specs.Moments.{still, looks_on, syncs_look}
+use Rattle.disk_model.specs.inside.Moments.{still, looks_on, syncs_look}
 use Rattle.journal.proofs.Loads.{held}
 use Rattle.journal.proofs.opening.load.Goals as goal
 

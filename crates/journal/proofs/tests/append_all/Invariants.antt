@@ -1,4 +1,4 @@
-use Rattle.journal.specs.Batch.{Appended}
+use Rattle.journal.specs.inside.Batch.{Appended}
 use Rattle.journal.proofs.tests.append_all.Given as goal
 
 abbrev pub invariant-loop-frame : goal.invariant-loop-frame

@@ -1,7 +1,7 @@
 use Rattle.std.proofs.Common.{◌≡◌, ℕ, length}
 use Rattle.journal.specs.Area.{end_of, first_gate}
 use Rattle.journal.specs.Damage.{Walked}
-use Rattle.journal.specs.Walk.{payloads_in, AreGates}
+use Rattle.journal.specs.Payloads.{payloads_in, AreGates}
 use Rattle.journal.specs.Limits.{max_payload}
 use Rattle.journal.proofs.walk.read_area.Given as goal
 

@@ -1,5 +1,5 @@
 use Rattle.std.proofs.Common.{rules, arith}
-use Rattle.meta_format.specs.Levels.{level_marks}
+use Rattle.meta_format.specs.inside.Levels.{level_marks}
 use Rattle.meta_format.proofs.Stacks.{flat_map-set_last}
 use Rattle.meta_format.proofs.level.add_letter.Goals as goal
 

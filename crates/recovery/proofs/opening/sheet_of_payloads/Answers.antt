@@ -1,7 +1,7 @@
 use Rattle.std.proofs.Common.{subst, add-one}
 use Rattle.std.proofs.lemmas.Result.{err_from_is_err_and}
 use Rattle.journal.specs.declared.walk.Payload.{Payload}
-use Rattle.recovery.specs.Taken.{Refuses, Takes}
+use Rattle.recovery.specs.inside.Taken.{Refuses, TakesOps}
 use Rattle.recovery.proofs.Taking.{reached_more, refused_here}
 use Rattle.recovery.proofs.opening.sheet_of_payloads.Goals as goal
 
@@ -20,4 +20,4 @@ loop-payload-preserved c =
     let after = c.take.new.sheet.contents in
     let here = c.in_ok-take.ensures.taken far.ops far.makes in
     rw add-one (reached_more c.args.payloads.now c.loop-payload.payload-index c.payload-item.result c.loop-payload.sheet.contents after c.loop-payload-test.true far
-    (subst (λ (x : Payload). Takes far.ops x.bytes after) c.payload-item.is here))
+    (subst (λ (x : Payload). TakesOps far.ops x.bytes after) c.payload-item.is here))

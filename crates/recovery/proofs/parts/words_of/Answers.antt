@@ -1,5 +1,5 @@
 use Rattle.std.proofs.Common.{◌≡◌, ◌++◌, ◌∷◌, [], length-append, arith}
-use Rattle.recovery.specs.Reading.{words_at}
+use Rattle.recovery.specs.inside.Reading.{words_at}
 use Rattle.recovery.proofs.Words.{goes_on, ends, is_done, long_push}
 use Rattle.recovery.proofs.parts.words_of.Goals as goal
 

@@ -1,7 +1,7 @@
 use Rattle.std.proofs.Common.{◌≡◌, ◌-◌, length}
 use Rattle.std.specs.List.{AllByRecursion}
 use Rattle.recovery.specs.Code.{IsLong}
-use Rattle.recovery.specs.Reading.{words_at}
+use Rattle.recovery.specs.inside.Reading.{words_at}
 use Rattle.recovery.proofs.Words.{with_front}
 use Rattle.recovery.proofs.parts.words_of.Given as goal
 

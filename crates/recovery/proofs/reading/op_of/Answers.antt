@@ -1,4 +1,4 @@
-use Rattle.recovery.specs.Reading.{session_at, new_at, set_at, remove_at, move_at, clear_at}
+use Rattle.recovery.specs.inside.Reading.{session_at, new_at, set_at, remove_at, move_at, clear_at}
 use Rattle.recovery.proofs.Again.{found_by, behind_first, first_and_rest, session_again, new_again, set_again, remove_again, move_again, clear_again}
 use Rattle.recovery.proofs.reading.op_of.Goals as goal
 

@@ -1,5 +1,5 @@
 use Rattle.std.proofs.Common.{◌≡◌, ◌+◌, ◌≤◌, min, length, drop, map}
-use Rattle.block_tree.specs.Tree.{items_of}
+use Rattle.block_tree.specs.Tree.{items_from}
 use Rattle.block_tree.specs.View.{piece_of}
 use Rattle.meta_format.specs.Canonical.{canonical_items}
 use Rattle.recovery.specs.Code.{longest_told}
@@ -11,6 +11,6 @@ decreases-with_node l = goal.size-with_node l
 abbrev pub invariant-loop-item : goal.invariant-loop-item
 invariant-loop-item l = record {
   capped : l.len ≤ longest_told;
-  rest : min (l.len + length (canonical_items (items_of (map piece_of (drop l.item-index l.item-items))))) longest_told
-      ≡ min (l.initial.len + length (canonical_items (items_of (map piece_of l.item-items)))) longest_told;
+  rest : min (l.len + length (canonical_items (items_from (map piece_of (drop l.item-index l.item-items))))) longest_told
+      ≡ min (l.initial.len + length (canonical_items (items_from (map piece_of l.item-items)))) longest_told;
 }

@@ -1,8 +1,9 @@
 use Rattle.std.proofs.Common.{ap, refl, ◌∙◌}
 use Rattle.meta_format.specs.Limits.{limits}
 use Rattle.meta_format.specs.Faults.{bad_tag, too_deep, too_long}
-use Rattle.meta_format.specs.Machine.{broken}
-use Rattle.meta_format.specs.Scan.{mode_of, state_of, outers}
+use Rattle.meta_format.specs.inside.Machine.{broken}
+use Rattle.meta_format.specs.inside.Scan.{mode_of, scan_state}
+use Rattle.meta_format.specs.Found.{outers}
 use Rattle.meta_format.proofs.Feeds.{roomy, mode_alive, scan_start, fed_stands, fed_faults, fed_closes}
 use Rattle.meta_format.proofs.reader.Reader.feed.Goals as goal
 
@@ -12,7 +13,7 @@ returns-in-Ok-clause-ok c s blocks h =
     let inside = c.self.inside in
     let after = c.scan_piece.new.scanner in
     let works = c.if-self.false in
-    let ran = scan_start limits inside.scanner k c.new-found.result.items c.args.piece.now (state_of after (outers c.scan_piece.new.found.items))
+    let ran = scan_start limits inside.scanner k c.new-found.result.items c.args.piece.now (scan_state after (outers c.scan_piece.new.found.items))
     (c.self.invariant.2 works ∙ ap (λ q. q.offset) c.self.view_is) (ap (λ q. q.mode) c.self.view_is) c.new-found.ensures.items c.in-Ok.ensures.scans in
     fed_stands limits roomy k s c.args.piece.now blocks after.at (outers c.scan_piece.new.found.items) (mode_of after) h ran _ (mode_alive after.place after.start after.levels.items after.name.items) works refl refl
     (c.begin_of.ensures after.levels.items after.name.items)
@@ -23,9 +24,9 @@ returns-in-Ok-clause-closes c s blocks h =
     let inside = c.self.inside in
     let after = c.scan_piece.new.scanner in
     let works = c.if-self.false in
-    let ran = scan_start limits inside.scanner k c.new-found.result.items c.args.piece.now (state_of after (outers c.scan_piece.new.found.items))
+    let ran = scan_start limits inside.scanner k c.new-found.result.items c.args.piece.now (scan_state after (outers c.scan_piece.new.found.items))
     (c.self.invariant.2 works ∙ ap (λ q. q.offset) c.self.view_is) (ap (λ q. q.mode) c.self.view_is) c.new-found.ensures.items c.in-Ok.ensures.scans in
-    fed_closes limits k s c.args.piece.now blocks (state_of after (outers c.scan_piece.new.found.items)) h ran
+    fed_closes limits k s c.args.piece.now blocks (scan_state after (outers c.scan_piece.new.found.items)) h ran
 
 pub returns-in-Err-BadTag-clause-fault : goal.returns-in-Err-BadTag-clause-fault
 returns-in-Err-BadTag-clause-fault c s blocks h =

@@ -1,6 +1,6 @@
 use Rattle.std.proofs.Common.{refl, ap, sym, subst, []}
 use Rattle.meta_format.specs.Limits.{limits}
-use Rattle.meta_format.specs.Machine.{IsAlive, begun}
+use Rattle.meta_format.specs.inside.Machine.{IsAlive, begun}
 use Rattle.meta_format.proofs.Feeds.{roomy, made_stands}
 use Rattle.meta_format.proofs.reader.Reader.new.Goals as goal
 

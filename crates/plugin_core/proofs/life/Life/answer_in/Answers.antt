@@ -1,8 +1,8 @@
 use Rattle.std.proofs.Common.{ap, sym, ◌∙◌, Option, ℕ}
 use Rattle.std.specs.Prelude.{option_map}
-use Rattle.meta_format.specs.Scan.{outer_of, outers}
-use Rattle.plugin_core.specs.Kept.{Kept}
-use Rattle.plugin_core.specs.Changes.{closed_in}
+use Rattle.meta_format.specs.Found.{outer_of, outers}
+use Rattle.plugin_core.specs.Kept.{InterpreterView}
+use Rattle.plugin_core.specs.inside.Changes.{closed_among}
 use Rattle.plugin_core.proofs.Asks.{first_found}
 use Rattle.plugin_core.proofs.life.Life.answer_in.Goals as goal
 
@@ -10,5 +10,5 @@ pub returns-in-Some : goal.returns-in-Some
 returns-in-Some c =
     ap (option_map outer_of) c.first_behind.ensures
     ∙ first_found c.in-Some.ask c.args.found.now
-    ∙ ap (λ (o : Option ℕ). closed_in o (outers c.args.found.now)) (sym c.in-Some.is)
-    ∙ ap (λ (l : Kept). closed_in l.ask (outers c.args.found.now)) c.self.view_is
+    ∙ ap (λ (o : Option ℕ). closed_among o (outers c.args.found.now)) (sym c.in-Some.is)
+    ∙ ap (λ (l : InterpreterView). closed_among l.ask (outers c.args.found.now)) c.self.view_is

@@ -1,10 +1,10 @@
 use Rattle.std.proofs.Common.{◌++◌, List, true, refl, subst, sym, IfOk}
 use Rattle.std.proofs.lemmas.Result.{IfOk-weaker}
-use Rattle.meta_format.specs.Scan.{outers}
+use Rattle.meta_format.specs.Found.{outers}
 use Rattle.plugin_core.specs.Past.{stream_of}
 use Rattle.meta_format.specs.declared.scan.Found.{Found}
-use Rattle.plugin_core.specs.Changes.{Passes, closed_in}
-use Rattle.plugin_core.specs.Kept.{Kept, Stands}
+use Rattle.plugin_core.specs.inside.Changes.{Passes, closed_among}
+use Rattle.plugin_core.specs.Kept.{InterpreterView, LifeHasPast}
 use Rattle.plugin_core.proofs.Pieces.{Fed, passes_gives, ends_gives}
 use Rattle.plugin_core.proofs.life.Life.piece.Goals as goal
 use Rattle.plugin_core.proofs.life.Life.piece.Goals.{in-Ok, in-Err}
@@ -16,17 +16,17 @@ invariant_of-self c =
 pub returns-else-is_err-clause-ok : goal.returns-else-is_err-clause-ok
 returns-else-is_err-clause-ok c = λ past before now.
     let i = c.self.inside in
-    let old : Kept = record { number = i.number; over = i.over; reader = i.reader; ask = i.ask; greeted = i.greeted; waiting = i.waiting.items; prompt = i.prompt } in
-    let s : Stands old past before = subst (λ (l : Kept). Stands l past before) (sym c.self.view_is) now in
+    let old : InterpreterView = record { number = i.number; over = i.over; reader = i.reader; ask = i.ask; greeted = i.greeted; waiting = i.waiting.items; prompt = i.prompt } in
+    let s : LifeHasPast old past before = subst (λ (l : InterpreterView). LifeHasPast l past before) (sym c.self.view_is) now in
     elim c.match-feed.branch [
       | in-Ok w ↦
-          let mid : Kept = record old { reader = c.feed.new.self } in
+          let mid : InterpreterView = record old { reader = c.feed.new.self } in
           let fed : Fed old mid = record { ask = refl; greeted = refl; waiting = refl; prompt = refl } in
           rw (w.step-is, w.self-is) (IfOk-weaker w.pass-step.result _ _ (λ step h. passes_gives old mid w.pass-step.new.self past before c.args.piece.now (outers w.in-Ok.found.items) step s fed s.goes_on
           (w.in-Ok.ensures.ok (stream_of past) before s.reader) (w.in-Ok.ensures.closes (stream_of past) before s.reader) h)
-          (subst (λ (xs : List Found). IfOk w.pass-step.result (λ step. Passes (closed_in i.ask (outers xs)) mid w.pass-step.new.self step)) w.as_slice.ensures.value w.pass-step.ensures.ok))
+          (subst (λ (xs : List Found). IfOk w.pass-step.result (λ step. Passes (closed_among i.ask (outers xs)) mid w.pass-step.new.self step)) w.as_slice.ensures.value w.pass-step.ensures.ok))
       | in-Err w ↦
-          let mid : Kept = record old { over = true; reader = c.feed.new.self } in
+          let mid : InterpreterView = record old { over = true; reader = c.feed.new.self } in
           let fed : Fed old mid = record { ask = refl; greeted = refl; waiting = refl; prompt = refl } in
           rw (w.step-is, w.self-is) (IfOk-weaker w.end_at-step.result _ _ (λ step h. ends_gives old mid w.end_at-step.new.self past before c.args.piece.now w.in-Err.fault step s fed
           (w.in-Err.ensures.fault (stream_of past) before s.reader) (w.in-Err.ensures.closes_before (stream_of past) before s.reader) h) w.end_at-step.ensures.ok)

@@ -6,7 +6,7 @@ use Rattle.worksheet.specs.Checks.{first_refusal}
 use Rattle.recovery.specs.Code.{code_of}
 use Rattle.recovery.specs.Sheets.{StoreView, IsEither, KeepsOps, StandsWithOrWithout}
 use Rattle.recovery.specs.declared.base.Base.{Base}
-use Rattle.recovery.specs.Base.{disk_in, disk_of, end_in, end_of_base, closed_in, IsStoreOf, store_on}
+use Rattle.recovery.specs.inside.Base.{disk_in, disk_of, end_in, end_of_base, is_closed_store, IsStoreOf, store_on}
 use Rattle.recovery.proofs.Images.{moments, committed, all_images, on_ok}
 use Rattle.recovery.proofs.Kept.{payload_moments, keeps_more}
 use Rattle.recovery.proofs.store.Store.commit_ready.Goals as goal
@@ -19,7 +19,7 @@ returns-in_err-result-clause-any_moment g c =
     let e : c.self.inside.base ≡ Some c.unwrap.result = sym c.take.ensures.value ∙ c.unwrap.ensures in
     let holds = subst (λ (b : Option (Base g.row.D.Denot)). IsStoreOf view b sheet) e c.self.invariant in
     let next = subst (λ (s : StoreView). first_refusal s.sheet.contents o ≡ None) (sym c.self.view_is) c.requires.allowed in
-    let opened = subst (λ (b : Option (Base g.row.D.Denot)). closed_in b ≡ false) e (subst (λ (s : StoreView). s.closed ≡ false) (sym c.self.view_is) c.requires.fits.0) in
+    let opened = subst (λ (b : Option (Base g.row.D.Denot)). is_closed_store b ≡ false) e (subst (λ (s : StoreView). s.closed ≡ false) (sym c.self.view_is) c.requires.fits.0) in
     subst (λ (s : StoreView). InModel s.disk ((ops : List Op) → s.sheet.contents ≡ sheet_of ops → LeavesOnly (IsEither ops o) s.disk.history (disk_of view c.with-base.result.0).history)) c.self.view_is
     (subst (λ (b : Option (Base g.row.D.Denot)). InModel (disk_in view b) ((ops : List Op) → sheet ≡ sheet_of ops → LeavesOnly (IsEither ops o) (disk_in view b).history (disk_of view c.with-base.result.0).history)) (sym e)
     (moments view c.unwrap.result sheet o c.args.frame holds c.requires.own next opened (disk_of view c.with-base.result.0).history c.with-base.ensures.any_moment))
@@ -32,7 +32,7 @@ invariant_of-self-2 g c =
     let e : c.self.inside.base ≡ Some c.unwrap.result = sym c.take.ensures.value ∙ c.unwrap.ensures in
     let holds = subst (λ (b : Option (Base g.row.D.Denot)). IsStoreOf view b sheet) e c.self.invariant in
     let next = subst (λ (s : StoreView). first_refusal s.sheet.contents o ≡ None) (sym c.self.view_is) c.requires.allowed in
-    let opened = subst (λ (b : Option (Base g.row.D.Denot)). closed_in b ≡ false) e (subst (λ (s : StoreView). s.closed ≡ false) (sym c.self.view_is) c.requires.fits.0) in
+    let opened = subst (λ (b : Option (Base g.row.D.Denot)). is_closed_store b ≡ false) e (subst (λ (s : StoreView). s.closed ≡ false) (sym c.self.view_is) c.requires.fits.0) in
     committed view c.unwrap.result sheet o c.args.frame holds c.requires.own next opened c.with-base.result.0 c.apply.new.self.contents c.with-base.ensures.same
     (λ model payloads keeps. on_ok c.with-base.result.1 c.in_ok-result.field-0 c.in_ok-result.was (c.with-base.ensures.ok model payloads keeps)) c.in-Ok.ensures.ok
 
@@ -44,7 +44,7 @@ returns-clause-any_moment g c =
     let e : c.self.inside.base ≡ Some c.unwrap.result = sym c.take.ensures.value ∙ c.unwrap.ensures in
     let holds = subst (λ (b : Option (Base g.row.D.Denot)). IsStoreOf view b sheet) e c.self.invariant in
     let next = subst (λ (s : StoreView). first_refusal s.sheet.contents o ≡ None) (sym c.self.view_is) c.requires.allowed in
-    let opened = subst (λ (b : Option (Base g.row.D.Denot)). closed_in b ≡ false) e (subst (λ (s : StoreView). s.closed ≡ false) (sym c.self.view_is) c.requires.fits.0) in
+    let opened = subst (λ (b : Option (Base g.row.D.Denot)). is_closed_store b ≡ false) e (subst (λ (s : StoreView). s.closed ≡ false) (sym c.self.view_is) c.requires.fits.0) in
     subst (λ (s : StoreView). InModel s.disk ((ops : List Op) → s.sheet.contents ≡ sheet_of ops → LeavesOnly (IsEither ops o) s.disk.history (disk_of view c.with-base.result.0).history)) c.self.view_is
     (subst (λ (b : Option (Base g.row.D.Denot)). InModel (disk_in view b) ((ops : List Op) → sheet ≡ sheet_of ops → LeavesOnly (IsEither ops o) (disk_in view b).history (disk_of view c.with-base.result.0).history)) (sym e)
     (moments view c.unwrap.result sheet o c.args.frame holds c.requires.own next opened (disk_of view c.with-base.result.0).history c.with-base.ensures.any_moment))
@@ -57,7 +57,7 @@ returns-clause-acknowledged g c = λ model.
     let e : c.self.inside.base ≡ Some c.unwrap.result = sym c.take.ensures.value ∙ c.unwrap.ensures in
     let holds = subst (λ (b : Option (Base g.row.D.Denot)). IsStoreOf view b sheet) e c.self.invariant in
     let next = subst (λ (s : StoreView). first_refusal s.sheet.contents o ≡ None) (sym c.self.view_is) c.requires.allowed in
-    let opened = subst (λ (b : Option (Base g.row.D.Denot)). closed_in b ≡ false) e (subst (λ (s : StoreView). s.closed ≡ false) (sym c.self.view_is) c.requires.fits.0) in
+    let opened = subst (λ (b : Option (Base g.row.D.Denot)). is_closed_store b ≡ false) e (subst (λ (s : StoreView). s.closed ≡ false) (sym c.self.view_is) c.requires.fits.0) in
     let after = committed view c.unwrap.result sheet o c.args.frame holds c.requires.own next opened c.with-base.result.0 c.apply.new.self.contents c.with-base.ensures.same
     (λ model payloads keeps. on_ok c.with-base.result.1 c.in_ok-result.field-0 c.in_ok-result.was (c.with-base.ensures.ok model payloads keeps)) c.in-Ok.ensures.ok in
     let here = subst (λ (b : Option (Base g.row.D.Denot)). IsTrue (disk_in view b).keeps_model) e (subst (λ (s : StoreView). IsTrue s.disk.keeps_model) (sym c.self.view_is) model) in

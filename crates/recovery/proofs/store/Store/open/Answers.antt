@@ -1,8 +1,8 @@
 use Rattle.std.proofs.Common.{ap, sym, ◌∙◌, subst, List, ℕ}
 use Rattle.std.proofs.lemmas.Result.{err_from_is_err_and}
 use Rattle.journal.specs.declared.walk.Payload.{Payload}
-use Rattle.journal.specs.Walk.{payloads_in, AreGates}
-use Rattle.recovery.specs.Taken.{RefusesFrom}
+use Rattle.journal.specs.Payloads.{payloads_in, AreGates}
+use Rattle.recovery.specs.inside.Taken.{RefusesFrom}
 use Rattle.recovery.proofs.Images.{same_sheet, not_refused}
 use Rattle.recovery.proofs.store.Store.open.Goals as goal
 

@@ -5,7 +5,7 @@ use Rattle.journal.specs.Kept.{Fits}
 use Rattle.recovery.specs.Code.{code_of}
 use Rattle.recovery.specs.Sheets.{StoreView}
 use Rattle.recovery.specs.declared.base.Base.{Base}
-use Rattle.recovery.specs.Base.{disk_in, disk_of, end_in, end_of_base, closed_in}
+use Rattle.recovery.specs.inside.Base.{disk_in, disk_of, end_in, end_of_base, is_closed_store}
 use Rattle.recovery.proofs.Allowed.{code_on}
 use Rattle.recovery.proofs.Images.{made_in, fits_uncapped}
 use Rattle.recovery.proofs.store.Store.prepare.Goals as goal
@@ -26,7 +26,7 @@ returns-clause-ready g c =
     let allowed = subst (λ (s : StoreView). first_refusal s.sheet.contents c.args.op.now ≡ None) (sym c.self.view_is) c.requires in
     record {
       allowed = subst (λ (s : Contents). first_refusal s c.args.op.now ≡ None) (sym c.make_room.ensures.same) allowed;
-      fits = subst (λ (b : Option (Base g.row.D.Denot)). (closed_in b ≡ false) × Fits (disk_in g.D.Disk.view b).room (end_of_base b) (length (code_of c.args.op.now))) (sym c.in-Some.is)
+      fits = subst (λ (b : Option (Base g.row.D.Denot)). (is_closed_store b ≡ false) × Fits (disk_in g.D.Disk.view b).room (end_of_base b) (length (code_of c.args.op.now))) (sym c.in-Some.is)
           (let place = c.has_place.ensures.0 c.if-not-has_place.false in
           (place.0, fits_uncapped (disk_of g.D.Disk.view c.in-Some.base).room (end_in c.in-Some.base) (length (code_of c.args.op.now)) (rw c.code_len.ensures at place.1)));
       room = c.in_ok-make_room.ensures.ok;

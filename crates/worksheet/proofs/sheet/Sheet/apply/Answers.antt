@@ -1,20 +1,20 @@
 use Rattle.std.proofs.Common.{◌≡◌, ap, sym, ◌∙◌, subst, None}
-use Rattle.worksheet.specs.Contents.{Contents, Held}
-use Rattle.worksheet.specs.Edits.{IsSound, edited}
+use Rattle.worksheet.specs.Contents.{Contents, SheetView}
+use Rattle.worksheet.specs.Edits.{HasNumbersApart, edited}
 use Rattle.worksheet.specs.Ops.{sheet_of}
 use Rattle.worksheet.specs.Checks.{first_refusal}
-use Rattle.worksheet.specs.SheetInside.{contents_of}
+use Rattle.worksheet.specs.inside.SheetInside.{contents_of}
 use Rattle.worksheet.proofs.SoundLaws.{IsSound-edited}
 use Rattle.worksheet.proofs.SheetLaws.{sheet_of-push}
 use Rattle.worksheet.proofs.sheet.Sheet.apply.Goals as goal
 
 pub invariant_of-self : goal.invariant_of-self
-invariant_of-self c = subst (λ (s : Contents). IsSound s) (sym c.carry_out.ensures) (IsSound-edited (contents_of c.self.inside) c.args.op c.self.invariant)
+invariant_of-self c = subst (λ (s : Contents). HasNumbersApart s) (sym c.carry_out.ensures) (IsSound-edited (contents_of c.self.inside) c.args.op c.self.invariant)
 
 pub returns-clause-ok : goal.returns-clause-ok
 returns-clause-ok c = λ ops h.
     let o = c.args.op in
-    let before : contents_of c.self.inside ≡ sheet_of ops = ap (λ (held : Held). held.contents) c.self.view_is ∙ c.make_room.ensures.same ∙ h in
-    let sound : IsSound (sheet_of ops) = subst (λ (s : Contents). IsSound s) before c.self.invariant in
+    let before : contents_of c.self.inside ≡ sheet_of ops = ap (λ (held : SheetView). held.contents) c.self.view_is ∙ c.make_room.ensures.same ∙ h in
+    let sound : HasNumbersApart (sheet_of ops) = subst (λ (s : Contents). HasNumbersApart s) before c.self.invariant in
     let allowed = subst (λ (s : Contents). first_refusal s o ≡ None) h c.requires in
     c.carry_out.ensures ∙ ap (λ (s : Contents). edited s o) before ∙ sym (sheet_of-push ops o sound allowed)

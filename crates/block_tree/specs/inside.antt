@@ -1,0 +1,5 @@
+pub mod Code
+pub mod Marks
+pub mod Nodes
+pub mod Growing
+pub mod Reading

@@ -1,0 +1,4 @@
+pub mod Reading
+pub mod Codes
+pub mod Taken
+pub mod Base

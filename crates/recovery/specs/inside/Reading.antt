@@ -1,0 +1,105 @@
+-- The parts of a payload, read from left to right. No public clause speaks of it.
+use Rattle.std.specs.Prelude.{◌≡◌, ℕ, zero, suc, ◌==◌, List, [], ◌∷◌, length, take, drop, Option, Some, None, Result, Ok, Err, nat_lt, if◌then◌else◌}
+use Rattle.std.specs.Int.{w16, w32, from_be_bytes}
+use Rattle.worksheet.specs.declared.op.Op.{Op}
+use Rattle.worksheet.specs.declared.op.Op.TheVariants as op
+use Rattle.recovery.specs.declared.reading.DecodeFault.{DecodeFault}
+use Rattle.recovery.specs.declared.reading.DecodeFault.TheVariants as faults
+
+infixl 10 ◌>>=◌
+abbrev pub ◌>>=◌ : {A B : Type 0} → Option A → (A → Option B) → Option B
+(Some x) >>= f = f x
+None >>= f = None
+
+-- what a function found, seen by view, is what reading gives
+abbrev pub ReadsPart : {X Y : Type 0} → (X → Y) → Option X → Option Y → Type 0
+ReadsPart view (Some x) read = read ≡ Some (view x)
+ReadsPart view None read = read ≡ None
+
+abbrev pub Fails : {Y : Type 0} → DecodeFault → Option Y → Type 0
+Fails faults.OutOfMemory read = Unit {0}
+Fails faults.Unreadable read = read ≡ None
+
+-- the same, unless memory ran out
+abbrev pub ReadsOrFails : {X Y : Type 0} → (X → Y) → Result X DecodeFault → Option Y → Type 0
+ReadsOrFails view (Ok x) read = read ≡ Some (view x)
+ReadsOrFails view (Err e) read = Fails e read
+
+-- so many bytes, and what stands behind them
+abbrev pub front_at : ℕ → List ℕ → Option (List ℕ × List ℕ)
+front_at n bytes = if nat_lt (length bytes) n then None else Some (take n bytes, drop n bytes)
+
+unfoldable pub number_at : List ℕ → Option (ℕ × List ℕ)
+number_at bytes = do
+  n ← front_at 4 bytes
+  Some (from_be_bytes w32 n.0, n.1)
+
+unfoldable pub short_at : List ℕ → Option (List ℕ × List ℕ)
+short_at [] = None
+short_at (n ∷ rest) = front_at n rest
+
+unfoldable pub long_at : List ℕ → Option (List ℕ × List ℕ)
+long_at bytes = do
+  n ← front_at 2 bytes
+  front_at (from_be_bytes w16 n.0) n.1
+
+unfoldable pub words_at : ℕ → List ℕ → Option (List (List ℕ))
+words_at zero bytes = Some []
+words_at (suc n) bytes = do
+  first ← long_at bytes
+  others ← words_at n first.1
+  Some (first.0 ∷ others)
+
+abbrev pub session_behind : List ℕ → List ℕ → Option Op
+session_behind name [] = None
+session_behind name (tab ∷ []) = None
+session_behind name (tab ∷ count ∷ rest) = do
+  words ← words_at count rest
+  Some (op.Session name (tab == 1) words)
+
+unfoldable pub session_at : List ℕ → Option Op
+session_at bytes = do
+  name ← short_at bytes
+  session_behind name.0 name.1
+
+unfoldable pub new_at : List ℕ → Option Op
+new_at bytes = do
+  after ← number_at bytes
+  session ← short_at after.1
+  input ← long_at session.1
+  Some (op.New after.0 session.0 input.0)
+
+unfoldable pub set_at : List ℕ → Option Op
+set_at bytes = do
+  id ← number_at bytes
+  input ← long_at id.1
+  Some (op.Set id.0 input.0)
+
+unfoldable pub remove_at : List ℕ → Option Op
+remove_at bytes = do
+  id ← number_at bytes
+  Some (op.Remove id.0)
+
+unfoldable pub move_at : List ℕ → Option Op
+move_at bytes = do
+  id ← number_at bytes
+  after ← number_at id.1
+  Some (op.Move id.0 after.0)
+
+unfoldable pub clear_at : List ℕ → Option Op
+clear_at bytes = do
+  id ← number_at bytes
+  Some (op.Clear id.0)
+
+-- of an answer: the number and the prompt, and the bytes of the output
+unfoldable pub asked_at : List ℕ → Option ((ℕ × List ℕ) × List ℕ)
+asked_at bytes = do
+  id ← number_at bytes
+  prompt ← long_at id.1
+  Some ((id.0, prompt.0), prompt.1)
+
+-- a function found this op, unless memory ran out
+abbrev pub FindsOp : Op → Result Op DecodeFault → Type 0
+FindsOp o (Ok found) = found ≡ o
+FindsOp o (Err faults.OutOfMemory) = Unit {0}
+FindsOp o (Err faults.Unreadable) = ⊥

@@ -1,0 +1,31 @@
+-- Payloads taken one behind another. No public clause speaks of it.
+use Rattle.std.specs.Prelude.{◌≡◌, ℕ, List, [], ◌∷◌, ◌++◌, None}
+use Rattle.worksheet.specs.declared.op.Op.{Op}
+use Rattle.worksheet.specs.Contents.{Contents}
+use Rattle.worksheet.specs.Ops.{sheet_of}
+use Rattle.worksheet.specs.Checks.{first_refusal}
+use Rattle.journal.specs.declared.walk.Payload.{Payload}
+use Rattle.journal.specs.declared.opening.OpenCause.{OpenCause}
+use Rattle.journal.specs.declared.opening.OpenCause.TheVariants as causes
+use Rattle.recovery.specs.Code.{code_of, IsPayloadOf}
+use Rattle.recovery.specs.Sheets.{Makes, IsRefusedAt}
+
+-- the payload is that of an op, and the sheet has it behind these
+pub record TakesOps (ops : List Op) (payload : List ℕ) (sheet : Contents) : Type 0 where
+  pub next : Op
+  pub is : payload ≡ code_of next
+  pub makes : Makes (ops ++ next ∷ []) sheet
+
+-- the payload is of no op that is allowed behind these, and its gate is named
+abbrev pub Refuses : List Op → Payload → OpenCause → Type 0
+Refuses ops p (causes.Damaged gate) = (gate ≡ p.gate) × ((o : Op) → IsPayloadOf o p.bytes → first_refusal (sheet_of ops) o ≡ None → ⊥)
+Refuses ops p causes.NotASheet = ⊥
+Refuses ops p causes.Disk = ⊥
+Refuses ops p causes.OutOfMemory = Unit {0}
+
+-- the gate of the first payload that is refused
+abbrev pub RefusesFrom : List (List ℕ) → OpenCause → Type 0
+RefusesFrom payloads (causes.Damaged gate) = IsRefusedAt payloads gate
+RefusesFrom payloads causes.NotASheet = ⊥
+RefusesFrom payloads causes.Disk = ⊥
+RefusesFrom payloads causes.OutOfMemory = Unit {0}

@@ -1,0 +1,3 @@
+pub mod NameInside
+pub mod Codes
+pub mod SheetInside
