@@ -1,10 +1,11 @@
--- What the fields of a scanner say. Private contracts cite this, but for `outers`.
+-- What the fields of a scanner say. Private contracts cite this.
 use Rattle.std.specs.Prelude.{◌≡◌, ◌≤◌, ◌<◌, ◌-◌, ◌+◌, ℕ, List, [], ◌∷◌, length, map, Option, Some, None, true, All, Result, Ok, Err, option_to_list, cond, nat_eq, ◌&&◌}
 use Rattle.std.specs.List.{list_all}
 use Rattle.block_tree.specs.Shape.{is_tag_byte, max_tag, max_depth}
 use Rattle.block_tree.specs.Tree.{Tree}
 use Rattle.meta_format.specs.Limits.{Limits}
 use Rattle.meta_format.specs.Stream.{Outer}
+use Rattle.meta_format.specs.Found.{outer_of, outers}
 use Rattle.meta_format.specs.Faults.{bad_tag, too_deep, too_long}
 use Rattle.meta_format.specs.inside.Levels.{stack_marks, weight, IsHeld, IsLevel, AreOpen}
 use Rattle.meta_format.specs.inside.Machine.{Mode, outside, tag_of, body_of, escape_of, broken, State, next, run, start_state, IsAlive}
