@@ -18,7 +18,7 @@ fn front_of(len: usize, bytes: &[u8]) -> Option<(&[u8], &[u8])>
 }
 
 /// A number, and what stands behind it.
-#[tactic(auto, unfolding(crate::specs::Reading::number_at))]
+#[tactic(auto, unfolding(crate::specs::inside::Reading::number_at))]
 pub(crate) fn number_of(bytes: &[u8]) -> Option<(u32, &[u8])>
     ensures { ReadsPart (λ x. (x.0, x.1.now)) result (number_at bytes.now) }
 {
@@ -28,7 +28,7 @@ pub(crate) fn number_of(bytes: &[u8]) -> Option<(u32, &[u8])>
 }
 
 /// Bytes behind a length of one byte, and what stands behind them.
-#[tactic(auto, unfolding(crate::specs::Reading::short_at))]
+#[tactic(auto, unfolding(crate::specs::inside::Reading::short_at))]
 pub(crate) fn short_of(bytes: &[u8]) -> Option<(&[u8], &[u8])>
     ensures read { ReadsPart (λ x. (x.0.now, x.1.now)) result (short_at bytes.now) }
     ensures short { IfSome result (λ x. IsShort x.0.now) }
@@ -40,7 +40,7 @@ pub(crate) fn short_of(bytes: &[u8]) -> Option<(&[u8], &[u8])>
 }
 
 /// Bytes behind a length of two bytes, and what stands behind them.
-#[tactic(auto, unfolding(crate::specs::Reading::long_at))]
+#[tactic(auto, unfolding(crate::specs::inside::Reading::long_at))]
 pub(crate) fn long_of(bytes: &[u8]) -> Option<(&[u8], &[u8])>
     ensures read { ReadsPart (λ x. (x.0.now, x.1.now)) result (long_at bytes.now) }
     ensures long { IfSome result (λ x. IsLong x.0.now) }

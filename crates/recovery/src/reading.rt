@@ -37,7 +37,7 @@ impl<T: Drop> From<AllocFailed<T>> for DecodeFault {
     }
 }
 
-#[tactic(auto, unfolding(crate::specs::Reading::session_at))]
+#[tactic(auto, unfolding(crate::specs::inside::Reading::session_at))]
 fn session_of(alloc: Global, bytes: &[u8]) -> Result<Op, DecodeFault>
     ensures read { ReadsOrFails (λ op. op) result (session_at bytes.now) }
     ensures fits { IfOk result HasCode }
@@ -55,7 +55,7 @@ fn session_of(alloc: Global, bytes: &[u8]) -> Result<Op, DecodeFault>
     })
 }
 
-#[tactic(auto, unfolding(crate::specs::Reading::new_at))]
+#[tactic(auto, unfolding(crate::specs::inside::Reading::new_at))]
 fn new_of(alloc: Global, bytes: &[u8]) -> Result<Op, DecodeFault>
     ensures read { ReadsOrFails (λ op. op) result (new_at bytes.now) }
     ensures fits { IfOk result HasCode }
@@ -70,7 +70,7 @@ fn new_of(alloc: Global, bytes: &[u8]) -> Result<Op, DecodeFault>
     })
 }
 
-#[tactic(auto, unfolding(crate::specs::Reading::set_at))]
+#[tactic(auto, unfolding(crate::specs::inside::Reading::set_at))]
 fn set_of(alloc: Global, bytes: &[u8]) -> Result<Op, DecodeFault>
     ensures read { ReadsOrFails (λ op. op) result (set_at bytes.now) }
     ensures fits { IfOk result HasCode }
@@ -81,7 +81,7 @@ fn set_of(alloc: Global, bytes: &[u8]) -> Result<Op, DecodeFault>
     Ok(Op::Set { id, input })
 }
 
-#[tactic(auto, unfolding(crate::specs::Reading::remove_at))]
+#[tactic(auto, unfolding(crate::specs::inside::Reading::remove_at))]
 fn remove_of(bytes: &[u8]) -> Result<Op, DecodeFault>
     ensures read { ReadsOrFails (λ op. op) result (remove_at bytes.now) }
     ensures fits { IfOk result HasCode }
@@ -90,7 +90,7 @@ fn remove_of(bytes: &[u8]) -> Result<Op, DecodeFault>
     Ok(Op::Remove { id })
 }
 
-#[tactic(auto, unfolding(crate::specs::Reading::move_at))]
+#[tactic(auto, unfolding(crate::specs::inside::Reading::move_at))]
 fn move_of(bytes: &[u8]) -> Result<Op, DecodeFault>
     ensures read { ReadsOrFails (λ op. op) result (move_at bytes.now) }
     ensures fits { IfOk result HasCode }
@@ -100,7 +100,7 @@ fn move_of(bytes: &[u8]) -> Result<Op, DecodeFault>
     Ok(Op::Move { id, after })
 }
 
-#[tactic(auto, unfolding(crate::specs::Reading::clear_at))]
+#[tactic(auto, unfolding(crate::specs::inside::Reading::clear_at))]
 fn clear_of(bytes: &[u8]) -> Result<Op, DecodeFault>
     ensures read { ReadsOrFails (λ op. op) result (clear_at bytes.now) }
     ensures fits { IfOk result HasCode }
@@ -109,7 +109,7 @@ fn clear_of(bytes: &[u8]) -> Result<Op, DecodeFault>
     Ok(Op::Clear { id })
 }
 
-#[tactic(auto, unfolding(crate::specs::Reading::asked_at))]
+#[tactic(auto, unfolding(crate::specs::inside::Reading::asked_at))]
 fn asked_of(bytes: &[u8]) -> Result<(u32, &[u8], &[u8]), DecodeFault>
     ensures read { ReadsOrFails (λ x. ((x.0, x.1.now), x.2.now)) result (asked_at bytes.now) }
     ensures fits { IfOk result (λ x. IsLong x.1.now) }
