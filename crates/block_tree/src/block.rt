@@ -12,8 +12,8 @@ use std::marker::Model;
 /// A block: a tree whose tags are right (1 to 64 bytes, each at least 32, no ':' and no '#'), which has
 /// no empty text and no two texts side by side, and at most 32 blocks in one another.
 ///
-/// Contracts see it as its tree. (TeXmacs manual, interfacing: formatted output. What a tag is, and the limits:
-/// docs/PROTOCOL.md, "Spelling of blocks".)
+/// Contracts see it as its tree. (TeXmacs manual, interfacing: formatted output. What a tag is, and the
+/// limits: docs/PROTOCOL.md, "Spelling of blocks".)
 #[derive(Debug, Drop)]
 pub struct Block {
     pub(crate) node: Node,

@@ -134,7 +134,7 @@ pub record Called {T E : Type 0} (result : Result T E) (old new : DiskView) : Ty
   pub keeps_model : new.keeps_model ≡ old.keeps_model
   pub later : old.faults ≤ new.faults
   pub bounded : new.faults ≤ max_faults
-  pub cause : MatchResult result (λ _. Unit {0}) (λ _. Rises old.faults new.faults)
+  pub cause : MatchResult result (λ _. new.faults ≡ old.faults) (λ _. Rises old.faults new.faults)
 
 -- calls that change no byte: a read gives what it gave, and no moment of them leaves an image that is new.
 -- They may make written bytes durable, as a sync does.

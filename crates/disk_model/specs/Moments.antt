@@ -1,7 +1,8 @@
 -- Lemmas for the layers above: how runs of calls go on. No clause speaks of them.
+use Rattle.std.specs.Prelude.{min}
 use Rattle.std.proofs.Common.{◌≡◌, ℕ, List, [], ◌∷◌, ◌++◌, refl, sym, ◌∙◌, ap, subst, arith, append_assoc, ◌+◌, ◌≤◌, max, length, length-append, length-drop, take, drop, Result, Ok, Err, IsTrue}
 use Rattle.std.proofs.lemmas.List.{length-take}
-use Rattle.disk_model.specs.Disk.{overwritten, Image, AtMoment, DiskState, History, DiskView, Leaves, LeavesOnly, Each, states_of, Called, Looks, Syncs, IsImage}
+use Rattle.disk_model.specs.Disk.{overwritten, max_faults, Image, AtMoment, DiskState, History, DiskView, Leaves, LeavesOnly, Each, states_of, Called, Looks, Syncs, IsImage}
 use Rattle.disk_model.specs.declared.disk.Area.{Area}
 use Rattle.disk_model.specs.Fuse.{fused}
 
@@ -43,7 +44,7 @@ goes_on P old mid new before after = record {
 }
 
 pub fused_called : {T E : Type 0} (result : Result T E) (old new : DiskView) (refused : ℕ) → Called result old new → Called result (fused old refused) (fused new refused)
-fused_called (Ok x) old new refused c = record { room = c.room; keeps_model = c.keeps_model; later = omega (arith, c.later); bounded = omega arith; cause = tt }
+fused_called (Ok x) old new refused c = record { room = c.room; keeps_model = c.keeps_model; later = omega (arith, c.later); bounded = omega arith; cause = ap (λ (n : ℕ). min (n + refused) max_faults) c.cause }
 fused_called (Err e) old new refused c = record { room = c.room; keeps_model = c.keeps_model; later = omega (arith, c.later); bounded = omega arith; cause = omega (arith, c.later, c.cause) }
 
 -- a call keeps the model

@@ -8,9 +8,9 @@ pub const MAX_ROOM: u64 = 2_147_483_648;
 /// One of the two areas of a disk.
 #[derive(Clone, Copy, Debug, PartialEq, Eq)]
 pub enum Area {
-    /// A journal's header, whose selector names the active area, and its records.
+    /// The first one. A journal has its header here.
     First,
-    /// Empty in a journal of this version.
+    /// The second one, which a journal of this version leaves empty.
     Second,
 }
 

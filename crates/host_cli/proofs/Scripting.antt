@@ -11,14 +11,14 @@ use Rattle.worksheet.specs.declared.refusal.Refusal.{Refusal}
 use Rattle.worksheet.specs.declared.refusal.Refusal.TheVariants as refusal
 use Rattle.worksheet.specs.Contents.{Contents, Held}
 use Rattle.worksheet.specs.Ops.{sheet_of}
-use Rattle.worksheet.specs.Checks.{first_refusal, room_for}
+use Rattle.worksheet.specs.Checks.{first_refusal, room_for, takes_memory}
 use Rattle.session_engine.specs.declared.reply.Reply.{Reply}
 use Rattle.session_engine.specs.declared.reply.Reply.TheVariants as reply
 use Rattle.sheet_text.specs.Script.{line_of, wants_memory}
 use Rattle.sheet_text.specs.Texts.{reply_text}
 use Rattle.sheet_text.specs.declared.script.ScriptLine.{ScriptLine}
 use Rattle.sheet_text.specs.declared.script.ScriptLine.TheVariants as line
-use Rattle.host_cli.specs.Memory.{takes_memory, OpRan, done, refused, unkept, LineRan, unread, LinesRan, script_lines, reply_to}
+use Rattle.host_cli.specs.Memory.{OpRan, done, refused, unkept, LineRan, unread, LinesRan, script_lines, reply_to}
 
 -- An op.
 

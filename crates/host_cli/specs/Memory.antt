@@ -1,5 +1,5 @@
 -- What a script over a worksheet in memory writes. The worksheet is that of the ops so far.
-use Rattle.std.specs.Prelude.{◌≡◌, ◌+◌, ℕ, Bool, true, false, List, [], ◌∷◌, ◌++◌, Option, Some, None, map, codes}
+use Rattle.std.specs.Prelude.{◌≡◌, ◌+◌, ℕ, true, List, [], ◌∷◌, ◌++◌, Option, Some, None, map, codes}
 use Rattle.std.specs.Fmt.{decimal}
 use Rattle.bstr.specs.Text.{lines_of, without_terminator}
 use Rattle.worksheet.specs.declared.op.Op.{Op}
@@ -8,7 +8,7 @@ use Rattle.worksheet.specs.declared.refusal.Refusal.{Refusal}
 use Rattle.worksheet.specs.declared.refusal.Refusal.TheVariants as refusal
 use Rattle.worksheet.specs.Contents.{Contents}
 use Rattle.worksheet.specs.Ops.{sheet_of}
-use Rattle.worksheet.specs.Checks.{first_refusal}
+use Rattle.worksheet.specs.Checks.{first_refusal, takes_memory}
 use Rattle.session_engine.specs.Commands.{op_of}
 use Rattle.session_engine.specs.declared.command.Command.{Command}
 use Rattle.session_engine.specs.declared.reply.Reply.{Reply}
@@ -29,18 +29,13 @@ bad_line number = codes "bad line " ++ decimal number ++ 10 ∷ []
 
 -- the reply to an op that was done: the number of a new field, else `ok`
 abbrev pub reply_to : Contents → Op → Reply
+reply_to sheet (op.Session name tab words) = reply.Done
 reply_to sheet (op.New after session input) = reply.Field sheet.next
-reply_to sheet _ = reply.Done
-
--- a worksheet takes memory for a new session and for a new field, and for nothing else
-abbrev pub takes_memory : Op → Bool
-takes_memory (op.Session name tab words) = true
-takes_memory (op.New after session input) = true
-takes_memory (op.Set id input) = false
-takes_memory (op.Remove id) = false
-takes_memory (op.Move id after) = false
-takes_memory (op.Clear id) = false
-takes_memory (op.Answer id prompt output) = false
+reply_to sheet (op.Set id input) = reply.Done
+reply_to sheet (op.Remove id) = reply.Done
+reply_to sheet (op.Move id after) = reply.Done
+reply_to sheet (op.Clear id) = reply.Done
+reply_to sheet (op.Answer id prompt output) = reply.Done
 
 -- An op on the worksheet of these ops, what is replied, and the ops behind it. Which refusal comes is
 -- told by the worksheet; want of memory is told only of an op that it allows and that takes memory.

@@ -3,7 +3,7 @@ ghost use Rattle.std.specs.Prelude.{◌≡◌, ◌++◌, ◌<◌, ◌≤◌, ℕ
 ghost use Rattle.std.specs.Io.KnownBytes.{Appends};
 ghost use Rattle.meta_format.specs.Limits.{limits};
 ghost use Rattle.meta_format.specs.Scan.{outer_of, outers};
-ghost use Rattle.host_cli.specs.Printed.{Printed, named_fault_line, outer_line, outer_lines, unfinished_line};
+ghost use Rattle.host_cli.specs.Printed.{Printed, PrintsFront, named_fault_line, outer_line, outer_lines, unfinished_line};
 ghost use Rattle.host_cli.specs.Input.{max_input};
 
 use crate::{RunFault, read_input};
@@ -61,39 +61,54 @@ fn write_unfinished<W: Write>(start: u64, out: &mut W) -> Result<(), RunFault>
     Ok(())
 }
 
-/// Writes the text of a stream, and tells whether the stream is whole.
+/// The most bytes that are fed at once: the blocks that they close are held together.
+const PIECE: usize = 65_536;
+
+/// Where the next piece ends.
+fn piece_end(size: usize, at: usize) -> usize
+    requires { at < size }
+    ensures goes_on { at < result }
+    ensures within { result ≤ size }
+{
+    if size - at > PIECE { at + PIECE } else { size }
+}
+
+/// Writes the text of a stream piece by piece, and tells whether the stream is whole.
 fn write_stream<W: Write>(alloc: Global, stream: &[u8], out: &mut W) -> Result<bool, RunFault>
     ensures printed { IfOk result (λ whole. (text : List ℕ) × Printed limits stream.now text whole × Appends (W.contents out.old) (W.contents out.new) text) }
     ensures not_input { IsErrOf result RunFault.Input → ⊥ }
     ensures not_too_long { IsErrOf result RunFault.InputTooLong → ⊥ }
-    ensures nothing_at_memory { IsErrOf result RunFault.OutOfMemory → out.new ≡ out.old }
+    ensures front_at_memory { IsErrOf result RunFault.OutOfMemory → PrintsFront limits stream.now (W.contents out.old) (W.contents out.new) }
 {
     let mut reader = Reader::new(alloc);
-    match reader.feed(stream) {
-        Ok(found) => {
-            write_outers(found.as_slice(), out)?;
-            match reader.pending() {
-                None => Ok(true),
-                Some(start) => {
-                    write_unfinished(start, out)?;
-                    Ok(false)
-                }
+    let mut at = 0;
+    while at < stream.len() {
+        let end = piece_end(stream.len(), at);
+        match reader.feed(&stream[at..end]) {
+            Ok(found) => write_outers(found.as_slice(), out)?,
+            Err(FeedFault::BadTag { offset, found }) => {
+                write_faulty(found.as_slice(), "1 BadTag", offset, out)?;
+                return Ok(false);
             }
+            Err(FeedFault::TooDeep { offset, found }) => {
+                write_faulty(found.as_slice(), "2 TooDeep", offset, out)?;
+                return Ok(false);
+            }
+            Err(FeedFault::TooLong { offset, found }) => {
+                write_faulty(found.as_slice(), "3 TooLong", offset, out)?;
+                return Ok(false);
+            }
+            Err(FeedFault::OutOfMemory) => return Err(RunFault::OutOfMemory),
+            Err(FeedFault::Failed) => unreachable!(),
         }
-        Err(FeedFault::BadTag { offset, found }) => {
-            write_faulty(found.as_slice(), "1 BadTag", offset, out)?;
+        at = end;
+    }
+    match reader.pending() {
+        None => Ok(true),
+        Some(start) => {
+            write_unfinished(start, out)?;
             Ok(false)
         }
-        Err(FeedFault::TooDeep { offset, found }) => {
-            write_faulty(found.as_slice(), "2 TooDeep", offset, out)?;
-            Ok(false)
-        }
-        Err(FeedFault::TooLong { offset, found }) => {
-            write_faulty(found.as_slice(), "3 TooLong", offset, out)?;
-            Ok(false)
-        }
-        Err(FeedFault::OutOfMemory) => Err(RunFault::OutOfMemory),
-        Err(FeedFault::Failed) => unreachable!(),
     }
 }
 
@@ -101,9 +116,11 @@ fn write_stream<W: Write>(alloc: Global, stream: &[u8], out: &mut W) -> Result<b
 /// next byte stands, and its tree. Then a line for the first fault of the stream, or for the block that
 /// is open at its end. Tells whether there is neither. (docs/PROTOCOL.md has the lines.)
 ///
-/// The input is read whole before anything is written. `Input` where the reader fails, an interruption
+/// The input is read whole before anything is written. At a time the blocks are held that close in
+/// 65,536 bytes of it. `Input` where the reader fails, an interruption
 /// included, and `InputTooLong` where it gives more than `MAX_INPUT` bytes: nothing was written then.
-/// `Output` where the writer fails: a part of the text may have gone out. `OutOfMemory`.
+/// `Output` where the writer fails: a part of the text may have gone out. `OutOfMemory`:
+/// the lines of the blocks of a front of the stream have been written.
 pub fn blocks<R: Read, W: Write>(
     alloc: Global,
     reader: &mut R,
@@ -118,7 +135,8 @@ pub fn blocks<R: Read, W: Write>(
 
     ensures nothing_at_input { IsErrOf result RunFault.Input → writer.new ≡ writer.old }
     ensures nothing_at_too_long { IsErrOf result RunFault.InputTooLong → writer.new ≡ writer.old }
-    ensures nothing_at_memory { IsErrOf result RunFault.OutOfMemory → writer.new ≡ writer.old }
+    // Of blocks that were written before memory was refused it is known which they are.
+    ensures front_at_memory { IsErrOf result RunFault.OutOfMemory → IfSome (R.remaining reader.old) (λ stream. PrintsFront limits stream (W.contents writer.old) (W.contents writer.new)) }
 {
     let stream = read_input(alloc, reader)?;
     let whole = write_stream(alloc, stream.as_slice(), writer)?;

@@ -4,3 +4,4 @@ pub mod Steps
 pub mod Unique
 pub mod Walks
 pub mod Batches
+pub mod Creating

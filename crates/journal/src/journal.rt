@@ -1,5 +1,5 @@
 // A journal on a disk that it owns.
-ghost use Rattle.std.specs.Prelude.{◌≡◌, ◌<◌, ◌≤◌, ◌+◌, ◌++◌, ◌∷◌, ◌↔◌, [], List, ℕ, length, IfOk, IfErr, IsTrue};
+ghost use Rattle.std.specs.Prelude.{◌≡◌, ◌<◌, ◌≤◌, ◌+◌, ◌++◌, ◌∷◌, ◌↔◌, [], List, ℕ, length, IfOk, IfErr, IsTrue, MatchResult};
 ghost use Rattle.disk_model.specs.Disk.{InModel, LeavesOnly, Looks, SameDisk, Rises, content_of};
 ghost use Rattle.journal.specs.Walk.{payloads_in, AreGates};
 ghost use Rattle.journal.specs.Open.{Tells};
@@ -72,6 +72,7 @@ impl<D: Disk> Journal<D> {
         ensures looks { InModel (D.view disk) (Looks (D.view disk).history (opened D.view result).history) }
 
         ensures faulty { IfErr result (λ e. e.cause ≡ OpenCause.Disk → Rises (D.view disk).faults (D.view e.disk).faults) }
+        ensures steady { MatchResult result (λ found. found.0.disk.faults ≡ (D.view disk).faults) (λ e. (e.cause ≡ OpenCause.Disk → ⊥) → (D.view e.disk).faults ≡ (D.view disk).faults) }
     {
         let mut disk = disk;
         match scan(alloc, &mut disk) {
@@ -113,6 +114,7 @@ impl<D: Disk> Journal<D> {
         ensures unchanged { HandsBack result self }
         ensures full { IsFull result ↔ (Fits self.disk.room self.end (length frame.now) → ⊥) }
         ensures faulty { IsFaulty result → Rises self.disk.faults (disk_after D.view result).faults }
+        ensures steady { (IsFaulty result → ⊥) → (disk_after D.view result).faults ≡ self.disk.faults }
     {
         if !self.fits(frame.payload_len()) {
             return Err(AppendFault::JournalFull(self));

@@ -1,6 +1,6 @@
 // Making a journal's disk, and reading it.
 ghost use Rattle.std.specs.Prelude.{◌≡◌, ◌≤◌, ◌<◌, ◌⊎◌, [], List, ℕ, length, IfOk, IfErr, OnErr, OnOk, IsErrOf, MatchResult};
-ghost use Rattle.disk_model.specs.Disk.{InModel, Looks, SameDisk, Rises, content_of, max_room};
+ghost use Rattle.disk_model.specs.Disk.{ChangesArea, InModel, LeavesOnly, Looks, Reaches, SameDisk, Rises, Torn, content_of, max_room};
 ghost use Rattle.journal.specs.Area.{created, first_gate};
 ghost use Rattle.journal.specs.Kept.{Keeps};
 ghost use Rattle.journal.specs.Loaded.{Holds};
@@ -95,6 +95,10 @@ pub fn create<D: Disk>(disk: D) -> Result<D, CreateFault<D>>
     // A disk that isn't empty is left as it was, whatever fails.
     ensures untouched { InModel (D.view disk) (IfErr result (λ e. (AreEmpty (content_of (D.view disk).history) → ⊥) → Looks (D.view disk).history (D.view e.disk).history)) }
 
+    ensures any_moment { InModel (D.view disk) (MatchResult result
+        (λ d. LeavesOnly (Reaches (ChangesArea Area.First (Torn 0 11)) (D.view disk).history.now) (D.view disk).history (D.view d).history)
+        (λ e. LeavesOnly (Reaches (ChangesArea Area.First (Torn 0 11)) (D.view disk).history.now) (D.view disk).history (D.view e.disk).history)) }
+
     ensures faulty { IfErr result (λ e. e.cause ≡ CreateCause.Disk → Rises (D.view disk).faults (D.view e.disk).faults) }
 {
     let mut disk = disk;
@@ -112,6 +116,7 @@ fn lay<D: Disk>(disk: &mut D) -> Result<(), CreateCause>
     ensures bytes { InModel (D.view disk.old) (OnOk result (content_of (D.view disk.new).history ≡ record { first = created; second = [] })) }
     ensures not_empty { InModel (D.view disk.old) (IsErrOf result CreateCause.NotEmpty → (AreEmpty (content_of (D.view disk.old).history) → ⊥) × Looks (D.view disk.old).history (D.view disk.new).history) }
     ensures untouched { InModel (D.view disk.old) ((AreEmpty (content_of (D.view disk.old).history) → ⊥) → OnErr result (Looks (D.view disk.old).history (D.view disk.new).history)) }
+    ensures any_moment { InModel (D.view disk.old) (LeavesOnly (Reaches (ChangesArea Area.First (Torn 0 11)) (D.view disk.old).history.now) (D.view disk.old).history (D.view disk.new).history) }
     ensures faulty { IsErrOf result CreateCause.Disk → Rises (D.view disk.old).faults (D.view disk.new).faults }
 {
     let first = disk.len(Area::First)?;
@@ -134,6 +139,7 @@ fn load<D: Disk>(alloc: Global, disk: &mut D) -> Result<Vec<u8>, OpenCause>
     ensures small { IfOk result (λ bytes. length bytes.items ≤ max_room) }
     ensures looks { InModel (D.view disk.old) (Looks (D.view disk.old).history (D.view disk.new).history) }
     ensures faulty { IsErrOf result OpenCause.Disk → Rises (D.view disk.old).faults (D.view disk.new).faults }
+    ensures steady { (IsErrOf result OpenCause.Disk → ⊥) → (D.view disk.new).faults ≡ (D.view disk.old).faults }
     ensures cause { IfErr result IsPassing }
 {
     disk.sync(Area::First)?;
@@ -154,6 +160,7 @@ pub(crate) fn scan<D: Disk>(alloc: Global, disk: &mut D) -> Result<(u64, Vec<Pay
 
     ensures looks { InModel (D.view disk.old) (Looks (D.view disk.old).history (D.view disk.new).history) }
     ensures faulty { IsErrOf result OpenCause.Disk → Rises (D.view disk.old).faults (D.view disk.new).faults }
+    ensures steady { (IsErrOf result OpenCause.Disk → ⊥) → (D.view disk.new).faults ≡ (D.view disk.old).faults }
 {
     let bytes = load(alloc, disk)?;
     read_area(alloc, &bytes)

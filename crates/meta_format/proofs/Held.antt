@@ -20,7 +20,7 @@ weight-append (open_mark channel name ∷ ms) ns = let rest = weight-append ms n
 weight-append (letter c ∷ ms) ns = let rest = weight-append ms ns in omega arith
 weight-append (close_mark ∷ ms) ns = weight-append ms ns
 
-weight_of : (ms ns more : List Mark) → ns ≡ ms ++ more → weight ns ≡ weight ms + weight more
+pub weight_of : (ms ns more : List Mark) → ns ≡ ms ++ more → weight ns ≡ weight ms + weight more
 weight_of ms ns more e = ap weight e ∙ weight-append ms more
 
 not_late : (b : Bounds) (start at : ℕ) → is_late (most_of b) start at ≡ false → suc at < b.block + start

@@ -1,6 +1,7 @@
 -- How long canonical spellings are.
 use Rattle.std.proofs.Common.{◌≡◌, ℕ, suc, max, ◌+◌, ◌*◌, ◌≤◌, Bool, true, false, cond, List, [], ◌∷◌, ◌++◌, length, refl, sym, ap, ◌∙◌, subst, append_assoc, arith, length-append}
 use Rattle.std.specs.List.{flat_map}
+use Rattle.std.proofs.lemmas.Grind.{flat_map-append}
 use Rattle.block_tree.specs.Tree.{Items, Tree, end, text, block}
 use Rattle.block_tree.specs.Output.{is_aside, join, output_items, no_output, output}
 use Rattle.meta_format.specs.Limits.{Limits}
@@ -40,13 +41,9 @@ grown most b s h =
 
 -- An output is no longer than its block.
 
-flat_append : (s t : List ℕ) → flat_map escape (s ++ t) ≡ flat_map escape s ++ flat_map escape t
-flat_append [] t = refl
-flat_append (c ∷ s) t = ap (λ u. escape c ++ u) (flat_append s t) ∙ sym (append_assoc (escape c) (flat_map escape s) (flat_map escape t))
-
 joined : (t : List ℕ) (x : Items) → canonical_items (join t x) ≡ flat_map escape t ++ canonical_items x
 joined t end = refl
-joined t (text u rest) = ap (λ v. v ++ canonical_items rest) (flat_append t u) ∙ append_assoc (flat_map escape t) (flat_map escape u) (canonical_items rest)
+joined t (text u rest) = ap (λ v. v ++ canonical_items rest) (flat_map-append escape t u) ∙ append_assoc (flat_map escape t) (flat_map escape u) (canonical_items rest)
 joined t (block channel name inside rest) = refl
 
 no_longer : (x : Items) → length (canonical_items (output_items x)) ≤ length (canonical_items x)

@@ -20,3 +20,6 @@ pub mod Readable
 pub mod Held
 pub mod EveryStream
 pub mod Lengths
+pub mod Letters
+pub mod FaultOrNone
+pub mod GoesOn

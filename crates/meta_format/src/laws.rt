@@ -1,6 +1,6 @@
 //! What the definitions imply, as contracts of functions that do nothing.
 
-ghost use Rattle.std.specs.Prelude.{◌≡◌, ◌≤◌, ◌*◌, ℕ, List, [], ◌++◌, length, max, true};
+ghost use Rattle.std.specs.Prelude.{◌≡◌, ◌≤◌, ◌*◌, ◌⊎◌, ℕ, List, [], ◌++◌, length, max, true};
 ghost use Rattle.block_tree.specs.Tree.{Tree};
 ghost use Rattle.block_tree.specs.Output.{output};
 ghost use Rattle.block_tree.specs.Shape.{is_block_within};
@@ -8,7 +8,8 @@ ghost use Rattle.meta_format.specs.Limits.{Limits, IsRoomy};
 ghost use Rattle.meta_format.specs.Spelling.{Spells};
 ghost use Rattle.meta_format.specs.Canonical.{canonical};
 ghost use Rattle.meta_format.specs.Stream.{Outer, Stream};
-ghost use Rattle.meta_format.specs.Faults.{Kind, FirstFault};
+ghost use Rattle.meta_format.specs.Faults.{Kind, FirstFault, IsSound};
+ghost use Rattle.meta_format.specs.Reader.{Faults, CloseWithin};
 
 /// No bytes spell two blocks.
 pub fn one_block()
@@ -49,4 +50,17 @@ pub fn one_fault()
 /// Every stream has a reading, also one with a fault.
 pub fn a_reading()
     ensures { (most : Limits) → IsRoomy most → (s : List ℕ) → (blocks : List Outer) × (tail : List ℕ) × Stream most s blocks tail }
+{}
+
+/// Every stream has no fault, or a first one with blocks before it.
+pub fn a_fault_or_none()
+    ensures { (most : Limits) → IsRoomy most → (s : List ℕ) → IsSound most s ⊎ ((at : ℕ) × (kind : Kind) × (blocks : List Outer) × Faults most s at kind blocks) }
+{}
+
+/// More bytes behind a stream without a fault leave its blocks as they are. The further ones close in
+/// these bytes, and then the stream has no fault either, or its first one lies in them.
+pub fn blocks_stay()
+    ensures { (most : Limits) → IsRoomy most → (s p : List ℕ) (blocks : List Outer) (tail : List ℕ) → Stream most s blocks tail → IsSound most s
+        → (more : List Outer) × CloseWithin (length s) (length (s ++ p)) more
+        × (((tail : List ℕ) × Stream most (s ++ p) (blocks ++ more) tail × IsSound most (s ++ p)) ⊎ ((at : ℕ) × (kind : Kind) × Faults most (s ++ p) at kind (blocks ++ more))) }
 {}

@@ -39,6 +39,14 @@ fn put_letter(level: &mut Level, c: u8) -> Result<(), OutOfMemory>
     Ok(())
 }
 
+fn put_letters(level: &mut Level, text: &[u8]) -> Result<(), OutOfMemory>
+    ensures right { OnOk result (IsLevel level.old → IsLevel level.new) }
+    ensures marks { OnOk result (level_marks level.new ≡ level_marks level.old ++ map letter text.now) }
+{
+    level.text.extend_from_slice(text)?;
+    Ok(())
+}
+
 #[tactic(auto, using(crate::proofs::Stacks::tree_rules, crate::proofs::RightLevels::level_rules))]
 fn put_block(alloc: Global, level: &mut Level, node: Node) -> Result<(), OutOfMemory>
     requires { is_plain node ≡ true }
@@ -59,6 +67,19 @@ pub fn add_letter(levels: &mut Vec<Level>, c: u8) -> Result<(), OutOfMemory>
 {
     let top = levels.len() - 1;
     put_letter(&mut levels[top], c)?;
+    Ok(())
+}
+
+/// The bytes of a text, many at once.
+pub fn add_letters(levels: &mut Vec<Level>, text: &[u8]) -> Result<(), OutOfMemory>
+    requires some { 0 < vec_len levels.old }
+    requires right { All IsLevel levels.old.items }
+    ensures right { OnOk result (All IsLevel levels.new.items) }
+    ensures marks { OnOk result (stack_marks levels.new.items ≡ stack_marks levels.old.items ++ map letter text.now) }
+    ensures count { OnOk result (vec_len levels.new ≡ vec_len levels.old) }
+{
+    let top = levels.len() - 1;
+    put_letters(&mut levels[top], text)?;
     Ok(())
 }
 

@@ -10,13 +10,14 @@ mod level;
 mod piece;
 mod read;
 mod reader;
+mod runs;
 mod scan;
 #[cfg(test)]
 mod tests;
 mod write;
 
 pub use laws::{
-    a_reading, canonical_growth, canonical_spelling, no_front, one_block, one_fault, one_reading,
+    a_fault_or_none, a_reading, blocks_stay, canonical_growth, canonical_spelling, no_front, one_block, one_fault, one_reading,
     output_length,
 };
 pub use read::{ReadFault, read_block};

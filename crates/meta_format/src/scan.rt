@@ -1,16 +1,18 @@
 //! One byte after another.
 
-ghost use Rattle.std.specs.Prelude.{◌≡◌, ◌≤◌, ◌<◌, ◌+◌, ◌-◌, ◌^◌, ℕ, List, [], ◌∷◌, ◌++◌, map, length, vec_len, OnOk, true, false};
+ghost use Rattle.std.specs.Prelude.{◌≡◌, ◌≤◌, ◌<◌, ◌+◌, ◌-◌, ◌^◌, ℕ, List, [], ◌∷◌, ◌++◌, map, length, vec_len, OnOk, IfErr, true, false, slice_index, nat_eq};
 ghost use Rattle.std.specs.List.{list_all};
 ghost use Rattle.block_tree.specs.Shape.{is_tag_byte, max_tag, max_depth};
-ghost use Rattle.meta_format.specs.Scan.{most_of, mode_of, IsFresh, IsPlaced, AreLevels, Steps, StepsAt};
+ghost use Rattle.meta_format.specs.Scan.{most_of, mode_of, state_of, IsFresh, IsPlaced, AreLevels, Steps, StepsAt};
+ghost use Rattle.meta_format.specs.Stream.{Outer};
 ghost use Rattle.meta_format.specs.Levels.{IsHeld, stack_marks};
-ghost use Rattle.meta_format.specs.Machine.{is_bad_tag, is_late, outside};
+ghost use Rattle.meta_format.specs.Machine.{is_bad_tag, is_late, outside, run};
 ghost use Rattle.meta_format.specs.Spelling.{is_separator as separates, is_special};
 ghost use Rattle.meta_format.specs.declared.scan.Place.TheVariants as place;
+ghost use Rattle.meta_format.specs.declared.scan.Stop.TheVariants as stop;
 
 use crate::bounds::Bounds;
-use crate::level::{Level, add_letter, add_level, end_level};
+use crate::level::{Level, add_letter, add_letters, add_level, end_level};
 use block_tree::{Block, MAX_DEPTH, MAX_TAG, Octets, OutOfMemory, Tag};
 use std::alloc::{AllocFailed, Global};
 use std::mem;
@@ -259,6 +261,35 @@ impl Scanner {
         self.at = at + 1;
         self.place = Place::Body;
         Ok(None)
+    }
+
+    /// Takes noise, many bytes at once.
+    pub fn skip_noise(&mut self, bounds: Bounds, noise: &[u8])
+        requires outside { self.old.place ≡ place.Outside }
+        requires placed { IsPlaced bounds.block self.old }
+        requires silent { (k : ℕ) → k < length noise.now → nat_eq (slice_index noise.now k) 2 ≡ false }
+        requires early { self.old.at + length noise.now ≤ bounds.stream }
+        ensures runs { (out : List Outer) (rest : List ℕ) → run (most_of bounds) (state_of self.old out) (noise.now ++ rest) ≡ run (most_of bounds) (state_of self.new out) rest }
+        ensures placed { IsPlaced bounds.block self.new }
+    {
+        self.at += noise.len() as u64;
+    }
+
+    /// Takes bytes of a text that spell themselves, many at once.
+    #[tactic(auto, using(crate::proofs::Letters::took_text, crate::proofs::Letters::placed_text))]
+    pub fn take_run(&mut self, bounds: Bounds, text: &[u8]) -> Result<(), Stop>
+        requires body { self.old.place ≡ place.Body }
+        requires placed { IsPlaced bounds.block self.old }
+        requires plain { (k : ℕ) → k < length text.now → is_special (slice_index text.now k) ≡ false }
+        requires early { self.old.at + length text.now ≤ bounds.stream }
+        requires short { self.old.at + length text.now < bounds.block + self.old.start }
+        ensures runs { OnOk result ((out : List Outer) (rest : List ℕ) → run (most_of bounds) (state_of self.old out) (text.now ++ rest) ≡ run (most_of bounds) (state_of self.new out) rest) }
+        ensures placed { OnOk result (IsPlaced bounds.block self.new) }
+        ensures memory { IfErr result (λ e. e ≡ stop.OutOfMemory) }
+    {
+        add_letters(&mut self.levels, text)?;
+        self.at += text.len() as u64;
+        Ok(())
     }
 
     /// Takes a 27, whose second byte is to come.

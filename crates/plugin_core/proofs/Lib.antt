@@ -8,3 +8,6 @@ pub mod ByAskPoints
 pub mod Sends
 pub mod Readings
 pub mod Prompts
+pub mod Whole
+pub mod Examples
+pub mod Waits

@@ -2,14 +2,14 @@
 use Rattle.std.proofs.Common.{◌≡◌, ℕ, ◌+◌, ◌<◌, ◌≤◌, List, [], ◌∷◌, ◌++◌, length, take, drop, refl, ap, sym, ◌∙◌, subst, arith, Bool, true, false, Option, Some, None, suc, zero, length-append}
 use Rattle.std.specs.Prelude.{nat_le, slice_get, option_map, option_to_list}
 use Rattle.std.proofs.Math.Seq.{take-append_seam}
+use Rattle.std.proofs.lemmas.Option.{slice_get_within}
 use Rattle.std.proofs.lemmas.List.{append-nil, drop_all, length-drop, take_all}
 use Rattle.std.proofs.lemmas.Bool.Decides.{nat_tests}
 use Rattle.meta_format.specs.Stream.{Outer}
 use Rattle.meta_format.specs.Reader.{CloseWithin}
 use Rattle.plugin_core.specs.declared.item.Item.{Item}
-use Rattle.plugin_core.specs.Past.{Event, accepted, received, stream_of, items_of}
+use Rattle.plugin_core.specs.Past.{Event, accepted, received, stream_of, items_of, ends_from}
 use Rattle.plugin_core.specs.Answers.{asked_places, answers_of, ask_of}
-use Rattle.plugin_core.specs.Past.{ends_from}
 use Rattle.plugin_core.specs.Items.{unanswered, bytes_of}
 use Rattle.plugin_core.specs.Steps.{sent_by}
 use Rattle.plugin_core.specs.Kept.{has_banner}
@@ -51,11 +51,6 @@ item_at (received q ∷ past) zero i e = cc
 item_at (received q ∷ past) (suc f) i e = item_at past f i e
 
 -- Places in lists.
-
-slice_in : {X : Type 0} (xs : List X) (k : ℕ) (x : X) → slice_get xs k ≡ Some x → k < length xs
-slice_in [] k x e = cc
-slice_in (y ∷ xs) zero x e = omega arith
-slice_in (y ∷ xs) (suc k) x e = let h = slice_in xs k x e in omega arith
 
 some_in : {X : Type 0} (xs : List X) (k : ℕ) → k < length xs → (x : X) × (slice_get xs k ≡ Some x)
 some_in [] k h = absurd (omega arith)
@@ -221,7 +216,7 @@ accepted_sends ts j bs l i h =
     let y : Some (accepted j) ≡ Some (accepted h.accepts.0) = sym (last_is ts (accepted j)) ∙ x in
     let same : j ≡ h.accepts.0 = cc in
     let n : suc (length (items_of ts)) ≡ suc h.number = ap suc (sym (seam_items ts (accepted j))) ∙ subst (λ (n : ℕ). suc (length (items_of (take n (ts ++ accepted j ∷ [])))) ≡ suc h.number) m h.accepts.2 in
-    let k : length (items_of ts) < length (answers_of ts bs) = omega (arith, n, slice_in (answers_of ts bs) h.number h.before e) in
+    let k : length (items_of ts) < length (answers_of ts bs) = omega (arith, n, slice_get_within (answers_of ts bs) h.number h.before e) in
     sym (sent_by-accepted ts bs j l) ∙ sent_for_is (answers_of ts bs) (items_of ts) j k ∙ ap (λ (i : Item). Some (bytes_of i)) (same ∙ h.is)
 
 -- The law.

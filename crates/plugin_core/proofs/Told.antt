@@ -1,5 +1,5 @@
 -- A piece tells the answer that it closes.
-use Rattle.std.proofs.Common.{◌≡◌, ℕ, ◌<◌, List, [], ◌∷◌, ◌++◌, length, refl, ap, sym, ◌∙◌, arith, true, Option, Some, None, suc, zero}
+use Rattle.std.proofs.Common.{◌≡◌, ℕ, ◌<◌, List, [], ◌∷◌, ◌++◌, length, refl, ap, sym, ◌∙◌, arith, true, Option, Some, None, suc, zero, drop}
 use Rattle.std.specs.Prelude.{is_some, slice_get, option_map, option_and_then}
 use Rattle.block_tree.specs.Tree.{Tree}
 use Rattle.meta_format.specs.Stream.{Outer}
@@ -12,7 +12,6 @@ use Rattle.plugin_core.specs.Items.{bytes_of, prompt_of, answer_to, answer_behin
 use Rattle.plugin_core.specs.Steps.{closed_by, sent_by, unless_ended, answered_with, step_of}
 use Rattle.plugin_core.specs.Changes.{closed_in}
 use Rattle.plugin_core.proofs.OneMore.{Adds, answered_some, closed_by-received, sent_by-received, next_item}
-use Rattle.std.proofs.Common.{drop}
 use Rattle.block_tree.specs.Output.{output}
 
 there : (k : ℕ) (is : List Item) (q : List ℕ) (b : Tree) → k < length is → is_some (option_map (λ i. answer_to i q b) (slice_get is k)) ≡ true

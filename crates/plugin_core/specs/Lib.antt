@@ -8,3 +8,5 @@ pub mod AskPoints
 pub mod Kept
 pub mod Laws
 pub mod Changes
+pub mod Whole
+pub mod Waits

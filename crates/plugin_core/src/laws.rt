@@ -1,6 +1,8 @@
 //! Laws of the definitions that the contracts cite. Each function does nothing: its contract is the law.
 ghost use Rattle.plugin_core.specs.AskPoints.{AnswersByAskPoints, SendsWhatIsAsked};
 ghost use Rattle.plugin_core.specs.Laws.{OneReading, OneStep, ShortPrompts};
+ghost use Rattle.plugin_core.specs.Whole.{TellsTheAnswer};
+ghost use Rattle.plugin_core.specs.Waits.{WaitsWhatIsUnanswered};
 
 /// The answers of a past are those that its ask points give: each is the first block that starts at or
 /// after its ask point, and this is where the stream ends after the later of two events, the one that
@@ -34,4 +36,15 @@ pub fn one_step()
 /// The prompt after any past has at most 1,024 bytes.
 pub fn short_prompts()
     ensures { ShortPrompts }
+{}
+
+/// What a piece tells of a line is the output of a whole block of the stream that answers this line by
+/// its ask point, and whose last byte came in this piece; and the prompt that the line had.
+pub fn tells_the_answer()
+    ensures { TellsTheAnswer }
+{}
+
+/// A field's line waits exactly where it was accepted and no block answers it so far.
+pub fn waits_what_is_unanswered()
+    ensures { WaitsWhatIsUnanswered }
 {}

@@ -1,5 +1,5 @@
 -- An op is read again from its payload.
-use Rattle.std.proofs.Common.{◌≡◌, ℕ, ◌<◌, ◌≤◌, ◌-◌, ◌^◌, ◌==◌, Bool, true, false, List, [], ◌∷◌, ◌++◌, length, drop, get_or, take, Option, Some, None, Result, Ok, Err, refl, sym, ap, ◌∙◌, subst, append-nil, arith}
+use Rattle.std.proofs.Common.{◌≡◌, ℕ, ◌<◌, ◌≤◌, ◌-◌, ◌^◌, ◌==◌, if◌then◌else◌, Bool, true, false, List, [], ◌∷◌, ◌++◌, length, drop, get_or, take, Option, Some, None, Result, Ok, Err, refl, sym, ap, ◌∙◌, subst, append-nil, arith}
 use Rattle.std.specs.List.{flat_map}
 use Rattle.std.proofs.lemmas.List.{take_all}
 use Rattle.block_tree.specs.Tree.{Tree}
@@ -24,70 +24,48 @@ flag_again : (tab : Bool) → (flag tab == 1) ≡ tab
 flag_again false = refl
 flag_again true = refl
 
-pub session_again : IsReader 1 session_at
-unfolding session_at
-session_again (op.Session name tab words) k typed fits =
-    rw (short_again name (flag tab ∷ length words ∷ flat_map long words), words_again words fits.2, flag_again tab) refl
-session_again (op.New after session input) k typed fits = absurd cc
-session_again (op.Set id input) k typed fits = absurd cc
-session_again (op.Remove id) k typed fits = absurd cc
-session_again (op.Move id after) k typed fits = absurd cc
-session_again (op.Clear id) k typed fits = absurd cc
-session_again (op.Answer id prompt output) k typed fits = absurd cc
+-- what reads the parts of an op of this kind; an answer is read by its own rule
+abbrev pub parts_at : ℕ → List ℕ → Option Op
+parts_at kind =
+    if kind == 1 then session_at else if kind == 2 then new_at else if kind == 3 then set_at
+    else if kind == 4 then remove_at else if kind == 5 then move_at else clear_at
 
-pub new_again : IsReader 2 new_at
-unfolding new_at
-new_again (op.New after session input) k typed fits =
+read_again : (o : Op) → IsTyped o → HasCode o → kind_of o < 7 → parts_at (kind_of o) (parts_of o) ≡ Some o
+unfolding session_at new_at set_at remove_at move_at clear_at
+read_again (op.Session name tab words) typed fits small =
+    rw (short_again name (flag tab ∷ length words ∷ flat_map long words), words_again words fits.2, flag_again tab) refl
+read_again (op.New after session input) typed fits small =
     let alone : long input ++ [] ≡ long input = append-nil (long input) in
     rw (number_again after (short session ++ long input) typed, short_again session (long input), ← alone, long_again input [] fits.1) refl
-new_again (op.Session name tab words) k typed fits = absurd cc
-new_again (op.Set id input) k typed fits = absurd cc
-new_again (op.Remove id) k typed fits = absurd cc
-new_again (op.Move id after) k typed fits = absurd cc
-new_again (op.Clear id) k typed fits = absurd cc
-new_again (op.Answer id prompt output) k typed fits = absurd cc
-
-pub set_again : IsReader 3 set_at
-unfolding set_at
-set_again (op.Set id input) k typed fits =
+read_again (op.Set id input) typed fits small =
     let alone : long input ++ [] ≡ long input = append-nil (long input) in
     rw (number_again id (long input) typed, ← alone, long_again input [] fits) refl
-set_again (op.Session name tab words) k typed fits = absurd cc
-set_again (op.New after session input) k typed fits = absurd cc
-set_again (op.Remove id) k typed fits = absurd cc
-set_again (op.Move id after) k typed fits = absurd cc
-set_again (op.Clear id) k typed fits = absurd cc
-set_again (op.Answer id prompt output) k typed fits = absurd cc
+read_again (op.Remove id) typed fits small = rw (number_again id [] typed) refl
+read_again (op.Move id after) typed fits small = rw (number_again id (number after) typed.0, number_again after [] typed.1) refl
+read_again (op.Clear id) typed fits small = rw (number_again id [] typed) refl
+read_again (op.Answer id prompt output) typed fits small = absurd (omega (arith, small))
+
+reads : (kind : ℕ) → kind < 7 → IsReader kind (parts_at kind)
+reads kind small o k typed fits =
+    subst (λ (n : ℕ). parts_at n (parts_of o) ≡ Some o) k (read_again o typed fits (subst (λ (n : ℕ). n < 7) (sym k) small))
+
+pub session_again : IsReader 1 session_at
+session_again = reads 1 (omega arith)
+
+pub new_again : IsReader 2 new_at
+new_again = reads 2 (omega arith)
+
+pub set_again : IsReader 3 set_at
+set_again = reads 3 (omega arith)
 
 pub remove_again : IsReader 4 remove_at
-unfolding remove_at
-remove_again (op.Remove id) k typed fits = rw (number_again id [] typed) refl
-remove_again (op.Session name tab words) k typed fits = absurd cc
-remove_again (op.New after session input) k typed fits = absurd cc
-remove_again (op.Set id input) k typed fits = absurd cc
-remove_again (op.Move id after) k typed fits = absurd cc
-remove_again (op.Clear id) k typed fits = absurd cc
-remove_again (op.Answer id prompt output) k typed fits = absurd cc
+remove_again = reads 4 (omega arith)
 
 pub move_again : IsReader 5 move_at
-unfolding move_at
-move_again (op.Move id after) k typed fits = rw (number_again id (number after) typed.0, number_again after [] typed.1) refl
-move_again (op.Session name tab words) k typed fits = absurd cc
-move_again (op.New after session input) k typed fits = absurd cc
-move_again (op.Set id input) k typed fits = absurd cc
-move_again (op.Remove id) k typed fits = absurd cc
-move_again (op.Clear id) k typed fits = absurd cc
-move_again (op.Answer id prompt output) k typed fits = absurd cc
+move_again = reads 5 (omega arith)
 
 pub clear_again : IsReader 6 clear_at
-unfolding clear_at
-clear_again (op.Clear id) k typed fits = rw (number_again id [] typed) refl
-clear_again (op.Session name tab words) k typed fits = absurd cc
-clear_again (op.New after session input) k typed fits = absurd cc
-clear_again (op.Set id input) k typed fits = absurd cc
-clear_again (op.Remove id) k typed fits = absurd cc
-clear_again (op.Move id after) k typed fits = absurd cc
-clear_again (op.Answer id prompt output) k typed fits = absurd cc
+clear_again = reads 6 (omega arith)
 
 pub asked_again : (id : ℕ) (prompt rest : List ℕ) → id < 2 ^ 32 → length prompt < 2 ^ 16 → asked_at (number id ++ (long prompt ++ rest)) ≡ Some ((id, prompt), rest)
 unfolding asked_at

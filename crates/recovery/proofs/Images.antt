@@ -13,7 +13,7 @@ use Rattle.worksheet.specs.Checks.{Allowed, AllowedFrom, first_refusal}
 use Rattle.worksheet.proofs.Existence.{allowed_goes_on}
 use Rattle.journal.specs.Kept.{Fits, Stands, BeforeOrAfter}
 use Rattle.journal.specs.Area.{StandsFor}
-use Rattle.journal.specs.declared.frame.TheConstants.{MAX_PAYLOAD}
+use Rattle.journal.specs.Limits.{max_payload}
 use Rattle.journal.specs.declared.opening.OpenCause.{OpenCause}
 use Rattle.journal.specs.declared.opening.OpenCause.TheVariants as causes
 use Rattle.journal.specs.Open.{IsPassing}
@@ -48,7 +48,7 @@ on_ok (Err e) x is holds = cc
 -- what fits by a capped length fits
 pub fits_uncapped : (room end n : ℕ) → Fits room end (min n longest_told) → Fits room end n
 fits_uncapped room end n fits =
-    let short : n ≤ MAX_PAYLOAD = omega (arith, fits.0) in
+    let short : n ≤ max_payload = omega (arith, fits.0) in
     (short, omega (arith, fits.1, short))
 
 pub made_in : {D : Type 0} (view : D → DiskView) (b : Option (Base D)) (sheet : Contents) → IsStoreOf view b sheet → (ops : List Op) × Makes ops sheet
@@ -59,7 +59,7 @@ made_in view (Some base) sheet holds = holds.made
 pub all_images : {D : Type 0} (view : D → DiskView) (base : Base D) (sheet : Contents) → KeepsSheet base sheet → Leaves (IsSheetImage sheet) (disk_of view base).history.now
 all_images view (Open journal) sheet kept i image = record {
   ops = kept.ops;
-  stands = subst (λ (l : List ℕ). StandsFor MAX_PAYLOAD l (codes_of kept.ops)) (sym (kept.keeps.durable i image)) kept.keeps.stands;
+  stands = subst (λ (l : List ℕ). StandsFor max_payload l (codes_of kept.ops)) (sym (kept.keeps.durable i image)) kept.keeps.stands;
   makes = kept.makes;
 }
 all_images view (Closed disk) sheet kept i image = absurd kept.keeps

@@ -8,7 +8,7 @@ use Rattle.worksheet.specs.Ops.{sheet_of}
 use Rattle.worksheet.specs.Checks.{first_refusal}
 use Rattle.journal.specs.Area.{StandsFor}
 use Rattle.journal.specs.Kept.{Stands, Keeps, BeforeOrAfter}
-use Rattle.journal.specs.declared.frame.TheConstants.{MAX_PAYLOAD}
+use Rattle.journal.specs.Limits.{max_payload}
 use Rattle.recovery.specs.Code.{IsPayloadOf}
 use Rattle.recovery.specs.Sheets.{StoreView, codes_of, Makes, KeepsOps, SameStore, StandsWithOrWithout}
 use Rattle.recovery.specs.declared.base.Base.{Base}
@@ -47,7 +47,7 @@ pub stays_kept : (old new : StoreView) (o : Op) (ops : List Op) → SameStore ol
 stays_kept old new o ops same kept =
     subst (λ (d : DiskView). LeavesOnly (StandsWithOrWithout ops o) old.disk.history d.history) (sym same.disk)
     (started (StandsWithOrWithout ops o) old.disk.history
-    (λ i image. inl (subst (λ (l : List ℕ). StandsFor MAX_PAYLOAD l (codes_of ops)) (sym (kept.keeps.durable i image)) kept.keeps.stands)))
+    (λ i image. inl (subst (λ (l : List ℕ). StandsFor max_payload l (codes_of ops)) (sym (kept.keeps.durable i image)) kept.keeps.stands)))
 
 -- and is none before a run of calls
 pub goes_kept : (old mid : StoreView) (new : History) (o : Op) (ops : List Op) → SameStore old mid → KeepsOps old ops

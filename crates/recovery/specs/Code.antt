@@ -54,7 +54,7 @@ IsShort bytes = length bytes < 2 ^ 8
 abbrev pub IsLong : List ℕ → Type 0
 IsLong bytes = length bytes < 2 ^ 16
 
--- the greatest length of a payload that is told
+-- the greatest length that `code_len` tells, for a longer payload too
 abbrev pub longest_told : ℕ
 longest_told = 4294967295
 

@@ -40,9 +40,9 @@ impl<D: Disk> Model for Store<D> {
 
     ghost coded = { coded_store };
 
-    ghost use Rattle.recovery.specs.Base.{disk_in, end_of_base, closed_in, IsStoreOf};
+    ghost use Rattle.recovery.specs.Base.{store_on, IsStoreOf};
 
-    ghost view = { λ s. record { disk = disk_in D.view s.base; end = end_of_base s.base; sheet = s.sheet; closed = closed_in s.base } };
+    ghost view = { λ s. store_on D.view s.base s.sheet };
 
     ghost invariant = { λ s. IsStoreOf D.view s.base s.sheet.contents };
 }

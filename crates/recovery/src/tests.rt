@@ -267,7 +267,12 @@ fn an_op_that_does_not_fit(rt: HostRuntime) -> Result<(), Fail> {
     done(put(&mut store, session(alloc)?))?;
     done(put(&mut store, new(alloc)?))?;
     assert!(rt; !store.fits(&Op::Clear { id: 1 }));
-    assert_eq!(rt; put(&mut store, Op::Clear { id: 1 }), Outcome::Full);
+    let op = Op::Clear { id: 1 };
+    if let Err(_) = store.sheet().check(&op) {
+        return Err("the worksheet refuses the op".into());
+    }
+    let refused = store.commit(op);
+    assert!(rt; matches!(refused, Err(CommitFault::Full(Op::Clear { id: 1 }))));
     assert_eq!(rt; store.into_disk().content(Area::First).len(), 40);
     Ok(())
 }

@@ -3,3 +3,4 @@ pub mod Blocks
 pub mod Script
 pub mod Texts
 pub mod Laws
+pub mod PlainRuns

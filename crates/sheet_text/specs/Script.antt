@@ -138,8 +138,11 @@ abbrev pub keeps_bytes : Command → Bool
 keeps_bytes (command.Session name tab words) = true
 keeps_bytes (command.New after session input) = true
 keeps_bytes (command.Set id input) = true
+keeps_bytes (command.Remove id) = false
+keeps_bytes (command.Move id after) = false
+keeps_bytes (command.Clear id) = false
+keeps_bytes (command.Eval id) = false
 keeps_bytes (command.Stop name) = true
-keeps_bytes _ = false
 
 abbrev pub wants_memory_for : Option Command → Bool
 wants_memory_for None = false

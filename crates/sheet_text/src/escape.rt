@@ -6,6 +6,7 @@ ghost use Rattle.sheet_text.specs.Escape.{hex, on_line, on_lines, printed_byte};
 ghost use Rattle.sheet_text.specs.Escape as escape;
 
 use crate::WriteFault;
+use crate::plain::plain_end;
 use std::io::Write;
 
 fn hex_digit(n: u8) -> u8
@@ -16,7 +17,8 @@ fn hex_digit(n: u8) -> u8
 }
 
 /// Whether a byte is printed as itself.
-fn is_plain(byte: u8, keeps_lines: bool) -> bool
+#[inline(always)]
+pub(crate) fn is_plain(byte: u8, keeps_lines: bool) -> bool
     ensures { result ≡ escape.is_plain keeps_lines byte }
 {
     if byte == b'\t' || byte == b'\n' {
@@ -54,14 +56,15 @@ fn write_bytes<W: Write>(bytes: &[u8], keeps_lines: bool, out: &mut W) -> Result
     ensures { OnOk result (Appends (W.contents out.old) (W.contents out.new) (flat_map (printed_byte keeps_lines) bytes.now)) }
 {
     let mut start = 0;
-    for i in 0..bytes.len() {
-        if !is_plain(bytes[i], keeps_lines) {
-            out.write_all(&bytes[start..i]).map_err(|_| WriteFault)?;
-            write_byte(bytes[i], keeps_lines, out)?;
-            start = i + 1;
+    while start < bytes.len() {
+        let end = plain_end(bytes, start, keeps_lines);
+        out.write_all(&bytes[start..end]).map_err(|_| WriteFault)?;
+        if end == bytes.len() {
+            return Ok(());
         }
+        write_byte(bytes[end], keeps_lines, out)?;
+        start = end + 1;
     }
-    out.write_all(&bytes[start..]).map_err(|_| WriteFault)?;
     Ok(())
 }
 

@@ -8,6 +8,7 @@ mod fault;
 pub mod laws;
 pub mod numbers;
 mod parts;
+mod plain;
 mod script;
 mod sheet;
 #[cfg(test)]

@@ -1,8 +1,10 @@
-use Rattle.std.proofs.Common.{◌≡◌, ◌≤◌, ◌++◌, ℕ, List, take, drop, flat_map}
+use Rattle.std.proofs.Common.{◌≤◌, ◌-◌, take, length, flat_map}
 use Rattle.std.specs.Io.KnownBytes.{Appends}
 use Rattle.sheet_text.specs.Escape.{printed_byte}
 use Rattle.sheet_text.proofs.escape.write_bytes.Given as goal
 
-abbrev pub invariant-loop-i : goal.invariant-loop-i
-invariant-loop-i g l = (written : List ℕ) × (l.start ≤ l.i) × Appends (g.W.Write.contents l.initial.out) (g.W.Write.contents l.out) written
-    × (written ++ drop l.start (take l.i l.bytes) ≡ flat_map (printed_byte l.keeps_lines) (take l.i l.bytes))
+abbrev pub invariant-loop-start : goal.invariant-loop-start
+invariant-loop-start g l = (l.start ≤ length l.bytes) × Appends (g.W.Write.contents l.initial.out) (g.W.Write.contents l.out) (flat_map (printed_byte l.keeps_lines) (take l.start l.bytes))
+
+abbrev pub decreases-loop-start : goal.decreases-loop-start
+decreases-loop-start g l = length l.bytes - l.start

@@ -1,0 +1,157 @@
+-- What is told of a line is the whole answer to it.
+use Rattle.std.proofs.Common.{◌≡◌, ℕ, ◌+◌, ◌<◌, ◌≤◌, List, [], ◌∷◌, ◌++◌, length, take, refl, ap, sym, ◌∙◌, subst, arith, Bool, true, false, Option, Some, None, suc, zero, length-append, append_assoc}
+use Rattle.std.specs.Prelude.{nat_le, slice_get, option_map, option_and_then, option_to_list, if◌then◌else◌}
+use Rattle.std.proofs.Math.Seq.{take-append_seam}
+use Rattle.std.proofs.lemmas.List.{append-nil, take_all}
+use Rattle.block_tree.specs.Tree.{Tree}
+use Rattle.block_tree.specs.Output.{output}
+use Rattle.meta_format.specs.Limits.{limits}
+use Rattle.meta_format.specs.Stream.{Outer, Chain, Stream}
+use Rattle.meta_format.specs.Stream.Chain.{none as chain_none, next as chain_next}
+use Rattle.meta_format.specs.Faults.{Kind}
+use Rattle.meta_format.specs.Reader.{CloseWithin}
+use Rattle.plugin_core.specs.declared.item.Item.{Item}
+use Rattle.plugin_core.specs.declared.item.Item.TheVariants as item
+use Rattle.plugin_core.specs.declared.step.Step.{Step}
+use Rattle.plugin_core.specs.declared.step.Answered.TheVariants as answered
+use Rattle.plugin_core.specs.Past.{Event, received, stream_of, items_of}
+use Rattle.plugin_core.specs.Answers.{first_from, answers_of, ask_of}
+use Rattle.plugin_core.specs.AskPoints.{length_after, IsAnswer, ClosesIn}
+use Rattle.plugin_core.specs.Items.{prompt_of, answer_to, answer_behind}
+use Rattle.plugin_core.specs.Steps.{Reads, closed_by, answered_with}
+use Rattle.plugin_core.specs.Kept.{Kept, Takes}
+use Rattle.plugin_core.specs.Changes.{closed_in}
+use Rattle.plugin_core.specs.Whole.{IsWholeIn, IsItsAnswer, TellsTheAnswer}
+use Rattle.plugin_core.proofs.Pasts.{stream_of-received}
+use Rattle.plugin_core.proofs.Spans.{LieWithin, LieWithin-behind, LieWithin-closed}
+use Rattle.plugin_core.proofs.Asks.{found-stop}
+use Rattle.plugin_core.proofs.OneMore.{Adds, closed_by-received}
+use Rattle.plugin_core.proofs.ByAskPoints.{answers_by_ask_points, reads_lie}
+
+-- Each block of a stream is whole in it.
+
+abbrev AreWhole : List ℕ → List Outer → Type 0
+AreWhole s [] = Unit {0}
+AreWhole s (b ∷ bs) = IsWholeIn s b × AreWhole s bs
+
+wider : (s t : List ℕ) (b : Outer) → IsWholeIn s b → IsWholeIn (s ++ t) b
+wider s t b h = record {
+  front = h.front;
+  spelling = h.spelling;
+  rest = h.rest ++ t;
+  is = ap (λ x. x ++ t) h.is ∙ append_assoc (h.front ++ h.spelling) h.rest t;
+  start = h.start;
+  stop = h.stop;
+  spells = h.spells;
+}
+
+all_wider : (s t : List ℕ) (bs : List Outer) → AreWhole s bs → AreWhole (s ++ t) bs
+all_wider s t [] h = tt
+all_wider s t (b ∷ bs) h = (wider s t b h.0, all_wider s t bs h.1)
+
+one_more : (s : List ℕ) (bs : List Outer) (b : Outer) → AreWhole s bs → IsWholeIn s b → AreWhole s (bs ++ b ∷ [])
+one_more s [] b h k = (k, tt)
+one_more s (c ∷ bs) b h k = (h.0, one_more s bs b h.1 k)
+
+behind : (s : List ℕ) (bs fs : List Outer) → AreWhole s (bs ++ fs) → AreWhole s fs
+behind s [] fs h = h
+behind s (b ∷ bs) fs h = behind s bs fs h.1
+
+chain_whole : (blocks : List Outer) (s : List ℕ) → Chain limits blocks s → AreWhole s blocks
+chain_whole _ _ chain_none = tt
+chain_whole _ _ (chain_next {blocks} {before} noise spelling b chain silent outer) =
+    one_more (before ++ noise ++ spelling) blocks (record { start = length (before ++ noise); stop = length (before ++ noise ++ spelling); block = b })
+    (all_wider (before ++ noise) spelling blocks (all_wider before noise blocks (chain_whole blocks before chain)))
+    (record { front = before ++ noise; spelling = spelling; rest = []; is = sym (append-nil (before ++ noise ++ spelling)); start = refl; stop = refl; spells = outer.spelled })
+
+stream_whole : (s : List ℕ) (blocks : List Outer) (tail : List ℕ) → Stream limits s blocks tail → AreWhole s blocks
+stream_whole s blocks tail h =
+    subst (λ (t : List ℕ). AreWhole t blocks) (sym h.is) (all_wider (h.before ++ h.noise) tail blocks (all_wider h.before h.noise blocks (chain_whole blocks h.before h.chain)))
+
+reads_whole : (s : List ℕ) (blocks : List Outer) (fault : Option Kind) → Reads s blocks fault → AreWhole s blocks
+reads_whole s blocks None h = stream_whole s blocks h.0.0 h.0.1
+reads_whole s blocks (Some kind) h =
+    let f = h.1 in
+    subst (λ (t : List ℕ). AreWhole t blocks) (sym f.is) (all_wider f.front f.rest blocks (stream_whole f.front blocks f.tail f.stream))
+
+found_whole : (s : List ℕ) (p : ℕ) (bs : List Outer) (b : Outer) → AreWhole s bs → first_from p bs ≡ Some b → IsWholeIn s b
+found_whole s p [] b h e = cc
+found_whole s p (c ∷ bs) b h e = go (nat_le p c.start) e (found_whole s p bs b h.1)
+  where
+    go : (t : Bool) → (if t then Some c else first_from p bs) ≡ Some b → (first_from p bs ≡ Some b → IsWholeIn s b) → IsWholeIn s b
+    go true e ih = let same : c ≡ b = cc in subst (λ (f : Outer). IsWholeIn s f) same h.0
+    go false e ih = ih e
+
+-- The law.
+
+last_is : (xs : List Outer) (x : Outer) → slice_get (xs ++ x ∷ []) (length xs) ≡ Some x
+last_is [] x = refl
+last_is (y ∷ xs) x = last_is xs x
+
+before_last : (past : List Event) (e : Event) → length_after (past ++ e ∷ []) (length past) ≡ length (stream_of past)
+before_last past e = ap (λ (ts : List Event). length (stream_of ts)) (take-append_seam past (e ∷ []))
+
+after_last : (past : List Event) (e : Event) → length_after (past ++ e ∷ []) (suc (length past)) ≡ length (stream_of (past ++ e ∷ []))
+after_last past e = ap (λ (ts : List Event). length (stream_of ts)) (take_all (suc (length past)) (past ++ e ∷ []) (omega (arith, length-append past (e ∷ []))))
+
+pub tells_the_answer : TellsTheAnswer
+tells_the_answer past before piece step life reads t id prompt out told =
+    closed (closed_by past before (received piece) t.after) refl (sym (ap (λ (x : Step). x.answered) t.gives) ∙ told)
+  where
+    now : List Event
+    now = past ++ received piece ∷ []
+
+    grown : LieWithin 0 (length (stream_of now)) (before ++ t.more)
+    grown = subst (λ (bs : List Outer). LieWithin 0 (length (stream_of now)) bs) t.grows (reads_lie (stream_of now) t.after t.fault t.reads)
+
+    fresh : LieWithin (length (stream_of past)) (length (stream_of now)) t.more
+    fresh = LieWithin-closed (length (stream_of past)) (length (stream_of now)) (length (stream_of now)) t.more (LieWithin-behind 0 (length (stream_of now)) before t.more grown) t.late
+
+    size : length (stream_of now) ≡ length (stream_of past) + length piece
+    size = ap length (stream_of-received past piece) ∙ length-append (stream_of past) piece
+
+    adds : Adds past before piece t.more
+    adds = record { old = reads_lie (stream_of past) before None reads; fresh = subst (λ (n : ℕ). LieWithin (length (stream_of past)) n t.more) size fresh }
+
+    whole : AreWhole (stream_of now) t.more
+    whole = behind (stream_of now) before t.more (subst (λ (bs : List Outer). AreWhole (stream_of now) bs) t.grows (reads_whole (stream_of now) t.after t.fault t.reads))
+
+    by_ask : (b : Outer) (o : Option ℕ) → closed_in o t.more ≡ Some b → ((length (stream_of past) < b.stop) × (b.stop ≤ length (stream_of now))) × IsWholeIn (stream_of now) b
+    by_ask b None e = cc
+    by_ask b (Some p) e = (found-stop (length (stream_of past)) (length (stream_of now)) p t.more b fresh e, found_whole (stream_of now) p t.more b whole e)
+
+    closed : (o : Option Outer) → closed_by past before (received piece) t.after ≡ o → option_and_then (answered_with past before) o ≡ Some (answered.Line id prompt out)
+        → IsItsAnswer past piece t.after id out × (prompt ≡ prompt_of past before)
+    closed None c e = cc
+    closed (Some b) c e = behind_some (answers_of past before) refl e
+      where
+        place : ((length (stream_of past) < b.stop) × (b.stop ≤ length (stream_of now))) × IsWholeIn (stream_of now) b
+        place = by_ask b (ask_of past before) (sym (closed_by-received past before piece t.more adds) ∙ ap (λ (bs : List Outer). closed_by past before (received piece) bs) (sym t.grows) ∙ c)
+
+        listed : slice_get (answers_of now t.after) (length (answers_of past before)) ≡ Some b
+        listed = ap (λ (bs : List Outer). slice_get bs (length (answers_of past before))) (t.answers ∙ ap (λ (o : Option Outer). answers_of past before ++ option_to_list o) c) ∙ last_is (answers_of past before) b
+
+        behind_some : (rs : List Outer) → answers_of past before ≡ rs → answer_behind rs (items_of past) (prompt_of past before) b.block ≡ Some (answered.Line id prompt out)
+            → IsItsAnswer past piece t.after id out × (prompt ≡ prompt_of past before)
+        behind_some [] f e = cc
+        behind_some (banner ∷ rs) f e = of_item (slice_get (items_of past) (length rs)) refl e
+          where
+            of_item : (o : Option Item) → slice_get (items_of past) (length rs) ≡ o → option_map (λ i. answer_to i (prompt_of past before) (output b.block)) o ≡ Some (answered.Line id prompt out)
+                → IsItsAnswer past piece t.after id out × (prompt ≡ prompt_of past before)
+            of_item None g e = cc
+            of_item (Some (item.Line other text)) g e =
+                let same_id : other ≡ id = cc in
+                let same_prompt : prompt ≡ prompt_of past before = cc in
+                let same_out : out ≡ output b.block = cc in (
+                  record {
+                    number = length rs;
+                    text = text;
+                    answer = b;
+                    line = g ∙ ap (λ (n : ℕ). Some (item.Line n text)) same_id;
+                    answers = (answers_by_ask_points now t.after t.fault t.reads (suc (length rs)) b).1 (subst (λ (xs : List Outer). slice_get (answers_of now t.after) (length xs) ≡ Some b) f listed);
+                    closes = (subst (λ (n : ℕ). n < b.stop) (sym (before_last past (received piece))) place.0.0, subst (λ (n : ℕ). b.stop ≤ n) (sym (after_last past (received piece))) place.0.1);
+                    whole = place.1;
+                    shown = same_out;
+                  },
+                  same_prompt,
+                )
