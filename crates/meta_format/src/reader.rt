@@ -36,7 +36,7 @@ pub enum FeedFault {
 /// and texts that a reader holds are never more than 1,048,576 (that is in the type's invariant).
 ///
 /// A reader stands for the bytes that were fed so far, and for the blocks that were given: that is the
-/// relation `Stands`, which `new` begins and `feed` carries on.
+/// relation `ReaderHasRead`, which `new` begins and `feed` carries on.
 #[derive(Drop)]
 pub struct Reader {
     alloc: Global,

@@ -19,7 +19,7 @@ use std::marker::Model;
 ///
 /// It is told the items that are accepted and the pieces of the interpreter's output, and tells which
 /// answers these pieces close. A life stands for its past, which is the list of these events: that is the
-/// relation `Stands`, which `begin` gives and `accept` and `piece` carry on.
+/// relation `LifeHasPast`, which `begin` gives and `accept` and `piece` carry on.
 #[derive(Drop)]
 pub struct Life {
     pub(crate) alloc: Global,

@@ -1,4 +1,4 @@
--- What a reader knows after each byte. `Stands` carries it for the proof alone: what a reader stands for is said by its stream, fault, offset and pending.
+-- What a reader knows after each byte. `ReaderHasRead` carries it for the proof alone: what a reader stands for is said by its stream, fault, offset and pending.
 use Rattle.std.specs.Prelude.{ℕ, zero, suc, ◌+◌, Bool, cond, ◌||◌, ◌&&◌, nat_eq, nat_le, nat_lt, not, List, [], ◌∷◌, ◌++◌, length, Option, Some, None}
 use Rattle.block_tree.specs.inside.Marks.{Mark, open_mark, letter, close_mark}
 use Rattle.meta_format.specs.Limits.{Limits}
