@@ -17,8 +17,8 @@ mod tests;
 mod write;
 
 pub use laws::{
-    a_fault_or_none, a_reading, blocks_stay, canonical_growth, canonical_spelling, no_front, one_block, one_fault, one_reading,
-    output_length,
+    a_fault_or_none, a_reading, blocks_stay, canonical_growth, canonical_spelling, no_front,
+    one_block, one_fault, one_reading, output_length,
 };
 pub use read::{ReadFault, read_block};
 pub use reader::{FeedFault, Reader};

@@ -13,7 +13,10 @@ mod step;
 mod tests;
 
 pub use item::Item;
-pub use laws::{answers_by_ask_points, one_reading, one_step, sends_what_is_asked, short_prompts, tells_the_answer, waits_what_is_unanswered};
+pub use laws::{
+    answers_by_ask_points, one_reading, one_step, sends_what_is_asked, short_prompts,
+    tells_the_answer, waits_what_is_unanswered,
+};
 pub use life::{AcceptFault, Life};
 pub use limits::{LONGEST_PROMPT, MOST_WAITING};
 pub use step::{Answered, Ended, Reason, Step};
