@@ -1,8 +1,7 @@
 -- A walk over the gates of an area. No public clause speaks of `IsStep`.
-use Rattle.std.specs.Prelude.{◌≡◌, ◌≢◌, ℕ, ◌+◌, ◌<◌, List, [], ◌∷◌, ◌++◌, length, slice_index}
+use Rattle.std.specs.Prelude.{◌≡◌, ◌≢◌, ℕ, ◌<◌, List, ◌∷◌, ◌++◌, length, slice_index}
 use Rattle.journal.specs.Area.{record_of, IsPayload, open_gate}
 use Rattle.journal.specs.Damage.{IsBroken}
-use Rattle.journal.specs.declared.walk.Payload.{Payload}
 use Rattle.journal.specs.declared.walk.Step.{Step}
 use Rattle.journal.specs.declared.walk.Step.TheVariants.{End, Broken, Record}
 
