@@ -1,10 +1,11 @@
 -- The image that a choice names is one that a crash may leave.
-use Rattle.std.proofs.Common.{◌≡◌, ℕ, ◌+◌, ◌≤◌, Bool, true, false, List, [], ◌∷◌, ◌++◌, length, take, drop, refl, sym, ◌∙◌, ap, subst, arith, append_assoc, length-take, Result, Ok, Err}
+use Rattle.std.proofs.Common.{◌≡◌, ℕ, ◌+◌, ◌≤◌, Bool, true, false, List, [], ◌∷◌, ◌++◌, length, take, drop, refl, sym, ◌∙◌, ap, ap₂, subst, arith, append_assoc, length-take, Result, Ok, Err}
 use Rattle.std.specs.Prelude.{IfOk, nat_le}
 use Rattle.std.proofs.lemmas.List.{take_all, take-append-drop, length-take-le}
 use Rattle.std.proofs.lemmas.Bool.Decides.{nat_tests}
-use Rattle.disk_model.specs.Disk.{AreaState, AreaImage, AtMoment, DiskState, DiskView, History, Image, IsImage, Written, content_of, states_of}
+use Rattle.disk_model.specs.Disk.{AreaState, AreaImage, AtMoment, DiskState, DiskView, History, Image, IsImage, IsRestarted, Written, bytes_on, content_of, states_of}
 use Rattle.disk_model.specs.Calls.{advanced, after_write, fresh, history_after, settled, started_with, step}
+use Rattle.disk_model.specs.Laws.{FreshIsRestarted}
 use Rattle.disk_model.specs.Crash.{Crashed, all_laid, image_named, image_of, laid}
 use Rattle.disk_model.proofs.Laid.{length-laid, torn_by_fill, torn_cut}
 use Rattle.disk_model.specs.inside.Moments.{length-overwritten}
@@ -12,6 +13,14 @@ use Rattle.disk_model.specs.declared.disk.Area.TheVariants.{First, Second}
 use Rattle.disk_model.specs.declared.memory.Call.{Call}
 use Rattle.disk_model.specs.declared.memory.Call.TheVariants.{Look, Write, Sync}
 use Rattle.disk_model.specs.declared.crash.Fill.{Fill}
+
+-- a crash leaves nothing else of a disk that was just made
+pub fresh_is_restarted : FreshIsRestarted
+fresh_is_restarted room i = record {
+  keeps_model = refl;
+  bytes = refl;
+  durable = λ c image. ap₂ (λ (a b : List ℕ). record { first = a; second = b }) image.0 image.1;
+}
 
 -- what is drawn of an area is as long as its content, and is an image of it, whole and cut to the length that the last sync left
 record Tied (fill : Fill) (a : AreaState) : Type 0 where
@@ -156,6 +165,7 @@ module _ (i : Image) (calls : List Call) (moment : ℕ) (made : moment ≤ lengt
       at_moment = subst (λ (h : History). AtMoment moment h then.now) (sym is) at_moment;
       named = named;
       image = subst (λ (v : DiskView). IsImage then.now (content_of v.history)) (sym named) (area_shown fill grown then.now.first tied.first, area_shown fill grown then.now.second tied.second);
+      restarted = subst (λ (v : DiskView). IsRestarted (bytes_on v) v) (sym named) (fresh_is_restarted old.room (image_named fill grown then.now));
     }
 
 pub IfOk-weakens : {T E : Type 0} (P Q : T → Type 0) (result : Result T E) → ((x : T) → P x → Q x) → IfOk result P → IfOk result Q

@@ -12,7 +12,12 @@ settled bytes = record { content = bytes; synced = bytes; writes = [] }
 
 -- an area after a write that begins within it
 abbrev pub after_write : ℕ → List ℕ → AreaState → AreaState
-after_write at bytes a = if nat_le at (length a.content) then record { content = overwritten a.content at bytes; synced = a.synced; writes = record { at = at; bytes = bytes } ∷ a.writes } else a
+after_write at bytes a =
+    if nat_le at (length a.content) then record {
+      content = overwritten a.content at bytes;
+      synced = a.synced;
+      writes = record { at = at; bytes = bytes } ∷ a.writes;
+    } else a
 
 abbrev pub after_sync : AreaState → AreaState
 after_sync a = settled a.content
@@ -39,7 +44,10 @@ history_after h (call ∷ calls) = history_after (advanced h (step h.now call)) 
 
 -- a disk that was made with these bytes
 abbrev pub started_with : Image → History
-started_with i = record { now = record { first = settled i.first; second = settled i.second }; past = [] }
+started_with i = record {
+  now = record { first = settled i.first; second = settled i.second };
+  past = [];
+}
 
 -- a disk in memory of this room, made with these bytes, with no call so far
 abbrev pub fresh : ℕ → Image → DiskView
@@ -47,4 +55,5 @@ fresh room i = record { room = room; faults = 0; keeps_model = true; history = s
 
 -- new is old with one call more, which did this to the state
 abbrev pub Notes : List Call → List Call → (DiskState → DiskState) → Type 0
-Notes old new does = (h : History) → history_after h new ≡ advanced (history_after h old) (does (history_after h old).now)
+Notes old new does = (h : History)
+    → history_after h new ≡ advanced (history_after h old) (does (history_after h old).now)

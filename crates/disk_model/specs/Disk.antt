@@ -1,4 +1,5 @@
--- A disk of two areas: what its calls do, and what a crash at any moment may leave (docs/FORMAT.md, "What a crash may leave").
+-- A disk of two areas: what its calls do, and what a crash at any moment may leave (docs/FORMAT.md,
+-- "What a crash may leave").
 use Rattle.std.specs.Prelude.{◌≡◌, ℕ, ◌+◌, ◌-◌, ◌≤◌, ◌^◌, max, min, Bool, false, IsTrue, List, [], ◌∷◌, ◌++◌, length, take, drop, Result, MatchResult}
 use Rattle.disk_model.specs.declared.disk.Area.{Area}
 use Rattle.disk_model.specs.declared.disk.Area.TheVariants.{First, Second}
@@ -17,7 +18,8 @@ pub record Written : Type 0 where
   pub at : ℕ
   pub bytes : List ℕ
 
--- an area: what a read gives, what its last successful sync left, and the writes that no such sync follows, the newest first
+-- an area: what a read gives, what its last successful sync left, and the writes that no such sync
+-- follows, the newest first
 pub record AreaState : Type 0 where
   pub content : List ℕ
   pub synced : List ℕ
@@ -33,8 +35,8 @@ pub record History : Type 0 where
   pub now : DiskState
   pub past : List DiskState
 
--- a disk as contracts see it: the greatest length of an area, the count of failures, and its history,
--- which is claimed where the disk keeps the model
+-- a disk as contracts see it: the greatest length of an area, the count of failures, and its
+-- history, which is claimed where the disk keeps the model
 pub record DiskView : Type 0 where
   pub room : ℕ
   pub faults : ℕ
@@ -72,7 +74,8 @@ area_of Second i = i.second
 abbrev pub overwritten : List ℕ → ℕ → List ℕ → List ℕ
 overwritten old at bytes = take at old ++ bytes ++ drop (at + length bytes) old
 
--- what a torn write of n bytes makes of an area: any bytes in its range, the same elsewhere, any length between the old end and the new one
+-- what a torn write of n bytes makes of an area: any bytes in its range, the same elsewhere, any
+-- length between the old end and the new one
 pub record Torn (at n : ℕ) (old new : List ℕ) : Type 0 where
   pub before : take at new ≡ take at old
   pub after : drop (at + n) new ≡ drop (at + n) old
@@ -82,11 +85,13 @@ pub record Torn (at n : ℕ) (old new : List ℕ) : Type 0 where
 -- what a crash may leave of an area: what its last sync left, with each later write torn
 abbrev pub AreaImage : List ℕ → List Written → List ℕ → Type 0
 AreaImage synced [] c = c ≡ synced
-AreaImage synced (w ∷ earlier) c = (d : List ℕ) × AreaImage synced earlier d × Torn w.at (length w.bytes) d c
+AreaImage synced (w ∷ earlier) c =
+    (d : List ℕ) × AreaImage synced earlier d × Torn w.at (length w.bytes) d c
 
 -- what a crash may leave of a disk
 abbrev pub IsImage : DiskState → Image → Type 0
-IsImage s c = AreaImage s.first.synced s.first.writes c.first × AreaImage s.second.synced s.second.writes c.second
+IsImage s c = AreaImage s.first.synced s.first.writes c.first
+    × AreaImage s.second.synced s.second.writes c.second
 
 -- one area changes so, the other stays
 abbrev pub ChangesArea : Area → (List ℕ → List ℕ → Type 0) → Image → Image → Type 0
@@ -100,6 +105,13 @@ Reaches step s c = (d : Image) × IsImage s d × step d c
 -- each image of a state has P
 abbrev pub Leaves : (Image → Type 0) → DiskState → Type 0
 Leaves P s = (c : Image) → IsImage s c → P c
+
+-- a disk that was started again on this image: it keeps the model, a read gives the image, and a
+-- crash would leave nothing else
+pub record IsRestarted (i : Image) (disk : DiskView) : Type 0 where
+  pub keeps_model : IsTrue disk.keeps_model
+  pub bytes : bytes_on disk ≡ i
+  pub durable : Leaves (λ c. c ≡ i) disk.history.now
 
 -- each state of a list has Q
 abbrev pub Each : (DiskState → Type 0) → List DiskState → Type 0
@@ -125,8 +137,8 @@ max_faults = 2 ^ 64 - 1
 abbrev pub Rises : ℕ → ℕ → Type 0
 Rises old new = min (old + 1) max_faults ≤ new
 
--- a disk and the same disk after calls on it, whatever they did to its bytes: the same room, the model kept or not as before,
--- no failure forgotten
+-- a disk and the same disk after calls on it, whatever they did to its bytes: the same room, the
+-- model kept or not as before, no failure forgotten
 pub record SameDisk (old new : DiskView) : Type 0 where
   pub room : new.room ≡ old.room
   pub keeps_model : new.keeps_model ≡ old.keeps_model
@@ -140,23 +152,30 @@ pub record Called {T E : Type 0} (result : Result T E) (old new : DiskView) : Ty
   pub bounded : new.faults ≤ max_faults
   pub cause : MatchResult result (λ _. new.faults ≡ old.faults) (λ _. Rises old.faults new.faults)
 
--- calls that change no byte: a read gives what it gave, and no moment of them leaves an image that is new.
--- They may make written bytes durable, as a sync does.
+-- calls that change no byte: a read gives what it gave, and no moment of them leaves an image that
+-- is new. They may make written bytes durable, as a sync does.
 pub record Looks (old new : History) : Type 0 where
   pub content : content_of new ≡ content_of old
   pub moments : LeavesOnly (IsImage old.now) old new
 
 -- a write: done at Ok, torn at most whatever it answers, and torn at most at every moment of it
-pub record Writes {T E : Type 0} (area : Area) (at : ℕ) (bytes : List ℕ) (result : Result T E) (old new : History) : Type 0 where
-  pub written : MatchResult result (λ _. ChangesArea area (λ before after. after ≡ overwritten before at bytes) (content_of old) (content_of new)) (λ _. Unit {0})
+pub record Writes {T E : Type 0} (area : Area) (at : ℕ) (bytes : List ℕ) (result : Result T E)
+    (old new : History) : Type 0 where
+  pub written : MatchResult result
+      (λ _. ChangesArea area (λ before after. after ≡ overwritten before at bytes) (content_of old)
+      (content_of new)) (λ _. Unit {0})
   pub touched : ChangesArea area (Torn at (length bytes)) (content_of old) (content_of new)
   pub moments : LeavesOnly (Reaches (ChangesArea area (Torn at (length bytes))) old.now) old new
 
--- a sync: it changes nothing that a read gives, leaves no image that is new, and at Ok a crash leaves of the area what a read gives
-pub record Syncs {T E : Type 0} (area : Area) (result : Result T E) (old new : History) : Type 0 where
+-- a sync: it changes nothing that a read gives, leaves no image that is new, and at Ok a crash
+-- leaves of the area what a read gives
+pub record Syncs {T E : Type 0} (area : Area) (result : Result T E)
+    (old new : History) : Type 0 where
   pub content : content_of new ≡ content_of old
   pub moments : LeavesOnly (IsImage old.now) old new
-  pub durable : MatchResult result (λ _. (c : Image) → IsImage new.now c → area_of area c ≡ area_of area (content_of old)) (λ _. Unit {0})
+  pub durable : MatchResult result
+      (λ _. (c : Image) → IsImage new.now c → area_of area c ≡ area_of area (content_of old))
+      (λ _. Unit {0})
 
 -- nothing is claimed of a disk that doesn't keep the model
 pub unclaimed : {P : Type 0} → IsTrue false → P

@@ -21,11 +21,14 @@ pub record IsNew {D : Type 0} (f : FuseDisk D) (inner : D) (k : ℕ) (mode : Fus
 abbrev pub IsBlown : {D : Type 0} → FuseDisk D → Type 0
 IsBlown f = Blows f.fuse.mode f.fuse.k f.fuse.calls
 
--- one call: counted up to the k-th; where the fuse is blown failed without passing it on, and counted as one failure more;
--- else answered by the disk inside
-pub record Spends {D T E : Type 0} (view : D → DiskView) (result : Result T E) (old new : FuseDisk D) : Type 0 where
+-- one call: counted up to the k-th; where the fuse is blown failed without passing it on, and
+-- counted as one failure more; else answered by the disk inside
+pub record Spends {D T E : Type 0} (view : D → DiskView) (result : Result T E)
+    (old new : FuseDisk D) : Type 0 where
   pub k : new.fuse.k ≡ old.fuse.k
   pub mode : new.fuse.mode ≡ old.fuse.mode
   pub calls : new.fuse.calls ≡ min (old.fuse.calls + 1) old.fuse.k
-  pub failed : IsBlown old → IsErr result × (new.inner ≡ old.inner) × (new.fuse.refused ≡ min (old.fuse.refused + 1) max_faults)
-  pub passed_on : (IsBlown old → ⊥) → (new.fuse.refused ≡ old.fuse.refused) × Called result (view old.inner) (view new.inner)
+  pub failed : IsBlown old → IsErr result × (new.inner ≡ old.inner)
+      × (new.fuse.refused ≡ min (old.fuse.refused + 1) max_faults)
+  pub passed_on : (IsBlown old → ⊥) → (new.fuse.refused ≡ old.fuse.refused)
+      × Called result (view old.inner) (view new.inner)

@@ -10,8 +10,17 @@ start_of m = record { first = m.first_start.items; second = m.second_start.items
 
 -- it keeps the model, and its history is that of the calls on record
 abbrev pub view_of : MemoryDisk → DiskView
-view_of m = record { room = m.room; faults = m.faults; keeps_model = true; history = history_after (started_with (start_of m)) m.calls.items }
+view_of m = record {
+  room = m.room;
+  faults = m.faults;
+  keeps_model = true;
+  history = history_after (started_with (start_of m)) m.calls.items;
+}
 
--- one call, which did this to the state: recorded as one moment more at Ok, else without a trace but one failure more
-abbrev pub Records : {T E : Type 0} → Result T E → (DiskState → DiskState) → DiskView → DiskView → Type 0
-Records result does old new = MatchResult result (λ _. (new.history ≡ advanced old.history (does old.history.now)) × (new.faults ≡ old.faults)) (λ _. (new.history ≡ old.history) × (new.faults ≡ min (old.faults + 1) max_faults))
+-- one call, which did this to the state: recorded as one moment more at Ok, else without a trace
+-- but one failure more
+abbrev pub Records : {T E : Type 0} → Result T E → (DiskState → DiskState) → DiskView → DiskView
+    → Type 0
+Records result does old new = MatchResult result
+    (λ _. (new.history ≡ advanced old.history (does old.history.now)) × (new.faults ≡ old.faults))
+    (λ _. (new.history ≡ old.history) × (new.faults ≡ min (old.faults + 1) max_faults))

@@ -55,7 +55,8 @@ impl Drawing {
         requires { IsEven self.old }
         ensures fill { self.new.fill ≡ self.old.fill }
         ensures level { OnOk result (IsEven self.new) }
-        ensures draws { OnOk result ((a : AreaState) → Draws self.old a → Draws self.new (after_write offset bytes.now a)) }
+        ensures draws { OnOk result
+            ((a : AreaState) → Draws self.old a → Draws self.new (after_write offset bytes.now a)) }
     {
         let at = offset as usize;
         if at > self.content.len() {
@@ -68,7 +69,8 @@ impl Drawing {
     fn sync(&mut self) -> Result<(), AllocError>
         ensures fill { self.new.fill ≡ self.old.fill }
         ensures level { OnOk result (IsEven self.new) }
-        ensures draws { OnOk result ((a : AreaState) → Draws self.old a → Draws self.new (after_sync a)) }
+        ensures draws { OnOk result
+            ((a : AreaState) → Draws self.old a → Draws self.new (after_sync a)) }
     {
         self.image = Vec::from_slice(self.alloc, &self.content)?;
         self.synced_len = self.content.len();
@@ -80,7 +82,9 @@ impl Drawing {
         requires { IsEven self.old }
         ensures fill { self.new.fill ≡ self.old.fill }
         ensures level { OnOk result (IsEven self.new) }
-        ensures draws { OnOk result ((s : DiskState) → Draws self.old (state_of area s) → Draws self.new (state_of area (step s call.now))) }
+        ensures draws { OnOk result
+            ((s : DiskState) → Draws self.old (state_of area s)
+            → Draws self.new (state_of area (step s call.now))) }
     {
         match call {
             Call::Write(written, offset, bytes) => {
@@ -103,7 +107,8 @@ impl Drawing {
 fn lay(image: &mut Vec<u8>, at: usize, bytes: &[u8], fill: Fill) -> Result<(), AllocError>
     requires inside { at ≤ length image.old.items }
     requires small { at + length bytes.now < 2 ^ 64 }
-    ensures { OnOk result (image.new.items ≡ laid fill (record { at = at; bytes = bytes.now }) image.old.items) }
+    ensures { OnOk result (image.new.items ≡ laid fill
+        (record { at = at; bytes = bytes.now }) image.old.items) }
 {
     let end = at + bytes.len();
     if end > image.len() {
@@ -130,7 +135,8 @@ pub(crate) fn area_image(
     choice: &Choice,
 ) -> Result<Vec<u8>, AllocError>
     ensures { IfOk result (λ image. (h : History) → state_of area h.now ≡ settled start.now
-        → image.items ≡ image_of choice.now.fill choice.now.grown (state_of area (history_after h calls.now).now)) }
+        → image.items ≡ image_of choice.now.fill choice.now.grown
+        (state_of area (history_after h calls.now).now)) }
 {
     let mut drawing = Drawing {
         alloc,

@@ -40,36 +40,47 @@ pub trait Disk: Drop {
         ensures called { Called result (view self.old) (view self.new) }
         ensures bound { IfOk result (λ n. n ≤ (view self.old).room) }
 
-        ensures looks { InModel (view self.old) (Looks (view self.old).history (view self.new).history) }
-        ensures length { InModel (view self.old) (IfOk result (λ n. n ≡ length (area_of area (bytes_on (view self.old))))) };
+        ensures looks { InModel (view self.old)
+            (Looks (view self.old).history (view self.new).history) }
+        ensures length { InModel (view self.old)
+            (IfOk result (λ n. n ≡ length (area_of area (bytes_on (view self.old))))) };
 
     /// Fills the buffer with the bytes from `offset` on, all of them within the area's length.
     fn read(&mut self, area: Area, offset: u64, buffer: &mut [u8]) -> Result<(), DiskFault>
-        requires { InModel (view self.old) (offset + length buffer.old ≤ length (area_of area (bytes_on (view self.old)))) }
+        requires { InModel (view self.old)
+            (offset + length buffer.old ≤ length (area_of area (bytes_on (view self.old)))) }
 
         ensures called { Called result (view self.old) (view self.new) }
 
-        ensures looks { InModel (view self.old) (Looks (view self.old).history (view self.new).history) }
-        ensures bytes { InModel (view self.old) (OnOk result (buffer.new ≡ take (length buffer.old) (drop offset (area_of area (bytes_on (view self.old)))))) };
+        ensures looks { InModel (view self.old)
+            (Looks (view self.old).history (view self.new).history) }
+        ensures bytes { InModel (view self.old)
+            (OnOk result (buffer.new ≡ take (length buffer.old)
+            (drop offset (area_of area (bytes_on (view self.old)))))) };
 
     /// Puts bytes over what stands at `offset`, and past the end. They begin at most at the area's
     /// length, and end at most at the room. A write that fails may be torn.
     fn write_at(&mut self, area: Area, offset: u64, bytes: &[u8]) -> Result<(), DiskFault>
-        requires { InModel (view self.old) ((offset ≤ length (area_of area (bytes_on (view self.old)))) × (offset + length bytes.now ≤ (view self.old).room)) }
+        requires { InModel (view self.old)
+            ((offset ≤ length (area_of area (bytes_on (view self.old))))
+            × (offset + length bytes.now ≤ (view self.old).room)) }
 
         ensures called { Called result (view self.old) (view self.new) }
 
-        ensures writes { InModel (view self.old) (Writes area offset bytes.now result (view self.old).history (view self.new).history) };
+        ensures writes { InModel (view self.old)
+            (Writes area offset bytes.now result (view self.old).history (view self.new).history) };
 
     /// Brings the writes of an area onto the disk. They outlive each crash after its `Ok`.
     fn sync(&mut self, area: Area) -> Result<(), DiskFault>
         ensures called { Called result (view self.old) (view self.new) }
 
-        ensures syncs { InModel (view self.old) (Syncs area result (view self.old).history (view self.new).history) };
+        ensures syncs { InModel (view self.old)
+            (Syncs area result (view self.old).history (view self.new).history) };
 
     /// No area may become longer.
     ghost small: { (disk : Self) → (view disk).room ≤ max_room };
 
     /// What a read gives is one of the images that a crash may leave.
-    ghost content_stays: { (disk : Self) → InModel (view disk) (IsImage (view disk).history.now (bytes_on (view disk))) };
+    ghost content_stays: { (disk : Self)
+        → InModel (view disk) (IsImage (view disk).history.now (bytes_on (view disk))) };
 }

@@ -32,7 +32,8 @@ impl Fuse {
         ensures same { (self.new.k ≡ self.old.k) × (self.new.mode ≡ self.old.mode) }
         ensures passed { OnOk result (self.new.refused ≡ self.old.refused) }
         ensures counted { OnErr result (self.new.refused ≡ min (self.old.refused + 1) max_faults) }
-        ensures refused { OnErr result (Rises self.old.refused self.new.refused × (self.old.refused ≤ self.new.refused)) }
+        ensures refused { OnErr result
+            (Rises self.old.refused self.new.refused × (self.old.refused ≤ self.new.refused)) }
     {
         let blows = match self.mode {
             FuseMode::From => self.k == 0 || self.calls >= self.k - 1,
@@ -101,8 +102,10 @@ impl<D: Disk> Disk for FuseDisk<D> {
     fn len(&mut self, area: Area) -> Result<u64, DiskFault>
         ensures called { Called result (fuse_view D.view self.old) (fuse_view D.view self.new) }
         ensures bound { IfOk result (λ n. n ≤ (fuse_view D.view self.old).room) }
-        ensures looks { InModel (fuse_view D.view self.old) (Looks (fuse_view D.view self.old).history (fuse_view D.view self.new).history) }
-        ensures length { InModel (fuse_view D.view self.old) (IfOk result (λ n. n ≡ length (area_of area (bytes_on (fuse_view D.view self.old))))) }
+        ensures looks { InModel (fuse_view D.view self.old)
+            (Looks (fuse_view D.view self.old).history (fuse_view D.view self.new).history) }
+        ensures length { InModel (fuse_view D.view self.old)
+            (IfOk result (λ n. n ≡ length (area_of area (bytes_on (fuse_view D.view self.old))))) }
         ensures spends { Spends D.view result self.old self.new }
     {
         self.fuse.spend()?;
@@ -110,10 +113,15 @@ impl<D: Disk> Disk for FuseDisk<D> {
     }
 
     fn read(&mut self, area: Area, offset: u64, buffer: &mut [u8]) -> Result<(), DiskFault>
-        requires { InModel (fuse_view D.view self.old) (offset + length buffer.old ≤ length (area_of area (bytes_on (fuse_view D.view self.old)))) }
+        requires { InModel (fuse_view D.view self.old)
+            (offset + length buffer.old ≤ length (area_of area
+            (bytes_on (fuse_view D.view self.old)))) }
         ensures called { Called result (fuse_view D.view self.old) (fuse_view D.view self.new) }
-        ensures looks { InModel (fuse_view D.view self.old) (Looks (fuse_view D.view self.old).history (fuse_view D.view self.new).history) }
-        ensures bytes { InModel (fuse_view D.view self.old) (OnOk result (buffer.new ≡ take (length buffer.old) (drop offset (area_of area (bytes_on (fuse_view D.view self.old)))))) }
+        ensures looks { InModel (fuse_view D.view self.old)
+            (Looks (fuse_view D.view self.old).history (fuse_view D.view self.new).history) }
+        ensures bytes { InModel (fuse_view D.view self.old)
+            (OnOk result (buffer.new ≡ take (length buffer.old)
+            (drop offset (area_of area (bytes_on (fuse_view D.view self.old)))))) }
         ensures spends { Spends D.view result self.old self.new }
     {
         self.fuse.spend()?;
@@ -121,9 +129,13 @@ impl<D: Disk> Disk for FuseDisk<D> {
     }
 
     fn write_at(&mut self, area: Area, offset: u64, bytes: &[u8]) -> Result<(), DiskFault>
-        requires { InModel (fuse_view D.view self.old) ((offset ≤ length (area_of area (bytes_on (fuse_view D.view self.old)))) × (offset + length bytes.now ≤ (fuse_view D.view self.old).room)) }
+        requires { InModel (fuse_view D.view self.old)
+            ((offset ≤ length (area_of area (bytes_on (fuse_view D.view self.old))))
+            × (offset + length bytes.now ≤ (fuse_view D.view self.old).room)) }
         ensures called { Called result (fuse_view D.view self.old) (fuse_view D.view self.new) }
-        ensures writes { InModel (fuse_view D.view self.old) (Writes area offset bytes.now result (fuse_view D.view self.old).history (fuse_view D.view self.new).history) }
+        ensures writes { InModel (fuse_view D.view self.old)
+            (Writes area offset bytes.now result (fuse_view D.view self.old).history
+            (fuse_view D.view self.new).history) }
         ensures spends { Spends D.view result self.old self.new }
     {
         self.fuse.spend()?;
@@ -132,7 +144,9 @@ impl<D: Disk> Disk for FuseDisk<D> {
 
     fn sync(&mut self, area: Area) -> Result<(), DiskFault>
         ensures called { Called result (fuse_view D.view self.old) (fuse_view D.view self.new) }
-        ensures syncs { InModel (fuse_view D.view self.old) (Syncs area result (fuse_view D.view self.old).history (fuse_view D.view self.new).history) }
+        ensures syncs { InModel (fuse_view D.view self.old)
+            (Syncs area result (fuse_view D.view self.old).history
+            (fuse_view D.view self.new).history) }
         ensures spends { Spends D.view result self.old self.new }
     {
         self.fuse.spend()?;

@@ -32,8 +32,12 @@ pub struct MemoryDisk {
     first: Vec<u8>,
     second: Vec<u8>,
     ghost small: { room ≤ max_room },
-    ghost first_is: { first.items ≡ (history_after (started_with (record { first = first_start.items; second = second_start.items })) calls.items).now.first.content },
-    ghost second_is: { second.items ≡ (history_after (started_with (record { first = first_start.items; second = second_start.items })) calls.items).now.second.content },
+    ghost first_is: { first.items ≡ (history_after
+        (started_with (record { first = first_start.items; second = second_start.items }))
+        calls.items).now.first.content },
+    ghost second_is: { second.items ≡ (history_after
+        (started_with (record { first = first_start.items; second = second_start.items }))
+        calls.items).now.second.content },
     ghost first_fits: { length first.items ≤ room },
     ghost second_fits: { length second.items ≤ room },
 }
@@ -65,7 +69,8 @@ impl MemoryDisk {
     pub fn holding(alloc: Global, room: u64, first: Vec<u8>) -> Result<MemoryDisk, OutOfMemory>
         requires room { room ≤ max_room }
         requires fits { length first.items ≤ room }
-        ensures { IfOk result (λ disk. view_of disk ≡ fresh room (record { first = first.items; second = [] })) }
+        ensures { IfOk result (λ disk. view_of disk ≡ fresh room
+            (record { first = first.items; second = [] })) }
     {
         MemoryDisk::with_areas(alloc, room, first, Vec::new(alloc))
     }
@@ -80,7 +85,8 @@ impl MemoryDisk {
         requires room { room ≤ max_room }
         requires first_fits { length first.items ≤ room }
         requires second_fits { length second.items ≤ room }
-        ensures { IfOk result (λ disk. view_of disk ≡ fresh room (record { first = first.items; second = second.items })) }
+        ensures { IfOk result (λ disk. view_of disk ≡ fresh room
+            (record { first = first.items; second = second.items })) }
     {
         Ok(MemoryDisk {
             alloc,
@@ -115,7 +121,8 @@ impl MemoryDisk {
     /// moment is at most `calls()`. It fails where memory is refused.
     pub fn crash(&self, choice: &Choice) -> Result<MemoryDisk, OutOfMemory>
         requires { choice.now.moment ≤ length (view_of self.now).history.past }
-        ensures { IfOk result (λ disk. Crashed choice.now.moment choice.now.fill choice.now.grown (view_of self.now) (view_of disk)) }
+        ensures { IfOk result (λ disk. Crashed choice.now.moment choice.now.fill choice.now.grown
+            (view_of self.now) (view_of disk)) }
     {
         let calls = &self.calls[..choice.moment as usize];
         let first = area_image(self.alloc, &self.first_start, calls, Area::First, choice)?;
@@ -152,7 +159,8 @@ fn write(
     requires fits { offset + length bytes.now < 2 ^ 64 }
     ensures ok { OnOk result (content.new.items ≡ overwritten content.old.items offset bytes.now) }
     ensures err { OnErr result (content.new.items ≡ content.old.items) }
-    ensures noted { OnOk result (Notes calls.old.items calls.new.items (with_area area (after_write offset bytes.now))) }
+    ensures noted { OnOk result
+        (Notes calls.old.items calls.new.items (with_area area (after_write offset bytes.now))) }
     ensures not_noted { OnErr result (calls.new.items ≡ calls.old.items) }
 {
     let copy = Vec::from_slice(alloc, bytes)?;
@@ -190,8 +198,10 @@ impl Disk for MemoryDisk {
     fn len(&mut self, area: Area) -> Result<u64, DiskFault>
         ensures called { Called result (view_of self.old) (view_of self.new) }
         ensures bound { IfOk result (λ n. n ≤ (view_of self.old).room) }
-        ensures looks { InModel (view_of self.old) (Looks (view_of self.old).history (view_of self.new).history) }
-        ensures length { InModel (view_of self.old) (IfOk result (λ n. n ≡ length (area_of area (bytes_on (view_of self.old))))) }
+        ensures looks { InModel (view_of self.old)
+            (Looks (view_of self.old).history (view_of self.new).history) }
+        ensures length { InModel (view_of self.old)
+            (IfOk result (λ n. n ≡ length (area_of area (bytes_on (view_of self.old))))) }
         ensures records { Records result (λ s. s) (view_of self.old) (view_of self.new) }
     {
         let _faults = self.faults;
@@ -207,10 +217,14 @@ impl Disk for MemoryDisk {
 
     #[tactic(auto, using(crate::proofs::Record::looked))]
     fn read(&mut self, area: Area, offset: u64, buffer: &mut [u8]) -> Result<(), DiskFault>
-        requires { InModel (view_of self.old) (offset + length buffer.old ≤ length (area_of area (bytes_on (view_of self.old)))) }
+        requires { InModel (view_of self.old)
+            (offset + length buffer.old ≤ length (area_of area (bytes_on (view_of self.old)))) }
         ensures called { Called result (view_of self.old) (view_of self.new) }
-        ensures looks { InModel (view_of self.old) (Looks (view_of self.old).history (view_of self.new).history) }
-        ensures bytes { InModel (view_of self.old) (OnOk result (buffer.new ≡ take (length buffer.old) (drop offset (area_of area (bytes_on (view_of self.old)))))) }
+        ensures looks { InModel (view_of self.old)
+            (Looks (view_of self.old).history (view_of self.new).history) }
+        ensures bytes { InModel (view_of self.old)
+            (OnOk result (buffer.new ≡ take (length buffer.old)
+            (drop offset (area_of area (bytes_on (view_of self.old)))))) }
         ensures records { Records result (λ s. s) (view_of self.old) (view_of self.new) }
     {
         let _faults = self.faults;
@@ -228,10 +242,15 @@ impl Disk for MemoryDisk {
     }
 
     fn write_at(&mut self, area: Area, offset: u64, bytes: &[u8]) -> Result<(), DiskFault>
-        requires { InModel (view_of self.old) ((offset ≤ length (area_of area (bytes_on (view_of self.old)))) × (offset + length bytes.now ≤ (view_of self.old).room)) }
+        requires { InModel (view_of self.old)
+            ((offset ≤ length (area_of area (bytes_on (view_of self.old))))
+            × (offset + length bytes.now ≤ (view_of self.old).room)) }
         ensures called { Called result (view_of self.old) (view_of self.new) }
-        ensures writes { InModel (view_of self.old) (Writes area offset bytes.now result (view_of self.old).history (view_of self.new).history) }
-        ensures records { Records result (with_area area (after_write offset bytes.now)) (view_of self.old) (view_of self.new) }
+        ensures writes { InModel (view_of self.old)
+            (Writes area offset bytes.now result (view_of self.old).history
+            (view_of self.new).history) }
+        ensures records { Records result (with_area area (after_write offset bytes.now))
+            (view_of self.old) (view_of self.new) }
     {
         let _faults = self.faults;
         match area {
@@ -267,8 +286,10 @@ impl Disk for MemoryDisk {
 
     fn sync(&mut self, area: Area) -> Result<(), DiskFault>
         ensures called { Called result (view_of self.old) (view_of self.new) }
-        ensures syncs { InModel (view_of self.old) (Syncs area result (view_of self.old).history (view_of self.new).history) }
-        ensures records { Records result (with_area area after_sync) (view_of self.old) (view_of self.new) }
+        ensures syncs { InModel (view_of self.old)
+            (Syncs area result (view_of self.old).history (view_of self.new).history) }
+        ensures records { Records result (with_area area after_sync) (view_of self.old)
+            (view_of self.new) }
     {
         let _faults = self.faults;
         if let Err(AllocError) = note(&mut self.calls, Call::Sync(area)) {

@@ -3,7 +3,7 @@ use Rattle.std.proofs.Common.{◌≡◌, ◌≢◌, ◌⊎◌, inl, inr, ap₂, 
 use Rattle.std.proofs.lemmas.List.{take_at, drop_at, drop_more, take_more, length-take-le, append-nil}
 use Rattle.std.proofs.lemmas.Bool.{cases_eq}
 use Rattle.disk_model.specs.Disk.{Torn, overwritten}
-use Rattle.journal.specs.Area.{Lays, header, records, record_of, body_of, IsPayload, ArePayloads, end_of, first_gate}
+use Rattle.journal.specs.Area.{Lays, header, records, record_of, body_of, IsPayload, ArePayloads, end_of, first_gate, closed_gate, open_gate}
 
 pub records-push : (payloads : List (List ℕ)) (payload : List ℕ) → records (payloads ++ payload ∷ []) ≡ records payloads ++ record_of payload
 records-push [] payload = append-nil (record_of payload)
@@ -30,7 +30,7 @@ module _ (limit selector : ℕ) (content : List ℕ) (payloads : List (List ℕ)
   inside = omega (arith, ap length split, length-front, length-append front (lays.gate ∷ lays.rest))
 
   -- a closed gate behind the front ends these payloads
-  pub shut : (gate : ℕ) (rest : List ℕ) → gate ≢ 82 → Lays limit selector (front ++ gate ∷ rest) payloads
+  pub shut : (gate : ℕ) (rest : List ℕ) → gate ≢ open_gate → Lays limit selector (front ++ gate ∷ rest) payloads
   unfolding front
   shut gate rest closed = record {
     gate = gate;
@@ -53,9 +53,9 @@ module _ (limit selector : ℕ) (content : List ℕ) (payloads : List (List ℕ)
   module _ (payload : List ℕ) (is_payload : IsPayload limit payload) where
     -- with the record behind the closed gate
     pub staged : List ℕ → List ℕ
-    staged rest = front ++ lays.gate ∷ (body_of payload ++ 0 ∷ rest)
+    staged rest = front ++ lays.gate ∷ (body_of payload ++ closed_gate ∷ rest)
 
-    pub after_stage : (bytes c : List ℕ) → bytes ≡ body_of payload ++ 0 ∷ [] → c ≡ overwritten content (end + 1) bytes → c ≡ staged (drop (end + 1 + length bytes) content)
+    pub after_stage : (bytes c : List ℕ) → bytes ≡ body_of payload ++ closed_gate ∷ [] → c ≡ overwritten content (end + 1) bytes → c ≡ staged (drop (end + 1 + length bytes) content)
     unfolding staged
     after_stage bytes c are is =
         let base : take (end + 1) content ≡ front ++ lays.gate ∷ [] =
@@ -65,10 +65,10 @@ module _ (limit selector : ℕ) (content : List ℕ) (payloads : List (List ℕ)
         is ∙ ap (λ (l : List ℕ). l ++ bytes ++ tail) base ∙ ap (λ (l : List ℕ). (front ++ lays.gate ∷ []) ++ l ++ tail) are
         ∙ simp append_assoc
 
-    opened : (rest : List ℕ) → Lays limit selector (front ++ 82 ∷ (body_of payload ++ 0 ∷ rest)) (payloads ++ payload ∷ [])
+    opened : (rest : List ℕ) → Lays limit selector (front ++ open_gate ∷ (body_of payload ++ closed_gate ∷ rest)) (payloads ++ payload ∷ [])
     unfolding front
     opened rest = record {
-      gate = 0;
+      gate = closed_gate;
       rest = rest;
       is = simp (records-push, append_assoc);
       closed = λ h. omega arith;
@@ -76,41 +76,41 @@ module _ (limit selector : ℕ) (content : List ℕ) (payloads : List (List ℕ)
     }
 
     -- any byte at the gate
-    pub any_gate : (gate : ℕ) (rest : List ℕ) → Lays limit selector (front ++ gate ∷ (body_of payload ++ 0 ∷ rest)) payloads ⊎ Lays limit selector (front ++ gate ∷ (body_of payload ++ 0 ∷ rest)) (payloads ++ payload ∷ [])
-    any_gate gate rest = elim (cases_eq gate 82) [
-      | inl is_open ↦ inr (subst (λ (g : ℕ). Lays limit selector (front ++ g ∷ (body_of payload ++ 0 ∷ rest)) (payloads ++ payload ∷ [])) (sym is_open) (opened rest))
-      | inr closed ↦ inl (shut gate (body_of payload ++ 0 ∷ rest) closed)
+    pub any_gate : (gate : ℕ) (rest : List ℕ) → Lays limit selector (front ++ gate ∷ (body_of payload ++ closed_gate ∷ rest)) payloads ⊎ Lays limit selector (front ++ gate ∷ (body_of payload ++ closed_gate ∷ rest)) (payloads ++ payload ∷ [])
+    any_gate gate rest = elim (cases_eq gate open_gate) [
+      | inl is_open ↦ inr (subst (λ (g : ℕ). Lays limit selector (front ++ g ∷ (body_of payload ++ closed_gate ∷ rest)) (payloads ++ payload ∷ [])) (sym is_open) (opened rest))
+      | inr closed ↦ inl (shut gate (body_of payload ++ closed_gate ∷ rest) closed)
     ]
 
     module _ (rest : List ℕ) where
-      body_back : drop (end + 1) (staged rest) ≡ body_of payload ++ 0 ∷ rest
+      body_back : drop (end + 1) (staged rest) ≡ body_of payload ++ closed_gate ∷ rest
       unfolding staged
       body_back =
-          ap (λ (l : List ℕ). drop (end + 1) l) (sym (append_assoc front (lays.gate ∷ []) (body_of payload ++ 0 ∷ rest)))
-          ∙ drop_at (front ++ lays.gate ∷ []) (body_of payload ++ 0 ∷ rest) (end + 1) (omega (arith, length-front, length-append front (lays.gate ∷ [])))
+          ap (λ (l : List ℕ). drop (end + 1) l) (sym (append_assoc front (lays.gate ∷ []) (body_of payload ++ closed_gate ∷ rest)))
+          ∙ drop_at (front ++ lays.gate ∷ []) (body_of payload ++ closed_gate ∷ rest) (end + 1) (omega (arith, length-front, length-append front (lays.gate ∷ [])))
 
       front_back : take end (staged rest) ≡ front
       unfolding staged
-      front_back = take_at front (lays.gate ∷ (body_of payload ++ 0 ∷ rest)) end length-front
+      front_back = take_at front (lays.gate ∷ (body_of payload ++ closed_gate ∷ rest)) end length-front
 
       pub length-staged : end < length (staged rest)
       unfolding staged
-      length-staged = omega (arith, length-front, length-append front (lays.gate ∷ (body_of payload ++ 0 ∷ rest)))
+      length-staged = omega (arith, length-front, length-append front (lays.gate ∷ (body_of payload ++ closed_gate ∷ rest)))
 
       -- the second write leaves the record whole, behind any gate
       pub torn_gate : (c : List ℕ) → Torn end 1 (staged rest) c → Lays limit selector c payloads ⊎ Lays limit selector c (payloads ++ payload ∷ [])
       torn_gate c torn =
           let gate = get_or c end 0 in
-          let back : drop end c ≡ gate ∷ (body_of payload ++ 0 ∷ rest) = drop_more c end 0 (omega (arith, torn.no_shorter, length-staged)) ∙ ap (λ (l : List ℕ). gate ∷ l) (torn.after ∙ body_back) in
-          let whole : c ≡ front ++ gate ∷ (body_of payload ++ 0 ∷ rest) =
+          let back : drop end c ≡ gate ∷ (body_of payload ++ closed_gate ∷ rest) = drop_more c end 0 (omega (arith, torn.no_shorter, length-staged)) ∙ ap (λ (l : List ℕ). gate ∷ l) (torn.after ∙ body_back) in
+          let whole : c ≡ front ++ gate ∷ (body_of payload ++ closed_gate ∷ rest) =
           sym (take-append-drop end c) ∙ ap (λ (l : List ℕ). l ++ drop end c) (torn.before ∙ front_back) ∙ ap (λ (l : List ℕ). front ++ l) back in
           subst (λ (l : List ℕ). Lays limit selector l payloads ⊎ Lays limit selector l (payloads ++ payload ∷ [])) (sym whole) (any_gate gate rest)
 
       -- and the open gate has it
-      pub after_gate : (c : List ℕ) → c ≡ overwritten (staged rest) end (82 ∷ []) → Lays limit selector c (payloads ++ payload ∷ [])
+      pub after_gate : (c : List ℕ) → c ≡ overwritten (staged rest) end (open_gate ∷ []) → Lays limit selector c (payloads ++ payload ∷ [])
       after_gate c is =
-          let whole : c ≡ front ++ 82 ∷ (body_of payload ++ 0 ∷ rest) =
-          is ∙ ap (λ (l : List ℕ). l ++ (82 ∷ []) ++ drop (end + 1) (staged rest)) front_back ∙ append_assoc front (82 ∷ []) (drop (end + 1) (staged rest)) ∙ ap (λ (l : List ℕ). front ++ 82 ∷ l) body_back in
+          let whole : c ≡ front ++ open_gate ∷ (body_of payload ++ closed_gate ∷ rest) =
+          is ∙ ap (λ (l : List ℕ). l ++ (open_gate ∷ []) ++ drop (end + 1) (staged rest)) front_back ∙ append_assoc front (open_gate ∷ []) (drop (end + 1) (staged rest)) ∙ ap (λ (l : List ℕ). front ++ open_gate ∷ l) body_back in
           subst (λ (l : List ℕ). Lays limit selector l (payloads ++ payload ∷ [])) (sym whole) (opened rest)
 
 pub end-push : (payloads : List (List ℕ)) (payload : List ℕ) → end_of (payloads ++ payload ∷ []) ≡ end_of payloads + length (record_of payload)

@@ -1,5 +1,5 @@
 -- What a crash leaves while a journal is created.
-use Rattle.std.proofs.Common.{◌≡◌, ◌+◌, ◌≤◌, max, ℕ, List, length, refl, subst, arith, Result}
+use Rattle.std.proofs.Common.{◌≡◌, ℕ, List, length, refl, subst, arith, Result}
 use Rattle.disk_model.specs.Disk.{Image, History, IsImage, LeavesOnly, Looks, Reaches, ChangesArea, Torn, Writes, Syncs}
 use Rattle.disk_model.specs.declared.disk.Area.TheVariants.{First}
 use Rattle.disk_model.specs.inside.Moments.{goes_on, weakens, at_end, stays}

@@ -1,20 +1,20 @@
 -- What a crash leaves at each step of `add`.
-use Rattle.std.proofs.Common.{◌≡◌, inl, inr, ⊎_elim, ℕ, ◌+◌, List, [], ◌∷◌, ◌++◌, length, drop, refl, sym, ◌∙◌, ap, subst, arith, Result, Ok, length-append}
+use Rattle.std.proofs.Common.{◌≡◌, inl, inr, ⊎_elim, ℕ, ◌+◌, List, [], ◌∷◌, ◌++◌, length, drop, take, refl, sym, ◌∙◌, ap, subst, arith, Result, Ok, length-append}
 use Rattle.disk_model.specs.Disk.{Image, History, IsImage, Torn, LeavesOnly, Writes, Syncs, content_of, overwritten}
 use Rattle.disk_model.specs.declared.disk.Area.TheVariants.{First}
 use Rattle.disk_model.specs.inside.Moments.{started, goes_on, weakens, at_end, stays}
-use Rattle.journal.specs.Area.{Lays, StandsFor, body_of, IsPayload}
+use Rattle.journal.specs.Area.{Lays, StandsFor, body_of, closed_gate, first_gate, IsPayload, open_gate}
 use Rattle.journal.specs.Limits.{max_payload}
 use Rattle.journal.specs.Kept.{Keeps, BeforeOrAfter}
 use Rattle.journal.proofs.Bytes.{torn_behind, staged, after_stage, torn_gate, after_gate, end-push}
 
-module _ (h0 : History) (end : ℕ) (payloads : List (List ℕ)) (keeps : Keeps h0 end payloads) (payload : List ℕ) (is_payload : IsPayload max_payload payload) (bytes : List ℕ) (are : bytes ≡ body_of payload ++ 0 ∷ []) where
+module _ (h0 : History) (end : ℕ) (payloads : List (List ℕ)) (keeps : Keeps h0 end payloads) (payload : List ℕ) (is_payload : IsPayload max_payload payload) (bytes : List ℕ) (are : bytes ≡ body_of payload ++ closed_gate ∷ []) where
   abbrev limit : ℕ
   limit = max_payload
 
   -- the same selector, and other payloads
   stands : (bytes : List ℕ) (others : List (List ℕ)) → Lays limit keeps.stands.selector bytes others → StandsFor limit bytes others
-  stands bytes others lays = record { selector = keeps.stands.selector; first_area = keeps.stands.first_area; lays = lays }
+  stands bytes others lays = record { selector = keeps.stands.selector; active = keeps.stands.active; lays = lays }
 
   abbrev pub P : Image → Type 0
   P = BeforeOrAfter h0.now payloads payload
@@ -30,7 +30,7 @@ module _ (h0 : History) (end : ℕ) (payloads : List (List ℕ)) (keeps : Keeps 
   -- the gate's write, once the record is on the disk
   pub opening : {T E : Type 0} (r : Result T E) (h2 h3 : History) (rest : List ℕ) → LeavesOnly P h0 h2
       → ((c : Image) → IsImage h2.now c → c.first ≡ staged limit keeps.stands.selector (content_of h0).first payloads keeps.stands.lays end keeps.end_is payload is_payload rest)
-      → Writes First end (82 ∷ []) r h2 h3 → LeavesOnly P h0 h3
+      → Writes First end (open_gate ∷ []) r h2 h3 → LeavesOnly P h0 h3
   opening r h2 h3 rest run durable w = goes_on P h0 h2 h3 run (weakens _ P h2 h3 (λ c reaches.
       let torn = subst (λ (l : List ℕ). Torn end 1 l c.first) (durable reaches.0 reaches.1) reaches.2.0 in
       let second = (at_end P h0 h2 run reaches.0 reaches.1).1 in
@@ -55,16 +55,17 @@ module _ (h0 : History) (end : ℕ) (payloads : List (List ℕ)) (keeps : Keeps 
         is_staged : (content_of h2).first ≡ staged limit keeps.stands.selector (content_of h0).first payloads keeps.stands.lays end keeps.end_is payload is_payload rest
         is_staged = first_of _ _ s1.content ∙ after_stage limit keeps.stands.selector (content_of h0).first payloads keeps.stands.lays end keeps.end_is payload is_payload bytes _ are w1.written.0
 
-        pub after3 : (r : Result T E) (h3 : History) → Writes First end (82 ∷ []) r h2 h3 → LeavesOnly P h0 h3
+        pub after3 : (r : Result T E) (h3 : History) → Writes First end (open_gate ∷ []) r h2 h3 → LeavesOnly P h0 h3
         after3 r h3 w2 = opening r h2 h3 rest (after2 good s1) (λ i image. s1.durable i image ∙ sym (first_of _ _ s1.content) ∙ is_staged) w2
 
-        pub after4 : (r q : Result T E) (h3 h4 : History) → Writes First end (82 ∷ []) r h2 h3 → Syncs First q h3 h4 → LeavesOnly P h0 h4
+        pub after4 : (r q : Result T E) (h3 h4 : History) → Writes First end (open_gate ∷ []) r h2 h3 → Syncs First q h3 h4 → LeavesOnly P h0 h4
         after4 r q h3 h4 w2 s2 = stays P h0 h3 h4 (after3 r h3 w2) s2.moments
 
-        pub added : (h3 h4 : History) → Writes First end (82 ∷ []) good h2 h3 → Syncs First good h3 h4 → Keeps h4 (end + length bytes) (payloads ++ payload ∷ [])
+        pub added : (h3 h4 : History) → Writes First end (open_gate ∷ []) good h2 h3 → Syncs First good h3 h4 → Keeps h4 (end + length bytes) (payloads ++ payload ∷ [])
         added h3 h4 w2 s2 = record {
           stands = subst (λ (l : List ℕ). StandsFor limit l (payloads ++ payload ∷ [])) (sym (first_of _ _ s2.content))
-              (stands _ _ (after_gate limit keeps.stands.selector (content_of h0).first payloads keeps.stands.lays end keeps.end_is payload is_payload rest _ (w2.written.0 ∙ ap (λ (l : List ℕ). overwritten l end (82 ∷ [])) is_staged)));
-          end_is = omega (arith, keeps.end_is, end-push payloads payload, ap length are, length-append (body_of payload) (0 ∷ []));
+              (stands _ _ (after_gate limit keeps.stands.selector (content_of h0).first payloads keeps.stands.lays end keeps.end_is payload is_payload rest _ (w2.written.0 ∙ ap (λ (l : List ℕ). overwritten l end (open_gate ∷ [])) is_staged)));
+          end_is = omega (arith, keeps.end_is, end-push payloads payload, ap length are, length-append (body_of payload) (closed_gate ∷ []));
           durable = λ i image. s2.durable i image ∙ sym (first_of _ _ s2.content);
+          header = λ i image. ap (λ (l : List ℕ). take first_gate l) (s2.durable i image ∙ sym (first_of _ _ s2.content));
         }

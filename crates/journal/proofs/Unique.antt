@@ -3,7 +3,7 @@ use Rattle.std.proofs.Common.{◌≡◌, ◌≢◌, ⊎_elim, ℕ, ◌<◌, ◌^
 use Rattle.std.specs.Int.{to_be_bytes, from_be_bytes, w32}
 use Rattle.std.proofs.lemmas.List.{take_at, drop_at}
 use Rattle.std.proofs.lemmas.Nat.{from_be_bytes-to_be_bytes_4}
-use Rattle.journal.specs.Area.{Lays, StandsFor, header, records, record_of, body_of, IsPayload, ArePayloads, end_of}
+use Rattle.journal.specs.Area.{Lays, StandsFor, header, records, record_of, body_of, IsPayload, ArePayloads, end_of, open_gate}
 use Rattle.journal.specs.Damage.{HasHeader, IsBroken, IsDamaged}
 use Rattle.disk_model.specs.Disk.{Image}
 use Rattle.journal.specs.Kept.{ImageStandsFor}
@@ -19,7 +19,7 @@ module _ (limit : ℕ) (fits : limit < 2 ^ 32) where
       let four = ap (λ (l : List ℕ). from_be_bytes w32 (take 4 l)) same in
       sym (from_be_bytes-to_be_bytes_4 (length p) (omega (arith, is_p.1, fits))) ∙ four ∙ from_be_bytes-to_be_bytes_4 (length q) (omega (arith, is_q.1, fits))
 
-  pub same_records : (ps qs : List (List ℕ)) (g h : ℕ) (x y : List ℕ) → ArePayloads limit ps → ArePayloads limit qs → g ≢ 82 → h ≢ 82 → records ps ++ g ∷ x ≡ records qs ++ h ∷ y → ps ≡ qs
+  pub same_records : (ps qs : List (List ℕ)) (g h : ℕ) (x y : List ℕ) → ArePayloads limit ps → ArePayloads limit qs → g ≢ open_gate → h ≢ open_gate → records ps ++ g ∷ x ≡ records qs ++ h ∷ y → ps ≡ qs
   same_records [] [] g h x y eps eqs cg ch same = refl
   same_records [] (q ∷ qs) g h x y eps eqs cg ch same = absurd (cg cc)
   same_records (p ∷ ps) [] g h x y eps eqs cg ch same = absurd (ch cc)
@@ -37,7 +37,7 @@ module _ (limit : ℕ) (fits : limit < 2 ^ 32) where
       (ap (λ (b : List ℕ). drop 10 b) (sym (append_assoc (header s) (records ps) (l.gate ∷ l.rest)) ∙ sym l.is ∙ m.is ∙ append_assoc (header t) (records qs) (m.gate ∷ m.rest)))
 
   -- behind the records of an area there is no broken one
-  none_broken : (ps qs : List (List ℕ)) (g : ℕ) (x more : List ℕ) → ArePayloads limit ps → ArePayloads limit qs → g ≢ 82 → IsBroken limit more → records ps ++ g ∷ x ≡ records qs ++ 82 ∷ more → ⊥
+  none_broken : (ps qs : List (List ℕ)) (g : ℕ) (x more : List ℕ) → ArePayloads limit ps → ArePayloads limit qs → g ≢ open_gate → IsBroken limit more → records ps ++ g ∷ x ≡ records qs ++ open_gate ∷ more → ⊥
   none_broken [] [] g x more eps eqs closed broken same = closed cc
   none_broken [] (q ∷ qs) g x more eps eqs closed broken same = closed cc
   none_broken (p ∷ ps) [] g x more eps eqs closed broken same =
@@ -48,10 +48,10 @@ module _ (limit : ℕ) (fits : limit < 2 ^ 32) where
       let more = length-append (records ps) (g ∷ x) in
       ⊎_elim (λ none. omega (arith, none, told, eps.0.0)) (λ other. ⊎_elim (λ large. omega (arith, large, told, eps.0.1)) (λ short. omega (arith, short, told, longer, more)) other) whole
   none_broken (p ∷ ps) (q ∷ qs) g x more eps eqs closed broken same =
-      let tail : body_of p ++ (records ps ++ g ∷ x) ≡ body_of q ++ (records qs ++ 82 ∷ more) = ap (λ (l : List ℕ). drop 1 l) (sym (append_assoc (record_of p) (records ps) (g ∷ x)) ∙ same ∙ append_assoc (record_of q) (records qs) (82 ∷ more)) in
-      let size = length_told p q (records ps ++ g ∷ x) (records qs ++ 82 ∷ more) eps.0 eqs.0 tail in
-      let behind : p ++ (records ps ++ g ∷ x) ≡ q ++ (records qs ++ 82 ∷ more) = ap (λ (l : List ℕ). drop 4 l) tail in
-      let rest : records ps ++ g ∷ x ≡ records qs ++ 82 ∷ more = sym (drop_at p (records ps ++ g ∷ x) (length p) refl) ∙ ap (λ (l : List ℕ). drop (length p) l) behind ∙ drop_at q (records qs ++ 82 ∷ more) (length p) (sym size) in
+      let tail : body_of p ++ (records ps ++ g ∷ x) ≡ body_of q ++ (records qs ++ open_gate ∷ more) = ap (λ (l : List ℕ). drop 1 l) (sym (append_assoc (record_of p) (records ps) (g ∷ x)) ∙ same ∙ append_assoc (record_of q) (records qs) (open_gate ∷ more)) in
+      let size = length_told p q (records ps ++ g ∷ x) (records qs ++ open_gate ∷ more) eps.0 eqs.0 tail in
+      let behind : p ++ (records ps ++ g ∷ x) ≡ q ++ (records qs ++ open_gate ∷ more) = ap (λ (l : List ℕ). drop 4 l) tail in
+      let rest : records ps ++ g ∷ x ≡ records qs ++ open_gate ∷ more = sym (drop_at p (records ps ++ g ∷ x) (length p) refl) ∙ ap (λ (l : List ℕ). drop (length p) l) behind ∙ drop_at q (records qs ++ open_gate ∷ more) (length p) (sym size) in
       none_broken ps qs g x more eps.1 eqs.1 closed broken rest
 
   -- a record and what stands behind it are not broken
@@ -62,39 +62,39 @@ module _ (limit : ℕ) (fits : limit < 2 ^ 32) where
       ⊎_elim (λ none. omega (arith, none, told, is.0)) (λ other. ⊎_elim (λ large. omega (arith, large, told, is.1)) (λ short. omega (arith, short, told, longer, some)) other) broken
 
   -- the records before what is broken are the same, however they are read
-  same_damage : (ps qs : List (List ℕ)) (x y : List ℕ) → ArePayloads limit ps → ArePayloads limit qs → IsBroken limit x → IsBroken limit y → records ps ++ 82 ∷ x ≡ records qs ++ 82 ∷ y → ps ≡ qs
+  same_damage : (ps qs : List (List ℕ)) (x y : List ℕ) → ArePayloads limit ps → ArePayloads limit qs → IsBroken limit x → IsBroken limit y → records ps ++ open_gate ∷ x ≡ records qs ++ open_gate ∷ y → ps ≡ qs
   same_damage [] [] x y eps eqs bx bn same = refl
   same_damage [] (q ∷ qs) x y eps eqs bx bn same =
-      let behind : x ≡ body_of q ++ (records qs ++ 82 ∷ y) = ap (λ (l : List ℕ). drop 1 l) (same ∙ append_assoc (record_of q) (records qs) (82 ∷ y)) in
-      absurd (whole_record q (records qs ++ 82 ∷ y) eqs.0 (omega (arith, length-append (records qs) (82 ∷ y))) (subst (λ (l : List ℕ). IsBroken limit l) behind bx))
+      let behind : x ≡ body_of q ++ (records qs ++ open_gate ∷ y) = ap (λ (l : List ℕ). drop 1 l) (same ∙ append_assoc (record_of q) (records qs) (open_gate ∷ y)) in
+      absurd (whole_record q (records qs ++ open_gate ∷ y) eqs.0 (omega (arith, length-append (records qs) (open_gate ∷ y))) (subst (λ (l : List ℕ). IsBroken limit l) behind bx))
   same_damage (p ∷ ps) [] x y eps eqs bx bn same =
-      let behind : y ≡ body_of p ++ (records ps ++ 82 ∷ x) = ap (λ (l : List ℕ). drop 1 l) (sym same ∙ append_assoc (record_of p) (records ps) (82 ∷ x)) in
-      absurd (whole_record p (records ps ++ 82 ∷ x) eps.0 (omega (arith, length-append (records ps) (82 ∷ x))) (subst (λ (l : List ℕ). IsBroken limit l) behind bn))
+      let behind : y ≡ body_of p ++ (records ps ++ open_gate ∷ x) = ap (λ (l : List ℕ). drop 1 l) (sym same ∙ append_assoc (record_of p) (records ps) (open_gate ∷ x)) in
+      absurd (whole_record p (records ps ++ open_gate ∷ x) eps.0 (omega (arith, length-append (records ps) (open_gate ∷ x))) (subst (λ (l : List ℕ). IsBroken limit l) behind bn))
   same_damage (p ∷ ps) (q ∷ qs) x y eps eqs bx bn same =
-      let tail : body_of p ++ (records ps ++ 82 ∷ x) ≡ body_of q ++ (records qs ++ 82 ∷ y) = ap (λ (l : List ℕ). drop 1 l) (sym (append_assoc (record_of p) (records ps) (82 ∷ x)) ∙ same ∙ append_assoc (record_of q) (records qs) (82 ∷ y)) in
-      let size = length_told p q (records ps ++ 82 ∷ x) (records qs ++ 82 ∷ y) eps.0 eqs.0 tail in
-      let behind : p ++ (records ps ++ 82 ∷ x) ≡ q ++ (records qs ++ 82 ∷ y) = ap (λ (l : List ℕ). drop 4 l) tail in
-      let first : p ≡ q = sym (take_at p (records ps ++ 82 ∷ x) (length p) refl) ∙ ap (λ (l : List ℕ). take (length p) l) behind ∙ take_at q (records qs ++ 82 ∷ y) (length p) (sym size) in
-      let rest : records ps ++ 82 ∷ x ≡ records qs ++ 82 ∷ y = sym (drop_at p (records ps ++ 82 ∷ x) (length p) refl) ∙ ap (λ (l : List ℕ). drop (length p) l) behind ∙ drop_at q (records qs ++ 82 ∷ y) (length p) (sym size) in
+      let tail : body_of p ++ (records ps ++ open_gate ∷ x) ≡ body_of q ++ (records qs ++ open_gate ∷ y) = ap (λ (l : List ℕ). drop 1 l) (sym (append_assoc (record_of p) (records ps) (open_gate ∷ x)) ∙ same ∙ append_assoc (record_of q) (records qs) (open_gate ∷ y)) in
+      let size = length_told p q (records ps ++ open_gate ∷ x) (records qs ++ open_gate ∷ y) eps.0 eqs.0 tail in
+      let behind : p ++ (records ps ++ open_gate ∷ x) ≡ q ++ (records qs ++ open_gate ∷ y) = ap (λ (l : List ℕ). drop 4 l) tail in
+      let first : p ≡ q = sym (take_at p (records ps ++ open_gate ∷ x) (length p) refl) ∙ ap (λ (l : List ℕ). take (length p) l) behind ∙ take_at q (records qs ++ open_gate ∷ y) (length p) (sym size) in
+      let rest : records ps ++ open_gate ∷ x ≡ records qs ++ open_gate ∷ y = sym (drop_at p (records ps ++ open_gate ∷ x) (length p) refl) ∙ ap (λ (l : List ℕ). drop (length p) l) behind ∙ drop_at q (records qs ++ open_gate ∷ y) (length p) (sym size) in
       let others = same_damage ps qs x y eps.1 eqs.1 bx bn rest in
       cc
 
   pub damaged_once : (bytes : List ℕ) (g h : ℕ) → IsDamaged limit bytes g → IsDamaged limit bytes h → g ≡ h
   damaged_once bytes g h d e =
       d.4 ∙ ap end_of (same_damage d.1 e.1 d.2 e.2 d.3.each e.3.each d.5 e.5
-      (ap (λ (b : List ℕ). drop 10 b) (sym (append_assoc (header d.0) (records d.1) (82 ∷ d.2)) ∙ sym d.3.is ∙ e.3.is ∙ append_assoc (header e.0) (records e.1) (82 ∷ e.2)))) ∙ sym e.4
+      (ap (λ (b : List ℕ). drop 10 b) (sym (append_assoc (header d.0) (records d.1) (open_gate ∷ d.2)) ∙ sym d.3.is ∙ e.3.is ∙ append_assoc (header e.0) (records e.1) (open_gate ∷ e.2)))) ∙ sym e.4
 
   pub undamaged : (bytes : List ℕ) (ps : List (List ℕ)) (gate : ℕ) → StandsFor limit bytes ps → IsDamaged limit bytes gate → ⊥
   undamaged bytes ps gate s d =
       none_broken ps d.1 s.lays.gate s.lays.rest d.2 s.lays.each d.3.each s.lays.closed d.5
-      (ap (λ (b : List ℕ). drop 10 b) (sym (append_assoc (header s.selector) (records ps) (s.lays.gate ∷ s.lays.rest)) ∙ sym s.lays.is ∙ d.3.is ∙ append_assoc (header d.0) (records d.1) (82 ∷ d.2)))
+      (ap (λ (b : List ℕ). drop 10 b) (sym (append_assoc (header s.selector) (records ps) (s.lays.gate ∷ s.lays.rest)) ∙ sym s.lays.is ∙ d.3.is ∙ append_assoc (header d.0) (records d.1) (open_gate ∷ d.2)))
 
   pub has_header : (bytes : List ℕ) (ps : List (List ℕ)) → StandsFor limit bytes ps → HasHeader bytes
   has_header bytes ps s = (
     s.selector,
     records ps ++ s.lays.gate ∷ s.lays.rest,
     s.lays.is ∙ append_assoc (header s.selector) (records ps) (s.lays.gate ∷ s.lays.rest),
-    s.first_area,
+    s.active,
     omega (arith, length-append (records ps) (s.lays.gate ∷ s.lays.rest)),
   )
 

@@ -20,7 +20,7 @@ module _ (limit : ℕ) (bytes : List ℕ) (ps new : List Payload) (p : Payload) 
     walked.0,
     subst (λ (l : List (List ℕ)). Walked limit walked.0 bytes l after) (sym (ap payloads_in is_push ∙ payloads_in-push ps p)) (record {
       is = walked.1.is ∙ ap (λ (l : List ℕ). header walked.0 ++ records (payloads_in ps) ++ l) is ∙ simp (records-push, append_assoc);
-      first_area = walked.1.first_area;
+      active = walked.1.active;
       each = ArePayloads-push limit (payloads_in ps) p.bytes walked.1.each is_payload;
       some = some;
     }),

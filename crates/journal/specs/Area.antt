@@ -2,10 +2,32 @@
 use Rattle.std.specs.Prelude.{◌≡◌, ◌≢◌, ℕ, ◌+◌, ◌≤◌, List, [], ◌∷◌, ◌++◌, length}
 use Rattle.std.specs.Int.{to_be_bytes, w32}
 use Rattle.disk_model.specs.Disk.{overwritten}
+use Rattle.disk_model.specs.declared.disk.Area.{Area}
+use Rattle.disk_model.specs.declared.disk.Area.TheVariants.{First, Second}
 
 -- the text `TMWSHEET`, the version 1, and the selector
 abbrev pub header : ℕ → List ℕ
 header selector = 84 ∷ 77 ∷ 87 ∷ 83 ∷ 72 ∷ 69 ∷ 69 ∷ 84 ∷ 1 ∷ selector ∷ []
+
+-- the selectors `A`, as which First is written, and `B`
+abbrev pub names_first : ℕ
+names_first = 65
+
+abbrev pub names_second : ℕ
+names_second = 66
+
+-- the area that a selector names as the active one: Second where it is `B`, and First at any other
+-- byte
+abbrev pub Selects : Area → ℕ → Type 0
+Selects First selector = selector ≢ names_second
+Selects Second selector = selector ≡ names_second
+
+-- a gate is open where it is `R`, and closed at any other byte; closed it is written as 0
+abbrev pub open_gate : ℕ
+open_gate = 82
+
+abbrev pub closed_gate : ℕ
+closed_gate = 0
 
 -- behind a gate: the payload's length in four bytes, and the payload
 abbrev pub body_of : List ℕ → List ℕ
@@ -13,7 +35,7 @@ body_of payload = to_be_bytes w32 (length payload) ++ payload
 
 -- an open gate, and what stands behind it
 abbrev pub record_of : List ℕ → List ℕ
-record_of payload = 82 ∷ body_of payload
+record_of payload = open_gate ∷ body_of payload
 
 -- record behind record
 abbrev pub records : List (List ℕ) → List ℕ
@@ -41,19 +63,21 @@ pub record Lays (limit selector : ℕ) (bytes : List ℕ) (payloads : List (List
   pub gate : ℕ
   pub rest : List ℕ
   pub is : bytes ≡ header selector ++ records payloads ++ gate ∷ rest
-  pub closed : gate ≢ 82
+  pub closed : gate ≢ open_gate
   pub each : ArePayloads limit payloads
 
--- area First stands for these payloads: it lays them out, and its selector isn't `B`
+-- area First stands for these payloads: it lays them out, and its selector names it
 pub record StandsFor (limit : ℕ) (bytes : List ℕ) (payloads : List (List ℕ)) : Type 0 where
   pub selector : ℕ
-  pub first_area : selector ≢ 66
+  pub active : Selects First selector
   pub lays : Lays limit selector bytes payloads
 
--- an area behind whose closed gate a payload was added: its record, with the gate open, and the next gate, written closed
+-- an area behind whose closed gate a payload was added: its record, with the gate open, and the
+-- next gate, written closed
 abbrev pub added_at : ℕ → List ℕ → List ℕ → List ℕ
-added_at end payload old = overwritten old end (record_of payload ++ 0 ∷ [])
+added_at end payload old = overwritten old end (record_of payload ++ closed_gate ∷ [])
 
--- an area that was just created: the header, its selector written as `A`, and the first gate, written closed
+-- an area that was just created: the header, its selector written as `A`, and the first gate,
+-- written closed
 abbrev pub created : List ℕ
-created = header 65 ++ 0 ∷ []
+created = header names_first ++ closed_gate ∷ []

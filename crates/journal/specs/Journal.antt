@@ -12,7 +12,8 @@ use Rattle.journal.specs.declared.journal.AppendFault.{AppendFault}
 use Rattle.journal.specs.declared.journal.AppendFault.TheVariants as faults
 
 -- the disk that an append leaves
-abbrev pub disk_after : {D : Type 0} → (D → DiskView) → Result JournalView (AppendFault D) → DiskView
+abbrev pub disk_after : {D : Type 0} → (D → DiskView) → Result JournalView (AppendFault D)
+    → DiskView
 disk_after view (Ok journal) = journal.disk
 disk_after view (Err (faults.JournalFull journal)) = journal.disk
 disk_after view (Err (faults.Disk disk)) = view disk
@@ -33,11 +34,13 @@ HandsBack (Err (faults.JournalFull journal)) old = journal ≡ old
 HandsBack other old = Unit {0}
 
 -- the disk that an opening leaves
-abbrev pub opened : {D T : Type 0} → (D → DiskView) → Result (JournalView × T) (OpenFault D) → DiskView
+abbrev pub opened : {D T : Type 0} → (D → DiskView) → Result (JournalView × T) (OpenFault D)
+    → DiskView
 opened view (Ok found) = found.0.disk
 opened view (Err fault) = view fault.disk
 
 -- these payloads, or a cause that isn't in the bytes
-abbrev pub Gives : {D : Type 0} → List (List ℕ) → Result (JournalView × Vec Payload Global) (OpenFault D) → Type 0
+abbrev pub Gives : {D : Type 0} → List (List ℕ)
+    → Result (JournalView × Vec Payload Global) (OpenFault D) → Type 0
 Gives payloads (Ok found) = payloads_in found.1.items ≡ payloads
 Gives payloads (Err fault) = IsPassing fault.cause

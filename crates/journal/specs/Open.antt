@@ -11,7 +11,8 @@ use Rattle.journal.specs.declared.opening.OpenCause.TheVariants.{Damaged, NotASh
 abbrev pub AreEmpty : Image → Type 0
 AreEmpty i = (i.first ≡ []) × (i.second ≡ [])
 
--- what a cause says of the bytes of area First: the first gate that is damaged, or that no header stands there
+-- what a cause says of the bytes of area First: the first gate that is damaged, or that no header
+-- stands there
 abbrev pub TellsOf : List ℕ → OpenCause → Type 0
 TellsOf bytes (Damaged gate) = IsDamaged max_payload bytes gate
 TellsOf bytes NotASheet = HasHeader bytes → ⊥

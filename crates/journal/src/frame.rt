@@ -1,6 +1,6 @@
 // The bytes of a record behind its gate, and the closed gate after it.
 ghost use Rattle.std.specs.Prelude.{◌≡◌, ◌<◌, ◌≤◌, ◌+◌, ◌++◌, ◌∷◌, [], List, ℕ, length, IfOk};
-ghost use Rattle.journal.specs.Area.{body_of, IsPayload};
+ghost use Rattle.journal.specs.Area.{body_of, closed_gate, IsPayload};
 ghost use Rattle.journal.specs.Limits.{max_payload};
 
 use crate::OutOfMemory;
@@ -50,7 +50,7 @@ impl Frame {
 
     // The payload's length and the payload, and a closed gate.
     pub(crate) fn bytes(&self) -> &[u8]
-        ensures bytes { result.now ≡ body_of self.now ++ 0 ∷ [] }
+        ensures bytes { result.now ≡ body_of self.now ++ closed_gate ∷ [] }
         ensures payload { IsPayload max_payload self.now }
     {
         &self.bytes

@@ -32,7 +32,8 @@ impl<D: Disk> Model for Journal<D> {
 
     ghost view = { λ j. record { disk = D.view j.disk; end = j.end } };
 
-    ghost invariant = { λ j. (j.end ≤ max_room) × InModel (D.view j.disk) (j.end < length (active_of (bytes_on (D.view j.disk)))) };
+    ghost invariant = { λ j. (j.end ≤ max_room)
+        × InModel (D.view j.disk) (j.end < length (active_of (bytes_on (D.view j.disk)))) };
 }
 
 /// An opening that was refused, and the disk.
@@ -61,18 +62,29 @@ impl<D: Disk> Journal<D> {
     pub fn open(alloc: Global, disk: D) -> Result<(Journal<D>, Vec<Payload>), OpenFault<D>>
         ensures same { SameDisk (D.view disk) (opened D.view result) }
 
-        ensures found { InModel (D.view disk) (IfOk result (λ found. Keeps found.0.disk.history found.0.end (payloads_in found.1.items))) }
-        ensures gates { InModel (D.view disk) (IfOk result (λ found. AreGates first_gate found.1.items)) }
-        ensures fault { InModel (D.view disk) (IfErr result (λ e. Tells (bytes_on (D.view disk)) e.cause)) }
+        ensures found { InModel (D.view disk)
+            (IfOk result (λ found. Keeps found.0.disk.history found.0.end
+            (payloads_in found.1.items))) }
+        ensures gates { InModel (D.view disk)
+            (IfOk result (λ found. AreGates first_gate found.1.items)) }
+        ensures fault { InModel (D.view disk)
+            (IfErr result (λ e. Tells (bytes_on (D.view disk)) e.cause)) }
 
         // A disk that stands for payloads gives these and no others, unless it fails or memory is refused.
-        ensures exact { InModel (D.view disk) ((payloads : List (List ℕ)) → ImageStandsFor (bytes_on (D.view disk)) payloads → Gives payloads result) }
+        ensures exact { InModel (D.view disk)
+            ((payloads : List (List ℕ)) → ImageStandsFor (bytes_on (D.view disk)) payloads
+            → Gives payloads result) }
 
         // It changes no byte, and at every moment each image is one that a crash could leave at the start.
-        ensures looks { InModel (D.view disk) (Looks (D.view disk).history (opened D.view result).history) }
+        ensures looks { InModel (D.view disk)
+            (Looks (D.view disk).history (opened D.view result).history) }
 
-        ensures faulty { IfErr result (λ e. e.cause ≡ OpenCause.Disk → Rises (D.view disk).faults (D.view e.disk).faults) }
-        ensures steady { MatchResult result (λ found. found.0.disk.faults ≡ (D.view disk).faults) (λ e. (e.cause ≡ OpenCause.Disk → ⊥) → (D.view e.disk).faults ≡ (D.view disk).faults) }
+        // A failure of the disk is told as one, and nothing else is.
+        ensures faulty { IfErr result
+            (λ e. e.cause ≡ OpenCause.Disk → Rises (D.view disk).faults (D.view e.disk).faults) }
+        ensures steady { MatchResult result
+            (λ found. found.0.disk.faults ≡ (D.view disk).faults)
+            (λ e. (e.cause ≡ OpenCause.Disk → ⊥) → (D.view e.disk).faults ≡ (D.view disk).faults) }
     {
         let mut disk = disk;
         match scan(alloc, &mut disk) {
@@ -96,25 +108,34 @@ impl<D: Disk> Journal<D> {
     /// on the disk that fails, with `Disk`.
     pub fn append(self, frame: &Frame) -> Result<Journal<D>, AppendFault<D>>
         ensures same { SameDisk self.disk (disk_after D.view result) }
-        ensures other { InModel self.disk (other_of (bytes_on (disk_after D.view result)) ≡ other_of (bytes_on self.disk)) }
+        ensures other { InModel self.disk
+            (other_of (bytes_on (disk_after D.view result)) ≡ other_of (bytes_on self.disk)) }
 
-        ensures ok { InModel self.disk ((payloads : List (List ℕ)) → Keeps self.disk.history self.end payloads
-            → IfOk result (λ journal. Keeps journal.disk.history journal.end (payloads ++ frame.now ∷ []))) }
+        ensures ok { InModel self.disk
+            ((payloads : List (List ℕ)) → Keeps self.disk.history self.end payloads
+            → IfOk result (λ journal. Keeps journal.disk.history journal.end
+            (payloads ++ frame.now ∷ []))) }
 
         // These bytes are then on the disk.
-        ensures written { InModel self.disk (IfOk result (λ journal. active_of (bytes_on journal.disk) ≡ added_at self.end frame.now (active_of (bytes_on self.disk)))) }
+        ensures written { InModel self.disk
+            (IfOk result (λ journal. active_of (bytes_on journal.disk) ≡ added_at self.end frame.now
+            (active_of (bytes_on self.disk)))) }
 
         // A crash at any moment of the call leaves the payloads from before it, with the new one or without.
-        ensures any_moment { InModel self.disk ((payloads : List (List ℕ)) → Keeps self.disk.history self.end payloads
-            → LeavesOnly (BeforeOrAfter self.disk.history.now payloads frame.now) self.disk.history (disk_after D.view result).history) }
+        ensures any_moment { InModel self.disk
+            ((payloads : List (List ℕ)) → Keeps self.disk.history self.end payloads
+            → LeavesOnly (BeforeOrAfter self.disk.history.now payloads frame.now) self.disk.history
+            (disk_after D.view result).history) }
 
         // The record takes five bytes and its payload's, also over a disk outside the model.
         ensures ends { IfOk result (λ journal. journal.end ≡ self.end + 5 + length frame.now) }
 
         ensures unchanged { HandsBack result self }
         ensures full { IsFull result ↔ (Fits self.disk.room self.end (length frame.now) → ⊥) }
-        ensures faulty { IsFaulty result → Rises self.disk.faults (disk_after D.view result).faults }
-        ensures steady { (IsFaulty result → ⊥) → (disk_after D.view result).faults ≡ self.disk.faults }
+        ensures faulty { IsFaulty result
+            → Rises self.disk.faults (disk_after D.view result).faults }
+        ensures steady { (IsFaulty result → ⊥)
+            → (disk_after D.view result).faults ≡ self.disk.faults }
     {
         if !self.fits(frame.payload_len()) {
             return Err(AppendFault::JournalFull(self));

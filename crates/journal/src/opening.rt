@@ -2,7 +2,7 @@
 ghost use Rattle.std.specs.Prelude.{◌≡◌, ◌≤◌, ◌<◌, ◌⊎◌, [], List, ℕ, length, IfOk, IfErr, OnErr, OnOk, IsErrOf, MatchResult};
 ghost use Rattle.disk_model.specs.Disk.{ChangesArea, InModel, LeavesOnly, Looks, Reaches, SameDisk, Rises, Torn, max_room, bytes_on};
 ghost use Rattle.journal.specs.Area.{created, first_gate};
-ghost use Rattle.journal.specs.Kept.{Keeps};
+ghost use Rattle.journal.specs.Kept.{Keeps, active_of};
 ghost use Rattle.journal.specs.inside.Loaded.{Holds};
 ghost use Rattle.journal.specs.Payloads.{payloads_in, AreGates};
 ghost use Rattle.journal.specs.Open.{AreEmpty, IsPassing, Tells};
@@ -83,23 +83,40 @@ impl<T: Drop> From<AllocFailed<T>> for OpenCause {
 pub fn create<D: Disk>(disk: D) -> Result<D, CreateFault<D>>
     requires { 11 ≤ (D.view disk).room }
 
-    ensures same { MatchResult result (λ d. SameDisk (D.view disk) (D.view d)) (λ e. SameDisk (D.view disk) (D.view e.disk)) }
+    ensures same { MatchResult result (λ d. SameDisk (D.view disk) (D.view d))
+        (λ e. SameDisk (D.view disk) (D.view e.disk)) }
 
     // The journal is durable, and stands for no payload.
-    ensures empty { InModel (D.view disk) (IfOk result (λ d. AreEmpty (bytes_on (D.view disk)) × Keeps (D.view d).history first_gate [])) }
+    ensures empty { InModel (D.view disk)
+        (IfOk result (λ d. AreEmpty (bytes_on (D.view disk))
+        × Keeps (D.view d).history first_gate [])) }
 
-    ensures bytes { InModel (D.view disk) (IfOk result (λ d. bytes_on (D.view d) ≡ record { first = created; second = [] })) }
+    ensures bytes { InModel (D.view disk)
+        (IfOk result (λ d. bytes_on (D.view d) ≡ record { first = created; second = [] })) }
 
-    ensures not_empty { InModel (D.view disk) (IfErr result (λ e. e.cause ≡ CreateCause.NotEmpty → (AreEmpty (bytes_on (D.view disk)) → ⊥) × Looks (D.view disk).history (D.view e.disk).history)) }
+    ensures not_empty { InModel (D.view disk)
+        (IfErr result (λ e. e.cause ≡ CreateCause.NotEmpty → (AreEmpty (bytes_on (D.view disk)) → ⊥)
+        × Looks (D.view disk).history (D.view e.disk).history)) }
 
     // A disk that isn't empty is left as it was, whatever fails.
-    ensures untouched { InModel (D.view disk) (IfErr result (λ e. (AreEmpty (bytes_on (D.view disk)) → ⊥) → Looks (D.view disk).history (D.view e.disk).history)) }
+    ensures untouched { InModel (D.view disk)
+        (IfErr result (λ e. (AreEmpty (bytes_on (D.view disk)) → ⊥)
+        → Looks (D.view disk).history (D.view e.disk).history)) }
 
+    // Whatever it answers, a crash at any moment of the call leaves the eleven bytes of area First
+    // torn at most, and area Second untouched.
     ensures any_moment { InModel (D.view disk) (MatchResult result
-        (λ d. LeavesOnly (Reaches (ChangesArea Area.First (Torn 0 11)) (D.view disk).history.now) (D.view disk).history (D.view d).history)
-        (λ e. LeavesOnly (Reaches (ChangesArea Area.First (Torn 0 11)) (D.view disk).history.now) (D.view disk).history (D.view e.disk).history)) }
+        (λ d. LeavesOnly (Reaches (ChangesArea Area.First (Torn 0 11)) (D.view disk).history.now)
+        (D.view disk).history (D.view d).history)
+        (λ e. LeavesOnly (Reaches (ChangesArea Area.First (Torn 0 11)) (D.view disk).history.now)
+        (D.view disk).history (D.view e.disk).history)) }
 
-    ensures faulty { IfErr result (λ e. e.cause ≡ CreateCause.Disk → Rises (D.view disk).faults (D.view e.disk).faults) }
+    // A failure of the disk is told as one, and nothing else is.
+    ensures faulty { IfErr result
+        (λ e. e.cause ≡ CreateCause.Disk → Rises (D.view disk).faults (D.view e.disk).faults) }
+    ensures steady { MatchResult result
+        (λ d. (D.view d).faults ≡ (D.view disk).faults)
+        (λ e. (e.cause ≡ CreateCause.Disk → ⊥) → (D.view e.disk).faults ≡ (D.view disk).faults) }
 {
     let mut disk = disk;
     match lay(&mut disk) {
@@ -112,12 +129,24 @@ pub fn create<D: Disk>(disk: D) -> Result<D, CreateFault<D>>
 fn lay<D: Disk>(disk: &mut D) -> Result<(), CreateCause>
     requires { 11 ≤ (D.view disk.old).room }
     ensures same { SameDisk (D.view disk.old) (D.view disk.new) }
-    ensures empty { InModel (D.view disk.old) (OnOk result (AreEmpty (bytes_on (D.view disk.old)) × Keeps (D.view disk.new).history first_gate [])) }
-    ensures bytes { InModel (D.view disk.old) (OnOk result (bytes_on (D.view disk.new) ≡ record { first = created; second = [] })) }
-    ensures not_empty { InModel (D.view disk.old) (IsErrOf result CreateCause.NotEmpty → (AreEmpty (bytes_on (D.view disk.old)) → ⊥) × Looks (D.view disk.old).history (D.view disk.new).history) }
-    ensures untouched { InModel (D.view disk.old) ((AreEmpty (bytes_on (D.view disk.old)) → ⊥) → OnErr result (Looks (D.view disk.old).history (D.view disk.new).history)) }
-    ensures any_moment { InModel (D.view disk.old) (LeavesOnly (Reaches (ChangesArea Area.First (Torn 0 11)) (D.view disk.old).history.now) (D.view disk.old).history (D.view disk.new).history) }
-    ensures faulty { IsErrOf result CreateCause.Disk → Rises (D.view disk.old).faults (D.view disk.new).faults }
+    ensures empty { InModel (D.view disk.old)
+        (OnOk result (AreEmpty (bytes_on (D.view disk.old))
+        × Keeps (D.view disk.new).history first_gate [])) }
+    ensures bytes { InModel (D.view disk.old)
+        (OnOk result (bytes_on (D.view disk.new) ≡ record { first = created; second = [] })) }
+    ensures not_empty { InModel (D.view disk.old)
+        (IsErrOf result CreateCause.NotEmpty → (AreEmpty (bytes_on (D.view disk.old)) → ⊥)
+        × Looks (D.view disk.old).history (D.view disk.new).history) }
+    ensures untouched { InModel (D.view disk.old)
+        ((AreEmpty (bytes_on (D.view disk.old)) → ⊥)
+        → OnErr result (Looks (D.view disk.old).history (D.view disk.new).history)) }
+    ensures any_moment { InModel (D.view disk.old)
+        (LeavesOnly (Reaches (ChangesArea Area.First (Torn 0 11)) (D.view disk.old).history.now)
+        (D.view disk.old).history (D.view disk.new).history) }
+    ensures faulty { IsErrOf result CreateCause.Disk
+        → Rises (D.view disk.old).faults (D.view disk.new).faults }
+    ensures steady { (IsErrOf result CreateCause.Disk → ⊥)
+        → (D.view disk.new).faults ≡ (D.view disk.old).faults }
 {
     let first = disk.len(Area::First)?;
     if first != 0 {
@@ -135,11 +164,16 @@ fn lay<D: Disk>(disk: &mut D) -> Result<(), CreateCause>
 // The bytes of area First, once they are durable.
 fn load<D: Disk>(alloc: Global, disk: &mut D) -> Result<Vec<u8>, OpenCause>
     ensures same { SameDisk (D.view disk.old) (D.view disk.new) }
-    ensures bytes { InModel (D.view disk.old) (IfOk result (λ bytes. (bytes.items ≡ (bytes_on (D.view disk.old)).first) × Holds (D.view disk.new).history bytes.items)) }
+    ensures bytes { InModel (D.view disk.old)
+        (IfOk result (λ bytes. (bytes.items ≡ active_of (bytes_on (D.view disk.old)))
+        × Holds (D.view disk.new).history bytes.items)) }
     ensures small { IfOk result (λ bytes. length bytes.items ≤ max_room) }
-    ensures looks { InModel (D.view disk.old) (Looks (D.view disk.old).history (D.view disk.new).history) }
-    ensures faulty { IsErrOf result OpenCause.Disk → Rises (D.view disk.old).faults (D.view disk.new).faults }
-    ensures steady { (IsErrOf result OpenCause.Disk → ⊥) → (D.view disk.new).faults ≡ (D.view disk.old).faults }
+    ensures looks { InModel (D.view disk.old)
+        (Looks (D.view disk.old).history (D.view disk.new).history) }
+    ensures faulty { IsErrOf result OpenCause.Disk
+        → Rises (D.view disk.old).faults (D.view disk.new).faults }
+    ensures steady { (IsErrOf result OpenCause.Disk → ⊥)
+        → (D.view disk.new).faults ≡ (D.view disk.old).faults }
     ensures cause { IfErr result IsPassing }
 {
     disk.sync(Area::First)?;
@@ -153,14 +187,20 @@ fn load<D: Disk>(alloc: Global, disk: &mut D) -> Result<Vec<u8>, OpenCause>
 pub(crate) fn scan<D: Disk>(alloc: Global, disk: &mut D) -> Result<(u64, Vec<Payload>), OpenCause>
     ensures same { SameDisk (D.view disk.old) (D.view disk.new) }
 
-    ensures found { InModel (D.view disk.old) (IfOk result (λ found. Keeps (D.view disk.new).history found.0 (payloads_in found.1.items))) }
-    ensures gates { InModel (D.view disk.old) (IfOk result (λ found. AreGates first_gate found.1.items)) }
+    ensures found { InModel (D.view disk.old)
+        (IfOk result (λ found. Keeps (D.view disk.new).history found.0
+        (payloads_in found.1.items))) }
+    ensures gates { InModel (D.view disk.old)
+        (IfOk result (λ found. AreGates first_gate found.1.items)) }
     ensures fault { InModel (D.view disk.old) (IfErr result (Tells (bytes_on (D.view disk.old)))) }
     ensures end { IfOk result (λ found. found.0 ≤ max_room) }
 
-    ensures looks { InModel (D.view disk.old) (Looks (D.view disk.old).history (D.view disk.new).history) }
-    ensures faulty { IsErrOf result OpenCause.Disk → Rises (D.view disk.old).faults (D.view disk.new).faults }
-    ensures steady { (IsErrOf result OpenCause.Disk → ⊥) → (D.view disk.new).faults ≡ (D.view disk.old).faults }
+    ensures looks { InModel (D.view disk.old)
+        (Looks (D.view disk.old).history (D.view disk.new).history) }
+    ensures faulty { IsErrOf result OpenCause.Disk
+        → Rises (D.view disk.old).faults (D.view disk.new).faults }
+    ensures steady { (IsErrOf result OpenCause.Disk → ⊥)
+        → (D.view disk.new).faults ≡ (D.view disk.old).faults }
 {
     let bytes = load(alloc, disk)?;
     read_area(alloc, &bytes)

@@ -54,11 +54,14 @@ fn a_record_that_fills_the_room(rt: HostRuntime) -> Result<(), Fail> {
 fn append_all<D: Disk>(journal: Journal<D>, frames: &[Frame]) -> Result<Journal<D>, AppendFault<D>>
     ensures same { SameDisk journal.disk (disk_after D.view result) }
 
-    ensures ok { InModel journal.disk ((payloads : List (List ℕ)) → Keeps journal.disk.history journal.end payloads
+    ensures ok { InModel journal.disk
+        ((payloads : List (List ℕ)) → Keeps journal.disk.history journal.end payloads
         → IfOk result (λ after. Keeps after.disk.history after.end (payloads ++ frames.now))) }
 
-    ensures any_moment { InModel journal.disk ((payloads : List (List ℕ)) → Keeps journal.disk.history journal.end payloads
-        → LeavesOnly (SomeFirst payloads frames.now) journal.disk.history (disk_after D.view result).history) }
+    ensures any_moment { InModel journal.disk
+        ((payloads : List (List ℕ)) → Keeps journal.disk.history journal.end payloads
+        → LeavesOnly (SomeFirst payloads frames.now) journal.disk.history
+        (disk_after D.view result).history) }
 {
     let mut journal = journal;
     for frame in frames {

@@ -1,8 +1,9 @@
 // The records of an area, gate by gate.
 ghost use Rattle.std.specs.Prelude.{◌≡◌, ◌≢◌, ◌<◌, ◌≤◌, ◌+◌, ◌++◌, ℕ, length, IfOk, IfErr, IfSome, IfNone};
 ghost use Rattle.disk_model.specs.Disk.{max_room};
+ghost use Rattle.disk_model.specs.declared.disk.Area.TheVariants.{First};
 ghost use Rattle.journal.specs.Limits.{max_payload};
-ghost use Rattle.journal.specs.Area.{StandsFor, end_of, first_gate, header};
+ghost use Rattle.journal.specs.Area.{Selects, StandsFor, end_of, first_gate, header};
 ghost use Rattle.journal.specs.Damage.{HasHeader};
 ghost use Rattle.journal.specs.Payloads.{AreGates, payloads_in};
 ghost use Rattle.journal.specs.inside.Walk.{IsStep};
@@ -53,7 +54,9 @@ fn step_at(rest: &[u8]) -> Step<'_>
 
 // What stands behind a header of area First.
 fn behind_header(bytes: &[u8]) -> Option<&[u8]>
-    ensures some { IfSome result (λ rest. (selector : ℕ) × (bytes.now ≡ header selector ++ rest.now) × (selector ≢ 66) × (0 < length rest.now)) }
+    ensures some { IfSome result
+        (λ rest. (selector : ℕ) × (bytes.now ≡ header selector ++ rest.now) × Selects First selector
+        × (0 < length rest.now)) }
     ensures none { IfNone result (HasHeader bytes.now → ⊥) }
 {
     if bytes.len() < 11 {
@@ -71,7 +74,8 @@ fn behind_header(bytes: &[u8]) -> Option<&[u8]>
 /// them.
 pub(crate) fn read_area(alloc: Global, bytes: &[u8]) -> Result<(u64, Vec<Payload>), OpenCause>
     requires { length bytes.now ≤ max_room }
-    ensures found { IfOk result (λ found. StandsFor max_payload bytes.now (payloads_in found.1.items)) }
+    ensures found { IfOk result
+        (λ found. StandsFor max_payload bytes.now (payloads_in found.1.items)) }
     ensures end { IfOk result (λ found. found.0 ≡ end_of (payloads_in found.1.items)) }
     ensures gates { IfOk result (λ found. AreGates first_gate found.1.items) }
     ensures fault { IfErr result (TellsOf bytes.now) }

@@ -11,7 +11,7 @@ use Rattle.worksheet.specs.Contents.{Contents}
 use Rattle.worksheet.specs.Ops.{sheet_of}
 use Rattle.worksheet.specs.Checks.{Allowed, AllowedFrom, first_refusal}
 use Rattle.worksheet.proofs.Existence.{allowed_goes_on}
-use Rattle.journal.specs.Kept.{Fits, ImageStandsFor, BeforeOrAfter}
+use Rattle.journal.specs.Kept.{Fits, ImageStandsFor, BeforeOrAfter, OtherUntouched}
 use Rattle.journal.specs.Area.{StandsFor}
 use Rattle.journal.specs.Limits.{max_payload}
 use Rattle.journal.specs.declared.opening.OpenCause.{OpenCause}
@@ -90,6 +90,14 @@ module _ {D : Type 0} (view : D → DiskView) (base : Base D) (sheet : Contents)
       let kept = holds.kept opened model in
       weakens _ (IsEither ops o) (disk_of view base).history new (either (disk_of view base).history.now kept ops is) (each model (codes_of kept.ops) kept.keeps)
 
+  -- and the area that isn't active is that of before
+  pub others : (new : History)
+      → InModel (disk_of view base) ((payloads : List (List ℕ)) → KeepsIn base payloads → LeavesOnly (BeforeOrAfter (disk_of view base).history.now payloads payload) (disk_of view base).history new)
+      → InModel (disk_of view base) (LeavesOnly (OtherUntouched (disk_of view base).history.now) (disk_of view base).history new)
+  others new each model =
+      let kept = holds.kept opened model in
+      weakens _ (OtherUntouched (disk_of view base).history.now) (disk_of view base).history new (λ i stands. stands.1) (each model (codes_of kept.ops) kept.keeps)
+
   -- and at Ok it is this with the op
   pub committed : (new : Base D) (after : Contents) → SameDisk (disk_of view base) (disk_of view new)
       → InModel (disk_of view base) ((payloads : List (List ℕ)) → KeepsIn base payloads → KeepsIn new (payloads ++ payload ∷ []))
@@ -160,3 +168,9 @@ pub stays_either : (old new : DiskView) (sheet : Contents) (o : Op) → new ≡ 
 stays_either old new sheet o same images ops is =
     subst (λ (d : DiskView). LeavesOnly (IsEither ops o) old.history d.history) (sym same)
     (started (IsEither ops o) old.history (λ i image. inl (subst (λ (s : Contents). IsSheetImage s i) is (images i image))))
+
+-- and the area that isn't active that of before
+pub stays_other : (old new : DiskView) → new ≡ old → LeavesOnly (OtherUntouched old.history.now) old.history new.history
+stays_other old new same =
+    subst (λ (d : DiskView). LeavesOnly (OtherUntouched old.history.now) old.history d.history) (sym same)
+    (started (OtherUntouched old.history.now) old.history (λ i image. (i, image, refl)))

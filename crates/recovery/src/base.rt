@@ -1,7 +1,7 @@
 // What a store stands on.
 ghost use Rattle.std.specs.Prelude.{◌≡◌, ◌+◌, ◌++◌, ◌∷◌, ◌↔◌, [], List, ℕ, length, false, true, OnOk, OnErr, IsTrue};
-ghost use Rattle.disk_model.specs.Disk.{InModel, LeavesOnly, SameDisk, Rises};
-ghost use Rattle.journal.specs.Kept.{BeforeOrAfter, Fits};
+ghost use Rattle.disk_model.specs.Disk.{InModel, LeavesOnly, SameDisk, Rises, bytes_on};
+ghost use Rattle.journal.specs.Kept.{BeforeOrAfter, Fits, other_of};
 
 use disk_model::{Disk, DiskFault};
 use journal::{AppendFault, Frame, Journal};
@@ -21,7 +21,11 @@ impl<D: Disk> Base<D> {
         requires { HasPlaceIn self (length frame.now) }
 
         ensures same { SameDisk (disk_of D.view self) (disk_of D.view result.0) }
+        ensures other { InModel (disk_of D.view self)
+            (other_of (bytes_on (disk_of D.view result.0)) ≡ other_of (bytes_on (disk_of D.view self))) }
         ensures open { OnOk result.1 (is_closed result.0 ≡ false) }
+        ensures steady { OnOk result.1
+            ((disk_of D.view result.0).faults ≡ (disk_of D.view self).faults) }
         ensures ends { OnOk result.1 (end_in result.0 ≡ end_in self + 5 + length frame.now) }
         ensures closed { OnErr result.1 ((is_closed result.0 ≡ true) × Rises (disk_of D.view self).faults (disk_of D.view result.0).faults) }
 

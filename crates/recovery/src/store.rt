@@ -1,11 +1,11 @@
 //! A worksheet on a disk.
-ghost use Rattle.std.specs.Prelude.{◌≡◌, ◌+◌, ◌++◌, ◌∷◌, ◌↔◌, [], List, length, false, true, None, IfOk, IfErr, OnOk, OnErr, IsErrOf, IsTrue};
+ghost use Rattle.std.specs.Prelude.{◌≡◌, ◌+◌, ◌++◌, ◌∷◌, ◌↔◌, [], List, length, false, true, None, IfOk, IfErr, OnOk, OnErr, IsErrOf, IsTrue, MatchResult};
 ghost use Rattle.disk_model.specs.Disk.{InModel, Image, Leaves, LeavesOnly, Looks, SameDisk, Rises, bytes_on};
 ghost use Rattle.worksheet.specs.declared.op.Op.{Op};
 ghost use Rattle.worksheet.specs.Contents.{Contents};
 ghost use Rattle.worksheet.specs.Ops.{sheet_of};
 ghost use Rattle.worksheet.specs.Checks.{first_refusal, room_for};
-ghost use Rattle.journal.specs.Kept.{Fits};
+ghost use Rattle.journal.specs.Kept.{Fits, OtherUntouched, other_of};
 ghost use Rattle.recovery.specs.Code.{code_of, HasCode, IsPayloadOf};
 ghost use Rattle.recovery.specs.Sheets.{IsSheetImage, IsEither, KeepsOps, Makes, StandsWithOrWithout, TellsOfSheet, HasPlace, IsReady, SameStore};
 
@@ -71,7 +71,12 @@ impl<D: Disk> Store<D> {
         ensures looks { InModel (D.view disk) (Looks (D.view disk).history (disk_left D.view result).history) }
         ensures images { InModel (D.view disk) (IfOk result (λ store. Leaves (IsSheetImage store.sheet.contents) store.disk.history.now)) }
 
-        ensures faulty { IfErr result (λ e. e.cause ≡ OpenCause.Disk → Rises (D.view disk).faults (D.view e.disk).faults) }
+        // A failure of the disk is told as one, and nothing else is.
+        ensures faulty { IfErr result
+            (λ e. e.cause ≡ OpenCause.Disk → Rises (D.view disk).faults (D.view e.disk).faults) }
+        ensures steady { MatchResult result
+            (λ store. store.disk.faults ≡ (D.view disk).faults)
+            (λ e. (e.cause ≡ OpenCause.Disk → ⊥) → (D.view e.disk).faults ≡ (D.view disk).faults) }
     {
         let (journal, payloads) = Journal::open(alloc, disk)?;
         match sheet_of_payloads(alloc, &payloads) {
@@ -137,6 +142,14 @@ impl<D: Disk> Store<D> {
         ensures open { OnOk result (self.new.closed ≡ false) }
         ensures ends { OnOk result (self.new.end ≡ self.old.end + 5 + length (code_of op)) }
         ensures closed { OnErr result ((self.new.closed ≡ true) × Rises self.old.disk.faults self.new.disk.faults) }
+        ensures steady { OnOk result (self.new.disk.faults ≡ self.old.disk.faults) }
+
+        // The area that isn't active is left alone, at every moment of the call too.
+        ensures other { InModel self.old.disk
+            (other_of (bytes_on self.new.disk) ≡ other_of (bytes_on self.old.disk)) }
+        ensures others { InModel self.old.disk
+            (LeavesOnly (OtherUntouched self.old.disk.history.now) self.old.disk.history
+            self.new.disk.history) }
 
         // A crash at any moment of the call leaves the worksheet from before it, or this with the op.
         ensures any_moment { InModel self.old.disk ((ops : List Op) → self.old.sheet.contents ≡ sheet_of ops → LeavesOnly (IsEither ops op) self.old.disk.history self.new.disk.history) }
@@ -169,6 +182,14 @@ impl<D: Disk> Store<D> {
         ensures closed { IsErrOf result CommitFault.Closed ↔ (self.old.closed ≡ true) }
         ensures full { DoesNotFit result ↔ (self.old.closed ≡ false) × (Fits self.old.disk.room self.old.end (length (code_of op)) → ⊥) }
         ensures refused { IfErr result (LeftBy self.old self.new op) }
+        ensures steady { OnOk result (self.new.disk.faults ≡ self.old.disk.faults) }
+
+        // The area that isn't active is left alone, at every moment of the call too.
+        ensures other { InModel self.old.disk
+            (other_of (bytes_on self.new.disk) ≡ other_of (bytes_on self.old.disk)) }
+        ensures others { InModel self.old.disk
+            (LeavesOnly (OtherUntouched self.old.disk.history.now) self.old.disk.history
+            self.new.disk.history) }
 
         // A crash at any moment of the call leaves the worksheet from before it, or this with the op.
         ensures any_moment { InModel self.old.disk (self.old.closed ≡ false → (ops : List Op) → self.old.sheet.contents ≡ sheet_of ops → LeavesOnly (IsEither ops op) self.old.disk.history self.new.disk.history) }

@@ -1,16 +1,16 @@
 -- Lemmas for the layers above: how runs of calls go on. No clause speaks of them.
-use Rattle.std.specs.Prelude.{min}
-use Rattle.std.proofs.Common.{◌≡◌, ℕ, List, [], ◌∷◌, ◌++◌, refl, sym, ◌∙◌, ap, subst, arith, append_assoc, ◌+◌, ◌≤◌, max, length, length-append, length-drop, take, drop, Result, Ok, Err, IsTrue}
+use Rattle.std.proofs.Common.{◌≡◌, ℕ, List, [], ◌∷◌, ◌++◌, refl, sym, ◌∙◌, ap, subst, arith, append_assoc, ◌+◌, ◌≤◌, max, length, length-append, length-drop, take, drop, Result, IsTrue}
 use Rattle.std.proofs.lemmas.List.{length-take}
-use Rattle.disk_model.specs.Disk.{overwritten, max_faults, Image, AtMoment, DiskState, History, DiskView, Leaves, LeavesOnly, Each, states_of, Called, Looks, Syncs, IsImage}
+use Rattle.disk_model.specs.Disk.{overwritten, Image, AtMoment, DiskState, History, DiskView, Leaves, LeavesOnly, Each, states_of, Called, Looks, Syncs, IsImage}
 use Rattle.disk_model.specs.declared.disk.Area.{Area}
-use Rattle.disk_model.specs.Fuse.{fused}
 
-pub Each-append : (Q : DiskState → Type 0) (xs ys : List DiskState) → Each Q xs → Each Q ys → Each Q (xs ++ ys)
+pub Each-append : (Q : DiskState → Type 0) (xs ys : List DiskState) → Each Q xs → Each Q ys
+    → Each Q (xs ++ ys)
 Each-append Q [] ys all more = more
 Each-append Q (x ∷ xs) ys all more = (all.0, Each-append Q xs ys all.1 more)
 
-pub Each-map : (Q R : DiskState → Type 0) (xs : List DiskState) → ((s : DiskState) → Q s → R s) → Each Q xs → Each R xs
+pub Each-map : (Q R : DiskState → Type 0) (xs : List DiskState) → ((s : DiskState) → Q s → R s)
+    → Each Q xs → Each R xs
 Each-map Q R [] f all = tt
 Each-map Q R (x ∷ xs) f all = (f x all.0, Each-map Q R xs f all.1)
 
@@ -22,57 +22,80 @@ started P h here = record { start = here; more = []; states = refl; each = tt }
 pub at_end : (P : Image → Type 0) (old new : History) → LeavesOnly P old new → Leaves P new.now
 at_end P old new run = newest run.more run.states run.each
   where
-    newest : (more : List DiskState) → states_of new ≡ more ++ states_of old → Each (Leaves P) more → Leaves P new.now
-    newest [] states each = let same : new.now ≡ old.now = cc in subst (λ s. Leaves P s) (sym same) run.start
-    newest (s ∷ more) states each = let same : new.now ≡ s = cc in subst (λ s. Leaves P s) (sym same) each.0
+    newest : (more : List DiskState) → states_of new ≡ more ++ states_of old → Each (Leaves P) more
+        → Leaves P new.now
+    newest [] states each =
+        let same : new.now ≡ old.now = cc in subst (λ s. Leaves P s) (sym same) run.start
+    newest (s ∷ more) states each =
+        let same : new.now ≡ s = cc in subst (λ s. Leaves P s) (sym same) each.0
 
-pub weakens : (P Q : Image → Type 0) (old new : History) → ((c : Image) → P c → Q c) → LeavesOnly P old new → LeavesOnly Q old new
+pub weakens : (P Q : Image → Type 0) (old new : History) → ((c : Image) → P c → Q c)
+    → LeavesOnly P old new → LeavesOnly Q old new
 weakens P Q old new f run = record {
   start = λ c image. f c (run.start c image);
   more = run.more;
   states = run.states;
-  each = Each-map (Leaves P) (Leaves Q) run.more (λ s leaves c image. f c (leaves c image)) run.each;
+  each = Each-map (Leaves P) (Leaves Q) run.more
+      (λ s leaves c image. f c (leaves c image)) run.each;
 }
 
 -- one run after another
-pub goes_on : (P : Image → Type 0) (old mid new : History) → LeavesOnly P old mid → LeavesOnly P mid new → LeavesOnly P old new
+pub goes_on : (P : Image → Type 0) (old mid new : History) → LeavesOnly P old mid
+    → LeavesOnly P mid new → LeavesOnly P old new
 goes_on P old mid new before after = record {
   start = before.start;
   more = after.more ++ before.more;
-  states = after.states ∙ ap (λ (l : List DiskState). after.more ++ l) before.states ∙ sym (append_assoc after.more before.more (states_of old));
+  states = after.states ∙ ap (λ (l : List DiskState). after.more ++ l) before.states
+      ∙ sym (append_assoc after.more before.more (states_of old));
   each = Each-append (Leaves P) after.more before.more after.each before.each;
 }
 
-pub fused_called : {T E : Type 0} (result : Result T E) (old new : DiskView) (refused : ℕ) → Called result old new → Called result (fused old refused) (fused new refused)
-fused_called (Ok x) old new refused c = record { room = c.room; keeps_model = c.keeps_model; later = omega (arith, c.later); bounded = omega arith; cause = ap (λ (n : ℕ). min (n + refused) max_faults) c.cause }
-fused_called (Err e) old new refused c = record { room = c.room; keeps_model = c.keeps_model; later = omega (arith, c.later); bounded = omega arith; cause = omega (arith, c.later, c.cause) }
-
 -- a call keeps the model
-pub still : {T E : Type 0} (result : Result T E) (old new : DiskView) → Called result old new → IsTrue old.keeps_model → IsTrue new.keeps_model
+pub still : {T E : Type 0} (result : Result T E) (old new : DiskView) → Called result old new
+    → IsTrue old.keeps_model → IsTrue new.keeps_model
 still result old new call model = subst IsTrue (sym call.keeps_model) model
 
 -- a call that leaves nothing new goes on with what it found
-pub stays : (P : Image → Type 0) (old mid new : History) → LeavesOnly P old mid → LeavesOnly (IsImage mid.now) mid new → LeavesOnly P old new
-stays P old mid new run call = goes_on P old mid new run (weakens (IsImage mid.now) P mid new (at_end P old mid run) call)
+pub stays : (P : Image → Type 0) (old mid new : History) → LeavesOnly P old mid
+    → LeavesOnly (IsImage mid.now) mid new → LeavesOnly P old new
+stays P old mid new run call =
+    goes_on P old mid new run (weakens (IsImage mid.now) P mid new (at_end P old mid run) call)
 
 -- two calls that only look
 pub looks_on : (old mid new : History) → Looks old mid → Looks mid new → Looks old new
-looks_on old mid new first second = record { content = second.content ∙ first.content; moments = stays (IsImage old.now) old mid new first.moments second.moments }
+looks_on old mid new first second = record {
+  content = second.content ∙ first.content;
+  moments = stays (IsImage old.now) old mid new first.moments second.moments;
+}
 
 -- a sync leaves what a look leaves
-pub syncs_look : {T E : Type 0} (area : Area) (result : Result T E) (old new : History) → Syncs area result old new → Looks old new
-syncs_look area result old new synced = record { content = synced.content; moments = synced.moments }
+pub syncs_look : {T E : Type 0} (area : Area) (result : Result T E) (old new : History)
+    → Syncs area result old new → Looks old new
+syncs_look area result old new synced =
+    record { content = synced.content; moments = synced.moments }
 
 -- a run of calls has P at each moment since its start
-pub at_moment : (P : Image → Type 0) (old new : History) (moment : ℕ) (s : DiskState) → LeavesOnly P old new → length old.past ≤ moment → AtMoment moment new s → Leaves P s
-at_moment P old new moment s run since at = go run.more at.later (sym run.states ∙ at.states) run.each
+pub at_moment : (P : Image → Type 0) (old new : History) (moment : ℕ) (s : DiskState)
+    → LeavesOnly P old new → length old.past ≤ moment → AtMoment moment new s → Leaves P s
+at_moment P old new moment s run since at =
+    go run.more at.later (sym run.states ∙ at.states) run.each
   where
-    go : (more later : List DiskState) → more ++ states_of old ≡ later ++ s ∷ at.earlier → Each (Leaves P) more → Leaves P s
+    go : (more later : List DiskState) → more ++ states_of old ≡ later ++ s ∷ at.earlier
+        → Each (Leaves P) more → Leaves P s
     go [] [] same each = let here : old.now ≡ s = cc in subst (λ t. Leaves P t) here run.start
-    go [] (x ∷ later) same each = absurd (omega (arith, since, at.moment_is, ap length same, length-append later (s ∷ at.earlier)))
+    go [] (x ∷ later) same each = absurd
+        (omega (arith, since, at.moment_is, ap length same, length-append later (s ∷ at.earlier)))
     go (x ∷ more) [] same each = let here : x ≡ s = cc in subst (λ t. Leaves P t) here each.0
-    go (x ∷ more) (y ∷ later) same each = go more later (ap (λ (l : List DiskState). drop 1 l) same) each.1
+    go (x ∷ more) (y ∷ later) same each =
+        go more later (ap (λ (l : List DiskState). drop 1 l) same) each.1
 
 -- the length after a write that begins within the area
-pub length-overwritten : (old : List ℕ) (at : ℕ) (bytes : List ℕ) → at ≤ length old → length (overwritten old at bytes) ≡ max (length old) (at + length bytes)
-length-overwritten old at bytes le = omega (arith, length-append (take at old ++ bytes) (drop (at + length bytes) old), length-append (take at old) bytes, length-drop (at + length bytes) old, length-take at old)
+pub length-overwritten : (old : List ℕ) (at : ℕ) (bytes : List ℕ) → at ≤ length old
+    → length (overwritten old at bytes) ≡ max (length old) (at + length bytes)
+length-overwritten old at bytes le = omega (
+  arith,
+  length-append (take at old ++ bytes) (drop (at + length bytes) old),
+  length-append (take at old) bytes,
+  length-drop (at + length bytes) old,
+  length-take at old,
+)

@@ -1,4 +1,4 @@
-use Rattle.recovery.proofs.Images.{stays_either}
+use Rattle.recovery.proofs.Images.{stays_either, stays_other}
 use Rattle.recovery.proofs.Kept.{stays_kept}
 use Rattle.recovery.proofs.store.Store.commit.Goals as goal
 
@@ -13,3 +13,9 @@ returns-in-Err-Full-clause-payloads g c = λ model ops kept. stays_kept c.args.s
 
 pub returns-in-Err-OutOfMemory-clause-payloads : goal.returns-in-Err-OutOfMemory-clause-payloads
 returns-in-Err-OutOfMemory-clause-payloads g c = λ model ops kept. stays_kept c.args.self.now c.prepare.new.self c.args.op ops c.prepare.ensures.same kept
+
+pub returns-in-Err-Full-clause-others : goal.returns-in-Err-Full-clause-others
+returns-in-Err-Full-clause-others g c = λ model. stays_other c.args.self.now.disk c.prepare.new.self.disk c.prepare.ensures.same.disk
+
+pub returns-in-Err-OutOfMemory-clause-others : goal.returns-in-Err-OutOfMemory-clause-others
+returns-in-Err-OutOfMemory-clause-others g c = λ model. stays_other c.args.self.now.disk c.prepare.new.self.disk c.prepare.ensures.same.disk

@@ -3,11 +3,12 @@ use Rattle.disk_model.specs.Disk.{InModel, LeavesOnly}
 use Rattle.worksheet.specs.declared.op.Op.{Op}
 use Rattle.worksheet.specs.Ops.{sheet_of}
 use Rattle.worksheet.specs.Checks.{first_refusal}
+use Rattle.journal.specs.Kept.{OtherUntouched}
 use Rattle.recovery.specs.Code.{code_of}
 use Rattle.recovery.specs.Sheets.{StoreView, IsEither, KeepsOps, StandsWithOrWithout}
 use Rattle.recovery.specs.declared.base.Base.{Base}
 use Rattle.recovery.specs.inside.Base.{disk_in, disk_of, end_in, end_of_base, is_closed_store, IsStoreOf, store_on}
-use Rattle.recovery.proofs.Images.{moments, committed, all_images, on_ok}
+use Rattle.recovery.proofs.Images.{moments, others, committed, all_images, on_ok}
 use Rattle.recovery.proofs.Kept.{payload_moments, keeps_more}
 use Rattle.recovery.proofs.store.Store.commit_ready.Goals as goal
 
@@ -112,3 +113,29 @@ returns-clause-ends g c =
     subst (λ (s : StoreView). new ≡ s.end + 5 + length (code_of o)) c.self.view_is
     (subst (λ (b : Option (Base g.row.D.Denot)). new ≡ end_of_base b + 5 + length (code_of o)) (sym e)
     (subst (λ (l : List ℕ). new ≡ end_in c.unwrap.result + 5 + length l) c.requires.own.is ends))
+
+pub returns-in_err-result-clause-others : goal.returns-in_err-result-clause-others
+returns-in_err-result-clause-others g c =
+    let view = g.D.Disk.view in
+    let o = c.args.op in
+    let sheet = c.self.inside.sheet.contents in
+    let e : c.self.inside.base ≡ Some c.unwrap.result = sym c.take.ensures.value ∙ c.unwrap.ensures in
+    let holds = subst (λ (b : Option (Base g.row.D.Denot)). IsStoreOf view b sheet) e c.self.invariant in
+    let next = subst (λ (s : StoreView). first_refusal s.sheet.contents o ≡ None) (sym c.self.view_is) c.requires.allowed in
+    let opened = subst (λ (b : Option (Base g.row.D.Denot)). is_closed_store b ≡ false) e (subst (λ (s : StoreView). s.closed ≡ false) (sym c.self.view_is) c.requires.fits.0) in
+    subst (λ (s : StoreView). InModel s.disk (LeavesOnly (OtherUntouched s.disk.history.now) s.disk.history (disk_of view c.with-base.result.0).history)) c.self.view_is
+    (subst (λ (b : Option (Base g.row.D.Denot)). InModel (disk_in view b) (LeavesOnly (OtherUntouched (disk_in view b).history.now) (disk_in view b).history (disk_of view c.with-base.result.0).history)) (sym e)
+    (others view c.unwrap.result sheet o c.args.frame holds c.requires.own next opened (disk_of view c.with-base.result.0).history c.with-base.ensures.any_moment))
+
+pub returns-clause-others : goal.returns-clause-others
+returns-clause-others g c =
+    let view = g.D.Disk.view in
+    let o = c.args.op in
+    let sheet = c.self.inside.sheet.contents in
+    let e : c.self.inside.base ≡ Some c.unwrap.result = sym c.take.ensures.value ∙ c.unwrap.ensures in
+    let holds = subst (λ (b : Option (Base g.row.D.Denot)). IsStoreOf view b sheet) e c.self.invariant in
+    let next = subst (λ (s : StoreView). first_refusal s.sheet.contents o ≡ None) (sym c.self.view_is) c.requires.allowed in
+    let opened = subst (λ (b : Option (Base g.row.D.Denot)). is_closed_store b ≡ false) e (subst (λ (s : StoreView). s.closed ≡ false) (sym c.self.view_is) c.requires.fits.0) in
+    subst (λ (s : StoreView). InModel s.disk (LeavesOnly (OtherUntouched s.disk.history.now) s.disk.history (disk_of view c.with-base.result.0).history)) c.self.view_is
+    (subst (λ (b : Option (Base g.row.D.Denot)). InModel (disk_in view b) (LeavesOnly (OtherUntouched (disk_in view b).history.now) (disk_in view b).history (disk_of view c.with-base.result.0).history)) (sym e)
+    (others view c.unwrap.result sheet o c.args.frame holds c.requires.own next opened (disk_of view c.with-base.result.0).history c.with-base.ensures.any_moment))
