@@ -85,3 +85,42 @@ impl Write for Unflushed {
         Err(io::Error::from(io::ErrorKind::StorageFull))
     }
 }
+
+/// Gives its bytes, at most three at each read, and counts the reads.
+#[derive(Drop)]
+pub struct Counted<'a> {
+    pub rest: &'a [u8],
+    pub reads: u64,
+}
+
+impl Read for Counted<'_> {
+    fn read(&mut self, buf: &mut [u8]) -> io::Result<usize> {
+        self.reads = self.reads.saturating_add(1);
+        let count = self.rest.len().min(buf.len()).min(3);
+        buf[..count].copy_from_slice(&self.rest[..count]);
+        self.rest = &self.rest[count..];
+        Ok(count)
+    }
+}
+
+/// Takes as many bytes as there is room for, and then fails.
+#[derive(Drop)]
+pub struct Narrow {
+    pub taken: Vec<u8>,
+    pub room: usize,
+}
+
+impl Write for Narrow {
+    fn write(&mut self, buf: &[u8]) -> io::Result<usize> {
+        let count = self.room.min(buf.len());
+        if count == 0 || self.taken.extend_from_slice(&buf[..count]).is_err() {
+            return Err(io::Error::from(io::ErrorKind::StorageFull));
+        }
+        self.room -= count;
+        Ok(count)
+    }
+
+    fn flush(&mut self) -> io::Result<()> {
+        Ok(())
+    }
+}

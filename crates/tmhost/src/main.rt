@@ -1,7 +1,10 @@
-//! The program `tmhost`: it reads its words and runs the task that they ask for on the standard streams.
+//! The program `tmhost`: it runs the task that its words ask for on the standard streams. What it says
+//! where, and with which status it ends, `host_cli` decides.
 #![tactic(auto)]
 
-use host_cli::{RunFault, Task, blocks, fault_text, read_words};
+use host_cli::{
+    Ending, RunFault, Task, end_program, read_words, refuse_unread_words, refuse_words, run_blocks,
+};
 use std::fs::{File, OpenOptions};
 use std::io;
 use std::io::BufWriter;
@@ -15,46 +18,25 @@ fn hold_descriptor<R: Files<File = File>>(rt: &R) -> io::Result<File> {
 }
 
 /// `blocks` from standard input to standard output.
-fn run_blocks(rt: &HostRuntime) -> Result<ExitCode, RunFault> {
-    let Ok(mut output) = BufWriter::with_capacity(rt.alloc(), 65_536, rt.stdout()) else {
-        return Err(RunFault::OutOfMemory);
-    };
-    let whole = blocks(rt.alloc(), &mut rt.stdin(), &mut output)?;
-    Ok(if whole {
-        ExitCode::SUCCESS
-    } else {
-        ExitCode::FAILURE
-    })
+fn run_on_streams(rt: &HostRuntime) -> Ending {
+    match BufWriter::with_capacity(rt.alloc(), 65_536, rt.stdout()) {
+        Ok(mut output) => run_blocks(rt.alloc(), &mut rt.stdin(), &mut output, &mut rt.stderr()),
+        Err(_) => end_program(Err(RunFault::OutOfMemory), &mut rt.stderr()),
+    }
 }
 
-/// Reads the words and runs the task. A word that is not UTF-8 gives status 2 without a text; `clap`'s
-/// texts go where it sends them, with status 0 for help and 2 for a refusal.
-fn run(rt: &HostRuntime) -> Result<ExitCode, RunFault> {
+/// Reads the words and runs the task.
+fn run(rt: &HostRuntime) -> Ending {
     let words = match std::env::args(rt) {
-        Ok(words) => words,
-        Err(error) if error.kind() == io::ErrorKind::OutOfMemory => {
-            return Err(RunFault::OutOfMemory);
-        }
-        Err(_) => return Ok(ExitCode::from(2)),
+        Ok(words) => words.collect::<Vec<String>>(rt.alloc()),
+        Err(error) => return refuse_unread_words(error.kind(), &mut rt.stderr()),
     };
-    let Ok(words) = words.collect::<Vec<String>>(rt.alloc()) else {
-        return Err(RunFault::OutOfMemory);
+    let Ok(words) = words else {
+        return end_program(Err(RunFault::OutOfMemory), &mut rt.stderr());
     };
     match read_words(rt.alloc(), words.as_slice()) {
-        Ok(Task::Blocks) => run_blocks(rt),
-        Err(error) if error.kind() == clap::error::ErrorKind::OutOfMemory => {
-            Err(RunFault::OutOfMemory)
-        }
-        Err(error) => {
-            if error.print(rt).is_err() {
-                return Err(RunFault::Output);
-            }
-            Ok(if error.exit_code() == 0 {
-                ExitCode::SUCCESS
-            } else {
-                ExitCode::from(2)
-            })
-        }
+        Ok(Task::Blocks) => run_on_streams(rt),
+        Err(error) => refuse_words(&error, &mut rt.stdout(), &mut rt.stderr()),
     }
 }
 
@@ -62,12 +44,5 @@ fn main(rt: HostRuntime) -> ExitCode {
     let _first = hold_descriptor(&rt);
     let _second = hold_descriptor(&rt);
     let _third = hold_descriptor(&rt);
-    match run(&rt) {
-        Ok(code) => code,
-        Err(fault) => {
-            // Where standard error fails too, the status alone tells the fault.
-            let _ = fault_text(fault, &mut rt.stderr());
-            ExitCode::FAILURE
-        }
-    }
+    ExitCode::from(run(&rt).status)
 }

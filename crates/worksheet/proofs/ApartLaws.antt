@@ -52,13 +52,13 @@ unfound_push [] t name h e = rw e refl
 unfound_push (s ∷ ss) t name h e =
     let n = not_first s ss name h in rw n.0 (unfound_push ss t name n.1 e)
 
-apart_push : (ss : List Session) (t : Session) → AreNamedApart ss → session_named ss t.name ≡ None → AreNamedApart (ss ++ t ∷ [])
+pub apart_push : (ss : List Session) (t : Session) → AreNamedApart ss → session_named ss t.name ≡ None → AreNamedApart (ss ++ t ∷ [])
 apart_push [] t apart h = (refl, tt)
 apart_push (s ∷ ss) t apart h =
     let n = not_first s ss t.name h in
     (unfound_push ss t s.name apart.0 (turned s.name t.name n.0), apart_push ss t apart.1 n.1)
 
-none_of : (found : Option Session) → is_some found ≡ false → found ≡ None
+pub none_of : (found : Option Session) → is_some found ≡ false → found ≡ None
 none_of None h = refl
 none_of (Some s) h = absurd (true≢false h)
 
@@ -100,7 +100,7 @@ all_found_push : (ss : List Session) (t : Session) (fs : List Field) → AllByRe
 all_found_push ss t [] all = tt
 all_found_push ss t (f ∷ fs) all = (found_push ss t f.session all.0, all_found_push ss t fs all.1)
 
-all_put : (P : Field → Type 0) (test : Field → Bool) (x : Field) (fs : List Field) → P x → AllByRecursion P fs → AllByRecursion P (put_behind test x fs)
+pub all_put : (P : Field → Type 0) (test : Field → Bool) (x : Field) (fs : List Field) → P x → AllByRecursion P fs → AllByRecursion P (put_behind test x fs)
 all_put P test x [] p all = tt
 all_put P test x (f ∷ fs) p all = go (test f) (all_put P test x fs p all.1)
   where
@@ -108,14 +108,14 @@ all_put P test x (f ∷ fs) p all = go (test f) (all_put P test x fs p all.1)
     go true rest = (all.0, (p, all.1))
     go false rest = (all.0, rest)
 
-all_placed : (P : Field → Type 0) (after : ℕ) (x : Field) (fs : List Field) → P x → AllByRecursion P fs → AllByRecursion P (placed_field after x fs)
+pub all_placed : (P : Field → Type 0) (after : ℕ) (x : Field) (fs : List Field) → P x → AllByRecursion P fs → AllByRecursion P (placed_field after x fs)
 all_placed P after x fs p all = go (after == 0)
   where
     go : (b : Bool) → AllByRecursion P (if b then x ∷ fs else put_behind (λ other. other.id == after) x fs)
     go true = (p, all)
     go false = all_put P (λ other. other.id == after) x fs p all
 
-all_kept : (P : Field → Type 0) (test : Field → Bool) (fs : List Field) → AllByRecursion P fs → AllByRecursion P (filter test fs)
+pub all_kept : (P : Field → Type 0) (test : Field → Bool) (fs : List Field) → AllByRecursion P fs → AllByRecursion P (filter test fs)
 all_kept P test [] all = tt
 all_kept P test (f ∷ fs) all = go (test f) (all_kept P test fs all.1)
   where
@@ -123,7 +123,7 @@ all_kept P test (f ∷ fs) all = go (test f) (all_kept P test fs all.1)
     go true rest = (all.0, rest)
     go false rest = rest
 
-all_changed : (P : Field → Type 0) (id : ℕ) (change : Field → Field) → ((f : Field) → P f → P (change f)) → (fs : List Field) → AllByRecursion P fs → AllByRecursion P (map (at_field id change) fs)
+pub all_changed : (P : Field → Type 0) (id : ℕ) (change : Field → Field) → ((f : Field) → P f → P (change f)) → (fs : List Field) → AllByRecursion P fs → AllByRecursion P (map (at_field id change) fs)
 all_changed P id change keeps [] all = tt
 all_changed P id change keeps (f ∷ fs) all = (go (f.id == id), all_changed P id change keeps fs all.1)
   where
@@ -139,11 +139,11 @@ found_in P (f ∷ fs) id x all e = go (f.id == id) e (found_in P fs id x all.1)
     go true e rest = let same : f ≡ x = cc in subst P same all.0
     go false e rest = rest e
 
-all_moved : (P : Field → Type 0) (id after : ℕ) (fs : List Field) (found : Option Field) → field_in fs id ≡ found → AllByRecursion P fs → AllByRecursion P (moved id after fs found)
+pub all_moved : (P : Field → Type 0) (id after : ℕ) (fs : List Field) (found : Option Field) → field_in fs id ≡ found → AllByRecursion P fs → AllByRecursion P (moved id after fs found)
 all_moved P id after fs None e all = all
 all_moved P id after fs (Some x) e all = all_placed P after x (fields_without id fs) (found_in P fs id x all e) (all_kept P (λ field. not (field.id == id)) fs all)
 
-belong_one : (sheet : Contents) (o : Op) → first_refusal sheet o ≡ None → BelongToSessions sheet → BelongToSessions (edited sheet o)
+pub belong_one : (sheet : Contents) (o : Op) → first_refusal sheet o ≡ None → BelongToSessions sheet → BelongToSessions (edited sheet o)
 belong_one sheet (op.Session name tab words) next all = all_found_push sheet.sessions (record { name = name; tab = tab; words = words }) sheet.fields all
 belong_one sheet (op.New after session input) next all =
     all_placed (Belongs sheet.sessions) after (record { id = sheet.next; session = session; input = input; answer = None }) sheet.fields

@@ -8,3 +8,4 @@ pub mod SheetLaws
 pub mod Existence
 pub mod NextLaws
 pub mod ApartLaws
+pub mod WorksheetLaws

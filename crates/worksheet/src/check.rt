@@ -3,7 +3,7 @@ ghost use Rattle.std.specs.Prelude.{◌≡◌, ◌==◌, ◌||◌, [], List, fal
 ghost use Rattle.std.specs.List.{list_all};
 ghost use Rattle.std.specs.Option.{option_copied};
 ghost use Rattle.std.specs.Result.{result_err};
-ghost use Rattle.worksheet.specs.Checks.{is_input as input_test, is_input_byte as input_byte_test, is_no_low_byte as low_byte_test, is_word as word_test, are_words as words_test, field_in, session_named as session_found, stands_behind as place_test, numbers, first_refusal};
+ghost use Rattle.worksheet.specs.Checks.{is_input as input_test, is_input_byte as input_byte_test, is_no_low_byte as low_byte_test, is_word as word_test, are_words as words_test, is_new_name as new_name_test, field_in, session_named as session_found, stands_behind as place_test, numbers, first_refusal};
 ghost use Rattle.std.specs.Str.{is_utf8 as utf8_test};
 ghost use Rattle.block_tree.specs.Tree.{Tree};
 ghost use Rattle.worksheet.specs.Edits.{contents_with};
@@ -111,6 +111,13 @@ fn has_place(fields: &[Field], after: u32) -> bool
     ensures { result ≡ ((after == 0) || is_some (field_in fields.now after)) }
 {
     after == 0 || has_field(fields, after)
+}
+
+/// Whether a session with this name can be made beside these.
+pub(crate) fn is_new_name(sessions: &[Session], name: &[u8]) -> bool
+    ensures { result ≡ new_name_test (contents_with [] sessions.now 0) name.now }
+{
+    is_name(name) && !has_session(sessions, name)
 }
 
 /// The first refusal that an op meets in a worksheet of these parts.

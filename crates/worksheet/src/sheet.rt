@@ -4,7 +4,7 @@ ghost use Rattle.std.specs.Option.{option_copied};
 ghost use Rattle.std.specs.Result.{result_err};
 
 use crate::carry::carry_out;
-use crate::check::{check_op, field_with, session_with};
+use crate::check::{check_op, field_with, is_new_name, session_with};
 use crate::field::{Field, Session};
 use crate::fields::{Fields, Sessions};
 use crate::op::Op;
@@ -60,15 +60,23 @@ impl Sheet {
         check_op(&self.fields, &self.sessions, self.next, op)
     }
 
-    /// Whether memory is ready for an op, so that `apply` can't fail. Only a New and a Session need
-    /// any.
+    /// Whether memory is ready for an op, so that `apply` can't fail. A New needs it for the field with
+    /// the next number, a Session for its name, where a session with it can be made; the others need
+    /// none.
     pub fn has_room(&self, op: &Op) -> bool
         ensures { result ≡ room_for self.now op.now }
     {
         match op {
             Op::New { .. } => self.fields.len() < self.fields.capacity(),
-            Op::Session { .. } => self.sessions.len() < self.sessions.capacity(),
-            _ => true,
+            Op::Session { name, .. } => {
+                !is_new_name(&self.sessions, name.as_slice())
+                    || self.sessions.len() < self.sessions.capacity()
+            }
+            Op::Set { .. }
+            | Op::Remove { .. }
+            | Op::Move { .. }
+            | Op::Clear { .. }
+            | Op::Answer { .. } => true,
         }
     }
 
@@ -80,10 +88,17 @@ impl Sheet {
         // Where there is room, nothing is asked for.
         ensures ready { room_for self.old op.now ≡ true → IsOk result }
     {
+        if self.has_room(op) {
+            return Ok(());
+        }
         match op {
             Op::New { .. } => self.fields.reserve(1),
             Op::Session { .. } => self.sessions.reserve(1),
-            _ => Ok(()),
+            Op::Set { .. }
+            | Op::Remove { .. }
+            | Op::Move { .. }
+            | Op::Clear { .. }
+            | Op::Answer { .. } => Ok(()),
         }
     }
 
