@@ -1,7 +1,11 @@
 -- Laws of areas.
 use Rattle.std.specs.Prelude.{◌≡◌, ℕ, ◌<◌, ◌^◌, List}
+use Rattle.disk_model.specs.Disk.{Image}
 use Rattle.journal.specs.Area.{StandsFor}
 use Rattle.journal.specs.Damage.{IsDamaged}
+use Rattle.journal.specs.Kept.{ImageStandsFor}
+use Rattle.journal.specs.Open.{IsPassing, Tells}
+use Rattle.journal.specs.declared.opening.OpenCause.{OpenCause}
 
 -- an area stands for at most one list of payloads, where their lengths fit four bytes
 abbrev pub OneList : Type 0
@@ -17,3 +21,8 @@ OneDamage = (limit : ℕ) → limit < 2 ^ 32 → (area : List ℕ) (gate other :
 abbrev pub NoDamage : Type 0
 NoDamage = (limit : ℕ) → limit < 2 ^ 32 → (area : List ℕ) (payloads : List (List ℕ)) (gate : ℕ)
     → StandsFor limit area payloads → IsDamaged limit area gate → ⊥
+
+-- and no cause of a refusal lies in the bytes of an image that stands for payloads
+abbrev pub StandingOpens : Type 0
+StandingOpens = (i : Image) (payloads : List (List ℕ)) (cause : OpenCause)
+    → ImageStandsFor i payloads → Tells i cause → IsPassing cause

@@ -1,5 +1,5 @@
 -- What is known of ops that a worksheet allows.
-use Rattle.std.proofs.Common.{◌≡◌, ℕ, ◌<◌, ◌≤◌, ◌^◌, true, false, List, [], ◌∷◌, ◌++◌, length, None, refl, subst, arith}
+use Rattle.std.proofs.Common.{◌≡◌, ℕ, ◌<◌, ◌≤◌, ◌^◌, true, false, List, [], ◌∷◌, ◌++◌, length, None, subst, arith}
 use Rattle.std.specs.Prelude.{◌&&◌, nat_le, nat_lt}
 use Rattle.std.specs.List.{AllByRecursion, list_all}
 use Rattle.std.specs.Str.{is_utf8}
@@ -32,9 +32,6 @@ makes_more os o before after makes typed next is = record {
   allowed = allowed_goes_on os o makes.allowed (subst (λ (s : Contents). first_refusal s o ≡ None) makes.is next);
   is = is;
 }
-
-pub makes_nothing : Makes [] (sheet_of [])
-makes_nothing = record { typed = tt; allowed = tt; is = refl }
 
 -- lengths that are tested
 

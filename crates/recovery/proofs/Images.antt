@@ -11,13 +11,13 @@ use Rattle.worksheet.specs.Contents.{Contents}
 use Rattle.worksheet.specs.Ops.{sheet_of}
 use Rattle.worksheet.specs.Checks.{Allowed, AllowedFrom, first_refusal}
 use Rattle.worksheet.proofs.Existence.{allowed_goes_on}
-use Rattle.journal.specs.Kept.{Fits, ImageStandsFor, BeforeOrAfter, OtherUntouched}
+use Rattle.journal.specs.Kept.{Fits, ImageStandsFor, BeforeOrAfter, OtherUntouched, active_of}
 use Rattle.journal.specs.Area.{StandsFor}
 use Rattle.journal.specs.Limits.{max_payload}
 use Rattle.journal.specs.declared.opening.OpenCause.{OpenCause}
 use Rattle.journal.specs.declared.opening.OpenCause.TheVariants as causes
 use Rattle.journal.specs.Open.{IsPassing}
-use Rattle.journal.proofs.Unique.{given}
+use Rattle.journal.specs.Laws.{OneList}
 use Rattle.recovery.specs.Code.{code_of, longest_told, IsTyped, IsPayloadOf}
 use Rattle.recovery.specs.Sheets.{codes_of, Makes, IsSheetImage, IsEither}
 use Rattle.recovery.specs.inside.Taken.{RefusesFrom}
@@ -116,10 +116,10 @@ module _ {D : Type 0} (view : D → DiskView) (base : Base D) (sheet : Contents)
   }
 
 -- ops of the same payloads are the same
-head_is : (x y : List ℕ) (xs ys : List (List ℕ)) → x ∷ xs ≡ y ∷ ys → (x ≡ y) × (xs ≡ ys)
+pub head_is : (x y : List ℕ) (xs ys : List (List ℕ)) → x ∷ xs ≡ y ∷ ys → (x ≡ y) × (xs ≡ ys)
 head_is x y xs ys e = (cc, cc)
 
-same_op : (before : List Op) (a b : Op) → Allowed before → first_refusal (sheet_of before) a ≡ None → first_refusal (sheet_of before) b ≡ None → IsTyped a → IsTyped b → code_of a ≡ code_of b → a ≡ b
+pub same_op : (before : List Op) (a b : Op) → Allowed before → first_refusal (sheet_of before) a ≡ None → first_refusal (sheet_of before) b ≡ None → IsTyped a → IsTyped b → code_of a ≡ code_of b → a ≡ b
 same_op before a b allowed next then ta tb same =
     one_op a b (code_of a) (record { typed = ta; fits = allowed_have_code before a allowed next; is = refl }) (record { typed = tb; fits = allowed_have_code before b allowed then; is = same })
 
@@ -133,14 +133,14 @@ same_ops_from before (x ∷ a) (y ∷ b) allowed p q ta tb same =
     let behind : AllowedFrom (before ++ x ∷ []) b = subst (λ (z : Op). AllowedFrom (before ++ z ∷ []) b) (sym first) q.1 in
     ap (λ (z : Op). z ∷ a) first ∙ ap (λ (l : List Op). y ∷ l) (same_ops_from (before ++ x ∷ []) a b (allowed_goes_on before x allowed p.0) p.1 behind ta.1 tb.1 parts.1)
 
-pub one_list_of_ops : OneListOfOps
-one_list_of_ops a b s t i p q stands other = same_ops_from [] a b tt p.allowed q.allowed p.typed q.typed (given i i (codes_of a) (codes_of b) refl stands other)
+pub one_list_of_ops : OneList → OneListOfOps
+one_list_of_ops lists a b s t i p q stands other = same_ops_from [] a b tt p.allowed q.allowed p.typed q.typed (lists max_payload (omega arith) (active_of i) (codes_of a) (codes_of b) stands other)
 
 pub same_sheet : (a b : List Op) (s t : Contents) → Makes a s → Makes b t → codes_of a ≡ codes_of b → s ≡ t
 same_sheet a b s t p q same = p.is ∙ ap sheet_of (same_ops_from [] a b tt p.allowed q.allowed p.typed q.typed same) ∙ sym q.is
 
-pub one_sheet : OneSheet
-one_sheet s t i p q = same_sheet p.ops q.ops s t p.makes q.makes (given i i (codes_of p.ops) (codes_of q.ops) refl p.stands q.stands)
+pub one_sheet : OneList → OneSheet
+one_sheet lists s t i p q = same_sheet p.ops q.ops s t p.makes q.makes (lists max_payload (omega arith) (active_of i) (codes_of p.ops) (codes_of q.ops) p.stands q.stands)
 
 -- no payload of allowed ops is refused
 taken_from : (before ops taken : List Op) (payload : List ℕ) (more : List (List ℕ)) → Allowed before → AllowedFrom before ops → AllowedFrom before taken → AllByRecursion IsTyped ops → AllByRecursion IsTyped taken

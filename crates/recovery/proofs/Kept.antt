@@ -1,20 +1,21 @@
 -- The ops that a store keeps.
 use Rattle.std.proofs.Common.{◌≡◌, inl, inr, ⊎_elim, ℕ, false, List, [], ◌∷◌, ◌++◌, Option, Some, None, sym, ap, ◌∙◌, subst}
-use Rattle.disk_model.specs.Disk.{DiskView, History, InModel, LeavesOnly}
+use Rattle.disk_model.specs.Disk.{DiskView, History, InModel, Leaves, LeavesOnly}
 use Rattle.disk_model.specs.inside.Moments.{started, weakens}
 use Rattle.worksheet.specs.declared.op.Op.{Op}
 use Rattle.worksheet.specs.Contents.{Contents, SheetView}
 use Rattle.worksheet.specs.Ops.{sheet_of}
 use Rattle.worksheet.specs.Checks.{first_refusal}
 use Rattle.journal.specs.Area.{StandsFor}
-use Rattle.journal.specs.Kept.{ImageStandsFor, Keeps, BeforeOrAfter}
+use Rattle.journal.specs.Kept.{Fits, ImageStandsFor, Keeps, BeforeOrAfter}
 use Rattle.journal.specs.Limits.{max_payload}
 use Rattle.recovery.specs.Code.{IsPayloadOf}
-use Rattle.recovery.specs.Sheets.{StoreView, codes_of, Makes, KeepsOps, SameStore, StandsWithOrWithout}
+use Rattle.recovery.specs.Sheets.{StoreView, codes_of, Makes, HasPlace, IsSheetImage, IsStore, KeepsOps, SameStore, StandsWithOrWithout}
 use Rattle.recovery.specs.declared.base.Base.{Base}
 use Rattle.recovery.specs.declared.base.Base.TheVariants.{Open, Closed}
 use Rattle.recovery.specs.inside.Base.{disk_of, disk_in, end_in, is_closed, is_closed_store, KeepsIn, IsStoreOf, store_on}
 use Rattle.recovery.proofs.Allowed.{makes_more}
+use Rattle.recovery.proofs.Images.{all_images, made_in}
 use Rattle.recovery.proofs.Taking.{codes_push}
 
 -- what a store's disk keeps is what its open base keeps
@@ -34,6 +35,26 @@ some_kept view (Some base) sheet holds model opened =
     let kept = holds.kept opened model in
     (kept.ops, record { still_open = opened; keeps = outside view base (codes_of kept.ops) kept.keeps; makes = kept.makes })
 
+-- and a crash leaves images of its worksheet alone
+some_images : {D : Type 0} (view : D → DiskView) (base : Option (Base D)) (sheet : SheetView) → IsStoreOf view base sheet.contents
+    → InModel (disk_in view base) (is_closed_store base ≡ false → Leaves (IsSheetImage sheet.contents) (disk_in view base).history.now)
+some_images view None sheet holds model opened = absurd holds
+some_images view (Some base) sheet holds model opened = all_images view base sheet.contents (holds.kept opened model)
+
+pub is_store : {D : Type 0} (view : D → DiskView) (base : Option (Base D)) (sheet : SheetView) → IsStoreOf view base sheet.contents → IsStore (store_on view base sheet)
+is_store view base sheet holds = record {
+  made = made_in view base sheet.contents holds;
+  kept = some_kept view base sheet holds;
+  images = some_images view base sheet holds;
+}
+
+-- what fits once memory was made ready, fitted before
+pub place_before : (old new : StoreView) (n : ℕ) → SameStore old new → HasPlace new n → HasPlace old n
+place_before old new n same place = (
+  sym same.closed ∙ place.0,
+  subst (λ (d : DiskView). Fits d.room old.end n) same.disk (subst (λ (end : ℕ). Fits new.disk.room end n) same.end place.1),
+)
+
 -- memory that was made ready changes nothing of it
 pub keeps_still : (old new : StoreView) (ops : List Op) → SameStore old new → KeepsOps old ops → KeepsOps new ops
 keeps_still old new ops same kept = record {
@@ -48,11 +69,6 @@ stays_kept old new o ops same kept =
     subst (λ (d : DiskView). LeavesOnly (StandsWithOrWithout ops o) old.disk.history d.history) (sym same.disk)
     (started (StandsWithOrWithout ops o) old.disk.history
     (λ i image. inl (subst (λ (l : List ℕ). StandsFor max_payload l (codes_of ops)) (sym (kept.keeps.durable i image)) kept.keeps.stands)))
-
--- and is none before a run of calls
-pub goes_kept : (old mid : StoreView) (new : History) (o : Op) (ops : List Op) → SameStore old mid → KeepsOps old ops
-    → (KeepsOps mid ops → LeavesOnly (StandsWithOrWithout ops o) mid.disk.history new) → LeavesOnly (StandsWithOrWithout ops o) old.disk.history new
-goes_kept old mid new o ops same kept run = subst (λ (d : DiskView). LeavesOnly (StandsWithOrWithout ops o) d.history new) same.disk (run (keeps_still old mid ops same kept))
 
 module _ {D : Type 0} (view : D → DiskView) (base : Base D) (sheet : SheetView) (o : Op) (payload : List ℕ) (own : IsPayloadOf o payload) where
   codes_more : (ops : List Op) → codes_of ops ++ payload ∷ [] ≡ codes_of (ops ++ o ∷ [])

@@ -7,3 +7,5 @@ pub mod Allowed
 pub mod Taking
 pub mod Images
 pub mod Kept
+pub mod Commits
+pub mod Refusals

@@ -48,9 +48,6 @@ end_push os o =
     ap (λ (l : List (List ℕ)). length (records l)) (codes_push os o) ∙ ap (λ (l : List ℕ). length l) (records_push (codes_of os) (code_of o)) ∙ length-append (records (codes_of os)) (record_of (code_of o)) in
     omega (arith, n)
 
-pub nothing_reached : (ps : List Payload) (sheet : Contents) → Makes [] sheet → Reached ps 0 sheet
-nothing_reached ps sheet makes = record { ops = []; is = refl; makes = makes; gates = λ gates. gates }
-
 pub reached_more : (ps : List Payload) (i : ℕ) (d : Payload) (before after : Contents) → i < length ps → (far : Reached ps i before) → TakesOps far.ops (get_or ps i d).bytes after → Reached ps (suc i) after
 reached_more ps i d before after lt far takes = record {
   ops = far.ops ++ takes.next ∷ [];
@@ -62,9 +59,6 @@ reached_more ps i d before after lt far takes = record {
       ap (λ (b : List ℕ). end_of (codes_of far.ops) + length (record_of b)) takes.is ∙ end_push far.ops takes.next in
       subst (λ (n : ℕ). AreGates n (drop (suc i) ps)) same here;
 }
-
-pub reached_all : (ps : List Payload) (i : ℕ) (sheet : Contents) → take i ps ≡ ps → Reached ps i sheet → (ops : List Op) × (payloads_in ps ≡ codes_of ops) × Makes ops sheet
-reached_all ps i sheet all far = (far.ops, ap payloads_in (sym all) ∙ far.is, far.makes)
 
 makes_itself : (ops : List Op) (sheet : Contents) → Makes ops sheet → Makes ops (sheet_of ops)
 makes_itself ops sheet makes = record { typed = makes.typed; allowed = makes.allowed; is = refl }

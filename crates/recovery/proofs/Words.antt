@@ -1,5 +1,5 @@
 -- Reading words one behind another, as a loop does.
-use Rattle.std.proofs.Common.{◌≡◌, ℕ, zero, suc, ◌-◌, ◌+◌, ◌≤◌, ◌<◌, List, [], ◌∷◌, ◌++◌, length, get_or, Option, Some, None, refl, sym, ap, ◌∙◌, append_assoc, append-nil, arith}
+use Rattle.std.proofs.Common.{◌≡◌, ℕ, suc, ◌-◌, ◌+◌, ◌≤◌, ◌<◌, List, [], ◌∷◌, ◌++◌, Option, Some, None, refl, sym, ap, ◌∙◌, append_assoc, append-nil, arith}
 use Rattle.std.specs.List.{AllByRecursion}
 use Rattle.recovery.specs.Code.{IsLong}
 use Rattle.recovery.specs.inside.Reading.{◌>>=◌, long_at, words_at}
@@ -38,8 +38,3 @@ is_done front count i bytes total le so_far =
 pub long_push : (ws : List (List ℕ)) (w : List ℕ) → AllByRecursion IsLong ws → IsLong w → AllByRecursion IsLong (ws ++ w ∷ [])
 long_push [] w all one = (one, tt)
 long_push (x ∷ ws) w all one = (all.0, long_push ws w all.1 one)
-
-pub long_word : (ws : List (List ℕ)) (i : ℕ) (d : List ℕ) → AllByRecursion IsLong ws → i < length ws → IsLong (get_or ws i d)
-long_word [] i d all lt = absurd (omega (arith, lt))
-long_word (x ∷ ws) zero d all lt = all.0
-long_word (x ∷ ws) (suc i) d all lt = long_word ws i d all.1 (omega (arith, lt))

@@ -12,9 +12,12 @@ use Rattle.worksheet.specs.Ops.{sheet_of}
 use Rattle.worksheet.specs.Checks.{Allowed, first_refusal}
 use Rattle.worksheet.specs.Contents.{Contents}
 use Rattle.disk_model.specs.Disk.{Image}
+use Rattle.journal.specs.Open.{IsPassing}
+use Rattle.journal.specs.declared.opening.OpenCause.{OpenCause}
+use Rattle.journal.specs.declared.opening.OpenCause.TheVariants as causes
 use Rattle.journal.specs.Kept.{ImageStandsFor}
 use Rattle.recovery.specs.Code.{code_of, HasCode, IsPayloadOf}
-use Rattle.recovery.specs.Sheets.{codes_of, Makes, IsSheetImage}
+use Rattle.recovery.specs.Sheets.{codes_of, Makes, IsSheetImage, TellsOfSheet}
 
 -- no two ops have one payload
 abbrev pub OneOp : Type 0
@@ -31,6 +34,16 @@ OneListOfOps = (a b : List Op) (s t : Contents) (i : Image) → Makes a s → Ma
 -- and is that of one worksheet at most
 abbrev pub OneSheet : Type 0
 OneSheet = (s t : Contents) (i : Image) → IsSheetImage s i → IsSheetImage t i → s ≡ t
+
+-- a disk is damaged at one gate at most, be it by the gates or by a payload that is refused
+abbrev pub OneRefusal : Type 0
+OneRefusal = (i : Image) (gate other : ℕ) → TellsOfSheet i (causes.Damaged gate)
+    → TellsOfSheet i (causes.Damaged other) → gate ≡ other
+
+-- and no cause of a refusal lies in the bytes of an image of a worksheet
+abbrev pub SheetImageOpens : Type 0
+SheetImageOpens = (sheet : Contents) (i : Image) (cause : OpenCause) → IsSheetImage sheet i
+    → TellsOfSheet i cause → IsPassing cause
 
 -- An answer fits a record: where the bytes of its block were no more than an outer block may have, and its prompt is one that a
 -- worksheet allows.

@@ -1,7 +1,7 @@
 -- The worksheet that a disk stands for (docs/FORMAT.md, "Payloads").
 use Rattle.std.specs.Prelude.{◌≡◌, ◌⊎◌, ℕ, Bool, true, false, List, [], ◌∷◌, ◌++◌, length, map, None}
 use Rattle.std.specs.List.{AllByRecursion}
-use Rattle.disk_model.specs.Disk.{DiskView, Image}
+use Rattle.disk_model.specs.Disk.{DiskView, Image, InModel, Leaves}
 use Rattle.worksheet.specs.declared.op.Op.{Op}
 use Rattle.worksheet.specs.Contents.{Contents, SheetView}
 use Rattle.worksheet.specs.Ops.{sheet_of}
@@ -68,6 +68,13 @@ pub record KeepsOps (store : StoreView) (ops : List Op) : Type 0 where
   pub still_open : store.closed ≡ false
   pub keeps : Keeps store.disk.history store.end (codes_of ops)
   pub makes : Makes ops store.sheet.contents
+
+-- What is true of each store: allowed ops made its worksheet; while it is open it keeps their payloads, and a crash leaves
+-- an image of its worksheet.
+pub record IsStore (store : StoreView) : Type 0 where
+  pub made : (ops : List Op) × Makes ops store.sheet.contents
+  pub kept : InModel store.disk (store.closed ≡ false → (ops : List Op) × KeepsOps store ops)
+  pub images : InModel store.disk (store.closed ≡ false → Leaves (IsSheetImage store.sheet.contents) store.disk.history.now)
 
 -- the store isn't closed, and a payload of so many bytes fits on its disk
 abbrev pub HasPlace : StoreView → ℕ → Type 0

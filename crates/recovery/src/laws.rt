@@ -1,6 +1,6 @@
 //! Laws of the definitions that the contracts cite. Each function does nothing: its contract is the
 //! law.
-ghost use Rattle.recovery.specs.Laws.{AllowedHaveCode, OneListOfOps, OneOp, OneSheet, ReceivedAnswersFit};
+ghost use Rattle.recovery.specs.Laws.{AllowedHaveCode, OneListOfOps, OneOp, OneRefusal, OneSheet, ReceivedAnswersFit, SheetImageOpens};
 
 /// No two ops have one payload.
 pub fn one_op()
@@ -15,12 +15,33 @@ pub fn allowed_have_code()
 /// A disk stands for the payloads of one list of allowed ops at most.
 pub fn one_list_of_ops()
     ensures { OneListOfOps }
-{}
+{
+    journal::laws::one_list();
+}
 
 /// A disk is the image of one worksheet at most.
 pub fn one_sheet()
     ensures { OneSheet }
-{}
+{
+    journal::laws::one_list();
+}
+
+/// A disk is damaged at one gate at most, be it by the gates or by a payload that is refused.
+pub fn one_refusal()
+    ensures { OneRefusal }
+{
+    journal::laws::one_list();
+    journal::laws::one_damage();
+    journal::laws::no_damage();
+}
+
+/// A disk that is the image of a worksheet is refused for no cause that lies in its bytes.
+pub fn sheet_image_opens()
+    ensures { SheetImageOpens }
+{
+    journal::laws::one_list();
+    journal::laws::standing_opens();
+}
 
 /// An answer that was received within the limit of an outer block fits a record, with any prompt that
 /// a worksheet allows: its block grows to at most one and a half times its length.

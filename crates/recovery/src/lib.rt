@@ -13,7 +13,10 @@ mod store;
 mod writing;
 
 pub use fault::{CommitFault, PrepareFault};
-pub use laws::{allowed_have_code, one_list_of_ops, one_op, one_sheet, received_answers_fit};
+pub use laws::{
+    allowed_have_code, one_list_of_ops, one_op, one_refusal, one_sheet, received_answers_fit,
+    sheet_image_opens,
+};
 pub use reading::{DecodeFault, decode};
 pub use size::code_len;
 pub use store::Store;

@@ -7,7 +7,7 @@ ghost use Rattle.worksheet.specs.Ops.{sheet_of};
 ghost use Rattle.worksheet.specs.Checks.{first_refusal, room_for};
 ghost use Rattle.journal.specs.Kept.{Fits, OtherUntouched, other_of};
 ghost use Rattle.recovery.specs.Code.{code_of, HasCode, IsPayloadOf};
-ghost use Rattle.recovery.specs.Sheets.{IsSheetImage, IsEither, KeepsOps, Makes, StandsWithOrWithout, TellsOfSheet, HasPlace, IsReady, SameStore};
+ghost use Rattle.recovery.specs.Sheets.{IsSheetImage, IsEither, KeepsOps, Makes, StandsWithOrWithout, TellsOfSheet, HasPlace, IsReady, IsStore, SameStore};
 
 use crate::base::Base;
 use crate::fault::{CommitFault, PrepareFault};
@@ -49,7 +49,7 @@ impl<D: Disk> Model for Store<D> {
 
 impl<D: Disk> Store<D> {
     ghost use Rattle.recovery.specs.Opened.{disk_left, GivesSheet};
-    ghost use Rattle.recovery.specs.Committed.{DoesNotFit, LeftBy};
+    ghost use Rattle.recovery.specs.Committed.{Commits, DoesNotFit, LeftBy};
 
     /// Opens a disk that a crash may have left, and gives the worksheet that it stands for. It writes
     /// nothing. A disk that stands for none is refused with its first damage: that of the gates
@@ -58,6 +58,7 @@ impl<D: Disk> Store<D> {
     pub fn open(alloc: Global, disk: D) -> Result<Store<D>, OpenFault<D>>
         ensures same { SameDisk (D.view disk) (disk_left D.view result) }
         ensures open { IfOk result (λ store. store.closed ≡ false) }
+        ensures store { IfOk result IsStore }
 
         // Whether the disk keeps the model or not, the worksheet is made by allowed ops.
         ensures made { IfOk result (λ store. (ops : List Op) × Makes ops store.sheet.contents) }
@@ -99,7 +100,8 @@ impl<D: Disk> Store<D> {
     /// the law `allowed_have_code` gives this, by the ops that `sheet` tells of.
     pub fn fits(&self, op: &Op) -> bool
         requires { HasCode op.now }
-        ensures { IsTrue result ↔ HasPlace self.now (length (code_of op.now)) }
+        ensures place { IsTrue result ↔ HasPlace self.now (length (code_of op.now)) }
+        ensures store { IsStore self.now }
     {
         match &self.base {
             Some(base) => base.has_place(code_len(op)),
@@ -116,6 +118,9 @@ impl<D: Disk> Store<D> {
         ensures ready { IfOk result (IsReady self.new op.now) }
         ensures closed { IsErrOf result PrepareFault.Closed ↔ (self.old.closed ≡ true) }
         ensures full { IsErrOf result PrepareFault.Full ↔ (self.old.closed ≡ false) × (Fits self.old.disk.room self.old.end (length (code_of op.now)) → ⊥) }
+        ensures memory { IsErrOf result PrepareFault.OutOfMemory
+            → HasPlace self.old (length (code_of op.now)) }
+        ensures store { IsStore self.old }
     {
         let Some(base) = &self.base else {
             unreachable!();
@@ -136,6 +141,7 @@ impl<D: Disk> Store<D> {
     pub fn commit_ready(&mut self, op: Op, frame: Frame) -> Result<(), DiskFault>
         requires { IsReady self.old op frame }
 
+        ensures store { IsStore self.old }
         ensures same { SameDisk self.old.disk self.new.disk }
         ensures sheet { (ops : List Op) → self.old.sheet.contents ≡ sheet_of ops → OnOk result (self.new.sheet.contents ≡ sheet_of (ops ++ op ∷ [])) }
         ensures as_before { OnErr result (self.new.sheet.contents ≡ self.old.sheet.contents) }
@@ -173,6 +179,10 @@ impl<D: Disk> Store<D> {
     pub fn commit(&mut self, op: Op) -> Result<(), CommitFault>
         requires { first_refusal self.old.sheet.contents op ≡ None }
 
+        // All that it does, by its answer. The clauses behind this one say the same part by part.
+        ensures commits { Commits self.old self.new op result }
+        ensures store { IsStore self.old }
+
         ensures same { SameDisk self.old.disk self.new.disk }
         ensures sheet { (ops : List Op) → self.old.sheet.contents ≡ sheet_of ops → OnOk result (self.new.sheet.contents ≡ sheet_of (ops ++ op ∷ [])) }
         ensures open { OnOk result (self.new.closed ≡ false) }
@@ -199,8 +209,6 @@ impl<D: Disk> Store<D> {
         ensures payloads { InModel self.old.disk ((ops : List Op) → KeepsOps self.old ops → LeavesOnly (StandsWithOrWithout ops op) self.old.disk.history self.new.disk.history) }
         ensures kept { InModel self.old.disk ((ops : List Op) → KeepsOps self.old ops → OnOk result (KeepsOps self.new (ops ++ op ∷ []))) }
     {
-        // While the store is open each image is one of its worksheet: no exit before a write adds one.
-        let _sheet = self.sheet();
         let frame = match self.prepare(&op) {
             Ok(frame) => frame,
             Err(PrepareFault::Closed) => return Err(CommitFault::Closed),
@@ -216,6 +224,7 @@ impl<D: Disk> Store<D> {
     /// The worksheet.
     pub fn sheet(&self) -> &Sheet
         ensures sheet { result.now ≡ self.now.sheet }
+        ensures store { IsStore self.now }
 
         // It is made by allowed ops, and while the store is open the disk stands for their payloads.
         ensures made { (ops : List Op) × Makes ops self.now.sheet.contents }

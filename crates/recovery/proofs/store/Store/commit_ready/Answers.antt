@@ -5,11 +5,11 @@ use Rattle.worksheet.specs.Ops.{sheet_of}
 use Rattle.worksheet.specs.Checks.{first_refusal}
 use Rattle.journal.specs.Kept.{OtherUntouched}
 use Rattle.recovery.specs.Code.{code_of}
-use Rattle.recovery.specs.Sheets.{StoreView, IsEither, KeepsOps, StandsWithOrWithout}
+use Rattle.recovery.specs.Sheets.{IsStore, StoreView, IsEither, KeepsOps, StandsWithOrWithout}
 use Rattle.recovery.specs.declared.base.Base.{Base}
 use Rattle.recovery.specs.inside.Base.{disk_in, disk_of, end_in, end_of_base, is_closed_store, IsStoreOf, store_on}
 use Rattle.recovery.proofs.Images.{moments, others, committed, all_images, on_ok}
-use Rattle.recovery.proofs.Kept.{payload_moments, keeps_more}
+use Rattle.recovery.proofs.Kept.{is_store, payload_moments, keeps_more}
 use Rattle.recovery.proofs.store.Store.commit_ready.Goals as goal
 
 pub returns-in_err-result-clause-any_moment : goal.returns-in_err-result-clause-any_moment
@@ -139,3 +139,9 @@ returns-clause-others g c =
     subst (λ (s : StoreView). InModel s.disk (LeavesOnly (OtherUntouched s.disk.history.now) s.disk.history (disk_of view c.with-base.result.0).history)) c.self.view_is
     (subst (λ (b : Option (Base g.row.D.Denot)). InModel (disk_in view b) (LeavesOnly (OtherUntouched (disk_in view b).history.now) (disk_in view b).history (disk_of view c.with-base.result.0).history)) (sym e)
     (others view c.unwrap.result sheet o c.args.frame holds c.requires.own next opened (disk_of view c.with-base.result.0).history c.with-base.ensures.any_moment))
+
+pub returns-in_err-result-clause-store : goal.returns-in_err-result-clause-store
+returns-in_err-result-clause-store g c = subst IsStore c.self.view_is (is_store g.D.Disk.view c.self.inside.base c.self.inside.sheet c.self.invariant)
+
+pub returns-clause-store : goal.returns-clause-store
+returns-clause-store g c = subst IsStore c.self.view_is (is_store g.D.Disk.view c.self.inside.base c.self.inside.sheet c.self.invariant)

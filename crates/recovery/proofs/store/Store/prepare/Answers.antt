@@ -3,11 +3,12 @@ use Rattle.worksheet.specs.Contents.{Contents}
 use Rattle.worksheet.specs.Checks.{first_refusal}
 use Rattle.journal.specs.Kept.{Fits}
 use Rattle.recovery.specs.Code.{code_of}
-use Rattle.recovery.specs.Sheets.{StoreView}
+use Rattle.recovery.specs.Sheets.{IsStore, StoreView}
 use Rattle.recovery.specs.declared.base.Base.{Base}
 use Rattle.recovery.specs.inside.Base.{disk_in, disk_of, end_in, end_of_base, is_closed_store}
 use Rattle.recovery.proofs.Allowed.{code_on}
 use Rattle.recovery.proofs.Images.{made_in, fits_uncapped}
+use Rattle.recovery.proofs.Kept.{is_store}
 use Rattle.recovery.proofs.store.Store.prepare.Goals as goal
 
 pub code_len-requires : goal.code_len-requires
@@ -36,3 +37,6 @@ returns-clause-ready g c =
         is = c.in_ok-new.ensures ∙ c.deref.ensures.value ∙ c.in_ok-payload.ensures.code;
       };
     }
+
+pub returns-clause-store : goal.returns-clause-store
+returns-clause-store g c = subst IsStore c.self.view_is (is_store g.D.Disk.view c.self.inside.base c.self.inside.sheet c.self.invariant)
