@@ -11,17 +11,17 @@ use Rattle.host_cli.specs.declared.fault.RunFault.{RunFault}
 use Rattle.host_cli.specs.declared.fault.RunFault.TheVariants as fault
 
 -- what a program answers: whether all is well, or its fault
-abbrev pub Answer : Type 0
-Answer = Result Bool RunFault
+abbrev pub ProgramAnswer : Type 0
+ProgramAnswer = Result Bool RunFault
 
 -- 0 where all is well, and 1 where the stream has a fault or an open block, or the program met a fault
-abbrev pub status_of : Answer → ℕ
+abbrev pub status_of : ProgramAnswer → ℕ
 status_of (Ok true) = 0
 status_of (Ok false) = 1
 status_of (Err fault) = 1
 
 -- a fault is a line on the stream of errors, where that takes it; nothing else stands there
-abbrev pub TellsFault : {E : Type 0} → (E → Option (List ℕ)) → E → E → Bool → Answer → Type 0
+abbrev pub TellsFault : {E : Type 0} → (E → Option (List ℕ)) → E → E → Bool → ProgramAnswer → Type 0
 TellsFault contents old new told (Ok whole) = new ≡ old
 TellsFault contents old new told (Err fault) = told ≡ true → Appends (contents old) (contents new) (fault_text fault)
 
@@ -31,7 +31,7 @@ ShowsText k = (k ≡ kind.DisplayHelp) ⊎ (k ≡ kind.DisplayVersion)
 
 -- What `blocks` answers, and what it has written then: its clauses. The stream is what the reader gives,
 -- where it is known; `contents` are the bytes that the writer holds.
-pub record BlocksAnswer {W : Type 0} (stream : Option (List ℕ)) (contents : W → Option (List ℕ)) (old new : W) (answer : Answer) : Type 0 where
+pub record BlocksAnswer {W : Type 0} (stream : Option (List ℕ)) (contents : W → Option (List ℕ)) (old new : W) (answer : ProgramAnswer) : Type 0 where
   pub printed : IfOk answer (λ whole. IfSome stream (λ bytes. (text : List ℕ) × Printed limits bytes text whole × Appends (contents old) (contents new) text))
   pub short : IfOk answer (λ whole. IfSome stream (λ bytes. length bytes ≤ max_input))
   pub output_short : IsErrOf answer fault.Output → IfSome stream (λ bytes. length bytes ≤ max_input)

@@ -3,7 +3,7 @@ ghost use Rattle.std.specs.Prelude.{◌≡◌, ◌≢◌, ◌⊎◌, Err, Result
 ghost use Rattle.clap.specs.Words.{kind_of};
 ghost use Rattle.clap.specs.declared.error.kind.ErrorKind.TheVariants as kind;
 ghost use Rattle.std.specs.declared.io.ErrorKind.TheVariants as io_kind;
-ghost use Rattle.host_cli.specs.Ending.{Answer, BlocksAnswer, ShowsText, TellsFault, status_of};
+ghost use Rattle.host_cli.specs.Ending.{BlocksAnswer, ProgramAnswer, ShowsText, TellsFault, status_of};
 ghost use Rattle.host_cli.specs.declared.fault.RunFault.TheVariants as fault;
 
 use crate::{RunFault, blocks, fault_text};
@@ -47,7 +47,7 @@ pub fn run_blocks<R: Read, W: Write, E: Write>(
     output: &mut W,
     errors: &mut E,
 ) -> Ending
-    ensures { (answer : Answer) × BlocksAnswer (R.remaining input.old) W.contents output.old output.new answer
+    ensures { (answer : ProgramAnswer) × BlocksAnswer (R.remaining input.old) W.contents output.old output.new answer
         × (result.status ≡ status_of answer) × TellsFault E.contents errors.old errors.new result.told answer }
 {
     let answer = blocks(alloc, input, output);

@@ -14,12 +14,24 @@ pub enum Task {
     Blocks,
 }
 
+/// What the help says below its lists.
+const NOTES: &str =
+    "Without a command it is `blocks`.\n\nStatus: 0 where all was done, or help was shown; 1 at a fault, or where the\nstream has one or is unfinished; 2 where the words are refused.";
+
 /// A subcommand without arguments.
 fn plain<'a>(alloc: Global, name: &'a str, about: &'a str) -> Command<'a>
     ensures made { app_of result ≡ new_app name.entry.now }
     ensures local { (fields_of result).has_globals ≡ false }
 {
     Command::new(alloc, name).about(about)
+}
+
+/// A command with a text below its help.
+fn noted<'a>(command: Command<'a>, notes: &'a str) -> Command<'a>
+    ensures made { app_of result ≡ app_of command.entry }
+    ensures local { (fields_of result).has_globals ≡ (fields_of command.entry).has_globals }
+{
+    command.after_help(notes)
 }
 
 /// The command line of the program.
@@ -36,6 +48,7 @@ fn tmhost_command<'a>(alloc: Global) -> Result<Command<'a>, AllocError>
         "tmhost",
         "A worksheet host for interpreters that speak the plugin protocol of GNU TeXmacs",
     );
+    let top = noted(top, NOTES);
     let command = top.subcommand(blocks)?;
     Ok(command)
 }

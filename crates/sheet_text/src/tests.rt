@@ -54,6 +54,58 @@ fn a_worksheet_shows_the_text_of_an_answer(rt: HostRuntime) -> Result<(), Fail> 
     Ok(())
 }
 
+fn node(alloc: Global, channel: bool, name: &[u8], items: Vec<Item>) -> Result<Node, AllocError> {
+    let tag = Tag {
+        channel,
+        name: Octets::from_slice(alloc, name)?,
+    };
+    Ok(Node { tag, items })
+}
+
+// latex:b prompt#c d
+fn nested(alloc: Global) -> Result<Node, AllocError> {
+    let mut items = Vec::new(alloc);
+    items.push(text(alloc, b"c".as_slice())?)?;
+    let prompt = node(alloc, true, b"prompt".as_slice(), items)?;
+    let mut items = Vec::new(alloc);
+    items.push(text(alloc, b"b".as_slice())?)?;
+    items.push(Item::Block(prompt))?;
+    items.push(text(alloc, b"d".as_slice())?)?;
+    node(alloc, false, b"latex".as_slice(), items)
+}
+
+// verbatim: with so many texts and nested blocks in turn
+fn many_items(alloc: Global, count: u32) -> Result<Block, Fail> {
+    let mut items = Vec::new(alloc);
+    for _ in 0..count {
+        items.push(text(alloc, b"a\n".as_slice())?)?;
+        items.push(Item::Block(nested(alloc)?))?;
+    }
+    let all = node(alloc, false, b"verbatim".as_slice(), items)?;
+    let block = Block::new(all).map_err(|_| "no block")?;
+    Ok(block)
+}
+
+#[test]
+fn many_nested_items_are_written(rt: HostRuntime) -> Result<(), Fail> {
+    let alloc = rt.alloc();
+    let block = many_items(alloc, 700)?;
+    let mut tree = Vec::from_slice(alloc, b"{verbatim:".as_slice())?;
+    let mut shown: Vec<u8> = Vec::new(alloc);
+    for _ in 0..700 {
+        tree.extend_from_slice(b"a\\x0a{latex:b{prompt#c}d}".as_slice())?;
+        shown.extend_from_slice(b"a\n{latex:b{prompt#c}d}".as_slice())?;
+    }
+    tree.push(b'}')?;
+    let mut out: Vec<u8> = Vec::new(alloc);
+    tree_text(&block, &mut out).map_err(|_| "a fault")?;
+    assert!(rt; out == tree);
+    let mut out: Vec<u8> = Vec::new(alloc);
+    block_text(&block, &mut out).map_err(|_| "a fault")?;
+    assert!(rt; out == shown);
+    Ok(())
+}
+
 // verbatim: with the bytes as its text, or with no item where there are none
 fn verbatim(alloc: Global, bytes: &[u8]) -> Result<Block, Fail> {
     let mut items = Vec::new(alloc);

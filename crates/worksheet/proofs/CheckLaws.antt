@@ -1,11 +1,10 @@
 -- Tests of texts and places.
 use Rattle.std.proofs.Common.{◌≡◌, ℕ, ◌+◌, ◌<◌, List, ◌∷◌, length, get_or, drop, refl, sym, add-one, drop-cons, Bool, true, false}
-use Rattle.std.specs.Prelude.{Result, Ok, Err, MatchResult, is_ok, ◌==◌, ◌&&◌, ◌||◌, is_some}
-use Rattle.std.specs.List.{list_any, zip}
+use Rattle.std.specs.Prelude.{Result, Ok, Err, MatchResult, is_ok, ◌==◌, ◌||◌, is_some}
 use Rattle.std.specs.Str.{IsUtf8, is_utf8}
 use Rattle.std.proofs.lemmas.Str.{IsUtf8-from_is_utf8, is_utf8-from_IsUtf8}
 use Rattle.worksheet.specs.declared.field.Field.{Field}
-use Rattle.worksheet.specs.Checks.{numbers, field_in}
+use Rattle.worksheet.specs.Checks.{numbers, field_in, in_front}
 use Rattle.worksheet.specs.Edits.{fields_without}
 use Rattle.worksheet.proofs.Finds.{field_in-without}
 
@@ -19,15 +18,12 @@ is_ok-text P Q bytes (Err e) h = go (is_utf8 bytes) (λ text. absurd (h.0 (IsUtf
     go true k = k refl
     go false k = refl
 
--- whether these fields, behind that number, hold one number directly behind the other
-abbrev pub stands_among : ℕ → ℕ → ℕ → List Field → Bool
-stands_among after id before fields = list_any (λ pair. (pair.0 == after) && (pair.1 == id)) (zip (before ∷ numbers fields) (numbers fields))
-
-pub stands_among-next : (after id before : ℕ) (fs : List Field) (i : ℕ) (x : Field) → i < length fs → x ≡ get_or fs i x
-    → ((before == after) && (x.id == id)) ≡ false → stands_among after id x.id (drop (i + 1) fs) ≡ stands_among after id before (drop i fs)
-stands_among-next after id before fs i x h is no_pair =
+-- a field that isn't the one that is looked for is in front of the others
+pub in_front-next : (id before : ℕ) (fs : List Field) (i : ℕ) (x : Field) → i < length fs → x ≡ get_or fs i x → (x.id == id) ≡ false
+    → in_front x.id id (numbers (drop (i + 1) fs)) ≡ in_front before id (numbers (drop i fs))
+in_front-next id before fs i x h is other =
     let next : drop i fs ≡ x ∷ drop (i + 1) fs = rw (add-one, drop-cons fs i x h, ← is) refl in
-    rw (next, no_pair) refl
+    rw (next, other) refl
 
 -- a place for a field that moves stays where it is taken out
 pub place-without : (fs : List Field) (id after : ℕ) (stands : Bool) → ((after == 0) || is_some (field_in fs after)) ≡ true → ((after == id) || stands) ≡ false

@@ -1,13 +1,14 @@
 -- One more op: what the whole list says then, against an edit of what it said before.
 use Rattle.std.proofs.Common.{◌≡◌, ℕ, List, [], ◌∷◌, ◌++◌, refl, ap, ◌∙◌, Bool, true, false, Option, Some, None}
-use Rattle.std.specs.Prelude.{filter, if◌then◌else◌}
+use Rattle.std.specs.Prelude.{filter, unwrap_or, if◌then◌else◌}
 use Rattle.std.specs.List.{last_or}
 use Rattle.std.proofs.lemmas.List.{append-nil}
 use Rattle.worksheet.specs.declared.op.Op.{Op}
 use Rattle.worksheet.specs.declared.op.Op.TheVariants as op
+use Rattle.worksheet.specs.declared.field.Answer.{Answer}
 use Rattle.worksheet.specs.declared.field.Field.{Field}
 use Rattle.worksheet.specs.declared.field.Session.{Session}
-use Rattle.worksheet.specs.Ops.{next_after, next_from, next_of, is_about, about_from, about, last_of, gives_session, gives_input, decides_answer, session_in, input_in, answer_in, field_by, field_of, order_after, order_from, sessions_of}
+use Rattle.worksheet.specs.Ops.{next_after, next_from, next_of, is_about, about_from, about, last_of, session_by, input_by, answer_by, last_given, field_by, field_of, order_after, order_from, sessions_of}
 use Rattle.worksheet.specs.Edits.{with_input, with_answer}
 
 -- The lists, with one op more.
@@ -64,6 +65,9 @@ last_of-push test os o = last_or-push test None os o
 
 -- A field, with one op more.
 
+abbrev field_with : ℕ → List ℕ → List ℕ → Option Answer → Field
+field_with id session input answer = record { id = id; session = session; input = input; answer = answer }
+
 -- what an op does to the field that it is about
 abbrev pub changed : Op → Field → Field
 changed (op.Session name tab words) f = f
@@ -74,24 +78,25 @@ changed (op.Move id after) f = f
 changed (op.Clear id) f = with_answer None f
 changed (op.Answer id prompt output) f = with_answer (Some (record { prompt = prompt; output = output })) f
 
--- a field by the last ops that give its session, its input and its answer
-abbrev by_last : ℕ → Option Op → Option Op → Option Op → Field
-by_last id s i a = record { id = id; session = session_in s; input = input_in i; answer = answer_in a }
+last_given-push : {A : Type 0} (by : Op → Option A) (given : A) (os : List Op) (o : Op) → last_given by given (os ++ o ∷ []) ≡ unwrap_or (by o) (last_given by given os)
+last_given-push by given [] o = refl
+last_given-push by given (p ∷ os) o = last_given-push by (unwrap_or (by p) given) os o
 
-by_last-push : (o : Op) (id : ℕ) (s i a : Option Op)
-    → by_last id (if gives_session o then Some o else s) (if gives_input o then Some o else i) (if decides_answer o then Some o else a) ≡ changed o (by_last id s i a)
-by_last-push (op.Session name tab words) id s i a = refl
-by_last-push (op.New after session input) id s i a = refl
-by_last-push (op.Set other input) id s i a = refl
-by_last-push (op.Remove other) id s i a = refl
-by_last-push (op.Move other after) id s i a = refl
-by_last-push (op.Clear other) id s i a = refl
-by_last-push (op.Answer other prompt output) id s i a = refl
+-- a field of this session, input and answer, with an op more about it
+given-push : (o : Op) (id : ℕ) (session input : List ℕ) (answer : Option Answer)
+    → field_with id (unwrap_or (session_by o) session) (unwrap_or (input_by o) input) (unwrap_or (answer_by o) answer) ≡ changed o (field_with id session input answer)
+given-push (op.Session name tab words) id session input answer = refl
+given-push (op.New after of text) id session input answer = refl
+given-push (op.Set other text) id session input answer = refl
+given-push (op.Remove other) id session input answer = refl
+given-push (op.Move other after) id session input answer = refl
+given-push (op.Clear other) id session input answer = refl
+given-push (op.Answer other prompt output) id session input answer = refl
 
 field_by-push : (id : ℕ) (os : List Op) (o : Op) → field_by id (os ++ o ∷ []) ≡ changed o (field_by id os)
 field_by-push id os o =
-    rw (last_of-push gives_session os o, last_of-push gives_input os o, last_of-push decides_answer os o)
-    (by_last-push o id (last_of gives_session os) (last_of gives_input os) (last_of decides_answer os))
+    rw (last_given-push session_by [] os o, last_given-push input_by [] os o, last_given-push answer_by None os o)
+    (given-push o id (last_given session_by [] os) (last_given input_by [] os) (last_given answer_by None os))
 
 pub field_of-push : (os : List Op) (o : Op) (id : ℕ) → field_of (os ++ o ∷ []) id ≡ (if is_about id (next_of os) o then changed o (field_of os id) else field_of os id)
 field_of-push os o id = ap (λ (qs : List Op). field_by id qs) (about_from-push id 1 os o) ∙ go (is_about id (next_of os) o)

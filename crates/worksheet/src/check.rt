@@ -87,8 +87,8 @@ fn stands_behind(fields: &[Field], after: u32, id: u32) -> bool
 {
     let mut before = 0;
     for field in fields {
-        if before == after && field.id == id {
-            return true;
+        if field.id == id {
+            return before == after;
         }
         before = field.id;
     }

@@ -6,7 +6,7 @@ use Rattle.block_tree.specs.inside.Code.{coded_tree}
 use Rattle.worksheet.specs.declared.field.Answer.{Answer}
 use Rattle.worksheet.specs.declared.field.Field.{Field}
 use Rattle.worksheet.specs.declared.field.Session.{Session}
-use Rattle.worksheet.specs.Contents.{Contents, SheetView, SessionRoom, no_session, session_of_name, any_session}
+use Rattle.worksheet.specs.Contents.{Contents, SheetView, SessionRoom, ready_for_none, ready_for_name, ready_for_any}
 
 abbrev pub coded_bytes : Coded (List ℕ)
 coded_bytes = coded_list coded_ℕ
@@ -28,19 +28,19 @@ coded_contents = code_by (List Field × (List Session × ℕ)) (coded× (coded_l
     (λ s. (s.fields, (s.sessions, s.next))) (λ p. record { fields = p.0; sessions = p.1.0; next = p.1.1 }) (λ _. refl)
 
 abbrev room_code : SessionRoom → Option (Option (List ℕ))
-room_code no_session = None
-room_code any_session = Some None
-room_code (session_of_name name) = Some (Some name)
+room_code ready_for_none = None
+room_code ready_for_any = Some None
+room_code (ready_for_name name) = Some (Some name)
 
 abbrev room_of_code : Option (Option (List ℕ)) → SessionRoom
-room_of_code None = no_session
-room_of_code (Some None) = any_session
-room_of_code (Some (Some name)) = session_of_name name
+room_of_code None = ready_for_none
+room_of_code (Some None) = ready_for_any
+room_of_code (Some (Some name)) = ready_for_name name
 
 pub room_back : (room : SessionRoom) → room_of_code (room_code room) ≡ room
-room_back no_session = refl
-room_back any_session = refl
-room_back (session_of_name name) = refl
+room_back ready_for_none = refl
+room_back ready_for_any = refl
+room_back (ready_for_name name) = refl
 
 abbrev pub coded_room : Coded SessionRoom
 coded_room = code_by (Option (Option (List ℕ))) (coded_option (coded_option coded_bytes)) room_code room_of_code room_back

@@ -1,7 +1,7 @@
 -- A worksheet in its vectors.
 use Rattle.std.specs.Prelude.{ℕ, Bool, true, false, Option, Some, None, nat_lt, vec_len, vec_capacity}
 use Rattle.worksheet.specs.declared.sheet.Sheet.TheInside.{Inside}
-use Rattle.worksheet.specs.Contents.{Contents, SheetView, SessionRoom, no_session, any_session}
+use Rattle.worksheet.specs.Contents.{Contents, SheetView, SessionRoom, ready_for_none, ready_for_any}
 use Rattle.worksheet.specs.Edits.{HasNumbersApart, contents_with}
 
 abbrev pub contents_of : Inside → Contents
@@ -13,8 +13,8 @@ number_ready true next = Some next
 number_ready false next = None
 
 abbrev pub sessions_ready : Bool → SessionRoom
-sessions_ready true = any_session
-sessions_ready false = no_session
+sessions_ready true = ready_for_any
+sessions_ready false = ready_for_none
 
 abbrev pub held_of : Inside → SheetView
 held_of sheet = record {

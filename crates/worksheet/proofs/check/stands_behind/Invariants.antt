@@ -1,11 +1,7 @@
-use Rattle.std.proofs.Common.{◌≡◌, ◌∷◌, drop}
-use Rattle.std.specs.Prelude.{◌==◌, ◌&&◌}
-use Rattle.std.specs.List.{list_any, zip}
-use Rattle.worksheet.specs.Checks.{numbers, stands_behind}
+use Rattle.std.proofs.Common.{◌≡◌, drop}
+use Rattle.worksheet.specs.Checks.{in_front, numbers}
 use Rattle.worksheet.proofs.check.stands_behind.Given as goal
 
--- what is left answers as all do
+-- it isn't in front of this place
 abbrev pub invariant-loop-field : goal.invariant-loop-field
-invariant-loop-field l =
-    let left = numbers (drop l.field-index l.fields) in
-    list_any (λ pair. (pair.0 == l.after) && (pair.1 == l.id)) (zip (l.before ∷ left) left) ≡ stands_behind l.after l.id (numbers l.fields)
+invariant-loop-field l = in_front l.before l.id (numbers (drop l.field-index l.fields)) ≡ in_front 0 l.id (numbers l.fields)
