@@ -3,7 +3,7 @@ use Rattle.std.proofs.Common.{◌≡◌, ◌≢◌, ◌⊎◌, inl, inr, ap₂, 
 use Rattle.std.proofs.lemmas.List.{take_at, drop_at, drop_more, take_more, length-take-le, append-nil}
 use Rattle.std.proofs.lemmas.Bool.{cases_eq}
 use Rattle.disk_model.specs.Disk.{Torn, overwritten}
-use Rattle.journal.specs.Area.{Lays, header, records, record_of, body_of, IsPayload, ArePayloads, end_of, first_gate, closed_gate, open_gate}
+use Rattle.journal.specs.Area.{header, records, record_of, body_of, IsPayload, ArePayloads, end_of, first_gate, closed_gate, open_gate}
 
 pub records-push : (payloads : List (List ℕ)) (payload : List ℕ) → records (payloads ++ payload ∷ []) ≡ records payloads ++ record_of payload
 records-push [] payload = append-nil (record_of payload)
@@ -13,7 +13,15 @@ pub ArePayloads-push : (limit : ℕ) (payloads : List (List ℕ)) (payload : Lis
 ArePayloads-push limit [] payload each one = (one, tt)
 ArePayloads-push limit (p ∷ payloads) payload each one = (each.0, ArePayloads-push limit payloads payload each.1 one)
 
-module _ (limit selector : ℕ) (content : List ℕ) (payloads : List (List ℕ)) (lays : Lays limit selector content payloads) (end : ℕ) (ends : end ≡ end_of payloads) where
+-- a header with this selector, the records of these payloads, a closed gate, and then anything
+pub record Laid (limit selector : ℕ) (bytes : List ℕ) (payloads : List (List ℕ)) : Type 0 where
+  pub gate : ℕ
+  pub rest : List ℕ
+  pub is : bytes ≡ header selector ++ records payloads ++ gate ∷ rest
+  pub closed : gate ≢ open_gate
+  pub each : ArePayloads limit payloads
+
+module _ (limit selector : ℕ) (content : List ℕ) (payloads : List (List ℕ)) (lays : Laid limit selector content payloads) (end : ℕ) (ends : end ≡ end_of payloads) where
   -- the bytes up to the gate
   pub front : List ℕ
   front = header selector ++ records payloads
@@ -30,7 +38,7 @@ module _ (limit selector : ℕ) (content : List ℕ) (payloads : List (List ℕ)
   inside = omega (arith, ap length split, length-front, length-append front (lays.gate ∷ lays.rest))
 
   -- a closed gate behind the front ends these payloads
-  pub shut : (gate : ℕ) (rest : List ℕ) → gate ≢ open_gate → Lays limit selector (front ++ gate ∷ rest) payloads
+  pub shut : (gate : ℕ) (rest : List ℕ) → gate ≢ open_gate → Laid limit selector (front ++ gate ∷ rest) payloads
   unfolding front
   shut gate rest closed = record {
     gate = gate;
@@ -41,14 +49,14 @@ module _ (limit selector : ℕ) (content : List ℕ) (payloads : List (List ℕ)
   }
 
   -- the first write leaves the closed gate
-  pub torn_behind : (n : ℕ) (c : List ℕ) → Torn (end + 1) n content c → Lays limit selector c payloads
+  pub torn_behind : (n : ℕ) (c : List ℕ) → Torn (end + 1) n content c → Laid limit selector c payloads
   torn_behind n c torn =
       let base : take (end + 1) content ≡ front ++ lays.gate ∷ [] =
       ap (λ (l : List ℕ). take (end + 1) l) (split ∙ sym (append_assoc front (lays.gate ∷ []) lays.rest))
       ∙ take_at (front ++ lays.gate ∷ []) lays.rest (end + 1) (omega (arith, length-front, length-append front (lays.gate ∷ []))) in
       let whole : c ≡ front ++ lays.gate ∷ drop (end + 1) c =
       sym (take-append-drop (end + 1) c) ∙ ap (λ (l : List ℕ). l ++ drop (end + 1) c) (torn.before ∙ base) ∙ append_assoc front (lays.gate ∷ []) (drop (end + 1) c) in
-      subst (λ l. Lays limit selector l payloads) (sym whole) (shut lays.gate (drop (end + 1) c) lays.closed)
+      subst (λ l. Laid limit selector l payloads) (sym whole) (shut lays.gate (drop (end + 1) c) lays.closed)
 
   module _ (payload : List ℕ) (is_payload : IsPayload limit payload) where
     -- with the record behind the closed gate
@@ -65,7 +73,7 @@ module _ (limit selector : ℕ) (content : List ℕ) (payloads : List (List ℕ)
         is ∙ ap (λ (l : List ℕ). l ++ bytes ++ tail) base ∙ ap (λ (l : List ℕ). (front ++ lays.gate ∷ []) ++ l ++ tail) are
         ∙ simp append_assoc
 
-    opened : (rest : List ℕ) → Lays limit selector (front ++ open_gate ∷ (body_of payload ++ closed_gate ∷ rest)) (payloads ++ payload ∷ [])
+    opened : (rest : List ℕ) → Laid limit selector (front ++ open_gate ∷ (body_of payload ++ closed_gate ∷ rest)) (payloads ++ payload ∷ [])
     unfolding front
     opened rest = record {
       gate = closed_gate;
@@ -76,9 +84,9 @@ module _ (limit selector : ℕ) (content : List ℕ) (payloads : List (List ℕ)
     }
 
     -- any byte at the gate
-    pub any_gate : (gate : ℕ) (rest : List ℕ) → Lays limit selector (front ++ gate ∷ (body_of payload ++ closed_gate ∷ rest)) payloads ⊎ Lays limit selector (front ++ gate ∷ (body_of payload ++ closed_gate ∷ rest)) (payloads ++ payload ∷ [])
+    pub any_gate : (gate : ℕ) (rest : List ℕ) → Laid limit selector (front ++ gate ∷ (body_of payload ++ closed_gate ∷ rest)) payloads ⊎ Laid limit selector (front ++ gate ∷ (body_of payload ++ closed_gate ∷ rest)) (payloads ++ payload ∷ [])
     any_gate gate rest = elim (cases_eq gate open_gate) [
-      | inl is_open ↦ inr (subst (λ (g : ℕ). Lays limit selector (front ++ g ∷ (body_of payload ++ closed_gate ∷ rest)) (payloads ++ payload ∷ [])) (sym is_open) (opened rest))
+      | inl is_open ↦ inr (subst (λ (g : ℕ). Laid limit selector (front ++ g ∷ (body_of payload ++ closed_gate ∷ rest)) (payloads ++ payload ∷ [])) (sym is_open) (opened rest))
       | inr closed ↦ inl (shut gate (body_of payload ++ closed_gate ∷ rest) closed)
     ]
 
@@ -98,20 +106,20 @@ module _ (limit selector : ℕ) (content : List ℕ) (payloads : List (List ℕ)
       length-staged = omega (arith, length-front, length-append front (lays.gate ∷ (body_of payload ++ closed_gate ∷ rest)))
 
       -- the second write leaves the record whole, behind any gate
-      pub torn_gate : (c : List ℕ) → Torn end 1 (staged rest) c → Lays limit selector c payloads ⊎ Lays limit selector c (payloads ++ payload ∷ [])
+      pub torn_gate : (c : List ℕ) → Torn end 1 (staged rest) c → Laid limit selector c payloads ⊎ Laid limit selector c (payloads ++ payload ∷ [])
       torn_gate c torn =
           let gate = get_or c end 0 in
           let back : drop end c ≡ gate ∷ (body_of payload ++ closed_gate ∷ rest) = drop_more c end 0 (omega (arith, torn.no_shorter, length-staged)) ∙ ap (λ (l : List ℕ). gate ∷ l) (torn.after ∙ body_back) in
           let whole : c ≡ front ++ gate ∷ (body_of payload ++ closed_gate ∷ rest) =
           sym (take-append-drop end c) ∙ ap (λ (l : List ℕ). l ++ drop end c) (torn.before ∙ front_back) ∙ ap (λ (l : List ℕ). front ++ l) back in
-          subst (λ (l : List ℕ). Lays limit selector l payloads ⊎ Lays limit selector l (payloads ++ payload ∷ [])) (sym whole) (any_gate gate rest)
+          subst (λ (l : List ℕ). Laid limit selector l payloads ⊎ Laid limit selector l (payloads ++ payload ∷ [])) (sym whole) (any_gate gate rest)
 
       -- and the open gate has it
-      pub after_gate : (c : List ℕ) → c ≡ overwritten (staged rest) end (open_gate ∷ []) → Lays limit selector c (payloads ++ payload ∷ [])
+      pub after_gate : (c : List ℕ) → c ≡ overwritten (staged rest) end (open_gate ∷ []) → Laid limit selector c (payloads ++ payload ∷ [])
       after_gate c is =
           let whole : c ≡ front ++ open_gate ∷ (body_of payload ++ closed_gate ∷ rest) =
           is ∙ ap (λ (l : List ℕ). l ++ (open_gate ∷ []) ++ drop (end + 1) (staged rest)) front_back ∙ append_assoc front (open_gate ∷ []) (drop (end + 1) (staged rest)) ∙ ap (λ (l : List ℕ). front ++ open_gate ∷ l) body_back in
-          subst (λ (l : List ℕ). Lays limit selector l (payloads ++ payload ∷ [])) (sym whole) (opened rest)
+          subst (λ (l : List ℕ). Laid limit selector l (payloads ++ payload ∷ [])) (sym whole) (opened rest)
 
 pub end-push : (payloads : List (List ℕ)) (payload : List ℕ) → end_of (payloads ++ payload ∷ []) ≡ end_of payloads + length (record_of payload)
 end-push payloads payload = ap (λ (l : List ℕ). first_gate + length l) (records-push payloads payload) ∙ omega (arith, length-append (records payloads) (record_of payload))

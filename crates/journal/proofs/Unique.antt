@@ -3,8 +3,8 @@ use Rattle.std.proofs.Common.{◌≡◌, ◌≢◌, ⊎_elim, ℕ, ◌<◌, ◌^
 use Rattle.std.specs.Int.{to_be_bytes, from_be_bytes, w32}
 use Rattle.std.proofs.lemmas.List.{take_at, drop_at}
 use Rattle.std.proofs.lemmas.Nat.{from_be_bytes-to_be_bytes_4}
-use Rattle.journal.specs.Area.{Lays, StandsFor, header, records, record_of, body_of, IsPayload, ArePayloads, end_of, open_gate}
-use Rattle.journal.specs.Damage.{HasHeader, IsBroken, IsDamaged}
+use Rattle.journal.specs.Area.{StandsFor, records, record_of, body_of, IsPayload, ArePayloads, end_of, open_gate}
+use Rattle.journal.specs.Damage.{HasHeader, IsBroken, IsDamaged, Walked}
 use Rattle.disk_model.specs.Disk.{Image}
 use Rattle.journal.specs.Kept.{ImageStandsFor}
 use Rattle.journal.specs.Open.{IsPassing, Tells}
@@ -32,9 +32,16 @@ module _ (limit : ℕ) (fits : limit < 2 ^ 32) where
       let others = same_records ps qs g h x y eps.1 eqs.1 cg ch rest in
       cc
 
-  pub laid_out_once : (s t : ℕ) (bytes : List ℕ) (ps qs : List (List ℕ)) → Lays limit s bytes ps → Lays limit t bytes qs → ps ≡ qs
-  laid_out_once s t bytes ps qs l m = same_records ps qs l.gate m.gate l.rest m.rest l.each m.each l.closed m.closed
-      (ap (λ (b : List ℕ). drop 10 b) (sym (append_assoc (header s) (records ps) (l.gate ∷ l.rest)) ∙ sym l.is ∙ m.is ∙ append_assoc (header t) (records qs) (m.gate ∷ m.rest)))
+  -- what stands behind the header
+  behind : (bytes : List ℕ) (ps : List (List ℕ)) (s : StandsFor limit bytes ps) → drop 10 bytes ≡ records ps ++ s.lays.gate ∷ s.lays.more
+  behind bytes ps s = ap (λ (l : List ℕ). drop 10 l) s.header_is.is ∙ s.lays.is
+
+  walked_behind : (bytes : List ℕ) (ps : List (List ℕ)) (rest : List ℕ) → Walked limit bytes ps rest → drop 10 bytes ≡ records ps ++ rest
+  walked_behind bytes ps rest w = ap (λ (l : List ℕ). drop 10 l) w.header_is.is
+
+  pub laid_out_once : (bytes : List ℕ) (ps qs : List (List ℕ)) → StandsFor limit bytes ps → StandsFor limit bytes qs → ps ≡ qs
+  laid_out_once bytes ps qs s t = same_records ps qs s.lays.gate t.lays.gate s.lays.more t.lays.more s.lays.each t.lays.each s.lays.closed t.lays.closed
+      (sym (behind bytes ps s) ∙ behind bytes qs t)
 
   -- behind the records of an area there is no broken one
   none_broken : (ps qs : List (List ℕ)) (g : ℕ) (x more : List ℕ) → ArePayloads limit ps → ArePayloads limit qs → g ≢ open_gate → IsBroken limit more → records ps ++ g ∷ x ≡ records qs ++ open_gate ∷ more → ⊥
@@ -81,26 +88,24 @@ module _ (limit : ℕ) (fits : limit < 2 ^ 32) where
 
   pub damaged_once : (bytes : List ℕ) (g h : ℕ) → IsDamaged limit bytes g → IsDamaged limit bytes h → g ≡ h
   damaged_once bytes g h d e =
-      d.4 ∙ ap end_of (same_damage d.1 e.1 d.2 e.2 d.3.each e.3.each d.5 e.5
-      (ap (λ (b : List ℕ). drop 10 b) (sym (append_assoc (header d.0) (records d.1) (open_gate ∷ d.2)) ∙ sym d.3.is ∙ e.3.is ∙ append_assoc (header e.0) (records e.1) (open_gate ∷ e.2)))) ∙ sym e.4
+      d.3 ∙ ap end_of (same_damage d.0 e.0 d.1 e.1 d.2.each e.2.each d.4 e.4
+      (sym (walked_behind bytes d.0 (open_gate ∷ d.1) d.2) ∙ walked_behind bytes e.0 (open_gate ∷ e.1) e.2)) ∙ sym e.3
 
   pub undamaged : (bytes : List ℕ) (ps : List (List ℕ)) (gate : ℕ) → StandsFor limit bytes ps → IsDamaged limit bytes gate → ⊥
   undamaged bytes ps gate s d =
-      none_broken ps d.1 s.lays.gate s.lays.rest d.2 s.lays.each d.3.each s.lays.closed d.5
-      (ap (λ (b : List ℕ). drop 10 b) (sym (append_assoc (header s.selector) (records ps) (s.lays.gate ∷ s.lays.rest)) ∙ sym s.lays.is ∙ d.3.is ∙ append_assoc (header d.0) (records d.1) (open_gate ∷ d.2)))
+      none_broken ps d.0 s.lays.gate s.lays.more d.1 s.lays.each d.2.each s.lays.closed d.4
+      (sym (behind bytes ps s) ∙ walked_behind bytes d.0 (open_gate ∷ d.1) d.2)
 
   pub has_header : (bytes : List ℕ) (ps : List (List ℕ)) → StandsFor limit bytes ps → HasHeader bytes
   has_header bytes ps s = (
-    s.selector,
-    records ps ++ s.lays.gate ∷ s.lays.rest,
-    s.lays.is ∙ append_assoc (header s.selector) (records ps) (s.lays.gate ∷ s.lays.rest),
-    s.active,
-    omega (arith, length-append (records ps) (s.lays.gate ∷ s.lays.rest)),
+    s.rest,
+    s.header_is,
+    omega (arith, ap length s.lays.is, length-append (records ps) (s.lays.gate ∷ s.lays.more)),
   )
 
 -- bytes stand for one list of payloads
 pub one_list : (limit : ℕ) → limit < 2 ^ 32 → (area : List ℕ) (payloads others : List (List ℕ)) → StandsFor limit area payloads → StandsFor limit area others → payloads ≡ others
-one_list limit fits area payloads others s t = laid_out_once limit fits s.selector t.selector area payloads others s.lays t.lays
+one_list limit fits area payloads others s t = laid_out_once limit fits area payloads others s t
 
 -- what a disk stands for is what its bytes lay out
 pub given : (i j : Image) (ps qs : List (List ℕ)) → j ≡ i → ImageStandsFor j ps → ImageStandsFor i qs → ps ≡ qs

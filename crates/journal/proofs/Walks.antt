@@ -15,16 +15,17 @@ AreGates-push [] p from gates is = (omega (arith, is), tt)
 AreGates-push (q ∷ ps) p from gates is = (gates.0, AreGates-push ps p (from + length (record_of q.bytes)) gates.1 (omega (arith, is, length-append (record_of q.bytes) (records (payloads_in ps)))))
 
 module _ (limit : ℕ) (bytes : List ℕ) (ps new : List Payload) (p : Payload) (rest after : List ℕ) (is_push : new ≡ ps ++ p ∷ []) (is : rest ≡ record_of p.bytes ++ after) where
-  pub walked_on : (selector : ℕ) × Walked limit selector bytes (payloads_in ps) rest → IsPayload limit p.bytes → 0 < length after → (selector : ℕ) × Walked limit selector bytes (payloads_in new) after
-  walked_on walked is_payload some = (
-    walked.0,
-    subst (λ (l : List (List ℕ)). Walked limit walked.0 bytes l after) (sym (ap payloads_in is_push ∙ payloads_in-push ps p)) (record {
-      is = walked.1.is ∙ ap (λ (l : List ℕ). header walked.0 ++ records (payloads_in ps) ++ l) is ∙ simp (records-push, append_assoc);
-      active = walked.1.active;
-      each = ArePayloads-push limit (payloads_in ps) p.bytes walked.1.each is_payload;
-      some = some;
-    }),
-  )
+  pub walked_on : Walked limit bytes (payloads_in ps) rest → IsPayload limit p.bytes → 0 < length after → Walked limit bytes (payloads_in new) after
+  walked_on walked is_payload some =
+      subst (λ (l : List (List ℕ)). Walked limit bytes l after) (sym (ap payloads_in is_push ∙ payloads_in-push ps p)) (record {
+        header_is = record {
+          selector = walked.header_is.selector;
+          is = walked.header_is.is ∙ ap (λ (l : List ℕ). header walked.header_is.selector ++ records (payloads_in ps) ++ l) is ∙ simp (records-push, append_assoc);
+          selects = walked.header_is.selects;
+        };
+        each = ArePayloads-push limit (payloads_in ps) p.bytes walked.each is_payload;
+        some = some;
+      })
 
   pub gate_on : (gate : ℕ) → gate ≡ end_of (payloads_in ps) → gate + (5 + length p.bytes) ≡ end_of (payloads_in new)
   gate_on gate at = omega (arith, at, ap end_of (ap payloads_in is_push ∙ payloads_in-push ps p), end-push (payloads_in ps) p.bytes)

@@ -58,19 +58,25 @@ first_gate = 10
 abbrev pub end_of : List (List ℕ) → ℕ
 end_of payloads = first_gate + length (records payloads)
 
--- a header with this selector, the records of these payloads, a closed gate, and then anything
-pub record Lays (limit selector : ℕ) (bytes : List ℕ) (payloads : List (List ℕ)) : Type 0 where
+-- area First begins with a header that names this area as the active one, and this is its rest
+pub record HeaderOf (active : Area) (first rest : List ℕ) : Type 0 where
+  pub selector : ℕ
+  pub is : first ≡ header selector ++ rest
+  pub selects : Selects active selector
+
+-- behind a header: the records of these payloads, a closed gate, and then anything
+pub record Lays (limit : ℕ) (rest : List ℕ) (payloads : List (List ℕ)) : Type 0 where
   pub gate : ℕ
-  pub rest : List ℕ
-  pub is : bytes ≡ header selector ++ records payloads ++ gate ∷ rest
+  pub more : List ℕ
+  pub is : rest ≡ records payloads ++ gate ∷ more
   pub closed : gate ≢ open_gate
   pub each : ArePayloads limit payloads
 
--- area First stands for these payloads: it lays them out, and its selector names it
+-- area First stands for these payloads: its header names it, and it lays them out
 pub record StandsFor (limit : ℕ) (bytes : List ℕ) (payloads : List (List ℕ)) : Type 0 where
-  pub selector : ℕ
-  pub active : Selects First selector
-  pub lays : Lays limit selector bytes payloads
+  pub rest : List ℕ
+  pub header_is : HeaderOf First bytes rest
+  pub lays : Lays limit rest payloads
 
 -- an area behind whose closed gate a payload was added: its record, with the gate open, and the
 -- next gate, written closed

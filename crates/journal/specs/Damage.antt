@@ -2,7 +2,7 @@
 use Rattle.std.specs.Prelude.{◌≡◌, ◌⊎◌, ℕ, ◌<◌, ◌≤◌, List, [], ◌∷◌, ◌++◌, length}
 use Rattle.std.specs.Int.{from_be_bytes, w32}
 use Rattle.disk_model.specs.declared.disk.Area.TheVariants.{First}
-use Rattle.journal.specs.Area.{header, records, ArePayloads, Selects, end_of, open_gate}
+use Rattle.journal.specs.Area.{HeaderOf, records, ArePayloads, end_of, open_gate}
 
 -- the bytes behind an open gate are no record and a next gate: the length field, the payload or the
 -- next gate ends past the area, or the length is 0 or too large
@@ -13,20 +13,18 @@ IsBroken limit (b0 ∷ b1 ∷ b2 ∷ b3 ∷ more) =
 IsBroken limit short = Unit {0}
 
 -- a header of area First, the records of these payloads, and a rest that begins with a gate
-pub record Walked (limit selector : ℕ) (bytes : List ℕ) (payloads : List (List ℕ))
+pub record Walked (limit : ℕ) (bytes : List ℕ) (payloads : List (List ℕ))
     (rest : List ℕ) : Type 0 where
-  pub is : bytes ≡ header selector ++ records payloads ++ rest
-  pub active : Selects First selector
+  pub header_is : HeaderOf First bytes (records payloads ++ rest)
   pub each : ArePayloads limit payloads
   pub some : 0 < length rest
 
 -- the records before this gate are whole, and what stands behind it is broken
 abbrev pub IsDamaged : ℕ → List ℕ → ℕ → Type 0
-IsDamaged limit bytes gate = (selector : ℕ) × (payloads : List (List ℕ)) × (more : List ℕ)
-    × Walked limit selector bytes payloads (open_gate ∷ more) × (gate ≡ end_of payloads)
+IsDamaged limit bytes gate = (payloads : List (List ℕ)) × (more : List ℕ)
+    × Walked limit bytes payloads (open_gate ∷ more) × (gate ≡ end_of payloads)
     × IsBroken limit more
 
 -- a header of area First, and at least one byte behind it
 abbrev pub HasHeader : List ℕ → Type 0
-HasHeader bytes = (selector : ℕ) × (rest : List ℕ) × (bytes ≡ header selector ++ rest)
-    × Selects First selector × (0 < length rest)
+HasHeader bytes = (rest : List ℕ) × HeaderOf First bytes rest × (0 < length rest)

@@ -4,13 +4,24 @@ ghost use Rattle.journal.specs.Kept.{Keeps};
 ghost use Rattle.journal.specs.inside.Batch.{SomeFirst};
 ghost use Rattle.journal.specs.Journal.{disk_after};
 
-use crate::{AppendFault, CreateCause, Frame, Journal, OpenCause, Payload, create};
-use disk_model::{Area, Choice, Disk, DiskFault, Fill, MemoryDisk};
+use crate::{AppendFault, CreateCause, Frame, Journal, OpenCause, OpenFault, Payload, create};
+use disk_model::{Area, Choice, Disk, DiskFault, Fill, FuseDisk, FuseMode, MemoryDisk};
 use std::alloc::{AllocError, Global};
 use std::test::Fail;
 
 // The payload of a session `a`, plain, with the word `sh`.
 const SESSION: [u8; 9] = [1, 1, 0x61, 0, 1, 0, 2, 0x73, 0x68];
+
+// Area First with the payloads of a session, a field, a clearing and an answer.
+const AREA: [u8; 76] = [
+    0x54, 0x4d, 0x57, 0x53, 0x48, 0x45, 0x45, 0x54, 0x01, 0x41, // header
+    0x52, 0x00, 0x00, 0x00, 0x09, 0x01, 0x01, 0x61, 0x00, 0x01, 0x00, 0x02, 0x73, 0x68, // session
+    0x52, 0x00, 0x00, 0x00, 0x0a, 0x02, 0x00, 0x00, 0x00, 0x00, 0x01, 0x61, 0x00, 0x01, 0x78, // new
+    0x52, 0x00, 0x00, 0x00, 0x05, 0x06, 0x00, 0x00, 0x00, 0x01, // clear
+    0x52, 0x00, 0x00, 0x00, 0x15, 0x07, 0x00, 0x00, 0x00, 0x01, 0x00, 0x02, 0x3e, 0x20, 0x02, 0x76,
+    0x65, 0x72, 0x62, 0x61, 0x74, 0x69, 0x6d, 0x3a, 0x41, 0x05, // answer
+    0x00,
+];
 
 fn created(alloc: Global, room: u64) -> Result<MemoryDisk, Fail> {
     if room < 11 || room > 100 {
@@ -86,21 +97,15 @@ fn payloads_in_order(rt: HostRuntime) -> Result<(), Fail> {
     Ok(())
 }
 
+fn example(alloc: Global) -> Result<MemoryDisk, Fail> {
+    let first = AREA.as_slice().to_vec(alloc)?;
+    Ok(MemoryDisk::holding(alloc, 100, first).map_err(|_| "holding")?)
+}
+
 #[test]
 fn the_worked_example_opens(rt: HostRuntime) -> Result<(), Fail> {
     let alloc = rt.alloc();
-    let area: [u8; 76] = [
-        0x54, 0x4d, 0x57, 0x53, 0x48, 0x45, 0x45, 0x54, 0x01, 0x41, // header
-        0x52, 0x00, 0x00, 0x00, 0x09, 0x01, 0x01, 0x61, 0x00, 0x01, 0x00, 0x02, 0x73, 0x68, // session
-        0x52, 0x00, 0x00, 0x00, 0x0a, 0x02, 0x00, 0x00, 0x00, 0x00, 0x01, 0x61, 0x00, 0x01, 0x78, // new
-        0x52, 0x00, 0x00, 0x00, 0x05, 0x06, 0x00, 0x00, 0x00, 0x01, // clear
-        0x52, 0x00, 0x00, 0x00, 0x15, 0x07, 0x00, 0x00, 0x00, 0x01, 0x00, 0x02, 0x3e, 0x20, 0x02,
-        0x76, 0x65, 0x72, 0x62, 0x61, 0x74, 0x69, 0x6d, 0x3a, 0x41, 0x05, // answer
-        0x00,
-    ];
-    let disk = MemoryDisk::holding(alloc, 100, area.as_slice().to_vec(alloc)?).map_err(
-        |_| "holding",
-    )?;
+    let disk = example(alloc)?;
     let (_, payloads) = opened(alloc, disk)?;
     assert_eq!(rt; payloads.len(), 4);
     assert_eq!(rt; payloads[0].gate, 10);
@@ -353,5 +358,39 @@ fn create_and_append_take_no_memory(rt: HostRuntime) -> Result<(), Fail> {
     let (_, payloads) = Journal::open(alloc, disk).map_err(|_| "open")?;
     assert_eq!(rt; payloads.len(), 1);
     assert_eq!(rt; payloads[0].bytes.as_slice(), SESSION.as_slice());
+    Ok(())
+}
+
+// Whether an opening over this fuse tells that the disk failed, and then has written nothing. Else it
+// gives the four payloads of the example.
+fn is_told_as_disk(alloc: Global, k: u64, mode: FuseMode) -> Result<bool, Fail> {
+    match Journal::open(alloc, FuseDisk::new(example(alloc)?, k, mode)) {
+        Ok((_, payloads)) => {
+            if payloads.len() != 4 {
+                return Err("other payloads".into());
+            }
+            Ok(false)
+        }
+        Err(OpenFault { cause, disk }) => {
+            let disk = disk.into_inner();
+            if cause != OpenCause::Disk || disk.content(Area::First) != AREA.as_slice() {
+                return Err("another fault".into());
+            }
+            Ok(true)
+        }
+    }
+}
+
+// An opening syncs area First, asks for its length and reads it.
+#[test]
+fn an_opening_over_a_failing_disk(rt: HostRuntime) -> Result<(), Fail> {
+    let alloc = rt.alloc();
+    for k in 0..6u64 {
+        assert_eq!(rt; is_told_as_disk(alloc, k, FuseMode::From)?, k <= 3);
+        assert_eq!(rt;
+            is_told_as_disk(alloc, k, FuseMode::Only)?,
+            k >= 1 && k <= 3
+        );
+    }
     Ok(())
 }

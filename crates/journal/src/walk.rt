@@ -3,7 +3,7 @@ ghost use Rattle.std.specs.Prelude.{◌≡◌, ◌≢◌, ◌<◌, ◌≤◌, �
 ghost use Rattle.disk_model.specs.Disk.{max_room};
 ghost use Rattle.disk_model.specs.declared.disk.Area.TheVariants.{First};
 ghost use Rattle.journal.specs.Limits.{max_payload};
-ghost use Rattle.journal.specs.Area.{Selects, StandsFor, end_of, first_gate, header};
+ghost use Rattle.journal.specs.Area.{HeaderOf, StandsFor, end_of, first_gate};
 ghost use Rattle.journal.specs.Damage.{HasHeader};
 ghost use Rattle.journal.specs.Payloads.{AreGates, payloads_in};
 ghost use Rattle.journal.specs.inside.Walk.{IsStep};
@@ -55,8 +55,7 @@ fn step_at(rest: &[u8]) -> Step<'_>
 // What stands behind a header of area First.
 fn behind_header(bytes: &[u8]) -> Option<&[u8]>
     ensures some { IfSome result
-        (λ rest. (selector : ℕ) × (bytes.now ≡ header selector ++ rest.now) × Selects First selector
-        × (0 < length rest.now)) }
+        (λ rest. HeaderOf First bytes.now rest.now × (0 < length rest.now)) }
     ensures none { IfNone result (HasHeader bytes.now → ⊥) }
 {
     if bytes.len() < 11 {
