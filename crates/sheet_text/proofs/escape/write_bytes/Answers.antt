@@ -25,5 +25,5 @@ loop-start-preserved g c =
     let put : Appends (g.W.Write.contents c.loop-start.out) (g.W.Write.contents c.write_all.new.self) (take (end - start) (drop start bytes)) = search rules in (
       omega (arith, inside, c.if-end-bytes.false),
       run_step (printed_byte c.args.keeps_lines) bytes start end _ _ _ _ run.ordered (omega (arith, inside, c.if-end-bytes.false)) (plain_byte c.args.keeps_lines bytes start end run.pass)
-      c.loop-start.invariant.1 put c.in_ok-write_byte.ensures,
+          c.loop-start.invariant.1 put c.in_ok-write_byte.ensures,
     )
