@@ -18,7 +18,8 @@ use Rattle.sheet_text.specs.Script.{line_of, wants_memory}
 use Rattle.sheet_text.specs.Texts.{reply_text}
 use Rattle.sheet_text.specs.declared.script.ScriptLine.{ScriptLine}
 use Rattle.sheet_text.specs.declared.script.ScriptLine.TheVariants as line
-use Rattle.host_cli.specs.Memory.{OpRan, done, refused, unkept, LineRan, unread, LinesRan, script_lines, reply_to}
+use Rattle.session_engine.specs.Commands.{reply_to}
+use Rattle.host_cli.specs.Memory.{OpRan, done, refused, unkept, LineRan, unread, LinesRan, script_lines}
 
 -- An op.
 

@@ -6,10 +6,9 @@ use Rattle.worksheet.specs.declared.op.Op.{Op}
 use Rattle.worksheet.specs.declared.op.Op.TheVariants as op
 use Rattle.worksheet.specs.declared.refusal.Refusal.{Refusal}
 use Rattle.worksheet.specs.declared.refusal.Refusal.TheVariants as refusal
-use Rattle.worksheet.specs.Contents.{Contents}
 use Rattle.worksheet.specs.Ops.{sheet_of}
 use Rattle.worksheet.specs.Checks.{first_refusal, takes_memory}
-use Rattle.session_engine.specs.Commands.{op_of}
+use Rattle.session_engine.specs.Commands.{op_of, reply_to}
 use Rattle.session_engine.specs.declared.command.Command.{Command}
 use Rattle.session_engine.specs.declared.reply.Reply.{Reply}
 use Rattle.session_engine.specs.declared.reply.Reply.TheVariants as reply
@@ -26,16 +25,6 @@ script_lines script = map without_terminator (lines_of script)
 -- 'bad line' and the number of the line, from 1
 abbrev pub bad_line : ℕ → List ℕ
 bad_line number = codes "bad line " ++ decimal number ++ 10 ∷ []
-
--- the reply to an op that was done: the number of a new field, else `ok`
-abbrev pub reply_to : Contents → Op → Reply
-reply_to sheet (op.Session name tab words) = reply.Done
-reply_to sheet (op.New after session input) = reply.Field sheet.next
-reply_to sheet (op.Set id input) = reply.Done
-reply_to sheet (op.Remove id) = reply.Done
-reply_to sheet (op.Move id after) = reply.Done
-reply_to sheet (op.Clear id) = reply.Done
-reply_to sheet (op.Answer id prompt output) = reply.Done
 
 -- An op on the worksheet of these ops, what is replied, and the ops behind it. Which refusal comes is
 -- told by the worksheet; want of memory is told only of an op that it allows and that takes memory.

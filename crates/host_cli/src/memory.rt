@@ -6,7 +6,8 @@ ghost use Rattle.worksheet.specs.Ops.{sheet_of};
 ghost use Rattle.sheet_text.specs.Script.{line_of};
 ghost use Rattle.sheet_text.specs.Texts as printed;
 ghost use Rattle.sheet_text.specs.declared.script.ScriptLine.TheVariants as said;
-ghost use Rattle.host_cli.specs.Memory.{LineRan, LinesRan, OpRan, ScriptRan, bad_line, reply_to as reply_of, script_lines};
+ghost use Rattle.host_cli.specs.Memory.{LineRan, LinesRan, OpRan, ScriptRan, bad_line, script_lines};
+ghost use Rattle.session_engine.specs.Commands.{reply_to as reply_of};
 ghost use Rattle.host_cli.specs.Input.{max_input};
 
 use crate::{RunFault, read_input};

@@ -1,1 +1,12 @@
 pub mod Commands
+pub mod Limits
+pub mod Named
+pub mod World
+pub mod Refused
+pub mod Does
+pub mod Host
+pub mod Faults
+pub mod Crash
+pub mod Apart
+pub mod Turns
+pub mod inside

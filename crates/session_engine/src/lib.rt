@@ -1,8 +1,28 @@
-//! The host of interpreters: what it is told and what it replies.
+//! The host of interpreters' sessions over a worksheet: what it is told, what it replies, and what is to be
+//! done with the interpreters.
 #![tactic(auto)]
 
+mod changes;
 pub mod command;
+mod commits;
+mod ends;
+mod engine;
+mod evals;
+pub mod event;
+pub mod host;
+pub mod laws;
+pub mod outcome;
+mod pieces;
+mod play;
 pub mod reply;
+mod table;
+mod take;
+#[cfg(test)]
+mod tests;
 
 pub use command::Command;
-pub use reply::Reply;
+pub use event::{ChildEvent, Event};
+pub use host::{Host, LifeView};
+pub use outcome::{Effect, HostFault, Outcome};
+pub use play::PlayFault;
+pub use reply::{ChildReply, Closed, Reply};

@@ -11,16 +11,20 @@ use Rattle.session_engine.specs.declared.reply.Reply.{Reply}
 use Rattle.session_engine.specs.declared.reply.Reply.TheVariants as reply
 use Rattle.sheet_text.specs.Escape.{on_line}
 use Rattle.sheet_text.specs.Blocks.{block_text}
+use Rattle.sheet_text.specs.Replies.{child_text}
 
 -- 'refused', the number and the name
 abbrev pub refused_line : Refusal → List ℕ
 refused_line refusal = codes "refused " ++ decimal (refusal_number refusal) ++ codes " " ++ refusal_name refusal ++ 10 ∷ []
 
--- the line of a reply
+-- the lines of a reply
 abbrev pub reply_text : Reply → List ℕ
 reply_text reply.Done = codes "ok\n"
 reply_text (reply.Field id) = codes "field " ++ decimal id ++ 10 ∷ []
+reply_text (reply.Asked number) = codes "asked\n"
 reply_text (reply.Refused refusal) = refused_line refusal
+reply_text (reply.Child told) = child_text told
+reply_text reply.Nothing = []
 
 -- '#', the number, the session's name
 abbrev pub number_line : Field → List ℕ

@@ -9,6 +9,7 @@ pub mod laws;
 pub mod numbers;
 mod parts;
 mod plain;
+mod replies;
 mod script;
 mod sheet;
 #[cfg(test)]
@@ -17,5 +18,6 @@ mod tests;
 pub use blocks::{block_text, tree_text};
 pub use escape::{write_line, write_lines};
 pub use fault::WriteFault;
+pub use replies::reply_text;
 pub use script::{LineFault, ScriptLine, read_line};
-pub use sheet::{reply_text, sheet_text};
+pub use sheet::sheet_text;

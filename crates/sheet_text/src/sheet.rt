@@ -1,4 +1,4 @@
-//! Replies and worksheets as they are printed.
+//! Worksheets as they are printed.
 ghost use Rattle.std.specs.Prelude.{◌≡◌, OnOk};
 ghost use Rattle.std.specs.Option.{option_copied};
 ghost use Rattle.std.specs.Io.KnownBytes.{Appends};
@@ -9,26 +9,8 @@ use crate::blocks::block_text;
 use crate::ends::ends_line;
 use crate::escape::write_line;
 use crate::fault::WriteFault;
-use session_engine::Reply;
 use std::io::Write;
 use worksheet::{Answer, Field, Sheet};
-
-/// Writes the line of a reply: `ok`, `field ID`, or `refused N NAME` with the number and the name of
-/// the refusal.
-pub fn reply_text<W: Write>(reply: &Reply, out: &mut W) -> Result<(), WriteFault>
-    ensures { OnOk result (Appends (W.contents out.old) (W.contents out.new) (printed.reply_text reply.now)) }
-{
-    match reply {
-        Reply::Done => out.write_all(b"ok\n").map_err(|_| WriteFault)?,
-        Reply::Field(id) => writeln!(out, "field {id}").map_err(|_| WriteFault)?,
-        Reply::Refused(refusal) => {
-            writeln!(out, "refused {} {}", refusal.number(), refusal.name()).map_err(
-                |_| WriteFault,
-            )?
-        }
-    }
-    Ok(())
-}
 
 /// Writes `#`, the number of a field and its session.
 #[tactic(auto, using(crate::proofs::Appending::steps))]

@@ -1,0 +1,208 @@
+-- One command in two worlds that are alike for a session.
+use Rattle.std.proofs.Common.{◌≡◌, ◌⊎◌, ⊎_elim, ◌+◌, ℕ, List, [], ◌∷◌, ◌++◌, length, drop, refl, ap, sym, ◌∙◌, subst, Bool, true, false, Option, Some, None}
+use Rattle.std.specs.Prelude.{if◌then◌else◌}
+use Rattle.std.specs.Str.{bytes_eq}
+use Rattle.std.proofs.lemmas.List.{append-nil}
+use Rattle.worksheet.specs.declared.op.Op.{Op}
+use Rattle.worksheet.specs.declared.op.Op.TheVariants as op
+use Rattle.worksheet.specs.declared.refusal.Refusal.{Refusal}
+use Rattle.worksheet.specs.declared.refusal.Refusal.TheVariants as refusal
+use Rattle.worksheet.specs.declared.field.Session.{Session}
+use Rattle.worksheet.specs.Checks.{first_of, session_named}
+use Rattle.worksheet.specs.Ops.{sessions_of, next_of}
+use Rattle.plugin_core.specs.declared.item.Item.{Item}
+use Rattle.plugin_core.specs.declared.item.Item.TheVariants as item
+use Rattle.plugin_core.specs.declared.step.Reason.TheVariants as reason
+use Rattle.session_engine.specs.declared.command.Command.{Command}
+use Rattle.session_engine.specs.declared.command.Command.TheVariants as command
+use Rattle.session_engine.specs.declared.event.Event.{Event}
+use Rattle.session_engine.specs.declared.event.Event.TheVariants as event
+use Rattle.session_engine.specs.declared.outcome.Outcome.{Outcome}
+use Rattle.session_engine.specs.declared.outcome.Effect.{Effect}
+use Rattle.session_engine.specs.declared.outcome.Effect.TheVariants as effect
+use Rattle.session_engine.specs.declared.reply.Reply.{Reply}
+use Rattle.session_engine.specs.declared.reply.Reply.TheVariants as reply
+use Rattle.session_engine.specs.Named.{first_named, without_named, replace_named}
+use Rattle.session_engine.specs.World.{World, Going, life_of, with_op, session_of, line_of, sheet_in}
+use Rattle.session_engine.specs.Does.{ends, replies, refused, joined_by, begun_with, words_of}
+use Rattle.session_engine.specs.inside.Given.{Commanded, stops, outcome_of, after, GivesByParts}
+use Rattle.session_engine.specs.inside.Parts.{with_life, without_life, with_item, asks}
+use Rattle.session_engine.specs.Refused.{refusals, takes_memory}
+use Rattle.session_engine.specs.Apart.{AreAlike, named, commanded, concerns, begins, number_if, is_refusal, added}
+use Rattle.session_engine.proofs.ApartLives.{same_name, is_itself, replaced_other, without_other, named-push, first_has}
+use Rattle.session_engine.proofs.ApartOps.{next_alike, sessions_alike, session_of_alike, input_of_alike}
+use Rattle.session_engine.proofs.ApartSteps.{alike_back, alike_on, life_alike, push_alike, own_gone, own_put, nothing_added, one_added}
+
+-- An accepted command leads to worlds that are alike, and says the same where it concerns the session.
+pub record Same (n : List ℕ) (w x : World) (e : Event) (o p : Outcome) (v u : World) : Type 0 where
+  pub alike : AreAlike n v u
+  pub about : concerns n w e ≡ concerns n x e
+  pub says : concerns n w e ≡ true → o ≡ p
+  pub adds : added w v ≡ added x u
+
+with_one : (n : List ℕ) (w x : World) (e : Event) (o p : Outcome) (a : Op) → AreAlike n w x → concerns n w e ≡ concerns n x e → o ≡ p → Same n w x e o p (with_op a w) (with_op a x)
+with_one n w x e o p a h about says = record { alike = push_alike n w x a h; about = about; says = λ t. says; adds = one_added w x a }
+
+-- An item.
+
+item_ops : (m : List ℕ) (i : Item) (k : Option Going) (w : World) → (with_item w m i k).ops ≡ w.ops
+item_ops m i None w = refl
+item_ops m i (Some l) w = refl
+
+item_other : (n m : List ℕ) (i : Item) (k : Option Going) (w : World) → ((l : Going) → k ≡ Some l → l.name ≡ m) → bytes_eq m n ≡ false → AreAlike n w (with_item w m i k)
+item_other n m i None w s h = record { ops = refl; lives = sym (named-push n w.lives (begun_with w m i) ∙ rw h (append-nil (named n w.lives))) }
+item_other n m i (Some l) w s h = record { ops = refl; lives = sym (replaced_other n (joined_by l i) w.lives (ap (λ (j : List ℕ). bytes_eq j n) (s l refl) ∙ h)) }
+
+item_own : (n : List ℕ) (i : Item) (k : Option Going) (w x : World) → ((l : Going) → k ≡ Some l → l.name ≡ n) → AreAlike n w x → number_if true k (w.begun + 1) ≡ number_if true k (x.begun + 1)
+    → AreAlike n (with_item w n i k) (with_item x n i k) × (asks w n i k ≡ asks x n i k)
+item_own n i None w x s a e =
+    let k : w.begun + 1 ≡ x.begun + 1 = cc in
+    let t : sessions_of w.ops ≡ sessions_of x.ops = sessions_alike w.ops x.ops a.ops in (
+      record { ops = a.ops; lives = named-push n w.lives (begun_with w n i) ∙ rw (a.lives, k) refl ∙ sym (named-push n x.lives (begun_with x n i)) },
+      ap (λ (j : ℕ). record { reply = reply.Asked j; effect = Some (effect.Start n j (words_of (session_named (sessions_of w.ops) n))) }) k
+          ∙ ap (λ (ss : List Session). record { reply = reply.Asked (x.begun + 1); effect = Some (effect.Start n (x.begun + 1) (words_of (session_named ss n))) }) t,
+    )
+item_own n i (Some l) w x s a e = (
+  record {
+    ops = a.ops;
+    lives = ap (λ (m : List ℕ). named n (replace_named (λ l. l.name) m (joined_by l i) w.lives)) (s l refl)
+        ∙ own_put n (joined_by l i) w x (ap (λ (m : List ℕ). bytes_eq m n) (s l refl) ∙ is_itself n) a
+        ∙ sym (ap (λ (m : List ℕ). named n (replace_named (λ l. l.name) m (joined_by l i) x.lives)) (s l refl));
+  },
+  refl,
+)
+
+-- an Eval of a field of the session with this name, with this item
+abbrev evaled : World → ℕ → List ℕ → Item → World
+evaled w id m i = with_op (op.Clear id) (with_item w m i (life_of w m))
+
+abbrev evaling : World → List ℕ → Item → Outcome
+evaling w m i = asks w m i (life_of w m)
+
+evals : (n m : List ℕ) (id : ℕ) (i : Item) (w x : World) → AreAlike n w x
+    → number_if (bytes_eq m n) (life_of w n) (w.begun + 1) ≡ number_if (bytes_eq m n) (life_of x n) (x.begun + 1)
+    → AreAlike n (evaled w id m i) (evaled x id m i) × (bytes_eq m n ≡ true → evaling w m i ≡ evaling x m i)
+evals n m id i w x a e = go (bytes_eq m n) refl e
+  where
+    go : (b : Bool) → bytes_eq m n ≡ b → number_if b (life_of w n) (w.begun + 1) ≡ number_if b (life_of x n) (x.begun + 1)
+        → AreAlike n (evaled w id m i) (evaled x id m i) × (bytes_eq m n ≡ true → evaling w m i ≡ evaling x m i)
+    go true h k =
+        let s : n ≡ m = sym (same_name m n h) in
+        let l : life_of w n ≡ life_of x n = life_alike n w x a in
+        let q = item_own n i (life_of w n) w x (λ g t. first_has n w.lives g t) a (k ∙ ap (λ (g : Option Going). number_if true g (x.begun + 1)) (sym l)) in
+        let r : AreAlike n (with_item w n i (life_of w n)) (with_item x n i (life_of x n)) × (asks w n i (life_of w n) ≡ asks x n i (life_of x n)) =
+        subst (λ (g : Option Going). AreAlike n (with_item w n i (life_of w n)) (with_item x n i g) × (asks w n i (life_of w n) ≡ asks x n i g)) l q in
+        subst (λ (j : List ℕ). AreAlike n (evaled w id j i) (evaled x id j i) × (bytes_eq m n ≡ true → evaling w j i ≡ evaling x j i)) s
+        (push_alike n (with_item w n i (life_of w n)) (with_item x n i (life_of x n)) (op.Clear id) r.0, λ t. r.1)
+    go false h k = (
+      push_alike n (with_item w m i (life_of w m)) (with_item x m i (life_of x m)) (op.Clear id)
+          (alike_on n (with_item w m i (life_of w m)) w (with_item x m i (life_of x m)) (alike_back n w (with_item w m i (life_of w m)) (item_other n m i (life_of w m) w (λ l t. first_has m w.lives l t) h))
+          (alike_on n w x (with_item x m i (life_of x m)) a (item_other n m i (life_of x m) x (λ l t. first_has m x.lives l t) h))),
+      λ t. cc,
+    )
+
+eval_adds : (id : ℕ) (m j : List ℕ) (i k : Item) (w x : World) → added w (evaled w id m i) ≡ added x (evaled x id j k)
+eval_adds id m j i k w x = ap (λ (os : List Op). drop (length w.ops) (os ++ op.Clear id ∷ [])) (item_ops m i (life_of w m) w) ∙ one_added w x (op.Clear id)
+    ∙ sym (ap (λ (os : List Op). drop (length x.ops) (os ++ op.Clear id ∷ [])) (item_ops j k (life_of x j) x))
+
+-- A Stop.
+
+without_none : (m : List ℕ) (ls : List Going) → first_named (λ l. l.name) m ls ≡ None → without_named (λ l. l.name) m ls ≡ ls
+without_none m [] h = refl
+without_none m (l ∷ ls) h = go (bytes_eq l.name m) h (without_none m ls)
+  where
+    go : (b : Bool) → (if b then Some l else first_named (λ l. l.name) m ls) ≡ None → (first_named (λ l. l.name) m ls ≡ None → without_named (λ l. l.name) m ls ≡ ls)
+        → (if b then ls else l ∷ without_named (λ l. l.name) m ls) ≡ l ∷ ls
+    go true h ih = cc
+    go false h ih = ap (λ (k : List Going). l ∷ k) (ih h)
+
+stopped : (n m : List ℕ) (w x : World) → AreAlike n w x → Same n w x (event.Command (command.Stop m)) (stops (life_of w m)) (stops (life_of x m)) (without_life m w) (without_life m x)
+stopped n m w x a = go (bytes_eq m n) refl
+  where
+    go : (b : Bool) → bytes_eq m n ≡ b → Same n w x (event.Command (command.Stop m)) (stops (life_of w m)) (stops (life_of x m)) (without_life m w) (without_life m x)
+    go true h =
+        let s : n ≡ m = sym (same_name m n h) in
+        subst (λ (j : List ℕ). Same n w x (event.Command (command.Stop j)) (stops (life_of w j)) (stops (life_of x j)) (without_life j w) (without_life j x)) s
+        (record { alike = record { ops = a.ops; lives = own_gone n w x a }; about = refl; says = λ t. ap stops (life_alike n w x a); adds = nothing_added w x w.ops x.ops refl refl })
+    go false h = record {
+      alike = record { ops = a.ops; lives = without_other n m w.lives h ∙ a.lives ∙ sym (without_other n m x.lives h) };
+      about = refl;
+      says = λ t. cc;
+      adds = nothing_added w x w.ops x.ops refl refl;
+    }
+
+accepted_same : (n : List ℕ) (w x : World) (c : Command) → AreAlike n w x → begins n w (event.Command c) ≡ begins n x (event.Command c)
+    → Same n w x (event.Command c) (outcome_of w c) (outcome_of x c) (after w c) (after x c)
+accepted_same n w x (command.Session name tab words) a e = with_one n w x (event.Command (command.Session name tab words)) (replies reply.Done) (replies reply.Done) (op.Session name tab words) a refl refl
+accepted_same n w x (command.New place session input) a e =
+    with_one n w x (event.Command (command.New place session input)) (replies (reply.Field (next_of w.ops))) (replies (reply.Field (next_of x.ops))) (op.New place session input) a refl
+    (ap (λ (j : ℕ). replies (reply.Field j)) (next_alike w.ops x.ops a.ops))
+accepted_same n w x (command.Set id input) a e = with_one n w x (event.Command (command.Set id input)) (replies reply.Done) (replies reply.Done) (op.Set id input) a refl refl
+accepted_same n w x (command.Remove id) a e = with_one n w x (event.Command (command.Remove id)) (replies reply.Done) (replies reply.Done) (op.Remove id) a refl refl
+accepted_same n w x (command.Move id place) a e = with_one n w x (event.Command (command.Move id place)) (replies reply.Done) (replies reply.Done) (op.Move id place) a refl refl
+accepted_same n w x (command.Clear id) a e = with_one n w x (event.Command (command.Clear id)) (replies reply.Done) (replies reply.Done) (op.Clear id) a refl refl
+accepted_same n w x (command.Stop m) a e = stopped n m w x a
+accepted_same n w x (command.Eval id) a e =
+    let s : session_of w id ≡ session_of x id = session_of_alike w x id a.ops in
+    let t : line_of w id ≡ line_of x id = ap (λ (text : List ℕ). item.Line id text) (input_of_alike w x id a.ops) in
+    let m : List ℕ = session_of w id in
+    let i : Item = line_of w id in
+    let k : number_if (bytes_eq m n) (life_of w n) (w.begun + 1) ≡ number_if (bytes_eq m n) (life_of x n) (x.begun + 1) = e ∙ ap (λ (j : List ℕ). number_if (bytes_eq j n) (life_of x n) (x.begun + 1)) (sym s) in
+    let g = evals n m id i w x a k in
+    let there : evaled x id m i ≡ evaled x id (session_of x id) (line_of x id) = ap (λ (j : List ℕ). evaled x id j i) s ∙ ap (λ (j : Item). evaled x id (session_of x id) j) t in
+    let told : evaling x m i ≡ evaling x (session_of x id) (line_of x id) = ap (λ (j : List ℕ). evaling x j i) s ∙ ap (λ (j : Item). evaling x (session_of x id) j) t in
+    record {
+      alike = subst (λ (z : World). AreAlike n (evaled w id m i) z) there g.0;
+      about = ap (λ (j : List ℕ). bytes_eq j n) s;
+      says = λ h. g.1 h ∙ told;
+      adds = eval_adds id m (session_of x id) i (line_of x id) w x;
+    }
+
+-- what isn't refused is accepted
+passed : (w : World) (c : Command) (o : Outcome) (v : World) → GivesByParts w (event.Command c) o v → is_refusal o.reply ≡ false → (o ≡ outcome_of w c) × (v ≡ after w c)
+passed w c o v g h = go (first_of (refusals w c)) g
+  where
+    never : (r : Refusal) → o ≡ refused r → (o ≡ outcome_of w c) × (v ≡ after w c)
+    never r e = let bad : true ≡ false = sym (ap (λ (q : Outcome). is_refusal q.reply) e) ∙ h in absurd (let f : true ≡ false = bad in cc)
+
+    go : (r : Option Refusal) → Commanded w c r o v → (o ≡ outcome_of w c) × (v ≡ after w c)
+    go (Some r) g = never r g.0
+    go None g = ⊎_elim (λ done. done) (λ spent. never refusal.OutOfMemory spent.1) g
+
+pub command_same : (n : List ℕ) (w x : World) (c : Command) (o p : Outcome) (v u : World) → AreAlike n w x → GivesByParts w (event.Command c) o v → GivesByParts x (event.Command c) p u
+    → is_refusal o.reply ≡ false → is_refusal p.reply ≡ false → begins n w (event.Command c) ≡ begins n x (event.Command c) → Same n w x (event.Command c) o p v u
+command_same n w x c o p v u a g h q r e =
+    let here = passed w c o v g q in
+    let there = passed x c p u h r in
+    let s = accepted_same n w x c a e in
+    record {
+      alike = record {
+        ops = ap (λ (z : World). commanded z.ops) here.1 ∙ s.alike.ops ∙ sym (ap (λ (z : World). commanded z.ops) there.1);
+        lives = ap (λ (z : World). named n z.lives) here.1 ∙ s.alike.lives ∙ sym (ap (λ (z : World). named n z.lives) there.1);
+      };
+      about = s.about;
+      says = λ t. here.0 ∙ s.says t ∙ sym there.0;
+      adds = ap (λ (z : World). added w z) here.1 ∙ s.adds ∙ sym (ap (λ (z : World). added x z) there.1);
+    }
+
+-- the numbers that both begin with
+pub begins_alike : (n : List ℕ) (w x : World) (e : Event) → AreAlike n w x → (is js : List ℕ) → begins n w e ++ is ≡ begins n x e ++ js → (begins n w e ≡ begins n x e) × (is ≡ js)
+begins_alike n w x (event.Command (command.Eval id)) a is js h =
+    let s : session_of w id ≡ session_of x id = session_of_alike w x id a.ops in
+    let k : number_if (bytes_eq (session_of w id) n) (life_of w n) (x.begun + 1) ≡ number_if (bytes_eq (session_of x id) n) (life_of x n) (x.begun + 1) =
+    ap (λ (m : List ℕ). number_if (bytes_eq m n) (life_of w n) (x.begun + 1)) s ∙ ap (λ (l : Option Going). number_if (bytes_eq (session_of x id) n) l (x.begun + 1)) (life_alike n w x a) in
+    let g = go (bytes_eq (session_of w id) n) (life_of w n) (h ∙ ap (λ (ks : List ℕ). ks ++ js) (sym k)) in
+    (g.0 ∙ k, g.1)
+  where
+    go : (b : Bool) (l : Option Going) → number_if b l (w.begun + 1) ++ is ≡ number_if b l (x.begun + 1) ++ js → (number_if b l (w.begun + 1) ≡ number_if b l (x.begun + 1)) × (is ≡ js)
+    go true None h = let k : w.begun + 1 ≡ x.begun + 1 = cc in (ap (λ (j : ℕ). j ∷ []) k, cc)
+    go true (Some l) h = (refl, h)
+    go false l h = (refl, h)
+begins_alike n w x (event.Command (command.Session name tab words)) a is js h = (refl, h)
+begins_alike n w x (event.Command (command.New place session input)) a is js h = (refl, h)
+begins_alike n w x (event.Command (command.Set id input)) a is js h = (refl, h)
+begins_alike n w x (event.Command (command.Remove id)) a is js h = (refl, h)
+begins_alike n w x (event.Command (command.Move id place)) a is js h = (refl, h)
+begins_alike n w x (event.Command (command.Clear id)) a is js h = (refl, h)
+begins_alike n w x (event.Command (command.Stop name)) a is js h = (refl, h)
+begins_alike n w x (event.Child name number c) a is js h = (refl, h)

@@ -1,0 +1,121 @@
+-- What a worksheet has whatever answers it has.
+use Rattle.std.proofs.Common.{◌≡◌, ◌+◌, ℕ, List, [], ◌∷◌, ◌++◌, length, drop, map, refl, ap, sym, ◌∙◌, Bool, true, false, Option, Some, None}
+use Rattle.std.specs.Prelude.{if◌then◌else◌, ◌==◌, filter, cond}
+use Rattle.std.specs.List.{find, last_or}
+use Rattle.block_tree.specs.Tree.{Tree}
+use Rattle.worksheet.specs.declared.op.Op.{Op}
+use Rattle.worksheet.specs.declared.op.Op.TheVariants as op
+use Rattle.worksheet.specs.declared.field.Field.{Field}
+use Rattle.worksheet.specs.declared.field.Session.{Session}
+use Rattle.worksheet.specs.Ops.{sheet_of, next_from, next_of, order_from, order_of, sessions_of, about_from, about, is_about, last_of, gives_session, gives_input, session_in, input_in, field_of, placed, without}
+use Rattle.session_engine.specs.World.{World, by_field, session_of, input_of, sheet_in}
+use Rattle.session_engine.specs.Apart.{is_commanded, commanded}
+
+pub commanded-push : (os : List Op) (o : Op) → commanded (os ++ o ∷ []) ≡ commanded os ++ (if is_commanded o then o ∷ [] else [])
+commanded-push [] o = refl
+commanded-push (p ∷ os) o = go (is_commanded p) (commanded-push os o)
+  where
+    go : (b : Bool) → commanded (os ++ o ∷ []) ≡ commanded os ++ (if is_commanded o then o ∷ [] else [])
+        → (if b then p ∷ commanded (os ++ o ∷ []) else commanded (os ++ o ∷ [])) ≡ (if b then p ∷ commanded os else commanded os) ++ (if is_commanded o then o ∷ [] else [])
+    go true ih = ap (λ (xs : List Op). p ∷ xs) ih
+    go false ih = ih
+
+next_is : (next : ℕ) (os : List Op) → next_from next os ≡ next_from next (commanded os)
+next_is next [] = refl
+next_is next (op.Session name tab words ∷ os) = next_is next os
+next_is next (op.New after session input ∷ os) = next_is (next + 1) os
+next_is next (op.Set id input ∷ os) = next_is next os
+next_is next (op.Remove id ∷ os) = next_is next os
+next_is next (op.Move id after ∷ os) = next_is next os
+next_is next (op.Clear id ∷ os) = next_is next os
+next_is next (op.Answer id prompt output ∷ os) = next_is next os
+
+order_is : (next : ℕ) (ids : List ℕ) (os : List Op) → order_from next ids os ≡ order_from next ids (commanded os)
+order_is next ids [] = refl
+order_is next ids (op.Session name tab words ∷ os) = order_is next ids os
+order_is next ids (op.New after session input ∷ os) = order_is (next + 1) (placed after next ids) os
+order_is next ids (op.Set id input ∷ os) = order_is next ids os
+order_is next ids (op.Remove id ∷ os) = order_is next (without id ids) os
+order_is next ids (op.Move id after ∷ os) = order_is next (placed after id (without id ids)) os
+order_is next ids (op.Clear id ∷ os) = order_is next ids os
+order_is next ids (op.Answer id prompt output ∷ os) = order_is next ids os
+
+sessions_are : (os : List Op) → sessions_of os ≡ sessions_of (commanded os)
+sessions_are [] = refl
+sessions_are (op.Session name tab words ∷ os) = ap (λ (ss : List Session). record { name = name; tab = tab; words = words } ∷ ss) (sessions_are os)
+sessions_are (op.New after session input ∷ os) = sessions_are os
+sessions_are (op.Set id input ∷ os) = sessions_are os
+sessions_are (op.Remove id ∷ os) = sessions_are os
+sessions_are (op.Move id after ∷ os) = sessions_are os
+sessions_are (op.Clear id ∷ os) = sessions_are os
+sessions_are (op.Answer id prompt output ∷ os) = sessions_are os
+
+module _ (test : Op → Bool) (never : (id : ℕ) (prompt : List ℕ) (output : Tree) → test (op.Answer id prompt output) ≡ false) where
+  with_it : (b : Bool) (o : Op) (xs ys : List Op) → filter test xs ≡ filter test ys → filter test (if b then o ∷ xs else xs) ≡ filter test (if b then o ∷ ys else ys)
+  with_it true o xs ys h = go (test o)
+    where
+      go : (c : Bool) → cond c (o ∷ filter test xs) (filter test xs) ≡ cond c (o ∷ filter test ys) (filter test ys)
+      go true = ap (λ (zs : List Op). o ∷ zs) h
+      go false = h
+  with_it false o xs ys h = h
+
+  past_it : (b : Bool) (o : Op) (xs : List Op) → test o ≡ false → filter test (if b then o ∷ xs else xs) ≡ filter test xs
+  past_it true o xs h = rw h refl
+  past_it false o xs h = refl
+
+  pub filtered : (id next : ℕ) (os : List Op) → filter test (about_from id next os) ≡ filter test (about_from id next (commanded os))
+  filtered id next [] = refl
+  filtered id next (op.Session name tab words ∷ os) = filtered id next os
+  filtered id next (op.New after session input ∷ os) = with_it (next == id) (op.New after session input) (about_from id (next + 1) os) (about_from id (next + 1) (commanded os)) (filtered id (next + 1) os)
+  filtered id next (op.Set j input ∷ os) = with_it (j == id) (op.Set j input) (about_from id next os) (about_from id next (commanded os)) (filtered id next os)
+  filtered id next (op.Remove j ∷ os) = with_it (j == id) (op.Remove j) (about_from id next os) (about_from id next (commanded os)) (filtered id next os)
+  filtered id next (op.Move j after ∷ os) = with_it (j == id) (op.Move j after) (about_from id next os) (about_from id next (commanded os)) (filtered id next os)
+  filtered id next (op.Clear j ∷ os) = with_it (j == id) (op.Clear j) (about_from id next os) (about_from id next (commanded os)) (filtered id next os)
+  filtered id next (op.Answer j prompt output ∷ os) = past_it (j == id) (op.Answer j prompt output) (about_from id next os) (never j prompt output) ∙ filtered id next os
+
+  pub last_alike : (id : ℕ) (os us : List Op) → commanded os ≡ commanded us → last_of test (about id os) ≡ last_of test (about id us)
+  last_alike id os us h = ap (λ (xs : List Op). last_or None xs) (filtered id 1 os ∙ ap (λ (xs : List Op). filter test (about_from id 1 xs)) h ∙ sym (filtered id 1 us))
+
+pub session_alike : (os us : List Op) (id : ℕ) → commanded os ≡ commanded us → (field_of os id).session ≡ (field_of us id).session
+session_alike os us id h = ap session_in (last_alike gives_session (λ j p b. refl) id os us h)
+
+pub input_alike : (os us : List Op) (id : ℕ) → commanded os ≡ commanded us → (field_of os id).input ≡ (field_of us id).input
+input_alike os us id h = ap input_in (last_alike gives_input (λ j p b. refl) id os us h)
+
+found_alike : (g : Field → List ℕ) (os us : List Op) (id : ℕ) (ids : List ℕ) → ((j : ℕ) → g (field_of os j) ≡ g (field_of us j))
+    → by_field (find (λ f. f.id == id) (map (field_of os) ids)) [] g ≡ by_field (find (λ f. f.id == id) (map (field_of us) ids)) [] g
+found_alike g os us id [] h = refl
+found_alike g os us id (j ∷ ids) h = go (j == id) (found_alike g os us id ids h)
+  where
+    go : (b : Bool) → by_field (find (λ f. f.id == id) (map (field_of os) ids)) [] g ≡ by_field (find (λ f. f.id == id) (map (field_of us) ids)) [] g
+        → by_field (cond b (Some (field_of os j)) (find (λ f. f.id == id) (map (field_of os) ids))) [] g ≡ by_field (cond b (Some (field_of us j)) (find (λ f. f.id == id) (map (field_of us) ids))) [] g
+    go true ih = h j
+    go false ih = ih
+
+pub order_alike : (os us : List Op) → commanded os ≡ commanded us → order_of os ≡ order_of us
+order_alike os us h = order_is 1 [] os ∙ ap (λ (xs : List Op). order_from 1 [] xs) h ∙ sym (order_is 1 [] us)
+
+pub next_alike : (os us : List Op) → commanded os ≡ commanded us → next_of os ≡ next_of us
+next_alike os us h = next_is 1 os ∙ ap (λ (xs : List Op). next_from 1 xs) h ∙ sym (next_is 1 us)
+
+pub sessions_alike : (os us : List Op) → commanded os ≡ commanded us → sessions_of os ≡ sessions_of us
+sessions_alike os us h = sessions_are os ∙ ap sessions_of h ∙ sym (sessions_are us)
+
+pub session_of_alike : (w x : World) (id : ℕ) → commanded w.ops ≡ commanded x.ops → session_of w id ≡ session_of x id
+session_of_alike w x id h =
+    ap (λ (ids : List ℕ). by_field (find (λ (f : Field). f.id == id) (map (field_of w.ops) ids)) [] (λ f. f.session)) (order_alike w.ops x.ops h)
+    ∙ found_alike (λ f. f.session) w.ops x.ops id (order_of x.ops) (λ j. session_alike w.ops x.ops j h)
+
+pub input_of_alike : (w x : World) (id : ℕ) → commanded w.ops ≡ commanded x.ops → input_of w id ≡ input_of x id
+input_of_alike w x id h =
+    ap (λ (ids : List ℕ). by_field (find (λ (f : Field). f.id == id) (map (field_of w.ops) ids)) [] (λ f. f.input)) (order_alike w.ops x.ops h)
+    ∙ found_alike (λ f. f.input) w.ops x.ops id (order_of x.ops) (λ j. input_alike w.ops x.ops j h)
+
+-- what is behind a list
+pub drop_length : (os us : List Op) → drop (length os) (os ++ us) ≡ us
+drop_length [] us = refl
+drop_length (o ∷ os) us = drop_length os us
+
+pub drop_itself : (os : List Op) → drop (length os) os ≡ []
+drop_itself [] = refl
+drop_itself (o ∷ os) = drop_itself os

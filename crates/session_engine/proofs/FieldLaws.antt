@@ -1,0 +1,167 @@
+-- A field, with one op more.
+use Rattle.std.proofs.Common.{◌≡◌, ◌⊎◌, inl, inr, ◌<◌, ◌+◌, ℕ, List, [], ◌∷◌, ◌++◌, refl, ap, sym, ◌∙◌, subst, arith, append-nil, ⊎_elim, Bool, true, false, Option, Some, None}
+use Rattle.std.specs.Prelude.{if◌then◌else◌, ◌==◌, is_some}
+use Rattle.std.proofs.lemmas.Bool.Decides.{nat_tests}
+use Rattle.block_tree.specs.Tree.{Tree}
+use Rattle.worksheet.specs.declared.op.Op.{Op}
+use Rattle.worksheet.specs.declared.op.Op.TheVariants as op
+use Rattle.worksheet.specs.declared.field.Field.{Field}
+use Rattle.worksheet.specs.declared.field.Answer.{Answer}
+use Rattle.worksheet.specs.Ops.{sheet_of, exists, about, next_of, is_about, last_of, makes_or_ends, is_making, field_of}
+use Rattle.worksheet.specs.Checks.{Allowed, has_field, field_in, first_refusal, numbers}
+use Rattle.worksheet.specs.Edits.{AllBelow}
+use Rattle.worksheet.proofs.OneMore.{about_from-push, last_of-push, field_of-push, changed}
+use Rattle.worksheet.proofs.Existence.{has_what_exists, allowed_goes_on}
+use Rattle.worksheet.proofs.NextLaws.{sound_of}
+use Rattle.session_engine.specs.inside.Commits.{Spares}
+use Rattle.session_engine.proofs.Fields.{has_still}
+
+-- a field that there is
+pub record Is (os : List Op) (id : ℕ) (f : Field) : Type 0 where
+  pub there : exists os id ≡ true
+  pub is : field_of os id ≡ f
+
+pub is_there : (os : List Op) (id : ℕ) (f : Field) → Allowed os → field_in (sheet_of os).fields id ≡ Some f → Is os id f
+is_there os id f allowed h = go (exists os id) refl (sym (has_what_exists os allowed id) ∙ h)
+  where
+    go : (b : Bool) → exists os id ≡ b → (if b then Some (field_of os id) else None) ≡ Some f → Is os id f
+    go true e h = record { there = e; is = cc }
+    go false e h = cc
+
+pub found : (os : List Op) (id : ℕ) (f : Field) → Allowed os → Is os id f → field_in (sheet_of os).fields id ≡ Some f
+found os id f allowed h = has_what_exists os allowed id ∙ ap (λ (b : Bool). if b then Some (field_of os id) else None) h.there ∙ ap (λ (g : Field). Some g) h.is
+
+below : (fs : List Field) (n id : ℕ) (f : Field) → AllBelow n (numbers fs) → field_in fs id ≡ Some f → id < n
+below [] n id f all h = cc
+below (g ∷ fs) n id f all h = go (g.id == id) refl h (below fs n id f all.1)
+  where
+    go : (b : Bool) → (g.id == id) ≡ b → (if b then Some g else field_in fs id) ≡ Some f → (field_in fs id ≡ Some f → id < n) → id < n
+    go true e h rest = let is : g.id ≡ id = grind (arith, nat_tests, e) in omega (arith, is, all.0)
+    go false e h rest = rest h
+
+-- the number of a field isn't the next one
+not_next : (os : List Op) (id : ℕ) (f : Field) → Allowed os → field_in (sheet_of os).fields id ≡ Some f → (next_of os == id) ≡ false
+not_next os id f allowed h = let lt = below (sheet_of os).fields (next_of os) id f (sound_of os allowed).below h in grind (arith, nat_tests, lt)
+
+-- an op that takes no field away and gives it no input, or another one
+abbrev pub KeepsInput : ℕ → Op → Type 0
+KeepsInput id (op.Session name tab words) = Unit {0}
+KeepsInput id (op.New after session input) = Unit {0}
+KeepsInput id (op.Set other input) = (other == id) ≡ false
+KeepsInput id (op.Remove other) = (other == id) ≡ false
+KeepsInput id (op.Move other after) = Unit {0}
+KeepsInput id (op.Clear other) = Unit {0}
+KeepsInput id (op.Answer other prompt output) = Unit {0}
+
+spares : (id : ℕ) (o : Op) → KeepsInput id o → Spares id o
+spares id (op.Session name tab words) h = tt
+spares id (op.New after session input) h = tt
+spares id (op.Set other input) h = tt
+spares id (op.Remove other) h = h
+spares id (op.Move other after) h = tt
+spares id (op.Clear other) h = tt
+spares id (op.Answer other prompt output) h = tt
+
+same_input : (id next : ℕ) (o : Op) (f : Field) → KeepsInput id o → (next == id) ≡ false → is_about id next o ≡ true → (changed o f).input ≡ f.input
+same_input id next (op.Session name tab words) f h n a = refl
+same_input id next (op.New after session input) f h n a = absurd (let no : true ≡ false = sym a ∙ n in cc)
+same_input id next (op.Set other input) f h n a = absurd (let no : true ≡ false = sym a ∙ h in cc)
+same_input id next (op.Remove other) f h n a = refl
+same_input id next (op.Move other after) f h n a = refl
+same_input id next (op.Clear other) f h n a = refl
+same_input id next (op.Answer other prompt output) f h n a = refl
+
+input_still : (os : List Op) (o : Op) (id : ℕ) → KeepsInput id o → (next_of os == id) ≡ false → (field_of (os ++ o ∷ []) id).input ≡ (field_of os id).input
+input_still os o id h n = ap (λ (f : Field). f.input) (field_of-push os o id) ∙ go (is_about id (next_of os) o) refl
+  where
+    go : (b : Bool) → is_about id (next_of os) o ≡ b → (if b then changed o (field_of os id) else field_of os id).input ≡ (field_of os id).input
+    go true e = same_input id (next_of os) o (field_of os id) h n e
+    go false e = refl
+
+-- a field of this number, with this input
+pub record HasInput (os : List Op) (id : ℕ) (text : List ℕ) : Type 0 where
+  pub field : Field
+  pub found : field_in (sheet_of os).fields id ≡ Some field
+  pub input : field.input ≡ text
+
+pub input_stays : (os : List Op) (o : Op) (id : ℕ) (text : List ℕ) → Allowed os → first_refusal (sheet_of os) o ≡ None → KeepsInput id o → HasInput os id text → HasInput (os ++ o ∷ []) id text
+input_stays os o id text allowed next keeps h = go (field_in (sheet_of (os ++ o ∷ [])).fields id) refl
+  where
+    has : has_field (sheet_of (os ++ o ∷ [])) id ≡ true
+    has = has_still os o id allowed next (spares id o keeps) (ap (λ (f : Option Field). is_some f) h.found)
+
+    go : (f : Option Field) → field_in (sheet_of (os ++ o ∷ [])).fields id ≡ f → HasInput (os ++ o ∷ []) id text
+    go None e = absurd (let no : false ≡ true = sym (ap (λ (f : Option Field). is_some f) e) ∙ has in cc)
+    go (Some g) e =
+        let was = is_there os id h.field allowed h.found in
+        let now = is_there (os ++ o ∷ []) id g (allowed_goes_on os o allowed next) e in
+        record {
+          field = g;
+          found = e;
+          input = ap (λ (f : Field). f.input) (sym now.is) ∙ input_still os o id keeps (not_next os id h.field allowed h.found) ∙ ap (λ (f : Field). f.input) was.is ∙ h.input;
+        }
+
+-- The op answers the field, which is as before but for its answer.
+pub record AnsweredBy (os : List Op) (o : Op) (g : Field) : Type 0 where
+  pub prompt : List ℕ
+  pub output : Tree
+  pub is : o ≡ op.Answer g.id prompt output
+  pub before : Field
+  pub found : field_in (sheet_of os).fields g.id ≡ Some before
+  pub now : g ≡ record before { answer = Some (record { prompt = prompt; output = output }) }
+
+-- what an op may have done to a field that has an answer
+abbrev pub ByOp : List Op → Op → Field → Type 0
+ByOp os o g = (field_in (sheet_of os).fields g.id ≡ Some g) ⊎ AnsweredBy os o g
+
+exists-push : (os : List Op) (o : Op) (id : ℕ)
+    → exists (os ++ o ∷ []) id ≡ (if is_about id (next_of os) o then (if makes_or_ends o then is_making (Some o) else exists os id) else exists os id)
+exists-push os o id = ap (λ (qs : List Op). is_making (last_of makes_or_ends qs)) (about_from-push id 1 os o) ∙ go (is_about id (next_of os) o)
+  where
+    last : (b : Bool) → is_making (if b then Some o else last_of makes_or_ends (about id os)) ≡ (if b then is_making (Some o) else exists os id)
+    last true = refl
+    last false = refl
+
+    go : (b : Bool) → is_making (last_of makes_or_ends (about id os ++ (if b then o ∷ [] else []))) ≡ (if b then (if makes_or_ends o then is_making (Some o) else exists os id) else exists os id)
+    go true = ap is_making (last_of-push makes_or_ends (about id os) o) ∙ last (makes_or_ends o)
+    go false = ap (λ (qs : List Op). is_making (last_of makes_or_ends qs)) (append-nil (about id os))
+
+module _ (os : List Op) (g : Field) (answer : Answer) (allowed : Allowed os) (shown : g.answer ≡ Some answer) where
+  here : exists os g.id ≡ true → field_of os g.id ≡ g → (o : Op) → ByOp os o g
+  here e is o = inl (found os g.id g allowed (record { there = e; is = is }))
+
+  unanswered : (f : Field) → f.answer ≡ None → f ≡ g → ⊥
+  unanswered f none is = let no : None ≡ Some answer = sym none ∙ ap (λ (h : Field). h.answer) is ∙ shown in cc
+
+  by_cases : (o : Op) (b : Bool) → is_about g.id (next_of os) o ≡ b → (if b then (if makes_or_ends o then is_making (Some o) else exists os g.id) else exists os g.id) ≡ true
+      → (if b then changed o (field_of os g.id) else field_of os g.id) ≡ g → ByOp os o g
+  by_cases o false a e is = here e is o
+  by_cases (op.Session name tab words) true a e is = here e is (op.Session name tab words)
+  by_cases (op.New after session input) true a e is = absurd (unanswered (changed (op.New after session input) (field_of os g.id)) refl is)
+  by_cases (op.Set other input) true a e is = absurd (unanswered (changed (op.Set other input) (field_of os g.id)) refl is)
+  by_cases (op.Remove other) true a e is = absurd (let no : false ≡ true = e in cc)
+  by_cases (op.Move other after) true a e is = here e is (op.Move other after)
+  by_cases (op.Clear other) true a e is = absurd (unanswered (changed (op.Clear other) (field_of os g.id)) refl is)
+  by_cases (op.Answer other prompt output) true a e is =
+      let same : other ≡ g.id = grind (arith, nat_tests, a) in
+      inr (record {
+        prompt = prompt;
+        output = output;
+        is = ap (λ (n : ℕ). op.Answer n prompt output) same;
+        before = field_of os g.id;
+        found = found os g.id (field_of os g.id) allowed (record { there = e; is = refl });
+        now = sym is;
+      })
+
+  -- a field that shows an answer showed it before the op, or the op answers it
+  pub by_op : (o : Op) → first_refusal (sheet_of os) o ≡ None → field_in (sheet_of (os ++ o ∷ [])).fields g.id ≡ Some g → ByOp os o g
+  by_op o next h =
+      let now = is_there (os ++ o ∷ []) g.id g (allowed_goes_on os o allowed next) h in
+      by_cases o (is_about g.id (next_of os) o) refl (sym (exists-push os o g.id) ∙ now.there) (sym (field_of-push os o g.id) ∙ now.is)
+
+-- a field that was cleared
+pub cleared : (os : List Op) (id : ℕ) (f : Field) → Allowed (os ++ op.Clear id ∷ []) → field_in (sheet_of (os ++ op.Clear id ∷ [])).fields id ≡ Some f → f.answer ≡ None
+cleared os id f allowed h =
+    let now = is_there (os ++ op.Clear id ∷ []) id f allowed h in
+    let here : (id == id) ≡ true = grind (arith, nat_tests) in
+    ap (λ (g : Field). g.answer) (sym now.is ∙ field_of-push os (op.Clear id) id) ∙ ap (λ (b : Bool). (if b then changed (op.Clear id) (field_of os id) else field_of os id).answer) here

@@ -1,0 +1,125 @@
+-- Hosts one after another.
+use Rattle.std.proofs.Common.{◌≡◌, ◌⊎◌, inl, inr, ⊎_elim, ℕ, List, [], ◌∷◌, ◌++◌, refl, ap, sym, ◌∙◌, subst, Option, Some, None}
+use Rattle.disk_model.specs.Disk.{Image}
+use Rattle.worksheet.specs.declared.op.Op.{Op}
+use Rattle.worksheet.specs.declared.op.Op.TheVariants as op
+use Rattle.worksheet.specs.declared.field.Field.{Field}
+use Rattle.worksheet.specs.declared.field.Answer.{Answer}
+use Rattle.worksheet.specs.Contents.{Contents}
+use Rattle.worksheet.specs.Ops.{sheet_of}
+use Rattle.worksheet.specs.Checks.{Allowed, field_in}
+use Rattle.recovery.specs.Sheets.{IsSheetImage}
+use Rattle.recovery.proofs.Images.{one_sheet}
+use Rattle.session_engine.specs.declared.command.Command.TheVariants as command
+use Rattle.session_engine.specs.declared.event.Event.{Event}
+use Rattle.session_engine.specs.declared.event.Event.TheVariants as event
+use Rattle.session_engine.specs.declared.outcome.Outcome.{Outcome}
+use Rattle.session_engine.specs.World.{World, opened, sheet_in}
+use Rattle.session_engine.specs.Does.{Runs}
+use Rattle.session_engine.specs.Turns.{Has, Closes, Stays, Answered, Turn, Turned, EachTurned, WentOn, StaysThrough, AnsweredByOne, LivesInTurn, EvaluatedAnew}
+use Rattle.session_engine.proofs.FieldLaws.{cleared}
+use Rattle.session_engine.proofs.Living.{Sound}
+use Rattle.session_engine.proofs.Showing.{stepped}
+use Rattle.session_engine.proofs.Same.{by_ops, runs}
+
+has_first : (f : Field) (w : World) (es : List Event) (os : List Outcome) (v : World) → Stays f w es os v → Has (sheet_in w) f
+has_first f w [] [] v h = h.1
+has_first f w [] (o ∷ os) v h = absurd h
+has_first f w (e ∷ es) [] v h = absurd h
+has_first f w (e ∷ es) (o ∷ os) v h = h.0
+
+-- what a field shows in the end
+shown : (w : World) (es : List Event) (os : List Outcome) (v : World) → Sound w → Runs w es os v → (f : Field) (a : Answer) → f.answer ≡ Some a → Has (sheet_in v) f → Stays f w es os v ⊎ Answered f w es os v
+shown w [] [] v h run f a some has = inl (run, subst (λ (u : World). Has (sheet_in u) f) run has)
+shown w [] (o ∷ os) v h run f a some has = absurd run
+shown w (e ∷ es) [] v h run f a some has = absurd run
+shown w (e ∷ es) (o ∷ os) v h run f a some has =
+    let s = stepped w e o run.0 h run.1 in
+    ⊎_elim
+      (λ stays. ⊎_elim
+          (λ before. inl (before, (run.0, run.1, stays)))
+          (λ closes. inr (run.0, run.1, inl (closes, stays)))
+          (s.shown f a some (has_first f run.0 es os v stays)))
+      (λ later. inr (run.0, run.1, inr later))
+      (shown run.0 es os v s.sound run.2 f a some has)
+
+pub sound : (ops : List Op) (room end : ℕ) → Allowed ops → Sound (opened ops room end)
+sound ops room end allowed = record { allowed = allowed; lives = tt }
+
+-- what the law says of these turns
+record Went (room : ℕ) (first : List Op) (before : Image) (turns : List Turn) (after : Image) : Type 0 where
+  kept : List Op
+  went : WentOn room before first turns after kept
+  image : IsSheetImage (sheet_of kept) after
+  fields : (f : Field) (a : Answer) → Has (sheet_of kept) f → f.answer ≡ Some a → StaysThrough f room before first turns after kept went ⊎ AnsweredByOne f room before first turns after kept went
+
+has_through : (f : Field) (room : ℕ) (before : Image) (found : List Op) (turns : List Turn) (after : Image) (kept : List Op) (went : WentOn room before found turns after kept)
+    → StaysThrough f room before found turns after kept went → Has (sheet_of found) f
+has_through f room before found [] after kept went h = h
+has_through f room before found (turn ∷ turns) after kept went h = has_first f (opened found room went.2.end) went.2.taken (turn.told ++ went.2.untold) went.2.leads h.0
+
+go_on : (room : ℕ) (first : List Op) (before : Image) (turns : List Turn) (after : Image) → Allowed first → IsSheetImage (sheet_of first) before → EachTurned room before turns after → Went room first before turns after
+go_on room first before [] after allowed image each = record {
+  kept = first;
+  went = (each, refl);
+  image = subst (λ (i : Image). IsSheetImage (sheet_of first) i) (sym each) image;
+  fields = λ f a has some. inl has;
+}
+go_on room first before (turn ∷ turns) after allowed image each =
+    let mid = each.0 in
+    let found = each.1.0 in
+    let t = each.1.2 in
+    let same : sheet_of found ≡ sheet_of first = one_sheet (sheet_of found) (sheet_of first) before t.opens image in
+    let outcomes = turn.told ++ t.untold in
+    let r = runs (opened found room t.end) first t.taken outcomes t.leads (sound found room t.end t.allowed) allowed same t.run in
+    let leaves : IsSheetImage (sheet_of r.ops) mid = subst (λ (s : Contents). IsSheetImage s mid) (ap sheet_of t.ops ∙ r.same) t.leaves in
+    let now : Turned room before first turn mid r.ops = record {
+      allowed = allowed;
+      opens = image;
+      end = t.end;
+      ends = t.ends;
+      taken = t.taken;
+      lost = t.lost;
+      split = t.split;
+      untold = t.untold;
+      leads = by_ops r.ops t.leads;
+      run = r.run;
+      ops = refl;
+      leaves = leaves;
+    } in
+    let more = go_on room r.ops mid turns after r.allowed leaves each.2 in
+    record {
+      kept = more.kept;
+      went = (mid, r.ops, now, more.went);
+      image = more.image;
+      fields = λ f a has some. ⊎_elim
+          (λ through. ⊎_elim
+              (λ stays. inl (stays, through))
+              (λ answered. inr (inl (answered, through)))
+              (shown (opened first room t.end) t.taken outcomes (by_ops r.ops t.leads) (sound first room t.end allowed) r.run f a some (has_through f room mid r.ops turns after more.kept more.went through)))
+          (λ later. inr (inr later))
+          (more.fields f a has some);
+    }
+
+pub lives_in_turn : LivesInTurn
+lives_in_turn room first before after turns allowed image each = let g = go_on room first before turns after allowed image each in (g.kept, g.went, g.image, g.fields)
+
+sounds : (w : World) (es : List Event) (os : List Outcome) (v : World) → Sound w → Runs w es os v → Sound v
+sounds w [] [] v h run = subst Sound (sym run) h
+sounds w [] (o ∷ os) v h run = absurd run
+sounds w (e ∷ es) [] v h run = absurd run
+sounds w (e ∷ es) (o ∷ os) v h run = sounds run.0 es os v (stepped w e o run.0 h run.1).sound run.2
+
+pub evaluated_anew : EvaluatedAnew
+evaluated_anew found room end es os w allowed run id o mid given clears later told v more f a number has some =
+    let before = sounds (opened found room end) es os w (sound found room end allowed) run in
+    let after = (stepped w (event.Command (command.Eval id)) o mid before given).sound in
+    ⊎_elim
+      (λ stays.
+          let here : field_in (sheet_of (w.ops ++ op.Clear id ∷ [])).fields id ≡ Some f =
+              ap (λ (n : ℕ). field_in (sheet_of (w.ops ++ op.Clear id ∷ [])).fields n) (sym number)
+              ∙ subst (λ (ops : List Op). Has (sheet_of ops) f) clears (has_first f mid later told v stays) in
+          let none = cleared w.ops id f (subst Allowed clears after.allowed) here in
+          absurd (let no : None ≡ Some a = sym none ∙ some in cc))
+      (λ answered. answered)
+      (shown mid later told v after more f a some has)

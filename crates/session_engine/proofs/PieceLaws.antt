@@ -1,0 +1,159 @@
+-- What a piece gives, against the definitions.
+use Rattle.std.proofs.Common.{◌≡◌, ◌⊎◌, inl, inr, ⊎_elim, ◌+◌, ℕ, List, [], ◌∷◌, ◌++◌, length, refl, ap, sym, ◌∙◌, subst, arith, Bool, true, false, Option, Some, None}
+use Rattle.std.specs.Prelude.{if◌then◌else◌, ◌==◌, is_some, option_map}
+use Rattle.std.specs.Bool.{IsTrue}
+use Rattle.std.specs.Str.{bytes_eq}
+use Rattle.std.proofs.lemmas.Slice.Eq.{bytes_eq-Decides}
+use Rattle.std.proofs.lemmas.Bool.Decides.{nat_tests}
+use Rattle.disk_model.specs.Disk.{DiskView, Image, SameDisk, LeavesOnly, InModel}
+use Rattle.disk_model.specs.inside.Moments.{weakens}
+use Rattle.worksheet.specs.declared.op.Op.{Op}
+use Rattle.worksheet.specs.Ops.{sheet_of}
+use Rattle.meta_format.specs.Faults.{Kind}
+use Rattle.recovery.specs.Sheets.{StoreView, SameStore, IsSheetImage}
+use Rattle.plugin_core.specs.declared.step.Step.{Step}
+use Rattle.plugin_core.specs.declared.step.Ended.{Ended}
+use Rattle.plugin_core.specs.declared.step.Answered.{Answered}
+use Rattle.plugin_core.specs.declared.step.Answered.TheVariants as answered
+use Rattle.plugin_core.specs.Past.{received}
+use Rattle.plugin_core.specs.Steps.{step_of, ended_by}
+use Rattle.plugin_core.specs.Steps.{closed_by as closed_in}
+use Rattle.plugin_core.specs.Kept.{InterpreterView, Takes, GoesOn}
+use Rattle.plugin_core.specs.Laws.{ShortPrompts}
+use Rattle.session_engine.specs.declared.table.Running.{Running}
+use Rattle.session_engine.specs.declared.outcome.Outcome.{Outcome}
+use Rattle.session_engine.specs.declared.outcome.HostFault.{HostFault}
+use Rattle.session_engine.specs.declared.outcome.HostFault.TheVariants as faults
+use Rattle.session_engine.specs.declared.event.Event.TheVariants as event
+use Rattle.session_engine.specs.Does.{Does, MayDo, ChildDoes, behind, lives_behind, steps}
+use Rattle.session_engine.specs.Host.{OnDisk}
+use Rattle.session_engine.specs.Faults.{CauseOf, MayGive, is_piece}
+use Rattle.session_engine.specs.declared.event.ChildEvent.TheVariants as child
+use Rattle.session_engine.specs.Named.{without_named, replace_named}
+use Rattle.session_engine.specs.Host.{name_of, life_in}
+use Rattle.session_engine.specs.inside.Tables.{with_life as running_with}
+use Rattle.session_engine.specs.World.{World, Going, life_of, with_number, with_op_if, sheet_in, fits, fits_in}
+use Rattle.session_engine.specs.Does.{with_piece, op_by, closed_by, told_with, told_of}
+use Rattle.session_engine.specs.inside.Parts.{goes_on}
+use Rattle.session_engine.specs.Host.{RunsAs, Lives, HasField, HaveFields, StandsFor}
+use Rattle.session_engine.specs.inside.Commits.{AllowedIf, CommittedIf, IsEitherIf, NotKept}
+use Rattle.session_engine.proofs.Tables.{Found, found, without_replaced}
+use Rattle.session_engine.proofs.Fields.{waiting_still, allowed_step, spared}
+use Rattle.session_engine.proofs.Standing.{all_at, put, gone, committed, fit_in}
+
+-- the op of an answer goes behind the ops, whatever becomes of the life
+ops_of : (l : Going) (e : Option Ended) (w : World) → (goes_on l e w).ops ≡ w.ops
+ops_of l None w = refl
+ops_of l (Some e) w = refl
+
+pub ops_with : (o : Op) (a : Option Op) (l : Going) (e : Option Ended) (w : World) → a ≡ Some o → (with_op_if a (goes_on l e w)).ops ≡ w.ops ++ o ∷ []
+ops_with o a l e w is = ap (λ (x : Option Op). (with_op_if x (goes_on l e w)).ops) is ∙ ap (λ (os : List Op). os ++ o ∷ []) (ops_of l e w)
+
+module _ (store : StoreView) (rs : List Running) (begun : ℕ) (w : World) (name : List ℕ) (number : ℕ) (piece : List ℕ) (r : Running) (life : InterpreterView) (step : Step)
+    (h : StandsFor store rs begun w) (f : Found rs w.lives name r) (numbered : r.life.number ≡ number) (same : life.number ≡ r.life.number)
+    (takes : Takes f.life.past f.life.blocks piece step life) where
+  abbrev pub lead : World
+  lead = with_op_if (op_by step.answered) (goes_on (with_piece f.life piece takes.after) step.ended w)
+
+  abbrev pub outcome : Outcome
+  outcome = told_with name number (closed_by step.answered) step.default_input step.send step.ended
+
+  there : with_number number (life_of w name) ≡ Some f.life
+  there =
+      let k : f.life.number ≡ number = sym f.runs.number ∙ numbered in
+      let n : (f.life.number == number) ≡ true = grind (arith, nat_tests, k) in
+      rw (f.is, n) refl
+
+  abbrev pub did : Does
+  did = steps w f.life piece takes.after step
+
+  pub may : MayDo w (event.Child name number (child.Piece piece)) did
+  may = subst (λ (x : Option Going). ChildDoes w x (child.Piece piece) did) (sym there) (takes.after, takes.fault, takes.reads, ap (λ (s : Step). steps w f.life piece takes.after s) takes.gives)
+
+  pub told : outcome ≡ did.told
+  told =
+      let k : f.life.number ≡ number = sym f.runs.number ∙ numbered in
+      ap (λ (m : List ℕ). told_with m number (closed_by step.answered) step.default_input step.send step.ended) (sym f.named)
+      ∙ ap (λ (m : ℕ). told_with f.life.name m (closed_by step.answered) step.default_input step.send step.ended) (sym k)
+
+  pub leads : lead ≡ behind w did
+  leads = go step.ended
+    where
+      go : (e : Option Ended) → with_op_if (op_by step.answered) (goes_on (with_piece f.life piece takes.after) e w) ≡ with_op_if (op_by step.answered) (record w { begun = w.begun; lives = lives_behind (with_piece f.life piece takes.after) e w.lives })
+      go None = refl
+      go (Some e) = refl
+
+  pub fed : is_piece w (event.Child name number (child.Piece piece)) ≡ true
+  fed = ap (λ (x : Option Going). is_some x) there
+
+  pub fields : HaveFields (sheet_in w) f.life
+  fields = all_at (HaveFields (sheet_in w)) (λ (l : Going). l.name) name f.life w.lives h.fields f.is
+
+  abbrev pub settled : Option Ended → List Running
+  settled e = if is_some e then without_named name_of name (replace_named name_of name (running_with r life) rs) else replace_named name_of name (running_with r life) rs
+
+  lives_stand : StandsFor store (settled step.ended) begun (goes_on (with_piece f.life piece takes.after) step.ended w)
+  lives_stand = subst (λ (e : Option Ended). StandsFor store (settled e) begun (goes_on (with_piece f.life piece takes.after) e w)) (sym (ap (λ (s : Step). s.ended) takes.gives)) (go takes.fault takes.then)
+    where
+      go : (fault : Option Kind) → GoesOn life (f.life.past ++ received piece ∷ []) takes.after fault
+          → StandsFor store (settled (option_map (ended_by (f.life.past ++ received piece ∷ []) takes.after) fault)) begun (goes_on (with_piece f.life piece takes.after) (option_map (ended_by (f.life.past ++ received piece ∷ []) takes.after) fault) w)
+      go None stands = put store rs begun w name r (running_with r life) (with_piece f.life piece takes.after) h f (record { name = f.runs.name; number = same ∙ f.runs.number; stands = stands })
+          (waiting_still (HasField (sheet_in w)) f.life.past f.life.blocks takes.after piece (closed_in f.life.past f.life.blocks (received piece) takes.after) takes.answers fields) f.named
+      go (Some kind) over =
+          let e : bytes_eq r.name name ≡ true = (bytes_eq-Decides r.name name).1 (f.runs.name ∙ f.named) in
+          subst (λ (l : List Running). StandsFor store l begun (goes_on (with_piece f.life piece takes.after) (Some (ended_by (f.life.past ++ received piece ∷ []) takes.after kind)) w)) (sym (without_replaced name_of name (running_with r life) rs e))
+          (subst (λ (n : List ℕ). StandsFor store (without_named name_of name rs) begun (Rattle.session_engine.specs.inside.Parts.without_life n w)) (sym f.named) (gone store rs begun w name r h f))
+
+  pub stands : ShortPrompts → (new : StoreView) → CommittedIf store w.ops (op_by step.answered) new → SameDisk store.disk new.disk → StandsFor new (settled step.ended) begun lead
+  stands short new done disk = go step.answered done (allowed_step short (sheet_in w) f.life piece step life fields takes)
+    where
+      go : (a : Option Answered) → CommittedIf store w.ops (op_by a) new → AllowedIf (sheet_in w) (op_by a) → StandsFor new (settled step.ended) begun (with_op_if (op_by a) (goes_on (with_piece f.life piece takes.after) step.ended w))
+      go None done allowed = subst (λ (s : StoreView). StandsFor s (settled step.ended) begun (goes_on (with_piece f.life piece takes.after) step.ended w)) (sym done) lives_stand
+      go (Some (answered.Banner b)) done allowed = subst (λ (s : StoreView). StandsFor s (settled step.ended) begun (goes_on (with_piece f.life piece takes.after) step.ended w)) (sym done) lives_stand
+      go (Some (answered.Line id prompt out)) done allowed =
+          let v = goes_on (with_piece f.life piece takes.after) step.ended w in
+          let os = ops_of (with_piece f.life piece takes.after) step.ended w in
+          committed store new (settled step.ended) begun v (Rattle.worksheet.specs.declared.op.Op.TheVariants.Answer id prompt out) lives_stand
+          (subst (λ (l : List Op). Rattle.session_engine.specs.inside.Commits.Committed store l (Rattle.worksheet.specs.declared.op.Op.TheVariants.Answer id prompt out) new) (sym os) done) disk
+          (subst (λ (l : List Op). Rattle.worksheet.specs.Checks.first_refusal (sheet_of l) (Rattle.worksheet.specs.declared.op.Op.TheVariants.Answer id prompt out) ≡ None) (sym os) allowed)
+          (spared id prompt out v.lives)
+
+  -- the images of the disk while what the piece answers is kept
+  pub on_disk : (new : StoreView) → CommittedIf store w.ops (op_by step.answered) new → InModel store.disk (LeavesOnly (IsEitherIf w.ops (op_by step.answered)) store.disk.history new.disk.history) → OnDisk w.ops (op_by step.answered) store.disk new.disk
+  on_disk new done moments = go (op_by step.answered) done moments
+    where
+      go : (a : Option Op) → CommittedIf store w.ops a new → InModel store.disk (LeavesOnly (IsEitherIf w.ops a) store.disk.history new.disk.history) → OnDisk w.ops a store.disk new.disk
+      go None done moments = ap (λ (s : StoreView). s.disk) done
+      go (Some o) done moments = moments
+
+  pub contents : (new : StoreView) (fault : HostFault) → NotKept store (op_by step.answered) new fault → new.sheet.contents ≡ sheet_in w
+  contents new faults.Closed n = absurd n
+  contents new faults.Disk n = go (op_by step.answered) n ∙ h.contents
+    where
+      go : (a : Option Op) → NotKept store a new faults.Disk → new.sheet.contents ≡ store.sheet.contents
+      go None n = absurd n
+      go (Some o) n = n.0
+  contents new faults.OutOfMemory n = n.contents ∙ h.contents
+  contents new faults.JournalFull n = go (op_by step.answered) n ∙ h.contents
+    where
+      go : (a : Option Op) → NotKept store a new faults.JournalFull → new.sheet.contents ≡ store.sheet.contents
+      go None n = absurd n
+      go (Some o) n = n.0.contents
+
+  pub cause : (new : StoreView) (fault : HostFault) → NotKept store (op_by step.answered) new fault → InModel store.disk (LeavesOnly (IsEitherIf w.ops (op_by step.answered)) store.disk.history new.disk.history)
+      → CauseOf w (event.Child name number (child.Piece piece)) store.disk new.disk fault
+  cause new faults.Closed n moments = n
+  cause new faults.Disk n moments = go (op_by step.answered) refl n moments
+    where
+      go : (a : Option Op) → op_by step.answered ≡ a → NotKept store a new faults.Disk → InModel store.disk (LeavesOnly (IsEitherIf w.ops a) store.disk.history new.disk.history)
+          → CauseOf w (event.Child name number (child.Piece piece)) store.disk new.disk faults.Disk
+      go None e n moments = absurd n
+      go (Some o) e n moments = (n.1, (o, record { does = did; may = may; gives = e }, moments))
+  cause new faults.OutOfMemory n moments = (n.disk, fed)
+  cause new faults.JournalFull n moments = go (op_by step.answered) refl n
+    where
+      go : (a : Option Op) → op_by step.answered ≡ a → NotKept store a new faults.JournalFull → CauseOf w (event.Child name number (child.Piece piece)) store.disk new.disk faults.JournalFull
+      go None e n = absurd n
+      go (Some o) e n =
+          let no : fits w o ≡ false = fit_in store rs begun w o h ∙ n.1 in
+          (n.0.disk, fed, (o, record { does = did; may = may; gives = e }, no))

@@ -1,0 +1,116 @@
+-- Events in order.
+use Rattle.std.proofs.Common.{◌≡◌, ◌⊎◌, inl, inr, ⊎_elim, ◌≤◌, List, [], ◌∷◌, ◌++◌, refl, sym, ap, ◌∙◌, subst, arith, append_assoc, append-nil, Option, Some, None}
+use Rattle.std.specs.Bool.{IsTrue}
+use Rattle.disk_model.specs.Disk.{DiskView, Image, InModel, Leaves, LeavesOnly, SameDisk}
+use Rattle.disk_model.specs.inside.Moments.{started, weakens, goes_on}
+use Rattle.worksheet.specs.declared.op.Op.{Op}
+use Rattle.recovery.specs.Sheets.{IsEither, IsSheetImage}
+use Rattle.worksheet.specs.Ops.{sheet_of}
+use Rattle.session_engine.specs.declared.event.Event.{Event}
+use Rattle.session_engine.specs.declared.outcome.Outcome.{Outcome}
+use Rattle.session_engine.specs.declared.outcome.HostFault.{HostFault}
+use Rattle.session_engine.specs.declared.outcome.HostFault.TheVariants as faults
+use Rattle.session_engine.specs.World.{World, sheet_in, with_op_if}
+use Rattle.session_engine.specs.Does.{Does, MayDo, Runs, behind}
+use Rattle.session_engine.specs.Host.{HostView, IsHost, OnDisk, Took}
+use Rattle.session_engine.specs.Faults.{CauseOf, Failed}
+use Rattle.session_engine.specs.Crash.{HasPlayed, LeftAmong, Moments, MomentsBefore}
+
+pub run_on : (w : World) (es : List Event) (os : List Outcome) (v : World) (e : Event) (d : Does) (o : Outcome) → Runs w es os v → MayDo v e d → o ≡ d.told → Runs w (es ++ e ∷ []) (os ++ o ∷ []) (behind v d)
+run_on w [] [] v e d o run may told = subst (λ (x : World). Runs x (e ∷ []) (o ∷ []) (behind v d)) run (behind v d, (d, may, told, refl), refl)
+run_on w [] (p ∷ os) v e d o run may told = absurd run
+run_on w (c ∷ es) [] v e d o run may told = absurd run
+run_on w (c ∷ es) (p ∷ os) v e d o run may told = (run.0, run.1, run_on run.0 es os v e d o run.2 may told)
+
+pub nothing_played : (w : World) (events : List Event) (host : HostView) → IsHost host w → HasPlayed w events events [] host
+nothing_played w events host h = record { done = []; split = refl; leads = w; runs = refl; stands = h }
+
+-- what each image was that the events so far could leave, it is with an outcome more
+pub more_told : (w : World) (events : List Event) (told : List Outcome) (o : Outcome) (i : Image) → LeftAmong w events told i → LeftAmong w events (told ++ o ∷ []) i
+more_told w events told o i l = record {
+  done = l.done;
+  more = l.more;
+  split = l.split;
+  outcomes = l.outcomes;
+  later = l.later ++ o ∷ [];
+  first = ap (λ (os : List Outcome). os ++ o ∷ []) l.first ∙ append_assoc l.outcomes l.later (o ∷ []);
+  leads = l.leads;
+  runs = l.runs;
+  image = l.image;
+}
+
+module _ (w : World) (events rest : List Event) (told : List Outcome) (host : HostView) (p : HasPlayed w events rest told host) where
+  -- an image of the worksheet so far
+  pub left_here : (i : Image) → IsSheetImage (sheet_in p.leads) i → LeftAmong w events told i
+  left_here i image = record {
+    done = p.done;
+    more = rest;
+    split = p.split;
+    outcomes = told;
+    later = [];
+    first = sym (append-nil told);
+    leads = p.leads;
+    runs = p.runs;
+    image = image;
+  }
+
+  pub nothing_left : Moments w events told host.store.disk host.store.disk
+  nothing_left model = started (LeftAmong w events told) host.store.disk.history (λ i image. left_here i (p.stands.stands.images model i image))
+
+behind_ops : (v : World) (d : Does) (o : Op) → d.op ≡ Some o → (behind v d).ops ≡ v.ops ++ o ∷ []
+behind_ops v d o is = ap (λ (x : Option Op). (with_op_if x (record v { begun = d.begun; lives = d.lives })).ops) is
+
+module _ (w : World) (events rest : List Event) (e : Event) (told : List Outcome) (host : HostView) (p : HasPlayed w events (e ∷ rest) told host) where
+  longer : events ≡ (p.done ++ e ∷ []) ++ rest
+  longer = p.split ∙ sym (append_assoc p.done (e ∷ []) rest)
+
+  pub one_more : (new : HostView) (o : Outcome) → Took p.leads e host new o → HasPlayed w events rest (told ++ o ∷ []) new
+  one_more new o took = record { done = p.done ++ e ∷ []; split = longer; leads = behind p.leads took.did; runs = run_on w p.done told p.leads e took.did o p.runs took.may took.told; stands = took.stands }
+
+  -- an image before the op of an event, or behind it
+  either_left : (d : Does) (q : Op) (o : Outcome) → MayDo p.leads e d → o ≡ d.told → d.op ≡ Some q → (i : Image) → IsEither p.leads.ops q i → LeftAmong w events (told ++ o ∷ []) i
+  either_left d q o may is gives i image = ⊎_elim
+      (λ before. more_told w events told o i (left_here w events (e ∷ rest) told host p i before))
+      (λ after. record {
+        done = p.done ++ e ∷ [];
+        more = rest;
+        split = longer;
+        outcomes = told ++ o ∷ [];
+        later = [];
+        first = sym (append-nil (told ++ o ∷ []));
+        leads = behind p.leads d;
+        runs = run_on w p.done told p.leads e d o p.runs may is;
+        image = subst (λ (ops : List Op). IsSheetImage (sheet_of ops) i) (sym (behind_ops p.leads d q gives)) after;
+      }) image
+
+  told_on : (old new : DiskView) (o : Outcome) → Moments w events told old new → Moments w events (told ++ o ∷ []) old new
+  told_on old new o moments model = weakens (LeftAmong w events told) (LeftAmong w events (told ++ o ∷ [])) old.history new.history (more_told w events told o) (moments model)
+
+  -- the moments so far, and those of an event with this op
+  op_on : (old new : DiskView) (d : Does) (q : Op) (o : Outcome) → MayDo p.leads e d → o ≡ d.told → d.op ≡ Some q → SameDisk old host.store.disk → Moments w events told old host.store.disk
+      → OnDisk p.leads.ops (Some q) host.store.disk new → Moments w events (told ++ o ∷ []) old new
+  op_on old new d q o may is gives same before disk model = goes_on (LeftAmong w events (told ++ o ∷ [])) old.history host.store.disk.history new.history (told_on old host.store.disk o before model)
+      (weakens (IsEither p.leads.ops q) (LeftAmong w events (told ++ o ∷ [])) host.store.disk.history new.history (either_left d q o may is gives) (disk (subst IsTrue (sym same.keeps_model) model)))
+
+  pub moments_on : (old : DiskView) (new : HostView) (o : Outcome) → SameDisk old host.store.disk → Moments w events told old host.store.disk → Took p.leads e host new o → Moments w events (told ++ o ∷ []) old new.store.disk
+  moments_on old new o same before took = go took.did.op refl took.disk
+    where
+      go : (a : Option Op) → took.did.op ≡ a → OnDisk p.leads.ops a host.store.disk new.store.disk → Moments w events (told ++ o ∷ []) old new.store.disk
+      go None gives disk = subst (λ (d : DiskView). Moments w events (told ++ o ∷ []) old d) (sym disk) (told_on old host.store.disk o before)
+      go (Some q) gives disk = op_on old new.store.disk took.did q o took.may took.told gives same before disk
+
+  -- the moments so far, and those of an event that failed
+  pub moments_failed : (old : DiskView) (new : HostView) (fault : HostFault) → SameDisk old host.store.disk → Moments w events told old host.store.disk → Failed p.leads e host new fault → MomentsBefore w events told fault old new.store.disk
+  moments_failed old new faults.Closed same before failed = absurd failed.cause
+  moments_failed old new faults.Disk same before failed =
+      let q = failed.cause.1.0 in
+      let give = failed.cause.1.1 in
+      (give.does.told, op_on old new.store.disk give.does q give.does.told give.may refl give.gives same before failed.cause.1.2)
+  moments_failed old new faults.OutOfMemory same before failed = subst (λ (d : DiskView). Moments w events told old d) (sym failed.cause.0) before
+  moments_failed old new faults.JournalFull same before failed = subst (λ (d : DiskView). Moments w events told old d) (sym failed.cause.0) before
+
+pub same_on : (a b c : DiskView) → SameDisk a b → SameDisk b c → SameDisk a c
+same_on a b c p q = record { room = q.room ∙ p.room; keeps_model = q.keeps_model ∙ p.keeps_model; later = omega (arith, p.later, q.later) }
+
+pub same_self : (d : DiskView) → SameDisk d d
+same_self d = record { room = refl; keeps_model = refl; later = omega arith }

@@ -1,0 +1,46 @@
+-- What ends of lives from outside give, against the definitions.
+use Rattle.std.proofs.Common.{◌≡◌, inl, inr, ℕ, List, ap, sym, ◌∙◌, refl, subst, Bool, true, false, Option, Some, None}
+use Rattle.std.specs.Prelude.{not, is_some, if◌then◌else◌}
+use Rattle.worksheet.specs.declared.field.Session.{Session}
+use Rattle.worksheet.specs.declared.refusal.Refusal.{Refusal}
+use Rattle.worksheet.specs.declared.refusal.Refusal.TheVariants as refusal
+use Rattle.worksheet.specs.Checks.{session_named, has_session, first_of}
+use Rattle.plugin_core.specs.declared.step.Reason.{Reason}
+use Rattle.plugin_core.specs.declared.step.Reason.TheVariants as reason
+use Rattle.session_engine.specs.declared.command.Command.TheVariants as command
+use Rattle.session_engine.specs.declared.event.ChildEvent.{ChildEvent}
+use Rattle.session_engine.specs.declared.event.ChildEvent.TheVariants as child
+use Rattle.session_engine.specs.declared.event.Event.TheVariants as event
+use Rattle.session_engine.specs.declared.reply.Reply.TheVariants as reply
+use Rattle.session_engine.specs.World.{World, Going, life_of, sheet_in}
+use Rattle.session_engine.specs.Refused.{refusals}
+use Rattle.session_engine.specs.Does.{Does, ends_life, tells, ChildDoes, CommandDoes, MayDo}
+use Rattle.session_engine.specs.inside.Parts.{end_by, without_life}
+use Rattle.session_engine.proofs.Tables.{without_none}
+
+-- a Stop of a session that there is, where this life of it goes on
+pub gives_stop : (w : World) (name : List ℕ) (s : Session) (l : Option Going) → session_named (sheet_in w).sessions name ≡ Some s → life_of w name ≡ l
+    → MayDo w (event.Command (command.Stop name)) (ends_life w reason.Stopped true l reply.Done)
+gives_stop w name s l named is =
+    let first : first_of (refusals w (command.Stop name)) ≡ None = ap (λ (o : Option Session). if not (is_some o) then Some refusal.NoSession else None) named in
+    subst (λ (x : Option Refusal). CommandDoes w (command.Stop name) x (ends_life w reason.Stopped true l reply.Done)) (sym first)
+    (inl (ap (λ (o : Option Going). ends_life w reason.Stopped true o reply.Done) (sym is)))
+
+-- an event of a child at which a life ends
+pub gives_end : (w : World) (l : Option Going) (e : ChildEvent) (why : Reason) (killed : Bool) → end_by e ≡ Some (why, killed) → ChildDoes w l e (ends_life w why killed l reply.Nothing)
+gives_end w l child.StartRefused why killed is = let same : (reason.StartRefused, false) ≡ (why, killed) = cc in subst (λ (p : Reason × Bool). ChildDoes w l child.StartRefused (ends_life w p.0 p.1 l reply.Nothing)) same refl
+gives_end w l (child.Piece piece) why killed is = cc
+gives_end w l child.End why killed is = let same : (reason.Ended, true) ≡ (why, killed) = cc in subst (λ (p : Reason × Bool). ChildDoes w l child.End (ends_life w p.0 p.1 l reply.Nothing)) same refl
+gives_end w l child.ReadFault why killed is = let same : (reason.ReadFault, true) ≡ (why, killed) = cc in subst (λ (p : Reason × Bool). ChildDoes w l child.ReadFault (ends_life w p.0 p.1 l reply.Nothing)) same refl
+gives_end w l child.SendFault why killed is = let same : (reason.SendFault, true) ≡ (why, killed) = cc in subst (λ (p : Reason × Bool). ChildDoes w l child.SendFault (ends_life w p.0 p.1 l reply.Nothing)) same refl
+gives_end w l child.Stalled why killed is = let same : (reason.Stalled, true) ≡ (why, killed) = cc in subst (λ (p : Reason × Bool). ChildDoes w l child.Stalled (ends_life w p.0 p.1 l reply.Nothing)) same refl
+gives_end w l child.StopFault why killed is = cc
+
+-- a Stop of no session
+pub gives_no_session : (w : World) (name : List ℕ) → session_named (sheet_in w).sessions name ≡ None → MayDo w (event.Command (command.Stop name)) (tells w (reply.Refused refusal.NoSession))
+gives_no_session w name named =
+    let first : first_of (refusals w (command.Stop name)) ≡ Some refusal.NoSession = ap (λ (o : Option Session). if not (is_some o) then Some refusal.NoSession else None) named in
+    subst (λ (x : Option Refusal). CommandDoes w (command.Stop name) x (tells w (reply.Refused refusal.NoSession))) (sym first) refl
+
+pub without_none_here : (w : World) (name : List ℕ) → life_of w name ≡ None → without_life name w ≡ w
+without_none_here w name h = ap (λ (ls : List Going). record w { lives = ls }) (without_none (λ (l : Going). l.name) name w.lives h)

@@ -1,0 +1,15 @@
+use Rattle.std.proofs.Common.{◌≡◌, sym, refl, subst}
+use Rattle.session_engine.specs.declared.event.ChildEvent.{ChildEvent}
+use Rattle.session_engine.specs.declared.reply.Reply.TheVariants as reply
+use Rattle.session_engine.specs.World.{World, life_of, with_number}
+use Rattle.session_engine.specs.Does.{ChildDoes, tells}
+use Rattle.session_engine.proofs.engine.Engine.child.Goals as goal
+
+pub returns-in-StopFault-clause-took : goal.returns-in-StopFault-clause-took
+returns-in-StopFault-clause-took g c = λ w h. record {
+  did = tells w reply.Nothing;
+  may = subst (λ (e : ChildEvent). ChildDoes w (with_number c.args.life (life_of w c.args.name)) e (tells w reply.Nothing)) (sym c.in-StopFault.is) refl;
+  told = c.nothing.ensures;
+  stands = record { works = refl; stands = h };
+  disk = refl;
+}

@@ -1,0 +1,36 @@
+use Rattle.std.proofs.Common.{◌≡◌, ◌++◌, ◌∷◌, [], ℕ, List, inl, ap, sym, ◌∙◌, refl, subst, length, Option, Some, None}
+use Rattle.disk_model.specs.Disk.{DiskView, InModel, Leaves}
+use Rattle.worksheet.specs.declared.op.Op.{Op}
+use Rattle.worksheet.specs.declared.op.Op.TheVariants as op
+use Rattle.worksheet.specs.Contents.{Contents}
+use Rattle.worksheet.specs.Ops.{sheet_of}
+use Rattle.worksheet.specs.Checks.{first_refusal}
+use Rattle.recovery.specs.Sheets.{StoreView, IsSheetImage, IsReady}
+use Rattle.session_engine.specs.World.{World, life_of, fits_in}
+use Rattle.session_engine.specs.inside.Parts.{with_item}
+use Rattle.session_engine.specs.inside.Commits.{Committed}
+use Rattle.session_engine.proofs.Standing.{committed}
+use Rattle.session_engine.proofs.Asking.{fit, spared_clear}
+use Rattle.session_engine.proofs.engine.Engine.evaluate.Goals as goal
+
+pub returns-in-Ok-commit_ready-clause-ok : goal.returns-in-Ok-commit_ready-clause-ok
+returns-in-Ok-commit_ready-clause-ok g c = λ w h left has.
+    let o = op.Clear c.args.id in
+    let v = with_item w c.args.name c.args.line (life_of w c.args.name) in
+    let done = c.in-Ok.ensures.ok w h left has in
+    let store = c.asked.new.self.store in
+    let new = c.commit_ready.new.self in
+    let ready = subst (λ (s : StoreView). IsReady s o c.args.frame) (sym c.asked.ensures.store) c.requires.ready in
+    let contents = c.in-Ok-commit_ready.ensures.sheet v.ops done.1.contents in
+    let here : Committed store v.ops o new = record {
+      fits = fit store.disk.room store.end o ready.fits.1;
+      contents = contents;
+      still_open = c.in-Ok-commit_ready.ensures.open;
+      end = c.in-Ok-commit_ready.ensures.ends;
+      images = subst (λ (s : Contents). InModel store.disk (Leaves (IsSheetImage s) new.disk.history.now)) contents c.in-Ok-commit_ready.ensures.acknowledged;
+    } in
+    inl (
+      done.0,
+      committed store new c.asked.new.self.lives.items c.asked.new.self.begun v o done.1 here c.commit_ready.ensures.same
+          (subst (λ (s : Contents). first_refusal s o ≡ None) done.1.contents ready.allowed) (spared_clear c.args.id v.lives),
+    )

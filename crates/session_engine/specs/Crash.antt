@@ -1,0 +1,67 @@
+-- What a play of events promises at its end, and what a crash leaves at every moment of it. (docs/HOST.md, "A crash".)
+use Rattle.std.specs.Prelude.{◌≡◌, List, [], ◌∷◌, ◌++◌, true, Result, Ok, Err}
+use Rattle.std.specs.declared.vec.Vec.{Vec}
+use Rattle.disk_model.specs.Disk.{DiskView, Image, InModel, LeavesOnly}
+use Rattle.recovery.specs.Sheets.{IsSheetImage}
+use Rattle.session_engine.specs.declared.event.Event.{Event}
+use Rattle.session_engine.specs.declared.outcome.Outcome.{Outcome}
+use Rattle.session_engine.specs.declared.outcome.HostFault.{HostFault}
+use Rattle.session_engine.specs.declared.outcome.HostFault.TheVariants as faults
+use Rattle.session_engine.specs.declared.play.PlayFault.{PlayFault}
+use Rattle.session_engine.specs.declared.play.PlayFault.TheVariants as halt
+use Rattle.session_engine.specs.World.{World, sheet_in}
+use Rattle.session_engine.specs.Does.{Runs}
+use Rattle.session_engine.specs.Host.{HostView, IsHost}
+use Rattle.session_engine.specs.Faults.{Failed}
+
+-- An image of the worksheet behind some of the first events, which told the first of these outcomes.
+pub record LeftAmong (w : World) (events : List Event) (told : List Outcome) (i : Image) : Type 0 where
+  pub done : List Event
+  pub more : List Event
+  pub split : events ≡ done ++ more
+  pub outcomes : List Outcome
+  pub later : List Outcome
+  pub first : told ≡ outcomes ++ later
+  pub leads : World
+  pub runs : Runs w done outcomes leads
+  pub image : IsSheetImage (sheet_in leads) i
+
+-- at every moment from this disk to that one each image is such a one
+abbrev pub Moments : World → List Event → List Outcome → DiskView → DiskView → Type 0
+Moments w events told old new = InModel old (LeavesOnly (LeftAmong w events told) old.history new.history)
+
+-- The events but these last ones were taken, and told these outcomes; the host goes on where they lead.
+pub record HasPlayed (w : World) (events rest : List Event) (told : List Outcome) (host : HostView) : Type 0 where
+  pub done : List Event
+  pub split : events ≡ done ++ rest
+  pub leads : World
+  pub runs : Runs w done told leads
+  pub stands : IsHost host leads
+
+-- what the events so far and one that failed leave: where the disk failed, what that event was to tell belongs to it
+abbrev pub MomentsBefore : World → List Event → List Outcome → HostFault → DiskView → DiskView → Type 0
+MomentsBefore w events told faults.Closed old new = ⊥
+MomentsBefore w events told faults.Disk old new = (untold : Outcome) × Moments w events (told ++ untold ∷ []) old new
+MomentsBefore w events told faults.OutOfMemory old new = Moments w events told old new
+MomentsBefore w events told faults.JournalFull old new = Moments w events told old new
+
+-- These outcomes, and a fault at the event behind them, before which the host went on as told here. The others are dropped.
+pub record StoppedAt (w : World) (events : List Event) (old new : HostView) (told : List Outcome) (fault : HostFault) : Type 0 where
+  pub at : Event
+  pub dropped : List Event
+  pub before : HostView
+  pub played : HasPlayed w events (at ∷ dropped) told before
+  pub failed : Failed played.leads at before new fault
+  pub closed : new.closed ≡ true
+  pub moments : MomentsBefore w events told fault old.store.disk new.store.disk
+
+-- Why not all events were taken: there was no memory for the outcomes, and nothing happened; or an event failed.
+abbrev pub Halts : World → List Event → HostView → HostView → PlayFault → Type 0
+Halts w events old new (halt.NoRoom back) = (back.items ≡ events) × (new ≡ old)
+Halts w events old new (halt.Stopped outcomes fault) = StoppedAt w events old new outcomes.items fault
+
+-- On a closed host no event is taken.
+abbrev pub PlaysClosed : {E : Type 0} → List Event → Result (Vec Outcome E) PlayFault → Type 0
+PlaysClosed events (Ok outcomes) = (events ≡ []) × (outcomes.items ≡ [])
+PlaysClosed events (Err (halt.NoRoom back)) = back.items ≡ events
+PlaysClosed events (Err (halt.Stopped outcomes fault)) = (outcomes.items ≡ []) × (fault ≡ faults.Closed)

@@ -1,0 +1,209 @@
+-- What an accepted command and an event of a child do: one row for each. (docs/HOST.md, "What an event does".)
+use Rattle.std.specs.Prelude.{◌≡◌, ◌⊎◌, ℕ, ◌+◌, List, [], ◌∷◌, ◌++◌, Bool, true, false, Option, Some, None, option_map}
+use Rattle.meta_format.specs.Stream.{Outer}
+use Rattle.meta_format.specs.Faults.{Kind}
+use Rattle.worksheet.specs.declared.op.Op.{Op}
+use Rattle.worksheet.specs.declared.op.Op.TheVariants as op
+use Rattle.worksheet.specs.declared.field.Session.{Session}
+use Rattle.worksheet.specs.declared.refusal.Refusal.{Refusal}
+use Rattle.worksheet.specs.declared.refusal.Refusal.TheVariants as refusal
+use Rattle.worksheet.specs.Checks.{first_of, session_named}
+use Rattle.plugin_core.specs.declared.item.Item.{Item}
+use Rattle.plugin_core.specs.declared.step.Step.{Step}
+use Rattle.plugin_core.specs.declared.step.Ended.{Ended}
+use Rattle.plugin_core.specs.declared.step.Answered.{Answered}
+use Rattle.plugin_core.specs.declared.step.Answered.TheVariants as answered
+use Rattle.plugin_core.specs.declared.step.Reason.{Reason}
+use Rattle.plugin_core.specs.declared.step.Reason.TheVariants as reason
+use Rattle.plugin_core.specs.Past.{accepted, received, stream_of}
+use Rattle.plugin_core.specs.Steps.{Reads, sent_by, step_of}
+use Rattle.session_engine.specs.Named.{without_named, replace_named}
+use Rattle.session_engine.specs.Commands.{reply_to}
+use Rattle.session_engine.specs.declared.command.Command.{Command}
+use Rattle.session_engine.specs.declared.command.Command.TheVariants as command
+use Rattle.session_engine.specs.declared.event.ChildEvent.{ChildEvent}
+use Rattle.session_engine.specs.declared.event.ChildEvent.TheVariants as child
+use Rattle.session_engine.specs.declared.event.Event.{Event}
+use Rattle.session_engine.specs.declared.event.Event.TheVariants as event
+use Rattle.session_engine.specs.declared.outcome.Effect.{Effect}
+use Rattle.session_engine.specs.declared.outcome.Effect.TheVariants as effect
+use Rattle.session_engine.specs.declared.outcome.Outcome.{Outcome}
+use Rattle.session_engine.specs.declared.reply.Closed.{Closed}
+use Rattle.session_engine.specs.declared.reply.Closed.TheVariants as closed
+use Rattle.session_engine.specs.declared.reply.Reply.{Reply}
+use Rattle.session_engine.specs.declared.reply.Reply.TheVariants as reply
+use Rattle.session_engine.specs.World.{World, Going, life_of, with_number, with_op_if, session_of, line_of, sheet_in, waiting_in}
+use Rattle.session_engine.specs.Refused.{refusals, takes_memory}
+
+-- What an event does: what is told, the op that it gives if any, how many lives have begun behind it, and the lives that go on.
+pub record Does : Type 0 where
+  pub told : Outcome
+  pub op : Option Op
+  pub begun : ℕ
+  pub lives : List Going
+
+-- the world behind it
+abbrev pub behind : World → Does → World
+behind w d = with_op_if d.op (record w { begun = d.begun; lives = d.lives })
+
+-- What is told.
+
+-- a reply without an effect
+abbrev pub replies : Reply → Outcome
+replies r = record { reply = r; effect = None }
+
+abbrev pub refused : Refusal → Outcome
+refused r = replies (reply.Refused r)
+
+abbrev pub kill_if : Bool → Going → Option Effect
+kill_if true l = Some (effect.Kill l.name l.number)
+kill_if false l = None
+
+-- the end of a life at which no answer closes: its reason, and the items that wait are lost
+abbrev pub ends : Going → Reason → Bool → Outcome
+ends l why killed = record {
+  reply = reply.Child (record { name = l.name; life = l.number; closed = None; default_input = None; ended = Some (record { reason = why; lost = waiting_in l }) });
+  effect = kill_if killed l;
+}
+
+-- the answer that a piece closes, as it is told
+abbrev pub closed_by : Option Answered → Option Closed
+closed_by None = None
+closed_by (Some (answered.Banner b)) = Some (closed.Banner b)
+closed_by (Some (answered.Line id prompt output)) = Some (closed.Line id)
+
+-- the op that it gives
+abbrev pub op_by : Option Answered → Option Op
+op_by None = None
+op_by (Some (answered.Banner b)) = None
+op_by (Some (answered.Line id prompt output)) = Some (op.Answer id prompt output)
+
+abbrev pub sends_or_kills : List ℕ → ℕ → Option (List ℕ) → Option Ended → Option Effect
+sends_or_kills name number send None = option_map (λ bytes. effect.Send name number bytes) send
+sends_or_kills name number send (Some e) = Some (effect.Kill name number)
+
+-- a piece that closes no answer and brings no fault is told as nothing
+abbrev pub told_with : List ℕ → ℕ → Option Closed → Option (List ℕ) → Option (List ℕ) → Option Ended → Outcome
+told_with name number None default_input send None = replies reply.Nothing
+told_with name number (Some a) default_input send end = record {
+  reply = reply.Child (record { name = name; life = number; closed = Some a; default_input = default_input; ended = end });
+  effect = sends_or_kills name number send end;
+}
+told_with name number None default_input send (Some e) = record {
+  reply = reply.Child (record { name = name; life = number; closed = None; default_input = default_input; ended = Some e });
+  effect = Some (effect.Kill name number);
+}
+
+abbrev pub told_of : Going → Step → Outcome
+told_of l s = told_with l.name l.number (closed_by s.answered) s.default_input s.send s.ended
+
+-- The lives behind an event.
+
+-- a life in place of what it was
+abbrev pub put : Going → List Going → List Going
+put l lives = replace_named (λ g. g.name) l.name l lives
+
+abbrev pub taken_out : List ℕ → List Going → List Going
+taken_out name lives = without_named (λ g. g.name) name lives
+
+-- a life that begins with an item
+abbrev pub begun_with : World → List ℕ → Item → Going
+begun_with w name i = record { name = name; number = w.begun + 1; past = accepted i ∷ []; blocks = [] }
+
+-- a life with an item more
+abbrev pub joined_by : Going → Item → Going
+joined_by l i = record l { past = l.past ++ accepted i ∷ [] }
+
+-- a life with a piece more, where these are the blocks of its stream then
+abbrev pub with_piece : Going → List ℕ → List Outer → Going
+with_piece l piece blocks = record l { past = l.past ++ received piece ∷ []; blocks = blocks }
+
+-- lives behind a piece of one of them
+abbrev pub lives_behind : Going → Option Ended → List Going → List Going
+lives_behind l None lives = put l lives
+lives_behind l (Some e) lives = taken_out l.name lives
+
+-- The rows.
+
+-- nothing but this is told
+abbrev pub tells : World → Reply → Does
+tells w r = record { told = replies r; op = None; begun = w.begun; lives = w.lives }
+
+-- the worksheet alone changes
+abbrev pub changes : World → Op → Does
+changes w o = record { told = replies (reply_to (sheet_in w) o); op = Some o; begun = w.begun; lives = w.lives }
+
+-- the words that a session's interpreter is started with
+abbrev pub words_of : Option Session → List (List ℕ)
+words_of None = []
+words_of (Some s) = s.words
+
+-- A session is asked the line of a field, whose answer is taken away. The line begins a life, or joins the one that goes on.
+abbrev pub evaluates : World → ℕ → List ℕ → Option Going → Does
+evaluates w id name None = record {
+  told = record { reply = reply.Asked (w.begun + 1); effect = Some (effect.Start name (w.begun + 1) (words_of (session_named (sheet_in w).sessions name))) };
+  op = Some (op.Clear id);
+  begun = w.begun + 1;
+  lives = w.lives ++ begun_with w name (line_of w id) ∷ [];
+}
+evaluates w id name (Some l) = record {
+  told = record { reply = reply.Asked l.number; effect = option_map (λ bytes. effect.Send name l.number bytes) (sent_by l.past l.blocks (accepted (line_of w id)) l.blocks) };
+  op = Some (op.Clear id);
+  begun = w.begun;
+  lives = put (joined_by l (line_of w id)) w.lives;
+}
+
+-- a life ends from outside; where none goes on, only this is told
+abbrev pub ends_life : World → Reason → Bool → Option Going → Reply → Does
+ends_life w why killed None else_told = tells w else_told
+ends_life w why killed (Some l) else_told = record { told = ends l why killed; op = None; begun = w.begun; lives = taken_out l.name w.lives }
+
+-- a piece of a life gives this step of it, where these are the blocks of its stream with the piece
+abbrev pub steps : World → Going → List ℕ → List Outer → Step → Does
+steps w l piece blocks s = record { told = told_of l s; op = op_by s.answered; begun = w.begun; lives = lives_behind (with_piece l piece blocks) s.ended w.lives }
+
+-- what an accepted command does
+abbrev pub does : World → Command → Does
+does w (command.Session name tab words) = changes w (op.Session name tab words)
+does w (command.New after session input) = changes w (op.New after session input)
+does w (command.Set id input) = changes w (op.Set id input)
+does w (command.Remove id) = changes w (op.Remove id)
+does w (command.Move id after) = changes w (op.Move id after)
+does w (command.Clear id) = changes w (op.Clear id)
+does w (command.Eval id) = evaluates w id (session_of w id) (life_of w (session_of w id))
+does w (command.Stop name) = ends_life w reason.Stopped true (life_of w name) reply.Done
+
+-- What an event of a child does, where this is the life with its number, if that goes on. A piece does what the stream of the
+-- life with it tells by its blocks and its fault.
+abbrev pub ChildDoes : World → Option Going → ChildEvent → Does → Type 0
+ChildDoes w l child.StartRefused d = d ≡ ends_life w reason.StartRefused false l reply.Nothing
+ChildDoes w None (child.Piece piece) d = d ≡ tells w reply.Nothing
+ChildDoes w (Some l) (child.Piece piece) d =
+    (blocks : List Outer) × (fault : Option Kind) × Reads (stream_of (l.past ++ received piece ∷ [])) blocks fault
+    × (d ≡ steps w l piece blocks (step_of l.past l.blocks piece blocks fault))
+ChildDoes w l child.End d = d ≡ ends_life w reason.Ended true l reply.Nothing
+ChildDoes w l child.ReadFault d = d ≡ ends_life w reason.ReadFault true l reply.Nothing
+ChildDoes w l child.SendFault d = d ≡ ends_life w reason.SendFault true l reply.Nothing
+ChildDoes w l child.Stalled d = d ≡ ends_life w reason.Stalled true l reply.Nothing
+ChildDoes w l child.StopFault d = d ≡ tells w reply.Nothing
+
+-- A command where this is the first refusal that applies: it is refused so; or it is accepted, or refused for want of memory.
+abbrev pub CommandDoes : World → Command → Option Refusal → Does → Type 0
+CommandDoes w c (Some r) d = d ≡ tells w (reply.Refused r)
+CommandDoes w c None d = (d ≡ does w c) ⊎ ((takes_memory c ≡ true) × (d ≡ tells w (reply.Refused refusal.OutOfMemory)))
+
+-- what an event may do
+abbrev pub MayDo : World → Event → Does → Type 0
+MayDo w (event.Command c) d = CommandDoes w c (first_of (refusals w c)) d
+MayDo w (event.Child name number e) d = ChildDoes w (with_number number (life_of w name)) e d
+
+-- an event gives this outcome, and leads there
+abbrev pub Gives : World → Event → Outcome → World → Type 0
+Gives w e o v = (d : Does) × MayDo w e d × (o ≡ d.told) × (v ≡ behind w d)
+
+-- so do events one behind another
+abbrev pub Runs : World → List Event → List Outcome → World → Type 0
+Runs w [] [] v = v ≡ w
+Runs w (e ∷ es) (o ∷ os) v = (mid : World) × Gives w e o mid × Runs mid es os v
+Runs w [] (o ∷ os) v = ⊥
+Runs w (e ∷ es) [] v = ⊥

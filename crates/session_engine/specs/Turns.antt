@@ -1,0 +1,132 @@
+-- Hosts one after another on one disk, each from its opening to a crash, and what their worksheets show. (docs/HOST.md.)
+use Rattle.std.specs.Prelude.{◌≡◌, ◌⊎◌, ℕ, suc, List, [], ◌∷◌, ◌++◌, Option, Some, None, slice_get}
+use Rattle.block_tree.specs.Output.{output}
+use Rattle.meta_format.specs.Stream.{Outer}
+use Rattle.meta_format.specs.Faults.{Kind}
+use Rattle.disk_model.specs.Disk.{Image}
+use Rattle.worksheet.specs.declared.op.Op.{Op}
+use Rattle.worksheet.specs.declared.op.Op.TheVariants as op
+use Rattle.worksheet.specs.declared.field.Field.{Field}
+use Rattle.worksheet.specs.declared.field.Answer.{Answer}
+use Rattle.worksheet.specs.Contents.{Contents}
+use Rattle.worksheet.specs.Ops.{sheet_of}
+use Rattle.worksheet.specs.Checks.{Allowed, field_in}
+use Rattle.recovery.specs.Sheets.{IsSheetImage}
+use Rattle.plugin_core.specs.declared.item.Item.{Item}
+use Rattle.plugin_core.specs.declared.item.Item.TheVariants as item
+use Rattle.plugin_core.specs.Past.{received, stream_of, items_of}
+use Rattle.plugin_core.specs.Items.{prompt_of}
+use Rattle.plugin_core.specs.Steps.{Reads}
+use Rattle.plugin_core.specs.AskPoints.{IsAnswer}
+use Rattle.session_engine.specs.Host.{EndsAt}
+use Rattle.session_engine.specs.declared.command.Command.TheVariants as command
+use Rattle.session_engine.specs.declared.event.ChildEvent.TheVariants as child
+use Rattle.session_engine.specs.declared.event.Event.{Event}
+use Rattle.session_engine.specs.declared.event.Event.TheVariants as event
+use Rattle.session_engine.specs.declared.outcome.Outcome.{Outcome}
+use Rattle.session_engine.specs.World.{World, Going, opened, sheet_in, life_of, with_number}
+use Rattle.session_engine.specs.Does.{Gives, Runs}
+
+-- What a field shows.
+
+-- the worksheet has exactly this field: its session, its input and what it shows
+abbrev pub Has : Contents → Field → Type 0
+Has sheet f = field_in sheet.fields f.id ≡ Some f
+
+-- The event closes the answer that the field shows. It is a piece of a life that goes on, of which the field's input is a line;
+-- the stream of that life, with the piece, has a whole block which by the ask points is the answer to that line; and the field
+-- shows the output of this block.
+pub record Closes (w : World) (e : Event) (f : Field) : Type 0 where
+  pub name : List ℕ
+  pub number : ℕ
+  pub piece : List ℕ
+  pub is : e ≡ event.Child name number (child.Piece piece)
+  pub life : Going
+  pub goes_on : with_number number (life_of w name) ≡ Some life
+  pub blocks : List Outer
+  pub fault : Option Kind
+  pub reads : Reads (stream_of (life.past ++ received piece ∷ [])) blocks fault
+  -- the place of the line among the life's, counted from 0, and the block
+  pub line : ℕ
+  pub asked : slice_get (items_of life.past) line ≡ Some (item.Line f.id f.input)
+  pub block : Outer
+  pub answers : IsAnswer (life.past ++ received piece ∷ []) blocks (suc line) block
+  pub shows : f.answer ≡ Some (record { prompt = prompt_of life.past life.blocks; output = output block.block })
+
+-- events one behind another, and before and behind each the worksheet has this field
+abbrev pub Stays : Field → World → List Event → List Outcome → World → Type 0
+Stays f w [] [] v = (v ≡ w) × Has (sheet_in w) f
+Stays f w (e ∷ es) (o ∷ os) v = Has (sheet_in w) f × ((mid : World) × Gives w e o mid × Stays f mid es os v)
+Stays f w [] (o ∷ os) v = ⊥
+Stays f w (e ∷ es) [] v = ⊥
+
+-- One of these events closed the answer that the field shows, and behind it the field stayed as it is.
+abbrev pub Answered : Field → World → List Event → List Outcome → World → Type 0
+Answered f w (e ∷ es) (o ∷ os) v = (mid : World) × Gives w e o mid × ((Closes w e f × Stays f mid es os v) ⊎ Answered f mid es os v)
+Answered f w [] os v = ⊥
+Answered f w (e ∷ es) [] v = ⊥
+
+-- Hosts one after another.
+
+-- What a caller saw of one host: the events that it gave it, in order, and the outcomes that it was told, of the first of them.
+pub record Turn : Type 0 where
+  pub events : List Event
+  pub told : List Outcome
+
+-- A host was opened on an image of the worksheet of these ops. It took a prefix of the events that it was given, which has all
+-- those of which it told. A crash left an image of the worksheet of those ops.
+pub record Turned (room : ℕ) (before : Image) (found : List Op) (turn : Turn) (after : Image) (kept : List Op) : Type 0 where
+  pub allowed : Allowed found
+  pub opens : IsSheetImage (sheet_of found) before
+  -- how full the journal is, is what the image says
+  pub end : ℕ
+  pub ends : EndsAt before end
+  -- the events that it took, and those that were lost
+  pub taken : List Event
+  pub lost : List Event
+  pub split : turn.events ≡ taken ++ lost
+  -- the outcomes of those that it took: what it told, and then what it didn't come to tell
+  pub untold : List Outcome
+  pub leads : World
+  pub run : Runs (opened found room end) taken (turn.told ++ untold) leads
+  pub ops : kept ≡ leads.ops
+  pub leaves : IsSheetImage (sheet_of kept) after
+
+-- Each of these hosts was opened on the image that the one before it left, as an image of the worksheet of some ops.
+abbrev pub EachTurned : ℕ → Image → List Turn → Image → Type 0
+EachTurned room before [] after = after ≡ before
+EachTurned room before (turn ∷ turns) after = (mid : Image) × ((found : List Op) × (kept : List Op) × Turned room before found turn mid kept) × EachTurned room mid turns after
+
+-- Each of them went on with the ops of the one before it, from these first ones to those last.
+abbrev pub WentOn : ℕ → Image → List Op → List Turn → Image → List Op → Type 0
+WentOn room before found [] after kept = (after ≡ before) × (kept ≡ found)
+WentOn room before found (turn ∷ turns) after kept = (mid : Image) × (ops : List Op) × Turned room before found turn mid ops × WentOn room mid ops turns after kept
+
+-- Through all of them the worksheet had this field.
+abbrev pub StaysThrough : Field → (room : ℕ) (before : Image) (found : List Op) (turns : List Turn) (after : Image) (kept : List Op) → WentOn room before found turns after kept → Type 0
+StaysThrough f room before found [] after kept went = Has (sheet_of found) f
+StaysThrough f room before found (turn ∷ turns) after kept went =
+    Stays f (opened found room went.2.end) went.2.taken (turn.told ++ went.2.untold) went.2.leads × StaysThrough f room went.0 went.1 turns after kept went.3
+
+-- One of them closed the answer that the field shows, and behind it the field stayed as it is.
+abbrev pub AnsweredByOne : Field → (room : ℕ) (before : Image) (found : List Op) (turns : List Turn) (after : Image) (kept : List Op) → WentOn room before found turns after kept → Type 0
+AnsweredByOne f room before found [] after kept went = ⊥
+AnsweredByOne f room before found (turn ∷ turns) after kept went =
+    (Answered f (opened found room went.2.end) went.2.taken (turn.told ++ went.2.untold) went.2.leads × StaysThrough f room went.0 went.1 turns after kept went.3)
+    ⊎ AnsweredByOne f room went.0 went.1 turns after kept went.3
+
+-- Hosts one after another, the first on a disk with the worksheet of these ops. In the end the disk has the worksheet of these
+-- ops and of those of a prefix of each host's events in turn, where each prefix has all that was told; and a field of it that
+-- shows an answer was there in the worksheet that was found first and has stayed as it was, or shows the output of a whole block that answered its line.
+abbrev pub LivesInTurn : Type 0
+LivesInTurn = (room : ℕ) (first : List Op) (before after : Image) (turns : List Turn) → Allowed first → IsSheetImage (sheet_of first) before → EachTurned room before turns after
+    → (kept : List Op) × (went : WentOn room before first turns after kept) × IsSheetImage (sheet_of kept) after
+    × ((f : Field) (answer : Answer) → Has (sheet_of kept) f → f.answer ≡ Some answer → StaysThrough f room before first turns after kept went ⊎ AnsweredByOne f room before first turns after kept went)
+
+-- Where an evaluation was accepted, what its field shows from there on is what a whole block answered to a line behind it, or
+-- nothing: not where it was Stopped, nor where its interpreter ended before.
+abbrev pub EvaluatedAnew : Type 0
+EvaluatedAnew = (found : List Op) (room end : ℕ) (es : List Event) (os : List Outcome) (w : World) → Allowed found → Runs (opened found room end) es os w
+    → (id : ℕ) (o : Outcome) (mid : World) → Gives w (event.Command (command.Eval id)) o mid → mid.ops ≡ w.ops ++ op.Clear id ∷ []
+    → (later : List Event) (told : List Outcome) (v : World) → Runs mid later told v
+    → (f : Field) (answer : Answer) → f.id ≡ id → Has (sheet_in v) f → f.answer ≡ Some answer → Answered f mid later told v

@@ -1,0 +1,6 @@
+-- What only proofs and private clauses use.
+pub mod Parts
+pub mod Tables
+pub mod Engines
+pub mod Commits
+pub mod Given

@@ -1,0 +1,109 @@
+-- What the store does for an event.
+use Rattle.std.specs.Prelude.{◌≡◌, ◌⊎◌, ◌+◌, ◌==◌, ℕ, List, [], ◌∷◌, ◌++◌, length, Bool, true, false, Option, Some, None, option_map}
+use Rattle.disk_model.specs.Disk.{DiskView, Image, InModel, Leaves, Rises}
+use Rattle.worksheet.specs.declared.op.Op.{Op}
+use Rattle.worksheet.specs.declared.op.Op.TheVariants as op
+use Rattle.worksheet.specs.declared.refusal.Refusal.{Refusal}
+use Rattle.worksheet.specs.declared.refusal.Refusal.TheVariants as refusal
+use Rattle.worksheet.specs.Contents.{Contents}
+use Rattle.worksheet.specs.Ops.{sheet_of}
+use Rattle.worksheet.specs.Checks.{first_of, first_refusal}
+use Rattle.recovery.specs.Code.{code_of}
+use Rattle.recovery.specs.Sheets.{StoreView, IsSheetImage, IsEither, SameStore}
+use Rattle.session_engine.specs.declared.outcome.HostFault.{HostFault}
+use Rattle.session_engine.specs.declared.outcome.HostFault.TheVariants as faults
+use Rattle.std.specs.List.{AllByRecursion}
+use Rattle.plugin_core.specs.declared.item.Item.{Item}
+use Rattle.plugin_core.specs.declared.item.Item.TheVariants as item
+use Rattle.session_engine.specs.declared.engine.Engine.{Engine}
+use Rattle.session_engine.specs.declared.outcome.Outcome.{Outcome}
+use Rattle.session_engine.specs.declared.reply.Reply.{Reply}
+use Rattle.session_engine.specs.declared.reply.Reply.TheVariants as reply
+use Rattle.session_engine.specs.declared.outcome.Effect.TheVariants as effect
+use Rattle.session_engine.specs.World.{World, Going, waiting_in, with_op, fits, fits_in, life_of}
+use Rattle.session_engine.specs.Does.{replies, refused}
+use Rattle.session_engine.specs.Host.{OnDisk}
+use Rattle.session_engine.specs.inside.Parts.{eval_refusals, asks, with_item}
+use Rattle.session_engine.specs.inside.Engines.{StandsAt}
+
+-- the op is on the disk and in the worksheet, behind these
+pub record Committed (old : StoreView) (ops : List Op) (o : Op) (new : StoreView) : Type 0 where
+  pub fits : fits_in old.disk.room old.end o ≡ true
+  pub contents : new.sheet.contents ≡ sheet_of (ops ++ o ∷ [])
+  pub still_open : new.closed ≡ false
+  pub end : new.end ≡ old.end + 5 + length (code_of o)
+  pub images : InModel old.disk (Leaves (IsSheetImage (sheet_of (ops ++ o ∷ []))) new.disk.history.now)
+
+-- the op is refused, and nothing has changed
+pub record NotCommitted (old : StoreView) (o : Op) (new : StoreView) (r : Refusal) : Type 0 where
+  pub same : SameStore old new
+  pub cause : ((r ≡ refusal.JournalFull) × (fits_in old.disk.room old.end o ≡ false)) ⊎ ((r ≡ refusal.OutOfMemory) × (fits_in old.disk.room old.end o ≡ true))
+
+abbrev pub Commits : StoreView → List Op → Op → StoreView → Option Refusal → Type 0
+Commits old ops o new None = Committed old ops o new
+Commits old ops o new (Some r) = NotCommitted old o new r
+
+-- The same of an op that may be there.
+
+abbrev pub AllowedIf : Contents → Option Op → Type 0
+AllowedIf sheet None = Unit {0}
+AllowedIf sheet (Some o) = first_refusal sheet o ≡ None
+
+abbrev pub CommittedIf : StoreView → List Op → Option Op → StoreView → Type 0
+CommittedIf old ops None new = new ≡ old
+CommittedIf old ops (Some o) new = Committed old ops o new
+
+abbrev pub IsEitherIf : List Op → Option Op → Image → Type 0
+IsEitherIf ops None i = IsSheetImage (sheet_of ops) i
+IsEitherIf ops (Some o) i = IsEither ops o i
+
+abbrev pub NotKept : StoreView → Option Op → StoreView → HostFault → Type 0
+NotKept old None new faults.Disk = ⊥
+NotKept old (Some o) new faults.Disk = (new.sheet.contents ≡ old.sheet.contents) × Rises old.disk.faults new.disk.faults
+NotKept old o new faults.OutOfMemory = SameStore old new
+NotKept old None new faults.JournalFull = ⊥
+NotKept old (Some o) new faults.JournalFull = SameStore old new × (fits_in old.disk.room old.end o ≡ false)
+NotKept old o new faults.Closed = ⊥
+
+-- an op that takes no field away, or another one
+abbrev pub Spares : ℕ → Op → Type 0
+Spares id (op.Session name tab words) = Unit {0}
+Spares id (op.New after session input) = Unit {0}
+Spares id (op.Set other input) = Unit {0}
+Spares id (op.Remove other) = (other == id) ≡ false
+Spares id (op.Move other after) = Unit {0}
+Spares id (op.Clear other) = Unit {0}
+Spares id (op.Answer other prompt output) = Unit {0}
+
+-- no waiting line is that of a field that the op takes away
+abbrev pub SparesItem : Op → Item → Type 0
+SparesItem o (item.Line id text) = Spares id o
+
+abbrev pub SparesLife : Op → Going → Type 0
+SparesLife o l = AllByRecursion (SparesItem o) (waiting_in l)
+
+-- an op that the worksheet allows is done, or refused where it doesn't fit or for want of memory, and then no disk is touched
+abbrev pub Changes : {D : Type 0} → World → Op → Reply → Engine D → Engine D → Outcome → Type 0
+Changes w o r old new out =
+    ((fits w o ≡ true) × (out ≡ replies r) × StandsAt new (with_op o w))
+    ⊎ (((fits w o ≡ false) × (out ≡ refused refusal.JournalFull) × StandsAt new w × (new.store.disk ≡ old.store.disk))
+    ⊎ ((fits w o ≡ true) × (out ≡ refused refusal.OutOfMemory) × StandsAt new w × (new.store.disk ≡ old.store.disk)))
+
+-- why an Eval is refused behind its field and its line
+abbrev pub RefusesEval : World → ℕ → Refusal → Type 0
+RefusesEval w id r = (first_of (eval_refusals w id) ≡ Some r) ⊎ ((first_of (eval_refusals w id) ≡ None) × (r ≡ refusal.OutOfMemory))
+
+-- what is told of an item that is asked: it begins a life that is started with these words, or these bytes are sent
+abbrev pub told_asked : List ℕ → ℕ → Option (List (List ℕ)) → Option (List ℕ) → Outcome
+told_asked name life (Some words) sent = record { reply = reply.Asked life; effect = Some (effect.Start name life words) }
+told_asked name life None sent = record { reply = reply.Asked life; effect = option_map (λ bytes. effect.Send name life bytes) sent }
+
+abbrev pub begun_with_words : ℕ → Option (List (List ℕ)) → ℕ
+begun_with_words begun (Some words) = begun + 1
+begun_with_words begun None = begun
+
+-- the line of a field is asked and its Clear is given, or neither for want of memory
+abbrev pub Evaluated : {D : Type 0} → World → List ℕ → ℕ → Item → Engine D → Engine D → Outcome → Type 0
+Evaluated w name id line old new o =
+    ((o ≡ asks w name line (life_of w name)) × StandsAt new (with_op (op.Clear id) (with_item w name line (life_of w name))))
+    ⊎ ((o ≡ refused refusal.OutOfMemory) × StandsAt new w × (new.store.disk ≡ old.store.disk))

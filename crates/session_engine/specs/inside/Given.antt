@@ -1,0 +1,87 @@
+-- What events give, cut into the parts that laws are proved of.
+use Rattle.std.specs.Prelude.{◌≡◌, ◌⊎◌, ℕ, ◌+◌, List, [], ◌∷◌, ◌++◌, Bool, true, false, Option, Some, None}
+use Rattle.meta_format.specs.Stream.{Outer}
+use Rattle.meta_format.specs.Faults.{Kind}
+use Rattle.worksheet.specs.declared.op.Op.TheVariants as op
+use Rattle.worksheet.specs.declared.refusal.Refusal.{Refusal}
+use Rattle.worksheet.specs.declared.refusal.Refusal.TheVariants as refusal
+use Rattle.worksheet.specs.Checks.{first_of}
+use Rattle.plugin_core.specs.declared.step.Reason.{Reason}
+use Rattle.plugin_core.specs.declared.step.Reason.TheVariants as reason
+use Rattle.plugin_core.specs.Past.{received, stream_of}
+use Rattle.plugin_core.specs.Steps.{Reads, step_of}
+use Rattle.session_engine.specs.declared.command.Command.{Command}
+use Rattle.session_engine.specs.declared.command.Command.TheVariants as command
+use Rattle.session_engine.specs.declared.event.ChildEvent.{ChildEvent}
+use Rattle.session_engine.specs.declared.event.ChildEvent.TheVariants as child
+use Rattle.session_engine.specs.declared.event.Event.{Event}
+use Rattle.session_engine.specs.declared.event.Event.TheVariants as event
+use Rattle.session_engine.specs.declared.outcome.Outcome.{Outcome}
+use Rattle.session_engine.specs.declared.reply.Reply.TheVariants as reply
+use Rattle.session_engine.specs.World.{World, Going, sheet_in, life_of, with_number, session_of, line_of, with_op, with_op_if}
+use Rattle.session_engine.specs.Refused.{refusals, takes_memory}
+use Rattle.session_engine.specs.Does.{replies, refused, ends, told_of, with_piece, op_by}
+use Rattle.session_engine.specs.inside.Parts.{asks, with_item, without_life, goes_on}
+
+abbrev pub stops : Option Going → Outcome
+stops None = replies reply.Done
+stops (Some l) = ends l reason.Stopped true
+
+-- the outcome of an accepted command
+abbrev pub outcome_of : World → Command → Outcome
+outcome_of w (command.Session name tab words) = replies reply.Done
+outcome_of w (command.New place session input) = replies (reply.Field (sheet_in w).next)
+outcome_of w (command.Set id input) = replies reply.Done
+outcome_of w (command.Remove id) = replies reply.Done
+outcome_of w (command.Move id place) = replies reply.Done
+outcome_of w (command.Clear id) = replies reply.Done
+outcome_of w (command.Eval id) = asks w (session_of w id) (line_of w id) (life_of w (session_of w id))
+outcome_of w (command.Stop name) = stops (life_of w name)
+
+-- and where it leads
+abbrev pub after : World → Command → World
+after w (command.Session name tab words) = with_op (op.Session name tab words) w
+after w (command.New place session input) = with_op (op.New place session input) w
+after w (command.Set id input) = with_op (op.Set id input) w
+after w (command.Remove id) = with_op (op.Remove id) w
+after w (command.Move id place) = with_op (op.Move id place) w
+after w (command.Clear id) = with_op (op.Clear id) w
+after w (command.Eval id) = with_op (op.Clear id) (with_item w (session_of w id) (line_of w id) (life_of w (session_of w id)))
+after w (command.Stop name) = without_life name w
+
+abbrev pub Commanded : World → Command → Option Refusal → Outcome → World → Type 0
+Commanded w c (Some r) o v = (o ≡ refused r) × (v ≡ w)
+Commanded w c None o v = ((o ≡ outcome_of w c) × (v ≡ after w c)) ⊎ ((takes_memory c ≡ true) × (o ≡ refused refusal.OutOfMemory) × (v ≡ w))
+
+-- a piece of a life, where these are the blocks of the stream with it, and this the fault that it brings
+abbrev pub IsPieced : World → Going → List ℕ → List Outer → Option Kind → Outcome → World → Type 0
+IsPieced w l piece blocks fault o v =
+    Reads (stream_of (l.past ++ received piece ∷ [])) blocks fault
+    × (o ≡ told_of l (step_of l.past l.blocks piece blocks fault))
+    × (v ≡ with_op_if (op_by (step_of l.past l.blocks piece blocks fault).answered) (goes_on (with_piece l piece blocks) (step_of l.past l.blocks piece blocks fault).ended w))
+
+-- nothing comes of it
+abbrev pub Ignored : World → Outcome → World → Type 0
+Ignored w o v = (o ≡ replies reply.Nothing) × (v ≡ w)
+
+abbrev pub Pieced : World → Option Going → List ℕ → Outcome → World → Type 0
+Pieced w None piece o v = Ignored w o v
+Pieced w (Some l) piece o v = (blocks : List Outer) × (fault : Option Kind) × IsPieced w l piece blocks fault o v
+
+abbrev pub Ended_by : World → Option Going → Reason → Bool → Outcome → World → Type 0
+Ended_by w None why killed o v = Ignored w o v
+Ended_by w (Some l) why killed o v = (o ≡ ends l why killed) × (v ≡ without_life l.name w)
+
+-- an event of the child of a life, where it goes on
+abbrev pub Childed : World → Option Going → ChildEvent → Outcome → World → Type 0
+Childed w l child.StartRefused o v = Ended_by w l reason.StartRefused false o v
+Childed w l (child.Piece piece) o v = Pieced w l piece o v
+Childed w l child.End o v = Ended_by w l reason.Ended true o v
+Childed w l child.ReadFault o v = Ended_by w l reason.ReadFault true o v
+Childed w l child.SendFault o v = Ended_by w l reason.SendFault true o v
+Childed w l child.Stalled o v = Ended_by w l reason.Stalled true o v
+Childed w l child.StopFault o v = Ignored w o v
+
+abbrev pub GivesByParts : World → Event → Outcome → World → Type 0
+GivesByParts w (event.Command c) o v = Commanded w c (first_of (refusals w c)) o v
+GivesByParts w (event.Child name number e) o v = Childed w (with_number number (life_of w name)) e o v

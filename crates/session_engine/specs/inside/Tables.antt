@@ -1,0 +1,71 @@
+-- The lives that a host runs, before and behind a call on one of them.
+use Rattle.std.specs.Prelude.{◌≡◌, ◌⊎◌, ℕ, ◌==◌, List, [], ◌∷◌, ◌++◌, Bool, true, false, Option, Some, None, Result, IfOk, is_some, option_map, ◌+◌, if◌then◌else◌}
+use Rattle.std.specs.List.{list_any}
+use Rattle.meta_format.specs.Stream.{Outer}
+use Rattle.plugin_core.specs.declared.step.Step.{Step}
+use Rattle.plugin_core.specs.declared.item.Item.{Item}
+use Rattle.plugin_core.specs.Past.{Event, accepted}
+use Rattle.plugin_core.specs.Kept.{LifeHasPast, Takes, Accepts}
+use Rattle.plugin_core.specs.Kept.{InterpreterView}
+use Rattle.plugin_core.specs.Items.{is_line_of}
+use Rattle.session_engine.specs.Named.{first_named, without_named, replace_named}
+use Rattle.session_engine.specs.declared.table.Running.{Running}
+use Rattle.session_engine.specs.Host.{name_of, life_in, number_in}
+
+abbrev pub has_number : ℕ → Option Running → Bool
+has_number number None = false
+has_number number (Some r) = r.life.number == number
+
+-- the life of this session is taken out, if there is one
+abbrev pub TakesOut : List ℕ → List Running → List Running → Option Running → Type 0
+TakesOut name old new None = (life_in old name ≡ None) × (new ≡ old)
+TakesOut name old new (Some r) = (life_in old name ≡ Some r) × (new ≡ without_named name_of name old)
+
+-- a running life with something more behind it
+abbrev pub with_life : Running → InterpreterView → Running
+with_life r life = record { name = r.name; life = life }
+
+-- a piece goes to the life of this session, which has this number
+pub record Feeds {E : Type 0} (name : List ℕ) (number : ℕ) (piece : List ℕ) (old new : List Running) (result : Result Step E) : Type 0 where
+  pub before : Running
+  pub found : life_in old name ≡ Some before
+  pub numbered : before.life.number ≡ number
+  pub life : InterpreterView
+  pub same : life.number ≡ before.life.number
+  pub put : new ≡ replace_named name_of name (with_life before life) old
+  pub takes : (past : List Event) (blocks : List Outer) → LifeHasPast before.life past blocks → IfOk result (λ step. Takes past blocks piece step life)
+
+abbrev pub FeedsIf : {E : Type 0} → List ℕ → ℕ → List ℕ → List Running → List Running → Option (Result Step E) → Type 0
+FeedsIf name number piece old new None = (has_number number (life_in old name) ≡ false) × (new ≡ old)
+FeedsIf name number piece old new (Some result) = Feeds name number piece old new result
+
+-- the life of this session isn't over
+abbrev pub GoesOnAt : List Running → List ℕ → Type 0
+GoesOnAt rs name = (r : Running) → life_in rs name ≡ Some r → r.life.over ≡ false
+
+-- an item goes to the life of this session, and these bytes are sent now
+pub record Joined (name : List ℕ) (item : Item) (old new : List Running) (number : ℕ) (sent : Option (List ℕ)) : Type 0 where
+  pub before : Running
+  pub found : life_in old name ≡ Some before
+  pub life : InterpreterView
+  pub same : life.number ≡ before.life.number
+  pub put : new ≡ replace_named name_of name (with_life before life) old
+  pub told : number ≡ life.number
+  pub accepts : (past : List Event) (blocks : List Outer) → LifeHasPast before.life past blocks → Accepts past blocks item sent life
+
+-- a life of this session begins with an item
+pub record Begun (name : List ℕ) (next : ℕ) (item : Item) (old new : List Running) (number : ℕ) (sent : Option (List ℕ)) : Type 0 where
+  pub none : life_in old name ≡ None
+  pub life : InterpreterView
+  pub told : number ≡ next
+  pub is_number : life.number ≡ next
+  pub put : new ≡ old ++ record { name = name; life = life } ∷ []
+  pub stands : LifeHasPast life (accepted item ∷ []) []
+  pub nothing : sent ≡ None
+
+abbrev pub Asked : List ℕ → ℕ → Item → List Running → List Running → ℕ → Option (List ℕ) → Type 0
+Asked name next item old new number sent = Joined name item old new number sent ⊎ Begun name next item old new number sent
+
+-- an item was asked, so that no life has begun and each has its number, or one has begun that can be taken out again
+abbrev pub CanGoBack : List ℕ → List Running → ℕ → List Running → ℕ → Type 0
+CanGoBack name old begun new now = ((now ≡ begun) × ((other : List ℕ) → number_in new other ≡ number_in old other)) ⊎ ((now ≡ begun + 1) × (without_named name_of name new ≡ old))

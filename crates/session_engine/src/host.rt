@@ -1,0 +1,177 @@
+//! The host.
+ghost use Rattle.std.specs.Prelude.{◌≡◌, ◌↔◌, List, true, false, IfOk, IfErr, OnErr, IsErrOf, length, option_map};
+ghost use Rattle.std.specs.Option.{option_copied};
+ghost use Rattle.disk_model.specs.Disk.{InModel, Looks, Rises, SameDisk, bytes_on};
+ghost use Rattle.worksheet.specs.declared.op.Op.{Op};
+ghost use Rattle.worksheet.specs.Contents.{Contents};
+ghost use Rattle.worksheet.specs.Ops.{sheet_of};
+ghost use Rattle.worksheet.specs.Checks.{Allowed};
+ghost use Rattle.recovery.specs.Sheets.{IsSheetImage, TellsOfSheet};
+ghost use Rattle.plugin_core.specs.Items.{prompt_of};
+ghost use Rattle.session_engine.specs.World.{World, life_of, opened, sheet_in, waiting_in};
+ghost use Rattle.session_engine.specs.Host.{EndsAt, GivesSheet, IsHost, Took, disk_left, number_in};
+ghost use Rattle.session_engine.specs.Faults.{Failed};
+
+use crate::engine::Engine;
+use crate::table::place_of;
+use crate::{Event, HostFault, Outcome};
+use disk_model::Disk;
+use journal::{OpenCause, OpenFault};
+use recovery::Store;
+use std::alloc::Global;
+use std::marker::Model;
+use worksheet::{Name, Sheet};
+
+/// A worksheet on a disk, and the interpreters of its sessions (docs/HOST.md).
+///
+/// It is told commands and what comes of calls on child processes, one event at a time, and it tells what
+/// is to be done with those processes. It starts none itself. Each change of the worksheet is on the disk
+/// before it is told.
+///
+/// A host stands for a world, which is where its events have led since it was opened: that is the relation
+/// `IsHost`, which `open` gives and `step` and `play` carry on. After a fault it is closed, and its disk
+/// is to be opened again.
+#[derive(Drop)]
+pub struct Host<D: Disk> {
+    pub(crate) engine: Engine<D>,
+    pub(crate) closed: bool,
+}
+
+impl<D: Disk> Model for Host<D> {
+    ghost use Rattle.session_engine.specs.Host.{HostView};
+    ghost use Rattle.std.specs.Coded.{codes};
+    ghost use Rattle.recovery.specs.inside.Codes.{coded_store};
+
+    ghost Value = { HostView };
+
+    ghost coded = { Prim.hlevel (codes, coded_store) };
+
+    ghost use Rattle.std.specs.Prelude.{◌≡◌, false};
+    ghost use Rattle.session_engine.specs.inside.Engines.{view_of, Works};
+
+    ghost view = { λ h. view_of h.engine h.closed };
+
+    ghost invariant = { λ h. h.closed ≡ false → Works h.engine };
+}
+
+impl<D: Disk> Host<D> {
+    /// Opens a disk that a crash may have left, with the worksheet that it stands for. No session has a
+    /// life, and none has a number. It writes nothing. A disk that stands for no worksheet is refused
+    /// with its first damage (docs/FORMAT.md, "Opening").
+    pub fn open(alloc: Global, disk: D) -> Result<Host<D>, OpenFault<D>>
+        ensures same { SameDisk (D.view disk) (disk_left D.view result) }
+
+        // The host stands for the world of any allowed ops that make its worksheet, and there are such.
+        ensures opens { IfOk result (λ host. (ops : List Op) × IsHost host (opened ops (D.view disk).room host.store.end)) }
+        ensures stands { IfOk result (λ host. (ops : List Op) → Allowed ops → host.store.sheet.contents ≡ sheet_of ops → IsHost host (opened ops (D.view disk).room host.store.end)) }
+
+        // The worksheet is the one that the disk stands for, and one that stands for a worksheet is opened.
+        ensures found { InModel (D.view disk) (IfOk result (λ host. IsSheetImage host.store.sheet.contents (bytes_on (D.view disk)))) }
+        ensures exact { InModel (D.view disk) ((sheet : Contents) → IsSheetImage sheet (bytes_on (D.view disk)) → GivesSheet sheet result) }
+        ensures ends { InModel (D.view disk) (IfOk result (λ host. EndsAt (bytes_on (D.view disk)) host.store.end)) }
+        ensures fault { InModel (D.view disk) (IfErr result (λ e. TellsOfSheet (bytes_on (D.view disk)) e.cause)) }
+        ensures faulty { IfErr result (λ e. e.cause ≡ OpenCause.Disk → Rises (D.view disk).faults (D.view e.disk).faults) }
+
+        // It changes no byte, and at every moment each image is one that a crash could leave at the start.
+        ensures looks { InModel (D.view disk) (Looks (D.view disk).history (disk_left D.view result).history) }
+    {
+        let store = match Store::open(alloc, disk) {
+            Ok(store) => store,
+            Err(fault) => return Err(fault),
+        };
+        let _sheet = store.sheet();
+        Ok(Host {
+            engine: Engine {
+                alloc,
+                store,
+                lives: Vec::new(alloc),
+                begun: 0,
+            },
+            closed: false,
+        })
+    }
+
+    /// Takes one event. What it does is told by docs/HOST.md, "What an event does", and which fault it
+    /// can have by "Faults" there.
+    ///
+    /// A refused command changes nothing and writes nothing. At `Ok` what the event did is durable. At
+    /// `Err` the host is closed: the worksheet, and the number of each life, are as before the event.
+    pub fn step(&mut self, event: Event) -> Result<Outcome, HostFault>
+        ensures same { SameDisk self.old.store.disk self.new.store.disk }
+        ensures took { (w : World) → IsHost self.old w → IfOk result (Took w event self.old self.new) }
+        ensures failed { (w : World) → IsHost self.old w → IfErr result (Failed w event self.old self.new) }
+        ensures closed { IsErrOf result HostFault.Closed ↔ (self.old.closed ≡ true) }
+        ensures closes { OnErr result (self.new.closed ≡ true) }
+        ensures still { self.old.closed ≡ true → self.new ≡ self.old }
+    {
+        if self.closed {
+            return Err(HostFault::Closed);
+        }
+        let outcome = self.engine.take(event);
+        if outcome.is_err() {
+            self.closed = true;
+        }
+        outcome
+    }
+
+    /// The worksheet. After a fault it is that of the events before it.
+    pub fn sheet(&self) -> &Sheet
+        ensures sheet { result.now ≡ self.now.store.sheet }
+        ensures stands { (w : World) → IsHost self.now w → result.now.contents ≡ sheet_in w }
+
+        // A host that isn't closed stands for some world.
+        ensures works { self.now.closed ≡ false → (w : World) × IsHost self.now w }
+    {
+        self.engine.store.sheet()
+    }
+
+    /// The life of a session, where one goes on. After a fault its number is that from before the event,
+    /// and nothing is claimed of `waiting`.
+    pub fn life(&self, name: Name) -> Option<LifeView>
+        ensures number { option_map (λ l. l.number) result ≡ number_in self.now.lives name }
+        ensures life { (w : World) → IsHost self.now w → result ≡ option_map (λ l. record { number = l.number; waiting = length (waiting_in l) }) (life_of w name) }
+    {
+        match place_of(&self.engine.lives, name) {
+            Some(place) => {
+                let running = &self.engine.lives[place];
+                Some(LifeView {
+                    number: running.life.number(),
+                    waiting: running.life.waiting(),
+                })
+            }
+            None => None,
+        }
+    }
+
+    /// The prompt that a line of this session would have if it were asked now, where a life of it goes
+    /// on: that of its latest answer that has one, cut to 1,024 bytes, or `> `. After a fault nothing is
+    /// claimed of it.
+    pub fn prompt(&self, name: Name) -> Option<&[u8]>
+        ensures prompt { (w : World) → IsHost self.now w → option_copied result ≡ option_map (λ l. prompt_of l.past l.blocks) (life_of w name) }
+    {
+        match place_of(&self.engine.lives, name) {
+            Some(place) => {
+                let running = &self.engine.lives[place];
+                Some(running.life.prompt())
+            }
+            None => None,
+        }
+    }
+
+    /// Gives the disk back as it stands. Lives that go on are dropped.
+    pub fn close(self) -> D
+        ensures { D.view result ≡ self.store.disk }
+    {
+        let Host { engine, closed: _ } = self;
+        engine.store.into_disk()
+    }
+}
+
+/// A life that goes on.
+#[derive(Clone, Copy, Debug, PartialEq, Eq)]
+pub struct LifeView {
+    /// Its number: 1 for the first life that the host began.
+    pub number: u32,
+    /// How many of its items have no answer: at most 1,024.
+    pub waiting: u32,
+}

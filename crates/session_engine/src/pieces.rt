@@ -1,0 +1,88 @@
+//! Pieces of an interpreter's output.
+ghost use Rattle.std.specs.Prelude.{◌≡◌, IfOk, IfErr, List, ℕ, Option};
+ghost use Rattle.disk_model.specs.Disk.{SameDisk};
+ghost use Rattle.session_engine.specs.Does.{told_with};
+
+use crate::commits::keep;
+use crate::engine::{Engine, nothing};
+use crate::table::{feed, settle};
+use crate::{ChildReply, Closed, Effect, HostFault, Outcome, Reply};
+use block_tree::Octets;
+use disk_model::Disk;
+use plugin_core::{Ended, Step};
+use worksheet::Name;
+
+impl<D: Disk> Engine<D> {
+    ghost use Rattle.session_engine.specs.declared.event.Event.TheVariants as event;
+    ghost use Rattle.session_engine.specs.declared.event.ChildEvent.TheVariants as child;
+    ghost use Rattle.session_engine.specs.inside.Engines.{StandsAt, Works, TookAt, FailedAt};
+    ghost use Rattle.session_engine.specs.World.{World};
+
+    /// A piece of the output of a life.
+    pub(crate) fn piece(
+        &mut self,
+        name: Name,
+        number: u32,
+        piece: &[u8],
+    ) -> Result<Outcome, HostFault>
+        requires { Works self.old }
+        ensures same { SameDisk self.old.store.disk self.new.store.disk }
+        ensures took { (w : World) → StandsAt self.old w → IfOk result (TookAt w (event.Child name number (child.Piece piece.now)) self.old self.new) }
+        ensures failed { (w : World) → StandsAt self.old w → IfErr result (FailedAt w (event.Child name number (child.Piece piece.now)) self.old self.new) }
+    {
+        plugin_core::short_prompts();
+        let Some(fed) = feed(&mut self.lives, name, number, piece) else {
+            return Ok(nothing());
+        };
+        let Ok(step) = fed else {
+            return Err(HostFault::OutOfMemory);
+        };
+        let Step {
+            answered,
+            default_input,
+            send,
+            ended,
+        } = step;
+        match keep(&mut self.store, answered) {
+            Ok(closed) => {
+                settle(&mut self.lives, name, ended.is_some());
+                Ok(told(name, number, closed, default_input, send, ended))
+            }
+            Err(fault) => Err(fault),
+        }
+    }
+}
+
+/// What is told of a piece.
+fn told(
+    name: Name,
+    life: u32,
+    closed: Option<Closed>,
+    default_input: Option<Octets>,
+    send: Option<Octets>,
+    ended: Option<Ended>,
+) -> Outcome
+    ensures { result ≡ told_with name life closed default_input send ended }
+{
+    if closed.is_none() && ended.is_none() {
+        return nothing();
+    }
+    let effect = if ended.is_some() {
+        Some(Effect::Kill { name, life })
+    } else {
+        match send {
+            Some(bytes) => Some(Effect::Send { name, life, bytes }),
+            None => None,
+        }
+    };
+    Outcome {
+        reply: Reply::Child(ChildReply {
+            name,
+            life,
+            closed,
+            default_input,
+            ended,
+        }),
+        effect,
+    }
+}

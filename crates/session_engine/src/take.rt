@@ -1,0 +1,85 @@
+//! Each kind of event.
+ghost use Rattle.std.specs.Prelude.{◌≡◌, IfOk, IfErr};
+ghost use Rattle.disk_model.specs.Disk.{SameDisk};
+
+use crate::ends::ended;
+use crate::engine::{Engine, nothing, refused};
+use crate::table::take_life;
+use crate::{ChildEvent, Command, Event, HostFault, Outcome, Reply};
+use block_tree::Octets;
+use disk_model::Disk;
+use plugin_core::Reason;
+use worksheet::{Name, Refusal};
+
+impl<D: Disk> Engine<D> {
+    ghost use Rattle.session_engine.specs.declared.event.Event.{Event};
+    ghost use Rattle.session_engine.specs.declared.event.Event.TheVariants as event_of;
+    ghost use Rattle.session_engine.specs.declared.command.Command.TheVariants as command_of;
+    ghost use Rattle.session_engine.specs.inside.Engines.{StandsAt, Works, TookAt, FailedAt};
+    ghost use Rattle.session_engine.specs.World.{World};
+
+    /// One event.
+    pub(crate) fn take(&mut self, event: Event) -> Result<Outcome, HostFault>
+        requires { Works self.old }
+        ensures same { SameDisk self.old.store.disk self.new.store.disk }
+        ensures took { (w : World) → StandsAt self.old w → IfOk result (TookAt w event self.old self.new) }
+        ensures failed { (w : World) → StandsAt self.old w → IfErr result (FailedAt w event self.old self.new) }
+    {
+        match event {
+            Event::Command(command) => self.command(command),
+            Event::Child { name, life, event } => self.child(name, life, event),
+        }
+    }
+
+    fn command(&mut self, command: Command) -> Result<Outcome, HostFault>
+        requires { Works self.old }
+        ensures same { SameDisk self.old.store.disk self.new.store.disk }
+        ensures took { (w : World) → StandsAt self.old w → IfOk result (TookAt w (event_of.Command command) self.old self.new) }
+        ensures failed { (w : World) → StandsAt self.old w → IfErr result (FailedAt w (event_of.Command command) self.old self.new) }
+    {
+        match command {
+            Command::Eval { id } => self.eval(id),
+            Command::Stop { name } => Ok(self.stop(name)),
+            other => match other.into_op() {
+                Some(op) => self.alter(op),
+                None => unreachable!(),
+            },
+        }
+    }
+
+    /// The interpreter of a session is stopped.
+    fn stop(&mut self, name: Octets) -> Outcome
+        requires { Works self.old }
+        ensures took { (w : World) → StandsAt self.old w → TookAt w (event_of.Command (command_of.Stop name)) self.old self.new result }
+        ensures store { self.new.store ≡ self.old.store }
+    {
+        let name = match self.store.sheet().session(name.as_slice()) {
+            Some(session) => session.name,
+            None => return refused(Refusal::NoSession),
+        };
+        match take_life(&mut self.lives, name) {
+            Some(running) => ended(running, Reason::Stopped, true),
+            None => Outcome {
+                reply: Reply::Done,
+                effect: None,
+            },
+        }
+    }
+
+    fn child(&mut self, name: Name, life: u32, event: ChildEvent) -> Result<Outcome, HostFault>
+        requires { Works self.old }
+        ensures same { SameDisk self.old.store.disk self.new.store.disk }
+        ensures took { (w : World) → StandsAt self.old w → IfOk result (TookAt w (event_of.Child name life event) self.old self.new) }
+        ensures failed { (w : World) → StandsAt self.old w → IfErr result (FailedAt w (event_of.Child name life event) self.old self.new) }
+    {
+        match event {
+            ChildEvent::StartRefused => Ok(self.end(name, life, Reason::StartRefused, false)),
+            ChildEvent::Piece(piece) => self.piece(name, life, piece.as_slice()),
+            ChildEvent::End => Ok(self.end(name, life, Reason::Ended, true)),
+            ChildEvent::ReadFault => Ok(self.end(name, life, Reason::ReadFault, true)),
+            ChildEvent::SendFault => Ok(self.end(name, life, Reason::SendFault, true)),
+            ChildEvent::Stalled => Ok(self.end(name, life, Reason::Stalled, true)),
+            ChildEvent::StopFault => Ok(nothing()),
+        }
+    }
+}

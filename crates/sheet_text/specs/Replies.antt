@@ -1,0 +1,45 @@
+-- What is told of a life, in print. (docs/SCRIPT.md, "What is printed".)
+use Rattle.std.specs.Prelude.{ℕ, List, [], ◌∷◌, ◌++◌, length, Option, Some, None, codes}
+use Rattle.std.specs.Fmt.{decimal}
+use Rattle.plugin_core.specs.declared.step.Reason.{Reason}
+use Rattle.plugin_core.specs.declared.step.Reason.TheVariants as reason
+use Rattle.plugin_core.specs.declared.step.Ended.{Ended}
+use Rattle.session_engine.specs.declared.reply.ChildReply.{ChildReply}
+use Rattle.session_engine.specs.declared.reply.Closed.{Closed}
+use Rattle.session_engine.specs.declared.reply.Closed.TheVariants as closed
+use Rattle.sheet_text.specs.Escape.{on_line}
+
+-- why a life ended
+abbrev pub reason_name : Reason → List ℕ
+reason_name reason.StartRefused = codes "StartRefused"
+reason_name reason.Ended = codes "Ended"
+reason_name reason.ReadFault = codes "ReadFault"
+reason_name reason.SendFault = codes "SendFault"
+reason_name reason.Stalled = codes "Stalled"
+reason_name reason.BadTag = codes "BadTag"
+reason_name reason.TooDeep = codes "TooDeep"
+reason_name reason.TooLong = codes "TooLong"
+reason_name reason.Stopped = codes "Stopped"
+
+abbrev pub banner_line : List ℕ → List ℕ
+banner_line name = codes "banner " ++ name ++ 10 ∷ []
+
+-- the answer that closed: 'banner' and the session, or 'answered' and the field
+abbrev pub closed_line : List ℕ → Option Closed → List ℕ
+closed_line name None = []
+closed_line name (Some (closed.Banner block)) = banner_line name
+closed_line name (Some (closed.Line id)) = codes "answered " ++ decimal id ++ 10 ∷ []
+
+-- 'default', the session, and the default input on one line
+abbrev pub default_line : List ℕ → Option (List ℕ) → List ℕ
+default_line name None = []
+default_line name (Some text) = codes "default " ++ name ++ codes " " ++ on_line text ++ 10 ∷ []
+
+-- 'ended', the session, why, and how many items were lost
+abbrev pub ended_line : List ℕ → Option Ended → List ℕ
+ended_line name None = []
+ended_line name (Some ended) = codes "ended " ++ name ++ codes " " ++ reason_name ended.reason ++ codes " lost " ++ decimal (length ended.lost) ++ 10 ∷ []
+
+-- the lines of these that are there
+abbrev pub child_text : ChildReply → List ℕ
+child_text told = closed_line told.name told.closed ++ default_line told.name told.default_input ++ ended_line told.name told.ended

@@ -1,0 +1,130 @@
+//! Replies as they are printed.
+ghost use Rattle.std.specs.Prelude.{◌≡◌, OnOk};
+ghost use Rattle.std.specs.Io.KnownBytes.{Appends};
+ghost use Rattle.sheet_text.specs.Texts as printed;
+ghost use Rattle.sheet_text.specs.Replies as child;
+
+use crate::escape::write_line;
+use crate::fault::WriteFault;
+use block_tree::Octets;
+use plugin_core::{Ended, Reason};
+use session_engine::{ChildReply, Closed, Reply};
+use std::io::Write;
+use worksheet::Name;
+
+fn reason_name(reason: Reason) -> &'static str
+    ensures { result.now ≡ child.reason_name reason }
+{
+    match reason {
+        Reason::StartRefused => "StartRefused",
+        Reason::Ended => "Ended",
+        Reason::ReadFault => "ReadFault",
+        Reason::SendFault => "SendFault",
+        Reason::Stalled => "Stalled",
+        Reason::BadTag => "BadTag",
+        Reason::TooDeep => "TooDeep",
+        Reason::TooLong => "TooLong",
+        Reason::Stopped => "Stopped",
+    }
+}
+
+/// Writes the line of a banner.
+#[tactic(auto, using(crate::proofs::Appending::steps))]
+fn write_banner<W: Write>(name: Name, out: &mut W) -> Result<(), WriteFault>
+    ensures { OnOk result (Appends (W.contents out.old) (W.contents out.new) (child.banner_line name)) }
+{
+    out.write_all(b"banner ").map_err(|_| WriteFault)?;
+    out.write_all(name.as_slice()).map_err(|_| WriteFault)?;
+    out.write_all(b"\n").map_err(|_| WriteFault)?;
+    Ok(())
+}
+
+/// Writes what an answer closed.
+fn write_closed<W: Write>(
+    name: Name,
+    closed: &Option<Closed>,
+    out: &mut W,
+) -> Result<(), WriteFault>
+    ensures { OnOk result (Appends (W.contents out.old) (W.contents out.new) (child.closed_line name closed.now)) }
+{
+    match closed {
+        None => Ok(()),
+        Some(Closed::Banner(_)) => write_banner(name, out),
+        Some(Closed::Line(id)) => writeln!(out, "answered {id}").map_err(|_| WriteFault),
+    }
+}
+
+/// Writes a default input.
+#[tactic(auto, using(crate::proofs::Appending::steps))]
+fn write_default<W: Write>(
+    name: Name,
+    input: &Option<Octets>,
+    out: &mut W,
+) -> Result<(), WriteFault>
+    ensures { OnOk result (Appends (W.contents out.old) (W.contents out.new) (child.default_line name input.now)) }
+{
+    let Some(input) = input else {
+        return Ok(());
+    };
+    out.write_all(b"default ").map_err(|_| WriteFault)?;
+    out.write_all(name.as_slice()).map_err(|_| WriteFault)?;
+    out.write_all(b" ").map_err(|_| WriteFault)?;
+    write_line(input.as_slice(), out)?;
+    out.write_all(b"\n").map_err(|_| WriteFault)?;
+    Ok(())
+}
+
+/// Writes the end of a life.
+#[tactic(auto, using(crate::proofs::Appending::steps))]
+fn write_ended<W: Write>(name: Name, ended: &Option<Ended>, out: &mut W) -> Result<(), WriteFault>
+    ensures { OnOk result (Appends (W.contents out.old) (W.contents out.new) (child.ended_line name ended.now)) }
+{
+    let Some(ended) = ended else {
+        return Ok(());
+    };
+    out.write_all(b"ended ").map_err(|_| WriteFault)?;
+    out.write_all(name.as_slice()).map_err(|_| WriteFault)?;
+    writeln!(
+        out,
+        " {} lost {}",
+        reason_name(ended.reason),
+        ended.lost.len()
+    )
+    .map_err(|_| WriteFault)?;
+    Ok(())
+}
+
+/// Writes what is told of a life.
+#[tactic(auto, using(crate::proofs::Appending::steps))]
+fn write_child<W: Write>(told: &ChildReply, out: &mut W) -> Result<(), WriteFault>
+    ensures { OnOk result (Appends (W.contents out.old) (W.contents out.new) (child.child_text told.now)) }
+{
+    write_closed(told.name, &told.closed, out)?;
+    write_default(told.name, &told.default_input, out)?;
+    write_ended(told.name, &told.ended, out)?;
+    Ok(())
+}
+
+/// Writes the lines of a reply: `ok`, `field ID`, `asked`, `refused N NAME` with the number and the
+/// name of the refusal, or what is told of a life, of which each line is written that there is:
+/// `banner NAME` or `answered ID`, `default NAME TEXT`, `ended NAME REASON lost N`. A reply that
+/// nothing came of has no line.
+///
+/// After a `WriteFault` a part of the text may have gone out.
+pub fn reply_text<W: Write>(reply: &Reply, out: &mut W) -> Result<(), WriteFault>
+    ensures { OnOk result (Appends (W.contents out.old) (W.contents out.new) (printed.reply_text reply.now)) }
+{
+    match reply {
+        Reply::Done => out.write_all(b"ok\n").map_err(|_| WriteFault)?,
+        Reply::Field(id) => writeln!(out, "field {id}").map_err(|_| WriteFault)?,
+        Reply::Asked(_) => out.write_all(b"asked\n").map_err(|_| WriteFault)?,
+        Reply::Refused(refusal) => {
+            writeln!(out, "refused {} {}", refusal.number(), refusal.name()).map_err(
+                |_| WriteFault,
+            )?
+        }
+        Reply::Child(told) => write_child(told, out)?,
+        Reply::Nothing => {}
+    }
+    Ok(())
+}
