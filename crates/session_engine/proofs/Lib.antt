@@ -22,3 +22,4 @@ pub mod Living
 pub mod Showing
 pub mod Same
 pub mod Going
+pub mod Examples
