@@ -22,3 +22,7 @@ pub mod Living
 pub mod Showing
 pub mod Same
 pub mod Going
+pub mod OneThing
+pub mod Totals
+pub mod Numbers
+pub mod InFlight
