@@ -23,3 +23,7 @@ pub mod Showing
 pub mod Same
 pub mod Going
 pub mod Examples
+pub mod OneThing
+pub mod Totals
+pub mod Numbers
+pub mod InFlight

@@ -9,4 +9,5 @@ pub mod Faults
 pub mod Crash
 pub mod Apart
 pub mod Turns
+pub mod Laws
 pub mod inside

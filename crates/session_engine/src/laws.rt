@@ -1,6 +1,7 @@
 //! Laws of the definitions that the contracts cite (docs/HOST.md, "Laws"). Each function does nothing: its contract is the law.
 ghost use Rattle.session_engine.specs.Apart.{OthersAreSilent, SessionsAreApart, SessionsSeeTheirOwn};
 ghost use Rattle.session_engine.specs.Turns.{EvaluatedAnew, LivesInTurn, PlaysAreTurns};
+ghost use Rattle.session_engine.specs.Laws.{AnEventDoesOneThing, EachEventHasAnOutcome, NothingIsShownInFlight, NothingOfAnEndedLife, NumbersAreGivenOnce, OutcomesLeadToOneWorld};
 
 /// A session is told the same whatever others' interpreters do: two histories without refusals from
 /// worlds alike for it that agree in the merged list of all commands and this session's child events, and
@@ -39,4 +40,40 @@ pub fn plays_are_turns()
 /// nothing.
 pub fn evaluated_anew()
     ensures { EvaluatedAnew }
+{}
+
+/// Every event has an outcome in every world.
+pub fn each_event_has_an_outcome()
+    ensures { EachEventHasAnOutcome }
+{}
+
+/// What an event does is settled, but that a command may be refused for want of memory.
+pub fn an_event_does_one_thing()
+    ensures { AnEventDoesOneThing }
+{
+    plugin_core::one_reading();
+}
+
+/// What was told of a list of events settles the world that they have led to.
+pub fn outcomes_lead_to_one_world()
+    ensures { OutcomesLeadToOneWorld }
+{
+    plugin_core::one_reading();
+}
+
+/// The lives that a host starts are numbered 1, 2 and so on. Of one session at most one goes on.
+pub fn numbers_are_given_once()
+    ensures { NumbersAreGivenOnce }
+{}
+
+/// Nothing that comes of a life that has ended does anything: it is told as nothing, gives no op and
+/// changes no life. So nothing of an earlier interpreter's life answers a later line.
+pub fn nothing_of_an_ended_life()
+    ensures { NothingOfAnEndedLife }
+{}
+
+/// No field in flight shows an answer. Each line that waits is the input of a field of its session, and
+/// no field has two.
+pub fn nothing_is_shown_in_flight()
+    ensures { NothingIsShownInFlight }
 {}
