@@ -1,0 +1,5 @@
+pub mod Chains
+pub mod Ranks
+pub mod Waits
+pub mod Faulting
+pub mod Seating

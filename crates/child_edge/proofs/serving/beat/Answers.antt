@@ -1,0 +1,15 @@
+use Rattle.std.proofs.Common.{refl, ap}
+use Rattle.session_engine.specs.Does.{behind}
+use Rattle.child_edge.proofs.serving.beat.Goals as goal
+
+pub returns-clause-ok : goal.returns-clause-ok
+returns-clause-ok g c = λ w h.
+    let s = c.in_ok-reply.ensures.ok w h in
+    let k = c.carry_out-due.ensures in (
+      record { event = c.args.event; outcome = c.in_ok-reply.field-0; answer = k.0 },
+      behind w s.did,
+      record { event = refl; did = s.did; may = s.may; told = s.told; leads = refl; carried = k.1 },
+      s.stands,
+      refl,
+      k.2,
+    )

@@ -1,0 +1,17 @@
+use Rattle.std.proofs.Common.{◌≡◌, ◌+◌, ◌++◌, ◌≤◌, List, Some, true, vec_len, vec_capacity}
+use Rattle.disk_model.specs.Disk.{SameDisk}
+use Rattle.session_engine.specs.World.{World}
+use Rattle.session_engine.specs.Host.{IsHost}
+use Rattle.child_edge.specs.Faithful.{at, Beat, Follows}
+use Rattle.child_edge.specs.Told.{told}
+use Rattle.child_edge.proofs.Ranks.{rank}
+use Rattle.child_edge.proofs.serving.follow.Given as goal
+
+abbrev pub invariant-loop : goal.invariant-loop
+invariant-loop g l = record {
+  room : vec_len l.replies + 3 ≤ vec_capacity l.replies + l.counter;
+  same : SameDisk l.fn.host.store.disk l.host.store.disk;
+  runs : (w : World) → IsHost l.fn.host w → (bs : List Beat) × (v : World) × Follows g.C.Children.after (at w l.fn.children) (Some l.fn.event) bs l.due (at v l.children)
+      × IsHost l.host v × (l.replies.items ≡ l.fn.replies.items ++ told bs) × (rank l.due + l.counter ≤ 3);
+  still : l.fn.host.closed ≡ true → (l.counter ≡ 0) × (l.due ≡ Some l.fn.event) × (l.host ≡ l.fn.host) × (l.children ≡ l.fn.children) × (l.replies.items ≡ l.fn.replies.items);
+}

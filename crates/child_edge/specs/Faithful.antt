@@ -1,0 +1,131 @@
+-- Faithful runs: every effect is one call, and every answer one event. (docs/HOST.md, "A faithful run".)
+use Rattle.std.specs.Prelude.{◌≡◌, ℕ, ◌≤◌, zero, suc, Bool, true, false, List, [], ◌∷◌, ◌++◌, Option, Some, None, length, slice_get, ◌⊎◌, nat_lt}
+use Rattle.session_engine.specs.declared.event.ChildEvent.{ChildEvent}
+use Rattle.session_engine.specs.declared.event.ChildEvent.TheVariants as child
+use Rattle.session_engine.specs.declared.event.Event.{Event}
+use Rattle.session_engine.specs.declared.event.Event.TheVariants.{Child}
+use Rattle.session_engine.specs.declared.outcome.Effect.{Effect}
+use Rattle.session_engine.specs.declared.outcome.Effect.TheVariants.{Start, Send, Kill}
+use Rattle.session_engine.specs.declared.outcome.Outcome.{Outcome}
+use Rattle.session_engine.specs.World.{World}
+use Rattle.session_engine.specs.Does.{Does, MayDo, behind}
+use Rattle.child_edge.specs.declared.waiting.Seat.{Seat}
+use Rattle.child_edge.specs.Seats.{waits}
+use Rattle.child_edge.specs.Calls.{Call, start, send, receive, stop, Answer, done, fault, piece, end, no_memory}
+
+-- The relation of children: those before a call, the call, its answer, and those after it.
+abbrev pub Relation : Type 0 → Type 1
+Relation C = C → Call → Answer → C → Type 0
+
+-- Where a run stands: what its events led to, and the children.
+pub record At (C : Type 0) : Type 0 where
+  pub world : World
+  pub children : C
+
+abbrev pub at : {C : Type 0} → World → C → At C
+at w c = record { world = w; children = c }
+
+-- One event of a run, what it told, and what the call that its effect is was answered.
+pub record Beat : Type 0 where
+  pub event : Event
+  pub outcome : Outcome
+  pub answer : Option Answer
+
+abbrev pub call_of : Effect → Call
+call_of (Start name life words) = start name life words
+call_of (Send name life bytes) = send name life bytes
+call_of (Kill name life) = stop name life
+
+-- the event of a fault of an effect's call
+abbrev pub fault_of : Effect → Event
+fault_of (Start name life words) = Child name life child.StartRefused
+fault_of (Send name life bytes) = Child name life child.SendFault
+fault_of (Kill name life) = Child name life child.StopFault
+
+-- the event that comes next, by what the effect's call was answered
+abbrev pub due_of : Option Effect → Option Answer → Option Event
+due_of (Some f) (Some fault) = Some (fault_of f)
+due_of (Some f) _ = None
+due_of None a = None
+
+abbrev pub due_after : Beat → Option Event
+due_after b = due_of b.outcome.effect b.answer
+
+-- an effect is one call, and no effect is none
+abbrev pub Carried : {C : Type 0} → Relation C → C → Option Effect → Option Answer → C → Type 0
+Carried R c None None d = d ≡ c
+Carried R c (Some f) (Some a) d = R c (call_of f) a d
+Carried R c None (Some a) d = ⊥
+Carried R c (Some f) None d = ⊥
+
+-- The event was taken, and its effect carried out.
+pub record Beats {C : Type 0} (R : Relation C) (s : At C) (e : Event) (b : Beat) (t : At C) : Type 0 where
+  pub event : b.event ≡ e
+  pub did : Does
+  pub may : MayDo s.world e did
+  pub told : b.outcome ≡ did.told
+  pub leads : t.world ≡ behind s.world did
+  pub carried : Carried R s.children b.outcome.effect b.answer t.children
+
+-- From where this event is due, if one is, these come, each due by the one before it, up to where that one is due.
+abbrev pub Follows : {C : Type 0} → Relation C → At C → Option Event → List Beat → Option Event → At C → Type 0
+Follows R s due [] left t = (left ≡ due) × (t ≡ s)
+Follows R s None (b ∷ bs) left t = ⊥
+Follows {C = C} R s (Some e) (b ∷ bs) left t = (mid : At C) × Beats R s e b mid × Follows R mid (due_after b) bs left t
+
+-- an event and all that comes of it
+abbrev pub Served : {C : Type 0} → Relation C → At C → Event → List Beat → At C → Type 0
+Served R s e bs t = Follows R s (Some e) bs None t
+
+-- an event and what comes of it, up to where this one is due
+abbrev pub ServedUpTo : {C : Type 0} → Relation C → At C → Event → List Beat → Event → At C → Type 0
+ServedUpTo R s e bs left t = Follows R s (Some e) bs (Some left) t
+
+-- the first k of these things, one after another, and the beats of all of them
+abbrev pub FirstOf : {A S B : Type 0} → (A → S → List B → S → Type 0) → List A → ℕ → S → List B → S → Type 0
+FirstOf P xs zero s bs t = (bs ≡ []) × (t ≡ s)
+FirstOf {A = A} {S = S} {B = B} P xs (suc k) s bs t =
+    (x : A) × (mid : S) × (before : List B) × (last : List B) × (slice_get xs k ≡ Some x) × FirstOf P xs k s before mid × P x mid last t × (bs ≡ before ++ last)
+
+-- each of these things in turn
+abbrev pub EachOf : {A S B : Type 0} → (A → S → List B → S → Type 0) → List A → S → List B → S → Type 0
+EachOf P xs s bs t = FirstOf P xs (length xs) s bs t
+
+-- the event of what a receive was answered
+abbrev pub event_of : Answer → ChildEvent
+event_of (piece bytes) = child.Piece bytes
+event_of end = child.End
+event_of _ = child.ReadFault
+
+-- a receive didn't want memory
+abbrev pub Gave : Answer → Type 0
+Gave no_memory = ⊥
+Gave _ = Unit {0}
+
+-- What is told of a life in a turn: in a turn that listens what a receive gave, in another that it stalled.
+abbrev pub Hears : {C : Type 0} → Relation C → Bool → List ℕ → ℕ → C → ChildEvent → C → Type 0
+Hears R true name life c event d = (a : Answer) × Gave a × R c (receive name life) a d × (event ≡ event_of a)
+Hears R false name life c event d = (event ≡ child.Stalled) × (d ≡ c)
+
+-- that, and what comes of it, up to where this event is due if one is
+abbrev pub Taken : {C : Type 0} → Relation C → Bool → Option Event → Seat → At C → List Beat → At C → Type 0
+Taken {C = C} R listens left seat s bs t =
+    (event : ChildEvent) × (mid : C) × Hears R listens seat.name seat.life s.children event mid × Follows R (at s.world mid) (Some (Child seat.name seat.life event)) bs left t
+
+-- that up to where this event is due
+abbrev pub TakenUpTo : {C : Type 0} → Relation C → Bool → Seat → At C → List Beat → Event → At C → Type 0
+TakenUpTo R listens seat s bs left t = Taken R listens (Some left) seat s bs t
+
+-- a turn: each of these lives once, in order
+abbrev pub Turn : {C : Type 0} → Relation C → Bool → List Seat → At C → List Beat → At C → Type 0
+Turn R listens seats s bs t = EachOf (Taken R listens None) seats s bs t
+
+-- So many turns, each of the lives in which an item waits as it begins. A turn behind the most that listen tells that they stalled.
+abbrev pub Turns : {C : Type 0} → Relation C → ℕ → ℕ → At C → List Beat → At C → Type 0
+Turns R most zero s bs t = (bs ≡ []) × (t ≡ s)
+Turns {C = C} R most (suc n) s bs t =
+    (mid : At C) × (before : List Beat) × (last : List Beat) × Turns R most n s before mid × Turn R (nat_lt n most) (waits mid.world) mid last t × (bs ≡ before ++ last)
+
+-- A wait: turns until no item waits, or all that listen and one in which those that still wait stall.
+abbrev pub Waited : {C : Type 0} → Relation C → ℕ → At C → List Beat → At C → Type 0
+Waited R most s bs t = (n : ℕ) × Turns R most n s bs t × (((waits t.world ≡ []) × (n ≤ most)) ⊎ (n ≡ suc most))

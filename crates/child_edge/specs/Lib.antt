@@ -1,0 +1,9 @@
+pub mod Calls
+pub mod Answers
+pub mod Parts
+pub mod Seats
+pub mod Faithful
+pub mod Broken
+pub mod Told
+pub mod Edge
+pub mod Stops

@@ -1,0 +1,14 @@
+-- What is told of a run.
+use Rattle.std.specs.Prelude.{List, [], ◌∷◌, ◌++◌}
+use Rattle.session_engine.specs.declared.reply.Reply.{Reply}
+use Rattle.session_engine.specs.declared.reply.Reply.TheVariants as reply
+use Rattle.child_edge.specs.Faithful.{Beat}
+
+abbrev pub spoken : Reply → List Reply
+spoken reply.Nothing = []
+spoken r = r ∷ []
+
+-- the replies but Nothing, in order
+abbrev pub told : List Beat → List Reply
+told [] = []
+told (b ∷ bs) = spoken b.outcome.reply ++ told bs

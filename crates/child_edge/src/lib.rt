@@ -1,0 +1,16 @@
+//! The edge to the interpreters: each effect of a host is one call on a child process, and each answer
+//! of such a call one event of the host.
+#![tactic(auto)]
+
+pub mod children;
+pub mod processes;
+pub mod scripted;
+pub mod serving;
+mod stopping;
+mod waiting;
+
+pub use children::{ChildFault, Children, ReceiveFault, Received};
+pub use processes::Processes;
+pub use scripted::{Got, Part, PieceBytes, Scripted};
+pub use serving::{EdgeCause, EdgeFault, TURNS, serve, wait};
+pub use stopping::stop_all;

@@ -1,0 +1,339 @@
+//! Commands and waits, each effect carried out.
+ghost use Rattle.std.specs.Prelude.{◌≡◌, ◌+◌, ◌++◌, ◌≤◌, ◌<◌, IfOk, IfErr, IsErrOf, OnOk, OnErr, Option, Some, None, [], true, vec_len, vec_capacity};
+ghost use Rattle.disk_model.specs.Disk.{SameDisk};
+ghost use Rattle.session_engine.specs.World.{World};
+ghost use Rattle.session_engine.specs.Host.{IsHost, Took};
+ghost use Rattle.child_edge.specs.Edge.{BrokeOff, ByCause, FailsClosed, Ran, Stopped};
+ghost use Rattle.child_edge.specs.Calls.{Answer};
+ghost use Rattle.child_edge.specs.Answers.{sent};
+ghost use Rattle.child_edge.specs.Faithful.{at, Beat, Beats, Carried, call_of, due_of, due_after, fault_of, Served, ServedUpTo, TakenUpTo};
+ghost use Rattle.child_edge.specs.Faithful.{Hears, Taken, Turn, Waited};
+ghost use Rattle.child_edge.specs.Broken.{TurnSoFar, TurnStopped, WaitSoFar, WaitStopped};
+ghost use Rattle.child_edge.specs.Told.{spoken};
+
+use crate::children::{ChildFault, Children, ReceiveFault, Received};
+use crate::waiting::{Seat, waiting};
+use disk_model::Disk;
+use session_engine::{ChildEvent, Command, Effect, Event, Host, HostFault, Outcome, Reply};
+use std::alloc::{AllocError, Global};
+use worksheet::Name;
+
+/// The turns of one wait in which children are received from.
+pub const TURNS: u32 = 100_000;
+
+/// The most events that come of one: it, the fault of its effect, and the fault of that one's effect.
+const MOST_EVENTS: usize = 3;
+
+/// Why a command or a wait broke off.
+#[derive(Clone, Copy, Debug, PartialEq, Eq)]
+pub enum EdgeCause {
+    /// The host had a fault, and is closed.
+    Host(HostFault),
+    /// There was no memory for a reply, or for what a child wrote.
+    OutOfMemory,
+}
+
+/// The replies before it broke off, and why.
+#[derive(Drop)]
+pub struct EdgeFault {
+    pub replies: Vec<Reply>,
+    pub cause: EdgeCause,
+}
+
+/// The call that an effect is.
+fn call<C: Children>(children: &mut C, effect: &Effect) -> Result<(), ChildFault>
+    ensures { C.after children.old (call_of effect.now) (sent result) children.new }
+{
+    match effect {
+        Effect::Start { name, life, words } => children.start(*name, *life, words.as_slice()),
+        Effect::Send { name, life, bytes } => children.send(*name, *life, bytes.as_slice()),
+        Effect::Kill { name, life } => children.stop(*name, *life),
+    }
+}
+
+/// The event of a fault of that call.
+fn fault_event(effect: &Effect) -> Event
+    ensures { result ≡ fault_of effect.now }
+{
+    match effect {
+        Effect::Start { name, life, .. } => Event::Child {
+            name: *name,
+            life: *life,
+            event: ChildEvent::StartRefused,
+        },
+        Effect::Send { name, life, .. } => Event::Child {
+            name: *name,
+            life: *life,
+            event: ChildEvent::SendFault,
+        },
+        Effect::Kill { name, life } => Event::Child {
+            name: *name,
+            life: *life,
+            event: ChildEvent::StopFault,
+        },
+    }
+}
+
+/// Carries an effect out, and gives the event of the fault that it met.
+fn carry_out<C: Children>(children: &mut C, effect: Option<Effect>) -> Option<Event>
+    ensures { (a : Option Answer) × Carried C.after children.old effect a children.new
+        × (result ≡ due_of effect a) }
+{
+    let Some(effect) = effect else {
+        return None;
+    };
+    match call(children, &effect) {
+        Ok(()) => None,
+        Err(_) => Some(fault_event(&effect)),
+    }
+}
+
+/// One event.
+fn step<D: Disk>(host: &mut Host<D>, event: Event) -> Result<Outcome, HostFault>
+    ensures same { SameDisk host.old.store.disk host.new.store.disk }
+    ensures ok { (w : World) → IsHost host.old w → IfOk result (Took w event host.old host.new) }
+    ensures err { (w : World) → IsHost host.old w
+        → IfErr result (Stopped host.old.store.disk.faults host.new w event) }
+    ensures closed { host.old.closed ≡ true → IsErrOf result HostFault.Closed }
+    ensures still { host.old.closed ≡ true → host.new ≡ host.old }
+{
+    host.step(event)
+}
+
+/// One event, with its effect: the reply, and the event that is due then.
+fn beat<D: Disk, C: Children>(
+    host: &mut Host<D>,
+    children: &mut C,
+    event: Event,
+) -> Result<(Reply, Option<Event>), HostFault>
+    ensures same { SameDisk host.old.store.disk host.new.store.disk }
+    ensures ok { (w : World) → IsHost host.old w → IfOk result (λ r. (b : Beat) × (v : World)
+        × Beats C.after (at w children.old) event b (at v children.new) × IsHost host.new v
+        × (r.0 ≡ b.outcome.reply) × (r.1 ≡ due_after b)) }
+    ensures err { (w : World) → IsHost host.old w
+        → IfErr result (Stopped host.old.store.disk.faults host.new w event) }
+    ensures err_children { OnErr result (children.new ≡ children.old) }
+    ensures closed { host.old.closed ≡ true → IsErrOf result HostFault.Closed }
+    ensures still { host.old.closed ≡ true → host.new ≡ host.old }
+{
+    let Outcome { reply, effect } = step(host, event)?;
+    let due = carry_out(children, effect);
+    Ok((reply, due))
+}
+
+/// Adds a reply, where it says something.
+fn tell(replies: &mut Vec<Reply>, reply: Reply)
+    requires { vec_len replies.old < vec_capacity replies.old }
+    ensures items { replies.new.items ≡ replies.old.items ++ spoken reply }
+    ensures capacity { vec_capacity replies.new ≡ vec_capacity replies.old }
+    ensures len { vec_len replies.new ≤ vec_len replies.old + 1 }
+{
+    match reply {
+        Reply::Nothing => {}
+        reply => replies.push_reserved(reply),
+    }
+}
+
+/// An event and all that comes of it.
+fn follow<D: Disk, C: Children>(
+    host: &mut Host<D>,
+    children: &mut C,
+    event: Event,
+    replies: &mut Vec<Reply>,
+) -> Result<(), HostFault>
+    requires { vec_len replies.old + MOST_EVENTS ≤ vec_capacity replies.old }
+    ensures same { SameDisk host.old.store.disk host.new.store.disk }
+    ensures ok { (w : World) → IsHost host.old w
+        → OnOk result (Ran (Served C.after (at w children.old) event) replies.old.items
+        host.new children.new replies.new.items) }
+    ensures err { (w : World) → IsHost host.old w
+        → IfErr result (BrokeOff (ServedUpTo C.after (at w children.old) event) replies.old.items
+        host.old.store.disk.faults host.new children.new replies.new.items) }
+    ensures closed { host.old.closed ≡ true → IsErrOf result HostFault.Closed }
+    ensures still { host.old.closed ≡ true → (host.new ≡ host.old)
+        × (children.new ≡ children.old) × (replies.new.items ≡ replies.old.items) }
+{
+    let mut due = Some(event);
+    for _ in 0..MOST_EVENTS {
+        let Some(event) = due else {
+            return Ok(());
+        };
+        match beat(host, children, event) {
+            Ok((reply, next)) => {
+                tell(replies, reply);
+                due = next;
+            }
+            Err(fault) => return Err(fault),
+        }
+    }
+    Ok(())
+}
+
+/// Takes a command, carries its effect out, and takes the fault that the effect meets likewise.
+///
+/// The run is faithful: each effect is one call on the children and each fault of such a call the
+/// next event, and nothing else happens (docs/HOST.md, "A faithful run"). The replies are those of
+/// its events but `Nothing`: at most three.
+///
+/// `OutOfMemory`: the command was dropped before it was taken, and nothing happened. `Host`: the
+/// event that was due had this fault, and the host is closed; the replies are those before it, and
+/// the disk's images are what `Host::step` says of its fault.
+pub fn serve<D: Disk, C: Children>(
+    alloc: Global,
+    host: &mut Host<D>,
+    children: &mut C,
+    command: Command,
+) -> Result<Vec<Reply>, EdgeFault>
+    ensures same { SameDisk host.old.store.disk host.new.store.disk }
+    ensures ok { (w : World) → IsHost host.old w → IfOk result (λ replies.
+        Ran (Served C.after (at w children.old) (Event.Command command)) []
+        host.new children.new replies.items) }
+    ensures err { (w : World) → IsHost host.old w → IfErr result (λ fault. ByCause fault.cause
+        (BrokeOff (ServedUpTo C.after (at w children.old) (Event.Command command)) []
+        host.old.store.disk.faults host.new children.new fault.replies.items)
+        ((host.new ≡ host.old) × (children.new ≡ children.old) × (fault.replies.items ≡ []))) }
+
+    // On a closed host nothing happens.
+    ensures closed { host.old.closed ≡ true → FailsClosed result }
+    ensures still { host.old.closed ≡ true
+        → (host.new ≡ host.old) × (children.new ≡ children.old) }
+{
+    let mut replies = Vec::new(alloc);
+    if replies.reserve(MOST_EVENTS).is_err() {
+        return Err(EdgeFault {
+            replies,
+            cause: EdgeCause::OutOfMemory,
+        });
+    }
+    match follow(host, children, Event::Command(command), &mut replies) {
+        Ok(()) => Ok(replies),
+        Err(fault) => Err(EdgeFault {
+            replies,
+            cause: EdgeCause::Host(fault),
+        }),
+    }
+}
+
+/// What is told of a life in a turn: in a turn that listens what its child gives, in another that it
+/// stalled.
+fn hear<C: Children>(
+    children: &mut C,
+    listens: bool,
+    name: Name,
+    life: u32,
+) -> Result<ChildEvent, AllocError>
+    ensures ok { IfOk result (λ event.
+        Hears C.after listens name life children.old event children.new) }
+    ensures err { OnErr result (children.new ≡ children.old) }
+{
+    if !listens {
+        return Ok(ChildEvent::Stalled);
+    }
+    match children.receive(name, life) {
+        Ok(Received::Piece(piece)) => Ok(ChildEvent::Piece(piece)),
+        Ok(Received::End) => Ok(ChildEvent::End),
+        Err(ReceiveFault::Child) => Ok(ChildEvent::ReadFault),
+        Err(ReceiveFault::OutOfMemory) => Err(AllocError),
+    }
+}
+
+/// One life's part of a turn.
+fn take<D: Disk, C: Children>(
+    host: &mut Host<D>,
+    children: &mut C,
+    listens: bool,
+    seat: Seat,
+    replies: &mut Vec<Reply>,
+) -> Result<(), EdgeCause>
+    ensures same { SameDisk host.old.store.disk host.new.store.disk }
+    ensures ok { (w : World) → IsHost host.old w
+        → OnOk result (Ran (Taken C.after listens None seat (at w children.old)) replies.old.items
+        host.new children.new replies.new.items) }
+    ensures err { (w : World) → IsHost host.old w → IfErr result (λ cause. ByCause cause
+        (BrokeOff (TakenUpTo C.after listens seat (at w children.old)) replies.old.items
+        host.old.store.disk.faults host.new children.new replies.new.items)
+        (IsHost host.new w × (children.new ≡ children.old)
+        × (replies.new.items ≡ replies.old.items))) }
+{
+    if replies.reserve(MOST_EVENTS).is_err() {
+        return Err(EdgeCause::OutOfMemory);
+    }
+    let Seat { name, life } = seat;
+    match hear(children, listens, name, life) {
+        Ok(event) => match follow(host, children, Event::Child { name, life, event }, replies) {
+            Ok(()) => Ok(()),
+            Err(fault) => Err(EdgeCause::Host(fault)),
+        },
+        Err(_) => Err(EdgeCause::OutOfMemory),
+    }
+}
+
+/// A turn of these lives.
+fn turn<D: Disk, C: Children>(
+    host: &mut Host<D>,
+    children: &mut C,
+    listens: bool,
+    seats: &[Seat],
+    replies: &mut Vec<Reply>,
+) -> Result<(), EdgeCause>
+    ensures same { SameDisk host.old.store.disk host.new.store.disk }
+    ensures ok { (w : World) → IsHost host.old w
+        → OnOk result (Ran (Turn C.after listens seats.now (at w children.old)) replies.old.items
+        host.new children.new replies.new.items) }
+    ensures err { (w : World) → IsHost host.old w → IfErr result (λ cause. ByCause cause
+        (BrokeOff (TurnStopped C.after listens seats.now (at w children.old)) replies.old.items
+        host.old.store.disk.faults host.new children.new replies.new.items)
+        (Ran (TurnSoFar C.after listens seats.now (at w children.old)) replies.old.items
+        host.new children.new replies.new.items)) }
+{
+    for seat in seats {
+        if let Err(cause) = take(host, children, listens, *seat, replies) {
+            return Err(cause);
+        }
+    }
+    Ok(())
+}
+
+/// Waits until no item waits for an answer.
+///
+/// A turn is one receive from the child of each life in which an item waits, in the order in which
+/// their sessions were made; what it gives is taken at once, with its effect and all that comes of
+/// that, before the next child is received from. After `TURNS` turns each life in which an item
+/// still waits is told that it stalled. The count begins anew with each call. The run is faithful, as
+/// that of `serve`, and the replies are those of its events but `Nothing`.
+///
+/// `OutOfMemory`: memory is taken before a child is received from, so no byte that a child wrote is
+/// lost, and `wait` can be called again. `Host`: as for `serve`.
+pub fn wait<D: Disk, C: Children>(
+    alloc: Global,
+    host: &mut Host<D>,
+    children: &mut C,
+) -> Result<Vec<Reply>, EdgeFault>
+    ensures same { SameDisk host.old.store.disk host.new.store.disk }
+    ensures ok { (w : World) → IsHost host.old w → IfOk result (λ replies.
+        Ran (Waited C.after TURNS (at w children.old)) [] host.new children.new replies.items) }
+    ensures err { (w : World) → IsHost host.old w → IfErr result (λ fault. ByCause fault.cause
+        (BrokeOff (WaitStopped C.after TURNS (at w children.old)) []
+        host.old.store.disk.faults host.new children.new fault.replies.items)
+        (Ran (WaitSoFar C.after TURNS (at w children.old)) []
+        host.new children.new fault.replies.items)) }
+{
+    let mut replies = Vec::new(alloc);
+    for number in 0..TURNS + 1 {
+        let Ok(seats) = waiting(alloc, host) else {
+            return Err(EdgeFault {
+                replies,
+                cause: EdgeCause::OutOfMemory,
+            });
+        };
+        if seats.is_empty() {
+            return Ok(replies);
+        }
+        let listens = number < TURNS;
+        match turn(host, children, listens, seats.as_slice(), &mut replies) {
+            Ok(()) => {}
+            Err(cause) => return Err(EdgeFault { replies, cause }),
+        }
+    }
+    Ok(replies)
+}

@@ -1,0 +1,35 @@
+//! The end of all lives.
+ghost use Rattle.std.specs.Prelude.{◌≡◌, ℕ, option_map};
+ghost use Rattle.session_engine.specs.World.{World};
+ghost use Rattle.session_engine.specs.Host.{IsHost};
+ghost use Rattle.session_engine.specs.declared.event.Event.{Event};
+ghost use Rattle.child_edge.specs.Edge.{Stopped};
+ghost use Rattle.child_edge.specs.Seats.{numbered, running};
+ghost use Rattle.child_edge.specs.Stops.{Stops};
+
+use crate::children::Children;
+use disk_model::Disk;
+use session_engine::host::LifeView;
+use session_engine::{Host, HostFault};
+use worksheet::Name;
+
+/// Stops the life of this session, where one goes on. What that call answers is dropped.
+fn stop_life<C: Children>(children: &mut C, name: Name, view: Option<LifeView>)
+    ensures { Stops C.after (numbered name (option_map (λ l. l.number) view)) children.old children.new }
+{
+    if let Some(view) = view {
+        let _ = children.stop(name, view.number);
+    }
+}
+
+/// Stops each life that goes on, as `Host::life` tells it, in the order in which their sessions were
+/// made: one call for each, and no event. A host that is closed tells its lives as before its fault.
+pub fn stop_all<D: Disk, C: Children>(host: &Host<D>, children: &mut C)
+    ensures working { (w : World) → IsHost host.now w → Stops C.after (running w) children.old children.new }
+    ensures stopped { (w : World) (e : Event) (failures : ℕ) (fault : HostFault) → Stopped failures host.now w e fault
+        → Stops C.after (running w) children.old children.new }
+{
+    for session in host.sheet().sessions() {
+        stop_life(children, session.name, host.life(session.name));
+    }
+}

@@ -1,0 +1,46 @@
+//! The lives in which an item waits.
+ghost use Rattle.std.specs.Prelude.{◌≡◌, ◌++◌, IfOk, OnOk};
+ghost use Rattle.session_engine.specs.World.{World};
+ghost use Rattle.session_engine.specs.Host.{IsHost};
+ghost use Rattle.child_edge.specs.Seats.{seat_of, waits};
+
+use disk_model::Disk;
+use session_engine::Host;
+use session_engine::host::LifeView;
+use std::alloc::{AllocError, Global};
+use worksheet::Name;
+
+/// The life of a session, by its number.
+#[derive(Clone, Copy, Debug)]
+pub struct Seat {
+    pub name: Name,
+    pub life: u32,
+}
+
+/// Adds the life of this session, where an item waits in it.
+fn add(seats: &mut Vec<Seat>, name: Name, view: Option<LifeView>) -> Result<(), AllocError>
+    ensures { OnOk result (seats.new.items ≡ seats.old.items ++ seat_of name view) }
+{
+    let Some(view) = view else {
+        return Ok(());
+    };
+    if view.waiting == 0 {
+        return Ok(());
+    }
+    seats.push(Seat {
+        name,
+        life: view.number,
+    })?;
+    Ok(())
+}
+
+/// The lives in which an item waits, in the order in which their sessions were made.
+pub(crate) fn waiting<D: Disk>(alloc: Global, host: &Host<D>) -> Result<Vec<Seat>, AllocError>
+    ensures { (w : World) → IsHost host.now w → IfOk result (λ seats. seats.items ≡ waits w) }
+{
+    let mut seats = Vec::new(alloc);
+    for session in host.sheet().sessions() {
+        add(&mut seats, session.name, host.life(session.name))?;
+    }
+    Ok(seats)
+}
