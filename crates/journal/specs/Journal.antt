@@ -40,7 +40,7 @@ opened view (Ok found) = found.0.disk
 opened view (Err fault) = view fault.disk
 
 -- these payloads, or a cause that isn't in the bytes
-abbrev pub Gives : {D : Type 0} → List (List ℕ)
+abbrev pub GivesPayloads : {D : Type 0} → List (List ℕ)
     → Result (JournalView × Vec Payload Global) (OpenFault D) → Type 0
-Gives payloads (Ok found) = payloads_in found.1.items ≡ payloads
-Gives payloads (Err fault) = IsPassing fault.cause
+GivesPayloads payloads (Ok found) = payloads_in found.1.items ≡ payloads
+GivesPayloads payloads (Err fault) = IsPassing fault.cause

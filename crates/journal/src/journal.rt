@@ -55,7 +55,7 @@ pub enum AppendFault<D: Disk> {
 }
 
 impl<D: Disk> Journal<D> {
-    ghost use Rattle.journal.specs.Journal.{opened, disk_after, Gives, HandsBack, IsFull, IsFaulty};
+    ghost use Rattle.journal.specs.Journal.{opened, disk_after, GivesPayloads, HandsBack, IsFull, IsFaulty};
 
     /// Opens a disk that a crash may have left, and gives the payloads that it stands for, in
     /// order, each with the offset of its gate. It writes nothing (docs/FORMAT.md, "Opening").
@@ -73,7 +73,7 @@ impl<D: Disk> Journal<D> {
         // A disk that stands for payloads gives these and no others, unless it fails or memory is refused.
         ensures exact { InModel (D.view disk)
             ((payloads : List (List ℕ)) → ImageStandsFor (bytes_on (D.view disk)) payloads
-            → Gives payloads result) }
+            → GivesPayloads payloads result) }
 
         // It changes no byte, and at every moment each image is one that a crash could leave at the start.
         ensures looks { InModel (D.view disk)

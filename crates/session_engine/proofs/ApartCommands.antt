@@ -23,11 +23,11 @@ use Rattle.session_engine.specs.declared.outcome.Effect.TheVariants as effect
 use Rattle.session_engine.specs.declared.reply.Reply.{Reply}
 use Rattle.session_engine.specs.declared.reply.Reply.TheVariants as reply
 use Rattle.session_engine.specs.Named.{first_named, without_named, replace_named}
-use Rattle.session_engine.specs.World.{World, Going, life_of, with_op, session_of, line_of, sheet_in}
-use Rattle.session_engine.specs.Does.{ends, replies, refused, joined_by, begun_with, words_of}
+use Rattle.session_engine.specs.World.{World, Going, life_of, with_op, session_of_field, line_of_field, sheet_in}
+use Rattle.session_engine.specs.Does.{ends, replies, refused, joined_by, begun_with, starting_words}
 use Rattle.session_engine.specs.inside.Given.{Commanded, stops, outcome_of, after, GivesByParts}
 use Rattle.session_engine.specs.inside.Parts.{with_life, without_life, with_item, asks}
-use Rattle.session_engine.specs.Refused.{refusals, takes_memory}
+use Rattle.session_engine.specs.Refused.{command_refusals, command_takes_memory}
 use Rattle.session_engine.specs.Apart.{AreAlike, named, commanded, concerns, begins, number_if, is_refusal, added}
 use Rattle.session_engine.proofs.ApartLives.{same_name, is_itself, replaced_other, without_other, named-push, first_has}
 use Rattle.session_engine.proofs.ApartOps.{next_alike, sessions_alike, session_of_alike, input_of_alike}
@@ -59,8 +59,8 @@ item_own n i None w x s a e =
     let k : w.begun + 1 ≡ x.begun + 1 = cc in
     let t : sessions_of w.ops ≡ sessions_of x.ops = sessions_alike w.ops x.ops a.ops in (
       record { ops = a.ops; lives = named-push n w.lives (begun_with w n i) ∙ rw (a.lives, k) refl ∙ sym (named-push n x.lives (begun_with x n i)) },
-      ap (λ (j : ℕ). record { reply = reply.Asked j; effect = Some (effect.Start n j (words_of (session_named (sessions_of w.ops) n))) }) k
-          ∙ ap (λ (ss : List Session). record { reply = reply.Asked (x.begun + 1); effect = Some (effect.Start n (x.begun + 1) (words_of (session_named ss n))) }) t,
+      ap (λ (j : ℕ). record { reply = reply.Asked j; effect = Some (effect.Start n j (starting_words (session_named (sessions_of w.ops) n))) }) k
+          ∙ ap (λ (ss : List Session). record { reply = reply.Asked (x.begun + 1); effect = Some (effect.Start n (x.begun + 1) (starting_words (session_named ss n))) }) t,
     )
 item_own n i (Some l) w x s a e = (
   record {
@@ -143,24 +143,24 @@ accepted_same n w x (command.Move id place) a e = with_one n w x (event.Command 
 accepted_same n w x (command.Clear id) a e = with_one n w x (event.Command (command.Clear id)) (replies reply.Done) (replies reply.Done) (op.Clear id) a refl refl
 accepted_same n w x (command.Stop m) a e = stopped n m w x a
 accepted_same n w x (command.Eval id) a e =
-    let s : session_of w id ≡ session_of x id = session_of_alike w x id a.ops in
-    let t : line_of w id ≡ line_of x id = ap (λ (text : List ℕ). item.Line id text) (input_of_alike w x id a.ops) in
-    let m : List ℕ = session_of w id in
-    let i : Item = line_of w id in
+    let s : session_of_field w id ≡ session_of_field x id = session_of_alike w x id a.ops in
+    let t : line_of_field w id ≡ line_of_field x id = ap (λ (text : List ℕ). item.Line id text) (input_of_alike w x id a.ops) in
+    let m : List ℕ = session_of_field w id in
+    let i : Item = line_of_field w id in
     let k : number_if (bytes_eq m n) (life_of w n) (w.begun + 1) ≡ number_if (bytes_eq m n) (life_of x n) (x.begun + 1) = e ∙ ap (λ (j : List ℕ). number_if (bytes_eq j n) (life_of x n) (x.begun + 1)) (sym s) in
     let g = evals n m id i w x a k in
-    let there : evaled x id m i ≡ evaled x id (session_of x id) (line_of x id) = ap (λ (j : List ℕ). evaled x id j i) s ∙ ap (λ (j : Item). evaled x id (session_of x id) j) t in
-    let told : evaling x m i ≡ evaling x (session_of x id) (line_of x id) = ap (λ (j : List ℕ). evaling x j i) s ∙ ap (λ (j : Item). evaling x (session_of x id) j) t in
+    let there : evaled x id m i ≡ evaled x id (session_of_field x id) (line_of_field x id) = ap (λ (j : List ℕ). evaled x id j i) s ∙ ap (λ (j : Item). evaled x id (session_of_field x id) j) t in
+    let told : evaling x m i ≡ evaling x (session_of_field x id) (line_of_field x id) = ap (λ (j : List ℕ). evaling x j i) s ∙ ap (λ (j : Item). evaling x (session_of_field x id) j) t in
     record {
       alike = subst (λ (z : World). AreAlike n (evaled w id m i) z) there g.0;
       about = ap (λ (j : List ℕ). bytes_eq j n) s;
       says = λ h. g.1 h ∙ told;
-      adds = eval_adds id m (session_of x id) i (line_of x id) w x;
+      adds = eval_adds id m (session_of_field x id) i (line_of_field x id) w x;
     }
 
 -- what isn't refused is accepted
 passed : (w : World) (c : Command) (o : Outcome) (v : World) → GivesByParts w (event.Command c) o v → is_refusal o.reply ≡ false → (o ≡ outcome_of w c) × (v ≡ after w c)
-passed w c o v g h = go (first_of (refusals w c)) g
+passed w c o v g h = go (first_of (command_refusals w c)) g
   where
     never : (r : Refusal) → o ≡ refused r → (o ≡ outcome_of w c) × (v ≡ after w c)
     never r e = let bad : true ≡ false = sym (ap (λ (q : Outcome). is_refusal q.reply) e) ∙ h in absurd (let f : true ≡ false = bad in cc)
@@ -188,10 +188,10 @@ command_same n w x c o p v u a g h q r e =
 -- the numbers that both begin with
 pub begins_alike : (n : List ℕ) (w x : World) (e : Event) → AreAlike n w x → (is js : List ℕ) → begins n w e ++ is ≡ begins n x e ++ js → (begins n w e ≡ begins n x e) × (is ≡ js)
 begins_alike n w x (event.Command (command.Eval id)) a is js h =
-    let s : session_of w id ≡ session_of x id = session_of_alike w x id a.ops in
-    let k : number_if (bytes_eq (session_of w id) n) (life_of w n) (x.begun + 1) ≡ number_if (bytes_eq (session_of x id) n) (life_of x n) (x.begun + 1) =
-    ap (λ (m : List ℕ). number_if (bytes_eq m n) (life_of w n) (x.begun + 1)) s ∙ ap (λ (l : Option Going). number_if (bytes_eq (session_of x id) n) l (x.begun + 1)) (life_alike n w x a) in
-    let g = go (bytes_eq (session_of w id) n) (life_of w n) (h ∙ ap (λ (ks : List ℕ). ks ++ js) (sym k)) in
+    let s : session_of_field w id ≡ session_of_field x id = session_of_alike w x id a.ops in
+    let k : number_if (bytes_eq (session_of_field w id) n) (life_of w n) (x.begun + 1) ≡ number_if (bytes_eq (session_of_field x id) n) (life_of x n) (x.begun + 1) =
+    ap (λ (m : List ℕ). number_if (bytes_eq m n) (life_of w n) (x.begun + 1)) s ∙ ap (λ (l : Option Going). number_if (bytes_eq (session_of_field x id) n) l (x.begun + 1)) (life_alike n w x a) in
+    let g = go (bytes_eq (session_of_field w id) n) (life_of w n) (h ∙ ap (λ (ks : List ℕ). ks ++ js) (sym k)) in
     (g.0 ∙ k, g.1)
   where
     go : (b : Bool) (l : Option Going) → number_if b l (w.begun + 1) ++ is ≡ number_if b l (x.begun + 1) ++ js → (number_if b l (w.begun + 1) ≡ number_if b l (x.begun + 1)) × (is ≡ js)

@@ -8,7 +8,7 @@ use Rattle.worksheet.specs.declared.op.Op.TheVariants as op
 use Rattle.worksheet.specs.declared.field.Field.{Field}
 use Rattle.worksheet.specs.declared.field.Session.{Session}
 use Rattle.worksheet.specs.Ops.{sheet_of, next_from, next_of, order_from, order_of, sessions_of, about_from, about, is_about, last_of, gives_session, gives_input, session_in, input_in, field_of, placed, without}
-use Rattle.session_engine.specs.World.{World, by_field, session_of, input_of, sheet_in}
+use Rattle.session_engine.specs.World.{World, by_field, session_of_field, input_of, sheet_in}
 use Rattle.session_engine.specs.Apart.{is_commanded, commanded}
 
 pub commanded-push : (os : List Op) (o : Op) → commanded (os ++ o ∷ []) ≡ commanded os ++ (if is_commanded o then o ∷ [] else [])
@@ -101,7 +101,7 @@ next_alike os us h = next_is 1 os ∙ ap (λ (xs : List Op). next_from 1 xs) h �
 pub sessions_alike : (os us : List Op) → commanded os ≡ commanded us → sessions_of os ≡ sessions_of us
 sessions_alike os us h = sessions_are os ∙ ap sessions_of h ∙ sym (sessions_are us)
 
-pub session_of_alike : (w x : World) (id : ℕ) → commanded w.ops ≡ commanded x.ops → session_of w id ≡ session_of x id
+pub session_of_alike : (w x : World) (id : ℕ) → commanded w.ops ≡ commanded x.ops → session_of_field w id ≡ session_of_field x id
 session_of_alike w x id h =
     ap (λ (ids : List ℕ). by_field (find (λ (f : Field). f.id == id) (map (field_of w.ops) ids)) [] (λ f. f.session)) (order_alike w.ops x.ops h)
     ∙ found_alike (λ f. f.session) w.ops x.ops id (order_of x.ops) (λ j. session_alike w.ops x.ops j h)

@@ -38,11 +38,11 @@ use Rattle.session_engine.specs.declared.event.Event.{Event}
 use Rattle.session_engine.specs.declared.event.Event.TheVariants as event
 use Rattle.session_engine.specs.declared.outcome.Outcome.{Outcome}
 use Rattle.session_engine.specs.Named.{first_named, without_named, replace_named}
-use Rattle.session_engine.specs.World.{World, Going, life_of, with_number, with_op, with_op_if, session_of, line_of, sheet_in}
+use Rattle.session_engine.specs.World.{World, Going, life_of, with_number, with_op, with_op_if, session_of_field, line_of_field, sheet_in}
 use Rattle.session_engine.specs.Does.{with_piece, op_by, joined_by, begun_with}
 use Rattle.session_engine.specs.inside.Given.{Commanded, Childed, Pieced, Ended_by, after, GivesByParts}
 use Rattle.session_engine.specs.inside.Parts.{with_life, without_life, with_item, goes_on}
-use Rattle.session_engine.specs.Refused.{refusals}
+use Rattle.session_engine.specs.Refused.{command_refusals}
 use Rattle.session_engine.specs.Apart.{IsOpened}
 use Rattle.session_engine.proofs.Standing.{all_at}
 use Rattle.session_engine.proofs.ApartLives.{first_has}
@@ -119,20 +119,20 @@ first_passes (r ∷ rs) h = go r.1 h
     go true h = cc
     go false h = refl
 
-there : (w : World) (id : ℕ) → Owned w → not (has_field (sheet_in w) id) ≡ false → (id < next_of w.ops) × (session_of w id ≡ (field_of w.ops id).session)
+there : (w : World) (id : ℕ) → Owned w → not (has_field (sheet_in w) id) ≡ false → (id < next_of w.ops) × (session_of_field w id ≡ (field_of w.ops id).session)
 there w id h passes = found_owner w.ops (next_of w.ops) id (order_of w.ops) h.below (true_from_not (has_field (sheet_in w) id) passes)
 
-accepted_owned : (w : World) (c : Command) → Owned w → first_of (refusals w c) ≡ None → Owned (after w c)
+accepted_owned : (w : World) (c : Command) → Owned w → first_of (command_refusals w c) ≡ None → Owned (after w c)
 accepted_owned w (command.Session name tab words) h none = owned_op w (op.Session name tab words) tt h
 accepted_owned w (command.New place session input) h none = owned_op w (op.New place session input) tt h
 accepted_owned w (command.Set id input) h none = owned_op w (op.Set id input) tt h
 accepted_owned w (command.Remove id) h none = owned_op w (op.Remove id) tt h
-accepted_owned w (command.Move id place) h none = owned_op w (op.Move id place) (there w id h (first_passes (refusals w (command.Move id place)) none)).0 h
+accepted_owned w (command.Move id place) h none = owned_op w (op.Move id place) (there w id h (first_passes (command_refusals w (command.Move id place)) none)).0 h
 accepted_owned w (command.Clear id) h none = owned_op w (op.Clear id) tt h
 accepted_owned w (command.Eval id) h none =
-    let t = there w id h (first_passes (refusals w (command.Eval id)) none) in
-    owned_op (with_item w (session_of w id) (line_of w id) (life_of w (session_of w id))) (op.Clear id) tt
-    (owned_item w (session_of w id) (line_of w id) (life_of w (session_of w id)) refl (t.0, sym t.1) h)
+    let t = there w id h (first_passes (command_refusals w (command.Eval id)) none) in
+    owned_op (with_item w (session_of_field w id) (line_of_field w id) (life_of w (session_of_field w id))) (op.Clear id) tt
+    (owned_item w (session_of_field w id) (line_of_field w id) (life_of w (session_of_field w id)) refl (t.0, sym t.1) h)
 accepted_owned w (command.Stop m) h none = owned_without w m h
 
 -- What an event adds to the ops, and whether it is an answer of another session.
@@ -158,13 +158,13 @@ accepted_ops w (command.Set id input) = (op.Set id input ∷ [], refl)
 accepted_ops w (command.Remove id) = (op.Remove id ∷ [], refl)
 accepted_ops w (command.Move id place) = (op.Move id place ∷ [], refl)
 accepted_ops w (command.Clear id) = (op.Clear id ∷ [], refl)
-accepted_ops w (command.Eval id) = (op.Clear id ∷ [], ap (λ (os : List Op). os ++ op.Clear id ∷ []) (item_ops (session_of w id) (line_of w id) (life_of w (session_of w id)) w))
+accepted_ops w (command.Eval id) = (op.Clear id ∷ [], ap (λ (os : List Op). os ++ op.Clear id ∷ []) (item_ops (session_of_field w id) (line_of_field w id) (life_of w (session_of_field w id)) w))
 accepted_ops w (command.Stop m) = ([], sym (append-nil w.ops))
 
 pub command_grows : (w : World) (c : Command) (o : Outcome) (v : World) → Owned w → GivesByParts w (event.Command c) o v → Grown w v
-command_grows w c o v h g = go (first_of (refusals w c)) refl g
+command_grows w c o v h g = go (first_of (command_refusals w c)) refl g
   where
-    go : (r : Option Refusal) → first_of (refusals w c) ≡ r → Commanded w c r o v → Grown w v
+    go : (r : Option Refusal) → first_of (command_refusals w c) ≡ r → Commanded w c r o v → Grown w v
     go (Some r) e g = grown_to w v w g.1 (grown_not w h)
     go None e g = ⊎_elim
         (λ done. grown_to w v (after w c) done.1 (let k = accepted_ops w c in record { owned = accepted_owned w c h e; more = k.0; ops = k.1 }))

@@ -8,7 +8,7 @@ use Rattle.session_engine.specs.declared.event.Event.TheVariants as event
 use Rattle.session_engine.specs.declared.outcome.Outcome.{Outcome}
 use Rattle.session_engine.specs.World.{World}
 use Rattle.session_engine.specs.Does.{Gives, Runs}
-use Rattle.session_engine.specs.Apart.{AreAlike, SessionsAreApart, Told, told_of, tells, numbers, NoneRefused, kept, is_kept, concerns, begins, is_refusal, added}
+use Rattle.session_engine.specs.Apart.{AreAlike, SessionsAreApart, Told, told_to, session_tells, life_numbers, NoneRefused, kept, is_kept, concerns, begins, is_refusal, added}
 use Rattle.session_engine.proofs.ByParts.{by_parts}
 use Rattle.session_engine.proofs.ApartLives.{same_name}
 use Rattle.session_engine.proofs.ApartSteps.{alike_back, alike_on, other_child, own_child}
@@ -34,7 +34,7 @@ both one n w x (event.Child m number c) o p v u k a g h q r b =
     let r = own_child one n w x number c o p v u a (by_parts w (event.Child n number c) o v g2) (by_parts x (event.Child n number c) p u h2) in
     record { alike = r.alike; about = refl; says = λ t. r.says; adds = r.adds }
 
-told_alike : (n : List ℕ) (w x : World) (e : Event) (o p : Outcome) (v u : World) → Same n w x e o p v u → told_of n w e o v ≡ told_of n x e p u
+told_alike : (n : List ℕ) (w x : World) (e : Event) (o p : Outcome) (v u : World) → Same n w x e o p v u → told_to n w e o v ≡ told_to n x e p u
 told_alike n w x e o p v u s =
     ap (λ (k : Option Outcome). record { event = e; outcome = k; ops = added w v }) (go (concerns n w e) s.says ∙ ap (λ (b : Bool). if b then Some p else None) s.about)
     ∙ ap (λ (os : List Op). record { event = e; outcome = if concerns n x e then Some p else None; ops = os }) s.adds
@@ -45,17 +45,17 @@ told_alike n w x e o p v u s =
 
 abbrev pub Law : List ℕ → World → World → List Event → List Event → List Outcome → List Outcome → World → World → Type 0
 Law n w x es fs os ps v u = AreAlike n w x → (run : Runs w es os v) (other : Runs x fs ps u) → NoneRefused os → NoneRefused ps
-    → kept n es ≡ kept n fs → numbers n w es os v run ≡ numbers n x fs ps u other → (tells n w es os v run ≡ tells n x fs ps u other) × AreAlike n v u
+    → kept n es ≡ kept n fs → life_numbers n w es os v run ≡ life_numbers n x fs ps u other → (session_tells n w es os v run ≡ session_tells n x fs ps u other) × AreAlike n v u
 
 -- histories with nothing of the session
-none_left : (n : List ℕ) (x : World) (fs : List Event) (ps : List Outcome) (u : World) (other : Runs x fs ps u) → kept n fs ≡ [] → (tells n x fs ps u other ≡ []) × AreAlike n x u
+none_left : (n : List ℕ) (x : World) (fs : List Event) (ps : List Outcome) (u : World) (other : Runs x fs ps u) → kept n fs ≡ [] → (session_tells n x fs ps u other ≡ []) × AreAlike n x u
 none_left n x [] [] u other h = (refl, subst (λ (y : World). AreAlike n x y) (sym other) (record { ops = refl; lives = refl }))
 none_left n x [] (p ∷ ps) u other h = absurd other
 none_left n x (f ∷ fs) [] u other h = absurd other
 none_left n x (f ∷ fs) (p ∷ ps) u other h = go (is_kept n f) refl h (none_left n other.0 fs ps u other.2)
   where
-    go : (b : Bool) → is_kept n f ≡ b → (if b then f ∷ kept n fs else kept n fs) ≡ [] → (kept n fs ≡ [] → (tells n other.0 fs ps u other.2 ≡ []) × AreAlike n other.0 u)
-        → ((if b then told_of n x f p other.0 ∷ tells n other.0 fs ps u other.2 else tells n other.0 fs ps u other.2) ≡ []) × AreAlike n x u
+    go : (b : Bool) → is_kept n f ≡ b → (if b then f ∷ kept n fs else kept n fs) ≡ [] → (kept n fs ≡ [] → (session_tells n other.0 fs ps u other.2 ≡ []) × AreAlike n other.0 u)
+        → ((if b then told_to n x f p other.0 ∷ session_tells n other.0 fs ps u other.2 else session_tells n other.0 fs ps u other.2) ≡ []) × AreAlike n x u
     go true k h ih = cc
     go false k h ih = let g = ih h in (g.0, alike_on n x other.0 u (other_gives n x f p other.0 k other.1) g.1)
 
@@ -65,8 +65,8 @@ skip_right : (n : List ℕ) (w x : World) (es fs : List Event) (f : Event) (os p
 skip_right n w x es fs f os ps p v u k law a run other q r h m =
     let b = other_gives n x f p other.0 k other.1 in
     let g = law other.0 (alike_on n w x other.0 a b) run other.2 q r.1 (h ∙ ap (λ (b : Bool). if b then f ∷ kept n fs else kept n fs) k)
-    (m ∙ ap (λ (ks : List ℕ). ks ++ numbers n other.0 fs ps u other.2) (begins_not n x f k)) in
-    (g.0 ∙ sym (ap (λ (b : Bool). if b then told_of n x f p other.0 ∷ tells n other.0 fs ps u other.2 else tells n other.0 fs ps u other.2) k), g.1)
+    (m ∙ ap (λ (ks : List ℕ). ks ++ life_numbers n other.0 fs ps u other.2) (begins_not n x f k)) in
+    (g.0 ∙ sym (ap (λ (b : Bool). if b then told_to n x f p other.0 ∷ session_tells n other.0 fs ps u other.2 else session_tells n other.0 fs ps u other.2) k), g.1)
 
 -- an event of others on the left
 skip_left : (n : List ℕ) (w x : World) (es fs : List Event) (e : Event) (os ps : List Outcome) (o : Outcome) (v u : World) → is_kept n e ≡ false
@@ -74,8 +74,8 @@ skip_left : (n : List ℕ) (w x : World) (es fs : List Event) (e : Event) (os ps
 skip_left n w x es fs e os ps o v u k law a run other q r h m =
     let b = other_gives n w e o run.0 k run.1 in
     let g = law run.0 (alike_on n run.0 w x (alike_back n w run.0 b) a) run.2 other q.1 r (sym (ap (λ (b : Bool). if b then e ∷ kept n es else kept n es) k) ∙ h)
-    (sym (ap (λ (ks : List ℕ). ks ++ numbers n run.0 es os v run.2) (begins_not n w e k)) ∙ m) in
-    (ap (λ (b : Bool). if b then told_of n w e o run.0 ∷ tells n run.0 es os v run.2 else tells n run.0 es os v run.2) k ∙ g.0, g.1)
+    (sym (ap (λ (ks : List ℕ). ks ++ life_numbers n run.0 es os v run.2) (begins_not n w e k)) ∙ m) in
+    (ap (λ (b : Bool). if b then told_to n w e o run.0 ∷ session_tells n run.0 es os v run.2 else session_tells n run.0 es os v run.2) k ∙ g.0, g.1)
 
 tail_is : (e f : Event) (xs ys : List Event) → e ∷ xs ≡ f ∷ ys → (e ≡ f) × (xs ≡ ys)
 tail_is e f xs ys h = (cc, cc)
@@ -84,15 +84,15 @@ tail_is e f xs ys h = (cc, cc)
 take_both : OneReading → (n : List ℕ) (w x : World) (es fs : List Event) (e : Event) (os ps : List Outcome) (o p : Outcome) (v u : World) → is_kept n e ≡ true
     → ((y z : World) → Law n y z es fs os ps v u) → Law n w x (e ∷ es) (e ∷ fs) (o ∷ os) (p ∷ ps) v u
 take_both one n w x es fs e os ps o p v u k law a run other q r h m =
-    let b = begins_alike n w x e a (numbers n run.0 es os v run.2) (numbers n other.0 fs ps u other.2) m in
+    let b = begins_alike n w x e a (life_numbers n run.0 es os v run.2) (life_numbers n other.0 fs ps u other.2) m in
     let s = both one n w x e o p run.0 other.0 k a run.1 other.1 q.0 r.0 b.0 in
     let j : e ∷ kept n es ≡ e ∷ kept n fs = sym (ap (λ (b : Bool). if b then e ∷ kept n es else kept n es) k) ∙ h ∙ ap (λ (b : Bool). if b then e ∷ kept n fs else kept n fs) k in
     let g = law run.0 other.0 s.alike run.2 other.2 q.1 r.1 (tail_is e e (kept n es) (kept n fs) j).1 b.1 in
     let t = told_alike n w x e o p run.0 other.0 s in (
-      ap (λ (b : Bool). if b then told_of n w e o run.0 ∷ tells n run.0 es os v run.2 else tells n run.0 es os v run.2) k
-          ∙ ap (λ (d : Told). d ∷ tells n run.0 es os v run.2) t
-          ∙ ap (λ (ds : List Told). told_of n x e p other.0 ∷ ds) g.0
-          ∙ sym (ap (λ (b : Bool). if b then told_of n x e p other.0 ∷ tells n other.0 fs ps u other.2 else tells n other.0 fs ps u other.2) k),
+      ap (λ (b : Bool). if b then told_to n w e o run.0 ∷ session_tells n run.0 es os v run.2 else session_tells n run.0 es os v run.2) k
+          ∙ ap (λ (d : Told). d ∷ session_tells n run.0 es os v run.2) t
+          ∙ ap (λ (ds : List Told). told_to n x e p other.0 ∷ ds) g.0
+          ∙ sym (ap (λ (b : Bool). if b then told_to n x e p other.0 ∷ session_tells n other.0 fs ps u other.2 else session_tells n other.0 fs ps u other.2) k),
       g.1,
     )
 

@@ -15,7 +15,7 @@ use Rattle.session_engine.specs.declared.event.Event.TheVariants as event
 use Rattle.session_engine.specs.declared.outcome.Outcome.{Outcome}
 use Rattle.session_engine.specs.World.{World, with_op_if, sheet_in}
 use Rattle.session_engine.specs.Does.{Gives, Runs, op_by}
-use Rattle.session_engine.specs.Apart.{SessionsSeeTheirOwn, LookAlike, seen_by, Told, told_of, tells, is_kept, added, AreAlike, commanded, named}
+use Rattle.session_engine.specs.Apart.{SessionsSeeTheirOwn, LookAlike, seen_by, Told, told_to, session_tells, is_kept, added, AreAlike, commanded, named}
 use Rattle.session_engine.proofs.ByParts.{by_parts}
 use Rattle.session_engine.proofs.ApartLives.{same_name, is_itself}
 use Rattle.session_engine.proofs.ApartOps.{drop_length, order_alike, next_alike, sessions_alike, session_alike, input_alike}
@@ -51,18 +51,18 @@ unseen n w (event.Child m number c) o v b k h g s =
     go z kept (Some (answered.Line id prompt output)) mine = subst (λ (os : List Op). Seen n (os ++ op.Answer id prompt output ∷ []) b) (sym kept) (seen_past n m w.ops b id prompt output mine apart s)
 
 -- what is told of is all that is seen
-seen_run : (n : List ℕ) (w : World) (es : List Event) (os : List Outcome) (v : World) (run : Runs w es os v) (b : List Op) → Owned w → Seen n w.ops b → Seen n v.ops (b ++ ops_told (tells n w es os v run))
+seen_run : (n : List ℕ) (w : World) (es : List Event) (os : List Outcome) (v : World) (run : Runs w es os v) (b : List Op) → Owned w → Seen n w.ops b → Seen n v.ops (b ++ ops_told (session_tells n w es os v run))
 seen_run n w [] [] v run b h s = subst (λ (z : World). Seen n z.ops (b ++ [])) (sym run) (subst (λ (os : List Op). Seen n w.ops os) (sym (append-nil b)) s)
 seen_run n w [] (o ∷ os) v run b h s = absurd run
 seen_run n w (e ∷ es) [] v run b h s = absurd run
 seen_run n w (e ∷ es) (o ∷ os) v run b h s = go (is_kept n e) refl (λ c t. seen_run n run.0 es os v run.2 c (grows w e o run.0 h run.1).owned t)
   where
-    go : (k : Bool) → is_kept n e ≡ k → ((c : List Op) → Seen n run.0.ops c → Seen n v.ops (c ++ ops_told (tells n run.0 es os v run.2)))
-        → Seen n v.ops (b ++ ops_told (if k then told_of n w e o run.0 ∷ tells n run.0 es os v run.2 else tells n run.0 es os v run.2))
+    go : (k : Bool) → is_kept n e ≡ k → ((c : List Op) → Seen n run.0.ops c → Seen n v.ops (c ++ ops_told (session_tells n run.0 es os v run.2)))
+        → Seen n v.ops (b ++ ops_told (if k then told_to n w e o run.0 ∷ session_tells n run.0 es os v run.2 else session_tells n run.0 es os v run.2))
     go false k ih = ih b (unseen n w e o run.0 b k h run.1 s)
     go true k ih =
         let more : Seen n run.0.ops (b ++ added w run.0) = subst (λ (os : List Op). Seen n os (b ++ added w run.0)) (sym (added_is w run.0 (grows w e o run.0 h run.1))) (seen_more n w.ops b (added w run.0) s) in
-        subst (λ (os : List Op). Seen n v.ops os) (append_assoc b (added w run.0) (ops_told (tells n run.0 es os v run.2))) (ih (b ++ added w run.0) more)
+        subst (λ (os : List Op). Seen n v.ops os) (append_assoc b (added w run.0) (ops_told (session_tells n run.0 es os v run.2))) (ih (b ++ added w run.0) more)
 
 same_fields : (n : List ℕ) (a b : List Op) (ids : List ℕ) → Seen n a b → map (seen_by n) (map (field_of a) ids) ≡ map (seen_by n) (map (field_of b) ids)
 same_fields n a b [] s = refl
@@ -83,8 +83,8 @@ sessions_see_their_own one name w x es fs os ps v u opened opens ops run other q
     let alike : AreAlike name w x = record { ops = ap commanded ops; lives = ap (named name) opened.0 ∙ sym (ap (named name) opens.0) } in
     let same = (sessions_are_apart one name w x es fs os ps v u alike run other q r h m).0 in
     let left = seen_run name w es os v run w.ops (opened_owned w opened) (seen_itself name w.ops) in
-    let right : Seen name u.ops (w.ops ++ ops_told (tells name x fs ps u other)) = subst (λ (b : List Op). Seen name u.ops (b ++ ops_told (tells name x fs ps u other))) (sym ops) (seen_run name x fs ps u other x.ops (opened_owned x opens) (seen_itself name x.ops)) in (
+    let right : Seen name u.ops (w.ops ++ ops_told (session_tells name x fs ps u other)) = subst (λ (b : List Op). Seen name u.ops (b ++ ops_told (session_tells name x fs ps u other))) (sym ops) (seen_run name x fs ps u other x.ops (opened_owned x opens) (seen_itself name x.ops)) in (
       same,
-      look_alike name v u (seen_on name v.ops (w.ops ++ ops_told (tells name w es os v run)) u.ops left
-          (subst (λ (ts : List Told). Seen name (w.ops ++ ops_told ts) u.ops) (sym same) (seen_back name u.ops (w.ops ++ ops_told (tells name x fs ps u other)) right))),
+      look_alike name v u (seen_on name v.ops (w.ops ++ ops_told (session_tells name w es os v run)) u.ops left
+          (subst (λ (ts : List Told). Seen name (w.ops ++ ops_told ts) u.ops) (sym same) (seen_back name u.ops (w.ops ++ ops_told (session_tells name x fs ps u other)) right))),
     )

@@ -24,11 +24,11 @@ use Rattle.session_engine.specs.declared.outcome.Effect.{Effect}
 use Rattle.session_engine.specs.declared.outcome.Effect.TheVariants as effect
 use Rattle.session_engine.specs.declared.reply.Closed.{Closed}
 use Rattle.session_engine.specs.declared.reply.Reply.TheVariants as reply
-use Rattle.session_engine.specs.World.{World, Going, life_of, with_number, session_of, line_of}
-use Rattle.session_engine.specs.Does.{ends, replies, refused, told_of, told_with, sends_or_kills, kill_if, closed_by}
+use Rattle.session_engine.specs.World.{World, Going, life_of, with_number, session_of_field, line_of_field}
+use Rattle.session_engine.specs.Does.{ends, replies, refused, told_of, told_with, sends_or_kills, kill_if, closed_told}
 use Rattle.session_engine.specs.inside.Given.{Commanded, Childed, Pieced, Ended_by, stops, outcome_of, GivesByParts}
 use Rattle.session_engine.specs.inside.Parts.{asks}
-use Rattle.session_engine.specs.Refused.{refusals}
+use Rattle.session_engine.specs.Refused.{command_refusals}
 use Rattle.session_engine.specs.Apart.{OthersAreSilent, concerns, is_told, is_on}
 use Rattle.session_engine.proofs.ApartLives.{first_has}
 
@@ -56,7 +56,7 @@ life_silent : (n : List ℕ) (w : World) (l : Going) (c : ChildEvent) (o : Outco
 life_silent n w l child.StartRefused o v h g = said n o (ends l reason.StartRefused false) g.0 (end_silent n l reason.StartRefused false h)
 life_silent n w l (child.Piece piece) o v h g =
     let s : Step = step_of l.past l.blocks piece g.0 g.1 in
-    said n o (told_of l s) g.2.1 (told_silent n l.name l.number (closed_by s.answered) s.default_input s.send s.ended h)
+    said n o (told_of l s) g.2.1 (told_silent n l.name l.number (closed_told s.answered) s.default_input s.send s.ended h)
 life_silent n w l child.End o v h g = said n o (ends l reason.Ended true) g.0 (end_silent n l reason.Ended true h)
 life_silent n w l child.ReadFault o v h g = said n o (ends l reason.ReadFault true) g.0 (end_silent n l reason.ReadFault true h)
 life_silent n w l child.SendFault o v h g = said n o (ends l reason.SendFault true) g.0 (end_silent n l reason.SendFault true h)
@@ -102,11 +102,11 @@ accepted_silent n w (command.Set id input) h = (refl, refl)
 accepted_silent n w (command.Remove id) h = (refl, refl)
 accepted_silent n w (command.Move id place) h = (refl, refl)
 accepted_silent n w (command.Clear id) h = (refl, refl)
-accepted_silent n w (command.Eval id) h = ask_silent n (session_of w id) w (line_of w id) (life_of w (session_of w id)) h
+accepted_silent n w (command.Eval id) h = ask_silent n (session_of_field w id) w (line_of_field w id) (life_of w (session_of_field w id)) h
 accepted_silent n w (command.Stop m) h = stop_silent n m w (life_of w m) (λ l e. first_has m w.lives l e) h
 
 command_silent : (n : List ℕ) (w : World) (c : Command) (o : Outcome) (v : World) → concerns n w (event.Command c) ≡ false → GivesByParts w (event.Command c) o v → Silent n o
-command_silent n w c o v h g = go (first_of (refusals w c)) g
+command_silent n w c o v h g = go (first_of (command_refusals w c)) g
   where
     go : (r : Option Refusal) → Commanded w c r o v → Silent n o
     go (Some r) g = said n o (refused r) g.0 (refl, refl)

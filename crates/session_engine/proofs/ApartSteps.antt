@@ -30,11 +30,11 @@ use Rattle.session_engine.specs.declared.event.Event.TheVariants as event
 use Rattle.session_engine.specs.declared.outcome.Outcome.{Outcome}
 use Rattle.session_engine.specs.declared.reply.Reply.TheVariants as reply
 use Rattle.session_engine.specs.Named.{first_named, without_named, replace_named}
-use Rattle.session_engine.specs.World.{World, Going, life_of, with_number, with_op, with_op_if, session_of, input_of, line_of, sheet_in}
+use Rattle.session_engine.specs.World.{World, Going, life_of, with_number, with_op, with_op_if, session_of_field, input_of, line_of_field, sheet_in}
 use Rattle.session_engine.specs.Does.{with_piece, op_by, ends, replies, told_of, refused, joined_by, begun_with}
 use Rattle.session_engine.specs.inside.Given.{Commanded, Childed, Ended_by, Pieced, IsPieced, Ignored, stops, outcome_of, after, GivesByParts}
 use Rattle.session_engine.specs.inside.Parts.{with_life, without_life, with_item, goes_on, asks}
-use Rattle.session_engine.specs.Refused.{refusals, takes_memory}
+use Rattle.session_engine.specs.Refused.{command_refusals, command_takes_memory}
 use Rattle.session_engine.specs.Apart.{AreAlike, named, commanded, is_commanded, concerns, begins, number_if, is_refusal, is_kept, added}
 use Rattle.session_engine.proofs.ApartLives.{same_name, is_itself, put_first, rest_of, front_of, replaced_other, without_other, replaced_own, without_own, named-push, first_is, first_has}
 use Rattle.session_engine.proofs.ApartOps.{commanded-push, next_alike, sessions_alike, session_of_alike, input_of_alike, drop_length, drop_itself}

@@ -18,13 +18,13 @@ use Rattle.plugin_core.specs.declared.item.Item.TheVariants as item
 use Rattle.session_engine.specs.Limits.{most_lives}
 use Rattle.session_engine.specs.declared.table.Running.{Running}
 use Rattle.session_engine.specs.inside.Tables.{Joined, Begun, with_life}
-use Rattle.session_engine.specs.Host.{RunsAs, Lives, HasField, HaveFields, StandsFor}
+use Rattle.session_engine.specs.Host.{RunsAs, Lives, HasField, HaveFields, EngineStandsFor}
 use Rattle.session_engine.proofs.Tables.{found, not_found, pushed, numbers_are}
 use Rattle.session_engine.proofs.Standing.{all_at, put}
-use Rattle.session_engine.specs.World.{World, Going, life_of, session_of, sheet_in, waiting_in, fits, fits_in}
+use Rattle.session_engine.specs.World.{World, Going, life_of, session_of_field, sheet_in, waiting_in, fits, fits_in}
 use Rattle.session_engine.specs.Refused.{full, lives_are_spent}
 use Rattle.session_engine.specs.inside.Parts.{queue_refusals, eval_refusals, start_words, asks, with_item}
-use Rattle.session_engine.specs.Does.{words_of, begun_with, joined_by}
+use Rattle.session_engine.specs.Does.{starting_words, begun_with, joined_by}
 use Rattle.std.specs.Str.{bytes_eq}
 use Rattle.std.proofs.lemmas.Slice.Eq.{bytes_eq-Decides}
 use Rattle.std.specs.Prelude.{Result, Ok, Err, OnErr, IfErr}
@@ -42,8 +42,8 @@ use Rattle.session_engine.specs.Named.{first_named, without_named}
 use Rattle.session_engine.specs.inside.Tables.{Asked, CanGoBack}
 use Rattle.session_engine.specs.Host.{name_of, number_in}
 use Rattle.session_engine.proofs.Tables.{numbers_stay}
-use Rattle.session_engine.specs.World.{by_field, in_flight, line_of, with_op}
-use Rattle.session_engine.specs.Refused.{refusals}
+use Rattle.session_engine.specs.World.{by_field, in_flight, line_of_field, with_op}
+use Rattle.session_engine.specs.Refused.{command_refusals}
 use Rattle.session_engine.specs.Does.{refused}
 use Rattle.session_engine.specs.inside.Commits.{RefusesEval, SparesItem, SparesLife, told_asked, begun_with_words}
 use Rattle.session_engine.specs.Does.{does, evaluates, tells, behind, CommandDoes, MayDo}
@@ -75,19 +75,19 @@ fits_unless room end o h = go (fits_in room end o) refl
     go true e = refl
     go false e = absurd (h (λ f. let no : true ≡ false = sym (fit room end o f) ∙ e in cc))
 
-at_session : (w : World) (id : ℕ) (name : List ℕ) → session_of w id ≡ name → first_of (queue_refusals w (life_of w (session_of w id))) ≡ first_of (queue_refusals w (life_of w name))
+at_session : (w : World) (id : ℕ) (name : List ℕ) → session_of_field w id ≡ name → first_of (queue_refusals w (life_of w (session_of_field w id))) ≡ first_of (queue_refusals w (life_of w name))
 at_session w id name is = ap (λ (n : List ℕ). first_of (queue_refusals w (life_of w n))) is
 
-pub refused_queue : (w : World) (id : ℕ) (name : List ℕ) (r : Refusal) → session_of w id ≡ name → first_of (queue_refusals w (life_of w name)) ≡ Some r → RefusesEval w id r
-refused_queue w id name r is e = inl (first_before (queue_refusals w (life_of w (session_of w id))) (full w (op.Clear id) ∷ []) r (at_session w id name is ∙ e))
+pub refused_queue : (w : World) (id : ℕ) (name : List ℕ) (r : Refusal) → session_of_field w id ≡ name → first_of (queue_refusals w (life_of w name)) ≡ Some r → RefusesEval w id r
+refused_queue w id name r is e = inl (first_before (queue_refusals w (life_of w (session_of_field w id))) (full w (op.Clear id) ∷ []) r (at_session w id name is ∙ e))
 
-first_is : (w : World) (id : ℕ) (name : List ℕ) → session_of w id ≡ name → first_of (queue_refusals w (life_of w name)) ≡ None → first_of (eval_refusals w id) ≡ (if not (fits w (op.Clear id)) then Some refusal.JournalFull else None)
-first_is w id name is e = first_behind (queue_refusals w (life_of w (session_of w id))) (full w (op.Clear id) ∷ []) (at_session w id name is ∙ e)
+first_is : (w : World) (id : ℕ) (name : List ℕ) → session_of_field w id ≡ name → first_of (queue_refusals w (life_of w name)) ≡ None → first_of (eval_refusals w id) ≡ (if not (fits w (op.Clear id)) then Some refusal.JournalFull else None)
+first_is w id name is e = first_behind (queue_refusals w (life_of w (session_of_field w id))) (full w (op.Clear id) ∷ []) (at_session w id name is ∙ e)
 
-pub refused_full : (w : World) (id : ℕ) (name : List ℕ) → session_of w id ≡ name → first_of (queue_refusals w (life_of w name)) ≡ None → fits w (op.Clear id) ≡ false → RefusesEval w id refusal.JournalFull
+pub refused_full : (w : World) (id : ℕ) (name : List ℕ) → session_of_field w id ≡ name → first_of (queue_refusals w (life_of w name)) ≡ None → fits w (op.Clear id) ≡ false → RefusesEval w id refusal.JournalFull
 refused_full w id name is e f = inl (first_is w id name is e ∙ ap (λ (b : Bool). if not b then Some refusal.JournalFull else None) f)
 
-pub not_refused : (w : World) (id : ℕ) (name : List ℕ) → session_of w id ≡ name → first_of (queue_refusals w (life_of w name)) ≡ None → fits w (op.Clear id) ≡ true → first_of (eval_refusals w id) ≡ None
+pub not_refused : (w : World) (id : ℕ) (name : List ℕ) → session_of_field w id ≡ name → first_of (queue_refusals w (life_of w name)) ≡ None → fits w (op.Clear id) ≡ true → first_of (eval_refusals w id) ≡ None
 not_refused w id name is e f = first_is w id name is e ∙ ap (λ (b : Bool). if not b then Some refusal.JournalFull else None) f
 
 -- An item is asked.
@@ -98,8 +98,8 @@ all_behind P (y ∷ xs) x all one = (all.0, all_behind P xs x all.1 one)
 
 -- the worlds and outcomes of an item that joins a life, and of one that begins one
 pub joins : (store : StoreView) (rs new : List Running) (begun next : ℕ) (w : World) (name : List ℕ) (i : Item) (number : ℕ) (sent : Option (List ℕ)) (words : Option (List (List ℕ)))
-    → StandsFor store rs begun w → HasField (sheet_in w) i → Joined name i rs new number sent → words ≡ start_words w name (life_of w name)
-    → (told_asked name number words sent ≡ asks w name i (life_of w name)) × StandsFor store new (begun_with_words begun words) (with_item w name i (life_of w name))
+    → EngineStandsFor store rs begun w → HasField (sheet_in w) i → Joined name i rs new number sent → words ≡ start_words w name (life_of w name)
+    → (told_asked name number words sent ≡ asks w name i (life_of w name)) × EngineStandsFor store new (begun_with_words begun words) (with_item w name i (life_of w name))
 joins store rs new begun next w name i number sent words h has j is =
     let f = found name rs w.lives j.before h.lives_are j.found in
     let a = j.accepts f.life.past f.life.blocks f.runs.stands in
@@ -113,21 +113,21 @@ joins store rs new begun next w name i number sent words h has j is =
     ∙ ap (λ (s : Option (List ℕ)). told_asked name f.life.number None s) a.gives in
     let stand = put store rs begun w name j.before (with_life j.before j.life) (joined_by f.life i) h f (record { name = f.runs.name; number = j.same ∙ f.runs.number; stands = a.then }) have f.named in (
       told ∙ sym (ap (λ (o : Option Going). asks w name i o) f.is),
-      subst (λ (o : Option Going). StandsFor store new (begun_with_words begun words) (with_item w name i o)) (sym f.is)
-          (subst (λ (ws : Option (List (List ℕ))). StandsFor store new (begun_with_words begun ws) (with_item w name i (Some f.life))) (sym no_words)
-          (subst (λ (l : List Running). StandsFor store l begun (with_item w name i (Some f.life))) (sym j.put) stand)),
+      subst (λ (o : Option Going). EngineStandsFor store new (begun_with_words begun words) (with_item w name i o)) (sym f.is)
+          (subst (λ (ws : Option (List (List ℕ))). EngineStandsFor store new (begun_with_words begun ws) (with_item w name i (Some f.life))) (sym no_words)
+          (subst (λ (l : List Running). EngineStandsFor store l begun (with_item w name i (Some f.life))) (sym j.put) stand)),
     )
 
 pub begins : (store : StoreView) (rs new : List Running) (begun : ℕ) (w : World) (name : List ℕ) (i : Item) (number : ℕ) (sent : Option (List ℕ)) (words : Option (List (List ℕ)))
-    → StandsFor store rs begun w → HasField (sheet_in w) i → lives_are_spent w.begun (life_of w name) ≡ false → Begun name (begun + 1) i rs new number sent → words ≡ start_words w name (life_of w name)
-    → (told_asked name number words sent ≡ asks w name i (life_of w name)) × StandsFor store new (begun_with_words begun words) (with_item w name i (life_of w name))
+    → EngineStandsFor store rs begun w → HasField (sheet_in w) i → lives_are_spent w.begun (life_of w name) ≡ false → Begun name (begun + 1) i rs new number sent → words ≡ start_words w name (life_of w name)
+    → (told_asked name number words sent ≡ asks w name i (life_of w name)) × EngineStandsFor store new (begun_with_words begun words) (with_item w name i (life_of w name))
 begins store rs new begun w name i number sent words h has left b is =
     let e : life_of w name ≡ None = not_found name rs w.lives h.lives_are b.none in
-    let ws : words ≡ Some (words_of (session_named (sheet_in w).sessions name)) = is ∙ ap (λ (o : Option Going). start_words w name o) e in
+    let ws : words ≡ Some (starting_words (session_named (sheet_in w).sessions name)) = is ∙ ap (λ (o : Option Going). start_words w name o) e in
     let n : number ≡ w.begun + 1 = b.told ∙ ap (λ (k : ℕ). k + 1) h.begun_is in
     let spare : nat_le most_lives w.begun ≡ false = sym (ap (λ (o : Option Going). lives_are_spent w.begun o) e) ∙ left in
     let life = begun_with w name i in
-    let stand : StandsFor store new (begun + 1) (with_item w name i None) = record {
+    let stand : EngineStandsFor store new (begun + 1) (with_item w name i None) = record {
       still_open = h.still_open;
       contents = h.contents;
       allowed = h.allowed;
@@ -139,9 +139,9 @@ begins store rs new begun w name i number sent words h has left b is =
       lives_are = subst (λ (l : List Running). Lives l (w.lives ++ life ∷ [])) (sym b.put) (pushed rs w.lives (record { name = name; life = b.life }) life h.lives_are (record { name = refl; number = b.is_number ∙ ap (λ (k : ℕ). k + 1) h.begun_is; stands = b.stands }));
       fields = all_behind (HaveFields (sheet_in w)) w.lives life h.fields (has, tt);
     } in (
-      ap (λ (x : Option (List (List ℕ))). told_asked name number x sent) ws ∙ ap (λ (k : ℕ). told_asked name k (Some (words_of (session_named (sheet_in w).sessions name))) sent) n ∙ sym (ap (λ (o : Option Going). asks w name i o) e),
-      subst (λ (o : Option Going). StandsFor store new (begun_with_words begun words) (with_item w name i o)) (sym e)
-          (subst (λ (x : Option (List (List ℕ))). StandsFor store new (begun_with_words begun x) (with_item w name i None)) (sym ws) stand),
+      ap (λ (x : Option (List (List ℕ))). told_asked name number x sent) ws ∙ ap (λ (k : ℕ). told_asked name k (Some (starting_words (session_named (sheet_in w).sessions name))) sent) n ∙ sym (ap (λ (o : Option Going). asks w name i o) e),
+      subst (λ (o : Option Going). EngineStandsFor store new (begun_with_words begun words) (with_item w name i o)) (sym e)
+          (subst (λ (x : Option (List (List ℕ))). EngineStandsFor store new (begun_with_words begun x) (with_item w name i None)) (sym ws) stand),
     )
 
 pub ops_item : (w : World) (name : List ℕ) (i : Item) (l : Option Going) → (with_item w name i l).ops ≡ w.ops
@@ -168,7 +168,7 @@ without_behind {A} name_of name (y ∷ xs) x none is = go (bytes_eq (name_of y) 
     go false none rest = ap (λ (l : List A). y ∷ l) (rest none is)
 
 pub goes_back : (store : StoreView) (rs new : List Running) (begun : ℕ) (w : World) (name : List ℕ) (i : Item) (number : ℕ) (sent : Option (List ℕ)) (words : Option (List (List ℕ)))
-    → StandsFor store rs begun w → Asked name (begun + 1) i rs new number sent → words ≡ start_words w name (life_of w name) → CanGoBack name rs begun new (begun_with_words begun words)
+    → EngineStandsFor store rs begun w → Asked name (begun + 1) i rs new number sent → words ≡ start_words w name (life_of w name) → CanGoBack name rs begun new (begun_with_words begun words)
 goes_back store rs new begun w name i number sent words h asked is = ⊎_elim
     (λ j.
     let f = found name rs w.lives j.before h.lives_are j.found in
@@ -176,7 +176,7 @@ goes_back store rs new begun w name i number sent words h asked is = ⊎_elim
     inl (ap (λ (x : Option (List (List ℕ))). begun_with_words begun x) none, λ other. ap (λ (l : List Running). number_in l other) j.put ∙ numbers_stay name other rs j.before j.life j.found j.same))
     (λ b.
     let e : life_of w name ≡ None = not_found name rs w.lives h.lives_are b.none in
-    let some : words ≡ Some (words_of (session_named (sheet_in w).sessions name)) = is ∙ ap (λ (o : Option Going). start_words w name o) e in
+    let some : words ≡ Some (starting_words (session_named (sheet_in w).sessions name)) = is ∙ ap (λ (o : Option Going). start_words w name o) e in
     inr (
       ap (λ (x : Option (List (List ℕ))). begun_with_words begun x) some,
       ap (λ (l : List Running). without_named name_of name l) b.put ∙ without_behind name_of name rs (record { name = name; life = b.life }) b.none ((bytes_eq-Decides name name).1 refl),
@@ -194,43 +194,43 @@ went_back name other old mid new begun now b can is settled = ⊎_elim
 
 -- An Eval, against the definitions.
 
-pub session_is : (w : World) (id : ℕ) (f : Field) → field_in (sheet_in w).fields id ≡ Some f → session_of w id ≡ f.session
+pub session_is : (w : World) (id : ℕ) (f : Field) → field_in (sheet_in w).fields id ≡ Some f → session_of_field w id ≡ f.session
 session_is w id f e = ap (λ (o : Option Field). by_field o [] (λ g. g.session)) e
 
-pub line_is : (w : World) (id : ℕ) (f : Field) → field_in (sheet_in w).fields id ≡ Some f → line_of w id ≡ item.Line id f.input
+pub line_is : (w : World) (id : ℕ) (f : Field) → field_in (sheet_in w).fields id ≡ Some f → line_of_field w id ≡ item.Line id f.input
 line_is w id f e = ap (λ (o : Option Field). item.Line id (by_field o [] (λ g. g.input))) e
 
-first_eval : (w : World) (id : ℕ) (f : Field) → field_in (sheet_in w).fields id ≡ Some f → in_flight w id ≡ false → first_of (refusals w (command.Eval id)) ≡ first_of (eval_refusals w id)
+first_eval : (w : World) (id : ℕ) (f : Field) → field_in (sheet_in w).fields id ≡ Some f → in_flight w id ≡ false → first_of (command_refusals w (command.Eval id)) ≡ first_of (eval_refusals w id)
 first_eval w id f e free =
     let has : has_field (sheet_in w) id ≡ true = ap (λ (o : Option Field). is_some o) e in
     ap (λ (b : Bool). if not b then Some refusal.NoField else (if in_flight w id then Some refusal.InFlight else first_of (eval_refusals w id))) has
     ∙ ap (λ (b : Bool). if b then Some refusal.InFlight else first_of (eval_refusals w id)) free
 
-pub not_spent : (w : World) (id : ℕ) → first_of (eval_refusals w id) ≡ None → lives_are_spent w.begun (life_of w (session_of w id)) ≡ false
+pub not_spent : (w : World) (id : ℕ) → first_of (eval_refusals w id) ≡ None → lives_are_spent w.begun (life_of w (session_of_field w id)) ≡ false
 not_spent w id h = (none_applies (eval_refusals w id) h).1.0
 
 pub gives_no_field : (w : World) (id : ℕ) → field_in (sheet_in w).fields id ≡ None → MayDo w (event.Command (command.Eval id)) (tells w (reply.Refused refusal.NoField))
 gives_no_field w id e =
     let has : has_field (sheet_in w) id ≡ false = ap (λ (o : Option Field). is_some o) e in
-    let first : first_of (refusals w (command.Eval id)) ≡ Some refusal.NoField =
+    let first : first_of (command_refusals w (command.Eval id)) ≡ Some refusal.NoField =
     ap (λ (b : Bool). if not b then Some refusal.NoField else (if in_flight w id then Some refusal.InFlight else first_of (eval_refusals w id))) has in
     subst (λ (x : Option Refusal). CommandDoes w (command.Eval id) x (tells w (reply.Refused refusal.NoField))) (sym first) refl
 
 pub gives_in_flight : (w : World) (id : ℕ) (f : Field) → field_in (sheet_in w).fields id ≡ Some f → in_flight w id ≡ true → MayDo w (event.Command (command.Eval id)) (tells w (reply.Refused refusal.InFlight))
 gives_in_flight w id f e waits =
     let has : has_field (sheet_in w) id ≡ true = ap (λ (o : Option Field). is_some o) e in
-    let first : first_of (refusals w (command.Eval id)) ≡ Some refusal.InFlight =
+    let first : first_of (command_refusals w (command.Eval id)) ≡ Some refusal.InFlight =
     ap (λ (b : Bool). if not b then Some refusal.NoField else (if in_flight w id then Some refusal.InFlight else first_of (eval_refusals w id))) has
     ∙ ap (λ (b : Bool). if b then Some refusal.InFlight else first_of (eval_refusals w id)) waits in
     subst (λ (x : Option Refusal). CommandDoes w (command.Eval id) x (tells w (reply.Refused refusal.InFlight))) (sym first) refl
 
 -- An evaluation in the parts that a host works on.
 
-pub evaluated_told : (w : World) (id : ℕ) (name : List ℕ) (l : Option Going) → (evaluates w id name l).told ≡ asks w name (line_of w id) l
+pub evaluated_told : (w : World) (id : ℕ) (name : List ℕ) (l : Option Going) → (evaluates w id name l).told ≡ asks w name (line_of_field w id) l
 evaluated_told w id name None = refl
 evaluated_told w id name (Some l) = refl
 
-pub evaluated_leads : (w : World) (id : ℕ) (name : List ℕ) (l : Option Going) → behind w (evaluates w id name l) ≡ with_op (op.Clear id) (with_item w name (line_of w id) l)
+pub evaluated_leads : (w : World) (id : ℕ) (name : List ℕ) (l : Option Going) → behind w (evaluates w id name l) ≡ with_op (op.Clear id) (with_item w name (line_of_field w id) l)
 evaluated_leads w id name None = refl
 evaluated_leads w id name (Some l) = refl
 
@@ -251,21 +251,21 @@ module _ (w : World) (id : ℕ) (f : Field) (e : field_in (sheet_in w).fields id
   pub eval_told : (line : Item) → line ≡ item.Line id f.input → asks w f.session line (life_of w f.session) ≡ (does w (command.Eval id)).told
   eval_told line is =
       let s = sym (session_is w id f e) in
-      let l : line ≡ line_of w id = is ∙ sym (line_is w id f e) in
-      ap (λ (n : List ℕ). asks w n line (life_of w n)) s ∙ ap (λ (i : Item). asks w (session_of w id) i (life_of w (session_of w id))) l ∙ sym (evaluated_told w id (session_of w id) (life_of w (session_of w id)))
+      let l : line ≡ line_of_field w id = is ∙ sym (line_is w id f e) in
+      ap (λ (n : List ℕ). asks w n line (life_of w n)) s ∙ ap (λ (i : Item). asks w (session_of_field w id) i (life_of w (session_of_field w id))) l ∙ sym (evaluated_told w id (session_of_field w id) (life_of w (session_of_field w id)))
 
   pub eval_leads : (line : Item) → line ≡ item.Line id f.input → with_op (op.Clear id) (with_item w f.session line (life_of w f.session)) ≡ behind w (does w (command.Eval id))
   eval_leads line is =
       let s = sym (session_is w id f e) in
-      let l : line ≡ line_of w id = is ∙ sym (line_is w id f e) in
-      ap (λ (n : List ℕ). with_op (op.Clear id) (with_item w n line (life_of w n))) s ∙ ap (λ (i : Item). with_op (op.Clear id) (with_item w (session_of w id) i (life_of w (session_of w id)))) l
-      ∙ sym (evaluated_leads w id (session_of w id) (life_of w (session_of w id)))
+      let l : line ≡ line_of_field w id = is ∙ sym (line_is w id f e) in
+      ap (λ (n : List ℕ). with_op (op.Clear id) (with_item w n line (life_of w n))) s ∙ ap (λ (i : Item). with_op (op.Clear id) (with_item w (session_of_field w id) i (life_of w (session_of_field w id)))) l
+      ∙ sym (evaluated_leads w id (session_of_field w id) (life_of w (session_of_field w id)))
 
   pub eval_gives : (does w (command.Eval id)).op ≡ Some (op.Clear id)
-  eval_gives = evaluated_op w id (session_of w id) (life_of w (session_of w id))
+  eval_gives = evaluated_op w id (session_of_field w id) (life_of w (session_of_field w id))
 
   -- the disk's fault at an Eval, behind a preparation that changed nothing
-  pub eval_fails : (old mid new : HostView) (r : Result Outcome HostFault) → StandsFor old.store old.lives old.begun w → first_of (eval_refusals w id) ≡ None → SameStore old.store mid.store → mid.lives ≡ old.lives
+  pub eval_fails : (old mid new : HostView) (r : Result Outcome HostFault) → EngineStandsFor old.store old.lives old.begun w → first_of (eval_refusals w id) ≡ None → SameStore old.store mid.store → mid.lives ≡ old.lives
       → OnErr r (new.store.sheet.contents ≡ mid.store.sheet.contents) → ((other : List ℕ) → OnErr r (number_in new.lives other ≡ number_in mid.lives other))
       → IfErr r (λ fault. (fault ≡ faults.Disk) × Rises mid.store.disk.faults new.store.disk.faults) → OnDisk w.ops (Some (op.Clear id)) old.store.disk new.store.disk
       → IfErr r (Failed w (event.Command (command.Eval id)) old new)

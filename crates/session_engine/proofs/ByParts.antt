@@ -22,8 +22,8 @@ use Rattle.session_engine.specs.declared.event.Event.TheVariants as event
 use Rattle.session_engine.specs.declared.outcome.Outcome.{Outcome}
 use Rattle.session_engine.specs.declared.reply.Reply.{Reply}
 use Rattle.session_engine.specs.declared.reply.Reply.TheVariants as reply
-use Rattle.session_engine.specs.World.{World, Going, life_of, with_number, with_op, with_op_if, session_of, line_of}
-use Rattle.session_engine.specs.Refused.{refusals, takes_memory}
+use Rattle.session_engine.specs.World.{World, Going, life_of, with_number, with_op, with_op_if, session_of_field, line_of_field}
+use Rattle.session_engine.specs.Refused.{command_refusals, command_takes_memory}
 use Rattle.session_engine.specs.Does.{Does, does, behind, evaluates, ends_life, steps, tells, told_of, op_by, with_piece, CommandDoes, ChildDoes, MayDo, Gives}
 use Rattle.session_engine.specs.inside.Parts.{asks, with_item, without_life, goes_on}
 use Rattle.session_engine.specs.inside.Given.{stops, outcome_of, after, Commanded, Pieced, IsPieced, Ignored, Ended_by, Childed, GivesByParts}
@@ -49,7 +49,7 @@ same_outcome w (command.Set id input) = refl
 same_outcome w (command.Remove id) = refl
 same_outcome w (command.Move id place) = refl
 same_outcome w (command.Clear id) = refl
-same_outcome w (command.Eval id) = evaluated_told w id (session_of w id) (life_of w (session_of w id))
+same_outcome w (command.Eval id) = evaluated_told w id (session_of_field w id) (life_of w (session_of_field w id))
 same_outcome w (command.Stop name) = stopped_told w (life_of w name)
 
 same_after : (w : World) (c : Command) → behind w (does w c) ≡ after w c
@@ -59,7 +59,7 @@ same_after w (command.Set id input) = refl
 same_after w (command.Remove id) = refl
 same_after w (command.Move id place) = refl
 same_after w (command.Clear id) = refl
-same_after w (command.Eval id) = evaluated_leads w id (session_of w id) (life_of w (session_of w id))
+same_after w (command.Eval id) = evaluated_leads w id (session_of_field w id) (life_of w (session_of_field w id))
 same_after w (command.Stop name) = stopped_leads w name (life_of w name) refl
 
 stepped : (w : World) (l : Going) (piece : List ℕ) (blocks : List Outer) (s : Step) → behind w (steps w l piece blocks s) ≡ with_op_if (op_by s.answered) (goes_on (with_piece l piece blocks) s.ended w)
@@ -91,7 +91,7 @@ module _ (w : World) where
   child_by_parts l child.StopFault d is = (ap (λ (x : Does). x.told) is, ap (behind w) is)
 
   may_by_parts : (e : Event) (d : Does) → MayDo w e d → GivesByParts w e d.told (behind w d)
-  may_by_parts (event.Command c) d may = command_by_parts c (first_of (refusals w c)) d may
+  may_by_parts (event.Command c) d may = command_by_parts c (first_of (command_refusals w c)) d may
   may_by_parts (event.Child name number e) d may = child_by_parts (with_number number (life_of w name)) e d may
 
 pub by_parts : (w : World) (e : Event) (o : Outcome) (v : World) → Gives w e o v → GivesByParts w e o v
@@ -123,7 +123,7 @@ module _ (w : World) where
   child_by_rows l child.StopFault o v is = (tells w reply.Nothing, refl, is.0, is.1)
 
 pub by_rows : (w : World) (e : Event) (o : Outcome) (v : World) → GivesByParts w e o v → Gives w e o v
-by_rows w (event.Command c) o v g = command_by_rows w c (first_of (refusals w c)) o v g
+by_rows w (event.Command c) o v g = command_by_rows w c (first_of (command_refusals w c)) o v g
 by_rows w (event.Child name number e) o v g = child_by_rows w (with_number number (life_of w name)) e o v g
 
 -- where the op of a command leads

@@ -9,7 +9,7 @@ use Rattle.worksheet.specs.declared.op.Op.TheVariants as op
 use Rattle.worksheet.specs.declared.refusal.Refusal.{Refusal}
 use Rattle.worksheet.specs.declared.refusal.Refusal.TheVariants as refusal
 use Rattle.worksheet.specs.Checks.{first_of, first_refusal}
-use Rattle.worksheet.specs.Checks.{refusals as sheet_refusals}
+use Rattle.worksheet.specs.Checks.{command_refusals as sheet_refusals}
 use Rattle.recovery.specs.Sheets.{StoreView, IsSheetImage}
 use Rattle.plugin_core.specs.declared.item.Item.{Item}
 use Rattle.plugin_core.specs.declared.item.Item.TheVariants as item
@@ -26,19 +26,19 @@ use Rattle.session_engine.specs.declared.table.Running.{Running}
 use Rattle.session_engine.proofs.Tables.{numbers_are}
 use Rattle.session_engine.specs.World.{World, Going, waiting_in, waits_in, in_flight, sheet_in, fits, fits_in, with_op}
 use Rattle.session_engine.specs.inside.Parts.{second, checks, op_refusals}
-use Rattle.session_engine.specs.Refused.{full, refusals, takes_memory}
+use Rattle.session_engine.specs.Refused.{full, command_refusals, command_takes_memory}
 use Rattle.session_engine.specs.Commands.{reply_to}
 use Rattle.session_engine.specs.Does.{replies, refused}
 use Rattle.session_engine.specs.Does.{Does, changes, does, tells, CommandDoes, MayDo}
 use Rattle.session_engine.specs.Faults.{MayGive, CauseOf, Failed}
-use Rattle.session_engine.specs.Host.{HostView, StandsFor, OnDisk, number_in}
+use Rattle.session_engine.specs.Host.{HostView, EngineStandsFor, OnDisk, number_in}
 use Rattle.session_engine.specs.inside.Commits.{Spares, SparesItem, SparesLife}
 
 -- a command that is this op
 pub record IsOp (w : World) (c : Command) (o : Op) : Type 0 where
-  pub refusals_are : refusals w c ≡ op_refusals w o
+  pub refusals_are : command_refusals w c ≡ op_refusals w o
   pub does_is : does w c ≡ changes w o
-  pub takes : takes_memory c ≡ true
+  pub takes : command_takes_memory c ≡ true
 
 pub as_op : (w : World) (c : Command) (o : Op) → op_of c ≡ Some o → IsOp w c o
 as_op w (command.Session name tab words) o e = let is : op.Session name tab words ≡ o = cc in subst (λ (o : Op). IsOp w (command.Session name tab words) o) is (record { refusals_are = refl; does_is = refl; takes = refl })
@@ -130,29 +130,29 @@ spares w (op.Answer other prompt output) h = all_lives (op.Answer other prompt o
 module _ (w : World) (c : Command) (o : Op) (is : op_of c ≡ Some o) where
   pub gives_refusal : (r : Refusal) → first_of (checks w o) ≡ Some r → MayDo w (event.Command c) (tells w (reply.Refused r))
   gives_refusal r e =
-      let first : first_of (refusals w c) ≡ Some r = ap first_of (as_op w c o is).refusals_are ∙ first_before (checks w o) (full w o ∷ []) r e in
+      let first : first_of (command_refusals w c) ≡ Some r = ap first_of (as_op w c o is).refusals_are ∙ first_before (checks w o) (full w o ∷ []) r e in
       subst (λ (x : Option Refusal). CommandDoes w c x (tells w (reply.Refused r))) (sym first) refl
 
-  first_is : first_of (checks w o) ≡ None → first_of (refusals w c) ≡ (if not (fits w o) then Some refusal.JournalFull else None)
+  first_is : first_of (checks w o) ≡ None → first_of (command_refusals w c) ≡ (if not (fits w o) then Some refusal.JournalFull else None)
   first_is e = ap first_of (as_op w c o is).refusals_are ∙ first_behind (checks w o) (full w o ∷ []) e
 
   pub gives_full : first_of (checks w o) ≡ None → fits w o ≡ false → MayDo w (event.Command c) (tells w (reply.Refused refusal.JournalFull))
   gives_full e f =
-      let first : first_of (refusals w c) ≡ Some refusal.JournalFull = first_is e ∙ ap (λ (b : Bool). if not b then Some refusal.JournalFull else None) f in
+      let first : first_of (command_refusals w c) ≡ Some refusal.JournalFull = first_is e ∙ ap (λ (b : Bool). if not b then Some refusal.JournalFull else None) f in
       subst (λ (x : Option Refusal). CommandDoes w c x (tells w (reply.Refused refusal.JournalFull))) (sym first) refl
 
   pub gives_no_memory : first_of (checks w o) ≡ None → fits w o ≡ true → MayDo w (event.Command c) (tells w (reply.Refused refusal.OutOfMemory))
   gives_no_memory e f =
-      let first : first_of (refusals w c) ≡ None = first_is e ∙ ap (λ (b : Bool). if not b then Some refusal.JournalFull else None) f in
+      let first : first_of (command_refusals w c) ≡ None = first_is e ∙ ap (λ (b : Bool). if not b then Some refusal.JournalFull else None) f in
       subst (λ (x : Option Refusal). CommandDoes w c x (tells w (reply.Refused refusal.OutOfMemory))) (sym first) (inr ((as_op w c o is).takes, refl))
 
   pub gives_done : first_of (checks w o) ≡ None → fits w o ≡ true → MayDo w (event.Command c) (changes w o)
   gives_done e f =
-      let first : first_of (refusals w c) ≡ None = first_is e ∙ ap (λ (b : Bool). if not b then Some refusal.JournalFull else None) f in
+      let first : first_of (command_refusals w c) ≡ None = first_is e ∙ ap (λ (b : Bool). if not b then Some refusal.JournalFull else None) f in
       subst (λ (x : Option Refusal). CommandDoes w c x (changes w o)) (sym first) (inl (sym (as_op w c o is).does_is))
 
   -- the disk's fault at a command that only changes the worksheet
-  pub change_fails : (old new : HostView) (r : Result Outcome HostFault) → StandsFor old.store old.lives old.begun w → first_of (checks w o) ≡ None → new.lives ≡ old.lives
+  pub change_fails : (old new : HostView) (r : Result Outcome HostFault) → EngineStandsFor old.store old.lives old.begun w → first_of (checks w o) ≡ None → new.lives ≡ old.lives
       → IfErr r (λ fault. (fault ≡ faults.Disk) × (new.store.sheet.contents ≡ old.store.sheet.contents) × Rises old.store.disk.faults new.store.disk.faults)
       → OnErr r (fits w o ≡ true) → OnDisk w.ops (Some o) old.store.disk new.store.disk → IfErr r (Failed w (event.Command c) old new)
   change_fails old new (Ok x) h none lives fault fit disk = tt

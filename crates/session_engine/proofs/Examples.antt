@@ -12,8 +12,8 @@ use Rattle.session_engine.specs.declared.event.Event.TheVariants as event
 use Rattle.session_engine.specs.declared.outcome.Effect.TheVariants as effect
 use Rattle.session_engine.specs.declared.outcome.Outcome.{Outcome}
 use Rattle.session_engine.specs.declared.reply.Reply.TheVariants as reply
-use Rattle.session_engine.specs.World.{World, opened, life_of, with_number}
-use Rattle.session_engine.specs.Refused.{refusals}
+use Rattle.session_engine.specs.World.{World, world_at_opening, life_of, with_number}
+use Rattle.session_engine.specs.Refused.{command_refusals}
 use Rattle.session_engine.specs.Does.{Does, behind, does, ends_life, replies, MayDo}
 
 -- session a with the word p, and its fields 1 (x) and 2 (y)
@@ -34,7 +34,7 @@ abbrev ops : List Op
 ops = op.Session a false (p ∷ []) ∷ op.New 0 a x ∷ op.New 1 a y ∷ []
 
 abbrev start : World
-start = opened ops 1000 53
+start = world_at_opening ops 1000 53
 
 -- field 1 was evaluated
 abbrev asked : World
@@ -52,19 +52,19 @@ joins_the_life : (does asked (command.Eval 2)).told ≡ replies (reply.Asked 1)
 joins_the_life = refl
 
 -- a field in flight isn't set, removed, cleared or evaluated, and may be moved
-not_removed : first_of (refusals asked (command.Remove 1)) ≡ Some refusal.InFlight
+not_removed : first_of (command_refusals asked (command.Remove 1)) ≡ Some refusal.InFlight
 not_removed = refl
 
-not_set : first_of (refusals asked (command.Set 1 y)) ≡ Some refusal.InFlight
+not_set : first_of (command_refusals asked (command.Set 1 y)) ≡ Some refusal.InFlight
 not_set = refl
 
-not_evaluated : first_of (refusals asked (command.Eval 1)) ≡ Some refusal.InFlight
+not_evaluated : first_of (command_refusals asked (command.Eval 1)) ≡ Some refusal.InFlight
 not_evaluated = refl
 
-moved : first_of (refusals asked (command.Move 1 2)) ≡ None
+moved : first_of (command_refusals asked (command.Move 1 2)) ≡ None
 moved = refl
 
-not_moved : first_of (refusals asked (command.Move 1 0)) ≡ Some refusal.SamePlace
+not_moved : first_of (command_refusals asked (command.Move 1 0)) ≡ Some refusal.SamePlace
 not_moved = refl
 
 -- at the end of the life both lines are lost, in order, and the child is killed
@@ -87,20 +87,20 @@ stale : MayDo refused_start (event.Child a 1 child.End) (record { told = replies
 stale = refl
 
 -- where the record of the Clear ends behind the room, an evaluation is refused
-no_room : first_of (refusals (opened ops 62 53) (command.Eval 1)) ≡ Some refusal.JournalFull
+no_room : first_of (command_refusals (world_at_opening ops 62 53) (command.Eval 1)) ≡ Some refusal.JournalFull
 no_room = refl
 
-room : first_of (refusals (opened ops 64 53) (command.Eval 1)) ≡ None
+room : first_of (command_refusals (world_at_opening ops 64 53) (command.Eval 1)) ≡ None
 room = refl
 
 -- behind 100,000 lives none begins
-lives_spent : first_of (refusals (record start { begun = 100000 }) (command.Eval 1)) ≡ Some refusal.LivesSpent
+lives_spent : first_of (command_refusals (record start { begun = 100000 }) (command.Eval 1)) ≡ Some refusal.LivesSpent
 lives_spent = refl
 
-no_field : first_of (refusals start (command.Eval 3)) ≡ Some refusal.NoField
+no_field : first_of (command_refusals start (command.Eval 3)) ≡ Some refusal.NoField
 no_field = refl
 
-no_session : first_of (refusals start (command.Stop p)) ≡ Some refusal.NoSession
+no_session : first_of (command_refusals start (command.Stop p)) ≡ Some refusal.NoSession
 no_session = refl
 
 -- a session that isn't running is stopped already

@@ -14,9 +14,9 @@ use Rattle.session_engine.specs.declared.command.Command.TheVariants as command
 use Rattle.session_engine.specs.declared.event.Event.{Event}
 use Rattle.session_engine.specs.declared.event.Event.TheVariants as event
 use Rattle.session_engine.specs.declared.outcome.Outcome.{Outcome}
-use Rattle.session_engine.specs.World.{World, opened, sheet_in}
+use Rattle.session_engine.specs.World.{World, world_at_opening, sheet_in}
 use Rattle.session_engine.specs.Does.{Runs}
-use Rattle.session_engine.specs.Turns.{Has, Closes, Stays, Answered, Turn, Turned, EachTurned, WentOn, StaysThrough, AnsweredByOne, LivesInTurn, EvaluatedAnew, PlaysAreTurns}
+use Rattle.session_engine.specs.Turns.{Has, ClosesAnswer, Stays, Answered, HostTurn, Turned, EachTurned, WentOn, StaysThrough, AnsweredByOne, LivesInTurn, EvaluatedAnew, PlaysAreTurns}
 use Rattle.session_engine.proofs.FieldLaws.{cleared}
 use Rattle.session_engine.proofs.Living.{Sound}
 use Rattle.session_engine.proofs.Showing.{stepped}
@@ -43,22 +43,22 @@ shown w (e ∷ es) (o ∷ os) v h run f a some has =
     (λ later. inr (run.0, run.1, inr later))
     (shown run.0 es os v s.sound run.2 f a some has)
 
-pub sound : (ops : List Op) (room end : ℕ) → Allowed ops → Sound (opened ops room end)
+pub sound : (ops : List Op) (room end : ℕ) → Allowed ops → Sound (world_at_opening ops room end)
 sound ops room end allowed = record { allowed = allowed; lives = tt }
 
 -- what the law says of these turns
-record Went (room : ℕ) (first : List Op) (before : Image) (turns : List Turn) (after : Image) : Type 0 where
+record Went (room : ℕ) (first : List Op) (before : Image) (turns : List HostTurn) (after : Image) : Type 0 where
   kept : List Op
   went : WentOn room before first turns after kept
   image : IsSheetImage (sheet_of kept) after
   fields : (f : Field) (a : Answer) → Has (sheet_of kept) f → f.answer ≡ Some a → StaysThrough f room before first turns after kept went ⊎ AnsweredByOne f room before first turns after kept went
 
-has_through : (f : Field) (room : ℕ) (before : Image) (found : List Op) (turns : List Turn) (after : Image) (kept : List Op) (went : WentOn room before found turns after kept)
+has_through : (f : Field) (room : ℕ) (before : Image) (found : List Op) (turns : List HostTurn) (after : Image) (kept : List Op) (went : WentOn room before found turns after kept)
     → StaysThrough f room before found turns after kept went → Has (sheet_of found) f
 has_through f room before found [] after kept went h = h
-has_through f room before found (turn ∷ turns) after kept went h = has_first f (opened found room went.2.end) went.2.taken (turn.told ++ went.2.untold) went.2.leads h.0
+has_through f room before found (turn ∷ turns) after kept went h = has_first f (world_at_opening found room went.2.end) went.2.taken (turn.told ++ went.2.untold) went.2.leads h.0
 
-go_on : (room : ℕ) (first : List Op) (before : Image) (turns : List Turn) (after : Image) → Allowed first → IsSheetImage (sheet_of first) before → EachTurned room before turns after → Went room first before turns after
+go_on : (room : ℕ) (first : List Op) (before : Image) (turns : List HostTurn) (after : Image) → Allowed first → IsSheetImage (sheet_of first) before → EachTurned room before turns after → Went room first before turns after
 go_on room first before [] after allowed image each = record {
   kept = first;
   went = (each, refl);
@@ -71,7 +71,7 @@ go_on room first before (turn ∷ turns) after allowed image each =
     let t = each.1.2 in
     let same : sheet_of found ≡ sheet_of first = one_sheet (sheet_of found) (sheet_of first) before t.opens image in
     let outcomes = turn.told ++ t.untold in
-    let r = runs (opened found room t.end) first t.taken outcomes t.leads (sound found room t.end t.allowed) allowed same t.run in
+    let r = runs (world_at_opening found room t.end) first t.taken outcomes t.leads (sound found room t.end t.allowed) allowed same t.run in
     let leaves : IsSheetImage (sheet_of r.ops) mid = subst (λ (s : Contents). IsSheetImage s mid) (ap sheet_of t.ops ∙ r.same) t.leaves in
     let now : Turned room before first turn mid r.ops = record {
       allowed = allowed;
@@ -96,7 +96,7 @@ go_on room first before (turn ∷ turns) after allowed image each =
           (λ through. ⊎_elim
           (λ stays. inl (stays, through))
           (λ answered. inr (inl (answered, through)))
-          (shown (opened first room t.end) t.taken outcomes (by_ops r.ops t.leads) (sound first room t.end allowed) r.run f a some (has_through f room mid r.ops turns after more.kept more.went through)))
+          (shown (world_at_opening first room t.end) t.taken outcomes (by_ops r.ops t.leads) (sound first room t.end allowed) r.run f a some (has_through f room mid r.ops turns after more.kept more.went through)))
           (λ later. inr (inr later))
           (more.fields f a has some);
     }
@@ -112,7 +112,7 @@ sounds w (e ∷ es) (o ∷ os) v h run = sounds run.0 es os v (stepped w e o run
 
 pub evaluated_anew : EvaluatedAnew
 evaluated_anew found room end es os w allowed run id o mid given clears later told v more f a number has some =
-    let before = sounds (opened found room end) es os w (sound found room end allowed) run in
+    let before = sounds (world_at_opening found room end) es os w (sound found room end allowed) run in
     let after = (stepped w (event.Command (command.Eval id)) o mid before given).sound in
     ⊎_elim
     (λ stays.
@@ -155,7 +155,7 @@ plays_are_turns room end before found allowed opens ends events told after = (
       split = played.split;
       untold = [];
       leads = played.leads;
-      run = subst (λ (os : List Outcome). Runs (opened found room end) played.done os played.leads) (sym (append-nil told)) played.runs;
+      run = subst (λ (os : List Outcome). Runs (world_at_opening found room end) played.done os played.leads) (sym (append-nil told)) played.runs;
       ops = refl;
       leaves = image;
     },

@@ -38,8 +38,8 @@ use Rattle.session_engine.specs.declared.event.ChildEvent.TheVariants as child
 use Rattle.session_engine.specs.declared.event.Event.{Event}
 use Rattle.session_engine.specs.declared.event.Event.TheVariants as event
 use Rattle.session_engine.specs.declared.outcome.Outcome.{Outcome}
-use Rattle.session_engine.specs.World.{World, Going, opened, life_of, line_of, session_of, waiting_in, waits_in, with_number, with_op, with_op_if}
-use Rattle.session_engine.specs.Refused.{refusals}
+use Rattle.session_engine.specs.World.{World, Going, world_at_opening, life_of, line_of_field, session_of_field, waiting_in, waits_in, with_number, with_op, with_op_if}
+use Rattle.session_engine.specs.Refused.{command_refusals}
 use Rattle.session_engine.specs.Does.{Gives, Runs, begun_with, joined_by, op_by, with_piece}
 use Rattle.session_engine.specs.inside.Parts.{goes_on, with_item, without_life}
 use Rattle.session_engine.specs.inside.Given.{Childed, Commanded, Ended_by, GivesByParts, Pieced, after}
@@ -200,33 +200,33 @@ module _ (id : ℕ) where
   item_ops w name i None = refl
   item_ops w name i (Some l) = refl
 
-  evaluated : (w : World) (other : ℕ) → Sound w → first_of (refusals w (command.Eval other)) ≡ None → IsQuiet id w → IsQuiet id (after w (command.Eval other))
+  evaluated : (w : World) (other : ℕ) → Sound w → first_of (command_refusals w (command.Eval other)) ≡ None → IsQuiet id w → IsQuiet id (after w (command.Eval other))
   evaluated w other s first h = go (nat_eq other id) refl
     where
       u : World
-      u = with_item w (session_of w other) (line_of w other) (life_of w (session_of w other))
+      u = with_item w (session_of_field w other) (line_of_field w other) (life_of w (session_of_field w other))
 
-      more : total (lines_of id) (with_item w (session_of w other) (line_of w other) (life_of w (session_of w other))).lives ≡ total (lines_of id) w.lives + (if nat_eq other id then 1 else 0)
-      more = line_more w (session_of w other) (line_of w other) (life_of w (session_of w other)) refl s
+      more : total (lines_of id) (with_item w (session_of_field w other) (line_of_field w other) (life_of w (session_of_field w other))).lives ≡ total (lines_of id) w.lives + (if nat_eq other id then 1 else 0)
+      more = line_more w (session_of_field w other) (line_of_field w other) (life_of w (session_of_field w other)) refl s
 
       go : (b : Bool) → nat_eq other id ≡ b → IsQuiet id (after w (command.Eval other))
       go true e =
           let is : other ≡ id = grind (arith, nat_tests, e) in
-          let free = none_waits other w.lives (none_applies (refusals w (command.Eval other)) first).1.0 in
+          let free = none_waits other w.lives (none_applies (command_refusals w (command.Eval other)) first).1.0 in
           let nil : total (lines_of id) w.lives ≡ 0 = subst (λ (n : ℕ). total (lines_of n) w.lives ≡ 0) is free in
           let one : one_of other id ≡ 1 = rw e refl in
           inr (
             omega (arith, more, nil, one),
             subst (λ (n : ℕ). (field_of (after w (command.Eval other)).ops n).answer ≡ None) is
-                (cleared_none (with_item w (session_of w other) (line_of w other) (life_of w (session_of w other))).ops other),
+                (cleared_none (with_item w (session_of_field w other) (line_of_field w other) (life_of w (session_of_field w other))).ops other),
           )
       go false e =
           let none : one_of other id ≡ 0 = rw e refl in
-          let ops = item_ops w (session_of w other) (line_of w other) (life_of w (session_of w other)) in
+          let ops = item_ops w (session_of_field w other) (line_of_field w other) (life_of w (session_of_field w other)) in
           fewer w (after w (command.Eval other)) (omega (arith, more, none))
           (λ quiet. subst (λ (os : List Op). (field_of (os ++ op.Clear other ∷ []) id).answer ≡ None) (sym ops) (still_none w.ops (op.Clear other) id tt quiet)) h
 
-  accepted_so : (w : World) (c : Command) → Sound w → first_of (refusals w c) ≡ None → IsQuiet id w → IsQuiet id (after w c)
+  accepted_so : (w : World) (c : Command) → Sound w → first_of (command_refusals w c) ≡ None → IsQuiet id w → IsQuiet id (after w c)
   accepted_so w (command.Session name tab words) s first h = with_one w (op.Session name tab words) tt h
   accepted_so w (command.New place session input) s first h = with_one w (op.New place session input) tt h
   accepted_so w (command.Set other input) s first h = with_one w (op.Set other input) tt h
@@ -236,7 +236,7 @@ module _ (id : ℕ) where
   accepted_so w (command.Eval other) s first h = evaluated w other s first h
   accepted_so w (command.Stop name) s first h = stopped w name h
 
-  commanded_so : (w : World) (c : Command) (o : Outcome) (v : World) (r : Option Refusal) → first_of (refusals w c) ≡ r → Sound w → Commanded w c r o v → IsQuiet id w → IsQuiet id v
+  commanded_so : (w : World) (c : Command) (o : Outcome) (v : World) (r : Option Refusal) → first_of (command_refusals w c) ≡ r → Sound w → Commanded w c r o v → IsQuiet id w → IsQuiet id v
   commanded_so w c o v (Some r) first s done h = same w v done.1 h
   commanded_so w c o v None first s (inl done) h = same (after w c) v done.1 (accepted_so w c s first h)
   commanded_so w c o v None first s (inr done) h = same w v done.2 h
@@ -290,7 +290,7 @@ module _ (id : ℕ) where
   childed_so w x child.StopFault o v s own done h = same w v done.1 h
 
   quiet_step : (w : World) (e : Event) (o : Outcome) (v : World) → Sound w → GivesByParts w e o v → IsQuiet id w → IsQuiet id v
-  quiet_step w (event.Command c) o v s g h = commanded_so w c o v (first_of (refusals w c)) refl s g h
+  quiet_step w (event.Command c) o v s g h = commanded_so w c o v (first_of (command_refusals w c)) refl s g h
   quiet_step w (event.Child name number e) o v s g h =
       childed_so w (with_number number (life_of w name)) e o v s (λ l is. its_own w name l (with_its_number number (life_of w name) l is)) g h
 
@@ -360,4 +360,4 @@ nothing_is_shown_in_flight ops room end es os v allowed run = (
 )
   where
     h : Waits v
-    h = waits_run (opened ops room end) es os v (record { sound_so = sound ops room end allowed; owned = opened_owned (opened ops room end) (refl, allowed); quiet = λ id. inl refl }) run
+    h = waits_run (world_at_opening ops room end) es os v (record { sound_so = sound ops room end allowed; owned = opened_owned (world_at_opening ops room end) (refl, allowed); quiet = λ id. inl refl }) run

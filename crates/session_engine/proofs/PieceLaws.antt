@@ -17,7 +17,7 @@ use Rattle.plugin_core.specs.declared.step.Answered.{Answered}
 use Rattle.plugin_core.specs.declared.step.Answered.TheVariants as answered
 use Rattle.plugin_core.specs.Past.{received}
 use Rattle.plugin_core.specs.Steps.{step_of, ended_by}
-use Rattle.plugin_core.specs.Steps.{closed_by as closed_in}
+use Rattle.plugin_core.specs.Steps.{closed_told as closed_in}
 use Rattle.plugin_core.specs.Kept.{InterpreterView, Takes, GoesOn}
 use Rattle.plugin_core.specs.Laws.{ShortPrompts}
 use Rattle.session_engine.specs.declared.table.Running.{Running}
@@ -33,9 +33,9 @@ use Rattle.session_engine.specs.Named.{without_named, replace_named}
 use Rattle.session_engine.specs.Host.{name_of, life_in}
 use Rattle.session_engine.specs.inside.Tables.{with_life as running_with}
 use Rattle.session_engine.specs.World.{World, Going, life_of, with_number, with_op_if, sheet_in, fits, fits_in}
-use Rattle.session_engine.specs.Does.{with_piece, op_by, closed_by, told_with, told_of}
+use Rattle.session_engine.specs.Does.{with_piece, op_by, closed_told, told_with, told_of}
 use Rattle.session_engine.specs.inside.Parts.{goes_on}
-use Rattle.session_engine.specs.Host.{RunsAs, Lives, HasField, HaveFields, StandsFor}
+use Rattle.session_engine.specs.Host.{RunsAs, Lives, HasField, HaveFields, EngineStandsFor}
 use Rattle.session_engine.specs.inside.Commits.{AllowedIf, CommittedIf, IsEitherIf, NotKept}
 use Rattle.session_engine.proofs.Tables.{Found, found, without_replaced}
 use Rattle.session_engine.proofs.Fields.{waiting_still, allowed_step, spared}
@@ -50,13 +50,13 @@ pub ops_with : (o : Op) (a : Option Op) (l : Going) (e : Option Ended) (w : Worl
 ops_with o a l e w is = ap (λ (x : Option Op). (with_op_if x (goes_on l e w)).ops) is ∙ ap (λ (os : List Op). os ++ o ∷ []) (ops_of l e w)
 
 module _ (store : StoreView) (rs : List Running) (begun : ℕ) (w : World) (name : List ℕ) (number : ℕ) (piece : List ℕ) (r : Running) (life : InterpreterView) (step : Step)
-    (h : StandsFor store rs begun w) (f : Found rs w.lives name r) (numbered : r.life.number ≡ number) (same : life.number ≡ r.life.number)
+    (h : EngineStandsFor store rs begun w) (f : Found rs w.lives name r) (numbered : r.life.number ≡ number) (same : life.number ≡ r.life.number)
     (takes : Takes f.life.past f.life.blocks piece step life) where
   abbrev pub lead : World
   lead = with_op_if (op_by step.answered) (goes_on (with_piece f.life piece takes.after) step.ended w)
 
   abbrev pub outcome : Outcome
-  outcome = told_with name number (closed_by step.answered) step.default_input step.send step.ended
+  outcome = told_with name number (closed_told step.answered) step.default_input step.send step.ended
 
   there : with_number number (life_of w name) ≡ Some f.life
   there =
@@ -73,8 +73,8 @@ module _ (store : StoreView) (rs : List Running) (begun : ℕ) (w : World) (name
   pub told : outcome ≡ did.told
   told =
       let k : f.life.number ≡ number = sym f.runs.number ∙ numbered in
-      ap (λ (m : List ℕ). told_with m number (closed_by step.answered) step.default_input step.send step.ended) (sym f.named)
-      ∙ ap (λ (m : ℕ). told_with f.life.name m (closed_by step.answered) step.default_input step.send step.ended) (sym k)
+      ap (λ (m : List ℕ). told_with m number (closed_told step.answered) step.default_input step.send step.ended) (sym f.named)
+      ∙ ap (λ (m : ℕ). told_with f.life.name m (closed_told step.answered) step.default_input step.send step.ended) (sym k)
 
   pub leads : lead ≡ behind w did
   leads = go step.ended
@@ -92,24 +92,24 @@ module _ (store : StoreView) (rs : List Running) (begun : ℕ) (w : World) (name
   abbrev pub settled : Option Ended → List Running
   settled e = if is_some e then without_named name_of name (replace_named name_of name (running_with r life) rs) else replace_named name_of name (running_with r life) rs
 
-  lives_stand : StandsFor store (settled step.ended) begun (goes_on (with_piece f.life piece takes.after) step.ended w)
-  lives_stand = subst (λ (e : Option Ended). StandsFor store (settled e) begun (goes_on (with_piece f.life piece takes.after) e w)) (sym (ap (λ (s : Step). s.ended) takes.gives)) (go takes.fault takes.then)
+  lives_stand : EngineStandsFor store (settled step.ended) begun (goes_on (with_piece f.life piece takes.after) step.ended w)
+  lives_stand = subst (λ (e : Option Ended). EngineStandsFor store (settled e) begun (goes_on (with_piece f.life piece takes.after) e w)) (sym (ap (λ (s : Step). s.ended) takes.gives)) (go takes.fault takes.then)
     where
       go : (fault : Option Kind) → GoesOn life (f.life.past ++ received piece ∷ []) takes.after fault
-          → StandsFor store (settled (option_map (ended_by (f.life.past ++ received piece ∷ []) takes.after) fault)) begun (goes_on (with_piece f.life piece takes.after) (option_map (ended_by (f.life.past ++ received piece ∷ []) takes.after) fault) w)
+          → EngineStandsFor store (settled (option_map (ended_by (f.life.past ++ received piece ∷ []) takes.after) fault)) begun (goes_on (with_piece f.life piece takes.after) (option_map (ended_by (f.life.past ++ received piece ∷ []) takes.after) fault) w)
       go None stands = put store rs begun w name r (running_with r life) (with_piece f.life piece takes.after) h f (record { name = f.runs.name; number = same ∙ f.runs.number; stands = stands })
           (waiting_still (HasField (sheet_in w)) f.life.past f.life.blocks takes.after piece (closed_in f.life.past f.life.blocks (received piece) takes.after) takes.answers fields) f.named
       go (Some kind) over =
           let e : bytes_eq r.name name ≡ true = (bytes_eq-Decides r.name name).1 (f.runs.name ∙ f.named) in
-          subst (λ (l : List Running). StandsFor store l begun (goes_on (with_piece f.life piece takes.after) (Some (ended_by (f.life.past ++ received piece ∷ []) takes.after kind)) w)) (sym (without_replaced name_of name (running_with r life) rs e))
-          (subst (λ (n : List ℕ). StandsFor store (without_named name_of name rs) begun (Rattle.session_engine.specs.inside.Parts.without_life n w)) (sym f.named) (gone store rs begun w name r h f))
+          subst (λ (l : List Running). EngineStandsFor store l begun (goes_on (with_piece f.life piece takes.after) (Some (ended_by (f.life.past ++ received piece ∷ []) takes.after kind)) w)) (sym (without_replaced name_of name (running_with r life) rs e))
+          (subst (λ (n : List ℕ). EngineStandsFor store (without_named name_of name rs) begun (Rattle.session_engine.specs.inside.Parts.without_life n w)) (sym f.named) (gone store rs begun w name r h f))
 
-  pub stands : ShortPrompts → (new : StoreView) → CommittedIf store w.ops (op_by step.answered) new → SameDisk store.disk new.disk → StandsFor new (settled step.ended) begun lead
+  pub stands : ShortPrompts → (new : StoreView) → CommittedIf store w.ops (op_by step.answered) new → SameDisk store.disk new.disk → EngineStandsFor new (settled step.ended) begun lead
   stands short new done disk = go step.answered done (allowed_step short (sheet_in w) f.life piece step life fields takes)
     where
-      go : (a : Option Answered) → CommittedIf store w.ops (op_by a) new → AllowedIf (sheet_in w) (op_by a) → StandsFor new (settled step.ended) begun (with_op_if (op_by a) (goes_on (with_piece f.life piece takes.after) step.ended w))
-      go None done allowed = subst (λ (s : StoreView). StandsFor s (settled step.ended) begun (goes_on (with_piece f.life piece takes.after) step.ended w)) (sym done) lives_stand
-      go (Some (answered.Banner b)) done allowed = subst (λ (s : StoreView). StandsFor s (settled step.ended) begun (goes_on (with_piece f.life piece takes.after) step.ended w)) (sym done) lives_stand
+      go : (a : Option Answered) → CommittedIf store w.ops (op_by a) new → AllowedIf (sheet_in w) (op_by a) → EngineStandsFor new (settled step.ended) begun (with_op_if (op_by a) (goes_on (with_piece f.life piece takes.after) step.ended w))
+      go None done allowed = subst (λ (s : StoreView). EngineStandsFor s (settled step.ended) begun (goes_on (with_piece f.life piece takes.after) step.ended w)) (sym done) lives_stand
+      go (Some (answered.Banner b)) done allowed = subst (λ (s : StoreView). EngineStandsFor s (settled step.ended) begun (goes_on (with_piece f.life piece takes.after) step.ended w)) (sym done) lives_stand
       go (Some (answered.Line id prompt out)) done allowed =
           let v = goes_on (with_piece f.life piece takes.after) step.ended w in
           let os = ops_of (with_piece f.life piece takes.after) step.ended w in

@@ -10,7 +10,7 @@ use Rattle.worksheet.specs.declared.refusal.Refusal.TheVariants as refusal
 use Rattle.worksheet.specs.Contents.{Contents}
 use Rattle.worksheet.specs.Ops.{sheet_of}
 use Rattle.worksheet.specs.Checks.{Allowed, field_in, has_field, has_session, session_named, first_of, first_refusal}
-use Rattle.worksheet.specs.Checks.{refusals as sheet_refusals}
+use Rattle.worksheet.specs.Checks.{command_refusals as sheet_refusals}
 use Rattle.worksheet.proofs.Existence.{allowed_goes_on}
 use Rattle.worksheet.proofs.NextLaws.{same_next}
 use Rattle.plugin_core.specs.declared.item.Item.{Item}
@@ -33,10 +33,10 @@ use Rattle.session_engine.specs.declared.reply.Reply.{Reply}
 use Rattle.session_engine.specs.declared.reply.Reply.TheVariants as reply
 use Rattle.session_engine.specs.Commands.{op_of}
 use Rattle.session_engine.specs.inside.Commits.{AllowedIf}
-use Rattle.session_engine.specs.World.{World, Going, sheet_in, waiting_in, life_of, session_of, input_of, line_of, by_field, in_flight, with_number, with_op, with_op_if}
+use Rattle.session_engine.specs.World.{World, Going, sheet_in, waiting_in, life_of, session_of_field, input_of, line_of_field, by_field, in_flight, with_number, with_op, with_op_if}
 use Rattle.session_engine.specs.inside.Parts.{with_life, without_life, with_item, goes_on, second, checks, op_refusals, queue_refusals, eval_refusals, asks}
-use Rattle.session_engine.specs.Does.{op_by, with_piece, words_of, replies, refused, Runs}
-use Rattle.session_engine.specs.Refused.{full, refusals}
+use Rattle.session_engine.specs.Does.{op_by, with_piece, starting_words, replies, refused, Runs}
+use Rattle.session_engine.specs.Refused.{full, command_refusals}
 use Rattle.session_engine.specs.Commands.{reply_to}
 use Rattle.session_engine.specs.inside.Given.{outcome_of, after, Commanded, Ignored, Ended_by, IsPieced, Pieced, Childed, GivesByParts}
 use Rattle.session_engine.proofs.ByParts.{by_parts, by_rows, op_after}
@@ -68,16 +68,16 @@ module _ (w : World) (b : List Op) (same : sheet_of w.ops ≡ sheet_of b) where
   checks_same (op.Clear id) = ap (λ (s : Contents). second (refusal.InFlight, in_flight w id) (sheet_refusals s (op.Clear id))) same
   checks_same (op.Answer id prompt output) = ap (λ (s : Contents). sheet_refusals s (op.Answer id prompt output)) same
 
-  session_same : (id : ℕ) → session_of w id ≡ session_of (by_ops b w) id
+  session_same : (id : ℕ) → session_of_field w id ≡ session_of_field (by_ops b w) id
   session_same id = ap (λ (s : Contents). by_field (field_in s.fields id) [] (λ f. f.session)) same
 
-  line_same : (id : ℕ) → line_of w id ≡ line_of (by_ops b w) id
+  line_same : (id : ℕ) → line_of_field w id ≡ line_of_field (by_ops b w) id
   line_same id = ap (λ (s : Contents). item.Line id (by_field (field_in s.fields id) [] (λ f. f.input))) same
 
   op_refusals_same : (o : Op) → op_refusals w o ≡ op_refusals (by_ops b w) o
   op_refusals_same o = ap (λ (rs : List (Refusal × Bool)). rs ++ full w o ∷ []) (checks_same o)
 
-  pub refusals_same : (c : Command) → refusals w c ≡ refusals (by_ops b w) c
+  pub refusals_same : (c : Command) → command_refusals w c ≡ command_refusals (by_ops b w) c
   refusals_same (command.Session name tab words) = op_refusals_same (op.Session name tab words)
   refusals_same (command.New place session input) = op_refusals_same (op.New place session input)
   refusals_same (command.Set id input) = op_refusals_same (op.Set id input)
@@ -89,7 +89,7 @@ module _ (w : World) (b : List Op) (same : sheet_of w.ops ≡ sheet_of b) where
   refusals_same (command.Stop name) = ap (λ (s : Contents). (refusal.NoSession, not (has_session s name)) ∷ []) same
 
   asks_same : (name : List ℕ) (i : Item) (l : Option Going) → asks w name i l ≡ asks (by_ops b w) name i l
-  asks_same name i None = ap (λ (s : Contents). record { reply = reply.Asked (w.begun + 1); effect = Some (effect.Start name (w.begun + 1) (words_of (session_named s.sessions name))) }) same
+  asks_same name i None = ap (λ (s : Contents). record { reply = reply.Asked (w.begun + 1); effect = Some (effect.Start name (w.begun + 1) (starting_words (session_named s.sessions name))) }) same
   asks_same name i (Some l) = refl
 
   pub outcome_same : (c : Command) → outcome_of w c ≡ outcome_of (by_ops b w) c
@@ -100,9 +100,9 @@ module _ (w : World) (b : List Op) (same : sheet_of w.ops ≡ sheet_of b) where
   outcome_same (command.Move id place) = refl
   outcome_same (command.Clear id) = refl
   outcome_same (command.Eval id) =
-      asks_same (session_of w id) (line_of w id) (life_of w (session_of w id))
-      ∙ ap (λ (n : List ℕ). asks (by_ops b w) n (line_of w id) (life_of w n)) (session_same id)
-      ∙ ap (λ (i : Item). asks (by_ops b w) (session_of (by_ops b w) id) i (life_of w (session_of (by_ops b w) id))) (line_same id)
+      asks_same (session_of_field w id) (line_of_field w id) (life_of w (session_of_field w id))
+      ∙ ap (λ (n : List ℕ). asks (by_ops b w) n (line_of_field w id) (life_of w n)) (session_same id)
+      ∙ ap (λ (i : Item). asks (by_ops b w) (session_of_field (by_ops b w) id) i (life_of w (session_of_field (by_ops b w) id))) (line_same id)
   outcome_same (command.Stop name) = refl
 
 item_same : (w : World) (b : List Op) (name : List ℕ) (i : Item) (l : Option Going) → with_item (by_ops b w) name i l ≡ by_ops b (with_item w name i l)
@@ -117,7 +117,7 @@ record LeadsOn (w : World) (b : List Op) (c : Command) : Type 0 where
   allowed : Allowed ops
 
 module _ (w : World) (b : List Op) (h : Sound w) (allowed : Allowed b) (same : sheet_of w.ops ≡ sheet_of b) where
-  by_op : (c : Command) (o : Op) → op_of c ≡ Some o → first_of (refusals w c) ≡ None → LeadsOn w b c
+  by_op : (c : Command) (o : Op) → op_of c ≡ Some o → first_of (command_refusals w c) ≡ None → LeadsOn w b c
   by_op c o is first =
       let a = as_op w c o is in
       let z = as_op (by_ops b w) c o is in
@@ -129,13 +129,13 @@ module _ (w : World) (b : List Op) (h : Sound w) (allowed : Allowed b) (same : s
         allowed = allowed_goes_on b o allowed (subst (λ (s : Contents). first_refusal s o ≡ None) same next);
       }
 
-  by_eval : (id : ℕ) → first_of (refusals w (command.Eval id)) ≡ None → LeadsOn w b (command.Eval id)
+  by_eval : (id : ℕ) → first_of (command_refusals w (command.Eval id)) ≡ None → LeadsOn w b (command.Eval id)
   by_eval id first =
       let o = op.Clear id in
       let next = clear_allowed w id first in
-      let name = session_of w id in
-      let other = session_of (by_ops b w) id in
-      let i = line_of w id in
+      let name = session_of_field w id in
+      let other = session_of_field (by_ops b w) id in
+      let i = line_of_field w id in
       record {
         ops = b ++ o ∷ [];
         is = ap (with_op o) (
@@ -146,7 +146,7 @@ module _ (w : World) (b : List Op) (h : Sound w) (allowed : Allowed b) (same : s
         allowed = allowed_goes_on b o allowed (subst (λ (s : Contents). first_refusal s o ≡ None) same next);
       }
 
-  leads_on : (c : Command) → first_of (refusals w c) ≡ None → LeadsOn w b c
+  leads_on : (c : Command) → first_of (command_refusals w c) ≡ None → LeadsOn w b c
   leads_on (command.Session name tab words) first = by_op (command.Session name tab words) (op.Session name tab words) refl first
   leads_on (command.New place session input) first = by_op (command.New place session input) (op.New place session input) refl first
   leads_on (command.Set id input) first = by_op (command.Set id input) (op.Set id input) refl first
@@ -164,12 +164,12 @@ module _ (w : World) (b : List Op) (h : Sound w) (allowed : Allowed b) (same : s
     allowed = allowed;
   }
 
-  commanded : (c : Command) (o : Outcome) (v : World) (first : Option Refusal) → first_of (refusals w c) ≡ first → Commanded w c first o v → Follows w b (event.Command c) o v
+  commanded : (c : Command) (o : Outcome) (v : World) (first : Option Refusal) → first_of (command_refusals w c) ≡ first → Commanded w c first o v → Follows w b (event.Command c) o v
   commanded c o v first e done =
-      let there : first_of (refusals (by_ops b w) c) ≡ first = sym (ap first_of (refusals_same w b same c)) ∙ e in
+      let there : first_of (command_refusals (by_ops b w) c) ≡ first = sym (ap first_of (refusals_same w b same c)) ∙ e in
       go first e there done
     where
-      go : (first : Option Refusal) → first_of (refusals w c) ≡ first → first_of (refusals (by_ops b w) c) ≡ first → Commanded w c first o v → Follows w b (event.Command c) o v
+      go : (first : Option Refusal) → first_of (command_refusals w c) ≡ first → first_of (command_refusals (by_ops b w) c) ≡ first → Commanded w c first o v → Follows w b (event.Command c) o v
       go (Some r) e there done = nothing (event.Command c) o v done.1 (subst (λ (f : Option Refusal). Commanded (by_ops b w) c f o (by_ops b w)) (sym there) (done.0, refl))
       go None e there done = ⊎_elim
           (λ yes.
@@ -240,7 +240,7 @@ module _ (w : World) (b : List Op) (h : Sound w) (allowed : Allowed b) (same : s
       }
 
   pub follows : (e : Event) (o : Outcome) (v : World) → GivesByParts w e o v → Follows w b e o v
-  follows (event.Command c) o v given = commanded w b h allowed same c o v (first_of (refusals w c)) refl given
+  follows (event.Command c) o v given = commanded w b h allowed same c o v (first_of (command_refusals w c)) refl given
   follows (event.Child name number child.StartRefused) o v given = ended (event.Child name number child.StartRefused) (with_number number (life_of w name)) reason.StartRefused false o v (λ u g. g) given
   follows (event.Child name number (child.Piece piece)) o v given = piece_same name number (with_number number (life_of w name)) piece o v refl given
   follows (event.Child name number child.End) o v given = ended (event.Child name number child.End) (with_number number (life_of w name)) reason.Ended true o v (λ u g. g) given

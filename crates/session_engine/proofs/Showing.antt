@@ -38,10 +38,10 @@ use Rattle.session_engine.specs.declared.event.Event.TheVariants as event
 use Rattle.session_engine.specs.declared.outcome.Outcome.{Outcome}
 use Rattle.session_engine.specs.Commands.{op_of}
 use Rattle.session_engine.specs.Host.{HasField, HaveFields}
-use Rattle.session_engine.specs.World.{World, Going, sheet_in, waiting_in, life_of, session_of, line_of, in_flight, with_number, with_op, with_op_if}
+use Rattle.session_engine.specs.World.{World, Going, sheet_in, waiting_in, life_of, session_of_field, line_of_field, in_flight, with_number, with_op, with_op_if}
 use Rattle.session_engine.specs.inside.Parts.{with_life, without_life, with_item, goes_on, checks, op_refusals, eval_refusals}
 use Rattle.session_engine.specs.Does.{op_by, with_piece}
-use Rattle.session_engine.specs.Refused.{full, refusals}
+use Rattle.session_engine.specs.Refused.{full, command_refusals}
 use Rattle.session_engine.specs.inside.Given.{outcome_of, after, Commanded, Ignored, Ended_by, IsPieced, Pieced, Childed, GivesByParts}
 use Rattle.session_engine.specs.inside.Commits.{AllowedIf}
 use Rattle.session_engine.specs.Does.{Gives}
@@ -49,14 +49,14 @@ use Rattle.session_engine.proofs.ByParts.{by_parts, op_after}
 use Rattle.session_engine.proofs.Fields.{allowed_answer}
 use Rattle.session_engine.proofs.Changing.{as_op, first_before, allowed_by}
 use Rattle.session_engine.proofs.Asking.{line_is}
-use Rattle.session_engine.specs.Turns.{Has, Closes}
+use Rattle.session_engine.specs.Turns.{Has, ClosesAnswer}
 use Rattle.session_engine.proofs.FieldLaws.{HasInput, AnsweredBy, by_op}
 use Rattle.session_engine.proofs.Living.{HasLine, SoundLife, Sound, KeepsLines, gone, put, the_life, asked, pieced, committed, every_line, checked}
 
 -- Where an event has led: what holds everywhere holds there, and a field that shows an answer did so before, or the event closed it.
 pub record Stepped (w : World) (e : Event) (v : World) : Type 0 where
   pub sound : Sound v
-  pub shown : (f : Field) (a : Answer) → f.answer ≡ Some a → Has (sheet_in v) f → Has (sheet_in w) f ⊎ Closes w e f
+  pub shown : (f : Field) (a : Answer) → f.answer ≡ Some a → Has (sheet_in v) f → Has (sheet_in w) f ⊎ ClosesAnswer w e f
 
 pub stays : (w : World) (e : Event) (v : World) → Sound w → v ≡ w → Stepped w e v
 stays w e v h is = subst (λ (x : World). Stepped w e x) (sym is) (record { sound = h; shown = λ f a some has. inl has })
@@ -150,7 +150,7 @@ module _ (w : World) (name : List ℕ) (number : ℕ) (l : Going) (piece : List 
   life : SoundLife w.ops l
   life = the_life name l w h (numbered number (life_of w name) l is)
 
-  closes : (id : ℕ) (prompt : List ℕ) (out : Tree) → IsClosing w.ops l.past l.blocks blocks piece id prompt out → (f : Field) → AnsweredBy w.ops (op.Answer id prompt out) f → Closes w (event.Child name number (child.Piece piece)) f
+  closes : (id : ℕ) (prompt : List ℕ) (out : Tree) → IsClosing w.ops l.past l.blocks blocks piece id prompt out → (f : Field) → AnsweredBy w.ops (op.Answer id prompt out) f → ClosesAnswer w (event.Child name number (child.Piece piece)) f
   closes id prompt out c f by =
       let same : op.Answer id prompt out ≡ op.Answer f.id by.prompt by.output = by.is in
       let number_is : id ≡ f.id = cc in
@@ -211,7 +211,7 @@ no_answer (command.Clear other) o e id prompt out is = let no : Some (op.Clear o
 no_answer (command.Eval other) o e id prompt out is = cc
 no_answer (command.Stop name) o e id prompt out is = cc
 
-as_done : (w : World) (c : Command) (o : Op) → op_of c ≡ Some o → Sound w → first_of (refusals w c) ≡ None → Stepped w (event.Command c) (after w c)
+as_done : (w : World) (c : Command) (o : Op) → op_of c ≡ Some o → Sound w → first_of (command_refusals w c) ≡ None → Stepped w (event.Command c) (after w c)
 as_done w c o is h first =
     let a = as_op w c o is in
     let free : first_of (checks w o) ≡ None = first_part (checks w o) (full w o ∷ []) (sym (ap first_of a.refusals_are) ∙ first) in
@@ -223,27 +223,27 @@ record Evaluates (w : World) (id : ℕ) : Type 0 where
   found : field_in (sheet_in w).fields id ≡ Some field
   has : has_field (sheet_in w) id ≡ true
 
-evaluates : (w : World) (id : ℕ) → first_of (refusals w (command.Eval id)) ≡ None → Evaluates w id
+evaluates : (w : World) (id : ℕ) → first_of (command_refusals w (command.Eval id)) ≡ None → Evaluates w id
 evaluates w id first = go (field_in (sheet_in w).fields id) refl
   where
     has : has_field (sheet_in w) id ≡ true
-    has = true_from_not (has_field (sheet_in w) id) (none_applies (refusals w (command.Eval id)) first).0
+    has = true_from_not (has_field (sheet_in w) id) (none_applies (command_refusals w (command.Eval id)) first).0
 
     go : (f : Option Field) → field_in (sheet_in w).fields id ≡ f → Evaluates w id
     go None e = absurd (let no : false ≡ true = sym (ap (λ (f : Option Field). is_some f) e) ∙ has in cc)
     go (Some f) e = record { field = f; found = e; has = has }
 
-pub clear_allowed : (w : World) (id : ℕ) → first_of (refusals w (command.Eval id)) ≡ None → first_refusal (sheet_in w) (op.Clear id) ≡ None
+pub clear_allowed : (w : World) (id : ℕ) → first_of (command_refusals w (command.Eval id)) ≡ None → first_refusal (sheet_in w) (op.Clear id) ≡ None
 clear_allowed w id first = let has = (evaluates w id first).has in rw has refl
 
 pub ops_item : (w : World) (name : List ℕ) (i : Item) (l : Option Going) → (with_item w name i l).ops ≡ w.ops
 ops_item w name i None = refl
 ops_item w name i (Some l) = refl
 
-as_evaluated : (w : World) (id : ℕ) → Sound w → first_of (refusals w (command.Eval id)) ≡ None → Stepped w (event.Command (command.Eval id)) (after w (command.Eval id))
+as_evaluated : (w : World) (id : ℕ) → Sound w → first_of (command_refusals w (command.Eval id)) ≡ None → Stepped w (event.Command (command.Eval id)) (after w (command.Eval id))
 as_evaluated w id h first =
-    let name = session_of w id in
-    let i = line_of w id in
+    let name = session_of_field w id in
+    let i = line_of_field w id in
     let life = life_of w name in
     let u = with_item w name i life in
     let o = op.Clear id in
@@ -258,7 +258,7 @@ as_evaluated w id h first =
           (by_op w.ops f a h.allowed some o next (subst (λ (os : List Op). Has (sheet_of (os ++ o ∷ [])) f) same shows));
     }
 
-accepted : (w : World) (c : Command) → Sound w → first_of (refusals w c) ≡ None → Stepped w (event.Command c) (after w c)
+accepted : (w : World) (c : Command) → Sound w → first_of (command_refusals w c) ≡ None → Stepped w (event.Command c) (after w c)
 accepted w (command.Session name tab words) h first = as_done w (command.Session name tab words) (op.Session name tab words) refl h first
 accepted w (command.New place session input) h first = as_done w (command.New place session input) (op.New place session input) refl h first
 accepted w (command.Set id input) h first = as_done w (command.Set id input) (op.Set id input) refl h first
@@ -282,9 +282,9 @@ piece_of w name number (Some l) piece o v is h given =
 
 -- Any event.
 pub stepped_by_parts : (w : World) (e : Event) (o : Outcome) (v : World) → Sound w → GivesByParts w e o v → Stepped w e v
-stepped_by_parts w (event.Command c) o v h given = go (first_of (refusals w c)) refl given
+stepped_by_parts w (event.Command c) o v h given = go (first_of (command_refusals w c)) refl given
   where
-    go : (x : Option Refusal) → first_of (refusals w c) ≡ x → Commanded w c x o v → Stepped w (event.Command c) v
+    go : (x : Option Refusal) → first_of (command_refusals w c) ≡ x → Commanded w c x o v → Stepped w (event.Command c) v
     go (Some r) first done = stays w (event.Command c) v h done.1
     go None first done = ⊎_elim
         (λ yes. subst (λ (x : World). Stepped w (event.Command c) x) (sym yes.1) (accepted w c h first))

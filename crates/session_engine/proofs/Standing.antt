@@ -21,7 +21,7 @@ use Rattle.plugin_core.specs.declared.step.Reason.{Reason}
 use Rattle.session_engine.specs.World.{World, Going, life_of, with_number, with_op, sheet_in, fits, fits_in}
 use Rattle.session_engine.specs.Does.{ends}
 use Rattle.session_engine.specs.inside.Parts.{with_life, without_life}
-use Rattle.session_engine.specs.Host.{RunsAs, Lives, HaveFields, StandsFor}
+use Rattle.session_engine.specs.Host.{RunsAs, Lives, HaveFields, EngineStandsFor}
 use Rattle.session_engine.proofs.Tables.{Found, found, not_found}
 
 -- where no life with a number is in the host's hands, none goes on
@@ -67,8 +67,8 @@ all_at P name_of name x (y ∷ xs) all h = go (bytes_eq (name_of y) name) h (all
     go false h rest = rest h
 
 -- a life in place of what it was
-pub put : (store : StoreView) (rs : List Running) (begun : ℕ) (w : World) (name : List ℕ) (r q : Running) (m : Going) → StandsFor store rs begun w → Found rs w.lives name r → RunsAs q m → HaveFields (sheet_in w) m
-    → m.name ≡ name → StandsFor store (replace_named name_of name q rs) begun (with_life m w)
+pub put : (store : StoreView) (rs : List Running) (begun : ℕ) (w : World) (name : List ℕ) (r q : Running) (m : Going) → EngineStandsFor store rs begun w → Found rs w.lives name r → RunsAs q m → HaveFields (sheet_in w) m
+    → m.name ≡ name → EngineStandsFor store (replace_named name_of name q rs) begun (with_life m w)
 put store rs begun w name r q m h f runs fields named = record {
   still_open = h.still_open;
   contents = h.contents;
@@ -83,8 +83,8 @@ put store rs begun w name r q m h f runs fields named = record {
 }
 
 -- an op is on the disk and in the worksheet
-pub committed : (store new : StoreView) (rs : List Running) (begun : ℕ) (w : World) (o : Op) → StandsFor store rs begun w → Committed store w.ops o new → SameDisk store.disk new.disk
-    → first_refusal (sheet_in w) o ≡ None → AllByRecursion (SparesLife o) w.lives → StandsFor new rs begun (with_op o w)
+pub committed : (store new : StoreView) (rs : List Running) (begun : ℕ) (w : World) (o : Op) → EngineStandsFor store rs begun w → Committed store w.ops o new → SameDisk store.disk new.disk
+    → first_refusal (sheet_in w) o ≡ None → AllByRecursion (SparesLife o) w.lives → EngineStandsFor new rs begun (with_op o w)
 committed store new rs begun w o h done same next spares = record {
   still_open = done.still_open;
   contents = done.contents;
@@ -99,8 +99,8 @@ committed store new rs begun w o h done same next spares = record {
 }
 
 -- a life is gone
-pub gone : (store : StoreView) (rs : List Running) (begun : ℕ) (w : World) (name : List ℕ) (r : Running) → StandsFor store rs begun w → Found rs w.lives name r
-    → StandsFor store (without_named name_of name rs) begun (without_life name w)
+pub gone : (store : StoreView) (rs : List Running) (begun : ℕ) (w : World) (name : List ℕ) (r : Running) → EngineStandsFor store rs begun w → Found rs w.lives name r
+    → EngineStandsFor store (without_named name_of name rs) begun (without_life name w)
 gone store rs begun w name r h f = record {
   still_open = h.still_open;
   contents = h.contents;
@@ -121,7 +121,7 @@ told_end l name number why killed e f = ap (λ (n : List ℕ). ends (record { na
     ∙ ap (λ (k : ℕ). ends (record { name = l.name; number = k; past = l.past; blocks = l.blocks }) why killed) f
 
 -- a store in which nothing has changed
-pub unchanged : (store new : StoreView) (rs : List Running) (begun : ℕ) (w : World) → StandsFor store rs begun w → SameStore store new → StandsFor new rs begun w
+pub unchanged : (store new : StoreView) (rs : List Running) (begun : ℕ) (w : World) → EngineStandsFor store rs begun w → SameStore store new → EngineStandsFor new rs begun w
 unchanged store new rs begun w h same = record {
   still_open = same.closed ∙ h.still_open;
   contents = same.contents ∙ h.contents;
@@ -136,7 +136,7 @@ unchanged store new rs begun w h same = record {
 }
 
 -- an op fits behind the world's end where it fits behind the store's
-pub fit_in : (store : StoreView) (rs : List Running) (begun : ℕ) (w : World) (o : Op) → StandsFor store rs begun w → fits w o ≡ fits_in store.disk.room store.end o
+pub fit_in : (store : StoreView) (rs : List Running) (begun : ℕ) (w : World) (o : Op) → EngineStandsFor store rs begun w → fits w o ≡ fits_in store.disk.room store.end o
 fit_in store rs begun w o h = ap (λ (k : ℕ). fits_in k w.end o) (sym h.room) ∙ ap (λ (k : ℕ). fits_in store.disk.room k o) (sym h.end)
 
 pub with_number_there : (number : ℕ) (name : List ℕ) (rs : List Running) (r : Running) → life_in rs name ≡ Some r → r.life.number ≡ number → has_number number (life_in rs name) ≡ true

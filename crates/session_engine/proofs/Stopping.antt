@@ -13,7 +13,7 @@ use Rattle.session_engine.specs.declared.event.ChildEvent.TheVariants as child
 use Rattle.session_engine.specs.declared.event.Event.TheVariants as event
 use Rattle.session_engine.specs.declared.reply.Reply.TheVariants as reply
 use Rattle.session_engine.specs.World.{World, Going, life_of, sheet_in}
-use Rattle.session_engine.specs.Refused.{refusals}
+use Rattle.session_engine.specs.Refused.{command_refusals}
 use Rattle.session_engine.specs.Does.{Does, ends_life, tells, ChildDoes, CommandDoes, MayDo}
 use Rattle.session_engine.specs.inside.Parts.{end_by, without_life}
 use Rattle.session_engine.proofs.Tables.{without_none}
@@ -22,7 +22,7 @@ use Rattle.session_engine.proofs.Tables.{without_none}
 pub gives_stop : (w : World) (name : List ℕ) (s : Session) (l : Option Going) → session_named (sheet_in w).sessions name ≡ Some s → life_of w name ≡ l
     → MayDo w (event.Command (command.Stop name)) (ends_life w reason.Stopped true l reply.Done)
 gives_stop w name s l named is =
-    let first : first_of (refusals w (command.Stop name)) ≡ None = ap (λ (o : Option Session). if not (is_some o) then Some refusal.NoSession else None) named in
+    let first : first_of (command_refusals w (command.Stop name)) ≡ None = ap (λ (o : Option Session). if not (is_some o) then Some refusal.NoSession else None) named in
     subst (λ (x : Option Refusal). CommandDoes w (command.Stop name) x (ends_life w reason.Stopped true l reply.Done)) (sym first)
     (inl (ap (λ (o : Option Going). ends_life w reason.Stopped true o reply.Done) (sym is)))
 
@@ -39,7 +39,7 @@ gives_end w l child.StopFault why killed is = cc
 -- a Stop of no session
 pub gives_no_session : (w : World) (name : List ℕ) → session_named (sheet_in w).sessions name ≡ None → MayDo w (event.Command (command.Stop name)) (tells w (reply.Refused refusal.NoSession))
 gives_no_session w name named =
-    let first : first_of (refusals w (command.Stop name)) ≡ Some refusal.NoSession = ap (λ (o : Option Session). if not (is_some o) then Some refusal.NoSession else None) named in
+    let first : first_of (command_refusals w (command.Stop name)) ≡ Some refusal.NoSession = ap (λ (o : Option Session). if not (is_some o) then Some refusal.NoSession else None) named in
     subst (λ (x : Option Refusal). CommandDoes w (command.Stop name) x (tells w (reply.Refused refusal.NoSession))) (sym first) refl
 
 pub without_none_here : (w : World) (name : List ℕ) → life_of w name ≡ None → without_life name w ≡ w

@@ -18,7 +18,7 @@ use Rattle.session_engine.specs.declared.outcome.Effect.{Effect}
 use Rattle.session_engine.specs.declared.outcome.Effect.TheVariants as effect
 use Rattle.session_engine.specs.declared.reply.Reply.{Reply}
 use Rattle.session_engine.specs.declared.reply.Reply.TheVariants as reply
-use Rattle.session_engine.specs.World.{World, Going, life_of, session_of, sheet_in}
+use Rattle.session_engine.specs.World.{World, Going, life_of, session_of_field, sheet_in}
 use Rattle.session_engine.specs.Does.{Gives, Runs}
 
 -- a command, or an event of this session's child
@@ -40,7 +40,7 @@ concerns name w (event.Command (command.Set id input)) = true
 concerns name w (event.Command (command.Remove id)) = true
 concerns name w (event.Command (command.Move id place)) = true
 concerns name w (event.Command (command.Clear id)) = true
-concerns name w (event.Command (command.Eval id)) = bytes_eq (session_of w id) name
+concerns name w (event.Command (command.Eval id)) = bytes_eq (session_of_field w id) name
 concerns name w (event.Command (command.Stop other)) = bytes_eq other name
 
 -- the number that a life of this session begins with, where none goes on
@@ -58,15 +58,15 @@ begins name w (event.Command (command.Set id input)) = []
 begins name w (event.Command (command.Remove id)) = []
 begins name w (event.Command (command.Move id place)) = []
 begins name w (event.Command (command.Clear id)) = []
-begins name w (event.Command (command.Eval id)) = number_if (bytes_eq (session_of w id) name) (life_of w name) (w.begun + 1)
+begins name w (event.Command (command.Eval id)) = number_if (bytes_eq (session_of_field w id) name) (life_of w name) (w.begun + 1)
 begins name w (event.Command (command.Stop other)) = []
 
 -- the numbers of this session's lives that begin in a history
-abbrev pub numbers : List ℕ → (w : World) (es : List Event) (os : List Outcome) (v : World) → Runs w es os v → List ℕ
-numbers name w [] [] v run = []
-numbers name w (e ∷ es) (o ∷ os) v run = begins name w e ++ numbers name run.0 es os v run.2
-numbers name w [] (o ∷ os) v run = []
-numbers name w (e ∷ es) [] v run = []
+abbrev pub life_numbers : List ℕ → (w : World) (es : List Event) (os : List Outcome) (v : World) → Runs w es os v → List ℕ
+life_numbers name w [] [] v run = []
+life_numbers name w (e ∷ es) (o ∷ os) v run = begins name w e ++ life_numbers name run.0 es os v run.2
+life_numbers name w [] (o ∷ os) v run = []
+life_numbers name w (e ∷ es) [] v run = []
 
 abbrev pub is_refusal : Reply → Bool
 is_refusal reply.Done = false
@@ -90,16 +90,16 @@ pub record Told : Type 0 where
 abbrev pub added : World → World → List Op
 added w v = drop (length w.ops) v.ops
 
-abbrev pub told_of : List ℕ → World → Event → Outcome → World → Told
-told_of name w e o v = record { event = e; outcome = if concerns name w e then Some o else None; ops = added w v }
+abbrev pub told_to : List ℕ → World → Event → Outcome → World → Told
+told_to name w e o v = record { event = e; outcome = if concerns name w e then Some o else None; ops = added w v }
 
 -- What a history tells of its commands and of this session's child events, one by one. The ops of the child events are the
 -- session's answers.
-abbrev pub tells : List ℕ → (w : World) (es : List Event) (os : List Outcome) (v : World) → Runs w es os v → List Told
-tells name w [] [] v run = []
-tells name w (e ∷ es) (o ∷ os) v run = if is_kept name e then told_of name w e o run.0 ∷ tells name run.0 es os v run.2 else tells name run.0 es os v run.2
-tells name w [] (o ∷ os) v run = []
-tells name w (e ∷ es) [] v run = []
+abbrev pub session_tells : List ℕ → (w : World) (es : List Event) (os : List Outcome) (v : World) → Runs w es os v → List Told
+session_tells name w [] [] v run = []
+session_tells name w (e ∷ es) (o ∷ os) v run = if is_kept name e then told_to name w e o run.0 ∷ session_tells name run.0 es os v run.2 else session_tells name run.0 es os v run.2
+session_tells name w [] (o ∷ os) v run = []
+session_tells name w (e ∷ es) [] v run = []
 
 -- an op that isn't an answer
 abbrev pub is_commanded : Op → Bool
@@ -131,8 +131,8 @@ pub record AreAlike (name : List ℕ) (w x : World) : Type 0 where
 abbrev pub SessionsAreApart : Type 0
 SessionsAreApart = (name : List ℕ) (w x : World) (es fs : List Event) (os ps : List Outcome) (v u : World) → AreAlike name w x
     → (run : Runs w es os v) (other : Runs x fs ps u) → NoneRefused os → NoneRefused ps
-    → kept name es ≡ kept name fs → numbers name w es os v run ≡ numbers name x fs ps u other
-    → (tells name w es os v run ≡ tells name x fs ps u other) × AreAlike name v u
+    → kept name es ≡ kept name fs → life_numbers name w es os v run ≡ life_numbers name x fs ps u other
+    → (session_tells name w es os v run ≡ session_tells name x fs ps u other) × AreAlike name v u
 
 -- a field as a session sees it: without an answer where it is another session's
 abbrev pub seen_by : List ℕ → Field → Field
@@ -152,8 +152,8 @@ IsOpened w = (w.lives ≡ []) × Allowed w.ops
 abbrev pub SessionsSeeTheirOwn : Type 0
 SessionsSeeTheirOwn = (name : List ℕ) (w x : World) (es fs : List Event) (os ps : List Outcome) (v u : World) → IsOpened w → IsOpened x → w.ops ≡ x.ops
     → (run : Runs w es os v) (other : Runs x fs ps u) → NoneRefused os → NoneRefused ps
-    → kept name es ≡ kept name fs → numbers name w es os v run ≡ numbers name x fs ps u other
-    → (tells name w es os v run ≡ tells name x fs ps u other) × LookAlike name (sheet_in v) (sheet_in u)
+    → kept name es ≡ kept name fs → life_numbers name w es os v run ≡ life_numbers name x fs ps u other
+    → (session_tells name w es os v run ≡ session_tells name x fs ps u other) × LookAlike name (sheet_in v) (sheet_in u)
 
 -- a reply tells of a life of this session
 abbrev pub is_told : List ℕ → Reply → Bool

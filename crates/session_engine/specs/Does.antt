@@ -32,8 +32,8 @@ use Rattle.session_engine.specs.declared.reply.Closed.{Closed}
 use Rattle.session_engine.specs.declared.reply.Closed.TheVariants as closed
 use Rattle.session_engine.specs.declared.reply.Reply.{Reply}
 use Rattle.session_engine.specs.declared.reply.Reply.TheVariants as reply
-use Rattle.session_engine.specs.World.{World, Going, life_of, with_number, with_op_if, session_of, line_of, sheet_in, waiting_in}
-use Rattle.session_engine.specs.Refused.{refusals, takes_memory}
+use Rattle.session_engine.specs.World.{World, Going, life_of, with_number, with_op_if, session_of_field, line_of_field, sheet_in, waiting_in}
+use Rattle.session_engine.specs.Refused.{command_refusals, command_takes_memory}
 
 -- What an event does: what is told, the op that it gives if any, how many lives have begun behind it, and the lives that go on.
 pub record Does : Type 0 where
@@ -67,10 +67,10 @@ ends l why killed = record {
 }
 
 -- the answer that a piece closes, as it is told
-abbrev pub closed_by : Option Answered → Option Closed
-closed_by None = None
-closed_by (Some (answered.Banner b)) = Some (closed.Banner b)
-closed_by (Some (answered.Line id prompt output)) = Some (closed.Line id)
+abbrev pub closed_told : Option Answered → Option Closed
+closed_told None = None
+closed_told (Some (answered.Banner b)) = Some (closed.Banner b)
+closed_told (Some (answered.Line id prompt output)) = Some (closed.Line id)
 
 -- the op that it gives
 abbrev pub op_by : Option Answered → Option Op
@@ -95,13 +95,13 @@ told_with name number None default_input send (Some e) = record {
 }
 
 abbrev pub told_of : Going → Step → Outcome
-told_of l s = told_with l.name l.number (closed_by s.answered) s.default_input s.send s.ended
+told_of l s = told_with l.name l.number (closed_told s.answered) s.default_input s.send s.ended
 
 -- The lives behind an event.
 
 -- a life in place of what it was
-abbrev pub put : Going → List Going → List Going
-put l lives = replace_named (λ g. g.name) l.name l lives
+abbrev pub put_back : Going → List Going → List Going
+put_back l lives = replace_named (λ g. g.name) l.name l lives
 
 abbrev pub taken_out : List ℕ → List Going → List Going
 taken_out name lives = without_named (λ g. g.name) name lives
@@ -120,7 +120,7 @@ with_piece l piece blocks = record l { past = l.past ++ received piece ∷ []; b
 
 -- lives behind a piece of one of them
 abbrev pub lives_behind : Going → Option Ended → List Going → List Going
-lives_behind l None lives = put l lives
+lives_behind l None lives = put_back l lives
 lives_behind l (Some e) lives = taken_out l.name lives
 
 -- The rows.
@@ -134,23 +134,23 @@ abbrev pub changes : World → Op → Does
 changes w o = record { told = replies (reply_to (sheet_in w) o); op = Some o; begun = w.begun; lives = w.lives }
 
 -- the words that a session's interpreter is started with
-abbrev pub words_of : Option Session → List (List ℕ)
-words_of None = []
-words_of (Some s) = s.words
+abbrev pub starting_words : Option Session → List (List ℕ)
+starting_words None = []
+starting_words (Some s) = s.words
 
 -- A session is asked the line of a field, whose answer is taken away. The line begins a life, or joins the one that goes on.
 abbrev pub evaluates : World → ℕ → List ℕ → Option Going → Does
 evaluates w id name None = record {
-  told = record { reply = reply.Asked (w.begun + 1); effect = Some (effect.Start name (w.begun + 1) (words_of (session_named (sheet_in w).sessions name))) };
+  told = record { reply = reply.Asked (w.begun + 1); effect = Some (effect.Start name (w.begun + 1) (starting_words (session_named (sheet_in w).sessions name))) };
   op = Some (op.Clear id);
   begun = w.begun + 1;
-  lives = w.lives ++ begun_with w name (line_of w id) ∷ [];
+  lives = w.lives ++ begun_with w name (line_of_field w id) ∷ [];
 }
 evaluates w id name (Some l) = record {
-  told = record { reply = reply.Asked l.number; effect = option_map (λ bytes. effect.Send name l.number bytes) (sent_by l.past l.blocks (accepted (line_of w id)) l.blocks) };
+  told = record { reply = reply.Asked l.number; effect = option_map (λ bytes. effect.Send name l.number bytes) (sent_by l.past l.blocks (accepted (line_of_field w id)) l.blocks) };
   op = Some (op.Clear id);
   begun = w.begun;
-  lives = put (joined_by l (line_of w id)) w.lives;
+  lives = put_back (joined_by l (line_of_field w id)) w.lives;
 }
 
 -- a life ends from outside; where none goes on, only this is told
@@ -170,7 +170,7 @@ does w (command.Set id input) = changes w (op.Set id input)
 does w (command.Remove id) = changes w (op.Remove id)
 does w (command.Move id after) = changes w (op.Move id after)
 does w (command.Clear id) = changes w (op.Clear id)
-does w (command.Eval id) = evaluates w id (session_of w id) (life_of w (session_of w id))
+does w (command.Eval id) = evaluates w id (session_of_field w id) (life_of w (session_of_field w id))
 does w (command.Stop name) = ends_life w reason.Stopped true (life_of w name) reply.Done
 
 -- What an event of a child does, where this is the life with its number, if that goes on. A piece does what the stream of the
@@ -190,11 +190,11 @@ ChildDoes w l child.StopFault d = d ≡ tells w reply.Nothing
 -- A command where this is the first refusal that applies: it is refused so; or it is accepted, or refused for want of memory.
 abbrev pub CommandDoes : World → Command → Option Refusal → Does → Type 0
 CommandDoes w c (Some r) d = d ≡ tells w (reply.Refused r)
-CommandDoes w c None d = (d ≡ does w c) ⊎ ((takes_memory c ≡ true) × (d ≡ tells w (reply.Refused refusal.OutOfMemory)))
+CommandDoes w c None d = (d ≡ does w c) ⊎ ((command_takes_memory c ≡ true) × (d ≡ tells w (reply.Refused refusal.OutOfMemory)))
 
 -- what an event may do
 abbrev pub MayDo : World → Event → Does → Type 0
-MayDo w (event.Command c) d = CommandDoes w c (first_of (refusals w c)) d
+MayDo w (event.Command c) d = CommandDoes w c (first_of (command_refusals w c)) d
 MayDo w (event.Child name number e) d = ChildDoes w (with_number number (life_of w name)) e d
 
 -- an event gives this outcome, and leads there

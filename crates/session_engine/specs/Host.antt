@@ -62,7 +62,7 @@ HaveFields sheet l = AllByRecursion (HasField sheet) (waiting_in l)
 
 -- The parts of a host stand for a world: its worksheet is the world's, each image of its disk is one of that, and it runs the
 -- world's lives.
-pub record StandsFor (store : StoreView) (lives : List Running) (begun : ℕ) (w : World) : Type 0 where
+pub record EngineStandsFor (store : StoreView) (lives : List Running) (begun : ℕ) (w : World) : Type 0 where
   pub still_open : store.closed ≡ false
   pub contents : store.sheet.contents ≡ sheet_in w
   pub allowed : Allowed w.ops
@@ -77,7 +77,7 @@ pub record StandsFor (store : StoreView) (lives : List Running) (begun : ℕ) (w
 -- the host isn't closed, and stands for the world
 pub record IsHost (h : HostView) (w : World) : Type 0 where
   pub works : h.closed ≡ false
-  pub stands : StandsFor h.store h.lives h.begun w
+  pub stands : EngineStandsFor h.store h.lives h.begun w
 
 -- What an event that gives an op behind these, or none, does to a disk. Without an op it makes no call on it. While one that
 -- gives an op goes on, each image at every moment is one of the worksheet before it, or of that with the op.
@@ -94,15 +94,15 @@ pub record Took (w : World) (e : Event) (old new : HostView) (o : Outcome) : Typ
   pub disk : OnDisk w.ops did.op old.store.disk new.store.disk
 
 -- the disk that an opening leaves
-abbrev pub disk_left : {D : Type 0} → (D → DiskView) → Result HostView (OpenFault D) → DiskView
-disk_left view (Ok host) = host.store.disk
-disk_left view (Err fault) = view fault.disk
+abbrev pub disk_of_opening : {D : Type 0} → (D → DiskView) → Result HostView (OpenFault D) → DiskView
+disk_of_opening view (Ok host) = host.store.disk
+disk_of_opening view (Err fault) = view fault.disk
 
 -- the image stands for payloads that end at this offset
 abbrev pub EndsAt : Image → ℕ → Type 0
 EndsAt i end = (payloads : List (List ℕ)) × StandsForPayloads i payloads × (end ≡ end_of payloads)
 
 -- a host with this worksheet, or a cause that isn't in the bytes: the disk failed, or memory was refused
-abbrev pub GivesSheet : {D : Type 0} → Contents → Result HostView (OpenFault D) → Type 0
-GivesSheet sheet (Ok host) = host.store.sheet.contents ≡ sheet
-GivesSheet sheet (Err fault) = IsPassing fault.cause
+abbrev pub HostGivesSheet : {D : Type 0} → Contents → Result HostView (OpenFault D) → Type 0
+HostGivesSheet sheet (Ok host) = host.store.sheet.contents ≡ sheet
+HostGivesSheet sheet (Err fault) = IsPassing fault.cause

@@ -12,7 +12,7 @@ use Rattle.plugin_core.specs.Limits.{most_waiting}
 use Rattle.session_engine.specs.Limits.{most_lives}
 use Rattle.session_engine.specs.declared.command.Command.{Command}
 use Rattle.session_engine.specs.declared.command.Command.TheVariants as command
-use Rattle.session_engine.specs.World.{World, Going, sheet_in, in_flight, fits, life_of, session_of, waiting_in}
+use Rattle.session_engine.specs.World.{World, Going, sheet_in, in_flight, fits, life_of, session_of_field, waiting_in}
 
 abbrev pub no_session : World → List ℕ → Refusal × Bool
 no_session w name = (refusal.NoSession, not (has_session (sheet_in w) name))
@@ -72,15 +72,15 @@ lives_spent w name = (refusal.LivesSpent, lives_are_spent w.begun (life_of w nam
 abbrev pub full : World → Op → Refusal × Bool
 full w o = (refusal.JournalFull, not (fits w o))
 
-abbrev pub refusals : World → Command → List (Refusal × Bool)
-refusals w (command.Session name tab words) =
+abbrev pub command_refusals : World → Command → List (Refusal × Bool)
+command_refusals w (command.Session name tab words) =
     bad_name name
     ∷ session_exists w name
     ∷ bad_words words
     ∷ many_sessions w
     ∷ full w (op.Session name tab words)
     ∷ []
-refusals w (command.New after session input) =
+command_refusals w (command.New after session input) =
     no_session w session
     ∷ no_place w after
     ∷ bad_input input
@@ -88,26 +88,26 @@ refusals w (command.New after session input) =
     ∷ ids_spent w
     ∷ full w (op.New after session input)
     ∷ []
-refusals w (command.Set id input) = no_field w id ∷ line_waits w id ∷ bad_input input ∷ full w (op.Set id input) ∷ []
-refusals w (command.Remove id) = no_field w id ∷ line_waits w id ∷ full w (op.Remove id) ∷ []
-refusals w (command.Move id after) = no_field w id ∷ no_place w after ∷ same_place w id after ∷ full w (op.Move id after) ∷ []
-refusals w (command.Clear id) = no_field w id ∷ line_waits w id ∷ full w (op.Clear id) ∷ []
-refusals w (command.Eval id) =
+command_refusals w (command.Set id input) = no_field w id ∷ line_waits w id ∷ bad_input input ∷ full w (op.Set id input) ∷ []
+command_refusals w (command.Remove id) = no_field w id ∷ line_waits w id ∷ full w (op.Remove id) ∷ []
+command_refusals w (command.Move id after) = no_field w id ∷ no_place w after ∷ same_place w id after ∷ full w (op.Move id after) ∷ []
+command_refusals w (command.Clear id) = no_field w id ∷ line_waits w id ∷ full w (op.Clear id) ∷ []
+command_refusals w (command.Eval id) =
     no_field w id
     ∷ line_waits w id
-    ∷ queue_full w (session_of w id)
-    ∷ lives_spent w (session_of w id)
+    ∷ queue_full w (session_of_field w id)
+    ∷ lives_spent w (session_of_field w id)
     ∷ full w (op.Clear id)
     ∷ []
-refusals w (command.Stop name) = no_session w name ∷ []
+command_refusals w (command.Stop name) = no_session w name ∷ []
 
 -- Behind these stands want of memory: all commands but a Stop take memory.
-abbrev pub takes_memory : Command → Bool
-takes_memory (command.Session name tab words) = true
-takes_memory (command.New after session input) = true
-takes_memory (command.Set id input) = true
-takes_memory (command.Remove id) = true
-takes_memory (command.Move id after) = true
-takes_memory (command.Clear id) = true
-takes_memory (command.Eval id) = true
-takes_memory (command.Stop name) = false
+abbrev pub command_takes_memory : Command → Bool
+command_takes_memory (command.Session name tab words) = true
+command_takes_memory (command.New after session input) = true
+command_takes_memory (command.Set id input) = true
+command_takes_memory (command.Remove id) = true
+command_takes_memory (command.Move id after) = true
+command_takes_memory (command.Clear id) = true
+command_takes_memory (command.Eval id) = true
+command_takes_memory (command.Stop name) = false

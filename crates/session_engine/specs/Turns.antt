@@ -24,7 +24,7 @@ use Rattle.session_engine.specs.declared.event.ChildEvent.TheVariants as child
 use Rattle.session_engine.specs.declared.event.Event.{Event}
 use Rattle.session_engine.specs.declared.event.Event.TheVariants as event
 use Rattle.session_engine.specs.declared.outcome.Outcome.{Outcome}
-use Rattle.session_engine.specs.World.{World, Going, opened, sheet_in, life_of, with_number}
+use Rattle.session_engine.specs.World.{World, Going, world_at_opening, sheet_in, life_of, with_number}
 use Rattle.session_engine.specs.Does.{Gives, Runs}
 use Rattle.session_engine.specs.Crash.{LeftAmong, HasPlayed}
 
@@ -37,7 +37,7 @@ Has sheet f = field_in sheet.fields f.id ≡ Some f
 -- The event closes the answer that the field shows. It is a piece of a life that goes on, of which the field's input is a line;
 -- the stream of that life, with the piece, has a whole block which by the ask points is the answer to that line; and the field
 -- shows the output of this block.
-pub record Closes (w : World) (e : Event) (f : Field) : Type 0 where
+pub record ClosesAnswer (w : World) (e : Event) (f : Field) : Type 0 where
   pub name : List ℕ
   pub number : ℕ
   pub piece : List ℕ
@@ -63,20 +63,20 @@ Stays f w (e ∷ es) [] v = ⊥
 
 -- One of these events closed the answer that the field shows, and behind it the field stayed as it is.
 abbrev pub Answered : Field → World → List Event → List Outcome → World → Type 0
-Answered f w (e ∷ es) (o ∷ os) v = (mid : World) × Gives w e o mid × ((Closes w e f × Stays f mid es os v) ⊎ Answered f mid es os v)
+Answered f w (e ∷ es) (o ∷ os) v = (mid : World) × Gives w e o mid × ((ClosesAnswer w e f × Stays f mid es os v) ⊎ Answered f mid es os v)
 Answered f w [] os v = ⊥
 Answered f w (e ∷ es) [] v = ⊥
 
 -- Hosts one after another.
 
 -- What a caller saw of one host: the events that it gave it, in order, and the outcomes that it was told, of the first of them.
-pub record Turn : Type 0 where
+pub record HostTurn : Type 0 where
   pub events : List Event
   pub told : List Outcome
 
 -- A host was opened on an image of the worksheet of these ops. It took a prefix of the events that it was given, which has all
 -- those of which it told. A crash left an image of the worksheet of those ops.
-pub record Turned (room : ℕ) (before : Image) (found : List Op) (turn : Turn) (after : Image) (kept : List Op) : Type 0 where
+pub record Turned (room : ℕ) (before : Image) (found : List Op) (turn : HostTurn) (after : Image) (kept : List Op) : Type 0 where
   pub allowed : Allowed found
   pub opens : IsSheetImage (sheet_of found) before
   -- how full the journal is, is what the image says
@@ -89,7 +89,7 @@ pub record Turned (room : ℕ) (before : Image) (found : List Op) (turn : Turn) 
   -- the outcomes of those that it took: what it told, and then what it didn't come to tell
   pub untold : List Outcome
   pub leads : World
-  pub run : Runs (opened found room end) taken (turn.told ++ untold) leads
+  pub run : Runs (world_at_opening found room end) taken (turn.told ++ untold) leads
   pub ops : kept ≡ leads.ops
   pub leaves : IsSheetImage (sheet_of kept) after
 
@@ -98,45 +98,45 @@ pub record Turned (room : ℕ) (before : Image) (found : List Op) (turn : Turn) 
 abbrev pub PlaysAreTurns : Type 0
 PlaysAreTurns = (room end : ℕ) (before : Image) (found : List Op) → Allowed found → IsSheetImage (sheet_of found) before → EndsAt before end
     → (events : List Event) (told : List Outcome) (after : Image)
-    → (LeftAmong (opened found room end) events told after → (kept : List Op) × Turned room before found (record { events = events; told = [] }) after kept)
-    × ((rest : List Event) (host : HostView) (played : HasPlayed (opened found room end) events rest told host) → IsSheetImage (sheet_in played.leads) after
+    → (LeftAmong (world_at_opening found room end) events told after → (kept : List Op) × Turned room before found (record { events = events; told = [] }) after kept)
+    × ((rest : List Event) (host : HostView) (played : HasPlayed (world_at_opening found room end) events rest told host) → IsSheetImage (sheet_in played.leads) after
     → (kept : List Op) × Turned room before found (record { events = events; told = told }) after kept)
 
 -- Each of these hosts was opened on the image that the one before it left, as an image of the worksheet of some ops.
-abbrev pub EachTurned : ℕ → Image → List Turn → Image → Type 0
+abbrev pub EachTurned : ℕ → Image → List HostTurn → Image → Type 0
 EachTurned room before [] after = after ≡ before
 EachTurned room before (turn ∷ turns) after = (mid : Image) × ((found : List Op) × (kept : List Op) × Turned room before found turn mid kept) × EachTurned room mid turns after
 
 -- Each of them went on with the ops of the one before it, from these first ones to those last.
-abbrev pub WentOn : ℕ → Image → List Op → List Turn → Image → List Op → Type 0
+abbrev pub WentOn : ℕ → Image → List Op → List HostTurn → Image → List Op → Type 0
 WentOn room before found [] after kept = (after ≡ before) × (kept ≡ found)
 WentOn room before found (turn ∷ turns) after kept = (mid : Image) × (ops : List Op) × Turned room before found turn mid ops × WentOn room mid ops turns after kept
 
 -- Through all of them the worksheet had this field.
-abbrev pub StaysThrough : Field → (room : ℕ) (before : Image) (found : List Op) (turns : List Turn) (after : Image) (kept : List Op) → WentOn room before found turns after kept → Type 0
+abbrev pub StaysThrough : Field → (room : ℕ) (before : Image) (found : List Op) (turns : List HostTurn) (after : Image) (kept : List Op) → WentOn room before found turns after kept → Type 0
 StaysThrough f room before found [] after kept went = Has (sheet_of found) f
 StaysThrough f room before found (turn ∷ turns) after kept went =
-    Stays f (opened found room went.2.end) went.2.taken (turn.told ++ went.2.untold) went.2.leads × StaysThrough f room went.0 went.1 turns after kept went.3
+    Stays f (world_at_opening found room went.2.end) went.2.taken (turn.told ++ went.2.untold) went.2.leads × StaysThrough f room went.0 went.1 turns after kept went.3
 
 -- One of them closed the answer that the field shows, and behind it the field stayed as it is.
-abbrev pub AnsweredByOne : Field → (room : ℕ) (before : Image) (found : List Op) (turns : List Turn) (after : Image) (kept : List Op) → WentOn room before found turns after kept → Type 0
+abbrev pub AnsweredByOne : Field → (room : ℕ) (before : Image) (found : List Op) (turns : List HostTurn) (after : Image) (kept : List Op) → WentOn room before found turns after kept → Type 0
 AnsweredByOne f room before found [] after kept went = ⊥
 AnsweredByOne f room before found (turn ∷ turns) after kept went =
-    (Answered f (opened found room went.2.end) went.2.taken (turn.told ++ went.2.untold) went.2.leads × StaysThrough f room went.0 went.1 turns after kept went.3)
+    (Answered f (world_at_opening found room went.2.end) went.2.taken (turn.told ++ went.2.untold) went.2.leads × StaysThrough f room went.0 went.1 turns after kept went.3)
     ⊎ AnsweredByOne f room went.0 went.1 turns after kept went.3
 
 -- Hosts one after another, the first on a disk with the worksheet of these ops. In the end the disk has the worksheet of these
 -- ops and of those of a prefix of each host's events in turn, where each prefix has all that was told; and a field of it that
 -- shows an answer was there in the worksheet that was found first and has stayed as it was, or shows the output of a whole block that answered its line.
 abbrev pub LivesInTurn : Type 0
-LivesInTurn = (room : ℕ) (first : List Op) (before after : Image) (turns : List Turn) → Allowed first → IsSheetImage (sheet_of first) before → EachTurned room before turns after
+LivesInTurn = (room : ℕ) (first : List Op) (before after : Image) (turns : List HostTurn) → Allowed first → IsSheetImage (sheet_of first) before → EachTurned room before turns after
     → (kept : List Op) × (went : WentOn room before first turns after kept) × IsSheetImage (sheet_of kept) after
     × ((f : Field) (answer : Answer) → Has (sheet_of kept) f → f.answer ≡ Some answer → StaysThrough f room before first turns after kept went ⊎ AnsweredByOne f room before first turns after kept went)
 
 -- Where an evaluation was accepted, what its field shows from there on is what a whole block answered to a line behind it, or
 -- nothing: not where it was Stopped, nor where its interpreter ended before.
 abbrev pub EvaluatedAnew : Type 0
-EvaluatedAnew = (found : List Op) (room end : ℕ) (es : List Event) (os : List Outcome) (w : World) → Allowed found → Runs (opened found room end) es os w
+EvaluatedAnew = (found : List Op) (room end : ℕ) (es : List Event) (os : List Outcome) (w : World) → Allowed found → Runs (world_at_opening found room end) es os w
     → (id : ℕ) (o : Outcome) (mid : World) → Gives w (event.Command (command.Eval id)) o mid → mid.ops ≡ w.ops ++ op.Clear id ∷ []
     → (later : List Event) (told : List Outcome) (v : World) → Runs mid later told v
     → (f : Field) (answer : Answer) → f.id ≡ id → Has (sheet_in v) f → f.answer ≡ Some answer → Answered f mid later told v

@@ -32,8 +32,8 @@ pub record World : Type 0 where
   pub end : ℕ
 
 -- at opening no life goes on, and none has a number
-abbrev pub opened : List Op → ℕ → ℕ → World
-opened ops room end = record { ops = ops; begun = 0; lives = []; room = room; end = end }
+abbrev pub world_at_opening : List Op → ℕ → ℕ → World
+world_at_opening ops room end = record { ops = ops; begun = 0; lives = []; room = room; end = end }
 
 abbrev pub sheet_in : World → Contents
 sheet_in w = sheet_of w.ops
@@ -64,16 +64,16 @@ by_field None none some = none
 by_field (Some f) none some = some f
 
 -- the session of a field
-abbrev pub session_of : World → ℕ → List ℕ
-session_of w id = by_field (field_in (sheet_in w).fields id) [] (λ f. f.session)
+abbrev pub session_of_field : World → ℕ → List ℕ
+session_of_field w id = by_field (field_in (sheet_in w).fields id) [] (λ f. f.session)
 
 -- the input of a field
 abbrev pub input_of : World → ℕ → List ℕ
 input_of w id = by_field (field_in (sheet_in w).fields id) [] (λ f. f.input)
 
 -- the item of an evaluation: the field's line, with its input at this moment
-abbrev pub line_of : World → ℕ → Item
-line_of w id = item.Line id (input_of w id)
+abbrev pub line_of_field : World → ℕ → Item
+line_of_field w id = item.Line id (input_of w id)
 
 -- the payload of an op fits behind an end of the journal, with its record's 5 bytes and the next gate
 abbrev pub fits_in : ℕ → ℕ → Op → Bool

@@ -5,7 +5,7 @@ ghost use Rattle.worksheet.specs.declared.op.Op.{Op};
 ghost use Rattle.worksheet.specs.Ops.{sheet_of};
 ghost use Rattle.worksheet.specs.Checks.{first_refusal};
 ghost use Rattle.recovery.specs.Sheets.{IsEither};
-ghost use Rattle.session_engine.specs.Does.{closed_by, op_by};
+ghost use Rattle.session_engine.specs.Does.{closed_told, op_by};
 ghost use Rattle.session_engine.specs.World.{fits_in};
 ghost use Rattle.session_engine.specs.inside.Commits.{Commits, AllowedIf, CommittedIf, IsEitherIf, NotKept};
 
@@ -42,7 +42,7 @@ pub(crate) fn keep<D: Disk>(
     requires open { store.old.closed ≡ false }
     requires allowed { AllowedIf store.old.sheet.contents (op_by answered) }
     ensures same { SameDisk store.old.disk store.new.disk }
-    ensures ok { (ops : List Op) → store.old.sheet.contents ≡ sheet_of ops → IfOk result (λ closed. (closed ≡ closed_by answered) × CommittedIf store.old ops (op_by answered) store.new) }
+    ensures ok { (ops : List Op) → store.old.sheet.contents ≡ sheet_of ops → IfOk result (λ closed. (closed ≡ closed_told answered) × CommittedIf store.old ops (op_by answered) store.new) }
     ensures fault { IfErr result (NotKept store.old (op_by answered) store.new) }
     ensures moments { InModel store.old.disk ((ops : List Op) → store.old.sheet.contents ≡ sheet_of ops → LeavesOnly (IsEitherIf ops (op_by answered)) store.old.disk.history store.new.disk.history) }
 {

@@ -88,7 +88,7 @@ impl<D: Disk> Engine<D> {
     ghost use Rattle.session_engine.specs.declared.command.Command.TheVariants as command_of;
     ghost use Rattle.session_engine.specs.inside.Engines.{StandsAt, Works, TookAt, FailedAt};
     ghost use Rattle.session_engine.specs.inside.Commits.{RefusesEval};
-    ghost use Rattle.session_engine.specs.World.{World, life_of, session_of, sheet_in};
+    ghost use Rattle.session_engine.specs.World.{World, life_of, session_of_field, sheet_in};
     ghost use Rattle.session_engine.specs.inside.Parts.{eval_refusals, queue_refusals, start_words, asks, with_item};
     ghost use Rattle.session_engine.specs.Refused.{lives_are_spent};
     ghost use Rattle.session_engine.specs.Host.{HasField};
@@ -125,8 +125,8 @@ impl<D: Disk> Engine<D> {
         ensures lives { self.new.lives ≡ self.old.lives }
         ensures begun { self.new.begun ≡ self.old.begun }
         ensures frame { IfOk result (IsReady self.new.store (op.Clear id)) }
-        ensures ok { (w : World) → StandsAt self.old w → session_of w id ≡ name → IfOk result (λ _. first_of (eval_refusals w id) ≡ None) }
-        ensures err { (w : World) → StandsAt self.old w → session_of w id ≡ name → IfErr result (RefusesEval w id) }
+        ensures ok { (w : World) → StandsAt self.old w → session_of_field w id ≡ name → IfOk result (λ _. first_of (eval_refusals w id) ≡ None) }
+        ensures err { (w : World) → StandsAt self.old w → session_of_field w id ≡ name → IfErr result (RefusesEval w id) }
     {
         if let Err(refusal) = self.queue(name) {
             return Err(refusal);

@@ -8,8 +8,8 @@ ghost use Rattle.worksheet.specs.Ops.{sheet_of};
 ghost use Rattle.worksheet.specs.Checks.{Allowed};
 ghost use Rattle.recovery.specs.Sheets.{IsSheetImage, TellsOfSheet};
 ghost use Rattle.plugin_core.specs.Items.{prompt_of};
-ghost use Rattle.session_engine.specs.World.{World, life_of, opened, sheet_in, waiting_in};
-ghost use Rattle.session_engine.specs.Host.{EndsAt, GivesSheet, IsHost, Took, disk_left, number_in};
+ghost use Rattle.session_engine.specs.World.{World, life_of, world_at_opening, sheet_in, waiting_in};
+ghost use Rattle.session_engine.specs.Host.{EndsAt, HostGivesSheet, IsHost, Took, disk_of_opening, number_in};
 ghost use Rattle.session_engine.specs.Faults.{Failed};
 
 use crate::engine::Engine;
@@ -59,21 +59,21 @@ impl<D: Disk> Host<D> {
     /// life, and none has a number. It writes nothing. A disk that stands for no worksheet is refused
     /// with its first damage (docs/FORMAT.md, "Opening").
     pub fn open(alloc: Global, disk: D) -> Result<Host<D>, OpenFault<D>>
-        ensures same { SameDisk (D.view disk) (disk_left D.view result) }
+        ensures same { SameDisk (D.view disk) (disk_of_opening D.view result) }
 
         // The host stands for the world of any allowed ops that make its worksheet, and there are such.
-        ensures opens { IfOk result (λ host. (ops : List Op) × IsHost host (opened ops (D.view disk).room host.store.end)) }
-        ensures stands { IfOk result (λ host. (ops : List Op) → Allowed ops → host.store.sheet.contents ≡ sheet_of ops → IsHost host (opened ops (D.view disk).room host.store.end)) }
+        ensures opens { IfOk result (λ host. (ops : List Op) × IsHost host (world_at_opening ops (D.view disk).room host.store.end)) }
+        ensures stands { IfOk result (λ host. (ops : List Op) → Allowed ops → host.store.sheet.contents ≡ sheet_of ops → IsHost host (world_at_opening ops (D.view disk).room host.store.end)) }
 
         // The worksheet is the one that the disk stands for, and one that stands for a worksheet is opened.
         ensures found { InModel (D.view disk) (IfOk result (λ host. IsSheetImage host.store.sheet.contents (bytes_on (D.view disk)))) }
-        ensures exact { InModel (D.view disk) ((sheet : Contents) → IsSheetImage sheet (bytes_on (D.view disk)) → GivesSheet sheet result) }
+        ensures exact { InModel (D.view disk) ((sheet : Contents) → IsSheetImage sheet (bytes_on (D.view disk)) → HostGivesSheet sheet result) }
         ensures ends { InModel (D.view disk) (IfOk result (λ host. EndsAt (bytes_on (D.view disk)) host.store.end)) }
         ensures fault { InModel (D.view disk) (IfErr result (λ e. TellsOfSheet (bytes_on (D.view disk)) e.cause)) }
         ensures faulty { IfErr result (λ e. e.cause ≡ OpenCause.Disk → Rises (D.view disk).faults (D.view e.disk).faults) }
 
         // It changes no byte, and at every moment each image is one that a crash could leave at the start.
-        ensures looks { InModel (D.view disk) (Looks (D.view disk).history (disk_left D.view result).history) }
+        ensures looks { InModel (D.view disk) (Looks (D.view disk).history (disk_of_opening D.view result).history) }
     {
         let store = match Store::open(alloc, disk) {
             Ok(store) => store,

@@ -5,14 +5,14 @@ use Rattle.session_engine.specs.declared.event.Event.{Event}
 use Rattle.session_engine.specs.declared.outcome.Outcome.{Outcome}
 use Rattle.session_engine.specs.declared.outcome.HostFault.{HostFault}
 use Rattle.session_engine.specs.World.{World}
-use Rattle.session_engine.specs.Host.{HostView, StandsFor, Took}
+use Rattle.session_engine.specs.Host.{HostView, EngineStandsFor, Took}
 use Rattle.session_engine.specs.Faults.{Failed}
 
 abbrev pub view_of : {D : Type 0} → Engine D → Bool → HostView
 view_of engine closed = record { store = engine.store; lives = engine.lives.items; begun = engine.begun; closed = closed }
 
 abbrev pub StandsAt : {D : Type 0} → Engine D → World → Type 0
-StandsAt engine w = StandsFor engine.store engine.lives.items engine.begun w
+StandsAt engine w = EngineStandsFor engine.store engine.lives.items engine.begun w
 
 abbrev pub Works : {D : Type 0} → Engine D → Type 0
 Works engine = (w : World) × StandsAt engine w

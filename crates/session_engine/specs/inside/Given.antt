@@ -18,8 +18,8 @@ use Rattle.session_engine.specs.declared.event.Event.{Event}
 use Rattle.session_engine.specs.declared.event.Event.TheVariants as event
 use Rattle.session_engine.specs.declared.outcome.Outcome.{Outcome}
 use Rattle.session_engine.specs.declared.reply.Reply.TheVariants as reply
-use Rattle.session_engine.specs.World.{World, Going, sheet_in, life_of, with_number, session_of, line_of, with_op, with_op_if}
-use Rattle.session_engine.specs.Refused.{refusals, takes_memory}
+use Rattle.session_engine.specs.World.{World, Going, sheet_in, life_of, with_number, session_of_field, line_of_field, with_op, with_op_if}
+use Rattle.session_engine.specs.Refused.{command_refusals, command_takes_memory}
 use Rattle.session_engine.specs.Does.{replies, refused, ends, told_of, with_piece, op_by}
 use Rattle.session_engine.specs.inside.Parts.{asks, with_item, without_life, goes_on}
 
@@ -35,7 +35,7 @@ outcome_of w (command.Set id input) = replies reply.Done
 outcome_of w (command.Remove id) = replies reply.Done
 outcome_of w (command.Move id place) = replies reply.Done
 outcome_of w (command.Clear id) = replies reply.Done
-outcome_of w (command.Eval id) = asks w (session_of w id) (line_of w id) (life_of w (session_of w id))
+outcome_of w (command.Eval id) = asks w (session_of_field w id) (line_of_field w id) (life_of w (session_of_field w id))
 outcome_of w (command.Stop name) = stops (life_of w name)
 
 -- and where it leads
@@ -46,12 +46,12 @@ after w (command.Set id input) = with_op (op.Set id input) w
 after w (command.Remove id) = with_op (op.Remove id) w
 after w (command.Move id place) = with_op (op.Move id place) w
 after w (command.Clear id) = with_op (op.Clear id) w
-after w (command.Eval id) = with_op (op.Clear id) (with_item w (session_of w id) (line_of w id) (life_of w (session_of w id)))
+after w (command.Eval id) = with_op (op.Clear id) (with_item w (session_of_field w id) (line_of_field w id) (life_of w (session_of_field w id)))
 after w (command.Stop name) = without_life name w
 
 abbrev pub Commanded : World → Command → Option Refusal → Outcome → World → Type 0
 Commanded w c (Some r) o v = (o ≡ refused r) × (v ≡ w)
-Commanded w c None o v = ((o ≡ outcome_of w c) × (v ≡ after w c)) ⊎ ((takes_memory c ≡ true) × (o ≡ refused refusal.OutOfMemory) × (v ≡ w))
+Commanded w c None o v = ((o ≡ outcome_of w c) × (v ≡ after w c)) ⊎ ((command_takes_memory c ≡ true) × (o ≡ refused refusal.OutOfMemory) × (v ≡ w))
 
 -- a piece of a life, where these are the blocks of the stream with it, and this the fault that it brings
 abbrev pub IsPieced : World → Going → List ℕ → List Outer → Option Kind → Outcome → World → Type 0
@@ -83,5 +83,5 @@ Childed w l child.Stalled o v = Ended_by w l reason.Stalled true o v
 Childed w l child.StopFault o v = Ignored w o v
 
 abbrev pub GivesByParts : World → Event → Outcome → World → Type 0
-GivesByParts w (event.Command c) o v = Commanded w c (first_of (refusals w c)) o v
+GivesByParts w (event.Command c) o v = Commanded w c (first_of (command_refusals w c)) o v
 GivesByParts w (event.Child name number e) o v = Childed w (with_number number (life_of w name)) e o v

@@ -17,9 +17,9 @@ use Rattle.session_engine.specs.declared.event.ChildEvent.TheVariants as child
 use Rattle.session_engine.specs.declared.outcome.Effect.TheVariants as effect
 use Rattle.session_engine.specs.declared.outcome.Outcome.{Outcome}
 use Rattle.session_engine.specs.declared.reply.Reply.TheVariants as reply
-use Rattle.session_engine.specs.World.{World, Going, sheet_in, in_flight, life_of, session_of}
+use Rattle.session_engine.specs.World.{World, Going, sheet_in, in_flight, life_of, session_of_field}
 use Rattle.session_engine.specs.Refused.{full, queue_is_full, lives_are_spent}
-use Rattle.session_engine.specs.Does.{put, taken_out, words_of, begun_with, joined_by}
+use Rattle.session_engine.specs.Does.{put_back, taken_out, starting_words, begun_with, joined_by}
 
 -- a refusal directly behind the first
 abbrev pub second : Refusal × Bool → List (Refusal × Bool) → List (Refusal × Bool)
@@ -46,22 +46,22 @@ queue_refusals w l = (refusal.QueueFull, queue_is_full l) ∷ (refusal.LivesSpen
 
 -- those of an Eval behind its field and its line
 abbrev pub eval_refusals : World → ℕ → List (Refusal × Bool)
-eval_refusals w id = queue_refusals w (life_of w (session_of w id)) ++ full w (op.Clear id) ∷ []
+eval_refusals w id = queue_refusals w (life_of w (session_of_field w id)) ++ full w (op.Clear id) ∷ []
 
 abbrev pub with_life : Going → World → World
-with_life l w = record w { lives = put l w.lives }
+with_life l w = record w { lives = put_back l w.lives }
 
 abbrev pub without_life : List ℕ → World → World
 without_life name w = record w { lives = taken_out name w.lives }
 
 -- what a life of a session is started with, where none goes on
 abbrev pub start_words : World → List ℕ → Option Going → Option (List (List ℕ))
-start_words w name None = Some (words_of (session_named (sheet_in w).sessions name))
+start_words w name None = Some (starting_words (session_named (sheet_in w).sessions name))
 start_words w name (Some l) = None
 
 -- a session is asked an item, where this life of it goes on: what is told, and the world with it
 abbrev pub asks : World → List ℕ → Item → Option Going → Outcome
-asks w name i None = record { reply = reply.Asked (w.begun + 1); effect = Some (effect.Start name (w.begun + 1) (words_of (session_named (sheet_in w).sessions name))) }
+asks w name i None = record { reply = reply.Asked (w.begun + 1); effect = Some (effect.Start name (w.begun + 1) (starting_words (session_named (sheet_in w).sessions name))) }
 asks w name i (Some l) = record { reply = reply.Asked l.number; effect = option_map (λ bytes. effect.Send name l.number bytes) (sent_by l.past l.blocks (accepted i) l.blocks) }
 
 abbrev pub with_item : World → List ℕ → Item → Option Going → World

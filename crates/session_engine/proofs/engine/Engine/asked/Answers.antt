@@ -3,7 +3,7 @@ use Rattle.recovery.specs.Sheets.{StoreView}
 use Rattle.session_engine.specs.declared.table.Running.{Running}
 use Rattle.session_engine.specs.World.{World, Going, life_of}
 use Rattle.session_engine.specs.inside.Parts.{with_item, asks}
-use Rattle.session_engine.specs.Host.{StandsFor}
+use Rattle.session_engine.specs.Host.{EngineStandsFor}
 use Rattle.session_engine.proofs.Tables.{found}
 use Rattle.session_engine.proofs.Asking.{joins, begins, goes_back}
 use Rattle.session_engine.specs.inside.Tables.{CanGoBack}
@@ -25,9 +25,9 @@ returns-clause-ok g c = λ w h left has.
     let both = ⊎_elim (λ j. joins store rs new begun (begun + 1) w name c.args.item c.in_ok-number.number c.in_ok-number.sent words h has j is)
     (λ b. begins store rs new begun w name c.args.item c.in_ok-number.number c.in_ok-number.sent words h has left b is) c.in_ok-number.ensures.ok in (
       c.told.ensures.told ∙ both.0,
-      subst (λ (s : StoreView). StandsFor s c.told.new.self.lives.items c.told.new.self.begun v) (sym c.told.ensures.store)
-          (subst (λ (l : List Running). StandsFor store l c.told.new.self.begun v) (sym (ap (λ (x : Rattle.std.specs.declared.vec.Vec.Vec Running _). x.items) c.told.ensures.lives))
-          (subst (λ (k : ℕ). StandsFor store new k v) (sym c.told.ensures.begun) both.1)),
+      subst (λ (s : StoreView). EngineStandsFor s c.told.new.self.lives.items c.told.new.self.begun v) (sym c.told.ensures.store)
+          (subst (λ (l : List Running). EngineStandsFor store l c.told.new.self.begun v) (sym (ap (λ (x : Rattle.std.specs.declared.vec.Vec.Vec Running _). x.items) c.told.ensures.lives))
+          (subst (λ (k : ℕ). EngineStandsFor store new k v) (sym c.told.ensures.begun) both.1)),
     )
 
 pub returns-clause-back : goal.returns-clause-back

@@ -3,7 +3,7 @@ use Rattle.session_engine.specs.declared.table.Running.{Running}
 use Rattle.session_engine.specs.declared.reply.Reply.TheVariants as reply
 use Rattle.session_engine.specs.World.{World, Going, life_of, with_number}
 use Rattle.session_engine.specs.Does.{Does, ends, ends_life, taken_out, tells, ChildDoes}
-use Rattle.session_engine.specs.Host.{StandsFor}
+use Rattle.session_engine.specs.Host.{EngineStandsFor}
 use Rattle.session_engine.specs.inside.Parts.{without_life}
 use Rattle.session_engine.proofs.Tables.{found}
 use Rattle.session_engine.proofs.Standing.{no_life, the_life, gone, told_end}
@@ -32,11 +32,11 @@ returns-in-Some-clause-took g c = λ w e h is.
     let f = found c.args.name rs w.lives r h.lives_are c.in-Some.ensures.0 in
     let there = the_life c.args.number c.args.name rs w r f c.in-Some.ensures.0 (sym c.has_life.ensures ∙ c.if-not-has_life.false) in
     let told : c.ended.result ≡ ends f.life c.args.reason c.args.killed = c.ended.ensures f.life.past f.life.blocks f.runs.stands ∙ told_end f.life r.name r.life.number c.args.reason c.args.killed f.runs.name f.runs.number in
-    let stand = subst (λ (l : List Running). StandsFor c.args.self.now.store l c.args.self.now.begun (without_life c.args.name w)) (sym c.in-Some.ensures.1) (gone c.args.self.now.store rs c.args.self.now.begun w c.args.name r h f) in
+    let stand = subst (λ (l : List Running). EngineStandsFor c.args.self.now.store l c.args.self.now.begun (without_life c.args.name w)) (sym c.in-Some.ensures.1) (gone c.args.self.now.store rs c.args.self.now.begun w c.args.name r h f) in
     record {
       did = ends_life w c.args.reason c.args.killed (Some f.life) reply.Nothing;
       may = subst (λ (l : Option Going). ChildDoes w l e (ends_life w c.args.reason c.args.killed (Some f.life) reply.Nothing)) (sym there) (gives_end w (Some f.life) e c.args.reason c.args.killed is);
       told = told;
-      stands = record { works = refl; stands = subst (λ (n : List ℕ). StandsFor c.args.self.now.store c.take_life.new.lives.items c.args.self.now.begun (without_life n w)) (sym f.named) stand };
+      stands = record { works = refl; stands = subst (λ (n : List ℕ). EngineStandsFor c.args.self.now.store c.take_life.new.lives.items c.args.self.now.begun (without_life n w)) (sym f.named) stand };
       disk = refl;
     }

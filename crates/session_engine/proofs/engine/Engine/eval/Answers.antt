@@ -18,7 +18,7 @@ use Rattle.session_engine.specs.declared.reply.Reply.TheVariants as reply
 use Rattle.session_engine.specs.World.{World, sheet_in, in_flight, life_of}
 use Rattle.session_engine.specs.Refused.{lives_are_spent}
 use Rattle.session_engine.specs.Does.{does, tells}
-use Rattle.session_engine.specs.Host.{StandsFor, HasField, OnDisk}
+use Rattle.session_engine.specs.Host.{EngineStandsFor, HasField, OnDisk}
 use Rattle.session_engine.specs.inside.Engines.{StandsAt, TookAt, view_of}
 use Rattle.session_engine.specs.inside.Commits.{Evaluated}
 use Rattle.session_engine.proofs.Standing.{unchanged}
@@ -39,8 +39,8 @@ returns-in-Ok-line-clause-took g c = λ w h.
     let left = subst (λ (n : List ℕ). lives_are_spent w.begun (life_of w n) ≡ false) s (not_spent w id none) in
     let has : HasField (sheet_in w) c.in-Ok-line.line = subst (λ (l : Item). HasField (sheet_in w) l) (sym line) (ap (λ (o : Option Field). is_some o) here) in
     let still = unchanged c.args.self.now.store c.ready.new.self.store c.args.self.now.lives.items c.args.self.now.begun w h c.ready.ensures.store in
-    let stand = subst (λ (l : List Running). StandsFor c.ready.new.self.store l c.ready.new.self.begun w) (sym (ap (λ (x : Rattle.std.specs.declared.vec.Vec.Vec Running _). x.items) c.ready.ensures.lives))
-    (subst (λ (k : ℕ). StandsFor c.ready.new.self.store c.args.self.now.lives.items k w) (sym c.ready.ensures.begun) still) in
+    let stand = subst (λ (l : List Running). EngineStandsFor c.ready.new.self.store l c.ready.new.self.begun w) (sym (ap (λ (x : Rattle.std.specs.declared.vec.Vec.Vec Running _). x.items) c.ready.ensures.lives))
+    (subst (λ (k : ℕ). EngineStandsFor c.ready.new.self.store c.args.self.now.lives.items k w) (sym c.ready.ensures.begun) still) in
     let cleared : OnDisk w.ops (Some (op.Clear id)) c.args.self.now.store.disk c.evaluate.new.self.store.disk =
     subst (λ (d : DiskView). OnDisk w.ops (Some (op.Clear id)) d c.evaluate.new.self.store.disk) c.ready.ensures.store.disk (c.evaluate.ensures.moments w stand) in
     IfOk-weaker c.evaluate.result (Evaluated w f.session id c.in-Ok-line.line c.ready.new.self c.evaluate.new.self) (TookAt w (event.Command (command.Eval id)) c.args.self.now c.evaluate.new.self)
@@ -71,8 +71,8 @@ returns-in-Ok-line-clause-failed g c = λ w h.
     let none = c.in-Ok.ensures.ok w h (session_is w id f here) in
     let still = unchanged c.args.self.now.store c.ready.new.self.store c.args.self.now.lives.items c.args.self.now.begun w h c.ready.ensures.store in
     let lives = ap (λ (x : Rattle.std.specs.declared.vec.Vec.Vec Running _). x.items) c.ready.ensures.lives in
-    let stand = subst (λ (l : List Running). StandsFor c.ready.new.self.store l c.ready.new.self.begun w) (sym lives)
-    (subst (λ (k : ℕ). StandsFor c.ready.new.self.store c.args.self.now.lives.items k w) (sym c.ready.ensures.begun) still) in
+    let stand = subst (λ (l : List Running). EngineStandsFor c.ready.new.self.store l c.ready.new.self.begun w) (sym lives)
+    (subst (λ (k : ℕ). EngineStandsFor c.ready.new.self.store c.args.self.now.lives.items k w) (sym c.ready.ensures.begun) still) in
     let cleared : OnDisk w.ops (Some (op.Clear id)) c.args.self.now.store.disk c.evaluate.new.self.store.disk =
     subst (λ (d : DiskView). OnDisk w.ops (Some (op.Clear id)) d c.evaluate.new.self.store.disk) c.ready.ensures.store.disk (c.evaluate.ensures.moments w stand) in
     eval_fails w id f here free (view_of c.args.self.now false) (view_of c.ready.new.self false) (view_of c.evaluate.new.self false) c.evaluate.result h none
@@ -87,8 +87,8 @@ returns-in-Err-clause-took g c = λ w h.
     let free : in_flight w id ≡ false = sym (c.waits.ensures w.lives h.lives_are) ∙ c.if-waits.false in
     let why = c.in-Err.ensures.err w h (session_is w id f here) in
     let still = unchanged c.args.self.now.store c.ready.new.self.store c.args.self.now.lives.items c.args.self.now.begun w h c.ready.ensures.store in
-    let stand = subst (λ (l : List Running). StandsFor c.ready.new.self.store l c.ready.new.self.begun w) (sym (ap (λ (x : Rattle.std.specs.declared.vec.Vec.Vec Running _). x.items) c.ready.ensures.lives))
-    (subst (λ (k : ℕ). StandsFor c.ready.new.self.store c.args.self.now.lives.items k w) (sym c.ready.ensures.begun) still) in
+    let stand = subst (λ (l : List Running). EngineStandsFor c.ready.new.self.store l c.ready.new.self.begun w) (sym (ap (λ (x : Rattle.std.specs.declared.vec.Vec.Vec Running _). x.items) c.ready.ensures.lives))
+    (subst (λ (k : ℕ). EngineStandsFor c.ready.new.self.store c.args.self.now.lives.items k w) (sym c.ready.ensures.begun) still) in
     record {
       did = tells w (reply.Refused c.in-Err.refusal);
       may = eval_refused w id f here free c.in-Err.refusal why;
@@ -133,8 +133,8 @@ returns-in-Err-line-clause-took g c = λ w h.
     let free : in_flight w id ≡ false = sym (c.waits.ensures w.lives h.lives_are) ∙ c.if-waits.false in
     let none = c.in-Ok.ensures.ok w h (session_is w id f here) in
     let still = unchanged c.args.self.now.store c.ready.new.self.store c.args.self.now.lives.items c.args.self.now.begun w h c.ready.ensures.store in
-    let stand = subst (λ (l : List Running). StandsFor c.ready.new.self.store l c.ready.new.self.begun w) (sym (ap (λ (x : Rattle.std.specs.declared.vec.Vec.Vec Running _). x.items) c.ready.ensures.lives))
-    (subst (λ (k : ℕ). StandsFor c.ready.new.self.store c.args.self.now.lives.items k w) (sym c.ready.ensures.begun) still) in
+    let stand = subst (λ (l : List Running). EngineStandsFor c.ready.new.self.store l c.ready.new.self.begun w) (sym (ap (λ (x : Rattle.std.specs.declared.vec.Vec.Vec Running _). x.items) c.ready.ensures.lives))
+    (subst (λ (k : ℕ). EngineStandsFor c.ready.new.self.store c.args.self.now.lives.items k w) (sym c.ready.ensures.begun) still) in
     record {
       did = tells w (reply.Refused refusal.OutOfMemory);
       may = eval_refused w id f here free refusal.OutOfMemory (inr (none, refl));

@@ -15,7 +15,7 @@ use Rattle.session_engine.specs.Named.{without_named}
 use Rattle.session_engine.specs.Host.{name_of, number_in}
 use Rattle.session_engine.specs.World.{World, Going, life_of, with_number, sheet_in}
 use Rattle.session_engine.specs.Does.{told_with, op_by}
-use Rattle.session_engine.specs.Host.{StandsFor}
+use Rattle.session_engine.specs.Host.{EngineStandsFor}
 use Rattle.session_engine.specs.inside.Commits.{AllowedIf, IsEitherIf}
 use Rattle.session_engine.proofs.Tables.{found, numbers_stay, numbers_are}
 use Rattle.session_engine.proofs.Fields.{allowed_step}
@@ -33,7 +33,7 @@ returns-in_default-clause-took g c = λ w h.
       did = tells w reply.Nothing;
       may = subst (λ (o : Option Going). ChildDoes w o (child.Piece c.args.piece.now) (tells w reply.Nothing)) (sym e) refl;
       told = c.nothing.ensures;
-      stands = record { works = refl; stands = subst (λ (l : List Running). StandsFor c.args.self.now.store l c.args.self.now.begun w) (sym c.in_default.ensures.1) h };
+      stands = record { works = refl; stands = subst (λ (l : List Running). EngineStandsFor c.args.self.now.store l c.args.self.now.begun w) (sym c.in_default.ensures.1) h };
       disk = refl;
     }
 
@@ -83,8 +83,8 @@ returns-in-Ok-keep-clause-took g c = λ w h.
       told = c.told.ensures ∙ ap (λ (x : Option Closed). told_with name number x step.default_input step.send step.ended) done.0 ∙ told store rs begun w name number piece fe.before fe.life step h f fe.numbered fe.same takes;
       stands = record {
         works = refl;
-        stands = subst (λ (v : World). StandsFor c.keep.new.store c.settle.new.lives.items begun v) (leads store rs begun w name number piece fe.before fe.life step h f fe.numbered fe.same takes)
-            (subst (λ (l : List Running). StandsFor c.keep.new.store l begun (lead store rs begun w name number piece fe.before fe.life step h f fe.numbered fe.same takes)) (sym lives) stand);
+        stands = subst (λ (v : World). EngineStandsFor c.keep.new.store c.settle.new.lives.items begun v) (leads store rs begun w name number piece fe.before fe.life step h f fe.numbered fe.same takes)
+            (subst (λ (l : List Running). EngineStandsFor c.keep.new.store l begun (lead store rs begun w name number piece fe.before fe.life step h f fe.numbered fe.same takes)) (sym lives) stand);
       };
       disk = on_disk store rs begun w name number piece fe.before fe.life step h f fe.numbered fe.same takes c.keep.new.store done.1 (λ model. c.keep.ensures.moments model w.ops h.contents);
     }

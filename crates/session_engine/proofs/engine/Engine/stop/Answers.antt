@@ -8,7 +8,7 @@ use Rattle.session_engine.specs.declared.table.Running.{Running}
 use Rattle.session_engine.specs.declared.reply.Reply.TheVariants as reply
 use Rattle.session_engine.specs.World.{World, Going, life_of, sheet_in}
 use Rattle.session_engine.specs.Does.{ends, ends_life, tells}
-use Rattle.session_engine.specs.Host.{StandsFor}
+use Rattle.session_engine.specs.Host.{EngineStandsFor}
 use Rattle.session_engine.specs.inside.Parts.{without_life}
 use Rattle.session_engine.proofs.Tables.{found, not_found}
 use Rattle.session_engine.proofs.Standing.{gone, told_end}
@@ -30,12 +30,12 @@ returns-in-Some-take_life-clause-took g c = λ w h.
     let r = c.in-Some-take_life.running in
     let f = found s.name rs w.lives r h.lives_are c.in-Some-take_life.ensures.0 in
     let there : life_of w asked ≡ Some f.life = ap (λ (n : List ℕ). life_of w n) (sym same) ∙ f.is in
-    let stand = subst (λ (l : List Running). StandsFor c.args.self.now.store l c.args.self.now.begun (without_life s.name w)) (sym c.in-Some-take_life.ensures.1) (gone c.args.self.now.store rs c.args.self.now.begun w s.name r h f) in
+    let stand = subst (λ (l : List Running). EngineStandsFor c.args.self.now.store l c.args.self.now.begun (without_life s.name w)) (sym c.in-Some-take_life.ensures.1) (gone c.args.self.now.store rs c.args.self.now.begun w s.name r h f) in
     record {
       did = ends_life w reason.Stopped true (Some f.life) reply.Done;
       may = gives_stop w asked s (Some f.life) named there;
       told = c.ended.ensures f.life.past f.life.blocks f.runs.stands ∙ told_end f.life r.name r.life.number reason.Stopped true f.runs.name f.runs.number;
-      stands = record { works = refl; stands = subst (λ (n : List ℕ). StandsFor c.args.self.now.store c.take_life.new.lives.items c.args.self.now.begun (without_life n w)) (sym f.named) stand };
+      stands = record { works = refl; stands = subst (λ (n : List ℕ). EngineStandsFor c.args.self.now.store c.take_life.new.lives.items c.args.self.now.begun (without_life n w)) (sym f.named) stand };
       disk = refl;
     }
 
@@ -53,7 +53,7 @@ returns-clause-took g c = λ w h.
       did = tells w reply.Done;
       may = gives_stop w asked s None named gone_before;
       told = refl;
-      stands = record { works = refl; stands = subst (λ (l : List Running). StandsFor c.args.self.now.store l c.args.self.now.begun w) (sym c.in-None-take_life.ensures.1) h };
+      stands = record { works = refl; stands = subst (λ (l : List Running). EngineStandsFor c.args.self.now.store l c.args.self.now.begun w) (sym c.in-None-take_life.ensures.1) h };
       disk = refl;
     }
 

@@ -4,7 +4,7 @@ use Rattle.worksheet.specs.Contents.{SheetView, Contents}
 use Rattle.worksheet.specs.Checks.{session_named}
 use Rattle.session_engine.specs.World.{World, Going, life_of, sheet_in}
 use Rattle.session_engine.specs.inside.Parts.{start_words}
-use Rattle.session_engine.specs.Does.{words_of}
+use Rattle.session_engine.specs.Does.{starting_words}
 use Rattle.session_engine.specs.Host.{name_of}
 use Rattle.session_engine.proofs.Tables.{some_there, none, found, not_found}
 use Rattle.session_engine.proofs.engine.Engine.words_for.Goals as goal
@@ -24,7 +24,7 @@ returns-in_ok-copy_words-in-Some-session g c = λ w h.
     c.in-Some-session.ensures ∙ ap (λ (l : SheetView). session_named l.contents.sessions c.as_slice.result.now) c.sheet.ensures.sheet
     ∙ ap (λ (n : List ℕ). session_named c.args.self.now.store.sheet.contents.sessions n) c.as_slice.ensures.bytes ∙ ap (λ (x : Contents). session_named x.sessions c.args.name) h.contents in
     ap (λ (ws : List (List ℕ)). Some ws) c.in_ok-copy_words-in-Some-session.ensures
-    ∙ ap (λ (o : Option Session). Some (words_of o)) named
+    ∙ ap (λ (o : Option Session). Some (starting_words o)) named
     ∙ sym (ap (λ (o : Option Going). start_words w c.args.name o) e)
 
 pub returns-in-None-session : goal.returns-in-None-session
@@ -34,4 +34,4 @@ returns-in-None-session g c = λ w h.
     let named : None ≡ session_named (sheet_in w).sessions c.args.name =
     c.in-None-session.ensures ∙ ap (λ (l : SheetView). session_named l.contents.sessions c.as_slice.result.now) c.sheet.ensures.sheet
     ∙ ap (λ (n : List ℕ). session_named c.args.self.now.store.sheet.contents.sessions n) c.as_slice.ensures.bytes ∙ ap (λ (x : Contents). session_named x.sessions c.args.name) h.contents in
-    ap (λ (ws : List (List ℕ)). Some ws) c.new.ensures ∙ ap (λ (o : Option Session). Some (words_of o)) named ∙ sym (ap (λ (o : Option Going). start_words w c.args.name o) e)
+    ap (λ (ws : List (List ℕ)). Some ws) c.new.ensures ∙ ap (λ (o : Option Session). Some (starting_words o)) named ∙ sym (ap (λ (o : Option Going). start_words w c.args.name o) e)

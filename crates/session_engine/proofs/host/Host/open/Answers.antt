@@ -5,7 +5,7 @@ use Rattle.recovery.specs.Sheets.{IsSheetImage}
 use Rattle.session_engine.specs.declared.table.Running.{Running}
 use Rattle.session_engine.specs.Host.{Lives}
 use Rattle.session_engine.specs.Limits.{most_lives}
-use Rattle.session_engine.specs.World.{opened}
+use Rattle.session_engine.specs.World.{world_at_opening}
 use Rattle.session_engine.proofs.host.Host.open.Goals as goal
 
 pub invariant_of-result : goal.invariant_of-result
@@ -13,7 +13,7 @@ invariant_of-result g c = λ closed.
     let store = c.in-Ok.store in
     let made = c.sheet-sheet.ensures.made in
     let bound : 0 ≤ most_lives = omega arith in (
-      opened made.0 store.disk.room store.end,
+      world_at_opening made.0 store.disk.room store.end,
       record {
         still_open = c.in-Ok.ensures.open;
         contents = made.1.is;

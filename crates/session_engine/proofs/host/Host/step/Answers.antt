@@ -2,7 +2,7 @@ use Rattle.std.proofs.Common.{◌≡◌, sym, subst, true, false}
 use Rattle.std.proofs.lemmas.Result.{IfErr-weaker}
 use Rattle.session_engine.specs.declared.outcome.HostFault.{HostFault}
 use Rattle.session_engine.specs.World.{World}
-use Rattle.session_engine.specs.Host.{HostView, StandsFor}
+use Rattle.session_engine.specs.Host.{HostView, EngineStandsFor}
 use Rattle.session_engine.specs.Faults.{CauseOf, Failed}
 use Rattle.session_engine.specs.inside.Engines.{FailedAt, view_of}
 use Rattle.session_engine.proofs.host.Host.step.Goals as goal
@@ -11,7 +11,7 @@ pub returns-then-is_err-clause-failed : goal.returns-then-is_err-clause-failed
 returns-then-is_err-clause-failed g c = λ w h.
     let engine = c.self.inside.engine in
     let new = c.take-outcome.new.self in
-    let stands = subst (λ (v : HostView). StandsFor v.store v.lives v.begun w) (sym c.self.view_is) h.stands in
+    let stands = subst (λ (v : HostView). EngineStandsFor v.store v.lives v.begun w) (sym c.self.view_is) h.stands in
     IfErr-weaker c.take-outcome.result (FailedAt w c.args.event engine new) (Failed w c.args.event c.args.self.now (view_of new true))
     (λ fault f. record {
       contents = f.contents;
