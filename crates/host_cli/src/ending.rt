@@ -47,8 +47,10 @@ pub fn run_blocks<R: Read, W: Write, E: Write>(
     output: &mut W,
     errors: &mut E,
 ) -> Ending
-    ensures { (answer : ProgramAnswer) × BlocksAnswer (R.remaining input.old) W.contents output.old output.new answer
-        × (result.status ≡ status_of answer) × TellsFault E.contents errors.old errors.new result.told answer }
+    ensures { (answer : ProgramAnswer)
+        × BlocksAnswer (R.remaining input.old) W.contents output.old output.new answer
+        × (result.status ≡ status_of answer)
+        × TellsFault E.contents errors.old errors.new result.told answer }
 {
     let answer = blocks(alloc, input, output);
     end_program(answer, errors)
@@ -62,12 +64,17 @@ pub fn refuse_words<W: Write, E: Write>(
     output: &mut W,
     errors: &mut E,
 ) -> Ending
-    ensures memory { kind_of error.now ≡ kind.OutOfMemory → (output.new ≡ output.old) × (result.status ≡ 1)
+    ensures memory { kind_of error.now ≡ kind.OutOfMemory
+        → (output.new ≡ output.old) × (result.status ≡ 1)
         × TellsFault E.contents errors.old errors.new result.told (Err fault.OutOfMemory) }
-    ensures shown { ShowsText (kind_of error.now) → ((result.status ≡ 0) × (errors.new ≡ errors.old))
-        ⊎ ((result.status ≡ 1) × TellsFault E.contents errors.old errors.new result.told (Err fault.Output)) }
+    ensures shown { ShowsText (kind_of error.now)
+        → ((result.status ≡ 0) × (errors.new ≡ errors.old))
+        ⊎ ((result.status ≡ 1)
+        × TellsFault E.contents errors.old errors.new result.told (Err fault.Output)) }
+
     // Whatever becomes of the text.
-    ensures refused { kind_of error.now ≢ kind.OutOfMemory → (ShowsText (kind_of error.now) → ⊥) → (output.new ≡ output.old) × (result.status ≡ 2) }
+    ensures refused { kind_of error.now ≢ kind.OutOfMemory → (ShowsText (kind_of error.now) → ⊥)
+        → (output.new ≡ output.old) × (result.status ≡ 2) }
 {
     match error.kind() {
         ErrorKind::OutOfMemory => end_program(Err(RunFault::OutOfMemory), errors),
@@ -84,9 +91,11 @@ pub fn refuse_words<W: Write, E: Write>(
 /// Ends the program where its words can't be had: a word that is not UTF-8 gives status 2 without a
 /// text, and want of memory is told.
 pub fn refuse_unread_words<E: Write>(kind: io::ErrorKind, errors: &mut E) -> Ending
-    ensures memory { kind ≡ io_kind.OutOfMemory → (result.status ≡ 1)
+    ensures memory { kind ≡ io_kind.OutOfMemory
+        → (result.status ≡ 1)
         × TellsFault E.contents errors.old errors.new result.told (Err fault.OutOfMemory) }
-    ensures refused { kind ≢ io_kind.OutOfMemory → (errors.new ≡ errors.old) × (result.status ≡ 2) }
+    ensures refused { kind ≢ io_kind.OutOfMemory
+        → (errors.new ≡ errors.old) × (result.status ≡ 2) }
 {
     match kind {
         io::ErrorKind::OutOfMemory => end_program(Err(RunFault::OutOfMemory), errors),

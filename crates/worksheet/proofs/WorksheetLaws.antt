@@ -1,8 +1,7 @@
 -- A worksheet of allowed ops is one, and its numbers rise.
-use Rattle.std.proofs.Common.{◌≡◌, ℕ, ◌+◌, ◌<◌, ◌≤◌, ◌==◌, Bool, true, false, List, [], ◌∷◌, ◌++◌, length, map, Option, Some, None, refl, sym, subst, append_assoc, append-nil, arith, length-append}
-use Rattle.std.specs.Prelude.{not, filter, nat_le, nat_lt, if◌then◌else◌}
+use Rattle.std.proofs.Common.{◌≡◌, ℕ, ◌+◌, ◌<◌, ◌≤◌, ◌==◌, Bool, true, false, List, [], ◌∷◌, ◌++◌, length, Option, Some, None, refl, sym, subst, append_assoc, append-nil, arith, length-append}
+use Rattle.std.specs.Prelude.{not, nat_le, nat_lt, if◌then◌else◌}
 use Rattle.std.specs.List.{AllByRecursion}
-use Rattle.std.proofs.lemmas.Bool.{true≢false}
 use Rattle.std.proofs.lemmas.Bool.Decides.{nat_tests}
 use Rattle.std.proofs.lemmas.List.{length-map}
 use Rattle.worksheet.specs.declared.op.Op.{Op}
@@ -14,8 +13,8 @@ use Rattle.worksheet.specs.Names.{is_name}
 use Rattle.worksheet.specs.Contents.{Contents}
 use Rattle.worksheet.specs.Ops.{next_from, next_of, next_after, put_behind, sheet_of}
 use Rattle.worksheet.specs.Edits.{edited, at_field, with_input, with_answer, placed_field, fields_without, moved}
-use Rattle.worksheet.specs.Checks.{Allowed, AllowedFrom, are_words, field_in, first_refusal, has_session, is_input, refusals, session_named}
-use Rattle.worksheet.specs.Laws.{AreNamedApart, BelongToSessions, HasShortPrompt, IsField, IsSession, IsWorksheet}
+use Rattle.worksheet.specs.Checks.{Allowed, AllowedFrom, are_words, field_in, first_refusal, is_input, refusals, session_named}
+use Rattle.worksheet.specs.Laws.{AreNamedApart, IsField, IsSession, IsWorksheet}
 use Rattle.worksheet.proofs.Finds.{none_applies, true_from_not}
 use Rattle.worksheet.proofs.SoundLaws.{IsSound-edited}
 use Rattle.worksheet.proofs.Existence.{allowed_goes_on}

@@ -50,10 +50,10 @@ fn are_each_words(words: &[Octets]) -> bool
 fn is_word(bytes: &[u8]) -> bool
     ensures { result ≡ word_test bytes.now }
 {
-    !bytes.is_empty() && bytes.len() <= LONGEST_WORD && has_no_control(bytes) && is_utf8(bytes)
+    !bytes.is_empty() && bytes.len() <= LONGEST_WORD && has_no_low_byte(bytes) && is_utf8(bytes)
 }
 
-fn has_no_control(bytes: &[u8]) -> bool
+fn has_no_low_byte(bytes: &[u8]) -> bool
     ensures { result ≡ list_all low_byte_test bytes.now }
 {
     bytes.iter().all(|byte| *byte >= b' ')

@@ -1,4 +1,4 @@
-use Rattle.std.proofs.Common.{◌≡◌, ◌∙◌, arith, false, true, ◌<◌, length}
+use Rattle.std.proofs.Common.{◌≡◌, ◌∙◌, arith, false, ◌<◌, length}
 use Rattle.std.specs.Prelude.{◌==◌}
 use Rattle.std.proofs.lemmas.Bool.Decides.{nat_tests}
 use Rattle.worksheet.proofs.CheckLaws.{in_front-next}
