@@ -1,13 +1,13 @@
 -- What a worksheet has whatever answers it has.
 use Rattle.std.proofs.Common.{◌≡◌, ◌+◌, ℕ, List, [], ◌∷◌, ◌++◌, length, drop, map, refl, ap, sym, ◌∙◌, Bool, true, false, Option, Some, None}
-use Rattle.std.specs.Prelude.{if◌then◌else◌, ◌==◌, filter, cond}
-use Rattle.std.specs.List.{find, last_or}
+use Rattle.std.specs.Prelude.{if◌then◌else◌, ◌==◌, cond, unwrap_or}
+use Rattle.std.specs.List.{find}
 use Rattle.block_tree.specs.Tree.{Tree}
 use Rattle.worksheet.specs.declared.op.Op.{Op}
 use Rattle.worksheet.specs.declared.op.Op.TheVariants as op
 use Rattle.worksheet.specs.declared.field.Field.{Field}
 use Rattle.worksheet.specs.declared.field.Session.{Session}
-use Rattle.worksheet.specs.Ops.{sheet_of, next_from, next_of, order_from, order_of, sessions_of, about_from, about, is_about, last_of, gives_session, gives_input, session_in, input_in, field_of, placed, without}
+use Rattle.worksheet.specs.Ops.{sheet_of, next_from, next_of, order_from, order_of, sessions_of, about_from, about, is_about, last_given, session_by, input_by, field_of, placed, without}
 use Rattle.session_engine.specs.World.{World, by_field, session_of_field, input_of, sheet_in}
 use Rattle.session_engine.specs.Apart.{is_commanded, commanded}
 
@@ -50,37 +50,36 @@ sessions_are (op.Move id after ∷ os) = sessions_are os
 sessions_are (op.Clear id ∷ os) = sessions_are os
 sessions_are (op.Answer id prompt output ∷ os) = sessions_are os
 
-module _ (test : Op → Bool) (never : (id : ℕ) (prompt : List ℕ) (output : Tree) → test (op.Answer id prompt output) ≡ false) where
-  with_it : (b : Bool) (o : Op) (xs ys : List Op) → filter test xs ≡ filter test ys → filter test (if b then o ∷ xs else xs) ≡ filter test (if b then o ∷ ys else ys)
-  with_it true o xs ys h = go (test o)
-    where
-      go : (c : Bool) → cond c (o ∷ filter test xs) (filter test xs) ≡ cond c (o ∷ filter test ys) (filter test ys)
-      go true = ap (λ (zs : List Op). o ∷ zs) h
-      go false = h
-  with_it false o xs ys h = h
+module _ (by : Op → Option (List ℕ)) (never : (id : ℕ) (prompt : List ℕ) (output : Tree) → by (op.Answer id prompt output) ≡ None) where
+  with_it : (b : Bool) (o : Op) (xs ys : List Op) → ((g : List ℕ) → last_given by g xs ≡ last_given by g ys)
+      → (g : List ℕ) → last_given by g (if b then o ∷ xs else xs) ≡ last_given by g (if b then o ∷ ys else ys)
+  with_it true o xs ys h g = h (unwrap_or (by o) g)
+  with_it false o xs ys h g = h g
 
-  past_it : (b : Bool) (o : Op) (xs : List Op) → test o ≡ false → filter test (if b then o ∷ xs else xs) ≡ filter test xs
-  past_it true o xs h = rw h refl
-  past_it false o xs h = refl
+  past_it : (b : Bool) (o : Op) (xs : List Op) → by o ≡ None → (g : List ℕ) → last_given by g (if b then o ∷ xs else xs) ≡ last_given by g xs
+  past_it true o xs h g = ap (λ (x : Option (List ℕ)). last_given by (unwrap_or x g) xs) h
+  past_it false o xs h g = refl
 
-  pub filtered : (id next : ℕ) (os : List Op) → filter test (about_from id next os) ≡ filter test (about_from id next (commanded os))
-  filtered id next [] = refl
-  filtered id next (op.Session name tab words ∷ os) = filtered id next os
-  filtered id next (op.New after session input ∷ os) = with_it (next == id) (op.New after session input) (about_from id (next + 1) os) (about_from id (next + 1) (commanded os)) (filtered id (next + 1) os)
-  filtered id next (op.Set j input ∷ os) = with_it (j == id) (op.Set j input) (about_from id next os) (about_from id next (commanded os)) (filtered id next os)
-  filtered id next (op.Remove j ∷ os) = with_it (j == id) (op.Remove j) (about_from id next os) (about_from id next (commanded os)) (filtered id next os)
-  filtered id next (op.Move j after ∷ os) = with_it (j == id) (op.Move j after) (about_from id next os) (about_from id next (commanded os)) (filtered id next os)
-  filtered id next (op.Clear j ∷ os) = with_it (j == id) (op.Clear j) (about_from id next os) (about_from id next (commanded os)) (filtered id next os)
-  filtered id next (op.Answer j prompt output ∷ os) = past_it (j == id) (op.Answer j prompt output) (about_from id next os) (never j prompt output) ∙ filtered id next os
+  pub given_alike : (id next : ℕ) (os : List Op) (g : List ℕ) → last_given by g (about_from id next os) ≡ last_given by g (about_from id next (commanded os))
+  given_alike id next [] g = refl
+  given_alike id next (op.Session name tab words ∷ os) g = given_alike id next os g
+  given_alike id next (op.New after session input ∷ os) g =
+      with_it (next == id) (op.New after session input) (about_from id (next + 1) os) (about_from id (next + 1) (commanded os)) (given_alike id (next + 1) os) g
+  given_alike id next (op.Set j input ∷ os) g = with_it (j == id) (op.Set j input) (about_from id next os) (about_from id next (commanded os)) (given_alike id next os) g
+  given_alike id next (op.Remove j ∷ os) g = with_it (j == id) (op.Remove j) (about_from id next os) (about_from id next (commanded os)) (given_alike id next os) g
+  given_alike id next (op.Move j after ∷ os) g = with_it (j == id) (op.Move j after) (about_from id next os) (about_from id next (commanded os)) (given_alike id next os) g
+  given_alike id next (op.Clear j ∷ os) g = with_it (j == id) (op.Clear j) (about_from id next os) (about_from id next (commanded os)) (given_alike id next os) g
+  given_alike id next (op.Answer j prompt output ∷ os) g =
+      past_it (j == id) (op.Answer j prompt output) (about_from id next os) (never j prompt output) g ∙ given_alike id next os g
 
-  pub last_alike : (id : ℕ) (os us : List Op) → commanded os ≡ commanded us → last_of test (about id os) ≡ last_of test (about id us)
-  last_alike id os us h = ap (λ (xs : List Op). last_or None xs) (filtered id 1 os ∙ ap (λ (xs : List Op). filter test (about_from id 1 xs)) h ∙ sym (filtered id 1 us))
+  pub last_alike : (id : ℕ) (os us : List Op) → commanded os ≡ commanded us → last_given by [] (about id os) ≡ last_given by [] (about id us)
+  last_alike id os us h = given_alike id 1 os [] ∙ ap (λ (xs : List Op). last_given by [] (about_from id 1 xs)) h ∙ sym (given_alike id 1 us [])
 
 pub session_alike : (os us : List Op) (id : ℕ) → commanded os ≡ commanded us → (field_of os id).session ≡ (field_of us id).session
-session_alike os us id h = ap session_in (last_alike gives_session (λ j p b. refl) id os us h)
+session_alike os us id h = last_alike session_by (λ j p b. refl) id os us h
 
 pub input_alike : (os us : List Op) (id : ℕ) → commanded os ≡ commanded us → (field_of os id).input ≡ (field_of us id).input
-input_alike os us id h = ap input_in (last_alike gives_input (λ j p b. refl) id os us h)
+input_alike os us id h = last_alike input_by (λ j p b. refl) id os us h
 
 found_alike : (g : Field → List ℕ) (os us : List Op) (id : ℕ) (ids : List ℕ) → ((j : ℕ) → g (field_of os j) ≡ g (field_of us j))
     → by_field (find (λ f. f.id == id) (map (field_of os) ids)) [] g ≡ by_field (find (λ f. f.id == id) (map (field_of us) ids)) [] g

@@ -9,7 +9,7 @@ use Rattle.worksheet.specs.declared.op.Op.TheVariants as op
 use Rattle.worksheet.specs.declared.refusal.Refusal.{Refusal}
 use Rattle.worksheet.specs.declared.refusal.Refusal.TheVariants as refusal
 use Rattle.worksheet.specs.Checks.{first_of, first_refusal}
-use Rattle.worksheet.specs.Checks.{command_refusals as sheet_refusals}
+use Rattle.worksheet.specs.Checks.{refusals as sheet_refusals}
 use Rattle.recovery.specs.Sheets.{StoreView, IsSheetImage}
 use Rattle.plugin_core.specs.declared.item.Item.{Item}
 use Rattle.plugin_core.specs.declared.item.Item.TheVariants as item

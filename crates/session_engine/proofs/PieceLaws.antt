@@ -17,7 +17,7 @@ use Rattle.plugin_core.specs.declared.step.Answered.{Answered}
 use Rattle.plugin_core.specs.declared.step.Answered.TheVariants as answered
 use Rattle.plugin_core.specs.Past.{received}
 use Rattle.plugin_core.specs.Steps.{step_of, ended_by}
-use Rattle.plugin_core.specs.Steps.{closed_told as closed_in}
+use Rattle.plugin_core.specs.Steps.{closed_by as closed_in}
 use Rattle.plugin_core.specs.Kept.{InterpreterView, Takes, GoesOn}
 use Rattle.plugin_core.specs.Laws.{ShortPrompts}
 use Rattle.session_engine.specs.declared.table.Running.{Running}

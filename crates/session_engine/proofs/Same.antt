@@ -10,7 +10,7 @@ use Rattle.worksheet.specs.declared.refusal.Refusal.TheVariants as refusal
 use Rattle.worksheet.specs.Contents.{Contents}
 use Rattle.worksheet.specs.Ops.{sheet_of}
 use Rattle.worksheet.specs.Checks.{Allowed, field_in, has_field, has_session, session_named, first_of, first_refusal}
-use Rattle.worksheet.specs.Checks.{command_refusals as sheet_refusals}
+use Rattle.worksheet.specs.Checks.{refusals as sheet_refusals}
 use Rattle.worksheet.proofs.Existence.{allowed_goes_on}
 use Rattle.worksheet.proofs.NextLaws.{same_next}
 use Rattle.plugin_core.specs.declared.item.Item.{Item}
