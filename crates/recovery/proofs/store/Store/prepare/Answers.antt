@@ -40,3 +40,15 @@ returns-clause-ready g c =
 
 pub returns-clause-store : goal.returns-clause-store
 returns-clause-store g c = subst IsStore c.self.view_is (is_store g.D.Disk.view c.self.inside.base c.self.inside.sheet c.self.invariant)
+
+pub returns-then-not-has_place-clause-store : goal.returns-then-not-has_place-clause-store
+returns-then-not-has_place-clause-store g c = subst IsStore c.self.view_is (is_store g.D.Disk.view c.self.inside.base c.self.inside.sheet c.self.invariant)
+
+pub returns-in_err-make_room-clause-store : goal.returns-in_err-make_room-clause-store
+returns-in_err-make_room-clause-store g c = subst IsStore c.self.view_is (is_store g.D.Disk.view c.self.inside.base c.self.inside.sheet c.self.invariant)
+
+pub returns-in_err-payload-clause-store : goal.returns-in_err-payload-clause-store
+returns-in_err-payload-clause-store g c = subst IsStore c.self.view_is (is_store g.D.Disk.view c.self.inside.base c.self.inside.sheet c.self.invariant)
+
+pub returns-in_err-new-clause-store : goal.returns-in_err-new-clause-store
+returns-in_err-new-clause-store g c = subst IsStore c.self.view_is (is_store g.D.Disk.view c.self.inside.base c.self.inside.sheet c.self.invariant)
