@@ -60,7 +60,8 @@ longest_told = 4294967295
 
 -- each length in the payload fits its field
 abbrev pub HasCode : Op → Type 0
-HasCode (op.Session name tab words) = IsShort name × (length words < 2 ^ 8) × AllByRecursion IsLong words
+HasCode (op.Session name tab words) =
+    IsShort name × (length words < 2 ^ 8) × AllByRecursion IsLong words
 HasCode (op.New after session input) = IsShort session × IsLong input
 HasCode (op.Set id input) = IsLong input
 HasCode (op.Remove id) = Unit {0}
@@ -72,7 +73,8 @@ HasCode (op.Answer id prompt output) = IsLong prompt
 abbrev pub IsNumber : ℕ → Type 0
 IsNumber n = n < 2 ^ 32
 
--- what the types of an op's parts say of it, and each op of a program meets: its numbers have four bytes, and its output is a block
+-- what the types of an op's parts say of it, and each op of a program meets: its numbers have four
+-- bytes, and its output is a block
 abbrev pub IsTyped : Op → Type 0
 IsTyped (op.Session name tab words) = Unit {0}
 IsTyped (op.New after session input) = IsNumber after

@@ -14,20 +14,23 @@ abbrev pub DoesNotFit : Result Unit CommitFault → Type 0
 DoesNotFit (Err (faults.Full o)) = Unit {0}
 DoesNotFit other = ⊥
 
--- what a fault leaves: the op is handed back and nothing has changed, or the disk failed, the worksheet is as before, and the
--- store is closed
+-- what a fault leaves: the op is handed back and nothing has changed, or the disk failed, the
+-- worksheet is as before, and the store is closed
 abbrev pub LeftBy : StoreView → StoreView → Op → CommitFault → Type 0
 LeftBy old new op (faults.Full back) = (back ≡ op) × SameStore old new
 LeftBy old new op (faults.OutOfMemory back) = (back ≡ op) × SameStore old new
-LeftBy old new op faults.Disk = (new.sheet.contents ≡ old.sheet.contents) × (new.closed ≡ true) × Rises old.disk.faults new.disk.faults
+LeftBy old new op faults.Disk = (new.sheet.contents ≡ old.sheet.contents) × (new.closed ≡ true)
+    × Rises old.disk.faults new.disk.faults
 LeftBy old new op faults.Closed = SameStore old new
 
--- the op was added: it stands behind those of the worksheet, and its record, which is durable, behind those on the disk
+-- the op was added: it stands behind those of the worksheet, and its record, which is durable,
+-- behind those on the disk
 pub record Adds (old new : StoreView) (op : Op) : Type 0 where
   pub still_open : new.closed ≡ false
   pub end : new.end ≡ old.end + 5 + length (code_of op)
   pub faults : new.disk.faults ≡ old.disk.faults
-  pub contents : (ops : List Op) → old.sheet.contents ≡ sheet_of ops → new.sheet.contents ≡ sheet_of (ops ++ op ∷ [])
+  pub contents : (ops : List Op) → old.sheet.contents ≡ sheet_of ops
+      → new.sheet.contents ≡ sheet_of (ops ++ op ∷ [])
   pub kept : InModel old.disk ((ops : List Op) → KeepsOps old ops → KeepsOps new (ops ++ op ∷ []))
   pub images : InModel old.disk (Leaves (IsSheetImage new.sheet.contents) new.disk.history.now)
 
@@ -40,16 +43,20 @@ pub record Breaks (old new : StoreView) : Type 0 where
 -- what each answer to a commit of this op says of the store before and after it
 abbrev pub CommitAnswers : StoreView → StoreView → Op → Result Unit CommitFault → Type 0
 CommitAnswers old new op (Ok u) = HasPlace old (length (code_of op)) × Adds old new op
-CommitAnswers old new op (Err (faults.Full back)) = (old.closed ≡ false) × (HasPlace old (length (code_of op)) → ⊥) × (back ≡ op) × SameStore old new
-CommitAnswers old new op (Err (faults.OutOfMemory back)) = HasPlace old (length (code_of op)) × (back ≡ op) × SameStore old new
+CommitAnswers old new op (Err (faults.Full back)) = (old.closed ≡ false)
+    × (HasPlace old (length (code_of op)) → ⊥) × (back ≡ op) × SameStore old new
+CommitAnswers old new op (Err (faults.OutOfMemory back)) =
+    HasPlace old (length (code_of op)) × (back ≡ op) × SameStore old new
 CommitAnswers old new op (Err faults.Disk) = HasPlace old (length (code_of op)) × Breaks old new
 CommitAnswers old new op (Err faults.Closed) = (old.closed ≡ true) × SameStore old new
 
--- A crash at any moment leaves the worksheet from before it, or this with the op; so it does of the payloads that the disk
--- stands for; the area that isn't active is left alone.
+-- A crash at any moment leaves the worksheet from before it, or this with the op; so it does of the
+-- payloads that the disk stands for; the area that isn't active is left alone.
 pub record CommitMoments (old new : StoreView) (op : Op) : Type 0 where
-  pub sheets : old.closed ≡ false → (ops : List Op) → old.sheet.contents ≡ sheet_of ops → LeavesOnly (IsEither ops op) old.disk.history new.disk.history
-  pub payloads : (ops : List Op) → KeepsOps old ops → LeavesOnly (StandsWithOrWithout ops op) old.disk.history new.disk.history
+  pub sheets : old.closed ≡ false → (ops : List Op) → old.sheet.contents ≡ sheet_of ops
+      → LeavesOnly (IsEither ops op) old.disk.history new.disk.history
+  pub payloads : (ops : List Op) → KeepsOps old ops
+      → LeavesOnly (StandsWithOrWithout ops op) old.disk.history new.disk.history
   pub others : LeavesOnly (OtherUntouched old.disk.history.now) old.disk.history new.disk.history
 
 -- all that a commit of an op does, by its answer

@@ -25,11 +25,13 @@ OneOp = (a b : Op) (payload : List ℕ) → IsPayloadOf a payload → IsPayloadO
 
 -- an op that a worksheet of allowed ops allows has a payload
 abbrev pub AllowedHaveCode : Type 0
-AllowedHaveCode = (os : List Op) (o : Op) → Allowed os → first_refusal (sheet_of os) o ≡ None → HasCode o
+AllowedHaveCode = (os : List Op) (o : Op) → Allowed os → first_refusal (sheet_of os) o ≡ None
+    → HasCode o
 
 -- an image stands for the payloads of one list of allowed ops at most
 abbrev pub OneListOfOps : Type 0
-OneListOfOps = (a b : List Op) (s t : Contents) (i : Image) → Makes a s → Makes b t → ImageStandsFor i (codes_of a) → ImageStandsFor i (codes_of b) → a ≡ b
+OneListOfOps = (a b : List Op) (s t : Contents) (i : Image) → Makes a s → Makes b t
+    → ImageStandsFor i (codes_of a) → ImageStandsFor i (codes_of b) → a ≡ b
 
 -- and is that of one worksheet at most
 abbrev pub OneSheet : Type 0
@@ -45,8 +47,10 @@ abbrev pub SheetImageOpens : Type 0
 SheetImageOpens = (sheet : Contents) (i : Image) (cause : OpenCause) → IsSheetImage sheet i
     → TellsOfSheet i cause → IsPassing cause
 
--- An answer fits a record: where the bytes of its block were no more than an outer block may have, and its prompt is one that a
--- worksheet allows.
+-- An answer fits a record: where the bytes of its block were no more than an outer block may have,
+-- and its prompt is one that a worksheet allows.
 abbrev pub ReceivedAnswersFit : Type 0
-ReceivedAnswersFit = (id : ℕ) (prompt : List ℕ) (block : Tree) (received : List ℕ) → Spells limits block received → length received ≤ limits.block
-    → length prompt ≤ longest_prompt → length (code_of (op.Answer id prompt (output block))) ≤ max_payload
+ReceivedAnswersFit = (id : ℕ) (prompt : List ℕ) (block : Tree) (received : List ℕ)
+    → Spells limits block received → length received ≤ limits.block
+    → length prompt ≤ longest_prompt
+    → length (code_of (op.Answer id prompt (output block))) ≤ max_payload

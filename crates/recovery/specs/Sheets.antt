@@ -17,7 +17,8 @@ use Rattle.recovery.specs.Code.{code_of, IsTyped, IsPayloadOf}
 abbrev pub codes_of : List Op → List (List ℕ)
 codes_of ops = map code_of ops
 
--- the sheet is what these ops make of an empty worksheet, which allows each of them behind those before it
+-- the sheet is what these ops make of an empty worksheet, which allows each of them behind those
+-- before it
 pub record Makes (ops : List Op) (sheet : Contents) : Type 0 where
   pub typed : AllByRecursion IsTyped ops
   pub allowed : Allowed ops
@@ -31,13 +32,15 @@ pub record IsSheetImage (sheet : Contents) (i : Image) : Type 0 where
 
 -- the image stands for the payloads of these ops, or for these and the payload of one op more
 abbrev pub StandsWithOrWithout : List Op → Op → Image → Type 0
-StandsWithOrWithout ops o i = ImageStandsFor i (codes_of ops) ⊎ ImageStandsFor i (codes_of (ops ++ o ∷ []))
+StandsWithOrWithout ops o i =
+    ImageStandsFor i (codes_of ops) ⊎ ImageStandsFor i (codes_of (ops ++ o ∷ []))
 
 -- an image of the sheet of these ops, or of the sheet with one op more
 abbrev pub IsEither : List Op → Op → Image → Type 0
 IsEither ops o i = IsSheetImage (sheet_of ops) i ⊎ IsSheetImage (sheet_of (ops ++ o ∷ [])) i
 
--- The payloads before this gate are those of allowed ops; the payload behind it is of no op that is allowed next.
+-- The payloads before this gate are those of allowed ops; the payload behind it is of no op that is
+-- allowed next.
 pub record IsRefusedAt (payloads : List (List ℕ)) (gate : ℕ) : Type 0 where
   pub ops : List Op
   pub payload : List ℕ
@@ -47,34 +50,37 @@ pub record IsRefusedAt (payloads : List (List ℕ)) (gate : ℕ) : Type 0 where
   pub makes : Makes ops (sheet_of ops)
   pub wrong : (o : Op) → IsPayloadOf o payload → first_refusal (sheet_of ops) o ≡ None → ⊥
 
--- What a cause says of a disk. Damage is that of the walk, or where the gates are whole the first payload that is refused.
+-- What a cause says of a disk. Damage is that of the walk, or where the gates are whole the first
+-- payload that is refused.
 abbrev pub TellsOfSheet : Image → OpenCause → Type 0
-TellsOfSheet i (causes.Damaged gate) = Tells i (causes.Damaged gate) ⊎ ((payloads : List (List ℕ)) × ImageStandsFor i payloads × IsRefusedAt payloads gate)
+TellsOfSheet i (causes.Damaged gate) = Tells i (causes.Damaged gate)
+    ⊎ ((payloads : List (List ℕ)) × ImageStandsFor i payloads × IsRefusedAt payloads gate)
 TellsOfSheet i causes.NotASheet = Tells i causes.NotASheet
 TellsOfSheet i causes.Disk = Unit {0}
 TellsOfSheet i causes.OutOfMemory = Unit {0}
 
--- a store as contracts see it: its disk, while it is open the offset of the closed gate behind the disk's payloads, its
--- worksheet, and whether it is closed
+-- a store as contracts see it: its disk, while it is open the offset of the closed gate behind the
+-- disk's payloads, its worksheet, and whether it is closed
 pub record StoreView : Type 0 where
   pub disk : DiskView
   pub end : ℕ
   pub sheet : SheetView
   pub closed : Bool
 
--- The store isn't closed, and keeps these ops: its disk stands for their payloads, which are durable, its end is the gate
--- behind them, and they make its worksheet.
+-- The store isn't closed, and keeps these ops: its disk stands for their payloads, which are
+-- durable, its end is the gate behind them, and they make its worksheet.
 pub record KeepsOps (store : StoreView) (ops : List Op) : Type 0 where
   pub still_open : store.closed ≡ false
   pub keeps : Keeps store.disk.history store.end (codes_of ops)
   pub makes : Makes ops store.sheet.contents
 
--- What is true of each store: allowed ops made its worksheet; while it is open it keeps their payloads, and a crash leaves
--- an image of its worksheet.
+-- What is true of each store: allowed ops made its worksheet; while it is open it keeps their
+-- payloads, and a crash leaves an image of its worksheet.
 pub record IsStore (store : StoreView) : Type 0 where
   pub made : (ops : List Op) × Makes ops store.sheet.contents
   pub kept : InModel store.disk (store.closed ≡ false → (ops : List Op) × KeepsOps store ops)
-  pub images : InModel store.disk (store.closed ≡ false → Leaves (IsSheetImage store.sheet.contents) store.disk.history.now)
+  pub images : InModel store.disk
+      (store.closed ≡ false → Leaves (IsSheetImage store.sheet.contents) store.disk.history.now)
 
 -- the store isn't closed, and a payload of so many bytes fits on its disk
 abbrev pub HasPlace : StoreView → ℕ → Type 0

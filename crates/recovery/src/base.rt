@@ -22,16 +22,23 @@ impl<D: Disk> Base<D> {
 
         ensures same { SameDisk (disk_of D.view self) (disk_of D.view result.0) }
         ensures other { InModel (disk_of D.view self)
-            (other_of (bytes_on (disk_of D.view result.0)) ≡ other_of (bytes_on (disk_of D.view self))) }
+            (other_of (bytes_on (disk_of D.view result.0))
+            ≡ other_of (bytes_on (disk_of D.view self))) }
         ensures open { OnOk result.1 (is_closed result.0 ≡ false) }
         ensures steady { OnOk result.1
             ((disk_of D.view result.0).faults ≡ (disk_of D.view self).faults) }
         ensures ends { OnOk result.1 (end_in result.0 ≡ end_in self + 5 + length frame.now) }
-        ensures closed { OnErr result.1 ((is_closed result.0 ≡ true) × Rises (disk_of D.view self).faults (disk_of D.view result.0).faults) }
+        ensures closed { OnErr result.1
+            ((is_closed result.0 ≡ true)
+            × Rises (disk_of D.view self).faults (disk_of D.view result.0).faults) }
 
-        ensures ok { InModel (disk_of D.view self) ((payloads : List (List ℕ)) → KeepsIn self payloads → OnOk result.1 (KeepsIn result.0 (payloads ++ frame.now ∷ []))) }
-        ensures any_moment { InModel (disk_of D.view self) ((payloads : List (List ℕ)) → KeepsIn self payloads
-            → LeavesOnly (BeforeOrAfter (disk_of D.view self).history.now payloads frame.now) (disk_of D.view self).history (disk_of D.view result.0).history) }
+        ensures ok { InModel (disk_of D.view self)
+            ((payloads : List (List ℕ)) → KeepsIn self payloads
+            → OnOk result.1 (KeepsIn result.0 (payloads ++ frame.now ∷ []))) }
+        ensures any_moment { InModel (disk_of D.view self)
+            ((payloads : List (List ℕ)) → KeepsIn self payloads
+            → LeavesOnly (BeforeOrAfter (disk_of D.view self).history.now payloads frame.now)
+            (disk_of D.view self).history (disk_of D.view result.0).history) }
     {
         match self {
             Base::Open(journal) => match journal.append(frame) {
@@ -45,7 +52,8 @@ impl<D: Disk> Base<D> {
 
     /// Whether it is open and a payload of so many bytes fits.
     pub(crate) fn has_place(&self, payload_len: u64) -> bool
-        ensures { IsTrue result ↔ (is_closed self.now ≡ false) × Fits (disk_of D.view self.now).room (end_in self.now) payload_len }
+        ensures { IsTrue result ↔ (is_closed self.now ≡ false)
+            × Fits (disk_of D.view self.now).room (end_in self.now) payload_len }
     {
         match self {
             Base::Open(journal) => journal.fits(payload_len),

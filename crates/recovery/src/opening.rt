@@ -12,8 +12,10 @@ use worksheet::Sheet;
 
 // Does what a payload says.
 fn take(alloc: Global, sheet: &mut Sheet, payload: &Payload) -> Result<(), OpenCause>
-    ensures taken { (ops : List Op) → Makes ops sheet.old.contents → OnOk result (TakesOps ops payload.now.bytes sheet.new.contents) }
-    ensures refused { (ops : List Op) → Makes ops sheet.old.contents → IfErr result (Refuses ops payload.now) }
+    ensures taken { (ops : List Op) → Makes ops sheet.old.contents
+        → OnOk result (TakesOps ops payload.now.bytes sheet.new.contents) }
+    ensures refused { (ops : List Op) → Makes ops sheet.old.contents
+        → IfErr result (Refuses ops payload.now) }
     ensures passing { IsErrOf result OpenCause.Disk → ⊥ }
 {
     let op = match decode(alloc, payload.bytes.as_slice()) {
@@ -32,8 +34,11 @@ fn take(alloc: Global, sheet: &mut Sheet, payload: &Payload) -> Result<(), OpenC
 
 /// The worksheet of payloads that stand in a journal, or where the first is that no worksheet has.
 pub(crate) fn sheet_of_payloads(alloc: Global, payloads: &[Payload]) -> Result<Sheet, OpenCause>
-    ensures sheet { IfOk result (λ sheet. (ops : List Op) × (payloads_in payloads.now ≡ codes_of ops) × Makes ops sheet.contents) }
-    ensures refused { AreGates 10 payloads.now → IfErr result (RefusesFrom (payloads_in payloads.now)) }
+    ensures sheet { IfOk result
+        (λ sheet. (ops : List Op) × (payloads_in payloads.now ≡ codes_of ops)
+        × Makes ops sheet.contents) }
+    ensures refused { AreGates 10 payloads.now
+        → IfErr result (RefusesFrom (payloads_in payloads.now)) }
     ensures passing { IsErrOf result OpenCause.Disk → ⊥ }
 {
     let mut sheet = Sheet::new(alloc);

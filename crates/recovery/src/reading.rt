@@ -156,7 +156,8 @@ fn op_of(alloc: Global, bytes: &[u8]) -> Result<Op, DecodeFault>
 /// `Unreadable`, also where bytes are left over, or an output is a block in another spelling.
 pub fn decode(alloc: Global, bytes: &[u8]) -> Result<Op, DecodeFault>
     ensures op { IfOk result (λ op. IsPayloadOf op bytes.now) }
-    ensures unreadable { IsErrOf result DecodeFault.Unreadable → (op : Op) → IsPayloadOf op bytes.now → ⊥ }
+    ensures unreadable { IsErrOf result DecodeFault.Unreadable
+        → (op : Op) → IsPayloadOf op bytes.now → ⊥ }
 {
     let op = op_of(alloc, bytes)?;
     // Bytes from which an op was read are its payload only where it is written so.

@@ -63,14 +63,22 @@ impl<D: Disk> Store<D> {
         // Whether the disk keeps the model or not, the worksheet is made by allowed ops.
         ensures made { IfOk result (λ store. (ops : List Op) × Makes ops store.sheet.contents) }
 
-        ensures sheet { InModel (D.view disk) (IfOk result (λ store. IsSheetImage store.sheet.contents (bytes_on (D.view disk)))) }
-        ensures exact { InModel (D.view disk) ((sheet : Contents) → IsSheetImage sheet (bytes_on (D.view disk)) → GivesSheet sheet result) }
-        ensures kept { InModel (D.view disk) (IfOk result (λ store. (ops : List Op) × KeepsOps store ops)) }
-        ensures fault { InModel (D.view disk) (IfErr result (λ e. TellsOfSheet (bytes_on (D.view disk)) e.cause)) }
+        ensures sheet { InModel (D.view disk)
+            (IfOk result (λ store. IsSheetImage store.sheet.contents (bytes_on (D.view disk)))) }
+        ensures exact { InModel (D.view disk)
+            ((sheet : Contents) → IsSheetImage sheet (bytes_on (D.view disk))
+            → GivesSheet sheet result) }
+        ensures kept { InModel (D.view disk)
+            (IfOk result (λ store. (ops : List Op) × KeepsOps store ops)) }
+        ensures fault { InModel (D.view disk)
+            (IfErr result (λ e. TellsOfSheet (bytes_on (D.view disk)) e.cause)) }
 
         // It changes no byte, and at every moment each image is one that a crash could leave at the start.
-        ensures looks { InModel (D.view disk) (Looks (D.view disk).history (disk_left D.view result).history) }
-        ensures images { InModel (D.view disk) (IfOk result (λ store. Leaves (IsSheetImage store.sheet.contents) store.disk.history.now)) }
+        ensures looks { InModel (D.view disk)
+            (Looks (D.view disk).history (disk_left D.view result).history) }
+        ensures images { InModel (D.view disk)
+            (IfOk result (λ store. Leaves (IsSheetImage store.sheet.contents)
+            store.disk.history.now)) }
 
         // A failure of the disk is told as one, and nothing else is.
         ensures faulty { IfErr result
@@ -117,7 +125,8 @@ impl<D: Disk> Store<D> {
         ensures same { SameStore self.old self.new }
         ensures ready { IfOk result (IsReady self.new op.now) }
         ensures closed { IsErrOf result PrepareFault.Closed ↔ (self.old.closed ≡ true) }
-        ensures full { IsErrOf result PrepareFault.Full ↔ (self.old.closed ≡ false) × (Fits self.old.disk.room self.old.end (length (code_of op.now)) → ⊥) }
+        ensures full { IsErrOf result PrepareFault.Full ↔ (self.old.closed ≡ false)
+            × (Fits self.old.disk.room self.old.end (length (code_of op.now)) → ⊥) }
         ensures memory { IsErrOf result PrepareFault.OutOfMemory
             → HasPlace self.old (length (code_of op.now)) }
         ensures store { IsStore self.old }
@@ -143,11 +152,13 @@ impl<D: Disk> Store<D> {
 
         ensures store { IsStore self.old }
         ensures same { SameDisk self.old.disk self.new.disk }
-        ensures sheet { (ops : List Op) → self.old.sheet.contents ≡ sheet_of ops → OnOk result (self.new.sheet.contents ≡ sheet_of (ops ++ op ∷ [])) }
+        ensures sheet { (ops : List Op) → self.old.sheet.contents ≡ sheet_of ops
+            → OnOk result (self.new.sheet.contents ≡ sheet_of (ops ++ op ∷ [])) }
         ensures as_before { OnErr result (self.new.sheet.contents ≡ self.old.sheet.contents) }
         ensures open { OnOk result (self.new.closed ≡ false) }
         ensures ends { OnOk result (self.new.end ≡ self.old.end + 5 + length (code_of op)) }
-        ensures closed { OnErr result ((self.new.closed ≡ true) × Rises self.old.disk.faults self.new.disk.faults) }
+        ensures closed { OnErr result
+            ((self.new.closed ≡ true) × Rises self.old.disk.faults self.new.disk.faults) }
         ensures steady { OnOk result (self.new.disk.faults ≡ self.old.disk.faults) }
 
         // The area that isn't active is left alone, at every moment of the call too.
@@ -158,12 +169,19 @@ impl<D: Disk> Store<D> {
             self.new.disk.history) }
 
         // A crash at any moment of the call leaves the worksheet from before it, or this with the op.
-        ensures any_moment { InModel self.old.disk ((ops : List Op) → self.old.sheet.contents ≡ sheet_of ops → LeavesOnly (IsEither ops op) self.old.disk.history self.new.disk.history) }
-        ensures acknowledged { OnOk result (InModel self.old.disk (Leaves (IsSheetImage self.new.sheet.contents) self.new.disk.history.now)) }
+        ensures any_moment { InModel self.old.disk
+            ((ops : List Op) → self.old.sheet.contents ≡ sheet_of ops
+            → LeavesOnly (IsEither ops op) self.old.disk.history self.new.disk.history) }
+        ensures acknowledged { OnOk result (InModel self.old.disk
+            (Leaves (IsSheetImage self.new.sheet.contents) self.new.disk.history.now)) }
 
         // So it does of the payloads that the disk stands for, and at `Ok` the op's stands behind them, once.
-        ensures payloads { InModel self.old.disk ((ops : List Op) → KeepsOps self.old ops → LeavesOnly (StandsWithOrWithout ops op) self.old.disk.history self.new.disk.history) }
-        ensures kept { InModel self.old.disk ((ops : List Op) → KeepsOps self.old ops → OnOk result (KeepsOps self.new (ops ++ op ∷ []))) }
+        ensures payloads { InModel self.old.disk
+            ((ops : List Op) → KeepsOps self.old ops
+            → LeavesOnly (StandsWithOrWithout ops op) self.old.disk.history self.new.disk.history) }
+        ensures kept { InModel self.old.disk
+            ((ops : List Op) → KeepsOps self.old ops
+            → OnOk result (KeepsOps self.new (ops ++ op ∷ []))) }
     {
         let (base, result) = self.base.take().unwrap().with(&frame);
         self.base = Some(base);
@@ -184,13 +202,15 @@ impl<D: Disk> Store<D> {
         ensures store { IsStore self.old }
 
         ensures same { SameDisk self.old.disk self.new.disk }
-        ensures sheet { (ops : List Op) → self.old.sheet.contents ≡ sheet_of ops → OnOk result (self.new.sheet.contents ≡ sheet_of (ops ++ op ∷ [])) }
+        ensures sheet { (ops : List Op) → self.old.sheet.contents ≡ sheet_of ops
+            → OnOk result (self.new.sheet.contents ≡ sheet_of (ops ++ op ∷ [])) }
         ensures open { OnOk result (self.new.closed ≡ false) }
         ensures ends { OnOk result (self.new.end ≡ self.old.end + 5 + length (code_of op)) }
 
         // Which refusal it is, and what it leaves.
         ensures closed { IsErrOf result CommitFault.Closed ↔ (self.old.closed ≡ true) }
-        ensures full { DoesNotFit result ↔ (self.old.closed ≡ false) × (Fits self.old.disk.room self.old.end (length (code_of op)) → ⊥) }
+        ensures full { DoesNotFit result ↔ (self.old.closed ≡ false)
+            × (Fits self.old.disk.room self.old.end (length (code_of op)) → ⊥) }
         ensures refused { IfErr result (LeftBy self.old self.new op) }
         ensures steady { OnOk result (self.new.disk.faults ≡ self.old.disk.faults) }
 
@@ -202,12 +222,19 @@ impl<D: Disk> Store<D> {
             self.new.disk.history) }
 
         // A crash at any moment of the call leaves the worksheet from before it, or this with the op.
-        ensures any_moment { InModel self.old.disk (self.old.closed ≡ false → (ops : List Op) → self.old.sheet.contents ≡ sheet_of ops → LeavesOnly (IsEither ops op) self.old.disk.history self.new.disk.history) }
-        ensures acknowledged { OnOk result (InModel self.old.disk (Leaves (IsSheetImage self.new.sheet.contents) self.new.disk.history.now)) }
+        ensures any_moment { InModel self.old.disk
+            (self.old.closed ≡ false → (ops : List Op) → self.old.sheet.contents ≡ sheet_of ops
+            → LeavesOnly (IsEither ops op) self.old.disk.history self.new.disk.history) }
+        ensures acknowledged { OnOk result (InModel self.old.disk
+            (Leaves (IsSheetImage self.new.sheet.contents) self.new.disk.history.now)) }
 
         // So it does of the payloads that the disk stands for, and at `Ok` the op's stands behind them, once.
-        ensures payloads { InModel self.old.disk ((ops : List Op) → KeepsOps self.old ops → LeavesOnly (StandsWithOrWithout ops op) self.old.disk.history self.new.disk.history) }
-        ensures kept { InModel self.old.disk ((ops : List Op) → KeepsOps self.old ops → OnOk result (KeepsOps self.new (ops ++ op ∷ []))) }
+        ensures payloads { InModel self.old.disk
+            ((ops : List Op) → KeepsOps self.old ops
+            → LeavesOnly (StandsWithOrWithout ops op) self.old.disk.history self.new.disk.history) }
+        ensures kept { InModel self.old.disk
+            ((ops : List Op) → KeepsOps self.old ops
+            → OnOk result (KeepsOps self.new (ops ++ op ∷ []))) }
     {
         let frame = match self.prepare(&op) {
             Ok(frame) => frame,
@@ -228,8 +255,11 @@ impl<D: Disk> Store<D> {
 
         // It is made by allowed ops, and while the store is open the disk stands for their payloads.
         ensures made { (ops : List Op) × Makes ops self.now.sheet.contents }
-        ensures kept { InModel self.now.disk (self.now.closed ≡ false → (ops : List Op) × KeepsOps self.now ops) }
-        ensures images { InModel self.now.disk (self.now.closed ≡ false → Leaves (IsSheetImage self.now.sheet.contents) self.now.disk.history.now) }
+        ensures kept { InModel self.now.disk
+            (self.now.closed ≡ false → (ops : List Op) × KeepsOps self.now ops) }
+        ensures images { InModel self.now.disk
+            (self.now.closed ≡ false → Leaves (IsSheetImage self.now.sheet.contents)
+            self.now.disk.history.now) }
     {
         &self.sheet
     }

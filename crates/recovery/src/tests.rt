@@ -4,7 +4,7 @@ ghost use Rattle.std.specs.Prelude.{◌≤◌, ◌+◌, IfSome};
 use crate::{CommitFault, DecodeFault, PrepareFault, Store, code_len, decode, encode};
 use block_tree::{Octets, OutOfMemory, Sequence};
 use disk_model::{Area, Choice, Disk, DiskFault, Fill, FuseDisk, FuseMode, MemoryDisk};
-use journal::{OpenCause, create};
+use journal::{OpenCause, OpenFault, create};
 use meta_format::read_block;
 use std::alloc::{AllocError, Global};
 use std::test::Fail;
@@ -458,6 +458,83 @@ impl Disk for FixedDisk {
         let _faults = self.faults;
         Ok(())
     }
+}
+
+// Whether an opening over this fuse tells that the disk failed, and then has written nothing. Else it
+// gives the worksheet of the example.
+fn is_told_as_disk(alloc: Global, k: u64, mode: FuseMode) -> Result<bool, Fail> {
+    let first = AREA.as_slice().to_vec(alloc)?;
+    let disk = MemoryDisk::holding(alloc, 100, first).map_err(|_| "holding")?;
+    match Store::open(alloc, FuseDisk::new(disk, k, mode)) {
+        Ok(store) => {
+            if !has_session(&store) {
+                return Err("another worksheet".into());
+            }
+            Ok(false)
+        }
+        Err(OpenFault { cause, disk }) => {
+            let disk = disk.into_inner();
+            if cause != OpenCause::Disk || disk.content(Area::First) != AREA.as_slice() {
+                return Err("another fault".into());
+            }
+            Ok(true)
+        }
+    }
+}
+
+// An opening syncs area First, asks for its length and reads it.
+#[test]
+fn an_opening_over_a_failing_disk(rt: HostRuntime) -> Result<(), Fail> {
+    let alloc = rt.alloc();
+    for k in 0..6u64 {
+        assert_eq!(rt; is_told_as_disk(alloc, k, FuseMode::From)?, k <= 3);
+        assert_eq!(rt;
+            is_told_as_disk(alloc, k, FuseMode::Only)?,
+            k >= 1 && k <= 3
+        );
+    }
+    Ok(())
+}
+
+// Whether these bytes are told as no op's payload. Want of memory is none of the answers here.
+fn is_unreadable(alloc: Global, payload: &[u8]) -> Result<bool, Fail> {
+    match decode(alloc, payload) {
+        Ok(_) => Ok(false),
+        Err(DecodeFault::Unreadable) => Ok(true),
+        Err(DecodeFault::OutOfMemory) => Err("memory".into()),
+    }
+}
+
+#[test]
+fn an_unknown_first_byte_or_flag_is_unreadable(rt: HostRuntime) -> Result<(), Fail> {
+    let alloc = rt.alloc();
+    for kind in [0u8, 8, 255] {
+        assert!(rt; is_unreadable(alloc, &[kind, 0, 0, 0, 1])?);
+    }
+    assert!(rt; !is_unreadable(alloc, b"\x01\x01a\x01\x01\x00\x02sh")?);
+    assert!(rt; is_unreadable(alloc, b"\x01\x01a\x02\x01\x00\x02sh")?);
+    Ok(())
+}
+
+#[test]
+fn a_payload_that_is_cut_off_is_unreadable(rt: HostRuntime) -> Result<(), Fail> {
+    let alloc = rt.alloc();
+    let payloads: [&[u8]; 7] = [
+        b"\x01\x01a\x00\x01\x00\x02sh",
+        b"\x02\x00\x00\x00\x00\x01a\x00\x01x",
+        b"\x03\x00\x00\x00\x01\x00\x01x",
+        b"\x04\x00\x00\x00\x01",
+        b"\x05\x00\x00\x00\x01\x00\x00\x00\x00",
+        b"\x06\x00\x00\x00\x01",
+        b"\x07\x00\x00\x00\x01\x00\x02> \x02verbatim:A\x05",
+    ];
+    for payload in payloads {
+        assert!(rt; !is_unreadable(alloc, payload)?);
+        for len in 0..payload.len() {
+            assert!(rt; is_unreadable(alloc, &payload[..len])?);
+        }
+    }
+    Ok(())
 }
 
 // All memory, in blocks of falling size.

@@ -9,7 +9,18 @@ use Rattle.recovery.specs.declared.base.Base.{Base}
 use Rattle.recovery.specs.declared.base.Base.TheVariants.{Open, Closed}
 
 abbrev pub no_disk : DiskView
-no_disk = record { room = 0; faults = 0; keeps_model = false; history = record { now = record { first = record { content = []; synced = []; writes = [] }; second = record { content = []; synced = []; writes = [] } }; past = [] } }
+no_disk = record {
+  room = 0;
+  faults = 0;
+  keeps_model = false;
+  history = record {
+    now = record {
+      first = record { content = []; synced = []; writes = [] };
+      second = record { content = []; synced = []; writes = [] };
+    };
+    past = [];
+  };
+}
 
 abbrev pub disk_of : {D : Type 0} → (D → DiskView) → Base D → DiskView
 disk_of view (Open journal) = journal.disk
@@ -40,7 +51,8 @@ pub record KeepsSheet {D : Type 0} (base : Base D) (sheet : Contents) : Type 0 w
   pub makes : Makes ops sheet
 
 -- ops make the sheet, and while the store is open its journal keeps their payloads
-pub record IsBaseOf {D : Type 0} (view : D → DiskView) (base : Base D) (sheet : Contents) : Type 0 where
+pub record IsBaseOf {D : Type 0} (view : D → DiskView) (base : Base D)
+    (sheet : Contents) : Type 0 where
   pub made : (ops : List Op) × Makes ops sheet
   pub kept : is_closed base ≡ false → InModel (disk_of view base) (KeepsSheet base sheet)
 
@@ -58,7 +70,12 @@ is_closed_store (Some base) = is_closed base
 
 -- a store on a base, with this sheet
 abbrev pub store_on : {D : Type 0} → (D → DiskView) → Option (Base D) → SheetView → StoreView
-store_on view base sheet = record { disk = disk_in view base; end = end_of_base base; sheet = sheet; closed = is_closed_store base }
+store_on view base sheet = record {
+  disk = disk_in view base;
+  end = end_of_base base;
+  sheet = sheet;
+  closed = is_closed_store base;
+}
 
 -- there is a base, and it is that of this sheet
 abbrev pub IsStoreOf : {D : Type 0} → (D → DiskView) → Option (Base D) → Contents → Type 0

@@ -18,7 +18,8 @@ pub record TakesOps (ops : List Op) (payload : List ℕ) (sheet : Contents) : Ty
 
 -- the payload is of no op that is allowed behind these, and its gate is named
 abbrev pub Refuses : List Op → Payload → OpenCause → Type 0
-Refuses ops p (causes.Damaged gate) = (gate ≡ p.gate) × ((o : Op) → IsPayloadOf o p.bytes → first_refusal (sheet_of ops) o ≡ None → ⊥)
+Refuses ops p (causes.Damaged gate) =
+    (gate ≡ p.gate) × ((o : Op) → IsPayloadOf o p.bytes → first_refusal (sheet_of ops) o ≡ None → ⊥)
 Refuses ops p causes.NotASheet = ⊥
 Refuses ops p causes.Disk = ⊥
 Refuses ops p causes.OutOfMemory = Unit {0}
