@@ -1,5 +1,5 @@
 -- Hosts one after another.
-use Rattle.std.proofs.Common.{◌≡◌, ◌⊎◌, inl, inr, ⊎_elim, ℕ, List, [], ◌∷◌, ◌++◌, refl, ap, sym, ◌∙◌, subst, Option, Some, None}
+use Rattle.std.proofs.Common.{◌≡◌, ◌⊎◌, inl, inr, ⊎_elim, ℕ, List, [], ◌∷◌, ◌++◌, refl, ap, sym, ◌∙◌, subst, Option, Some, None, append-nil}
 use Rattle.disk_model.specs.Disk.{Image}
 use Rattle.worksheet.specs.declared.op.Op.{Op}
 use Rattle.worksheet.specs.declared.op.Op.TheVariants as op
@@ -16,7 +16,7 @@ use Rattle.session_engine.specs.declared.event.Event.TheVariants as event
 use Rattle.session_engine.specs.declared.outcome.Outcome.{Outcome}
 use Rattle.session_engine.specs.World.{World, opened, sheet_in}
 use Rattle.session_engine.specs.Does.{Runs}
-use Rattle.session_engine.specs.Turns.{Has, Closes, Stays, Answered, Turn, Turned, EachTurned, WentOn, StaysThrough, AnsweredByOne, LivesInTurn, EvaluatedAnew}
+use Rattle.session_engine.specs.Turns.{Has, Closes, Stays, Answered, Turn, Turned, EachTurned, WentOn, StaysThrough, AnsweredByOne, LivesInTurn, EvaluatedAnew, PlaysAreTurns}
 use Rattle.session_engine.proofs.FieldLaws.{cleared}
 use Rattle.session_engine.proofs.Living.{Sound}
 use Rattle.session_engine.proofs.Showing.{stepped}
@@ -36,12 +36,12 @@ shown w (e ∷ es) [] v h run f a some has = absurd run
 shown w (e ∷ es) (o ∷ os) v h run f a some has =
     let s = stepped w e o run.0 h run.1 in
     ⊎_elim
-      (λ stays. ⊎_elim
-          (λ before. inl (before, (run.0, run.1, stays)))
-          (λ closes. inr (run.0, run.1, inl (closes, stays)))
-          (s.shown f a some (has_first f run.0 es os v stays)))
-      (λ later. inr (run.0, run.1, inr later))
-      (shown run.0 es os v s.sound run.2 f a some has)
+    (λ stays. ⊎_elim
+    (λ before. inl (before, (run.0, run.1, stays)))
+    (λ closes. inr (run.0, run.1, inl (closes, stays)))
+    (s.shown f a some (has_first f run.0 es os v stays)))
+    (λ later. inr (run.0, run.1, inr later))
+    (shown run.0 es os v s.sound run.2 f a some has)
 
 pub sound : (ops : List Op) (room end : ℕ) → Allowed ops → Sound (opened ops room end)
 sound ops room end allowed = record { allowed = allowed; lives = tt }
@@ -94,9 +94,9 @@ go_on room first before (turn ∷ turns) after allowed image each =
       image = more.image;
       fields = λ f a has some. ⊎_elim
           (λ through. ⊎_elim
-              (λ stays. inl (stays, through))
-              (λ answered. inr (inl (answered, through)))
-              (shown (opened first room t.end) t.taken outcomes (by_ops r.ops t.leads) (sound first room t.end allowed) r.run f a some (has_through f room mid r.ops turns after more.kept more.went through)))
+          (λ stays. inl (stays, through))
+          (λ answered. inr (inl (answered, through)))
+          (shown (opened first room t.end) t.taken outcomes (by_ops r.ops t.leads) (sound first room t.end allowed) r.run f a some (has_through f room mid r.ops turns after more.kept more.went through)))
           (λ later. inr (inr later))
           (more.fields f a has some);
     }
@@ -115,11 +115,49 @@ evaluated_anew found room end es os w allowed run id o mid given clears later to
     let before = sounds (opened found room end) es os w (sound found room end allowed) run in
     let after = (stepped w (event.Command (command.Eval id)) o mid before given).sound in
     ⊎_elim
-      (λ stays.
-          let here : field_in (sheet_of (w.ops ++ op.Clear id ∷ [])).fields id ≡ Some f =
-              ap (λ (n : ℕ). field_in (sheet_of (w.ops ++ op.Clear id ∷ [])).fields n) (sym number)
-              ∙ subst (λ (ops : List Op). Has (sheet_of ops) f) clears (has_first f mid later told v stays) in
-          let none = cleared w.ops id f (subst Allowed clears after.allowed) here in
-          absurd (let no : None ≡ Some a = sym none ∙ some in cc))
-      (λ answered. answered)
-      (shown mid later told v after more f a some has)
+    (λ stays.
+    let here : field_in (sheet_of (w.ops ++ op.Clear id ∷ [])).fields id ≡ Some f =
+    ap (λ (n : ℕ). field_in (sheet_of (w.ops ++ op.Clear id ∷ [])).fields n) (sym number)
+    ∙ subst (λ (ops : List Op). Has (sheet_of ops) f) clears (has_first f mid later told v stays) in
+    let none = cleared w.ops id f (subst Allowed clears after.allowed) here in
+    absurd (let no : None ≡ Some a = sym none ∙ some in cc))
+    (λ answered. answered)
+    (shown mid later told v after more f a some has)
+
+pub plays_are_turns : PlaysAreTurns
+plays_are_turns room end before found allowed opens ends events told after = (
+  λ left. (
+    left.leads.ops,
+    record {
+      allowed = allowed;
+      opens = opens;
+      end = end;
+      ends = ends;
+      taken = left.done;
+      lost = left.more;
+      split = left.split;
+      untold = left.outcomes;
+      leads = left.leads;
+      run = left.runs;
+      ops = refl;
+      leaves = left.image;
+    },
+  ),
+  λ rest host played image. (
+    played.leads.ops,
+    record {
+      allowed = allowed;
+      opens = opens;
+      end = end;
+      ends = ends;
+      taken = played.done;
+      lost = rest;
+      split = played.split;
+      untold = [];
+      leads = played.leads;
+      run = subst (λ (os : List Outcome). Runs (opened found room end) played.done os played.leads) (sym (append-nil told)) played.runs;
+      ops = refl;
+      leaves = image;
+    },
+  ),
+)

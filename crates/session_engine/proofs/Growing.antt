@@ -55,13 +55,13 @@ module _ (s p : List ℕ) where
       let same : q.out ≡ bs = (once s q.out bs None None ((h.tail, h.stream), h.no_fault) old).0 in
       let closes = fed_closes limits (known q) s p q.out r h ran in
       let all : others ≡ q.out ++ r.out = ⊎_elim
-          (λ alive.
-              let t = fed_stands limits roomy (known q) s p q.out r.at r.out r.mode h ran (known r) alive refl refl refl refl in
-              (once (s ++ p) others (q.out ++ r.out) fault None new ((t.tail, t.stream), t.no_fault)).0)
-          (λ b.
-              let f = fed_faults limits roomy (known q) s p q.out r.at b.1 r.out b.0 h (ran ∙ ap (λ (m : Mode). record { at = r.at; out = r.out; mode = m }) b.2) in
-              (once (s ++ p) others (q.out ++ r.out) fault (Some b.0) new (b.1, f)).0)
-          (alive_or r.mode)
+      (λ alive.
+      let t = fed_stands limits roomy (known q) s p q.out r.at r.out r.mode h ran (known r) alive refl refl refl refl in
+      (once (s ++ p) others (q.out ++ r.out) fault None new ((t.tail, t.stream), t.no_fault)).0)
+      (λ b.
+      let f = fed_faults limits roomy (known q) s p q.out r.at b.1 r.out b.0 h (ran ∙ ap (λ (m : Mode). record { at = r.at; out = r.out; mode = m }) b.2) in
+      (once (s ++ p) others (q.out ++ r.out) fault (Some b.0) new (b.1, f)).0)
+      (alive_or r.mode)
       in record { fresh = r.out; is = all ∙ ap (λ (l : List Outer). l ++ r.out) same; closes = closes }
 
   pub added : (bs others : List Outer) (fault : Option Kind) → Reads s bs None → Reads (s ++ p) others fault → Added s p bs others

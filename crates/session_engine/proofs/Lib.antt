@@ -26,3 +26,4 @@ pub mod OneThing
 pub mod Totals
 pub mod Numbers
 pub mod InFlight
+pub mod Examples

@@ -28,19 +28,19 @@ use Rattle.session_engine.specs.World.{World, Going, opened, life_of, line_of, s
 use Rattle.session_engine.specs.Refused.{refusals}
 use Rattle.session_engine.specs.Does.{Does, MayDo, ChildDoes, CommandDoes, Gives, Runs, behind, begun_with, closed_by, does, ends_life, evaluates, joined_by, sends_or_kills, steps, tells, told_of, told_with, with_piece}
 use Rattle.session_engine.specs.Apart.{named}
-use Rattle.session_engine.specs.Laws.{AreNumbered, NumbersAreGivenOnce, NothingOfAnEndedLife, all_started, numbered, numbers_to, started}
+use Rattle.session_engine.specs.Laws.{AreNumbered, NumbersAreGivenOnce, NothingOfAnEndedLife, all_started, numbered, numbers_to, started_by}
 use Rattle.session_engine.proofs.Tables.{first_has_name}
 use Rattle.session_engine.proofs.ApartLives.{same_name, is_itself}
 use Rattle.session_engine.proofs.Totals.{total, total-put, total-out, total-push, total-below}
 
 -- What becomes of the lives: all stay as they are; one changes, which keeps its name and its number; one ends; or one begins, of
--- a session that has none, and is started with the next number.
+-- a session that has none, and is started_by with the next number.
 pub data Becomes (w : World) (d : Does) : Type 0 where
-  all_stay : d.lives ≡ w.lives → d.begun ≡ w.begun → started d.told.effect ≡ [] → Becomes w d
+  all_stay : d.lives ≡ w.lives → d.begun ≡ w.begun → started_by d.told.effect ≡ [] → Becomes w d
   one_changes : (l m : Going) → life_of w l.name ≡ Some l → m.name ≡ l.name → m.number ≡ l.number → d.lives ≡ replace_named (λ g. g.name) l.name m w.lives
-      → d.begun ≡ w.begun → started d.told.effect ≡ [] → Becomes w d
-  one_ends : (l : Going) → life_of w l.name ≡ Some l → d.lives ≡ without_named (λ g. g.name) l.name w.lives → d.begun ≡ w.begun → started d.told.effect ≡ [] → Becomes w d
-  one_begins : (m : Going) → life_of w m.name ≡ None → m.number ≡ w.begun + 1 → d.lives ≡ w.lives ++ m ∷ [] → d.begun ≡ w.begun + 1 → started d.told.effect ≡ (w.begun + 1) ∷ []
+      → d.begun ≡ w.begun → started_by d.told.effect ≡ [] → Becomes w d
+  one_ends : (l : Going) → life_of w l.name ≡ Some l → d.lives ≡ without_named (λ g. g.name) l.name w.lives → d.begun ≡ w.begun → started_by d.told.effect ≡ [] → Becomes w d
+  one_begins : (m : Going) → life_of w m.name ≡ None → m.number ≡ w.begun + 1 → d.lives ≡ w.lives ++ m ∷ [] → d.begun ≡ w.begun + 1 → started_by d.told.effect ≡ (w.begun + 1) ∷ []
       → Becomes w d
 
 pub its_own : (w : World) (name : List ℕ) (l : Going) → life_of w name ≡ Some l → life_of w l.name ≡ Some l
@@ -54,12 +54,12 @@ with_its_number number (Some m) l h = go (m.number == number) h
     go true h = h
     go false h = cc
 
-starts_none : (name : List ℕ) (number : ℕ) (send : Option (List ℕ)) (e : Option Ended) → started (sends_or_kills name number send e) ≡ []
+starts_none : (name : List ℕ) (number : ℕ) (send : Option (List ℕ)) (e : Option Ended) → started_by (sends_or_kills name number send e) ≡ []
 starts_none name number None None = refl
 starts_none name number (Some bytes) None = refl
 starts_none name number send (Some e) = refl
 
-told_none : (name : List ℕ) (number : ℕ) (c : Option Closed) (default send : Option (List ℕ)) (e : Option Ended) → started (told_with name number c default send e).effect ≡ []
+told_none : (name : List ℕ) (number : ℕ) (c : Option Closed) (default send : Option (List ℕ)) (e : Option Ended) → started_by (told_with name number c default send e).effect ≡ []
 told_none name number None default send None = refl
 told_none name number (Some a) default send e = starts_none name number send e
 told_none name number None default send (Some e) = refl
@@ -79,7 +79,7 @@ module _ (w : World) where
   steps_so : (l : Going) (piece : List ℕ) (blocks : List _) (s : Step) → life_of w l.name ≡ Some l → Becomes w (steps w l piece blocks s)
   steps_so l piece blocks s own = go s.ended refl
     where
-      none : started (told_of l s).effect ≡ []
+      none : started_by (told_of l s).effect ≡ []
       none = told_none l.name l.number (closed_by s.answered) s.default_input s.send s.ended
 
       go : (e : Option Ended) → s.ended ≡ e → Becomes w (steps w l piece blocks s)
@@ -90,7 +90,7 @@ module _ (w : World) where
   evaluates_so id name None h = Becomes.one_begins (begun_with w name (line_of w id)) h refl refl refl refl
   evaluates_so id name (Some l) h = Becomes.one_changes l (joined_by l (line_of w id)) (its_own w name l h) refl refl refl refl (go (sent_by l.past l.blocks (accepted (line_of w id)) l.blocks))
     where
-      go : (bytes : Option (List ℕ)) → started (option_map (λ bs. effect.Send name l.number bs) bytes) ≡ []
+      go : (bytes : Option (List ℕ)) → started_by (option_map (λ bs. effect.Send name l.number bs) bytes) ≡ []
       go None = refl
       go (Some bs) = refl
 
@@ -298,7 +298,7 @@ are_numbered w h = record {
 
 -- Starts are told with one number after another.
 
-starts_row : (w : World) (d : Does) → Becomes w d → numbers_to w.begun ++ started d.told.effect ≡ numbers_to d.begun
+starts_row : (w : World) (d : Does) → Becomes w d → numbers_to w.begun ++ started_by d.told.effect ≡ numbers_to d.begun
 starts_row w d (Becomes.all_stay lives begun none) = ap (λ (ns : List ℕ). numbers_to w.begun ++ ns) none ∙ append-nil (numbers_to w.begun) ∙ ap numbers_to (sym begun)
 starts_row w d (Becomes.one_changes l m own name number lives begun none) = ap (λ (ns : List ℕ). numbers_to w.begun ++ ns) none ∙ append-nil (numbers_to w.begun) ∙ ap numbers_to (sym begun)
 starts_row w d (Becomes.one_ends l own lives begun none) = ap (λ (ns : List ℕ). numbers_to w.begun ++ ns) none ∙ append-nil (numbers_to w.begun) ∙ ap numbers_to (sym begun)
@@ -307,9 +307,9 @@ starts_row w d (Becomes.one_begins m free number lives begun some) = ap (λ (ns 
     next : (n : ℕ) → numbers_to n ++ (n + 1) ∷ [] ≡ numbers_to (n + 1)
     next n = let e : n + 1 ≡ suc n = omega arith in rw e refl
 
-starts_step : (w : World) (e : Event) (o : Outcome) (v : World) → Gives w e o v → numbers_to w.begun ++ started o.effect ≡ numbers_to v.begun
+starts_step : (w : World) (e : Event) (o : Outcome) (v : World) → Gives w e o v → numbers_to w.begun ++ started_by o.effect ≡ numbers_to v.begun
 starts_step w e o v g =
-    ap (λ (p : Outcome). numbers_to w.begun ++ started p.effect) g.2
+    ap (λ (p : Outcome). numbers_to w.begun ++ started_by p.effect) g.2
     ∙ starts_row w g.0 (becomes w e g.0 g.1)
     ∙ ap numbers_to (sym (ap (λ (u : World). u.begun) g.3 ∙ (behind_lives w g.0).1))
 
@@ -318,7 +318,7 @@ starts_run w [] [] v run = append-nil (numbers_to w.begun) ∙ ap (λ (u : World
 starts_run w [] (o ∷ os) v run = absurd run
 starts_run w (e ∷ es) [] v run = absurd run
 starts_run w (e ∷ es) (o ∷ os) v run =
-    sym (append_assoc (numbers_to w.begun) (started o.effect) (all_started os))
+    sym (append_assoc (numbers_to w.begun) (started_by o.effect) (all_started os))
     ∙ ap (λ (ns : List ℕ). ns ++ all_started os) (starts_step w e o run.0 run.1)
     ∙ starts_run run.0 es os v run.2
 

@@ -24,7 +24,7 @@ use Rattle.session_engine.specs.World.{World, Going, life_of, session_of, with_n
 use Rattle.session_engine.specs.Refused.{refusals, takes_memory}
 use Rattle.session_engine.specs.Does.{Does, MayDo, ChildDoes, CommandDoes, Gives, Runs, behind, does, ends_life, evaluates, steps, tells}
 use Rattle.session_engine.specs.Apart.{is_refusal}
-use Rattle.session_engine.specs.Laws.{EachEventHasAnOutcome, AnEventDoesOneThing, OutcomesLeadToOneWorld, wants_memory, may_want}
+use Rattle.session_engine.specs.Laws.{EachEventHasAnOutcome, AnEventDoesOneThing, OutcomesLeadToOneWorld, lacks_memory, may_want}
 
 -- Every event does something.
 
@@ -77,13 +77,13 @@ module _ (one : OneReading) (w : World) where
   one_of_child l child.StopFault d f a b = a ∙ sym b
 
   one_of_command : (c : Command) (r : Option Refusal) (d f : Does) → CommandDoes w c r d → CommandDoes w c r f
-      → (d ≡ f) ⊎ ((takes_memory c ≡ true) × ((d ≡ wants_memory w) ⊎ (f ≡ wants_memory w)))
+      → (d ≡ f) ⊎ ((takes_memory c ≡ true) × ((d ≡ lacks_memory w) ⊎ (f ≡ lacks_memory w)))
   one_of_command c (Some r) d f a b = inl (a ∙ sym b)
   one_of_command c None d f (inl a) (inl b) = inl (a ∙ sym b)
   one_of_command c None d f (inr a) b = inr (a.0, inl a.1)
   one_of_command c None d f (inl a) (inr b) = inr (b.0, inr b.1)
 
-  one_does : (e : Event) (d f : Does) → MayDo w e d → MayDo w e f → (d ≡ f) ⊎ ((may_want e ≡ true) × ((d ≡ wants_memory w) ⊎ (f ≡ wants_memory w)))
+  one_does : (e : Event) (d f : Does) → MayDo w e d → MayDo w e f → (d ≡ f) ⊎ ((may_want e ≡ true) × ((d ≡ lacks_memory w) ⊎ (f ≡ lacks_memory w)))
   one_does (event.Command c) d f a b = one_of_command c (first_of (refusals w c)) d f a b
   one_does (event.Child name number e) d f a b = inl (one_of_child (with_number number (life_of w name)) e d f a b)
 
@@ -112,9 +112,9 @@ module _ (one : OneReading) (w : World) where
       go None = refl
       go (Some l) = refl
 
-  differs : (c : Command) (d f : Does) → d ≡ does w c → f ≡ wants_memory w → d.told ≡ f.told → ⊥
+  differs : (c : Command) (d f : Does) → d ≡ does w c → f ≡ lacks_memory w → d.told ≡ f.told → ⊥
   differs c d f a b same =
-      let t : (does w c).told ≡ (wants_memory w).told = ap (λ (x : Does). x.told) (sym a) ∙ same ∙ ap (λ (x : Does). x.told) b in
+      let t : (does w c).told ≡ (lacks_memory w).told = ap (λ (x : Does). x.told) (sym a) ∙ same ∙ ap (λ (x : Does). x.told) b in
       let no : false ≡ true = sym (accepts c) ∙ ap (λ (o : Outcome). is_refusal o.reply) t in
       cc
 

@@ -140,7 +140,7 @@ module _ (w : World) (b : List Op) (h : Sound w) (allowed : Allowed b) (same : s
         ops = b ++ o ∷ [];
         is = ap (with_op o) (
             sym (ap (λ (n : List ℕ). with_item (by_ops b w) n i (life_of w n)) (session_same w b same id)
-                ∙ ap (λ (j : Item). with_item (by_ops b w) other j (life_of w other)) (line_same w b same id))
+            ∙ ap (λ (j : Item). with_item (by_ops b w) other j (life_of w other)) (line_same w b same id))
             ∙ item_same w b name i (life_of w name));
         same = ap (λ (os : List Op). sheet_of (os ++ o ∷ [])) (ops_item w name i (life_of w name)) ∙ same_next w.ops b o h.allowed same next;
         allowed = allowed_goes_on b o allowed (subst (λ (s : Contents). first_refusal s o ≡ None) same next);
@@ -173,13 +173,13 @@ module _ (w : World) (b : List Op) (h : Sound w) (allowed : Allowed b) (same : s
       go (Some r) e there done = nothing (event.Command c) o v done.1 (subst (λ (f : Option Refusal). Commanded (by_ops b w) c f o (by_ops b w)) (sym there) (done.0, refl))
       go None e there done = ⊎_elim
           (λ yes.
-              let l = leads_on c e in
-              record {
-                ops = l.ops;
-                gives = subst (λ (f : Option Refusal). Commanded (by_ops b w) c f o (by_ops l.ops v)) (sym there) (inl (yes.0 ∙ outcome_same w b same c, ap (by_ops l.ops) yes.1 ∙ sym l.is));
-                same = subst (λ (u : World). sheet_of u.ops ≡ sheet_of l.ops) (sym yes.1) l.same;
-                allowed = l.allowed;
-              })
+          let l = leads_on c e in
+          record {
+            ops = l.ops;
+            gives = subst (λ (f : Option Refusal). Commanded (by_ops b w) c f o (by_ops l.ops v)) (sym there) (inl (yes.0 ∙ outcome_same w b same c, ap (by_ops l.ops) yes.1 ∙ sym l.is));
+            same = subst (λ (u : World). sheet_of u.ops ≡ sheet_of l.ops) (sym yes.1) l.same;
+            allowed = l.allowed;
+          })
           (λ no. nothing (event.Command c) o v no.2 (subst (λ (f : Option Refusal). Commanded (by_ops b w) c f o (by_ops b w)) (sym there) (inr (no.0, no.1, refl))))
           done
 

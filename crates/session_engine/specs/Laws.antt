@@ -28,8 +28,8 @@ abbrev pub EachEventHasAnOutcome : Type 0
 EachEventHasAnOutcome = (w : World) (e : Event) → (o : Outcome) × (v : World) × Gives w e o v
 
 -- a refusal for want of memory
-abbrev pub wants_memory : World → Does
-wants_memory w = tells w (reply.Refused refusal.OutOfMemory)
+abbrev pub lacks_memory : World → Does
+lacks_memory w = tells w (reply.Refused refusal.OutOfMemory)
 
 -- an event that may be refused so
 abbrev pub may_want : Event → Bool
@@ -39,7 +39,7 @@ may_want (event.Child name number e) = false
 -- What an event does in a world is settled, but that a command may be refused for want of memory.
 abbrev pub AnEventDoesOneThing : Type 0
 AnEventDoesOneThing = (w : World) (e : Event) (d f : Does) → MayDo w e d → MayDo w e f
-    → (d ≡ f) ⊎ ((may_want e ≡ true) × ((d ≡ wants_memory w) ⊎ (f ≡ wants_memory w)))
+    → (d ≡ f) ⊎ ((may_want e ≡ true) × ((d ≡ lacks_memory w) ⊎ (f ≡ lacks_memory w)))
 
 -- What was told settles where events have led.
 abbrev pub OutcomesLeadToOneWorld : Type 0
@@ -48,16 +48,16 @@ OutcomesLeadToOneWorld = (w : World) (es : List Event) (os : List Outcome) (v u 
 -- The numbers of lives.
 
 -- the number of the life that an effect starts
-abbrev pub started : Option Effect → List ℕ
-started None = []
-started (Some (effect.Start name number words)) = number ∷ []
-started (Some (effect.Send name number bytes)) = []
-started (Some (effect.Kill name number)) = []
+abbrev pub started_by : Option Effect → List ℕ
+started_by None = []
+started_by (Some (effect.Start name number words)) = number ∷ []
+started_by (Some (effect.Send name number bytes)) = []
+started_by (Some (effect.Kill name number)) = []
 
 -- those of all lives that these outcomes start, in order
 abbrev pub all_started : List Outcome → List ℕ
 all_started [] = []
-all_started (o ∷ os) = started o.effect ++ all_started os
+all_started (o ∷ os) = started_by o.effect ++ all_started os
 
 -- 1, 2 and so on, up to this number
 abbrev pub numbers_to : ℕ → List ℕ

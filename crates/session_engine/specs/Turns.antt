@@ -18,7 +18,7 @@ use Rattle.plugin_core.specs.Past.{received, stream_of, items_of}
 use Rattle.plugin_core.specs.Items.{prompt_of}
 use Rattle.plugin_core.specs.Steps.{Reads}
 use Rattle.plugin_core.specs.AskPoints.{IsAnswer}
-use Rattle.session_engine.specs.Host.{EndsAt}
+use Rattle.session_engine.specs.Host.{EndsAt, HostView}
 use Rattle.session_engine.specs.declared.command.Command.TheVariants as command
 use Rattle.session_engine.specs.declared.event.ChildEvent.TheVariants as child
 use Rattle.session_engine.specs.declared.event.Event.{Event}
@@ -26,6 +26,7 @@ use Rattle.session_engine.specs.declared.event.Event.TheVariants as event
 use Rattle.session_engine.specs.declared.outcome.Outcome.{Outcome}
 use Rattle.session_engine.specs.World.{World, Going, opened, sheet_in, life_of, with_number}
 use Rattle.session_engine.specs.Does.{Gives, Runs}
+use Rattle.session_engine.specs.Crash.{LeftAmong, HasPlayed}
 
 -- What a field shows.
 
@@ -91,6 +92,15 @@ pub record Turned (room : ℕ) (before : Image) (found : List Op) (turn : Turn) 
   pub run : Runs (opened found room end) taken (turn.told ++ untold) leads
   pub ops : kept ≡ leads.ops
   pub leaves : IsSheetImage (sheet_of kept) after
+
+-- A play is such a turn of a host that was just opened: a crash inside it as one that told nothing, a crash behind it as one that
+-- told all its outcomes.
+abbrev pub PlaysAreTurns : Type 0
+PlaysAreTurns = (room end : ℕ) (before : Image) (found : List Op) → Allowed found → IsSheetImage (sheet_of found) before → EndsAt before end
+    → (events : List Event) (told : List Outcome) (after : Image)
+    → (LeftAmong (opened found room end) events told after → (kept : List Op) × Turned room before found (record { events = events; told = [] }) after kept)
+    × ((rest : List Event) (host : HostView) (played : HasPlayed (opened found room end) events rest told host) → IsSheetImage (sheet_in played.leads) after
+    → (kept : List Op) × Turned room before found (record { events = events; told = told }) after kept)
 
 -- Each of these hosts was opened on the image that the one before it left, as an image of the worksheet of some ops.
 abbrev pub EachTurned : ℕ → Image → List Turn → Image → Type 0

@@ -19,7 +19,7 @@ use std::alloc::Global;
 use worksheet::{Field, Name, Op, Refusal};
 
 /// The most lives that a host begins.
-pub const MOST_LIVES: u32 = 100_000;
+pub(crate) const MOST_LIVES: u32 = 100_000;
 
 /// The line of a field.
 fn line_of(alloc: Global, field: &Field) -> Result<Item, OutOfMemory>

@@ -1,6 +1,6 @@
 //! Laws of the definitions that the contracts cite (docs/HOST.md, "Laws"). Each function does nothing: its contract is the law.
 ghost use Rattle.session_engine.specs.Apart.{OthersAreSilent, SessionsAreApart, SessionsSeeTheirOwn};
-ghost use Rattle.session_engine.specs.Turns.{EvaluatedAnew, LivesInTurn};
+ghost use Rattle.session_engine.specs.Turns.{EvaluatedAnew, LivesInTurn, PlaysAreTurns};
 ghost use Rattle.session_engine.specs.Laws.{AnEventDoesOneThing, EachEventHasAnOutcome, NothingIsShownInFlight, NothingOfAnEndedLife, NumbersAreGivenOnce, OutcomesLeadToOneWorld};
 
 /// A session is told the same whatever others' interpreters do: two histories without refusals from
@@ -29,6 +29,11 @@ pub fn others_are_silent()
 /// field that shows an answer shows what was found first, or the whole block that answered its line.
 pub fn lives_in_turn()
     ensures { LivesInTurn }
+{}
+
+/// A play of events on a host that was just opened is such a turn, wherever a crash comes in it.
+pub fn plays_are_turns()
+    ensures { PlaysAreTurns }
 {}
 
 /// What a field shows behind an accepted evaluation of it is what a whole block answered behind it, or

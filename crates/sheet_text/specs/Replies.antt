@@ -1,4 +1,4 @@
--- What is told of a life, in print. (docs/SCRIPT.md, "What is printed".)
+-- What is told of a life, in print. (docs/SCRIPT.md, "What is written".)
 use Rattle.std.specs.Prelude.{ℕ, List, [], ◌∷◌, ◌++◌, length, Option, Some, None, codes}
 use Rattle.std.specs.Fmt.{decimal}
 use Rattle.plugin_core.specs.declared.step.Reason.{Reason}

@@ -1,0 +1,108 @@
+-- Worked examples of the definitions.
+use Rattle.std.proofs.Common.{◌≡◌, ℕ, List, [], ◌∷◌, refl, Bool, true, false, Option, Some, None}
+use Rattle.worksheet.specs.declared.op.Op.{Op}
+use Rattle.worksheet.specs.declared.op.Op.TheVariants as op
+use Rattle.worksheet.specs.declared.refusal.Refusal.TheVariants as refusal
+use Rattle.worksheet.specs.Checks.{first_of}
+use Rattle.plugin_core.specs.declared.item.Item.TheVariants as item
+use Rattle.plugin_core.specs.declared.step.Reason.TheVariants as reason
+use Rattle.session_engine.specs.declared.command.Command.TheVariants as command
+use Rattle.session_engine.specs.declared.event.ChildEvent.TheVariants as child
+use Rattle.session_engine.specs.declared.event.Event.TheVariants as event
+use Rattle.session_engine.specs.declared.outcome.Effect.TheVariants as effect
+use Rattle.session_engine.specs.declared.outcome.Outcome.{Outcome}
+use Rattle.session_engine.specs.declared.reply.Reply.TheVariants as reply
+use Rattle.session_engine.specs.World.{World, opened, life_of, with_number}
+use Rattle.session_engine.specs.Refused.{refusals}
+use Rattle.session_engine.specs.Does.{Does, behind, does, ends_life, replies, MayDo}
+
+-- session a with the word p, and its fields 1 (x) and 2 (y)
+
+abbrev a : List ℕ
+a = 97 ∷ []
+
+abbrev p : List ℕ
+p = 112 ∷ []
+
+abbrev x : List ℕ
+x = 120 ∷ []
+
+abbrev y : List ℕ
+y = 121 ∷ []
+
+abbrev ops : List Op
+ops = op.Session a false (p ∷ []) ∷ op.New 0 a x ∷ op.New 1 a y ∷ []
+
+abbrev start : World
+start = opened ops 1000 53
+
+-- field 1 was evaluated
+abbrev asked : World
+asked = behind start (does start (command.Eval 1))
+
+-- and then field 2
+abbrev asked_twice : World
+asked_twice = behind asked (does asked (command.Eval 2))
+
+-- the first evaluation begins life 1 with the session's words, and the second joins it
+begins_a_life : (does start (command.Eval 1)).told ≡ record { reply = reply.Asked 1; effect = Some (effect.Start a 1 (p ∷ [])) }
+begins_a_life = refl
+
+joins_the_life : (does asked (command.Eval 2)).told ≡ replies (reply.Asked 1)
+joins_the_life = refl
+
+-- a field in flight isn't set, removed, cleared or evaluated, and may be moved
+not_removed : first_of (refusals asked (command.Remove 1)) ≡ Some refusal.InFlight
+not_removed = refl
+
+not_set : first_of (refusals asked (command.Set 1 y)) ≡ Some refusal.InFlight
+not_set = refl
+
+not_evaluated : first_of (refusals asked (command.Eval 1)) ≡ Some refusal.InFlight
+not_evaluated = refl
+
+moved : first_of (refusals asked (command.Move 1 2)) ≡ None
+moved = refl
+
+not_moved : first_of (refusals asked (command.Move 1 0)) ≡ Some refusal.SamePlace
+not_moved = refl
+
+-- at the end of the life both lines are lost, in order, and the child is killed
+end_loses_both : (ends_life asked_twice reason.Ended true (life_of asked_twice a) reply.Nothing).told
+    ≡ record {
+      reply = reply.Child (record { name = a; life = 1; closed = None; default_input = None; ended = Some (record { reason = reason.Ended; lost = item.Line 1 x ∷ item.Line 2 y ∷ [] }) });
+      effect = Some (effect.Kill a 1);
+    }
+end_loses_both = refl
+
+-- the start of life 1 is refused, and the next life has number 2
+abbrev refused_start : World
+refused_start = behind asked (ends_life asked reason.StartRefused false (life_of asked a) reply.Nothing)
+
+next_life : (does refused_start (command.Eval 1)).told ≡ record { reply = reply.Asked 2; effect = Some (effect.Start a 2 (p ∷ [])) }
+next_life = refl
+
+-- an event of a life that doesn't go on does nothing
+stale : MayDo refused_start (event.Child a 1 child.End) (record { told = replies reply.Nothing; op = None; begun = 1; lives = [] })
+stale = refl
+
+-- where the record of the Clear ends behind the room, an evaluation is refused
+no_room : first_of (refusals (opened ops 62 53) (command.Eval 1)) ≡ Some refusal.JournalFull
+no_room = refl
+
+room : first_of (refusals (opened ops 64 53) (command.Eval 1)) ≡ None
+room = refl
+
+-- behind 100,000 lives none begins
+lives_spent : first_of (refusals (record start { begun = 100000 }) (command.Eval 1)) ≡ Some refusal.LivesSpent
+lives_spent = refl
+
+no_field : first_of (refusals start (command.Eval 3)) ≡ Some refusal.NoField
+no_field = refl
+
+no_session : first_of (refusals start (command.Stop p)) ≡ Some refusal.NoSession
+no_session = refl
+
+-- a session that isn't running is stopped already
+already_down : (does start (command.Stop a)).told ≡ replies reply.Done
+already_down = refl
