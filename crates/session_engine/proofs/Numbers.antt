@@ -213,6 +213,7 @@ record Numbered (w : World) : Type 0 where
   names : (name : List ℕ) → total (is_named name) w.lives ≤ 1
   numbers : (number : ℕ) → total (is_numbered number) w.lives ≤ 1
   given : (number : ℕ) → w.begun < number → total (is_numbered number) w.lives ≡ 0
+  not_zero : total (is_numbered 0) w.lives ≡ 0
 
 one_named : (name : List ℕ) (w : World) (m : Going) → life_of w m.name ≡ None → total (is_named name) w.lives ≤ 1 → total (is_named name) w.lives + is_named name m ≤ 1
 one_named name w m free le = go (bytes_eq m.name name) refl
@@ -240,6 +241,9 @@ none_yet number w m new lt h = go (m.number == number) refl
     go true e = let same : m.number ≡ number = grind (arith, nat_tests, e) in absurd (omega (arith, new, same, lt))
     go false e = let nil = h.given number (omega (arith, lt)) in omega (arith, nil)
 
+no_zero : (w : World) (m : Going) → m.number ≡ w.begun + 1 → is_numbered 0 m ≡ 0
+no_zero w m new = let e : (m.number == 0) ≡ false = grind (arith, nat_tests, new) in rw e refl
+
 numbered_step : (w : World) (e : Event) (o : Outcome) (v : World) → Numbered w → Gives w e o v → Numbered v
 numbered_step w e o v h g = record {
   names = λ name.
@@ -256,6 +260,10 @@ numbered_step w e o v h g = record {
       let nil = h.given number (omega (arith, bound, lt)) in
       ⊎_elim (λ less. omega (arith, nil, less))
       (λ new. let none = none_yet number w new.0 new.2 (let more = new.3 in omega (arith, more, lt)) h in let eq = new.4 in omega (arith, none, eq)) c.sum;
+  not_zero =
+      let c = counts (is_numbered 0) (numbered_by 0) w e o v g in
+      let nil = h.not_zero in
+      ⊎_elim (λ less. omega (arith, nil, less)) (λ new. let none = no_zero w new.0 new.2 in let eq = new.4 in omega (arith, nil, none, eq)) c.sum;
 }
 
 numbered_run : (w : World) (es : List Event) (os : List Outcome) (v : World) → Numbered w → Runs w es os v → Numbered v
@@ -265,7 +273,7 @@ numbered_run w (e ∷ es) [] v h run = absurd run
 numbered_run w (e ∷ es) (o ∷ os) v h run = numbered_run run.0 es os v (numbered_step w e o run.0 h run.1) run.2
 
 numbered_first : (ops : List Op) (room end : ℕ) → Numbered (opened ops room end)
-numbered_first ops room end = record { names = λ name. omega arith; numbers = λ number. omega arith; given = λ number lt. refl }
+numbered_first ops room end = record { names = λ name. omega arith; numbers = λ number. omega arith; given = λ number lt. refl; not_zero = refl }
 
 -- The same in the words of the law.
 
@@ -293,7 +301,7 @@ are_numbered : (w : World) → Numbered w → AreNumbered w
 are_numbered w h = record {
   names = λ name. let a = h.names name in let e = named_are name w.lives in omega (arith, a, e);
   numbers = λ number. let a = h.numbers number in let e = numbered_are number w.lives in omega (arith, a, e);
-  given = λ number lt. empty (numbered number w.lives) (numbered_are number w.lives ∙ h.given number lt);
+  given = λ number not_given. empty (numbered number w.lives) (numbered_are number w.lives ∙ ⊎_elim (λ is. ap (λ (n : ℕ). total (is_numbered n) w.lives) is ∙ h.not_zero) (h.given number) not_given);
 }
 
 -- Starts are told with one number after another.

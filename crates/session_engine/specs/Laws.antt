@@ -73,7 +73,7 @@ numbered number (l ∷ ls) = if l.number == number then l ∷ numbered number ls
 pub record AreNumbered (w : World) : Type 0 where
   pub names : (name : List ℕ) → length (named name w.lives) ≤ 1
   pub numbers : (number : ℕ) → length (numbered number w.lives) ≤ 1
-  pub given : (number : ℕ) → w.begun < number → numbered number w.lives ≡ []
+  pub given : (number : ℕ) → (number ≡ 0) ⊎ (w.begun < number) → numbered number w.lives ≡ []
 
 -- The lives that a host starts are numbered 1, 2 and so on. So no number is given twice.
 abbrev pub NumbersAreGivenOnce : Type 0
