@@ -283,12 +283,12 @@ pub fn take<D: Disk>(host: &mut Host<D>, event: Event) -> Result<(), HostFault> 
 // Session a, and fields of it with these inputs, each behind the one before it; all evaluated.
 pub fn evaluated(alloc: Global, host: &mut Host<MemoryDisk>, inputs: &[&[u8]]) -> Result<(), Fail> {
     told(alloc, host, session(alloc, b"a", b"p")?)?;
-    let mut after = 0;
+    let mut after: u32 = 0;
     for input in inputs {
         told(alloc, host, new(alloc, after, b"a", input)?)?;
-        after += 1;
+        after = after.saturating_add(1);
     }
-    for id in 1..=after {
+    for id in 1..after.saturating_add(1) {
         told(alloc, host, eval(id))?;
     }
     Ok(())
