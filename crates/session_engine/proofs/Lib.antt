@@ -22,8 +22,8 @@ pub mod Living
 pub mod Showing
 pub mod Same
 pub mod Going
+pub mod Examples
 pub mod OneThing
 pub mod Totals
 pub mod Numbers
 pub mod InFlight
-pub mod Examples
