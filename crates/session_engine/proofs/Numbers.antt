@@ -24,23 +24,23 @@ use Rattle.session_engine.specs.declared.reply.Closed.{Closed}
 use Rattle.session_engine.specs.declared.reply.Reply.{Reply}
 use Rattle.session_engine.specs.declared.reply.Reply.TheVariants as reply
 use Rattle.session_engine.specs.Named.{first_named, without_named, replace_named}
-use Rattle.session_engine.specs.World.{World, Going, world_at_opening, life_of, line_of_field, session_of_field, with_number, with_op_if}
-use Rattle.session_engine.specs.Refused.{command_refusals}
-use Rattle.session_engine.specs.Does.{Does, MayDo, ChildDoes, CommandDoes, Gives, Runs, behind, begun_with, closed_told, does, ends_life, evaluates, joined_by, sends_or_kills, steps, tells, told_of, told_with, with_piece}
+use Rattle.session_engine.specs.World.{World, Going, opened, life_of, line_of, session_of, with_number, with_op_if}
+use Rattle.session_engine.specs.Refused.{refusals}
+use Rattle.session_engine.specs.Does.{Does, MayDo, ChildDoes, CommandDoes, Gives, Runs, behind, begun_with, closed_by, does, ends_life, evaluates, joined_by, sends_or_kills, steps, tells, told_of, told_with, with_piece}
 use Rattle.session_engine.specs.Apart.{named}
-use Rattle.session_engine.specs.Laws.{AreNumbered, NumbersAreGivenOnce, NothingOfAnEndedLife, all_started, lives_numbered, numbers_to, started}
+use Rattle.session_engine.specs.Laws.{AreNumbered, NumbersAreGivenOnce, NothingOfAnEndedLife, all_started, numbered, numbers_to, started_by}
 use Rattle.session_engine.proofs.Tables.{first_has_name}
 use Rattle.session_engine.proofs.ApartLives.{same_name, is_itself}
 use Rattle.session_engine.proofs.Totals.{total, total-put, total-out, total-push, total-below}
 
 -- What becomes of the lives: all stay as they are; one changes, which keeps its name and its number; one ends; or one begins, of
--- a session that has none, and is started with the next number.
+-- a session that has none, and is started_by with the next number.
 pub data Becomes (w : World) (d : Does) : Type 0 where
-  all_stay : d.lives ≡ w.lives → d.begun ≡ w.begun → started d.told.effect ≡ [] → Becomes w d
+  all_stay : d.lives ≡ w.lives → d.begun ≡ w.begun → started_by d.told.effect ≡ [] → Becomes w d
   one_changes : (l m : Going) → life_of w l.name ≡ Some l → m.name ≡ l.name → m.number ≡ l.number → d.lives ≡ replace_named (λ g. g.name) l.name m w.lives
-      → d.begun ≡ w.begun → started d.told.effect ≡ [] → Becomes w d
-  one_ends : (l : Going) → life_of w l.name ≡ Some l → d.lives ≡ without_named (λ g. g.name) l.name w.lives → d.begun ≡ w.begun → started d.told.effect ≡ [] → Becomes w d
-  one_begins : (m : Going) → life_of w m.name ≡ None → m.number ≡ w.begun + 1 → d.lives ≡ w.lives ++ m ∷ [] → d.begun ≡ w.begun + 1 → started d.told.effect ≡ (w.begun + 1) ∷ []
+      → d.begun ≡ w.begun → started_by d.told.effect ≡ [] → Becomes w d
+  one_ends : (l : Going) → life_of w l.name ≡ Some l → d.lives ≡ without_named (λ g. g.name) l.name w.lives → d.begun ≡ w.begun → started_by d.told.effect ≡ [] → Becomes w d
+  one_begins : (m : Going) → life_of w m.name ≡ None → m.number ≡ w.begun + 1 → d.lives ≡ w.lives ++ m ∷ [] → d.begun ≡ w.begun + 1 → started_by d.told.effect ≡ (w.begun + 1) ∷ []
       → Becomes w d
 
 pub its_own : (w : World) (name : List ℕ) (l : Going) → life_of w name ≡ Some l → life_of w l.name ≡ Some l
@@ -54,12 +54,12 @@ with_its_number number (Some m) l h = go (m.number == number) h
     go true h = h
     go false h = cc
 
-starts_none : (name : List ℕ) (number : ℕ) (send : Option (List ℕ)) (e : Option Ended) → started (sends_or_kills name number send e) ≡ []
+starts_none : (name : List ℕ) (number : ℕ) (send : Option (List ℕ)) (e : Option Ended) → started_by (sends_or_kills name number send e) ≡ []
 starts_none name number None None = refl
 starts_none name number (Some bytes) None = refl
 starts_none name number send (Some e) = refl
 
-told_none : (name : List ℕ) (number : ℕ) (c : Option Closed) (default send : Option (List ℕ)) (e : Option Ended) → started (told_with name number c default send e).effect ≡ []
+told_none : (name : List ℕ) (number : ℕ) (c : Option Closed) (default send : Option (List ℕ)) (e : Option Ended) → started_by (told_with name number c default send e).effect ≡ []
 told_none name number None default send None = refl
 told_none name number (Some a) default send e = starts_none name number send e
 told_none name number None default send (Some e) = refl
@@ -79,18 +79,18 @@ module _ (w : World) where
   steps_so : (l : Going) (piece : List ℕ) (blocks : List _) (s : Step) → life_of w l.name ≡ Some l → Becomes w (steps w l piece blocks s)
   steps_so l piece blocks s own = go s.ended refl
     where
-      none : started (told_of l s).effect ≡ []
-      none = told_none l.name l.number (closed_told s.answered) s.default_input s.send s.ended
+      none : started_by (told_of l s).effect ≡ []
+      none = told_none l.name l.number (closed_by s.answered) s.default_input s.send s.ended
 
       go : (e : Option Ended) → s.ended ≡ e → Becomes w (steps w l piece blocks s)
       go None is = Becomes.one_changes l (with_piece l piece blocks) own refl refl (rw is refl) refl none
       go (Some e) is = Becomes.one_ends l own (rw is refl) refl none
 
   evaluates_so : (id : ℕ) (name : List ℕ) (o : Option Going) → life_of w name ≡ o → Becomes w (evaluates w id name o)
-  evaluates_so id name None h = Becomes.one_begins (begun_with w name (line_of_field w id)) h refl refl refl refl
-  evaluates_so id name (Some l) h = Becomes.one_changes l (joined_by l (line_of_field w id)) (its_own w name l h) refl refl refl refl (go (sent_by l.past l.blocks (accepted (line_of_field w id)) l.blocks))
+  evaluates_so id name None h = Becomes.one_begins (begun_with w name (line_of w id)) h refl refl refl refl
+  evaluates_so id name (Some l) h = Becomes.one_changes l (joined_by l (line_of w id)) (its_own w name l h) refl refl refl refl (go (sent_by l.past l.blocks (accepted (line_of w id)) l.blocks))
     where
-      go : (bytes : Option (List ℕ)) → started (option_map (λ bs. effect.Send name l.number bs) bytes) ≡ []
+      go : (bytes : Option (List ℕ)) → started_by (option_map (λ bs. effect.Send name l.number bs) bytes) ≡ []
       go None = refl
       go (Some bs) = refl
 
@@ -101,7 +101,7 @@ module _ (w : World) where
   does_so (command.Remove id) = Becomes.all_stay refl refl refl
   does_so (command.Move id after) = Becomes.all_stay refl refl refl
   does_so (command.Clear id) = Becomes.all_stay refl refl refl
-  does_so (command.Eval id) = evaluates_so id (session_of_field w id) (life_of w (session_of_field w id)) refl
+  does_so (command.Eval id) = evaluates_so id (session_of w id) (life_of w (session_of w id)) refl
   does_so (command.Stop name) = ends_so reason.Stopped true (life_of w name) reply.Done (λ l h. its_own w name l h)
 
   command_so : (c : Command) (r : Option Refusal) (d : Does) → CommandDoes w c r d → Becomes w d
@@ -120,7 +120,7 @@ module _ (w : World) where
   child_so o child.StopFault d own is = by_row d _ is (tells_so reply.Nothing)
 
   pub becomes : (e : Event) (d : Does) → MayDo w e d → Becomes w d
-  becomes (event.Command c) d may = command_so c (first_of (command_refusals w c)) d may
+  becomes (event.Command c) d may = command_so c (first_of (refusals w c)) d may
   becomes (event.Child name number e) d may =
       child_so (with_number number (life_of w name)) e d (λ l h. its_own w name l (with_its_number number (life_of w name) l h)) may
 
@@ -213,6 +213,7 @@ record Numbered (w : World) : Type 0 where
   names : (name : List ℕ) → total (is_named name) w.lives ≤ 1
   numbers : (number : ℕ) → total (is_numbered number) w.lives ≤ 1
   given : (number : ℕ) → w.begun < number → total (is_numbered number) w.lives ≡ 0
+  not_zero : total (is_numbered 0) w.lives ≡ 0
 
 one_named : (name : List ℕ) (w : World) (m : Going) → life_of w m.name ≡ None → total (is_named name) w.lives ≤ 1 → total (is_named name) w.lives + is_named name m ≤ 1
 one_named name w m free le = go (bytes_eq m.name name) refl
@@ -240,6 +241,9 @@ none_yet number w m new lt h = go (m.number == number) refl
     go true e = let same : m.number ≡ number = grind (arith, nat_tests, e) in absurd (omega (arith, new, same, lt))
     go false e = let nil = h.given number (omega (arith, lt)) in omega (arith, nil)
 
+no_zero : (w : World) (m : Going) → m.number ≡ w.begun + 1 → is_numbered 0 m ≡ 0
+no_zero w m new = let e : (m.number == 0) ≡ false = grind (arith, nat_tests, new) in rw e refl
+
 numbered_step : (w : World) (e : Event) (o : Outcome) (v : World) → Numbered w → Gives w e o v → Numbered v
 numbered_step w e o v h g = record {
   names = λ name.
@@ -256,6 +260,10 @@ numbered_step w e o v h g = record {
       let nil = h.given number (omega (arith, bound, lt)) in
       ⊎_elim (λ less. omega (arith, nil, less))
       (λ new. let none = none_yet number w new.0 new.2 (let more = new.3 in omega (arith, more, lt)) h in let eq = new.4 in omega (arith, none, eq)) c.sum;
+  not_zero =
+      let c = counts (is_numbered 0) (numbered_by 0) w e o v g in
+      let nil = h.not_zero in
+      ⊎_elim (λ less. omega (arith, nil, less)) (λ new. let none = no_zero w new.0 new.2 in let eq = new.4 in omega (arith, nil, none, eq)) c.sum;
 }
 
 numbered_run : (w : World) (es : List Event) (os : List Outcome) (v : World) → Numbered w → Runs w es os v → Numbered v
@@ -264,8 +272,8 @@ numbered_run w [] (o ∷ os) v h run = absurd run
 numbered_run w (e ∷ es) [] v h run = absurd run
 numbered_run w (e ∷ es) (o ∷ os) v h run = numbered_run run.0 es os v (numbered_step w e o run.0 h run.1) run.2
 
-numbered_first : (ops : List Op) (room end : ℕ) → Numbered (world_at_opening ops room end)
-numbered_first ops room end = record { names = λ name. omega arith; numbers = λ number. omega arith; given = λ number lt. refl }
+numbered_first : (ops : List Op) (room end : ℕ) → Numbered (opened ops room end)
+numbered_first ops room end = record { names = λ name. omega arith; numbers = λ number. omega arith; given = λ number lt. refl; not_zero = refl }
 
 -- The same in the words of the law.
 
@@ -277,11 +285,11 @@ named_are name (l ∷ ls) = go (bytes_eq l.name name) (named_are name ls)
     go true rest = omega (arith, rest)
     go false rest = omega (arith, rest)
 
-numbered_are : (number : ℕ) (ls : List Going) → length (lives_numbered number ls) ≡ total (is_numbered number) ls
+numbered_are : (number : ℕ) (ls : List Going) → length (numbered number ls) ≡ total (is_numbered number) ls
 numbered_are number [] = refl
 numbered_are number (l ∷ ls) = go (l.number == number) (numbered_are number ls)
   where
-    go : (b : Bool) → length (lives_numbered number ls) ≡ total (is_numbered number) ls → length (if b then l ∷ lives_numbered number ls else lives_numbered number ls) ≡ (if b then 1 else 0) + total (is_numbered number) ls
+    go : (b : Bool) → length (numbered number ls) ≡ total (is_numbered number) ls → length (if b then l ∷ numbered number ls else numbered number ls) ≡ (if b then 1 else 0) + total (is_numbered number) ls
     go true rest = omega (arith, rest)
     go false rest = omega (arith, rest)
 
@@ -293,12 +301,12 @@ are_numbered : (w : World) → Numbered w → AreNumbered w
 are_numbered w h = record {
   names = λ name. let a = h.names name in let e = named_are name w.lives in omega (arith, a, e);
   numbers = λ number. let a = h.numbers number in let e = numbered_are number w.lives in omega (arith, a, e);
-  given = λ number lt. empty (lives_numbered number w.lives) (numbered_are number w.lives ∙ h.given number lt);
+  given = λ number not_given. empty (numbered number w.lives) (numbered_are number w.lives ∙ ⊎_elim (λ is. ap (λ (n : ℕ). total (is_numbered n) w.lives) is ∙ h.not_zero) (h.given number) not_given);
 }
 
 -- Starts are told with one number after another.
 
-starts_row : (w : World) (d : Does) → Becomes w d → numbers_to w.begun ++ started d.told.effect ≡ numbers_to d.begun
+starts_row : (w : World) (d : Does) → Becomes w d → numbers_to w.begun ++ started_by d.told.effect ≡ numbers_to d.begun
 starts_row w d (Becomes.all_stay lives begun none) = ap (λ (ns : List ℕ). numbers_to w.begun ++ ns) none ∙ append-nil (numbers_to w.begun) ∙ ap numbers_to (sym begun)
 starts_row w d (Becomes.one_changes l m own name number lives begun none) = ap (λ (ns : List ℕ). numbers_to w.begun ++ ns) none ∙ append-nil (numbers_to w.begun) ∙ ap numbers_to (sym begun)
 starts_row w d (Becomes.one_ends l own lives begun none) = ap (λ (ns : List ℕ). numbers_to w.begun ++ ns) none ∙ append-nil (numbers_to w.begun) ∙ ap numbers_to (sym begun)
@@ -307,9 +315,9 @@ starts_row w d (Becomes.one_begins m free number lives begun some) = ap (λ (ns 
     next : (n : ℕ) → numbers_to n ++ (n + 1) ∷ [] ≡ numbers_to (n + 1)
     next n = let e : n + 1 ≡ suc n = omega arith in rw e refl
 
-starts_step : (w : World) (e : Event) (o : Outcome) (v : World) → Gives w e o v → numbers_to w.begun ++ started o.effect ≡ numbers_to v.begun
+starts_step : (w : World) (e : Event) (o : Outcome) (v : World) → Gives w e o v → numbers_to w.begun ++ started_by o.effect ≡ numbers_to v.begun
 starts_step w e o v g =
-    ap (λ (p : Outcome). numbers_to w.begun ++ started p.effect) g.2
+    ap (λ (p : Outcome). numbers_to w.begun ++ started_by p.effect) g.2
     ∙ starts_row w g.0 (becomes w e g.0 g.1)
     ∙ ap numbers_to (sym (ap (λ (u : World). u.begun) g.3 ∙ (behind_lives w g.0).1))
 
@@ -318,14 +326,14 @@ starts_run w [] [] v run = append-nil (numbers_to w.begun) ∙ ap (λ (u : World
 starts_run w [] (o ∷ os) v run = absurd run
 starts_run w (e ∷ es) [] v run = absurd run
 starts_run w (e ∷ es) (o ∷ os) v run =
-    sym (append_assoc (numbers_to w.begun) (started o.effect) (all_started os))
+    sym (append_assoc (numbers_to w.begun) (started_by o.effect) (all_started os))
     ∙ ap (λ (ns : List ℕ). ns ++ all_started os) (starts_step w e o run.0 run.1)
     ∙ starts_run run.0 es os v run.2
 
 pub numbers_are_given_once : NumbersAreGivenOnce
 numbers_are_given_once ops room end es os v run = (
-  starts_run (world_at_opening ops room end) es os v run,
-  are_numbered v (numbered_run (world_at_opening ops room end) es os v (numbered_first ops room end) run),
+  starts_run (opened ops room end) es os v run,
+  are_numbered v (numbered_run (opened ops room end) es os v (numbered_first ops room end) run),
 )
 
 -- A life that has ended doesn't go on again.
@@ -407,6 +415,6 @@ of_no_life w child.StopFault d is = is
 
 pub nothing_of_an_ended_life : NothingOfAnEndedLife
 nothing_of_an_ended_life ops room end es os w run name number le ended later told v more e d may =
-    let nil = none_left name number w (numbered_run (world_at_opening ops room end) es os w (numbered_first ops room end) run) ended in
+    let nil = none_left name number w (numbered_run (opened ops room end) es os w (numbered_first ops room end) run) ended in
     let none = not_on name number v.lives (ended_run name number w later told v more le nil) in
     of_no_life v e d (subst (λ (o : Option Going). ChildDoes v o e d) none may)
