@@ -172,7 +172,7 @@ fn follow<D: Disk, C: Children>(
 /// Takes a command, carries its effect out, and takes the fault that the effect meets likewise.
 ///
 /// The run is faithful: each effect is one call on the children and each fault of such a call the
-/// next event, and nothing else happens (docs/HOST.md, "A faithful run"). The replies are those of
+/// next event, and nothing else happens (docs/EDGE.md, "A faithful run"). The replies are those of
 /// its events but `Nothing`: at most three.
 ///
 /// `OutOfMemory`: the command was dropped before it was taken, and nothing happened. `Host`: the
