@@ -5,7 +5,7 @@ use Rattle.worksheet.specs.declared.field.Session.{Session}
 use Rattle.session_engine.specs.World.{World, Going, life_of, sheet_in}
 use Rattle.session_engine.specs.declared.host.LifeView.{LifeView}
 use Rattle.child_edge.specs.declared.waiting.Seat.{Seat}
-use Rattle.child_edge.specs.Seats.{view_of, seats_of, waits, numbered, lives_of, running}
+use Rattle.child_edge.specs.Seats.{life_view, seats_of, waits, numbered, lives_of, running}
 use Rattle.child_edge.specs.Faithful.{Relation}
 use Rattle.child_edge.specs.Stops.{Stops}
 
@@ -39,9 +39,9 @@ all-lives number w xs left ss e h s n =
     sym (append-nil xs) ∙ ap (λ (l : List Session). xs ++ lives_of number l) (sym e) ∙ h ∙ ap (lives_of number) s ∙ lives-same number (number_of w) n (sheet_in w).sessions
 
 -- the number that a host tells
-pub told-number : (w : World) (name : List ℕ) (view : Option LifeView) → view ≡ option_map view_of (life_of w name) → option_map (λ v. v.number) view ≡ number_of w name
+pub told-number : (w : World) (name : List ℕ) (view : Option LifeView) → view ≡ option_map life_view (life_of w name) → option_map (λ v. v.number) view ≡ number_of w name
 told-number w name view e = ap (λ (o : Option LifeView). option_map (λ v. v.number) o) e ∙ go (life_of w name)
   where
-    go : (o : Option Going) → option_map (λ v. v.number) (option_map view_of o) ≡ option_map (λ l. l.number) o
+    go : (o : Option Going) → option_map (λ v. v.number) (option_map life_view o) ≡ option_map (λ l. l.number) o
     go None = refl
     go (Some l) = refl

@@ -6,8 +6,8 @@ use Rattle.session_engine.specs.World.{World, Going, life_of, waiting_in, sheet_
 use Rattle.child_edge.specs.declared.waiting.Seat.{Seat}
 
 -- a life as a host tells it
-abbrev pub view_of : Going → LifeView
-view_of l = record { number = l.number; waiting = length (waiting_in l) }
+abbrev pub life_view : Going → LifeView
+life_view l = record { number = l.number; waiting = length (waiting_in l) }
 
 abbrev pub seat : List ℕ → ℕ → Seat
 seat name life = record { name = name; life = life }
@@ -19,7 +19,7 @@ seat_of name (Some l) = if nat_lt 0 l.waiting then seat name l.number ∷ [] els
 
 abbrev pub seats_of : World → List Session → List Seat
 seats_of w [] = []
-seats_of w (s ∷ ss) = seat_of s.name (option_map view_of (life_of w s.name)) ++ seats_of w ss
+seats_of w (s ∷ ss) = seat_of s.name (option_map life_view (life_of w s.name)) ++ seats_of w ss
 
 -- the lives in which an item waits
 unfoldable pub waits : World → List Seat

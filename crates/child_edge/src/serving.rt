@@ -7,7 +7,7 @@ ghost use Rattle.child_edge.specs.Edge.{BrokeOff, ByCause, FailsClosed, Ran, Sto
 ghost use Rattle.child_edge.specs.Calls.{Answer};
 ghost use Rattle.child_edge.specs.Answers.{sent};
 ghost use Rattle.child_edge.specs.Faithful.{at, Beat, Beats, Carried, call_of, due_of, due_after, fault_of, Served, ServedUpTo, TakenUpTo};
-ghost use Rattle.child_edge.specs.Faithful.{Hears, Taken, Turn, Waited};
+ghost use Rattle.child_edge.specs.Faithful.{Hears, Taken, OneTurn, Waited};
 ghost use Rattle.child_edge.specs.Broken.{TurnSoFar, TurnStopped, WaitSoFar, WaitStopped};
 ghost use Rattle.child_edge.specs.Told.{spoken};
 
@@ -278,7 +278,7 @@ fn turn<D: Disk, C: Children>(
 ) -> Result<(), EdgeCause>
     ensures same { SameDisk host.old.store.disk host.new.store.disk }
     ensures ok { (w : World) → IsHost host.old w
-        → OnOk result (Ran (Turn C.after listens seats.now (at w children.old)) replies.old.items
+        → OnOk result (Ran (OneTurn C.after listens seats.now (at w children.old)) replies.old.items
         host.new children.new replies.new.items) }
     ensures err { (w : World) → IsHost host.old w → IfErr result (λ cause. ByCause cause
         (BrokeOff (TurnStopped C.after listens seats.now (at w children.old)) replies.old.items
