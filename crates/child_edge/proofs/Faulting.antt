@@ -11,13 +11,13 @@ use Rattle.session_engine.specs.declared.outcome.HostFault.TheVariants as faults
 use Rattle.session_engine.specs.World.{World}
 use Rattle.session_engine.specs.Host.{HostView, IsHost}
 use Rattle.session_engine.specs.Faults.{CauseOf, Failed}
-use Rattle.child_edge.specs.Edge.{HoldsSheet, EdgeLeaves, Stopped}
+use Rattle.child_edge.specs.Edge.{HoldsSheet, LeftByFault, Stopped}
 
 -- a disk as it was holds what it held
 still_holds : (w : World) (old new : DiskView) → new ≡ old → HoldsSheet w old → HoldsSheet w new
 still_holds w old new same h = subst (λ (d : DiskView). HoldsSheet w d) (sym same) h
 
-left : (f : HostFault) (w : World) (e : Event) (old new : DiskView) → HoldsSheet w old → SameDisk old new → CauseOf w e old new f → EdgeLeaves w e old.faults new f
+left : (f : HostFault) (w : World) (e : Event) (old new : DiskView) → HoldsSheet w old → SameDisk old new → CauseOf w e old new f → LeftByFault w e old.faults new f
 left faults.Closed w e old new h same c = c
 left faults.Disk w e old new h same c = (
   c.0,
@@ -37,7 +37,7 @@ stopped_if (Err f) w e old new h failed same shut = record {
 }
 
 -- failures that were counted since later were counted since earlier
-left_since : (f : HostFault) (w : World) (e : Event) (a b : ℕ) (d : DiskView) → a ≤ b → EdgeLeaves w e b d f → EdgeLeaves w e a d f
+left_since : (f : HostFault) (w : World) (e : Event) (a b : ℕ) (d : DiskView) → a ≤ b → LeftByFault w e b d f → LeftByFault w e a d f
 left_since faults.Closed w e a b d le l = l
 left_since faults.Disk w e a b d le l = (omega (arith, le, l.0), l.1)
 left_since faults.OutOfMemory w e a b d le l = l

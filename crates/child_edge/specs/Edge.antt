@@ -24,19 +24,19 @@ HoldsSheet w disk = InModel disk (Leaves (IsSheetImage (sheet_in w)) disk.histor
 -- What a fault of an event is answered for, and which images it leaves. Where the disk failed, which had counted so many failures
 -- before, the event may give an op, and each image is one of the worksheet without it or with it. Any other fault leaves the disk
 -- as it was.
-abbrev pub EdgeLeaves : World → Event → ℕ → DiskView → HostFault → Type 0
-EdgeLeaves w e failures disk faults.Closed = ⊥
-EdgeLeaves w e failures disk faults.Disk =
+abbrev pub LeftByFault : World → Event → ℕ → DiskView → HostFault → Type 0
+LeftByFault w e failures disk faults.Closed = ⊥
+LeftByFault w e failures disk faults.Disk =
     Rises failures disk.faults × ((o : Op) × MayGive w e o × InModel disk (Leaves (IsEither w.ops o) disk.history.now))
-EdgeLeaves w e failures disk faults.OutOfMemory = HoldsSheet w disk × (is_piece w e ≡ true)
-EdgeLeaves w e failures disk faults.JournalFull = HoldsSheet w disk × (is_piece w e ≡ true) × ((o : Op) × MayGive w e o × (fits w o ≡ false))
+LeftByFault w e failures disk faults.OutOfMemory = HoldsSheet w disk × (is_piece w e ≡ true)
+LeftByFault w e failures disk faults.JournalFull = HoldsSheet w disk × (is_piece w e ≡ true) × ((o : Op) × MayGive w e o × (fits w o ≡ false))
 
 -- This fault came with this event. The host is closed; its worksheet and each life's number are as before the event.
 pub record Stopped (failures : ℕ) (h : HostView) (w : World) (e : Event) (fault : HostFault) : Type 0 where
   pub closed : h.closed ≡ true
   pub contents : h.store.sheet.contents ≡ sheet_in w
   pub numbers : (name : List ℕ) → number_in h.lives name ≡ option_map (λ l. l.number) (life_of w name)
-  pub left : EdgeLeaves w e failures h.store.disk fault
+  pub left : LeftByFault w e failures h.store.disk fault
 
 -- A run of this form came about, and leads to where the host and the children are now. Its replies stand behind those before.
 pub record Ran {C : Type 0} (Form : List Beat → At C → Type 0) (before : List Reply) (h : HostView) (c : C) (replies : List Reply) : Type 0 where

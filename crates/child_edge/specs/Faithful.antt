@@ -1,4 +1,4 @@
--- Faithful runs: every effect is one call, and every answer one event. (docs/HOST.md, "A faithful run".)
+-- Faithful runs: every effect is one call, and every answer one event. (docs/EDGE.md, "A faithful run".)
 use Rattle.std.specs.Prelude.{◌≡◌, ℕ, ◌≤◌, zero, suc, Bool, true, false, List, [], ◌∷◌, ◌++◌, Option, Some, None, length, slice_get, ◌⊎◌, nat_lt}
 use Rattle.session_engine.specs.declared.event.ChildEvent.{ChildEvent}
 use Rattle.session_engine.specs.declared.event.ChildEvent.TheVariants as child
@@ -8,7 +8,7 @@ use Rattle.session_engine.specs.declared.outcome.Effect.{Effect}
 use Rattle.session_engine.specs.declared.outcome.Effect.TheVariants.{Start, Send, Kill}
 use Rattle.session_engine.specs.declared.outcome.Outcome.{Outcome}
 use Rattle.session_engine.specs.World.{World}
-use Rattle.session_engine.specs.Does.{Does, MayDo, behind}
+use Rattle.session_engine.specs.Does.{Gives}
 use Rattle.child_edge.specs.declared.waiting.Seat.{Seat}
 use Rattle.child_edge.specs.Seats.{waits}
 use Rattle.child_edge.specs.Calls.{Call, start, send, receive, stop, Answer, done, fault, piece, end, no_memory}
@@ -61,10 +61,7 @@ Carried R c (Some f) None d = ⊥
 -- The event was taken, and its effect carried out.
 pub record Beats {C : Type 0} (R : Relation C) (s : At C) (e : Event) (b : Beat) (t : At C) : Type 0 where
   pub event : b.event ≡ e
-  pub did : Does
-  pub may : MayDo s.world e did
-  pub told : b.outcome ≡ did.told
-  pub leads : t.world ≡ behind s.world did
+  pub steps : Gives s.world e b.outcome t.world
   pub carried : Carried R s.children b.outcome.effect b.answer t.children
 
 -- From where this event is due, if one is, these come, each due by the one before it, up to where that one is due.
@@ -117,14 +114,14 @@ abbrev pub TakenUpTo : {C : Type 0} → Relation C → Bool → Seat → At C �
 TakenUpTo R listens seat s bs left t = Taken R listens (Some left) seat s bs t
 
 -- a turn: each of these lives once, in order
-abbrev pub Turn : {C : Type 0} → Relation C → Bool → List Seat → At C → List Beat → At C → Type 0
-Turn R listens seats s bs t = EachOf (Taken R listens None) seats s bs t
+abbrev pub OneTurn : {C : Type 0} → Relation C → Bool → List Seat → At C → List Beat → At C → Type 0
+OneTurn R listens seats s bs t = EachOf (Taken R listens None) seats s bs t
 
 -- So many turns, each of the lives in which an item waits as it begins. A turn behind the most that listen tells that they stalled.
 abbrev pub Turns : {C : Type 0} → Relation C → ℕ → ℕ → At C → List Beat → At C → Type 0
 Turns R most zero s bs t = (bs ≡ []) × (t ≡ s)
 Turns {C = C} R most (suc n) s bs t =
-    (mid : At C) × (before : List Beat) × (last : List Beat) × Turns R most n s before mid × Turn R (nat_lt n most) (waits mid.world) mid last t × (bs ≡ before ++ last)
+    (mid : At C) × (before : List Beat) × (last : List Beat) × Turns R most n s before mid × OneTurn R (nat_lt n most) (waits mid.world) mid last t × (bs ≡ before ++ last)
 
 -- A wait: turns until no item waits, or all that listen and one in which those that still wait stall.
 abbrev pub Waited : {C : Type 0} → Relation C → ℕ → At C → List Beat → At C → Type 0

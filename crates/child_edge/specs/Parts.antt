@@ -40,17 +40,17 @@ gives gs = gives_of (slice_get gs 0)
 abbrev pub Receives : List Got → Answer → List Got → Type 0
 Receives gs a hs = ((a ≡ gives gs) × (hs ≡ drop 1 gs)) ⊎ ((a ≡ no_memory) × (hs ≡ gs))
 
-abbrev pub part_after_send : Part → Part
-part_after_send p = record p { sends = drop 1 p.sends }
+abbrev pub after_send : Part → Part
+after_send p = record p { sends = drop 1 p.sends }
 
-abbrev pub heard_by : List Got → Part → Part
-heard_by gs p = record p { receives = gs }
+abbrev pub after_receive : List Got → Part → Part
+after_receive gs p = record p { receives = gs }
 
 -- of two parts with one name and life the first counts, and to a life without a part every call is a fault
 abbrev pub ByParts : List Part → Call → Answer → List Part → Type 0
 ByParts ps (start name life words) a qs = (qs ≡ ps) × ByFirst (position (is_of name life) ps) ps (a ≡ fault) (λ i p. a ≡ done_if p.start)
 ByParts ps (send name life bytes) a qs =
-    ByFirst (position (is_of name life) ps) ps ((a ≡ fault) × (qs ≡ ps)) (λ i p. (a ≡ sends p.sends) × (qs ≡ slice_set ps i (part_after_send p)))
+    ByFirst (position (is_of name life) ps) ps ((a ≡ fault) × (qs ≡ ps)) (λ i p. (a ≡ sends p.sends) × (qs ≡ slice_set ps i (after_send p)))
 ByParts ps (receive name life) a qs =
-    ByFirst (position (is_of name life) ps) ps ((a ≡ fault) × (qs ≡ ps)) (λ i p. ((a ≡ gives p.receives) × (qs ≡ slice_set ps i (heard_by (drop 1 p.receives) p))) ⊎ ((a ≡ no_memory) × (qs ≡ ps)))
+    ByFirst (position (is_of name life) ps) ps ((a ≡ fault) × (qs ≡ ps)) (λ i p. ((a ≡ gives p.receives) × (qs ≡ slice_set ps i (after_receive (drop 1 p.receives) p))) ⊎ ((a ≡ no_memory) × (qs ≡ ps)))
 ByParts ps (stop name life) a qs = (qs ≡ ps) × ByFirst (position (is_of name life) ps) ps (a ≡ fault) (λ i p. a ≡ done_if p.stop)

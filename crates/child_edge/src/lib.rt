@@ -7,6 +7,8 @@ pub mod processes;
 pub mod scripted;
 pub mod serving;
 mod stopping;
+#[cfg(test)]
+mod tests;
 mod waiting;
 
 pub use children::{ChildFault, Children, ReceiveFault, Received};

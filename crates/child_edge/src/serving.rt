@@ -7,7 +7,7 @@ ghost use Rattle.child_edge.specs.Edge.{BrokeOff, ByCause, FailsClosed, Ran, Sto
 ghost use Rattle.child_edge.specs.Calls.{Answer};
 ghost use Rattle.child_edge.specs.Answers.{sent};
 ghost use Rattle.child_edge.specs.Faithful.{at, Beat, Beats, Carried, call_of, due_of, due_after, fault_of, Served, ServedUpTo, TakenUpTo};
-ghost use Rattle.child_edge.specs.Faithful.{Hears, Taken, Turn, Waited};
+ghost use Rattle.child_edge.specs.Faithful.{Hears, Taken, OneTurn, Waited};
 ghost use Rattle.child_edge.specs.Broken.{TurnSoFar, TurnStopped, WaitSoFar, WaitStopped};
 ghost use Rattle.child_edge.specs.Told.{spoken};
 
@@ -172,7 +172,7 @@ fn follow<D: Disk, C: Children>(
 /// Takes a command, carries its effect out, and takes the fault that the effect meets likewise.
 ///
 /// The run is faithful: each effect is one call on the children and each fault of such a call the
-/// next event, and nothing else happens (docs/HOST.md, "A faithful run"). The replies are those of
+/// next event, and nothing else happens (docs/EDGE.md, "A faithful run"). The replies are those of
 /// its events but `Nothing`: at most three.
 ///
 /// `OutOfMemory`: the command was dropped before it was taken, and nothing happened. `Host`: the
@@ -278,7 +278,7 @@ fn turn<D: Disk, C: Children>(
 ) -> Result<(), EdgeCause>
     ensures same { SameDisk host.old.store.disk host.new.store.disk }
     ensures ok { (w : World) → IsHost host.old w
-        → OnOk result (Ran (Turn C.after listens seats.now (at w children.old)) replies.old.items
+        → OnOk result (Ran (OneTurn C.after listens seats.now (at w children.old)) replies.old.items
         host.new children.new replies.new.items) }
     ensures err { (w : World) → IsHost host.old w → IfErr result (λ cause. ByCause cause
         (BrokeOff (TurnStopped C.after listens seats.now (at w children.old)) replies.old.items

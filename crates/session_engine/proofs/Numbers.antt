@@ -24,11 +24,11 @@ use Rattle.session_engine.specs.declared.reply.Closed.{Closed}
 use Rattle.session_engine.specs.declared.reply.Reply.{Reply}
 use Rattle.session_engine.specs.declared.reply.Reply.TheVariants as reply
 use Rattle.session_engine.specs.Named.{first_named, without_named, replace_named}
-use Rattle.session_engine.specs.World.{World, Going, opened, life_of, line_of, session_of, with_number, with_op_if}
-use Rattle.session_engine.specs.Refused.{refusals}
-use Rattle.session_engine.specs.Does.{Does, MayDo, ChildDoes, CommandDoes, Gives, Runs, behind, begun_with, closed_by, does, ends_life, evaluates, joined_by, sends_or_kills, steps, tells, told_of, told_with, with_piece}
+use Rattle.session_engine.specs.World.{World, Going, world_at_opening, life_of, line_of_field, session_of_field, with_number, with_op_if}
+use Rattle.session_engine.specs.Refused.{command_refusals}
+use Rattle.session_engine.specs.Does.{Does, MayDo, ChildDoes, CommandDoes, Gives, Runs, behind, begun_with, closed_told, does, ends_life, evaluates, joined_by, sends_or_kills, steps, tells, told_of, told_with, with_piece}
 use Rattle.session_engine.specs.Apart.{named}
-use Rattle.session_engine.specs.Laws.{AreNumbered, NumbersAreGivenOnce, NothingOfAnEndedLife, all_started, numbered, numbers_to, started_by}
+use Rattle.session_engine.specs.Laws.{AreNumbered, NumbersAreGivenOnce, NothingOfAnEndedLife, all_started, lives_numbered, numbers_to, started_by}
 use Rattle.session_engine.proofs.Tables.{first_has_name}
 use Rattle.session_engine.proofs.ApartLives.{same_name, is_itself}
 use Rattle.session_engine.proofs.Totals.{total, total-put, total-out, total-push, total-below}
@@ -80,15 +80,15 @@ module _ (w : World) where
   steps_so l piece blocks s own = go s.ended refl
     where
       none : started_by (told_of l s).effect ≡ []
-      none = told_none l.name l.number (closed_by s.answered) s.default_input s.send s.ended
+      none = told_none l.name l.number (closed_told s.answered) s.default_input s.send s.ended
 
       go : (e : Option Ended) → s.ended ≡ e → Becomes w (steps w l piece blocks s)
       go None is = Becomes.one_changes l (with_piece l piece blocks) own refl refl (rw is refl) refl none
       go (Some e) is = Becomes.one_ends l own (rw is refl) refl none
 
   evaluates_so : (id : ℕ) (name : List ℕ) (o : Option Going) → life_of w name ≡ o → Becomes w (evaluates w id name o)
-  evaluates_so id name None h = Becomes.one_begins (begun_with w name (line_of w id)) h refl refl refl refl
-  evaluates_so id name (Some l) h = Becomes.one_changes l (joined_by l (line_of w id)) (its_own w name l h) refl refl refl refl (go (sent_by l.past l.blocks (accepted (line_of w id)) l.blocks))
+  evaluates_so id name None h = Becomes.one_begins (begun_with w name (line_of_field w id)) h refl refl refl refl
+  evaluates_so id name (Some l) h = Becomes.one_changes l (joined_by l (line_of_field w id)) (its_own w name l h) refl refl refl refl (go (sent_by l.past l.blocks (accepted (line_of_field w id)) l.blocks))
     where
       go : (bytes : Option (List ℕ)) → started_by (option_map (λ bs. effect.Send name l.number bs) bytes) ≡ []
       go None = refl
@@ -101,7 +101,7 @@ module _ (w : World) where
   does_so (command.Remove id) = Becomes.all_stay refl refl refl
   does_so (command.Move id after) = Becomes.all_stay refl refl refl
   does_so (command.Clear id) = Becomes.all_stay refl refl refl
-  does_so (command.Eval id) = evaluates_so id (session_of w id) (life_of w (session_of w id)) refl
+  does_so (command.Eval id) = evaluates_so id (session_of_field w id) (life_of w (session_of_field w id)) refl
   does_so (command.Stop name) = ends_so reason.Stopped true (life_of w name) reply.Done (λ l h. its_own w name l h)
 
   command_so : (c : Command) (r : Option Refusal) (d : Does) → CommandDoes w c r d → Becomes w d
@@ -120,7 +120,7 @@ module _ (w : World) where
   child_so o child.StopFault d own is = by_row d _ is (tells_so reply.Nothing)
 
   pub becomes : (e : Event) (d : Does) → MayDo w e d → Becomes w d
-  becomes (event.Command c) d may = command_so c (first_of (refusals w c)) d may
+  becomes (event.Command c) d may = command_so c (first_of (command_refusals w c)) d may
   becomes (event.Child name number e) d may =
       child_so (with_number number (life_of w name)) e d (λ l h. its_own w name l (with_its_number number (life_of w name) l h)) may
 
@@ -272,7 +272,7 @@ numbered_run w [] (o ∷ os) v h run = absurd run
 numbered_run w (e ∷ es) [] v h run = absurd run
 numbered_run w (e ∷ es) (o ∷ os) v h run = numbered_run run.0 es os v (numbered_step w e o run.0 h run.1) run.2
 
-numbered_first : (ops : List Op) (room end : ℕ) → Numbered (opened ops room end)
+numbered_first : (ops : List Op) (room end : ℕ) → Numbered (world_at_opening ops room end)
 numbered_first ops room end = record { names = λ name. omega arith; numbers = λ number. omega arith; given = λ number lt. refl; not_zero = refl }
 
 -- The same in the words of the law.
@@ -285,11 +285,11 @@ named_are name (l ∷ ls) = go (bytes_eq l.name name) (named_are name ls)
     go true rest = omega (arith, rest)
     go false rest = omega (arith, rest)
 
-numbered_are : (number : ℕ) (ls : List Going) → length (numbered number ls) ≡ total (is_numbered number) ls
+numbered_are : (number : ℕ) (ls : List Going) → length (lives_numbered number ls) ≡ total (is_numbered number) ls
 numbered_are number [] = refl
 numbered_are number (l ∷ ls) = go (l.number == number) (numbered_are number ls)
   where
-    go : (b : Bool) → length (numbered number ls) ≡ total (is_numbered number) ls → length (if b then l ∷ numbered number ls else numbered number ls) ≡ (if b then 1 else 0) + total (is_numbered number) ls
+    go : (b : Bool) → length (lives_numbered number ls) ≡ total (is_numbered number) ls → length (if b then l ∷ lives_numbered number ls else lives_numbered number ls) ≡ (if b then 1 else 0) + total (is_numbered number) ls
     go true rest = omega (arith, rest)
     go false rest = omega (arith, rest)
 
@@ -301,7 +301,7 @@ are_numbered : (w : World) → Numbered w → AreNumbered w
 are_numbered w h = record {
   names = λ name. let a = h.names name in let e = named_are name w.lives in omega (arith, a, e);
   numbers = λ number. let a = h.numbers number in let e = numbered_are number w.lives in omega (arith, a, e);
-  given = λ number not_given. empty (numbered number w.lives) (numbered_are number w.lives ∙ ⊎_elim (λ is. ap (λ (n : ℕ). total (is_numbered n) w.lives) is ∙ h.not_zero) (h.given number) not_given);
+  given = λ number not_given. empty (lives_numbered number w.lives) (numbered_are number w.lives ∙ ⊎_elim (λ is. ap (λ (n : ℕ). total (is_numbered n) w.lives) is ∙ h.not_zero) (h.given number) not_given);
 }
 
 -- Starts are told with one number after another.
@@ -332,8 +332,8 @@ starts_run w (e ∷ es) (o ∷ os) v run =
 
 pub numbers_are_given_once : NumbersAreGivenOnce
 numbers_are_given_once ops room end es os v run = (
-  starts_run (opened ops room end) es os v run,
-  are_numbered v (numbered_run (opened ops room end) es os v (numbered_first ops room end) run),
+  starts_run (world_at_opening ops room end) es os v run,
+  are_numbered v (numbered_run (world_at_opening ops room end) es os v (numbered_first ops room end) run),
 )
 
 -- A life that has ended doesn't go on again.
@@ -415,6 +415,6 @@ of_no_life w child.StopFault d is = is
 
 pub nothing_of_an_ended_life : NothingOfAnEndedLife
 nothing_of_an_ended_life ops room end es os w run name number le ended later told v more e d may =
-    let nil = none_left name number w (numbered_run (opened ops room end) es os w (numbered_first ops room end) run) ended in
+    let nil = none_left name number w (numbered_run (world_at_opening ops room end) es os w (numbered_first ops room end) run) ended in
     let none = not_on name number v.lives (ended_run name number w later told v more le nil) in
     of_no_life v e d (subst (λ (o : Option Going). ChildDoes v o e d) none may)

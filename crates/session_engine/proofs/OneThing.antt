@@ -20,8 +20,8 @@ use Rattle.session_engine.specs.declared.event.Event.TheVariants as event
 use Rattle.session_engine.specs.declared.outcome.Outcome.{Outcome}
 use Rattle.session_engine.specs.declared.reply.Reply.TheVariants as reply
 use Rattle.plugin_core.specs.declared.step.Reason.TheVariants as reason
-use Rattle.session_engine.specs.World.{World, Going, life_of, session_of, with_number}
-use Rattle.session_engine.specs.Refused.{refusals, takes_memory}
+use Rattle.session_engine.specs.World.{World, Going, life_of, session_of_field, with_number}
+use Rattle.session_engine.specs.Refused.{command_refusals, command_takes_memory}
 use Rattle.session_engine.specs.Does.{Does, MayDo, ChildDoes, CommandDoes, Gives, Runs, behind, does, ends_life, evaluates, steps, tells}
 use Rattle.session_engine.specs.Apart.{is_refusal}
 use Rattle.session_engine.specs.Laws.{EachEventHasAnOutcome, AnEventDoesOneThing, OutcomesLeadToOneWorld, lacks_memory, may_want}
@@ -52,7 +52,7 @@ module _ (w : World) where
   command_does c None = (does w c, inl refl)
 
   may_do : (e : Event) → (d : Does) × MayDo w e d
-  may_do (event.Command c) = command_does c (first_of (refusals w c))
+  may_do (event.Command c) = command_does c (first_of (command_refusals w c))
   may_do (event.Child name number e) = child_does (with_number number (life_of w name)) e
 
 pub each_event_has_an_outcome : EachEventHasAnOutcome
@@ -77,14 +77,14 @@ module _ (one : OneReading) (w : World) where
   one_of_child l child.StopFault d f a b = a ∙ sym b
 
   one_of_command : (c : Command) (r : Option Refusal) (d f : Does) → CommandDoes w c r d → CommandDoes w c r f
-      → (d ≡ f) ⊎ ((takes_memory c ≡ true) × ((d ≡ lacks_memory w) ⊎ (f ≡ lacks_memory w)))
+      → (d ≡ f) ⊎ ((command_takes_memory c ≡ true) × ((d ≡ lacks_memory w) ⊎ (f ≡ lacks_memory w)))
   one_of_command c (Some r) d f a b = inl (a ∙ sym b)
   one_of_command c None d f (inl a) (inl b) = inl (a ∙ sym b)
   one_of_command c None d f (inr a) b = inr (a.0, inl a.1)
   one_of_command c None d f (inl a) (inr b) = inr (b.0, inr b.1)
 
   one_does : (e : Event) (d f : Does) → MayDo w e d → MayDo w e f → (d ≡ f) ⊎ ((may_want e ≡ true) × ((d ≡ lacks_memory w) ⊎ (f ≡ lacks_memory w)))
-  one_does (event.Command c) d f a b = one_of_command c (first_of (refusals w c)) d f a b
+  one_does (event.Command c) d f a b = one_of_command c (first_of (command_refusals w c)) d f a b
   one_does (event.Child name number e) d f a b = inl (one_of_child (with_number number (life_of w name)) e d f a b)
 
 pub an_event_does_one_thing : OneReading → AnEventDoesOneThing
@@ -101,9 +101,9 @@ module _ (one : OneReading) (w : World) where
   accepts (command.Remove id) = refl
   accepts (command.Move id after) = refl
   accepts (command.Clear id) = refl
-  accepts (command.Eval id) = go (life_of w (session_of w id))
+  accepts (command.Eval id) = go (life_of w (session_of_field w id))
     where
-      go : (l : Option Going) → is_refusal (evaluates w id (session_of w id) l).told.reply ≡ false
+      go : (l : Option Going) → is_refusal (evaluates w id (session_of_field w id) l).told.reply ≡ false
       go None = refl
       go (Some l) = refl
   accepts (command.Stop name) = go (life_of w name)
@@ -126,7 +126,7 @@ module _ (one : OneReading) (w : World) where
   told_apart c None d f (inr a) (inr b) same = a.1 ∙ sym b.1
 
   by_told : (e : Event) (d f : Does) → MayDo w e d → MayDo w e f → d.told ≡ f.told → d ≡ f
-  by_told (event.Command c) d f a b same = told_apart c (first_of (refusals w c)) d f a b same
+  by_told (event.Command c) d f a b same = told_apart c (first_of (command_refusals w c)) d f a b same
   by_told (event.Child name number e) d f a b same = one_of_child one w (with_number number (life_of w name)) e d f a b
 
   one_world : (e : Event) (o : Outcome) (v u : World) → Gives w e o v → Gives w e o u → v ≡ u

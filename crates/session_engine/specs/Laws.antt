@@ -16,8 +16,8 @@ use Rattle.session_engine.specs.declared.outcome.Effect.{Effect}
 use Rattle.session_engine.specs.declared.outcome.Effect.TheVariants as effect
 use Rattle.session_engine.specs.declared.outcome.Outcome.{Outcome}
 use Rattle.session_engine.specs.declared.reply.Reply.TheVariants as reply
-use Rattle.session_engine.specs.World.{World, Going, opened, sheet_in, life_of, with_number, waiting_in}
-use Rattle.session_engine.specs.Refused.{takes_memory}
+use Rattle.session_engine.specs.World.{World, Going, world_at_opening, sheet_in, life_of, with_number, waiting_in}
+use Rattle.session_engine.specs.Refused.{command_takes_memory}
 use Rattle.session_engine.specs.Does.{Does, MayDo, Gives, Runs, tells}
 use Rattle.session_engine.specs.Apart.{named}
 
@@ -33,7 +33,7 @@ lacks_memory w = tells w (reply.Refused refusal.OutOfMemory)
 
 -- an event that may be refused so
 abbrev pub may_want : Event → Bool
-may_want (event.Command c) = takes_memory c
+may_want (event.Command c) = command_takes_memory c
 may_want (event.Child name number e) = false
 
 -- What an event does in a world is settled, but that a command may be refused for want of memory.
@@ -65,25 +65,25 @@ numbers_to zero = []
 numbers_to (suc n) = numbers_to n ++ suc n ∷ []
 
 -- the lives with this number
-abbrev pub numbered : ℕ → List Going → List Going
-numbered number [] = []
-numbered number (l ∷ ls) = if l.number == number then l ∷ numbered number ls else numbered number ls
+abbrev pub lives_numbered : ℕ → List Going → List Going
+lives_numbered number [] = []
+lives_numbered number (l ∷ ls) = if l.number == number then l ∷ lives_numbered number ls else lives_numbered number ls
 
 -- Of one session at most one life goes on, and of one number at most one; each has a number that was given.
 pub record AreNumbered (w : World) : Type 0 where
   pub names : (name : List ℕ) → length (named name w.lives) ≤ 1
-  pub numbers : (number : ℕ) → length (numbered number w.lives) ≤ 1
-  pub given : (number : ℕ) → (number ≡ 0) ⊎ (w.begun < number) → numbered number w.lives ≡ []
+  pub numbers : (number : ℕ) → length (lives_numbered number w.lives) ≤ 1
+  pub given : (number : ℕ) → (number ≡ 0) ⊎ (w.begun < number) → lives_numbered number w.lives ≡ []
 
 -- The lives that a host starts are numbered 1, 2 and so on. So no number is given twice.
 abbrev pub NumbersAreGivenOnce : Type 0
-NumbersAreGivenOnce = (ops : List Op) (room end : ℕ) (es : List Event) (os : List Outcome) (v : World) → Runs (opened ops room end) es os v
+NumbersAreGivenOnce = (ops : List Op) (room end : ℕ) (es : List Event) (os : List Outcome) (v : World) → Runs (world_at_opening ops room end) es os v
     → (all_started os ≡ numbers_to v.begun) × AreNumbered v
 
 -- Nothing of an interpreter whose life has ended does anything: whatever a child event says of it later, it is told as nothing,
 -- gives no op, and changes no life.
 abbrev pub NothingOfAnEndedLife : Type 0
-NothingOfAnEndedLife = (ops : List Op) (room end : ℕ) (es : List Event) (os : List Outcome) (w : World) → Runs (opened ops room end) es os w
+NothingOfAnEndedLife = (ops : List Op) (room end : ℕ) (es : List Event) (os : List Outcome) (w : World) → Runs (world_at_opening ops room end) es os w
     → (name : List ℕ) (number : ℕ) → number ≤ w.begun → with_number number (life_of w name) ≡ None
     → (later : List Event) (told : List Outcome) (v : World) → Runs w later told v
     → (e : ChildEvent) (d : Does) → MayDo v (event.Child name number e) d → d ≡ tells v reply.Nothing
@@ -108,5 +108,5 @@ lines_waiting id (l ∷ ls) = lines_among id (waiting_in l) + lines_waiting id l
 -- No field in flight shows an answer: each line that waits is the input, as it is now, of a field of its session without an
 -- answer, and no field has two lines that wait.
 abbrev pub NothingIsShownInFlight : Type 0
-NothingIsShownInFlight = (ops : List Op) (room end : ℕ) (es : List Event) (os : List Outcome) (v : World) → Allowed ops → Runs (opened ops room end) es os v
+NothingIsShownInFlight = (ops : List Op) (room end : ℕ) (es : List Event) (os : List Outcome) (v : World) → Allowed ops → Runs (world_at_opening ops room end) es os v
     → AllByRecursion (λ l. AllByRecursion (WaitsForField (sheet_in v) l.name) (waiting_in l)) v.lives × ((id : ℕ) → lines_waiting id v.lives ≤ 1)

@@ -8,7 +8,7 @@ returns-clause-ok g c = λ w h.
     let k = c.carry_out-due.ensures in (
       record { event = c.args.event; outcome = c.in_ok-reply.field-0; answer = k.0 },
       behind w s.did,
-      record { event = refl; did = s.did; may = s.may; told = s.told; leads = refl; carried = k.1 },
+      record { event = refl; steps = (s.did, s.may, s.told, refl); carried = k.1 },
       s.stands,
       refl,
       k.2,

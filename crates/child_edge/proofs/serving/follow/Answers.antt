@@ -43,7 +43,7 @@ loop-preserved g c = record {
       let r = c.loop.invariant.runs w h in
       let b = c.in-Ok.ensures.ok r.1 r.3 in
       let due = rw c.in-Some.is at r.2 in
-      let less = rank-told r.1 c.in-Some.event b.2.did b.0.outcome b.0.answer b.2.may b.2.told in (
+      let less = rank-told r.1 c.in-Some.event b.2.steps.0 b.0.outcome b.0.answer b.2.steps.1 b.2.steps.2 in (
         r.0 ++ b.0 ∷ [],
         b.1,
         rw b.5 (Follows-push g.C.Children.after (at w c.args.children.now) (Some c.args.event) r.0 c.in-Some.event (at r.1 c.loop.children) b.0 (at b.1 c.beat.new.children) due b.2),
