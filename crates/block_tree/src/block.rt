@@ -39,7 +39,9 @@ impl Block {
     /// The block, or the node again where it is none. No memory is taken.
     #[tactic(auto, using(crate::proofs::Shapes::right_proper))]
     pub fn new(node: Node) -> Result<Block, Node>
-        ensures cases { MatchResult result (λ block. (block ≡ tree_of node) × IsTrue (is_block (tree_of node))) (λ back. (back ≡ node) × (IsTrue (is_block (tree_of node)) → ⊥)) }
+        ensures cases { MatchResult result (λ block. (block ≡ tree_of node)
+            × IsTrue (is_block (tree_of node))) (λ back. (back ≡ node)
+            × (IsTrue (is_block (tree_of node)) → ⊥)) }
     {
         // The depth first: it stops at the limit, however deep the node is.
         if fits_in(&node, MAX_DEPTH) && is_plain_node(&node) {

@@ -21,7 +21,8 @@ fn add_text(node: &Node, into: &mut Vec<u8>) -> Result<(), OutOfMemory>
 
 /// The block of this channel that opens last, the node itself included.
 fn last_channel<'a>(node: &'a Node, name: &[u8]) -> Option<&'a Node>
-    ensures { option_map (λ found. text_of (tree_of found.now).items) result ≡ text_on_channel name.now (tree_of node.now) }
+    ensures { option_map (λ found. text_of (tree_of found.now).items) result
+        ≡ text_on_channel name.now (tree_of node.now) }
 {
     let mut found = None;
     for item in &node.items {

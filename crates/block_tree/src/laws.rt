@@ -12,5 +12,6 @@ pub fn equal_blocks()
 
 /// The marks of a block tell which block it is, whatever the limits of its tags and its depth.
 pub fn equal_marks()
-    ensures { (tag deep : ℕ) (a b : Tree) → is_block_within tag deep a ≡ true → is_block_within tag deep b ≡ true → marks a ≡ marks b → a ≡ b }
+    ensures { (tag deep : ℕ) (a b : Tree) → is_block_within tag deep a ≡ true
+        → is_block_within tag deep b ≡ true → marks a ≡ marks b → a ≡ b }
 {}

@@ -20,7 +20,8 @@ fn is_aside_tag(tag: &Tag) -> bool
 /// Adds a text, to the last item where that is a text.
 #[tactic(auto, using(crate::proofs::Outputs::grown))]
 fn push_text(alloc: Global, items: &mut Vec<Item>, text: &[u8]) -> Result<(), OutOfMemory>
-    ensures { OnOk result (items_from (map piece_of items.new.items) ≡ text_behind (items_from (map piece_of items.old.items)) text.now) }
+    ensures { OnOk result (items_from (map piece_of items.new.items)
+        ≡ text_behind (items_from (map piece_of items.old.items)) text.now) }
 {
     match items.pop() {
         Some(Item::Text(mut last)) => {
@@ -43,7 +44,8 @@ fn push_text(alloc: Global, items: &mut Vec<Item>, text: &[u8]) -> Result<(), Ou
 /// The node without the prompts and default inputs in it.
 #[tactic(auto, using(crate::proofs::Outputs::output_rules))]
 fn without_asides(alloc: Global, node: &Node) -> Result<Node, OutOfMemory>
-    ensures { IfOk result (λ kept. tree_of kept ≡ record (tree_of node.now) { items = output_items (tree_of node.now).items }) }
+    ensures { IfOk result (λ kept. tree_of kept
+        ≡ record (tree_of node.now) { items = output_items (tree_of node.now).items }) }
 {
     let mut items = Vec::new(alloc);
     for item in &node.items {

@@ -15,7 +15,8 @@ use worksheet::Name;
 
 /// Stops the life of this session, where one goes on. What that call answers is dropped.
 fn stop_life<C: Children>(children: &mut C, name: Name, view: Option<LifeView>)
-    ensures { Stops C.after (numbered name (option_map (λ l. l.number) view)) children.old children.new }
+    ensures { Stops C.after (numbered name (option_map
+        (λ l. l.number) view)) children.old children.new }
 {
     if let Some(view) = view {
         let _ = children.stop(name, view.number);
@@ -25,8 +26,10 @@ fn stop_life<C: Children>(children: &mut C, name: Name, view: Option<LifeView>)
 /// Stops each life that goes on, as `Host::life` tells it, in the order in which their sessions were
 /// made: one call for each, and no event. A host that is closed tells its lives as before its fault.
 pub fn stop_all<D: Disk, C: Children>(host: &Host<D>, children: &mut C)
-    ensures working { (w : World) → IsHost host.now w → Stops C.after (running w) children.old children.new }
-    ensures stopped { (w : World) (e : Event) (failures : ℕ) (fault : HostFault) → Stopped failures host.now w e fault
+    ensures working { (w : World) → IsHost host.now w
+        → Stops C.after (running w) children.old children.new }
+    ensures stopped { (w : World) (e : Event) (failures : ℕ) (fault : HostFault)
+        → Stopped failures host.now w e fault
         → Stops C.after (running w) children.old children.new }
 {
     for session in host.sheet().sessions() {

@@ -15,7 +15,8 @@ use std::io::{Read, Write};
 /// Writes the line of an outer block.
 #[tactic(auto, using(crate::proofs::Lines::steps))]
 fn write_outer<W: Write>(found: &Found, out: &mut W) -> Result<(), RunFault>
-    ensures ok { OnOk result (Appends (W.contents out.old) (W.contents out.new) (outer_line (outer_of found.now))) }
+    ensures ok { OnOk result
+        (Appends (W.contents out.old) (W.contents out.new) (outer_line (outer_of found.now))) }
     ensures err { IfErr result (λ fault. fault ≡ RunFault.Output) }
 {
     write!(out, "{} {} ", found.start, found.stop).map_err(|_| RunFault::Output)?;
@@ -27,7 +28,8 @@ fn write_outer<W: Write>(found: &Found, out: &mut W) -> Result<(), RunFault>
 /// Writes the lines of outer blocks.
 #[tactic(auto, using(crate::proofs::Lines::steps))]
 fn write_outers<W: Write>(found: &[Found], out: &mut W) -> Result<(), RunFault>
-    ensures ok { OnOk result (Appends (W.contents out.old) (W.contents out.new) (outer_lines (outers found.now))) }
+    ensures ok { OnOk result
+        (Appends (W.contents out.old) (W.contents out.new) (outer_lines (outers found.now))) }
     ensures err { IfErr result (λ fault. fault ≡ RunFault.Output) }
 {
     for outer in found {
@@ -44,7 +46,9 @@ fn write_faulty<W: Write>(
     offset: u64,
     out: &mut W,
 ) -> Result<(), RunFault>
-    ensures ok { OnOk result (Appends (W.contents out.old) (W.contents out.new) (outer_lines (outers found.now) ++ named_fault_line kind.now offset)) }
+    ensures ok { OnOk result
+        (Appends (W.contents out.old) (W.contents out.new)
+        (outer_lines (outers found.now) ++ named_fault_line kind.now offset)) }
     ensures err { IfErr result (λ fault. fault ≡ RunFault.Output) }
 {
     write_outers(found, out)?;
@@ -54,7 +58,8 @@ fn write_faulty<W: Write>(
 
 /// Writes the line of an open outer block.
 fn write_unfinished<W: Write>(start: u64, out: &mut W) -> Result<(), RunFault>
-    ensures ok { OnOk result (Appends (W.contents out.old) (W.contents out.new) (unfinished_line start)) }
+    ensures ok { OnOk result
+        (Appends (W.contents out.old) (W.contents out.new) (unfinished_line start)) }
     ensures err { IfErr result (λ fault. fault ≡ RunFault.Output) }
 {
     writeln!(out, "unfinished {start}").map_err(|_| RunFault::Output)?;
@@ -75,10 +80,12 @@ fn piece_end(size: usize, at: usize) -> usize
 
 /// Writes the text of a stream piece by piece, and tells whether the stream is whole.
 fn write_stream<W: Write>(alloc: Global, stream: &[u8], out: &mut W) -> Result<bool, RunFault>
-    ensures printed { IfOk result (λ whole. (text : List ℕ) × Printed limits stream.now text whole × Appends (W.contents out.old) (W.contents out.new) text) }
+    ensures printed { IfOk result (λ whole. (text : List ℕ) × Printed limits stream.now text whole
+        × Appends (W.contents out.old) (W.contents out.new) text) }
     ensures not_input { IsErrOf result RunFault.Input → ⊥ }
     ensures not_too_long { IsErrOf result RunFault.InputTooLong → ⊥ }
-    ensures front_at_memory { IsErrOf result RunFault.OutOfMemory → PrintsFront limits stream.now (W.contents out.old) (W.contents out.new) }
+    ensures front_at_memory { IsErrOf result RunFault.OutOfMemory
+        → PrintsFront limits stream.now (W.contents out.old) (W.contents out.new) }
 {
     let mut reader = Reader::new(alloc);
     let mut at = 0;
@@ -126,17 +133,25 @@ pub fn blocks<R: Read, W: Write>(
     reader: &mut R,
     writer: &mut W,
 ) -> Result<bool, RunFault>
-    ensures printed { IfOk result (λ whole. IfSome (R.remaining reader.old) (λ stream. (text : List ℕ) × Printed limits stream text whole × Appends (W.contents writer.old) (W.contents writer.new) text)) }
+    ensures printed { IfOk result
+        (λ whole. IfSome (R.remaining reader.old) (λ stream. (text : List ℕ)
+        × Printed limits stream text whole
+        × Appends (W.contents writer.old) (W.contents writer.new) text)) }
 
     // An input that is too long is told as such, whatever else would go wrong with its text.
-    ensures short { IfOk result (λ whole. IfSome (R.remaining reader.old) (λ stream. length stream ≤ max_input)) }
-    ensures output_short { IsErrOf result RunFault.Output → IfSome (R.remaining reader.old) (λ stream. length stream ≤ max_input) }
-    ensures too_long { IsErrOf result RunFault.InputTooLong → IfSome (R.remaining reader.old) (λ stream. max_input < length stream) }
+    ensures short { IfOk result
+        (λ whole. IfSome (R.remaining reader.old) (λ stream. length stream ≤ max_input)) }
+    ensures output_short { IsErrOf result RunFault.Output
+        → IfSome (R.remaining reader.old) (λ stream. length stream ≤ max_input) }
+    ensures too_long { IsErrOf result RunFault.InputTooLong
+        → IfSome (R.remaining reader.old) (λ stream. max_input < length stream) }
 
     ensures nothing_at_input { IsErrOf result RunFault.Input → writer.new ≡ writer.old }
     ensures nothing_at_too_long { IsErrOf result RunFault.InputTooLong → writer.new ≡ writer.old }
     // Of blocks that were written before memory was refused it is known which they are.
-    ensures front_at_memory { IsErrOf result RunFault.OutOfMemory → IfSome (R.remaining reader.old) (λ stream. PrintsFront limits stream (W.contents writer.old) (W.contents writer.new)) }
+    ensures front_at_memory { IsErrOf result RunFault.OutOfMemory
+        → IfSome (R.remaining reader.old)
+        (λ stream. PrintsFront limits stream (W.contents writer.old) (W.contents writer.new)) }
 {
     let stream = read_input(alloc, reader)?;
     let whole = write_stream(alloc, stream.as_slice(), writer)?;

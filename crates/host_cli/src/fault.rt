@@ -26,7 +26,8 @@ pub enum RunFault {
 
 /// Writes a fault on a line: `fault N NAME`.
 pub fn fault_text<W: Write>(fault: RunFault, out: &mut W) -> Result<(), WriteFault>
-    ensures { OnOk result (Appends (W.contents out.old) (W.contents out.new) (printed.fault_text fault)) }
+    ensures { OnOk result
+        (Appends (W.contents out.old) (W.contents out.new) (printed.fault_text fault)) }
 {
     match fault {
         RunFault::Input => out.write_all(b"fault 40 Input\n"),

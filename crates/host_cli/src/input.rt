@@ -14,9 +14,11 @@ pub const MAX_INPUT: usize = 67_108_864;
 /// `Input` where the reader fails, an interruption included; `InputTooLong` where it gives more than
 /// `MAX_INPUT` bytes; `OutOfMemory`. What was read before a fault is dropped.
 pub fn read_input<R: Read>(alloc: Global, reader: &mut R) -> Result<Vec<u8>, RunFault>
-    ensures whole { IfOk result (λ input. IfSome (R.remaining reader.old) (λ bytes. input.items ≡ bytes)) }
+    ensures whole { IfOk result (λ input. IfSome (R.remaining reader.old) (λ bytes. input.items
+        ≡ bytes)) }
     ensures short { IfOk result (λ input. length input.items ≤ max_input) }
-    ensures long { IsErrOf result RunFault.InputTooLong → IfSome (R.remaining reader.old) (λ bytes. max_input < length bytes) }
+    ensures long { IsErrOf result RunFault.InputTooLong
+        → IfSome (R.remaining reader.old) (λ bytes. max_input < length bytes) }
     ensures no_output { IsErrOf result RunFault.Output → ⊥ }
 {
     let mut input = Vec::new(alloc);

@@ -30,7 +30,8 @@ fn reply_to(sheet: &Sheet, op: &Op) -> Reply
 
 /// Does an op where the worksheet allows it.
 fn do_op(sheet: &mut Sheet, op: Op) -> Reply
-    ensures { (ops : List Op) → sheet.old.contents ≡ sheet_of ops → (after : List Op) × OpRan ops op result after × (sheet.new.contents ≡ sheet_of after) }
+    ensures { (ops : List Op) → sheet.old.contents ≡ sheet_of ops
+        → (after : List Op) × OpRan ops op result after × (sheet.new.contents ≡ sheet_of after) }
 {
     if let Err(refusal) = sheet.check(&op) {
         return Reply::Refused(refusal);
@@ -43,7 +44,8 @@ fn do_op(sheet: &mut Sheet, op: Op) -> Reply
 }
 
 fn write_bad_line<W: Write>(number: u64, writer: &mut W) -> Result<(), RunFault>
-    ensures ok { OnOk result (Appends (W.contents writer.old) (W.contents writer.new) (bad_line number)) }
+    ensures ok { OnOk result
+        (Appends (W.contents writer.old) (W.contents writer.new) (bad_line number)) }
     ensures err { IfErr result (λ fault. fault ≡ RunFault.Output) }
 {
     writeln!(writer, "bad line {number}").map_err(|_| RunFault::Output)?;
@@ -51,7 +53,8 @@ fn write_bad_line<W: Write>(number: u64, writer: &mut W) -> Result<(), RunFault>
 }
 
 fn write_reply<W: Write>(reply: &Reply, writer: &mut W) -> Result<(), RunFault>
-    ensures ok { OnOk result (Appends (W.contents writer.old) (W.contents writer.new) (printed.reply_text reply.now)) }
+    ensures ok { OnOk result
+        (Appends (W.contents writer.old) (W.contents writer.new) (printed.reply_text reply.now)) }
     ensures err { IfErr result (λ fault. fault ≡ RunFault.Output) }
 {
     reply_text(reply, writer).map_err(|_| RunFault::Output)?;
@@ -59,7 +62,9 @@ fn write_reply<W: Write>(reply: &Reply, writer: &mut W) -> Result<(), RunFault>
 }
 
 fn write_sheet<W: Write>(sheet: &Sheet, writer: &mut W) -> Result<(), RunFault>
-    ensures ok { OnOk result (Appends (W.contents writer.old) (W.contents writer.new) (printed.sheet_text sheet.now.contents)) }
+    ensures ok { OnOk result
+        (Appends (W.contents writer.old) (W.contents writer.new)
+        (printed.sheet_text sheet.now.contents)) }
     ensures err { IfErr result (λ fault. fault ≡ RunFault.Output) }
 {
     sheet_text(sheet, writer).map_err(|_| RunFault::Output)?;
@@ -73,8 +78,11 @@ fn do_command<W: Write>(
     number: u64,
     writer: &mut W,
 ) -> Result<(), RunFault>
-    ensures ok { (ops : List Op) → sheet.old.contents ≡ sheet_of ops → OnOk result ((text : List ℕ) × (after : List Op) × LineRan number ops (Some (said.Command command)) text after
-        × (sheet.new.contents ≡ sheet_of after) × Appends (W.contents writer.old) (W.contents writer.new) text) }
+    ensures ok { (ops : List Op) → sheet.old.contents ≡ sheet_of ops
+        → OnOk result ((text : List ℕ) × (after : List Op)
+        × LineRan number ops (Some (said.Command command)) text after
+        × (sheet.new.contents ≡ sheet_of after)
+        × Appends (W.contents writer.old) (W.contents writer.new) text) }
     ensures err { IfErr result (λ fault. fault ≡ RunFault.Output) }
 {
     match command.into_op() {
@@ -94,8 +102,11 @@ pub(crate) fn do_line<W: Write>(
     number: u64,
     writer: &mut W,
 ) -> Result<(), RunFault>
-    ensures ok { (ops : List Op) → sheet.old.contents ≡ sheet_of ops → OnOk result ((text : List ℕ) × (after : List Op) × LineRan number ops (line_of line.now) text after
-        × (sheet.new.contents ≡ sheet_of after) × Appends (W.contents writer.old) (W.contents writer.new) text) }
+    ensures ok { (ops : List Op) → sheet.old.contents ≡ sheet_of ops
+        → OnOk result ((text : List ℕ) × (after : List Op)
+        × LineRan number ops (line_of line.now) text after
+        × (sheet.new.contents ≡ sheet_of after)
+        × Appends (W.contents writer.old) (W.contents writer.new) text) }
     ensures err { IfErr result (λ fault. fault ≡ RunFault.Output) }
 {
     match read_line(alloc, line) {
@@ -117,7 +128,8 @@ fn do_lines<W: Write>(
 ) -> Result<(), RunFault>
     requires empty { sheet.old.contents ≡ sheet_of [] }
     requires few { length (script_lines script.now) < 2 ^ 32 }
-    ensures ok { OnOk result ((text : List ℕ) × ScriptRan script.now text × Appends (W.contents writer.old) (W.contents writer.new) text) }
+    ensures ok { OnOk result ((text : List ℕ) × ScriptRan script.now text
+        × Appends (W.contents writer.old) (W.contents writer.new) text) }
     ensures err { IfErr result (λ fault. fault ≡ RunFault.Output) }
 {
     let mut lines = script.lines();
@@ -144,12 +156,16 @@ pub fn run_memory<R: Read, W: Write>(
     reader: &mut R,
     writer: &mut W,
 ) -> Result<(), RunFault>
-    ensures ran { OnOk result (IfSome (R.remaining reader.old) (λ script. (text : List ℕ) × ScriptRan script text × Appends (W.contents writer.old) (W.contents writer.new) text)) }
+    ensures ran { OnOk result (IfSome (R.remaining reader.old) (λ script. (text : List ℕ)
+        × ScriptRan script text × Appends (W.contents writer.old) (W.contents writer.new) text)) }
 
     // A script that is too long is told as such, whatever else would go wrong with its text.
-    ensures short { OnOk result (IfSome (R.remaining reader.old) (λ script. length script ≤ max_input)) }
-    ensures output_short { IsErrOf result RunFault.Output → IfSome (R.remaining reader.old) (λ script. length script ≤ max_input) }
-    ensures too_long { IsErrOf result RunFault.InputTooLong → IfSome (R.remaining reader.old) (λ script. max_input < length script) }
+    ensures short { OnOk result (IfSome (R.remaining reader.old)
+        (λ script. length script ≤ max_input)) }
+    ensures output_short { IsErrOf result RunFault.Output
+        → IfSome (R.remaining reader.old) (λ script. length script ≤ max_input) }
+    ensures too_long { IsErrOf result RunFault.InputTooLong
+        → IfSome (R.remaining reader.old) (λ script. max_input < length script) }
 
     ensures nothing_at_input { IsErrOf result RunFault.Input → writer.new ≡ writer.old }
     ensures nothing_at_too_long { IsErrOf result RunFault.InputTooLong → writer.new ≡ writer.old }

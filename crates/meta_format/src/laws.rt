@@ -13,22 +13,26 @@ ghost use Rattle.meta_format.specs.Reader.{Faults, CloseWithin};
 
 /// No bytes spell two blocks.
 pub fn one_block()
-    ensures { (most : Limits) (b c : Tree) (s : List ℕ) → Spells most b s → Spells most c s → b ≡ c }
+    ensures { (most : Limits) (b c : Tree) (s : List ℕ) → Spells most b s → Spells most c s
+        → b ≡ c }
 {}
 
 /// No spelling of a block begins another: nothing stands behind it there.
 pub fn no_front()
-    ensures { (most : Limits) (b c : Tree) (s t : List ℕ) → Spells most b s → Spells most c (s ++ t) → t ≡ [] }
+    ensures { (most : Limits) (b c : Tree) (s t : List ℕ) → Spells most b s → Spells most c (s ++ t)
+        → t ≡ [] }
 {}
 
 /// The canonical spelling of a block spells it.
 pub fn canonical_spelling()
-    ensures { (most : Limits) (b : Tree) → is_block_within most.tag most.levels b ≡ true → Spells most b (canonical b) }
+    ensures { (most : Limits) (b : Tree) → is_block_within most.tag most.levels b ≡ true
+        → Spells most b (canonical b) }
 {}
 
 /// A block grows to at most one and a half times its length when it is written canonically.
 pub fn canonical_growth()
-    ensures { (most : Limits) (b : Tree) (s : List ℕ) → Spells most b s → 2 * length (canonical b) ≤ 3 * length s }
+    ensures { (most : Limits) (b : Tree) (s : List ℕ) → Spells most b s
+        → 2 * length (canonical b) ≤ 3 * length s }
 {}
 
 /// An output has no more bytes than its block, both written canonically, or the 11 of an empty `verbatim` block.
@@ -39,28 +43,38 @@ pub fn output_length()
 /// A stream has one reading: its outer blocks with their offsets, and its open tail. So it does not
 /// matter how it is cut into pieces.
 pub fn one_reading()
-    ensures { (most : Limits) → IsRoomy most → (s : List ℕ) (blocks others : List Outer) (tail rest : List ℕ) → Stream most s blocks tail → Stream most s others rest → (blocks ≡ others) × (tail ≡ rest) }
+    ensures { (most : Limits) → IsRoomy most
+        → (s : List ℕ) (blocks others : List Outer) (tail rest : List ℕ) → Stream most s blocks tail
+        → Stream most s others rest → (blocks ≡ others) × (tail ≡ rest) }
 {}
 
 /// A stream has one first fault, of one kind.
 pub fn one_fault()
-    ensures { (most : Limits) → IsRoomy most → (s : List ℕ) (at place : ℕ) (kind other : Kind) → FirstFault most s at kind → FirstFault most s place other → (at ≡ place) × (kind ≡ other) }
+    ensures { (most : Limits) → IsRoomy most → (s : List ℕ) (at place : ℕ) (kind other : Kind)
+        → FirstFault most s at kind → FirstFault most s place other
+        → (at ≡ place) × (kind ≡ other) }
 {}
 
 /// Every stream has a reading, also one with a fault.
 pub fn a_reading()
-    ensures { (most : Limits) → IsRoomy most → (s : List ℕ) → (blocks : List Outer) × (tail : List ℕ) × Stream most s blocks tail }
+    ensures { (most : Limits) → IsRoomy most → (s : List ℕ)
+        → (blocks : List Outer) × (tail : List ℕ) × Stream most s blocks tail }
 {}
 
 /// Every stream has no fault, or a first one with blocks before it.
 pub fn a_fault_or_none()
-    ensures { (most : Limits) → IsRoomy most → (s : List ℕ) → IsSound most s ⊎ ((at : ℕ) × (kind : Kind) × (blocks : List Outer) × Faults most s at kind blocks) }
+    ensures { (most : Limits) → IsRoomy most → (s : List ℕ)
+        → IsSound most s ⊎ ((at : ℕ) × (kind : Kind) × (blocks : List Outer)
+        × Faults most s at kind blocks) }
 {}
 
 /// More bytes behind a stream without a fault leave its blocks as they are. The further ones close in
 /// these bytes, and then the stream has no fault either, or its first one lies in them.
 pub fn blocks_stay()
-    ensures { (most : Limits) → IsRoomy most → (s p : List ℕ) (blocks : List Outer) (tail : List ℕ) → Stream most s blocks tail → IsSound most s
+    ensures { (most : Limits) → IsRoomy most → (s p : List ℕ) (blocks : List Outer) (tail : List ℕ)
+        → Stream most s blocks tail → IsSound most s
         → (more : List Outer) × CloseWithin (length s) (length (s ++ p)) more
-        × (((tail : List ℕ) × Stream most (s ++ p) (blocks ++ more) tail × IsSound most (s ++ p)) ⊎ ((at : ℕ) × (kind : Kind) × Faults most (s ++ p) at kind (blocks ++ more))) }
+        × (((tail : List ℕ) × Stream most (s ++ p) (blocks ++ more) tail
+        × IsSound most (s ++ p)) ⊎ ((at : ℕ) × (kind : Kind)
+        × Faults most (s ++ p) at kind (blocks ++ more))) }
 {}

@@ -41,7 +41,8 @@ fn put_letter(level: &mut Level, c: u8) -> Result<(), OutOfMemory>
 
 fn put_letters(level: &mut Level, text: &[u8]) -> Result<(), OutOfMemory>
     ensures right { OnOk result (IsLevel level.old → IsLevel level.new) }
-    ensures marks { OnOk result (level_marks level.new ≡ level_marks level.old ++ map letter text.now) }
+    ensures marks { OnOk result (level_marks level.new
+        ≡ level_marks level.old ++ map letter text.now) }
 {
     level.text.extend_from_slice(text)?;
     Ok(())
@@ -62,7 +63,8 @@ pub fn add_letter(levels: &mut Vec<Level>, c: u8) -> Result<(), OutOfMemory>
     requires some { 0 < vec_len levels.old }
     requires right { All IsLevel levels.old.items }
     ensures right { OnOk result (All IsLevel levels.new.items) }
-    ensures marks { OnOk result (stack_marks levels.new.items ≡ stack_marks levels.old.items ++ letter c ∷ []) }
+    ensures marks { OnOk result (stack_marks levels.new.items
+        ≡ stack_marks levels.old.items ++ letter c ∷ []) }
     ensures count { OnOk result (vec_len levels.new ≡ vec_len levels.old) }
 {
     let top = levels.len() - 1;
@@ -75,7 +77,8 @@ pub fn add_letters(levels: &mut Vec<Level>, text: &[u8]) -> Result<(), OutOfMemo
     requires some { 0 < vec_len levels.old }
     requires right { All IsLevel levels.old.items }
     ensures right { OnOk result (All IsLevel levels.new.items) }
-    ensures marks { OnOk result (stack_marks levels.new.items ≡ stack_marks levels.old.items ++ map letter text.now) }
+    ensures marks { OnOk result (stack_marks levels.new.items
+        ≡ stack_marks levels.old.items ++ map letter text.now) }
     ensures count { OnOk result (vec_len levels.new ≡ vec_len levels.old) }
 {
     let top = levels.len() - 1;
@@ -102,7 +105,8 @@ pub fn add_block(alloc: Global, levels: &mut Vec<Level>, node: Node) -> Result<(
     requires right { All IsLevel levels.old.items }
     requires plain { is_right_node node ≡ true }
     ensures right { OnOk result (All IsLevel levels.new.items) }
-    ensures marks { OnOk result (stack_marks levels.new.items ≡ stack_marks levels.old.items ++ marks node) }
+    ensures marks { OnOk result (stack_marks levels.new.items
+        ≡ stack_marks levels.old.items ++ marks node) }
     ensures count { OnOk result (vec_len levels.new ≡ vec_len levels.old) }
 {
     let top = levels.len() - 1;
@@ -115,7 +119,8 @@ pub fn add_level(alloc: Global, levels: &mut Vec<Level>, tag: Tag) -> Result<(),
     requires tag { is_tag_name max_tag tag.name ≡ true }
     requires right { All IsLevel levels.old.items }
     ensures right { OnOk result (All IsLevel levels.new.items) }
-    ensures marks { OnOk result (stack_marks levels.new.items ≡ stack_marks levels.old.items ++ open_mark tag.channel tag.name ∷ []) }
+    ensures marks { OnOk result (stack_marks levels.new.items
+        ≡ stack_marks levels.old.items ++ open_mark tag.channel tag.name ∷ []) }
     ensures count { OnOk result (vec_len levels.new ≡ vec_len levels.old + 1) }
 {
     levels.push(Level {
@@ -132,8 +137,10 @@ pub fn end_level(alloc: Global, levels: &mut Vec<Level>) -> Result<Option<Node>,
     requires right { All IsLevel levels.old.items }
     ensures right { OnOk result (All IsLevel levels.new.items) }
     ensures plain { IfOk result (λ node. IfSome node (λ n. is_right_node n ≡ true)) }
-    ensures outer { IfOk result (λ node. IfSome node (λ n. (vec_len levels.old ≡ 1) × (levels.new.items ≡ []) × (marks n ≡ stack_marks levels.old.items ++ close_mark ∷ []))) }
-    ensures inner { IfOk result (λ node. IfNone node ((vec_len levels.new + 1 ≡ vec_len levels.old) × (1 ≤ vec_len levels.new)
+    ensures outer { IfOk result (λ node. IfSome node (λ n. (vec_len levels.old ≡ 1)
+        × (levels.new.items ≡ []) × (marks n ≡ stack_marks levels.old.items ++ close_mark ∷ []))) }
+    ensures inner { IfOk result (λ node. IfNone node ((vec_len levels.new + 1 ≡ vec_len levels.old)
+        × (1 ≤ vec_len levels.new)
         × (stack_marks levels.new.items ≡ stack_marks levels.old.items ++ close_mark ∷ []))) }
 {
     let Some(level) = levels.pop() else {

@@ -21,7 +21,8 @@ fn scan_byte(
 ) -> Result<(), Stop>
     requires placed { IsPlaced bounds.block scanner.old }
     requires block { 0 < bounds.block }
-    ensures scans { Scans (most_of bounds) scanner.old found.old.items (c ∷ []) result scanner.new found.new.items }
+    ensures scans { Scans (most_of bounds) scanner.old found.old.items
+        (c ∷ []) result scanner.new found.new.items }
     ensures placed { OnOk result (IsPlaced bounds.block scanner.new) }
 {
     match scanner.step(alloc, bounds, c) {
@@ -47,8 +48,12 @@ fn scan_some(
     requires block { 0 < bounds.block }
     requires some { 0 < length rest.now }
     ensures ok { IfOk result (λ count. (0 < count) × (count ≤ length rest.now)
-        × (run (most_of bounds) (scan_state scanner.old (outers found.old.items)) rest.now ≡ run (most_of bounds) (scan_state scanner.new (outers found.new.items)) (drop count rest.now))) }
-    ensures err { IfErr result (λ stop. Scans (most_of bounds) scanner.old found.old.items rest.now (Err stop) scanner.new found.new.items) }
+        × (run (most_of bounds) (scan_state scanner.old (outers found.old.items)) rest.now
+        ≡ run (most_of bounds) (scan_state scanner.new (outers found.new.items))
+        (drop count rest.now))) }
+    ensures err { IfErr result
+        (λ stop. Scans (most_of bounds) scanner.old found.old.items rest.now
+        (Err stop) scanner.new found.new.items) }
     ensures placed { OnOk result (IsPlaced bounds.block scanner.new) }
 {
     match scanner.place {

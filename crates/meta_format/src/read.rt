@@ -28,7 +28,8 @@ pub enum ReadFault {
 fn scan_all(alloc: Global, bytes: &[u8]) -> Result<Vec<Found>, ReadFault>
     ensures found { IfOk result (λ found. FindsBlocks bytes.now (outers found.items)) }
     ensures small { length bytes.now ≤ unbounded.block }
-    ensures fault { IsErrOf result ReadFault.NotABlock → IsAlive (run unbounded start_state bytes.now).mode → ⊥ }
+    ensures fault { IsErrOf result ReadFault.NotABlock
+        → IsAlive (run unbounded start_state bytes.now).mode → ⊥ }
 {
     let mut scanner = Scanner::new(alloc);
     let mut found = Vec::new(alloc);
@@ -58,7 +59,8 @@ fn filling_block(mut found: Vec<Found>, size: u64) -> Option<Block>
 #[tactic(auto, using(crate::proofs::Readings::read_rules))]
 pub fn read_block(alloc: Global, bytes: &[u8]) -> Result<Block, ReadFault>
     ensures ok { IfOk result (λ block. Spells limits block bytes.now) }
-    ensures no_block { IsErrOf result ReadFault.NotABlock → (b : Tree) → Spells limits b bytes.now → ⊥ }
+    ensures no_block { IsErrOf result ReadFault.NotABlock → (b : Tree) → Spells limits b bytes.now
+        → ⊥ }
 {
     let size = bytes.len() as u64;
     match scan_all(alloc, bytes) {

@@ -85,7 +85,8 @@ impl Reader {
     /// How many bytes were taken: those of all pieces but the one with a fault, and those behind it.
     pub fn offset(&self) -> u64
         ensures kept { result ≡ self.now.offset }
-        ensures length { (s : List ℕ) (blocks : List Outer) → ReaderHasRead limits self.now s blocks → result ≡ length s }
+        ensures length { (s : List ℕ) (blocks : List Outer) → ReaderHasRead limits self.now s blocks
+            → result ≡ length s }
     {
         self.told.offset
     }
@@ -105,18 +106,26 @@ impl Reader {
     #[tactic(auto, using(crate::proofs::Held::reader_rules))]
     pub fn feed(&mut self, piece: &[u8]) -> Result<Vec<Found>, FeedFault>
         // The blocks found are those that the piece adds to the stream, whatever it was so far.
-        ensures ok { IfOk result (λ found. (s : List ℕ) (blocks : List Outer) → ReaderHasRead limits self.old s blocks → ReaderHasRead limits self.new (s ++ piece.now) (blocks ++ outers found.items)) }
+        ensures ok { IfOk result (λ found. (s : List ℕ) (blocks : List Outer)
+            → ReaderHasRead limits self.old s blocks
+            → ReaderHasRead limits self.new (s ++ piece.now) (blocks ++ outers found.items)) }
 
         // Each closes in this piece, and starts behind the one before it.
-        ensures closes { IfOk result (λ found. (s : List ℕ) (blocks : List Outer) → ReaderHasRead limits self.old s blocks → CloseWithin (length s) (length (s ++ piece.now)) (outers found.items)) }
-        ensures closes_before { IfErr result (λ e. (s : List ℕ) (blocks : List Outer) → ReaderHasRead limits self.old s blocks → CloseWithin (length s) (length (s ++ piece.now)) (found_before e)) }
+        ensures closes { IfOk result (λ found. (s : List ℕ) (blocks : List Outer)
+            → ReaderHasRead limits self.old s blocks
+            → CloseWithin (length s) (length (s ++ piece.now)) (outers found.items)) }
+        ensures closes_before { IfErr result (λ e. (s : List ℕ) (blocks : List Outer)
+            → ReaderHasRead limits self.old s blocks
+            → CloseWithin (length s) (length (s ++ piece.now)) (found_before e)) }
 
         // Why it fails, and that it fails at each fault: where it is Ok the stream has none.
-        ensures fault { IfErr result (λ e. (s : List ℕ) (blocks : List Outer) → ReaderHasRead limits self.old s blocks → Explains limits (s ++ piece.now) blocks e) }
+        ensures fault { IfErr result (λ e. (s : List ℕ) (blocks : List Outer)
+            → ReaderHasRead limits self.old s blocks → Explains limits (s ++ piece.now) blocks e) }
         ensures failed { IsErrOf result FeedFault.Failed ↔ (self.old.failed ≡ true) }
 
         // What a fault leaves.
-        ensures err { OnErr result ((self.new.failed ≡ true) × (self.new.offset ≡ self.old.offset) × (self.new.pending ≡ self.old.pending)) }
+        ensures err { OnErr result ((self.new.failed ≡ true) × (self.new.offset ≡ self.old.offset)
+            × (self.new.pending ≡ self.old.pending)) }
     {
         if self.failed {
             return Err(FeedFault::Failed);
@@ -159,7 +168,8 @@ impl Reader {
 
 /// Where the block starts that is open.
 fn begin_of(place: Place, start: u64) -> Option<u64>
-    ensures { (levels : List Level) (name : List ℕ) → result ≡ begun (mode_at place start levels name) }
+    ensures { (levels : List Level) (name : List ℕ)
+        → result ≡ begun (mode_at place start levels name) }
 {
     match place {
         Place::Outside => None,

@@ -151,7 +151,8 @@ impl Scanner {
         requires shallow { length self.old.levels.items < max_depth }
         requires levels { AreLevels self.old.levels.items }
         requires block { 0 < bounds.block }
-        requires held { IsHeld bounds.block self.old.start self.old.at (stack_marks self.old.levels.items) (length self.old.name.items) }
+        requires held { IsHeld bounds.block self.old.start self.old.at
+            (stack_marks self.old.levels.items) (length self.old.name.items) }
         ensures steps { StepsAt place.Tag (most_of bounds) self.old c result self.new }
         ensures placed { OnOk result (IsPlaced bounds.block self.new) }
     {
@@ -186,7 +187,8 @@ impl Scanner {
         requires nameless { self.old.name.items ≡ [] }
         requires levels { AreLevels self.old.levels.items }
         requires block { 0 < bounds.block }
-        requires held { IsHeld bounds.block self.old.start self.old.at (stack_marks self.old.levels.items) 0 }
+        requires held { IsHeld bounds.block self.old.start self.old.at
+            (stack_marks self.old.levels.items) 0 }
         ensures steps { StepsAt place.Body (most_of bounds) self.old 2 result self.new }
         ensures placed { OnOk result (IsPlaced bounds.block self.new) }
     {
@@ -210,7 +212,8 @@ impl Scanner {
         requires nameless { self.old.name.items ≡ [] }
         requires levels { AreLevels self.old.levels.items }
         requires block { 0 < bounds.block }
-        requires held { IsHeld bounds.block self.old.start self.old.at (stack_marks self.old.levels.items) 0 }
+        requires held { IsHeld bounds.block self.old.start self.old.at
+            (stack_marks self.old.levels.items) 0 }
         ensures steps { StepsAt place.Body (most_of bounds) self.old 5 result self.new }
         ensures placed { OnOk result (IsPlaced bounds.block self.new) }
     {
@@ -249,7 +252,8 @@ impl Scanner {
         requires nameless { self.old.name.items ≡ [] }
         requires levels { AreLevels self.old.levels.items }
         requires block { 0 < bounds.block }
-        requires held { IsHeld bounds.block self.old.start self.old.at (stack_marks self.old.levels.items) 0 }
+        requires held { IsHeld bounds.block self.old.start self.old.at
+            (stack_marks self.old.levels.items) 0 }
         ensures steps { StepsAt place.Body (most_of bounds) self.old c result self.new }
         ensures placed { OnOk result (IsPlaced bounds.block self.new) }
     {
@@ -267,9 +271,12 @@ impl Scanner {
     pub fn skip_noise(&mut self, bounds: Bounds, noise: &[u8])
         requires outside { self.old.place ≡ place.Outside }
         requires placed { IsPlaced bounds.block self.old }
-        requires silent { (k : ℕ) → k < length noise.now → nat_eq (slice_index noise.now k) 2 ≡ false }
+        requires silent { (k : ℕ) → k < length noise.now
+            → nat_eq (slice_index noise.now k) 2 ≡ false }
         requires early { self.old.at + length noise.now ≤ bounds.stream }
-        ensures runs { (out : List Outer) (rest : List ℕ) → run (most_of bounds) (scan_state self.old out) (noise.now ++ rest) ≡ run (most_of bounds) (scan_state self.new out) rest }
+        ensures runs { (out : List Outer) (rest : List ℕ)
+            → run (most_of bounds) (scan_state self.old out) (noise.now ++ rest)
+            ≡ run (most_of bounds) (scan_state self.new out) rest }
         ensures placed { IsPlaced bounds.block self.new }
     {
         self.at += noise.len() as u64;
@@ -280,10 +287,13 @@ impl Scanner {
     pub fn take_run(&mut self, bounds: Bounds, text: &[u8]) -> Result<(), Stop>
         requires body { self.old.place ≡ place.Body }
         requires placed { IsPlaced bounds.block self.old }
-        requires plain { (k : ℕ) → k < length text.now → is_special (slice_index text.now k) ≡ false }
+        requires plain { (k : ℕ) → k < length text.now
+            → is_special (slice_index text.now k) ≡ false }
         requires early { self.old.at + length text.now ≤ bounds.stream }
         requires short { self.old.at + length text.now < bounds.block + self.old.start }
-        ensures runs { OnOk result ((out : List Outer) (rest : List ℕ) → run (most_of bounds) (scan_state self.old out) (text.now ++ rest) ≡ run (most_of bounds) (scan_state self.new out) rest) }
+        ensures runs { OnOk result ((out : List Outer) (rest : List ℕ)
+            → run (most_of bounds) (scan_state self.old out) (text.now ++ rest)
+            ≡ run (most_of bounds) (scan_state self.new out) rest) }
         ensures placed { OnOk result (IsPlaced bounds.block self.new) }
         ensures memory { IfErr result (λ e. e ≡ stop.OutOfMemory) }
     {
@@ -300,7 +310,8 @@ impl Scanner {
         requires nameless { self.old.name.items ≡ [] }
         requires levels { AreLevels self.old.levels.items }
         requires block { 0 < bounds.block }
-        requires held { IsHeld bounds.block self.old.start self.old.at (stack_marks self.old.levels.items) 0 }
+        requires held { IsHeld bounds.block self.old.start self.old.at
+            (stack_marks self.old.levels.items) 0 }
         ensures steps { StepsAt place.Body (most_of bounds) self.old 27 result self.new }
         ensures placed { OnOk result (IsPlaced bounds.block self.new) }
     {
@@ -319,7 +330,8 @@ impl Scanner {
         requires nameless { self.old.name.items ≡ [] }
         requires levels { AreLevels self.old.levels.items }
         requires block { 0 < bounds.block }
-        requires held { IsHeld bounds.block self.old.start self.old.at (stack_marks self.old.levels.items) 0 }
+        requires held { IsHeld bounds.block self.old.start self.old.at
+            (stack_marks self.old.levels.items) 0 }
         ensures steps { StepsAt place.Body (most_of bounds) self.old c result self.new }
         ensures placed { OnOk result (IsPlaced bounds.block self.new) }
     {
@@ -338,7 +350,8 @@ impl Scanner {
         requires nameless { self.old.name.items ≡ [] }
         requires levels { AreLevels self.old.levels.items }
         requires block { 0 < bounds.block }
-        requires held { IsHeld bounds.block self.old.start self.old.at (stack_marks self.old.levels.items) 1 }
+        requires held { IsHeld bounds.block self.old.start self.old.at
+            (stack_marks self.old.levels.items) 1 }
         ensures steps { StepsAt place.Escape (most_of bounds) self.old c result self.new }
         ensures placed { OnOk result (IsPlaced bounds.block self.new) }
     {

@@ -93,9 +93,13 @@ impl Life {
     /// An error gives the item back, and changes nothing.
     pub fn accept(&mut self, item: Item) -> Result<Option<Octets>, AcceptFault>
         requires { self.old.over ≡ false }
-        ensures ok { (past : List Event) (blocks : List Outer) → LifeHasPast self.old past blocks → IfOk result (λ sent. Accepts past blocks item sent self.new) }
-        ensures full { (past : List Event) (blocks : List Outer) → LifeHasPast self.old past blocks → IsErrOf result (AcceptFault.Full item) ↔ (length (waiting_of past blocks) ≡ most_waiting) }
-        ensures err { IfErr result (λ fault. (fault ≡ AcceptFault.Full item) ⊎ (fault ≡ AcceptFault.OutOfMemory item)) }
+        ensures ok { (past : List Event) (blocks : List Outer) → LifeHasPast self.old past blocks
+            → IfOk result (λ sent. Accepts past blocks item sent self.new) }
+        ensures full { (past : List Event) (blocks : List Outer) → LifeHasPast self.old past blocks
+            → IsErrOf result (AcceptFault.Full item)
+            ↔ (length (waiting_of past blocks) ≡ most_waiting) }
+        ensures err { IfErr result (λ fault. (fault ≡ AcceptFault.Full item) ⊎ (fault
+            ≡ AcceptFault.OutOfMemory item)) }
         ensures same { OnErr result (self.new ≡ self.old) }
         ensures number { self.new.number ≡ self.old.number }
         ensures over { self.new.over ≡ false }
@@ -107,8 +111,10 @@ impl Life {
     fn join(&mut self, item: Item) -> Result<Option<Octets>, AcceptFault>
         requires { self.old.over ≡ false }
         ensures ok { IfOk result (λ sent. Joins self.old self.new item sent) }
-        ensures full { IsErrOf result (AcceptFault.Full item) ↔ (length self.old.waiting ≡ most_waiting) }
-        ensures err { IfErr result (λ fault. (fault ≡ AcceptFault.Full item) ⊎ (fault ≡ AcceptFault.OutOfMemory item)) }
+        ensures full { IsErrOf result (AcceptFault.Full item)
+            ↔ (length self.old.waiting ≡ most_waiting) }
+        ensures err { IfErr result (λ fault. (fault ≡ AcceptFault.Full item) ⊎ (fault
+            ≡ AcceptFault.OutOfMemory item)) }
         ensures same { OnErr result (self.new ≡ self.old) }
         ensures number { self.new.number ≡ self.old.number }
         ensures over { self.new.over ≡ false }
@@ -139,7 +145,8 @@ impl Life {
     /// taken.
     pub fn finish(self, reason: Reason) -> Ended
         requires { self.over ≡ false }
-        ensures { (past : List Event) (blocks : List Outer) → LifeHasPast self past blocks → result ≡ record { reason = reason; lost = waiting_of past blocks } }
+        ensures { (past : List Event) (blocks : List Outer) → LifeHasPast self past blocks
+            → result ≡ record { reason = reason; lost = waiting_of past blocks } }
     {
         Ended {
             reason,
@@ -151,7 +158,8 @@ impl Life {
     ///
     /// Of a life that is over nothing is claimed but that the call returns.
     pub fn waiting(&self) -> u32
-        ensures { (past : List Event) (blocks : List Outer) → LifeHasPast self.now past blocks → result ≡ length (waiting_of past blocks) }
+        ensures { (past : List Event) (blocks : List Outer) → LifeHasPast self.now past blocks
+            → result ≡ length (waiting_of past blocks) }
     {
         self.waiting.len() as u32
     }
@@ -160,7 +168,8 @@ impl Life {
     ///
     /// Of a life that is over nothing is claimed but that the call returns.
     pub fn waits_for(&self, id: u32) -> bool
-        ensures { (past : List Event) (blocks : List Outer) → LifeHasPast self.now past blocks → result ≡ list_any (λ item. is_line_of id item) (waiting_of past blocks) }
+        ensures { (past : List Event) (blocks : List Outer) → LifeHasPast self.now past blocks
+            → result ≡ list_any (λ item. is_line_of id item) (waiting_of past blocks) }
     {
         has_line(&self.waiting, id)
     }
@@ -170,7 +179,8 @@ impl Life {
     ///
     /// Of a life that is over nothing is claimed but that it has at most 1,024 bytes.
     pub fn prompt(&self) -> &[u8]
-        ensures prompt { (past : List Event) (blocks : List Outer) → LifeHasPast self.now past blocks → result.now ≡ prompt_of past blocks }
+        ensures prompt { (past : List Event) (blocks : List Outer)
+            → LifeHasPast self.now past blocks → result.now ≡ prompt_of past blocks }
         ensures short { length result.now ≤ prompt_limit }
     {
         self.prompt.as_slice()

@@ -34,7 +34,8 @@ impl Life {
     /// After want of memory the life is over. Blocks that answer nothing are dropped here.
     pub fn piece(&mut self, piece: &[u8]) -> Result<Step, OutOfMemory>
         requires { self.old.over ≡ false }
-        ensures ok { (past : List Event) (before : List Outer) → LifeHasPast self.old past before → IfOk result (λ step. Takes past before piece.now step self.new) }
+        ensures ok { (past : List Event) (before : List Outer) → LifeHasPast self.old past before
+            → IfOk result (λ step. Takes past before piece.now step self.new) }
         ensures ended { IfOk result (λ step. self.new.over ≡ is_some step.ended) }
         ensures err { OnErr result (self.new.over ≡ true) }
         ensures number { self.new.number ≡ self.old.number }
@@ -80,7 +81,8 @@ impl Life {
 
     /// The blocks of a piece without a fault.
     fn pass(&mut self, found: &[Found]) -> Result<Step, OutOfMemory>
-        ensures ok { IfOk result (λ step. Passes (closed_among self.old.ask (outers found.now)) self.old self.new step) }
+        ensures ok { IfOk result
+            (λ step. Passes (closed_among self.old.ask (outers found.now)) self.old self.new step) }
         ensures number { self.new.number ≡ self.old.number }
     {
         let Some(answer) = self.answer_in(found) else {
@@ -99,7 +101,9 @@ impl Life {
     /// The blocks of a piece with a fault after them.
     fn break_off(&mut self, reason: Reason, found: &[Found]) -> Result<Step, OutOfMemory>
         requires { self.old.over ≡ true }
-        ensures ok { IfOk result (λ step. Breaks (closed_among self.old.ask (outers found.now)) self.old self.new reason step) }
+        ensures ok { IfOk result
+            (λ step. Breaks
+            (closed_among self.old.ask (outers found.now)) self.old self.new reason step) }
         ensures over { self.new.over ≡ true }
         ensures number { self.new.number ≡ self.old.number }
     {
@@ -124,7 +128,8 @@ impl Life {
 
     /// The block that closes the answer that is awaited, if one does.
     fn answer_in<'a>(&self, found: &'a [Found]) -> Option<&'a Found>
-        ensures { option_map outer_of (option_copied result) ≡ closed_among self.now.ask (outers found.now) }
+        ensures { option_map outer_of (option_copied result)
+            ≡ closed_among self.now.ask (outers found.now) }
     {
         match self.ask {
             Some(ask) => first_behind(found, ask),
@@ -152,7 +157,8 @@ impl Life {
 
     /// The prompt of a block, or else the latest one.
     fn prompt_behind(&self, block: &Block) -> Result<Octets, OutOfMemory>
-        ensures value { IfOk result (λ prompt. prompt ≡ unwrap_or (prompt_in block.now) self.now.prompt) }
+        ensures value { IfOk result (λ prompt. prompt
+            ≡ unwrap_or (prompt_in block.now) self.now.prompt) }
         ensures short { IfOk result (λ prompt. length prompt ≤ prompt_limit) }
     {
         match prompt_of_block(self.alloc, block)? {
@@ -189,7 +195,8 @@ impl Life {
 
     /// The bytes of the first item.
     fn first_bytes(&self) -> Result<Option<Octets>, OutOfMemory>
-        ensures { IfOk result (λ bytes. bytes ≡ option_map bytes_of (slice_get self.now.waiting 0)) }
+        ensures { IfOk result (λ bytes. bytes
+            ≡ option_map bytes_of (slice_get self.now.waiting 0)) }
     {
         match self.waiting.front() {
             Some(item) => Ok(Some(bytes_for(self.alloc, item)?)),

@@ -25,7 +25,8 @@ impl<D: Disk> Engine<D> {
 
     /// Whether an op is allowed: by the worksheet, and while lines wait. A full journal isn't asked for.
     pub(crate) fn check(&self, op: &Op) -> Result<(), Refusal>
-        ensures { (w : World) → StandsAt self.now w → result_err result ≡ first_of (checks w op.now) }
+        ensures { (w : World) → StandsAt self.now w
+            → result_err result ≡ first_of (checks w op.now) }
     {
         let checked = self.store.sheet().check(op);
         match op {
@@ -55,11 +56,17 @@ impl<D: Disk> Engine<D> {
         requires works { Works self.old }
         requires allowed { first_refusal self.old.store.sheet.contents op ≡ None }
         ensures same { SameDisk self.old.store.disk self.new.store.disk }
-        ensures ok { (w : World) → StandsAt self.old w → AllByRecursion (SparesLife op) w.lives → IfOk result (Changes w op reply self.old self.new) }
-        ensures fault { IfErr result (λ fault. (fault ≡ faults.Disk) × (self.new.store.sheet.contents ≡ self.old.store.sheet.contents) × Rises self.old.store.disk.faults self.new.store.disk.faults) }
+        ensures ok { (w : World) → StandsAt self.old w → AllByRecursion (SparesLife op) w.lives
+            → IfOk result (Changes w op reply self.old self.new) }
+        ensures fault { IfErr result (λ fault. (fault ≡ faults.Disk)
+            × (self.new.store.sheet.contents ≡ self.old.store.sheet.contents)
+            × Rises self.old.store.disk.faults self.new.store.disk.faults) }
         ensures fits { (w : World) → StandsAt self.old w → OnErr result (fits w op ≡ true) }
         ensures lives { self.new.lives ≡ self.old.lives }
-        ensures moments { (w : World) → StandsAt self.old w → InModel self.old.store.disk (LeavesOnly (IsEither w.ops op) self.old.store.disk.history self.new.store.disk.history) }
+        ensures moments { (w : World) → StandsAt self.old w
+            → InModel self.old.store.disk
+            (LeavesOnly
+            (IsEither w.ops op) self.old.store.disk.history self.new.store.disk.history) }
     {
         match commit(&mut self.store, op) {
             Ok(None) => Ok(Outcome {
@@ -75,8 +82,10 @@ impl<D: Disk> Engine<D> {
     pub(crate) fn alter(&mut self, op: Op) -> Result<Outcome, HostFault>
         requires { Works self.old }
         ensures same { SameDisk self.old.store.disk self.new.store.disk }
-        ensures took { (w : World) (c : Command) → StandsAt self.old w → op_of c ≡ Some op → IfOk result (TookAt w (event.Command c) self.old self.new) }
-        ensures failed { (w : World) (c : Command) → StandsAt self.old w → op_of c ≡ Some op → IfErr result (FailedAt w (event.Command c) self.old self.new) }
+        ensures took { (w : World) (c : Command) → StandsAt self.old w → op_of c ≡ Some op
+            → IfOk result (TookAt w (event.Command c) self.old self.new) }
+        ensures failed { (w : World) (c : Command) → StandsAt self.old w → op_of c ≡ Some op
+            → IfErr result (FailedAt w (event.Command c) self.old self.new) }
     {
         if let Err(refusal) = self.check(&op) {
             return Ok(refused(refusal));

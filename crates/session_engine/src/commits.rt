@@ -20,10 +20,14 @@ pub(crate) fn commit<D: Disk>(store: &mut Store<D>, op: Op) -> Result<Option<Ref
     requires open { store.old.closed ≡ false }
     requires allowed { first_refusal store.old.sheet.contents op ≡ None }
     ensures same { SameDisk store.old.disk store.new.disk }
-    ensures ok { (ops : List Op) → store.old.sheet.contents ≡ sheet_of ops → IfOk result (Commits store.old ops op store.new) }
+    ensures ok { (ops : List Op) → store.old.sheet.contents ≡ sheet_of ops
+        → IfOk result (Commits store.old ops op store.new) }
     ensures fits { OnErr result (fits_in store.old.disk.room store.old.end op ≡ true) }
-    ensures err { OnErr result ((store.new.sheet.contents ≡ store.old.sheet.contents) × Rises store.old.disk.faults store.new.disk.faults) }
-    ensures moments { InModel store.old.disk ((ops : List Op) → store.old.sheet.contents ≡ sheet_of ops → LeavesOnly (IsEither ops op) store.old.disk.history store.new.disk.history) }
+    ensures err { OnErr result ((store.new.sheet.contents ≡ store.old.sheet.contents)
+        × Rises store.old.disk.faults store.new.disk.faults) }
+    ensures moments { InModel store.old.disk ((ops : List Op)
+        → store.old.sheet.contents ≡ sheet_of ops
+        → LeavesOnly (IsEither ops op) store.old.disk.history store.new.disk.history) }
 {
     match store.commit(op) {
         Ok(()) => Ok(None),
@@ -42,9 +46,14 @@ pub(crate) fn keep<D: Disk>(
     requires open { store.old.closed ≡ false }
     requires allowed { AllowedIf store.old.sheet.contents (op_by answered) }
     ensures same { SameDisk store.old.disk store.new.disk }
-    ensures ok { (ops : List Op) → store.old.sheet.contents ≡ sheet_of ops → IfOk result (λ closed. (closed ≡ closed_told answered) × CommittedIf store.old ops (op_by answered) store.new) }
+    ensures ok { (ops : List Op) → store.old.sheet.contents ≡ sheet_of ops
+        → IfOk result (λ closed. (closed ≡ closed_told answered)
+        × CommittedIf store.old ops (op_by answered) store.new) }
     ensures fault { IfErr result (NotKept store.old (op_by answered) store.new) }
-    ensures moments { InModel store.old.disk ((ops : List Op) → store.old.sheet.contents ≡ sheet_of ops → LeavesOnly (IsEitherIf ops (op_by answered)) store.old.disk.history store.new.disk.history) }
+    ensures moments { InModel store.old.disk ((ops : List Op)
+        → store.old.sheet.contents ≡ sheet_of ops
+        → LeavesOnly
+        (IsEitherIf ops (op_by answered)) store.old.disk.history store.new.disk.history) }
 {
     let _sheet = store.sheet();
     match answered {

@@ -23,7 +23,9 @@ impl<D: Disk> Engine<D> {
     /// The end of a life from outside.
     pub(crate) fn end(&mut self, name: Name, number: u32, reason: Reason, killed: bool) -> Outcome
         requires { Works self.old }
-        ensures took { (w : World) (e : ChildEvent) → StandsAt self.old w → end_by e ≡ Some (reason, killed) → TookAt w (event_of.Child name number e) self.old self.new result }
+        ensures took { (w : World) (e : ChildEvent) → StandsAt self.old w
+            → end_by e ≡ Some (reason, killed)
+            → TookAt w (event_of.Child name number e) self.old self.new result }
         ensures store { self.new.store ≡ self.old.store }
     {
         if !has_life(&self.lives, name, number) {
@@ -39,7 +41,9 @@ impl<D: Disk> Engine<D> {
 /// What is told of the end of a life.
 pub(crate) fn ended(running: Running, reason: Reason, killed: bool) -> Outcome
     requires { running.life.over ≡ false }
-    ensures { (past : List LifeEvent) (blocks : List Outer) → LifeHasPast running.life past blocks → result ≡ ends (record { name = running.name; number = running.life.number; past = past; blocks = blocks }) reason killed }
+    ensures { (past : List LifeEvent) (blocks : List Outer) → LifeHasPast running.life past blocks
+        → result ≡ ends
+        (record { name = running.name; number = running.life.number; past = past; blocks = blocks }) reason killed }
 {
     let Running { name, life } = running;
     let number = life.number();

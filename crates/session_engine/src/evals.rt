@@ -57,7 +57,8 @@ fn ask(
     item: Item,
 ) -> Result<(u32, Option<Octets>), OutOfMemory>
     requires { GoesOnAt lives.old.items name }
-    ensures ok { IfOk result (λ told. Asked name next item lives.old.items lives.new.items told.0 told.1) }
+    ensures ok { IfOk result
+        (λ told. Asked name next item lives.old.items lives.new.items told.0 told.1) }
     ensures err { OnErr result (lives.new.items ≡ lives.old.items) }
 {
     match place_of(lives, name) {
@@ -99,7 +100,8 @@ impl<D: Disk> Engine<D> {
 
     /// Whether a session takes one line more.
     fn queue(&self, name: Name) -> Result<(), Refusal>
-        ensures { (w : World) → StandsAt self.now w → result_err result ≡ first_of (queue_refusals w (life_of w name)) }
+        ensures { (w : World) → StandsAt self.now w
+            → result_err result ≡ first_of (queue_refusals w (life_of w name)) }
     {
         match place_of(&self.lives, name) {
             Some(place) => {
@@ -125,8 +127,10 @@ impl<D: Disk> Engine<D> {
         ensures lives { self.new.lives ≡ self.old.lives }
         ensures begun { self.new.begun ≡ self.old.begun }
         ensures frame { IfOk result (IsReady self.new.store (op.Clear id)) }
-        ensures ok { (w : World) → StandsAt self.old w → session_of_field w id ≡ name → IfOk result (λ _. first_of (eval_refusals w id) ≡ None) }
-        ensures err { (w : World) → StandsAt self.old w → session_of_field w id ≡ name → IfErr result (RefusesEval w id) }
+        ensures ok { (w : World) → StandsAt self.old w → session_of_field w id ≡ name
+            → IfOk result (λ _. first_of (eval_refusals w id) ≡ None) }
+        ensures err { (w : World) → StandsAt self.old w → session_of_field w id ≡ name
+            → IfErr result (RefusesEval w id) }
     {
         if let Err(refusal) = self.queue(name) {
             return Err(refusal);
@@ -142,10 +146,15 @@ impl<D: Disk> Engine<D> {
     /// Asks an item of a session: it begins a life, or joins the one that goes on.
     fn asked(&mut self, name: Name, item: Item) -> Result<Outcome, OutOfMemory>
         requires { Works self.old }
-        ensures ok { (w : World) → StandsAt self.old w → lives_are_spent w.begun (life_of w name) ≡ false → HasField (sheet_in w) item → IfOk result (λ o. (o ≡ asks w name item (life_of w name)) × StandsAt self.new (with_item w name item (life_of w name))) }
-        ensures err { OnErr result ((self.new.lives.items ≡ self.old.lives.items) × (self.new.begun ≡ self.old.begun)) }
+        ensures ok { (w : World) → StandsAt self.old w
+            → lives_are_spent w.begun (life_of w name) ≡ false → HasField (sheet_in w) item
+            → IfOk result (λ o. (o ≡ asks w name item (life_of w name))
+            × StandsAt self.new (with_item w name item (life_of w name))) }
+        ensures err { OnErr result ((self.new.lives.items ≡ self.old.lives.items)
+            × (self.new.begun ≡ self.old.begun)) }
         ensures store { self.new.store ≡ self.old.store }
-        ensures back { OnOk result (CanGoBack name self.old.lives.items self.old.begun self.new.lives.items self.new.begun) }
+        ensures back { OnOk result
+            (CanGoBack name self.old.lives.items self.old.begun self.new.lives.items self.new.begun) }
     {
         let words = self.words_for(name)?;
         let (number, sent) = ask(self.alloc, &mut self.lives, self.begun + 1, name, item)?;
@@ -186,8 +195,10 @@ impl<D: Disk> Engine<D> {
     pub(crate) fn eval(&mut self, id: u32) -> Result<Outcome, HostFault>
         requires { Works self.old }
         ensures same { SameDisk self.old.store.disk self.new.store.disk }
-        ensures took { (w : World) → StandsAt self.old w → IfOk result (TookAt w (event_of.Command (command_of.Eval id)) self.old self.new) }
-        ensures failed { (w : World) → StandsAt self.old w → IfErr result (FailedAt w (event_of.Command (command_of.Eval id)) self.old self.new) }
+        ensures took { (w : World) → StandsAt self.old w
+            → IfOk result (TookAt w (event_of.Command (command_of.Eval id)) self.old self.new) }
+        ensures failed { (w : World) → StandsAt self.old w
+            → IfErr result (FailedAt w (event_of.Command (command_of.Eval id)) self.old self.new) }
     {
         let (name, line) = match self.store.sheet().field(id) {
             Some(field) => (field.session, line_of(self.alloc, field)),
@@ -216,11 +227,21 @@ impl<D: Disk> Engine<D> {
         requires works { Works self.old }
         requires ready { IsReady self.old.store (op.Clear id) frame }
         ensures same { SameDisk self.old.store.disk self.new.store.disk }
-        ensures ok { (w : World) → StandsAt self.old w → lives_are_spent w.begun (life_of w name) ≡ false → HasField (sheet_in w) line → IfOk result (Evaluated w name id line self.old self.new) }
-        ensures contents { OnErr result (self.new.store.sheet.contents ≡ self.old.store.sheet.contents) }
-        ensures numbers { (other : List ℕ) → OnErr result (number_in self.new.lives.items other ≡ number_in self.old.lives.items other) }
-        ensures fault { IfErr result (λ fault. (fault ≡ faults.Disk) × Rises self.old.store.disk.faults self.new.store.disk.faults) }
-        ensures moments { (w : World) → StandsAt self.old w → InModel self.old.store.disk (LeavesOnly (IsEither w.ops (op.Clear id)) self.old.store.disk.history self.new.store.disk.history) }
+        ensures ok { (w : World) → StandsAt self.old w
+            → lives_are_spent w.begun (life_of w name) ≡ false → HasField (sheet_in w) line
+            → IfOk result (Evaluated w name id line self.old self.new) }
+        ensures contents { OnErr result (self.new.store.sheet.contents
+            ≡ self.old.store.sheet.contents) }
+        ensures numbers { (other : List ℕ)
+            → OnErr result (number_in self.new.lives.items other
+            ≡ number_in self.old.lives.items other) }
+        ensures fault { IfErr result (λ fault. (fault ≡ faults.Disk)
+            × Rises self.old.store.disk.faults self.new.store.disk.faults) }
+        ensures moments { (w : World) → StandsAt self.old w
+            → InModel self.old.store.disk
+            (LeavesOnly
+            (IsEither w.ops
+            (op.Clear id)) self.old.store.disk.history self.new.store.disk.history) }
     {
         let begun = self.begun;
         match self.asked(name, line) {
@@ -237,7 +258,8 @@ impl<D: Disk> Engine<D> {
 
     /// The words that a life of this session is to be started with, where none goes on.
     fn words_for(&self, name: Name) -> Result<Option<Sequence<Octets>>, OutOfMemory>
-        ensures { (w : World) → StandsAt self.now w → IfOk result (λ words. words ≡ start_words w name (life_of w name)) }
+        ensures { (w : World) → StandsAt self.now w
+            → IfOk result (λ words. words ≡ start_words w name (life_of w name)) }
     {
         match place_of(&self.lives, name) {
             Some(_) => Ok(None),

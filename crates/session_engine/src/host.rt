@@ -62,18 +62,27 @@ impl<D: Disk> Host<D> {
         ensures same { SameDisk (D.view disk) (disk_of_opening D.view result) }
 
         // The host stands for the world of any allowed ops that make its worksheet, and there are such.
-        ensures opens { IfOk result (λ host. (ops : List Op) × IsHost host (world_at_opening ops (D.view disk).room host.store.end)) }
-        ensures stands { IfOk result (λ host. (ops : List Op) → Allowed ops → host.store.sheet.contents ≡ sheet_of ops → IsHost host (world_at_opening ops (D.view disk).room host.store.end)) }
+        ensures opens { IfOk result (λ host. (ops : List Op)
+            × IsHost host (world_at_opening ops (D.view disk).room host.store.end)) }
+        ensures stands { IfOk result (λ host. (ops : List Op) → Allowed ops
+            → host.store.sheet.contents ≡ sheet_of ops
+            → IsHost host (world_at_opening ops (D.view disk).room host.store.end)) }
 
         // The worksheet is the one that the disk stands for, and one that stands for a worksheet is opened.
-        ensures found { InModel (D.view disk) (IfOk result (λ host. IsSheetImage host.store.sheet.contents (bytes_on (D.view disk)))) }
-        ensures exact { InModel (D.view disk) ((sheet : Contents) → IsSheetImage sheet (bytes_on (D.view disk)) → HostGivesSheet sheet result) }
-        ensures ends { InModel (D.view disk) (IfOk result (λ host. EndsAt (bytes_on (D.view disk)) host.store.end)) }
-        ensures fault { InModel (D.view disk) (IfErr result (λ e. TellsOfSheet (bytes_on (D.view disk)) e.cause)) }
-        ensures faulty { IfErr result (λ e. e.cause ≡ OpenCause.Disk → Rises (D.view disk).faults (D.view e.disk).faults) }
+        ensures found { InModel (D.view disk) (IfOk result
+            (λ host. IsSheetImage host.store.sheet.contents (bytes_on (D.view disk)))) }
+        ensures exact { InModel (D.view disk) ((sheet : Contents)
+            → IsSheetImage sheet (bytes_on (D.view disk)) → HostGivesSheet sheet result) }
+        ensures ends { InModel (D.view disk) (IfOk result
+            (λ host. EndsAt (bytes_on (D.view disk)) host.store.end)) }
+        ensures fault { InModel (D.view disk) (IfErr result
+            (λ e. TellsOfSheet (bytes_on (D.view disk)) e.cause)) }
+        ensures faulty { IfErr result (λ e. e.cause ≡ OpenCause.Disk
+            → Rises (D.view disk).faults (D.view e.disk).faults) }
 
         // It changes no byte, and at every moment each image is one that a crash could leave at the start.
-        ensures looks { InModel (D.view disk) (Looks (D.view disk).history (disk_of_opening D.view result).history) }
+        ensures looks { InModel (D.view disk)
+            (Looks (D.view disk).history (disk_of_opening D.view result).history) }
     {
         let store = match Store::open(alloc, disk) {
             Ok(store) => store,
@@ -98,8 +107,10 @@ impl<D: Disk> Host<D> {
     /// `Err` the host is closed: the worksheet, and the number of each life, are as before the event.
     pub fn step(&mut self, event: Event) -> Result<Outcome, HostFault>
         ensures same { SameDisk self.old.store.disk self.new.store.disk }
-        ensures took { (w : World) → IsHost self.old w → IfOk result (Took w event self.old self.new) }
-        ensures failed { (w : World) → IsHost self.old w → IfErr result (Failed w event self.old self.new) }
+        ensures took { (w : World) → IsHost self.old w
+            → IfOk result (Took w event self.old self.new) }
+        ensures failed { (w : World) → IsHost self.old w
+            → IfErr result (Failed w event self.old self.new) }
         ensures closed { IsErrOf result HostFault.Closed ↔ (self.old.closed ≡ true) }
         ensures closes { OnErr result (self.new.closed ≡ true) }
         ensures still { self.old.closed ≡ true → self.new ≡ self.old }
@@ -129,7 +140,9 @@ impl<D: Disk> Host<D> {
     /// and nothing is claimed of `waiting`.
     pub fn life(&self, name: Name) -> Option<LifeView>
         ensures number { option_map (λ l. l.number) result ≡ number_in self.now.lives name }
-        ensures life { (w : World) → IsHost self.now w → result ≡ option_map (λ l. record { number = l.number; waiting = length (waiting_in l) }) (life_of w name) }
+        ensures life { (w : World) → IsHost self.now w
+            → result ≡ option_map
+            (λ l. record { number = l.number; waiting = length (waiting_in l) }) (life_of w name) }
     {
         match place_of(&self.engine.lives, name) {
             Some(place) => {
@@ -147,7 +160,8 @@ impl<D: Disk> Host<D> {
     /// on: that of its latest answer that has one, cut to 1,024 bytes, or `> `. After a fault nothing is
     /// claimed of it.
     pub fn prompt(&self, name: Name) -> Option<&[u8]>
-        ensures prompt { (w : World) → IsHost self.now w → option_copied result ≡ option_map (λ l. prompt_of l.past l.blocks) (life_of w name) }
+        ensures prompt { (w : World) → IsHost self.now w
+            → option_copied result ≡ option_map (λ l. prompt_of l.past l.blocks) (life_of w name) }
     {
         match place_of(&self.engine.lives, name) {
             Some(place) => {

@@ -27,8 +27,12 @@ impl<D: Disk> Engine<D> {
     ) -> Result<Outcome, HostFault>
         requires { Works self.old }
         ensures same { SameDisk self.old.store.disk self.new.store.disk }
-        ensures took { (w : World) → StandsAt self.old w → IfOk result (TookAt w (event.Child name number (child.Piece piece.now)) self.old self.new) }
-        ensures failed { (w : World) → StandsAt self.old w → IfErr result (FailedAt w (event.Child name number (child.Piece piece.now)) self.old self.new) }
+        ensures took { (w : World) → StandsAt self.old w
+            → IfOk result
+            (TookAt w (event.Child name number (child.Piece piece.now)) self.old self.new) }
+        ensures failed { (w : World) → StandsAt self.old w
+            → IfErr result
+            (FailedAt w (event.Child name number (child.Piece piece.now)) self.old self.new) }
     {
         plugin_core::short_prompts();
         let Some(fed) = feed(&mut self.lives, name, number, piece) else {

@@ -27,9 +27,13 @@ impl<D: Disk> Host<D> {
     /// those told of among them once the call has ended.
     pub fn play(&mut self, events: Vec<Event>) -> Result<Vec<Outcome>, PlayFault>
         ensures same { SameDisk self.old.store.disk self.new.store.disk }
-        ensures played { (w : World) → IsHost self.old w → IfOk result (λ outcomes. HasPlayed w events.items [] outcomes.items self.new) }
-        ensures moments { (w : World) → IsHost self.old w → IfOk result (λ outcomes. Moments w events.items outcomes.items self.old.store.disk self.new.store.disk) }
-        ensures halts { (w : World) → IsHost self.old w → IfErr result (Halts w events.items self.old self.new) }
+        ensures played { (w : World) → IsHost self.old w
+            → IfOk result (λ outcomes. HasPlayed w events.items [] outcomes.items self.new) }
+        ensures moments { (w : World) → IsHost self.old w
+            → IfOk result
+            (λ outcomes. Moments w events.items outcomes.items self.old.store.disk self.new.store.disk) }
+        ensures halts { (w : World) → IsHost self.old w
+            → IfErr result (Halts w events.items self.old self.new) }
         ensures closed { self.old.closed ≡ true → PlaysClosed events.items result }
         ensures still { self.old.closed ≡ true → self.new ≡ self.old }
     {

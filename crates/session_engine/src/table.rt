@@ -72,7 +72,8 @@ pub(crate) fn feed(
 
 /// Takes the life of this session out, where it is over.
 pub(crate) fn settle(lives: &mut Vec<Running>, name: Name, over: bool)
-    ensures { lives.new.items ≡ (if over then without_named name_of name lives.old.items else lives.old.items) }
+    ensures { lives.new.items
+        ≡ (if over then without_named name_of name lives.old.items else lives.old.items) }
 {
     if over {
         let _ = take_life(lives, name);

@@ -22,8 +22,10 @@ impl<D: Disk> Engine<D> {
     pub(crate) fn take(&mut self, event: Event) -> Result<Outcome, HostFault>
         requires { Works self.old }
         ensures same { SameDisk self.old.store.disk self.new.store.disk }
-        ensures took { (w : World) → StandsAt self.old w → IfOk result (TookAt w event self.old self.new) }
-        ensures failed { (w : World) → StandsAt self.old w → IfErr result (FailedAt w event self.old self.new) }
+        ensures took { (w : World) → StandsAt self.old w
+            → IfOk result (TookAt w event self.old self.new) }
+        ensures failed { (w : World) → StandsAt self.old w
+            → IfErr result (FailedAt w event self.old self.new) }
     {
         match event {
             Event::Command(command) => self.command(command),
@@ -34,8 +36,10 @@ impl<D: Disk> Engine<D> {
     fn command(&mut self, command: Command) -> Result<Outcome, HostFault>
         requires { Works self.old }
         ensures same { SameDisk self.old.store.disk self.new.store.disk }
-        ensures took { (w : World) → StandsAt self.old w → IfOk result (TookAt w (event_of.Command command) self.old self.new) }
-        ensures failed { (w : World) → StandsAt self.old w → IfErr result (FailedAt w (event_of.Command command) self.old self.new) }
+        ensures took { (w : World) → StandsAt self.old w
+            → IfOk result (TookAt w (event_of.Command command) self.old self.new) }
+        ensures failed { (w : World) → StandsAt self.old w
+            → IfErr result (FailedAt w (event_of.Command command) self.old self.new) }
     {
         match command {
             Command::Eval { id } => self.eval(id),
@@ -50,7 +54,8 @@ impl<D: Disk> Engine<D> {
     /// The interpreter of a session is stopped.
     fn stop(&mut self, name: Octets) -> Outcome
         requires { Works self.old }
-        ensures took { (w : World) → StandsAt self.old w → TookAt w (event_of.Command (command_of.Stop name)) self.old self.new result }
+        ensures took { (w : World) → StandsAt self.old w
+            → TookAt w (event_of.Command (command_of.Stop name)) self.old self.new result }
         ensures store { self.new.store ≡ self.old.store }
     {
         let name = match self.store.sheet().session(name.as_slice()) {
@@ -69,8 +74,10 @@ impl<D: Disk> Engine<D> {
     fn child(&mut self, name: Name, life: u32, event: ChildEvent) -> Result<Outcome, HostFault>
         requires { Works self.old }
         ensures same { SameDisk self.old.store.disk self.new.store.disk }
-        ensures took { (w : World) → StandsAt self.old w → IfOk result (TookAt w (event_of.Child name life event) self.old self.new) }
-        ensures failed { (w : World) → StandsAt self.old w → IfErr result (FailedAt w (event_of.Child name life event) self.old self.new) }
+        ensures took { (w : World) → StandsAt self.old w
+            → IfOk result (TookAt w (event_of.Child name life event) self.old self.new) }
+        ensures failed { (w : World) → StandsAt self.old w
+            → IfErr result (FailedAt w (event_of.Child name life event) self.old self.new) }
     {
         match event {
             ChildEvent::StartRefused => Ok(self.end(name, life, Reason::StartRefused, false)),

@@ -14,7 +14,9 @@ use std::io::Write;
 /// Writes a tag behind its brace.
 #[tactic(auto, using(crate::proofs::Appending::steps))]
 fn open_tag<W: Write>(tag: &Tag, out: &mut W) -> Result<(), WriteFault>
-    ensures { OnOk result (Appends (W.contents out.old) (W.contents out.new) (123 ∷ (on_line tag.now.name ++ sign tag.now.channel ∷ []))) }
+    ensures { OnOk result
+        (Appends (W.contents out.old) (W.contents out.new)
+        (123 ∷ (on_line tag.now.name ++ sign tag.now.channel ∷ []))) }
 {
     out.write_all(b"{").map_err(|_| WriteFault)?;
     write_line(tag.name.as_slice(), out)?;
@@ -27,7 +29,8 @@ fn open_tag<W: Write>(tag: &Tag, out: &mut W) -> Result<(), WriteFault>
 
 #[tactic(auto, using(crate::proofs::Appending::tree_steps))]
 fn write_tree<W: Write>(node: &Node, out: &mut W) -> Result<(), WriteFault>
-    ensures { OnOk result (Appends (W.contents out.old) (W.contents out.new) (printed.tree_text (tree_of node.now))) }
+    ensures { OnOk result
+        (Appends (W.contents out.old) (W.contents out.new) (printed.tree_text (tree_of node.now))) }
 {
     open_tag(&node.tag, out)?;
     for item in &node.items {
@@ -42,7 +45,8 @@ fn write_tree<W: Write>(node: &Node, out: &mut W) -> Result<(), WriteFault>
 
 /// Writes a block with all its tags on one line, without a line feed: `{verbatim:Hi {prompt#> }}`.
 pub fn tree_text<W: Write>(block: &Block, out: &mut W) -> Result<(), WriteFault>
-    ensures { OnOk result (Appends (W.contents out.old) (W.contents out.new) (printed.tree_text block.now)) }
+    ensures { OnOk result
+        (Appends (W.contents out.old) (W.contents out.new) (printed.tree_text block.now)) }
 {
     write_tree(block.node(), out)
 }
@@ -60,7 +64,9 @@ pub(crate) fn is_bare_tag(tag: &Tag) -> bool
 
 #[tactic(auto, using(crate::proofs::Appending::block_steps))]
 fn write_shown<W: Write>(node: &Node, out: &mut W) -> Result<(), WriteFault>
-    ensures { OnOk result (Appends (W.contents out.old) (W.contents out.new) (printed.block_text (tree_of node.now))) }
+    ensures { OnOk result
+        (Appends (W.contents out.old) (W.contents out.new)
+        (printed.block_text (tree_of node.now))) }
 {
     let bare = is_bare_tag(&node.tag);
     if !bare {
@@ -82,7 +88,8 @@ fn write_shown<W: Write>(node: &Node, out: &mut W) -> Result<(), WriteFault>
 /// the channel `output` as what stands in them, every other block with its tag in braces. Tabs and
 /// line feeds in texts stay.
 pub fn block_text<W: Write>(block: &Block, out: &mut W) -> Result<(), WriteFault>
-    ensures { OnOk result (Appends (W.contents out.old) (W.contents out.new) (printed.block_text block.now)) }
+    ensures { OnOk result
+        (Appends (W.contents out.old) (W.contents out.new) (printed.block_text block.now)) }
 {
     write_shown(block.node(), out)
 }

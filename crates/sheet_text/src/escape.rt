@@ -40,7 +40,8 @@ pub(crate) fn last_printed(byte: u8, keeps_lines: bool) -> u8
 }
 
 fn write_byte<W: Write>(byte: u8, keeps_lines: bool, out: &mut W) -> Result<(), WriteFault>
-    ensures { OnOk result (Appends (W.contents out.old) (W.contents out.new) (printed_byte keeps_lines byte)) }
+    ensures { OnOk result
+        (Appends (W.contents out.old) (W.contents out.new) (printed_byte keeps_lines byte)) }
 {
     if is_plain(byte, keeps_lines) {
         return out.write_all(&[byte]).map_err(|_| WriteFault);
@@ -53,7 +54,9 @@ fn write_byte<W: Write>(byte: u8, keeps_lines: bool, out: &mut W) -> Result<(), 
 
 /// Writes bytes, those that are printed as themselves as many at once as stand side by side.
 fn write_bytes<W: Write>(bytes: &[u8], keeps_lines: bool, out: &mut W) -> Result<(), WriteFault>
-    ensures { OnOk result (Appends (W.contents out.old) (W.contents out.new) (flat_map (printed_byte keeps_lines) bytes.now)) }
+    ensures { OnOk result
+        (Appends (W.contents out.old) (W.contents out.new)
+        (flat_map (printed_byte keeps_lines) bytes.now)) }
 {
     let mut start = 0;
     while start < bytes.len() {

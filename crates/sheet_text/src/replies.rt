@@ -31,7 +31,8 @@ fn reason_name(reason: Reason) -> &'static str
 /// Writes the line of a banner.
 #[tactic(auto, using(crate::proofs::Appending::steps))]
 fn write_banner<W: Write>(name: Name, out: &mut W) -> Result<(), WriteFault>
-    ensures { OnOk result (Appends (W.contents out.old) (W.contents out.new) (child.banner_line name)) }
+    ensures { OnOk result
+        (Appends (W.contents out.old) (W.contents out.new) (child.banner_line name)) }
 {
     out.write_all(b"banner ").map_err(|_| WriteFault)?;
     out.write_all(name.as_slice()).map_err(|_| WriteFault)?;
@@ -45,7 +46,8 @@ fn write_closed<W: Write>(
     closed: &Option<Closed>,
     out: &mut W,
 ) -> Result<(), WriteFault>
-    ensures { OnOk result (Appends (W.contents out.old) (W.contents out.new) (child.closed_line name closed.now)) }
+    ensures { OnOk result
+        (Appends (W.contents out.old) (W.contents out.new) (child.closed_line name closed.now)) }
 {
     match closed {
         None => Ok(()),
@@ -61,7 +63,8 @@ fn write_default<W: Write>(
     input: &Option<Octets>,
     out: &mut W,
 ) -> Result<(), WriteFault>
-    ensures { OnOk result (Appends (W.contents out.old) (W.contents out.new) (child.default_line name input.now)) }
+    ensures { OnOk result
+        (Appends (W.contents out.old) (W.contents out.new) (child.default_line name input.now)) }
 {
     let Some(input) = input else {
         return Ok(());
@@ -77,7 +80,8 @@ fn write_default<W: Write>(
 /// Writes the end of a life.
 #[tactic(auto, using(crate::proofs::Appending::steps))]
 fn write_ended<W: Write>(name: Name, ended: &Option<Ended>, out: &mut W) -> Result<(), WriteFault>
-    ensures { OnOk result (Appends (W.contents out.old) (W.contents out.new) (child.ended_line name ended.now)) }
+    ensures { OnOk result
+        (Appends (W.contents out.old) (W.contents out.new) (child.ended_line name ended.now)) }
 {
     let Some(ended) = ended else {
         return Ok(());
@@ -97,7 +101,8 @@ fn write_ended<W: Write>(name: Name, ended: &Option<Ended>, out: &mut W) -> Resu
 /// Writes what is told of a life.
 #[tactic(auto, using(crate::proofs::Appending::steps))]
 fn write_child<W: Write>(told: &ChildReply, out: &mut W) -> Result<(), WriteFault>
-    ensures { OnOk result (Appends (W.contents out.old) (W.contents out.new) (child.child_text told.now)) }
+    ensures { OnOk result
+        (Appends (W.contents out.old) (W.contents out.new) (child.child_text told.now)) }
 {
     write_closed(told.name, &told.closed, out)?;
     write_default(told.name, &told.default_input, out)?;
@@ -112,7 +117,8 @@ fn write_child<W: Write>(told: &ChildReply, out: &mut W) -> Result<(), WriteFaul
 ///
 /// After a `WriteFault` a part of the text may have gone out.
 pub fn reply_text<W: Write>(reply: &Reply, out: &mut W) -> Result<(), WriteFault>
-    ensures { OnOk result (Appends (W.contents out.old) (W.contents out.new) (printed.reply_text reply.now)) }
+    ensures { OnOk result
+        (Appends (W.contents out.old) (W.contents out.new) (printed.reply_text reply.now)) }
 {
     match reply {
         Reply::Done => out.write_all(b"ok\n").map_err(|_| WriteFault)?,

@@ -89,7 +89,8 @@ fn is_tab(flag: &[u8]) -> Option<bool>
 fn read_session(alloc: Global, rest: &[u8]) -> Result<Command, LineFault>
     ensures ok { IfOk result (λ told. said.session_of rest.now ≡ Some told) }
     ensures bad { IsErrOf result fault.BadLine → said.session_of rest.now ≡ None }
-    ensures memory { IsErrOf result fault.OutOfMemory → said.wants_memory_for (said.session_of rest.now) ≡ true }
+    ensures memory { IsErrOf result fault.OutOfMemory
+        → said.wants_memory_for (said.session_of rest.now) ≡ true }
 {
     let (name, rest) = split_space(rest);
     let Some(rest) = rest else {
@@ -110,7 +111,8 @@ fn read_session(alloc: Global, rest: &[u8]) -> Result<Command, LineFault>
 fn read_new(alloc: Global, rest: &[u8]) -> Result<Command, LineFault>
     ensures ok { IfOk result (λ told. said.new_of rest.now ≡ Some told) }
     ensures bad { IsErrOf result fault.BadLine → said.new_of rest.now ≡ None }
-    ensures memory { IsErrOf result fault.OutOfMemory → said.wants_memory_for (said.new_of rest.now) ≡ true }
+    ensures memory { IsErrOf result fault.OutOfMemory
+        → said.wants_memory_for (said.new_of rest.now) ≡ true }
 {
     let (after, rest) = split_space(rest);
     let after = number(after)?;
@@ -129,7 +131,8 @@ fn read_new(alloc: Global, rest: &[u8]) -> Result<Command, LineFault>
 fn read_set(alloc: Global, rest: &[u8]) -> Result<Command, LineFault>
     ensures ok { IfOk result (λ told. said.set_of rest.now ≡ Some told) }
     ensures bad { IsErrOf result fault.BadLine → said.set_of rest.now ≡ None }
-    ensures memory { IsErrOf result fault.OutOfMemory → said.wants_memory_for (said.set_of rest.now) ≡ true }
+    ensures memory { IsErrOf result fault.OutOfMemory
+        → said.wants_memory_for (said.set_of rest.now) ≡ true }
 {
     let (id, input) = split_space(rest);
     let id = number(id)?;
@@ -156,7 +159,8 @@ fn read_move(rest: &[u8]) -> Result<Command, LineFault>
 fn read_command(alloc: Global, name: &[u8], rest: &[u8]) -> Result<Command, LineFault>
     ensures ok { IfOk result (λ told. said.command_of name.now rest.now ≡ Some told) }
     ensures bad { IsErrOf result fault.BadLine → said.command_of name.now rest.now ≡ None }
-    ensures memory { IsErrOf result fault.OutOfMemory → said.wants_memory_for (said.command_of name.now rest.now) ≡ true }
+    ensures memory { IsErrOf result fault.OutOfMemory
+        → said.wants_memory_for (said.command_of name.now rest.now) ≡ true }
 {
     if name == b"session".as_slice() {
         read_session(alloc, rest)
@@ -201,7 +205,8 @@ fn is_skipped(line: &[u8]) -> bool
 pub fn read_line(alloc: Global, line: &[u8]) -> Result<ScriptLine, LineFault>
     ensures ok { IfOk result (λ read. said.line_of line.now ≡ Some read) }
     ensures bad { IsErrOf result fault.BadLine → said.line_of line.now ≡ None }
-    ensures memory { IsErrOf result fault.OutOfMemory → said.wants_memory (said.line_of line.now) ≡ true }
+    ensures memory { IsErrOf result fault.OutOfMemory
+        → said.wants_memory (said.line_of line.now) ≡ true }
 {
     if is_skipped(line) {
         return Ok(ScriptLine::Skip);

@@ -15,7 +15,8 @@ use worksheet::{Answer, Field, Sheet};
 /// Writes `#`, the number of a field and its session.
 #[tactic(auto, using(crate::proofs::Appending::steps))]
 fn write_number<W: Write>(field: &Field, out: &mut W) -> Result<(), WriteFault>
-    ensures { OnOk result (Appends (W.contents out.old) (W.contents out.new) (printed.number_line field.now)) }
+    ensures { OnOk result
+        (Appends (W.contents out.old) (W.contents out.new) (printed.number_line field.now)) }
 {
     write!(out, "#{} ", field.id).map_err(|_| WriteFault)?;
     out.write_all(field.session.as_slice())
@@ -26,7 +27,9 @@ fn write_number<W: Write>(field: &Field, out: &mut W) -> Result<(), WriteFault>
 
 /// Writes the prompt of an answer, or `> ` where there is none.
 fn write_prompt<W: Write>(answer: &Option<Answer>, out: &mut W) -> Result<(), WriteFault>
-    ensures { OnOk result (Appends (W.contents out.old) (W.contents out.new) (on_line (printed.prompt_shown answer.now))) }
+    ensures { OnOk result
+        (Appends (W.contents out.old) (W.contents out.new)
+        (on_line (printed.prompt_shown answer.now))) }
 {
     match answer {
         None => write_line(b"> ", out),
@@ -37,7 +40,8 @@ fn write_prompt<W: Write>(answer: &Option<Answer>, out: &mut W) -> Result<(), Wr
 /// Writes the prompt and the input of a field.
 #[tactic(auto, using(crate::proofs::Appending::steps))]
 fn write_input<W: Write>(field: &Field, out: &mut W) -> Result<(), WriteFault>
-    ensures { OnOk result (Appends (W.contents out.old) (W.contents out.new) (printed.input_line field.now)) }
+    ensures { OnOk result
+        (Appends (W.contents out.old) (W.contents out.new) (printed.input_line field.now)) }
 {
     write_prompt(&field.answer, out)?;
     write_line(field.input.as_bytes(), out)?;
@@ -48,7 +52,8 @@ fn write_input<W: Write>(field: &Field, out: &mut W) -> Result<(), WriteFault>
 /// Writes an output in whole lines, or `?` where there is none.
 #[tactic(auto, using(crate::proofs::Appending::steps))]
 fn write_output<W: Write>(answer: &Option<Answer>, out: &mut W) -> Result<(), WriteFault>
-    ensures { OnOk result (Appends (W.contents out.old) (W.contents out.new) (printed.output_lines answer.now)) }
+    ensures { OnOk result
+        (Appends (W.contents out.old) (W.contents out.new) (printed.output_lines answer.now)) }
 {
     let Some(answer) = answer else {
         return out.write_all(b"?\n").map_err(|_| WriteFault);
@@ -62,7 +67,8 @@ fn write_output<W: Write>(answer: &Option<Answer>, out: &mut W) -> Result<(), Wr
 
 #[tactic(auto, using(crate::proofs::Appending::steps))]
 fn write_field<W: Write>(field: &Field, out: &mut W) -> Result<(), WriteFault>
-    ensures { OnOk result (Appends (W.contents out.old) (W.contents out.new) (printed.field_text field.now)) }
+    ensures { OnOk result
+        (Appends (W.contents out.old) (W.contents out.new) (printed.field_text field.now)) }
 {
     write_number(field, out)?;
     write_input(field, out)?;
@@ -77,7 +83,9 @@ fn write_field<W: Write>(field: &Field, out: &mut W) -> Result<(), WriteFault>
 /// After a `WriteFault` a part of the text may have gone out.
 #[tactic(auto, using(crate::proofs::Fields::field_steps))]
 pub fn sheet_text<W: Write>(sheet: &Sheet, out: &mut W) -> Result<(), WriteFault>
-    ensures { OnOk result (Appends (W.contents out.old) (W.contents out.new) (printed.sheet_text sheet.now.contents)) }
+    ensures { OnOk result
+        (Appends (W.contents out.old) (W.contents out.new)
+        (printed.sheet_text sheet.now.contents)) }
 {
     let mut fields = sheet.fields();
     while let Some(field) = fields.next() {

@@ -22,9 +22,12 @@ pub(crate) fn carry_out(
     op: Op,
 )
     requires sound { HasNumbersApart (contents_with fields.old.items sessions.old.items next.old) }
-    requires allowed { first_refusal (contents_with fields.old.items sessions.old.items next.old) op ≡ None }
-    requires room { room_for (held_of (record { fields = fields.old; sessions = sessions.old; next = next.old })) op ≡ true }
-    ensures { contents_with fields.new.items sessions.new.items next.new ≡ edited (contents_with fields.old.items sessions.old.items next.old) op }
+    requires allowed { first_refusal (contents_with fields.old.items sessions.old.items next.old) op
+        ≡ None }
+    requires room { room_for (held_of
+        (record { fields = fields.old; sessions = sessions.old; next = next.old })) op ≡ true }
+    ensures { contents_with fields.new.items sessions.new.items next.new
+        ≡ edited (contents_with fields.old.items sessions.old.items next.old) op }
 {
     match op {
         Op::Session { name, tab, words } => add_session(sessions, name, tab, words),
@@ -51,7 +54,8 @@ pub(crate) fn carry_out(
 fn add_session(sessions: &mut Vec<Session>, name: Octets, tab: bool, words: Sequence<Octets>)
     requires named { is_name name ≡ true }
     requires room { vec_len sessions.old < vec_capacity sessions.old }
-    ensures { sessions.new.items ≡ sessions.old.items ++ record { name = name; tab = tab; words = words } ∷ [] }
+    ensures { sessions.new.items
+        ≡ sessions.old.items ++ record { name = name; tab = tab; words = words } ∷ [] }
 {
     let Some(name) = Name::new(name.as_slice()) else {
         unreachable!();
@@ -107,7 +111,8 @@ fn remove_field(fields: &mut Vec<Field>, id: u32)
 /// Moves a field directly behind another, or first for 0.
 fn move_field(fields: &mut Vec<Field>, id: u32, after: u32)
     requires apart { AreApart (numbers fields.old.items) }
-    requires allowed { first_refusal (contents_with fields.old.items [] 0) (op.Move id after) ≡ None }
+    requires allowed { first_refusal (contents_with fields.old.items [] 0) (op.Move id after)
+        ≡ None }
     ensures { fields.new.items ≡ moved id after fields.old.items (field_in fields.old.items id) }
 {
     let field = take_field(fields, id);

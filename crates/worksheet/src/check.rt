@@ -127,7 +127,8 @@ pub(crate) fn check_op(
     next: u32,
     op: &Op,
 ) -> Result<(), Refusal>
-    ensures { result_err result ≡ first_refusal (contents_with fields.now sessions.now next) op.now }
+    ensures { result_err result
+        ≡ first_refusal (contents_with fields.now sessions.now next) op.now }
 {
     match op {
         Op::Session {
@@ -159,7 +160,8 @@ pub(crate) fn check_op(
 }
 
 fn check_session(sessions: &[Session], name: &[u8], words: &[Octets]) -> Result<(), Refusal>
-    ensures { result_err result ≡ first_refusal (contents_with [] sessions.now 0) (op.Session name.now false words.now) }
+    ensures { result_err result
+        ≡ first_refusal (contents_with [] sessions.now 0) (op.Session name.now false words.now) }
 {
     if !is_name(name) {
         Err(Refusal::BadName)
@@ -182,7 +184,9 @@ fn check_new(
     session: &[u8],
     input: &[u8],
 ) -> Result<(), Refusal>
-    ensures { result_err result ≡ first_refusal (contents_with fields.now sessions.now next) (op.New after session.now input.now) }
+    ensures { result_err result
+        ≡ first_refusal (contents_with fields.now sessions.now next)
+        (op.New after session.now input.now) }
 {
     if !has_session(sessions, session) {
         Err(Refusal::NoSession)
@@ -200,7 +204,8 @@ fn check_new(
 }
 
 fn check_set(fields: &[Field], id: u32, input: &[u8]) -> Result<(), Refusal>
-    ensures { result_err result ≡ first_refusal (contents_with fields.now [] 0) (op.Set id input.now) }
+    ensures { result_err result
+        ≡ first_refusal (contents_with fields.now [] 0) (op.Set id input.now) }
 {
     if !has_field(fields, id) {
         Err(Refusal::NoField)
@@ -234,7 +239,9 @@ fn check_move(fields: &[Field], id: u32, after: u32) -> Result<(), Refusal>
 }
 
 fn check_answer(fields: &[Field], id: u32, prompt: &[u8]) -> Result<(), Refusal>
-    ensures { (output : Tree) → result_err result ≡ first_refusal (contents_with fields.now [] 0) (op.Answer id prompt.now output) }
+    ensures { (output : Tree)
+        → result_err result
+        ≡ first_refusal (contents_with fields.now [] 0) (op.Answer id prompt.now output) }
 {
     if !has_field(fields, id) {
         Err(Refusal::NoField)

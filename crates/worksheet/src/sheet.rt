@@ -107,7 +107,8 @@ impl Sheet {
         requires { first_refusal self.old.contents op ≡ None }
 
         // The worksheet stands for the ops before, and for this one behind them.
-        ensures ok { (ops : List Op) → self.old.contents ≡ sheet_of ops → OnOk result (self.new.contents ≡ sheet_of (ops ++ op ∷ [])) }
+        ensures ok { (ops : List Op) → self.old.contents ≡ sheet_of ops
+            → OnOk result (self.new.contents ≡ sheet_of (ops ++ op ∷ [])) }
         ensures returned { IfErr result (λ refused. refused.0 ≡ op) }
         ensures err { OnErr result (self.new.contents ≡ self.old.contents) }
         ensures ready { room_for self.old op ≡ true → IsOk result }
