@@ -9,7 +9,7 @@ use Rattle.worksheet.specs.Contents.{Contents}
 use Rattle.worksheet.specs.Ops.{sheet_of}
 use Rattle.worksheet.specs.Checks.{Allowed, field_in}
 use Rattle.recovery.specs.Sheets.{IsSheetImage}
-use Rattle.recovery.proofs.Images.{one_sheet}
+use Rattle.recovery.specs.Laws.{OneSheet}
 use Rattle.session_engine.specs.declared.command.Command.TheVariants as command
 use Rattle.session_engine.specs.declared.event.Event.{Event}
 use Rattle.session_engine.specs.declared.event.Event.TheVariants as event
@@ -58,18 +58,18 @@ has_through : (f : Field) (room : ℕ) (before : Image) (found : List Op) (turns
 has_through f room before found [] after kept went h = h
 has_through f room before found (turn ∷ turns) after kept went h = has_first f (world_at_opening found room went.2.end) went.2.taken (turn.told ++ went.2.untold) went.2.leads h.0
 
-go_on : (room : ℕ) (first : List Op) (before : Image) (turns : List HostTurn) (after : Image) → Allowed first → IsSheetImage (sheet_of first) before → EachTurned room before turns after → Went room first before turns after
-go_on room first before [] after allowed image each = record {
+go_on : OneSheet → (room : ℕ) (first : List Op) (before : Image) (turns : List HostTurn) (after : Image) → Allowed first → IsSheetImage (sheet_of first) before → EachTurned room before turns after → Went room first before turns after
+go_on one room first before [] after allowed image each = record {
   kept = first;
   went = (each, refl);
   image = subst (λ (i : Image). IsSheetImage (sheet_of first) i) (sym each) image;
   fields = λ f a has some. inl has;
 }
-go_on room first before (turn ∷ turns) after allowed image each =
+go_on one room first before (turn ∷ turns) after allowed image each =
     let mid = each.0 in
     let found = each.1.0 in
     let t = each.1.2 in
-    let same : sheet_of found ≡ sheet_of first = one_sheet (sheet_of found) (sheet_of first) before t.opens image in
+    let same : sheet_of found ≡ sheet_of first = one (sheet_of found) (sheet_of first) before t.opens image in
     let outcomes = turn.told ++ t.untold in
     let r = runs (world_at_opening found room t.end) first t.taken outcomes t.leads (sound found room t.end t.allowed) allowed same t.run in
     let leaves : IsSheetImage (sheet_of r.ops) mid = subst (λ (s : Contents). IsSheetImage s mid) (ap sheet_of t.ops ∙ r.same) t.leaves in
@@ -87,7 +87,7 @@ go_on room first before (turn ∷ turns) after allowed image each =
       ops = refl;
       leaves = leaves;
     } in
-    let more = go_on room r.ops mid turns after r.allowed leaves each.2 in
+    let more = go_on one room r.ops mid turns after r.allowed leaves each.2 in
     record {
       kept = more.kept;
       went = (mid, r.ops, now, more.went);
@@ -101,8 +101,8 @@ go_on room first before (turn ∷ turns) after allowed image each =
           (more.fields f a has some);
     }
 
-pub lives_in_turn : LivesInTurn
-lives_in_turn room first before after turns allowed image each = let g = go_on room first before turns after allowed image each in (g.kept, g.went, g.image, g.fields)
+pub lives_in_turn : OneSheet → LivesInTurn
+lives_in_turn one room first before after turns allowed image each = let g = go_on one room first before turns after allowed image each in (g.kept, g.went, g.image, g.fields)
 
 sounds : (w : World) (es : List Event) (os : List Outcome) (v : World) → Sound w → Runs w es os v → Sound v
 sounds w [] [] v h run = subst Sound (sym run) h

@@ -29,7 +29,9 @@ pub fn others_are_silent()
 /// field that shows an answer shows what was found first, or the whole block that answered its line.
 pub fn lives_in_turn()
     ensures { LivesInTurn }
-{}
+{
+    recovery::one_sheet();
+}
 
 /// A play of events on a host that was just opened is such a turn, wherever a crash comes in it.
 pub fn plays_are_turns()
