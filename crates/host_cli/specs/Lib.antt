@@ -3,3 +3,4 @@ pub mod Faults
 pub mod Asked
 pub mod Printed
 pub mod Memory
+pub mod Files
