@@ -4,3 +4,4 @@ pub mod Asked
 pub mod Printed
 pub mod Memory
 pub mod Ending
+pub mod Files

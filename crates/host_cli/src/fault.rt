@@ -3,6 +3,8 @@ ghost use Rattle.std.specs.Prelude.{◌≡◌, OnOk};
 ghost use Rattle.std.specs.Io.KnownBytes.{Appends};
 ghost use Rattle.host_cli.specs.Faults as printed;
 
+use journal::{CreateCause, OpenCause};
+use session_engine::HostFault;
 use sheet_text::WriteFault;
 use std::io::Write;
 use thiserror::Error;
@@ -22,18 +24,65 @@ pub enum RunFault {
     /// 43: memory was refused.
     #[error("out of memory")]
     OutOfMemory,
+    /// 20 to 23: the host had a fault.
+    #[error("the host had a fault")]
+    Host(HostFault),
+    /// 30 to 33: the worksheet's disk was not opened.
+    #[error("the worksheet was not opened")]
+    Open(OpenCause),
 }
 
-/// Writes a fault on a line: `fault N NAME`.
+fn host_fault_text<W: Write>(fault: HostFault, out: &mut W) -> Result<(), WriteFault>
+    ensures { OnOk result (Appends (W.contents out.old) (W.contents out.new) (printed.host_fault_text fault)) }
+{
+    match fault {
+        HostFault::Closed => out.write_all(b"fault 20 Closed\n"),
+        HostFault::Disk => out.write_all(b"fault 21 Disk\n"),
+        HostFault::OutOfMemory => out.write_all(b"fault 22 OutOfMemory\n"),
+        HostFault::JournalFull => out.write_all(b"fault 23 JournalFull\n"),
+    }
+    .map_err(|_| WriteFault)
+}
+
+fn open_fault_text<W: Write>(cause: OpenCause, out: &mut W) -> Result<(), WriteFault>
+    ensures { OnOk result (Appends (W.contents out.old) (W.contents out.new) (printed.open_fault_text cause)) }
+{
+    match cause {
+        OpenCause::Damaged(gate) => writeln!(out, "fault 30 Damaged {gate}"),
+        OpenCause::NotASheet => out.write_all(b"fault 31 NotASheet\n"),
+        OpenCause::Disk => out.write_all(b"fault 32 Disk\n"),
+        OpenCause::OutOfMemory => out.write_all(b"fault 33 OutOfMemory\n"),
+    }
+    .map_err(|_| WriteFault)
+}
+
+/// Writes why no worksheet was made on a line: `fault N NAME`.
+pub fn create_fault_text<W: Write>(cause: CreateCause, out: &mut W) -> Result<(), WriteFault>
+    ensures { OnOk result (Appends (W.contents out.old) (W.contents out.new) (printed.create_fault_text cause)) }
+{
+    match cause {
+        CreateCause::NotEmpty => out.write_all(b"fault 34 NotEmpty\n"),
+        CreateCause::Disk => out.write_all(b"fault 32 Disk\n"),
+    }
+    .map_err(|_| WriteFault)
+}
+
+/// Writes a fault on a line: `fault N NAME`, and behind a damage the offset of its gate.
 pub fn fault_text<W: Write>(fault: RunFault, out: &mut W) -> Result<(), WriteFault>
     ensures { OnOk result
         (Appends (W.contents out.old) (W.contents out.new) (printed.fault_text fault)) }
 {
     match fault {
-        RunFault::Input => out.write_all(b"fault 40 Input\n"),
-        RunFault::InputTooLong => out.write_all(b"fault 41 InputTooLong\n"),
-        RunFault::Output => out.write_all(b"fault 42 Output\n"),
-        RunFault::OutOfMemory => out.write_all(b"fault 43 OutOfMemory\n"),
+        RunFault::Input => out.write_all(b"fault 40 Input\n").map_err(|_| WriteFault),
+        RunFault::InputTooLong => {
+            out.write_all(b"fault 41 InputTooLong\n")
+                .map_err(|_| WriteFault)
+        }
+        RunFault::Output => out.write_all(b"fault 42 Output\n").map_err(|_| WriteFault),
+        RunFault::OutOfMemory => out
+            .write_all(b"fault 43 OutOfMemory\n")
+            .map_err(|_| WriteFault),
+        RunFault::Host(why) => host_fault_text(why, out),
+        RunFault::Open(why) => open_fault_text(why, out),
     }
-    .map_err(|_| WriteFault)
 }

@@ -7,17 +7,21 @@ mod ending;
 #[cfg(test)]
 mod failing;
 mod fault;
+mod file_disk;
 mod input;
 #[cfg(test)]
 mod limits;
 mod memory;
+mod printing;
 #[cfg(test)]
 mod tests;
 mod words;
 
 pub use block_lines::blocks;
 pub use ending::{Ending, end_program, refuse_unread_words, refuse_words, run_blocks};
-pub use fault::{RunFault, fault_text};
+pub use fault::{RunFault, create_fault_text, fault_text};
+pub use file_disk::FileDisk;
 pub use input::{MAX_INPUT, read_input};
 pub use memory::run_memory;
+pub use printing::show;
 pub use words::{Task, read_words};

@@ -1,0 +1,45 @@
+//! A worksheet in print.
+ghost use Rattle.std.specs.Prelude.{◌≡◌, IfErr, OnOk};
+ghost use Rattle.std.specs.Io.KnownBytes.{Appends};
+ghost use Rattle.disk_model.specs.Disk.{InModel, bytes_on};
+ghost use Rattle.worksheet.specs.Contents.{Contents};
+ghost use Rattle.recovery.specs.Sheets.{IsSheetImage};
+ghost use Rattle.sheet_text.specs.Texts as printed;
+ghost use Rattle.host_cli.specs.Faults.{TellsShow};
+
+use crate::RunFault;
+use disk_model::Disk;
+use recovery::Store;
+use sheet_text::sheet_text;
+use std::alloc::Global;
+use std::io::Write;
+use worksheet::Sheet;
+
+/// Writes a worksheet, and brings it out.
+fn print_sheet<W: Write>(sheet: &Sheet, writer: &mut W) -> Result<(), RunFault>
+    ensures ok { OnOk result (Appends (W.contents writer.old) (W.contents writer.new) (printed.sheet_text sheet.now.contents)) }
+{
+    sheet_text(sheet, writer).map_err(|_| RunFault::Output)?;
+    writer.flush().map_err(|_| RunFault::Output)?;
+    Ok(())
+}
+
+/// Writes the worksheet that a disk stands for, as `print` does. It changes no byte of the disk.
+///
+/// `Open` where the disk isn't opened: nothing was written. `Output` where the writer fails: a part
+/// of the text may have gone out.
+pub fn show<D: Disk, W: Write>(alloc: Global, disk: D, writer: &mut W) -> Result<(), RunFault>
+    ensures shown { InModel (D.view disk) ((sheet : Contents) → IsSheetImage sheet (bytes_on (D.view disk))
+        → OnOk result (Appends (W.contents writer.old) (W.contents writer.new) (printed.sheet_text sheet))) }
+    ensures found { InModel (D.view disk) (OnOk result ((sheet : Contents) × IsSheetImage sheet (bytes_on (D.view disk)))) }
+    ensures fault { IfErr result (TellsShow (D.view disk) (writer.new ≡ writer.old)) }
+{
+    let store = match Store::open(alloc, disk) {
+        Ok(store) => store,
+        Err(fault) => return Err(RunFault::Open(fault.cause)),
+    };
+    match print_sheet(store.sheet(), writer) {
+        Ok(()) => Ok(()),
+        Err(_) => Err(RunFault::Output),
+    }
+}
