@@ -33,7 +33,8 @@ pub enum RunFault {
 }
 
 fn host_fault_text<W: Write>(fault: HostFault, out: &mut W) -> Result<(), WriteFault>
-    ensures { OnOk result (Appends (W.contents out.old) (W.contents out.new) (printed.host_fault_text fault)) }
+    ensures { OnOk result
+        (Appends (W.contents out.old) (W.contents out.new) (printed.host_fault_text fault)) }
 {
     match fault {
         HostFault::Closed => out.write_all(b"fault 20 Closed\n"),
@@ -45,7 +46,8 @@ fn host_fault_text<W: Write>(fault: HostFault, out: &mut W) -> Result<(), WriteF
 }
 
 fn open_fault_text<W: Write>(cause: OpenCause, out: &mut W) -> Result<(), WriteFault>
-    ensures { OnOk result (Appends (W.contents out.old) (W.contents out.new) (printed.open_fault_text cause)) }
+    ensures { OnOk result
+        (Appends (W.contents out.old) (W.contents out.new) (printed.open_fault_text cause)) }
 {
     match cause {
         OpenCause::Damaged(gate) => writeln!(out, "fault 30 Damaged {gate}"),
@@ -58,7 +60,8 @@ fn open_fault_text<W: Write>(cause: OpenCause, out: &mut W) -> Result<(), WriteF
 
 /// Writes why no worksheet was made on a line: `fault N NAME`.
 pub fn create_fault_text<W: Write>(cause: CreateCause, out: &mut W) -> Result<(), WriteFault>
-    ensures { OnOk result (Appends (W.contents out.old) (W.contents out.new) (printed.create_fault_text cause)) }
+    ensures { OnOk result
+        (Appends (W.contents out.old) (W.contents out.new) (printed.create_fault_text cause)) }
 {
     match cause {
         CreateCause::NotEmpty => out.write_all(b"fault 34 NotEmpty\n"),

@@ -17,7 +17,9 @@ use worksheet::Sheet;
 
 /// Writes a worksheet, and brings it out.
 fn print_sheet<W: Write>(sheet: &Sheet, writer: &mut W) -> Result<(), RunFault>
-    ensures ok { OnOk result (Appends (W.contents writer.old) (W.contents writer.new) (printed.sheet_text sheet.now.contents)) }
+    ensures ok { OnOk result
+        (Appends (W.contents writer.old) (W.contents writer.new)
+        (printed.sheet_text sheet.now.contents)) }
 {
     sheet_text(sheet, writer).map_err(|_| RunFault::Output)?;
     writer.flush().map_err(|_| RunFault::Output)?;
@@ -29,9 +31,12 @@ fn print_sheet<W: Write>(sheet: &Sheet, writer: &mut W) -> Result<(), RunFault>
 /// `Open` where the disk isn't opened: nothing was written. `Output` where the writer fails: a part
 /// of the text may have gone out.
 pub fn show<D: Disk, W: Write>(alloc: Global, disk: D, writer: &mut W) -> Result<(), RunFault>
-    ensures shown { InModel (D.view disk) ((sheet : Contents) → IsSheetImage sheet (bytes_on (D.view disk))
-        → OnOk result (Appends (W.contents writer.old) (W.contents writer.new) (printed.sheet_text sheet))) }
-    ensures found { InModel (D.view disk) (OnOk result ((sheet : Contents) × IsSheetImage sheet (bytes_on (D.view disk)))) }
+    ensures shown { InModel (D.view disk) ((sheet : Contents)
+        → IsSheetImage sheet (bytes_on (D.view disk))
+        → OnOk result
+        (Appends (W.contents writer.old) (W.contents writer.new) (printed.sheet_text sheet))) }
+    ensures found { InModel (D.view disk) (OnOk result ((sheet : Contents)
+        × IsSheetImage sheet (bytes_on (D.view disk)))) }
     ensures fault { IfErr result (TellsShow (D.view disk) (writer.new ≡ writer.old)) }
 {
     let store = match Store::open(alloc, disk) {
