@@ -5,3 +5,4 @@ pub mod Printed
 pub mod Memory
 pub mod Ending
 pub mod Files
+pub mod Programs

@@ -13,6 +13,7 @@ mod input;
 mod limits;
 mod memory;
 mod printing;
+mod programs;
 #[cfg(test)]
 mod tests;
 mod words;
@@ -24,4 +25,5 @@ pub use file_disk::FileDisk;
 pub use input::{MAX_INPUT, read_input};
 pub use memory::run_memory;
 pub use printing::show;
+pub use programs::{run_create, run_show};
 pub use words::{Task, read_words};

@@ -3,7 +3,8 @@
 #![tactic(auto)]
 
 use host_cli::{
-    Ending, RunFault, Task, end_program, read_words, refuse_unread_words, refuse_words, run_blocks,
+    Ending, FileDisk, RunFault, Task, end_program, read_words, refuse_unread_words, refuse_words,
+    run_blocks, run_create, run_show,
 };
 use std::fs::{File, OpenOptions};
 use std::io;
@@ -18,9 +19,23 @@ fn hold_descriptor<R: Files<File = File>>(rt: &R) -> io::Result<File> {
 }
 
 /// `blocks` from standard input to standard output.
-fn run_on_streams(rt: &HostRuntime) -> Ending {
+fn blocks_on_streams(rt: &HostRuntime) -> Ending {
     match BufWriter::with_capacity(rt.alloc(), 65_536, rt.stdout()) {
         Ok(mut output) => run_blocks(rt.alloc(), &mut rt.stdin(), &mut output, &mut rt.stderr()),
+        Err(_) => end_program(Err(RunFault::OutOfMemory), &mut rt.stderr()),
+    }
+}
+
+/// `create` at a path.
+fn create_at(rt: &HostRuntime, path: &str) -> Ending {
+    run_create(FileDisk::create(rt, rt.alloc(), path), &mut rt.stderr())
+}
+
+/// `show` from a path to standard output.
+fn show_at(rt: &HostRuntime, path: &str) -> Ending {
+    let files = FileDisk::open(rt, rt.alloc(), path);
+    match BufWriter::with_capacity(rt.alloc(), 65_536, rt.stdout()) {
+        Ok(mut output) => run_show(rt.alloc(), files, &mut output, &mut rt.stderr()),
         Err(_) => end_program(Err(RunFault::OutOfMemory), &mut rt.stderr()),
     }
 }
@@ -35,7 +50,14 @@ fn run(rt: &HostRuntime) -> Ending {
         return end_program(Err(RunFault::OutOfMemory), &mut rt.stderr());
     };
     match read_words(rt.alloc(), words.as_slice()) {
-        Ok(Task::Blocks) => run_on_streams(rt),
+        Ok(Task::Blocks) => blocks_on_streams(rt),
+        Ok(Task::Create(path)) => create_at(rt, path),
+        Ok(Task::Show(path)) => show_at(rt, path),
+        // No script is run over files yet.
+        Ok(Task::Run(_)) => Ending {
+            status: 2,
+            told: true,
+        },
         Err(error) => refuse_words(&error, &mut rt.stdout(), &mut rt.stderr()),
     }
 }
