@@ -1,12 +1,17 @@
 -- Lines of a script over a worksheet on a disk, one after another.
-use Rattle.std.proofs.Common.{◌≡◌, ◌+◌, ◌≤◌, ◌⊎◌, inl, inr, ℕ, zero, suc, true, false, List, [], ◌∷◌, ◌++◌, Option, Some, None, refl, ap, sym, ◌∙◌, subst, append_assoc, append-nil, length, arith}
+use Rattle.std.proofs.Common.{◌≡◌, ◌+◌, ◌≤◌, ◌<◌, ◌⊎◌, inl, inr, ℕ, zero, suc, true, false, List, [], ◌∷◌, ◌++◌, Option, Some, None, refl, ap, sym, ◌∙◌, subst, append_assoc, append-nil, length, arith}
 use Rattle.std.proofs.KnownBytes.{Appends-trans, Appends-nil}
 use Rattle.std.proofs.lemmas.Bool.{false≢true}
+use Rattle.std.specs.Prelude.{IfSome, IfErr, Result, Ok, Err}
 use Rattle.std.specs.Io.KnownBytes.{Appends}
+use Rattle.std.proofs.lemmas.Option.{IfSome_then}
+use Rattle.disk_model.specs.Disk.{DiskView, InModel, bytes_on}
+use Rattle.worksheet.specs.declared.op.Op.{Op}
+use Rattle.recovery.specs.Sheets.{IsSheetImage}
 use Rattle.session_engine.specs.declared.event.Event.{Event}
 use Rattle.session_engine.specs.declared.outcome.HostFault.{HostFault}
-use Rattle.session_engine.specs.World.{World}
-use Rattle.session_engine.specs.Host.{HostView, IsHost}
+use Rattle.session_engine.specs.World.{World, world_at_opening}
+use Rattle.session_engine.specs.Host.{HostView, EndsAt, IsHost}
 use Rattle.child_edge.specs.declared.serving.EdgeCause.{EdgeCause}
 use Rattle.child_edge.specs.declared.serving.EdgeCause.TheVariants as cause
 use Rattle.child_edge.specs.Faithful.{Relation, At, at, Beat}
@@ -18,7 +23,9 @@ use Rattle.sheet_text.specs.Script.{line_of, wants_memory}
 use Rattle.sheet_text.specs.declared.script.ScriptLine.{ScriptLine}
 use Rattle.sheet_text.specs.declared.script.ScriptLine.TheVariants as line
 use Rattle.host_cli.specs.Lines.{LineDone, LinesDone, LineUpTo, LineSoFar, LineLed, whole, up_to, so_far, beats_text}
-use Rattle.host_cli.specs.Run.{LinesBefore, LinesUpTo, LinesSoFar, LinesLed}
+use Rattle.host_cli.specs.Input.{IsInputFault, max_input}
+use Rattle.host_cli.specs.Memory.{script_lines}
+use Rattle.host_cli.specs.Run.{OpenedOn, LinesBefore, LinesUpTo, LinesSoFar, LinesLed, RunDone, RunStopped, RunSoFar, RunLed, TellsRun}
 use Rattle.host_cli.specs.inside.Taking.{LineTaken, LineFailed, LinesFailed, LinesStopped, StandsOrStopped, fault_of_cause}
 use Rattle.host_cli.specs.declared.fault.RunFault.{RunFault}
 use Rattle.host_cli.specs.declared.fault.RunFault.TheVariants as fault
@@ -172,3 +179,52 @@ lines_stopped R lines s failures h c d a b fault.Output stops p = (at p.0 c, p.1
 lines_stopped R lines s failures h c d a b fault.Input stops p = absurd p
 lines_stopped R lines s failures h c d a b fault.InputTooLong stops p = absurd p
 lines_stopped R lines s failures h c d a b (fault.Open why) stops p = absurd p
+
+-- The run.
+
+pub if_err_then : {T E : Type 0} (r : Result T E) (P Q : E → Type 0) → ((e : E) → P e → Q e) → IfErr r P → IfErr r Q
+if_err_then (Ok x) P Q f h = h
+if_err_then (Err e) P Q f h = f e h
+
+pub opened_on : (disk : DiskView) (h : HostView) (ops : List Op) → IsHost h (world_at_opening ops disk.room h.store.end)
+    → InModel disk (IsSheetImage h.store.sheet.contents (bytes_on disk)) → InModel disk (EndsAt (bytes_on disk) h.store.end)
+    → OpenedOn disk (world_at_opening ops disk.room h.store.end)
+opened_on disk h ops stands found ends = record {
+  ops = ops;
+  end = h.store.end;
+  is = refl;
+  found = λ m. subst (λ s. IsSheetImage s (bytes_on disk)) stands.stands.contents (found m);
+  ends = ends;
+}
+
+pub done_run : {C : Type 0} (R : Relation C) (stream : Option (List ℕ)) (disk : DiskView) (c d : C) (a b : Option (List ℕ)) (back : DiskView) (script : List ℕ) (start : World) (text : List ℕ) (t : At C) (h : HostView)
+    → IfSome stream (λ bytes. script ≡ bytes) → OpenedOn disk start → LinesDone R 1 (script_lines script) (at start c) text t → Stops R (running t.world) t.children d → IsHost h t.world → Appends a b text
+    → back ≡ h.store.disk → IfSome stream (λ bytes. RunDone R bytes disk c d a b back)
+done_run R stream disk c d a b back script start text t h is opened lines stops stands wrote same =
+    IfSome_then stream is (λ bytes e. subst (λ s. RunDone R s disk c d a b back) e
+        (subst (RunDone R script disk c d a b) (sym same)
+        (record { start = start; opened = opened; text = text; leads = t; lines = lines; stops = stops; wrote = wrote; holds = stands.stands.images })))
+
+pub unread_script : {C : Type 0} (R : Relation C) (stream : Option (List ℕ)) (disk : DiskView) (c d : C) (a b : Option (List ℕ)) (nothing : Type 0) (f : RunFault)
+    → IsInputFault f → (f ≡ fault.InputTooLong → IfSome stream (λ script. max_input < length script)) → nothing → TellsRun R stream disk c d a b nothing f
+unread_script R stream disk c d a b nothing fault.Input is long none = none
+unread_script R stream disk c d a b nothing fault.InputTooLong is long none = (none, long refl)
+unread_script R stream disk c d a b nothing fault.OutOfMemory is long none = inl none
+unread_script R stream disk c d a b nothing fault.Output is long none = absurd is
+unread_script R stream disk c d a b nothing (fault.Host why) is long none = absurd is
+unread_script R stream disk c d a b nothing (fault.Open why) is long none = absurd is
+
+pub broken_run : {C : Type 0} (R : Relation C) (stream : Option (List ℕ)) (disk : DiskView) (c d : C) (a b : Option (List ℕ)) (nothing : Type 0) (f : RunFault) (script : List ℕ) (start : World) (failures : ℕ) (h : HostView)
+    → IfSome stream (λ bytes. script ≡ bytes) → length script ≤ max_input → OpenedOn disk start → disk.faults ≤ failures → LinesStopped R (script_lines script) (at start c) failures h d a b f
+    → TellsRun R stream disk c d a b nothing f
+broken_run R stream disk c d a b nothing (fault.Host f) script start failures h is short opened counted p =
+    IfSome_then stream is (λ bytes e. subst (λ s. RunStopped R s disk c d a b f) e
+        (record { start = start; opened = opened; text = p.0; failed = p.1; leads = p.2; lines = p.3; failures = failures; counted = counted; host = h; stopped = p.4; stops = p.5; wrote = p.6 }))
+broken_run R stream disk c d a b nothing fault.OutOfMemory script start failures h is short opened counted p =
+    inr (IfSome_then stream is (λ bytes e. subst (λ s. RunSoFar R s disk c d a b) e
+        (record { start = start; opened = opened; text = p.0; leads = p.1; lines = p.2; stops = p.3; wrote = p.4 })))
+broken_run R stream disk c d a b nothing fault.Output script start failures h is short opened counted p =
+    IfSome_then stream is (λ bytes e. (subst (λ s. length s ≤ max_input) e short, subst (λ s. RunLed R s disk c d) e (record { start = start; opened = opened; leads = p.0; lines = p.1; stops = p.2 })))
+broken_run R stream disk c d a b nothing fault.Input script start failures h is short opened counted p = absurd p
+broken_run R stream disk c d a b nothing fault.InputTooLong script start failures h is short opened counted p = absurd p
+broken_run R stream disk c d a b nothing (fault.Open why) script start failures h is short opened counted p = absurd p
