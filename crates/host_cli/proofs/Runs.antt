@@ -76,8 +76,7 @@ lines-more {C = C} R number [] line s text mid last t h p =
     let same : number + 0 ≡ number = omega arith in
     (t, last, [], subst (λ m. LineDone R number (line_of line) m last t) h.1 (subst (λ n. LineDone R n (line_of line) mid last t) same p), (refl, refl), ap (λ x. x ++ last) h.0 ∙ sym (append-nil last))
 lines-more R number (x ∷ xs) line s text mid last t h p =
-    let same : number + length (x ∷ xs) ≡ number + 1 + length xs = omega arith in
-    (
+    let same : number + length (x ∷ xs) ≡ number + 1 + length xs = omega arith in (
       h.0,
       h.1,
       h.2 ++ last,
@@ -138,23 +137,21 @@ pub lines_failed : {C : Type 0} (R : Relation C) (all : List (List ℕ)) (number
     (failures counted : ℕ) (g : HostView) (d : C) (e : Option (List ℕ)) (f : RunFault)
     → left ≡ line ∷ others → failures ≤ counted → (so : DoneSoFar R all number left s h c a b) → LineFailed R (line_of line) (at so.leads c) counted g d b e f
     → LinesFailed R all s failures g d a e f
-lines_failed R all number left line others s h c a b failures counted g d e (fault.Host f) is later so p =
-    (
-      so.text ++ beats_text p.0,
-      p.1,
-      p.2,
-      record { line = line; mid = at so.leads c; first = so.text; beats = p.0; before = lines-before R all number left line others s h c a b is so; broke = p.3; wrote = refl },
-      stopped_since f p.2 p.1 failures counted g later p.4,
-      Appends-trans a b e so.text (beats_text p.0) so.wrote p.5,
-    )
-lines_failed R all number left line others s h c a b failures counted g d e fault.OutOfMemory is later so p =
-    (
-      so.text ++ beats_text p.0,
-      p.1,
-      record { line = line; mid = at so.leads c; first = so.text; beats = p.0; before = lines-before R all number left line others s h c a b is so; broke = p.2; wrote = refl },
-      p.3,
-      Appends-trans a b e so.text (beats_text p.0) so.wrote p.4,
-    )
+lines_failed R all number left line others s h c a b failures counted g d e (fault.Host f) is later so p = (
+  so.text ++ beats_text p.0,
+  p.1,
+  p.2,
+  record { line = line; mid = at so.leads c; first = so.text; beats = p.0; before = lines-before R all number left line others s h c a b is so; broke = p.3; wrote = refl },
+  stopped_since f p.2 p.1 failures counted g later p.4,
+  Appends-trans a b e so.text (beats_text p.0) so.wrote p.5,
+)
+lines_failed R all number left line others s h c a b failures counted g d e fault.OutOfMemory is later so p = (
+  so.text ++ beats_text p.0,
+  p.1,
+  record { line = line; mid = at so.leads c; first = so.text; beats = p.0; before = lines-before R all number left line others s h c a b is so; broke = p.2; wrote = refl },
+  p.3,
+  Appends-trans a b e so.text (beats_text p.0) so.wrote p.4,
+)
 lines_failed R all number left line others s h c a b failures counted g d e fault.Output is later so p =
     (p.0, record { line = line; mid = at so.leads c; first = so.text; before = lines-before R all number left line others s h c a b is so; led = p.1 }, p.2)
 lines_failed R all number left line others s h c a b failures counted g d e fault.Input is later so p = absurd p
@@ -202,8 +199,8 @@ pub done_run : {C : Type 0} (R : Relation C) (stream : Option (List ℕ)) (disk 
     → back ≡ h.store.disk → IfSome stream (λ bytes. RunDone R bytes disk c d a b back)
 done_run R stream disk c d a b back script start text t h is opened lines stops stands wrote same =
     IfSome_then stream is (λ bytes e. subst (λ s. RunDone R s disk c d a b back) e
-        (subst (RunDone R script disk c d a b) (sym same)
-        (record { start = start; opened = opened; text = text; leads = t; lines = lines; stops = stops; wrote = wrote; holds = stands.stands.images })))
+    (subst (RunDone R script disk c d a b) (sym same)
+    (record { start = start; opened = opened; text = text; leads = t; lines = lines; stops = stops; wrote = wrote; holds = stands.stands.images })))
 
 pub unread_script : {C : Type 0} (R : Relation C) (stream : Option (List ℕ)) (disk : DiskView) (c d : C) (a b : Option (List ℕ)) (nothing : Type 0) (f : RunFault)
     → IsInputFault f → (f ≡ fault.InputTooLong → IfSome stream (λ script. max_input < length script)) → nothing → TellsRun R stream disk c d a b nothing f
@@ -219,10 +216,10 @@ pub broken_run : {C : Type 0} (R : Relation C) (stream : Option (List ℕ)) (dis
     → TellsRun R stream disk c d a b nothing f
 broken_run R stream disk c d a b nothing (fault.Host f) script start failures h is short opened counted p =
     IfSome_then stream is (λ bytes e. subst (λ s. RunStopped R s disk c d a b f) e
-        (record { start = start; opened = opened; text = p.0; failed = p.1; leads = p.2; lines = p.3; failures = failures; counted = counted; host = h; stopped = p.4; stops = p.5; wrote = p.6 }))
+    (record { start = start; opened = opened; text = p.0; failed = p.1; leads = p.2; lines = p.3; failures = failures; counted = counted; host = h; stopped = p.4; stops = p.5; wrote = p.6 }))
 broken_run R stream disk c d a b nothing fault.OutOfMemory script start failures h is short opened counted p =
     inr (IfSome_then stream is (λ bytes e. subst (λ s. RunSoFar R s disk c d a b) e
-        (record { start = start; opened = opened; text = p.0; leads = p.1; lines = p.2; stops = p.3; wrote = p.4 })))
+    (record { start = start; opened = opened; text = p.0; leads = p.1; lines = p.2; stops = p.3; wrote = p.4 })))
 broken_run R stream disk c d a b nothing fault.Output script start failures h is short opened counted p =
     IfSome_then stream is (λ bytes e. (subst (λ s. length s ≤ max_input) e short, subst (λ s. RunLed R s disk c d) e (record { start = start; opened = opened; leads = p.0; lines = p.1; stops = p.2 })))
 broken_run R stream disk c d a b nothing fault.Input script start failures h is short opened counted p = absurd p

@@ -64,11 +64,7 @@ fn take_command<D: Disk, C: Children>(
 }
 
 /// Waits for the answers.
-fn take_wait<D: Disk, C: Children>(
-    alloc: Global,
-    host: &mut Host<D>,
-    children: &mut C,
-) -> LineEnd
+fn take_wait<D: Disk, C: Children>(alloc: Global, host: &mut Host<D>, children: &mut C) -> LineEnd
     ensures same { SameDisk host.old.store.disk host.new.store.disk }
     ensures taken { (number : ℕ) (w : World) → IsHost host.old w
         → LineTaken C.after number (Some said.Wait) (at w children.old)
@@ -100,7 +96,10 @@ fn take_line<D: Disk, C: Children>(
         Ok(ScriptLine::Wait) => take_wait(alloc, host, children),
         Ok(ScriptLine::Command(command)) => take_command(alloc, host, children, command),
         Err(LineFault::BadLine) => ended(Told::BadLine, None),
-        Err(LineFault::OutOfMemory) => ended(Told::Replies(Vec::new(alloc)), Some(EdgeCause::OutOfMemory)),
+        Err(LineFault::OutOfMemory) => ended(
+            Told::Replies(Vec::new(alloc)),
+            Some(EdgeCause::OutOfMemory),
+        ),
     }
 }
 
@@ -136,12 +135,7 @@ fn write_told<W: Write>(
 }
 
 /// Writes what a line gave, and brings it out: whoever reads it can rely on it.
-fn tell<W: Write>(
-    told: &Told,
-    number: u64,
-    sheet: &Sheet,
-    writer: &mut W,
-) -> Result<(), RunFault>
+fn tell<W: Write>(told: &Told, number: u64, sheet: &Sheet, writer: &mut W) -> Result<(), RunFault>
     ensures ok { OnOk result (Appends (W.contents writer.old) (W.contents writer.new)
         (told_text number sheet.now.contents told.now)) }
     ensures err { IfErr result (λ fault. fault ≡ RunFault.Output) }

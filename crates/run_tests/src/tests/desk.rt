@@ -22,6 +22,7 @@ pub fn empty(alloc: Global) -> MemoryDisk {
 }
 
 /// What a child gives, piece by piece.
+#[derive(Drop)]
 pub struct Given {
     alloc: Global,
     receives: Queue<Got>,

@@ -58,7 +58,10 @@ fn two_interpreters_and_one_wait(rt: HostRuntime) -> Result<(), Fail> {
     let script =
         "session a plain sh two_echoes.sh\nsession b plain sh two_echoes.sh\nnew 0 a one\nnew 1 b two\neval 1\neval 2\nwait\n";
     let text = run_in_files(&rt, "two.sheet", script)?;
-    assert!(rt; text.as_slice().starts_with(b"ok\nok\nfield 1\nfield 2\nasked\nasked\n"));
+    assert!(rt;
+        text.as_slice()
+            .starts_with(b"ok\nok\nfield 1\nfield 2\nasked\nasked\n")
+    );
     let shown = show_files(&rt, "two.sheet")?;
     assert!(rt; are(&shown, b"#1 a\n> one\none\n#2 b\n> two\ntwo\n"));
     for path in ["two_echoes.sh", "two.sheet", "two.sheet.alt"] {
