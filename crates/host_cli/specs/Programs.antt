@@ -1,6 +1,6 @@
 -- How the programs over a worksheet's files end: what becomes of the disk, what is written on which
 -- stream, and the exit status.
-use Rattle.std.specs.Prelude.{◌≡◌, ℕ, Bool, true, List, [], Option, Some, None, Result, Err, IfOk, IfErr}
+use Rattle.std.specs.Prelude.{◌≡◌, ◌≤◌, ℕ, Bool, true, List, [], Option, Some, None, Result, Err, IfOk, IfErr, IfSome, length}
 use Rattle.std.specs.Io.KnownBytes.{Appends}
 use Rattle.disk_model.specs.Disk.{DiskView, InModel, Leaves, Looks, Rises, SameDisk, bytes_on}
 use Rattle.worksheet.specs.Contents.{Contents}
@@ -11,8 +11,11 @@ use Rattle.journal.specs.declared.opening.CreateCause.TheVariants as creates
 use Rattle.journal.specs.declared.opening.OpenCause.{OpenCause}
 use Rattle.recovery.specs.Sheets.{IsSheetImage}
 use Rattle.sheet_text.specs.Texts.{sheet_text}
+use Rattle.child_edge.specs.Faithful.{Relation}
 use Rattle.host_cli.specs.Ending.{ProgramAnswer}
 use Rattle.host_cli.specs.Faults.{TellsShow, create_fault_text}
+use Rattle.host_cli.specs.Input.{max_input}
+use Rattle.host_cli.specs.Run.{RunDone, TellsRun}
 use Rattle.host_cli.specs.declared.fault.RunFault.TheVariants as fault
 
 -- what `create` answers: why there is no worksheet, or nothing
@@ -53,3 +56,14 @@ pub record ShowAnswer {D W : Type 0} (view : D → DiskView) (contents : W → O
   pub found : IfOk files (λ disk. InModel (view disk)
       (IfOk answer (λ whole. (sheet : Contents) × IsSheetImage sheet (bytes_on (view disk)))))
   pub fault : IfOk files (λ disk. IfErr answer (TellsShow (view disk) (new ≡ old)))
+
+-- What `run` answers on a disk, and what it has written and done then: its clauses. The script is the
+-- stream of its reader, where that is known; `nothing` says that it wrote nothing and called no child.
+pub record RunAnswer {D C : Type 0} (view : D → DiskView) (R : Relation C)
+    (stream : Option (List ℕ)) (disk : D) (c d : C) (a b : Option (List ℕ)) (nothing : Type 0)
+    (answer : ProgramAnswer) : Type 0 where
+  -- the disk that it gives back is the same one, after the run
+  pub ran : IfOk answer (λ whole. (whole ≡ true) × ((back : D) × SameDisk (view disk) (view back)
+      × IfSome stream (λ script. RunDone R script (view disk) c d a b (view back))))
+  pub short : IfOk answer (λ whole. IfSome stream (λ script. length script ≤ max_input))
+  pub fault : IfErr answer (TellsRun R stream (view disk) c d a b nothing)

@@ -1,15 +1,17 @@
 //! The programs over a worksheet's files, from their files on: how each ends, and what it says on
 //! which stream.
-ghost use Rattle.std.specs.Prelude.{◌≡◌, ◌≤◌, IfErr, IfOk, Some};
+ghost use Rattle.std.specs.Prelude.{◌≡◌, ◌≤◌, Err, IfErr, IfOk, Some};
 ghost use Rattle.host_cli.specs.Ending.{ProgramAnswer, TellsFault, status_of};
-ghost use Rattle.host_cli.specs.Programs.{CreateAnswer, Creates, ShowAnswer, TellsCreate, create_status};
+ghost use Rattle.host_cli.specs.Programs.{CreateAnswer, Creates, RunAnswer, ShowAnswer, TellsCreate, create_status};
+ghost use Rattle.host_cli.specs.declared.fault.RunFault.TheVariants as fault;
 
 use crate::ending::ended;
-use crate::{Ending, RunFault, create_fault_text, end_program, show};
+use crate::{Ending, RunFault, create_fault_text, end_program, run, show};
+use child_edge::Children;
 use disk_model::Disk;
 use journal::{CreateCause, OpenCause};
 use std::alloc::Global;
-use std::io::Write;
+use std::io::{Read, Write};
 
 /// Tells on a line why no worksheet was made.
 fn end_create<E: Write>(why: CreateCause, errors: &mut E) -> Ending
@@ -84,5 +86,53 @@ pub fn run_show<D: Disk, W: Write, E: Write>(
         × TellsFault E.contents errors.old errors.new result.told answer }
 {
     let answer = show_files(alloc, files, output);
+    end_program(answer, errors)
+}
+
+/// Runs a script over a disk, and drops the disk at its end.
+fn run_on<R: Read, W: Write, D: Disk, C: Children>(
+    alloc: Global,
+    input: &mut R,
+    output: &mut W,
+    disk: D,
+    children: &mut C,
+) -> Result<bool, RunFault>
+    ensures { RunAnswer D.view C.after (R.remaining input.old) disk children.old children.new
+        (W.contents output.old) (W.contents output.new)
+        ((output.new ≡ output.old) × (children.new ≡ children.old)) result }
+{
+    match run(alloc, input, output, disk, children) {
+        Ok(_) => Ok(true),
+        Err(fault) => Err(fault),
+    }
+}
+
+/// The whole program `run` on its files, or on why they weren't opened: the script comes from `input`,
+/// which is read only where there are files, and what its lines give goes to `output`, each line flushed.
+/// The line of a fault goes to `errors`.
+pub fn run_script<R: Read, W: Write, E: Write, D: Disk, C: Children>(
+    alloc: Global,
+    input: &mut R,
+    output: &mut W,
+    errors: &mut E,
+    files: Result<D, OpenCause>,
+    children: &mut C,
+) -> Ending
+    // It is told before the script is read.
+    ensures unopened { IfErr files (λ why. (input.new ≡ input.old) × (output.new ≡ output.old)
+        × (children.new ≡ children.old) × (result.status ≡ 1)
+        × TellsFault E.contents errors.old errors.new result.told (Err (fault.Open why))) }
+
+    ensures files { IfOk files (λ disk. (answer : ProgramAnswer)
+        × RunAnswer D.view C.after (R.remaining input.old) disk children.old children.new
+        (W.contents output.old) (W.contents output.new)
+        ((output.new ≡ output.old) × (children.new ≡ children.old)) answer
+        × (result.status ≡ status_of answer)
+        × TellsFault E.contents errors.old errors.new result.told answer) }
+{
+    let answer = match files {
+        Ok(disk) => run_on(alloc, input, output, disk, children),
+        Err(why) => Err(RunFault::Open(why)),
+    };
     end_program(answer, errors)
 }

@@ -2,9 +2,10 @@
 //! where, and with which status it ends, `host_cli` decides.
 #![tactic(auto)]
 
+use child_edge::Processes;
 use host_cli::{
     Ending, FileDisk, RunFault, Task, end_program, read_words, refuse_unread_words, refuse_words,
-    run_blocks, run_create, run_show,
+    run_blocks, run_create, run_script, run_show,
 };
 use std::fs::{File, OpenOptions};
 use std::io;
@@ -40,8 +41,25 @@ fn show_at(rt: &HostRuntime, path: &str) -> Ending {
     }
 }
 
-/// Reads the words and runs the task.
-fn run(rt: &HostRuntime) -> Ending {
+/// `run` of the script on standard input over the files at a path.
+fn run_at(rt: &HostRuntime, path: &str) -> Ending {
+    let files = FileDisk::open(rt, rt.alloc(), path);
+    let output = BufWriter::with_capacity(rt.alloc(), 65_536, rt.stdout());
+    let (Ok(mut output), Ok(runtime)) = (output, rt.clone()) else {
+        return end_program(Err(RunFault::OutOfMemory), &mut rt.stderr());
+    };
+    run_script(
+        rt.alloc(),
+        &mut rt.stdin(),
+        &mut output,
+        &mut rt.stderr(),
+        files,
+        &mut Processes::new(runtime, rt.alloc()),
+    )
+}
+
+/// Reads the words and does the task.
+fn do_task(rt: &HostRuntime) -> Ending {
     let words = match std::env::args(rt) {
         Ok(words) => words.collect::<Vec<String>>(rt.alloc()),
         Err(error) => return refuse_unread_words(error.kind(), &mut rt.stderr()),
@@ -52,12 +70,8 @@ fn run(rt: &HostRuntime) -> Ending {
     match read_words(rt.alloc(), words.as_slice()) {
         Ok(Task::Blocks) => blocks_on_streams(rt),
         Ok(Task::Create(path)) => create_at(rt, path),
+        Ok(Task::Run(path)) => run_at(rt, path),
         Ok(Task::Show(path)) => show_at(rt, path),
-        // No script is run over files yet.
-        Ok(Task::Run(_)) => Ending {
-            status: 2,
-            told: true,
-        },
         Err(error) => refuse_words(&error, &mut rt.stdout(), &mut rt.stderr()),
     }
 }
@@ -66,5 +80,5 @@ fn main(rt: HostRuntime) -> ExitCode {
     let _first = hold_descriptor(&rt);
     let _second = hold_descriptor(&rt);
     let _third = hold_descriptor(&rt);
-    ExitCode::from(run(&rt).status)
+    ExitCode::from(do_task(&rt).status)
 }
