@@ -45,7 +45,8 @@ fn show_at(rt: &HostRuntime, path: &str) -> Ending {
 fn run_at(rt: &HostRuntime, path: &str) -> Ending {
     let files = FileDisk::open(rt, rt.alloc(), path);
     let output = BufWriter::with_capacity(rt.alloc(), 65_536, rt.stdout());
-    let (Ok(mut output), Ok(runtime)) = (output, rt.clone()) else {
+    let runtime: Result<_, _> = rt.clone();
+    let (Ok(mut output), Ok(runtime)) = (output, runtime) else {
         return end_program(Err(RunFault::OutOfMemory), &mut rt.stderr());
     };
     run_script(
