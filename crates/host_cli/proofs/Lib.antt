@@ -1,3 +1,4 @@
 pub mod Lines
 pub mod Scripting
 pub mod Fronts
+pub mod Runs

@@ -13,6 +13,8 @@ mod input;
 mod limits;
 mod memory;
 mod printing;
+mod running;
+mod taking;
 #[cfg(test)]
 mod tests;
 mod words;
@@ -24,4 +26,5 @@ pub use file_disk::FileDisk;
 pub use input::{MAX_INPUT, read_input};
 pub use memory::run_memory;
 pub use printing::show;
+pub use running::run;
 pub use words::{Task, read_words};
