@@ -7,4 +7,5 @@ pub mod Ending
 pub mod Files
 pub mod Lines
 pub mod Run
+pub mod Programs
 pub mod inside

@@ -13,6 +13,7 @@ mod input;
 mod limits;
 mod memory;
 mod printing;
+mod programs;
 mod running;
 mod taking;
 #[cfg(test)]
@@ -26,5 +27,6 @@ pub use file_disk::FileDisk;
 pub use input::{MAX_INPUT, read_input};
 pub use memory::run_memory;
 pub use printing::show;
+pub use programs::{run_create, run_script, run_show};
 pub use running::run;
 pub use words::{Task, read_words};
