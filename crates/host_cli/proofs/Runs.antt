@@ -5,7 +5,7 @@ use Rattle.std.proofs.lemmas.Bool.{false≢true}
 use Rattle.std.specs.Prelude.{IfSome, IfErr, Result, Ok, Err}
 use Rattle.std.specs.Io.KnownBytes.{Appends}
 use Rattle.std.proofs.lemmas.Option.{IfSome_then}
-use Rattle.disk_model.specs.Disk.{DiskView, InModel, bytes_on}
+use Rattle.disk_model.specs.Disk.{DiskView, InModel, SameDisk, bytes_on}
 use Rattle.worksheet.specs.declared.op.Op.{Op}
 use Rattle.recovery.specs.Sheets.{IsSheetImage}
 use Rattle.session_engine.specs.declared.event.Event.{Event}
@@ -212,16 +212,16 @@ unread_script R stream disk c d a b nothing (fault.Host why) is long none = absu
 unread_script R stream disk c d a b nothing (fault.Open why) is long none = absurd is
 
 pub broken_run : {C : Type 0} (R : Relation C) (stream : Option (List ℕ)) (disk : DiskView) (c d : C) (a b : Option (List ℕ)) (nothing : Type 0) (f : RunFault) (script : List ℕ) (start : World) (failures : ℕ) (h : HostView)
-    → IfSome stream (λ bytes. script ≡ bytes) → length script ≤ max_input → OpenedOn disk start → disk.faults ≤ failures → LinesStopped R (script_lines script) (at start c) failures h d a b f
+    → IfSome stream (λ bytes. script ≡ bytes) → length script ≤ max_input → OpenedOn disk start → disk.faults ≤ failures → SameDisk disk h.store.disk → LinesStopped R (script_lines script) (at start c) failures h d a b f
     → TellsRun R stream disk c d a b nothing f
-broken_run R stream disk c d a b nothing (fault.Host f) script start failures h is short opened counted p =
+broken_run R stream disk c d a b nothing (fault.Host f) script start failures h is short opened counted same p =
     IfSome_then stream is (λ bytes e. subst (λ s. RunStopped R s disk c d a b f) e
-    (record { start = start; opened = opened; text = p.0; failed = p.1; leads = p.2; lines = p.3; failures = failures; counted = counted; host = h; stopped = p.4; stops = p.5; wrote = p.6 }))
-broken_run R stream disk c d a b nothing fault.OutOfMemory script start failures h is short opened counted p =
+    (record { start = start; opened = opened; text = p.0; failed = p.1; leads = p.2; lines = p.3; failures = failures; counted = counted; host = h; same = same; stopped = p.4; stops = p.5; wrote = p.6 }))
+broken_run R stream disk c d a b nothing fault.OutOfMemory script start failures h is short opened counted same p =
     inr (IfSome_then stream is (λ bytes e. subst (λ s. RunSoFar R s disk c d a b) e
     (record { start = start; opened = opened; text = p.0; leads = p.1; lines = p.2; stops = p.3; wrote = p.4 })))
-broken_run R stream disk c d a b nothing fault.Output script start failures h is short opened counted p =
+broken_run R stream disk c d a b nothing fault.Output script start failures h is short opened counted same p =
     IfSome_then stream is (λ bytes e. (subst (λ s. length s ≤ max_input) e short, subst (λ s. RunLed R s disk c d) e (record { start = start; opened = opened; leads = p.0; lines = p.1; stops = p.2 })))
-broken_run R stream disk c d a b nothing fault.Input script start failures h is short opened counted p = absurd p
-broken_run R stream disk c d a b nothing fault.InputTooLong script start failures h is short opened counted p = absurd p
-broken_run R stream disk c d a b nothing (fault.Open why) script start failures h is short opened counted p = absurd p
+broken_run R stream disk c d a b nothing fault.Input script start failures h is short opened counted same p = absurd p
+broken_run R stream disk c d a b nothing fault.InputTooLong script start failures h is short opened counted same p = absurd p
+broken_run R stream disk c d a b nothing (fault.Open why) script start failures h is short opened counted same p = absurd p

@@ -1,7 +1,7 @@
 -- The run of a script over a worksheet on a disk and its interpreters, and what a fault of it leaves.
 use Rattle.std.specs.Prelude.{◌≡◌, ◌+◌, ◌<◌, ◌≤◌, ◌⊎◌, ℕ, List, ◌∷◌, ◌++◌, Option, IfSome, length}
 use Rattle.std.specs.Io.KnownBytes.{Appends}
-use Rattle.disk_model.specs.Disk.{DiskView, InModel, SameDisk, Rises, bytes_on}
+use Rattle.disk_model.specs.Disk.{DiskView, InModel, SameDisk, bytes_on}
 use Rattle.journal.specs.declared.opening.OpenCause.{OpenCause}
 use Rattle.worksheet.specs.declared.op.Op.{Op}
 use Rattle.worksheet.specs.Ops.{sheet_of}
@@ -76,7 +76,8 @@ pub record RunDone {C : Type 0} (R : Relation C) (script : List ℕ) (disk : Dis
   pub wrote : Appends a b text
   pub holds : HoldsSheet leads.world back
 
--- At an event the host had this fault. What was told before is written, and each life that goes on was stopped.
+-- At an event the host had this fault, and its disk was left as told. What was told before is written, and each life that goes on
+-- was stopped.
 pub record RunStopped {C : Type 0} (R : Relation C) (script : List ℕ) (disk : DiskView) (c d : C) (a b : Option (List ℕ)) (f : HostFault) : Type 0 where
   pub start : World
   pub opened : OpenedOn disk start
@@ -87,6 +88,7 @@ pub record RunStopped {C : Type 0} (R : Relation C) (script : List ℕ) (disk : 
   pub failures : ℕ
   pub counted : disk.faults ≤ failures
   pub host : HostView
+  pub same : SameDisk disk host.store.disk
   pub stopped : Stopped failures host leads.world failed f
   pub stops : Stops R (running leads.world) leads.children d
   pub wrote : Appends a b text

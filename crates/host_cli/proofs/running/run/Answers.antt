@@ -2,6 +2,7 @@ use Rattle.std.proofs.Common.{◌≤◌, ap, arith, length, refl, sym, ◌∙◌
 use Rattle.std.specs.Prelude.{Err}
 use Rattle.std.proofs.lemmas.Option.{IfSome_then}
 use Rattle.session_engine.specs.World.{world_at_opening}
+use Rattle.child_edge.proofs.Faulting.{same-on}
 use Rattle.host_cli.specs.Input.{max_input}
 use Rattle.host_cli.proofs.Scripting.{script-few}
 use Rattle.host_cli.proofs.Runs.{unread_script, opened_on, done_run, broken_run}
@@ -36,4 +37,5 @@ returns-clause-fault g c =
     broken_run g.C.Children.after (g.R.Read.remaining c.args.reader.now) disk c.args.children.now c.run_on_host.new.children (g.W.Write.contents c.args.writer.now) (g.W.Write.contents c.run_on_host.new.writer) _
     c.in-Err-run_on_host.fault c.as_slice.result.now start c.in-Ok-open.host.store.disk.faults c.run_on_host.new.host (IfSome_then (g.R.Read.remaining c.args.reader.now) c.in-Ok.ensures.whole (λ bytes e. c.as_slice.ensures.value ∙ e))
     (subst (λ xs. length xs ≤ max_input) (sym c.as_slice.ensures.value) c.in-Ok.ensures.short) (opened_on disk c.in-Ok-open.host o.0 o.1 c.in-Ok-open.ensures.found c.in-Ok-open.ensures.ends) c.in-Ok-open.ensures.same.later
+    (same-on disk c.in-Ok-open.host.store.disk c.run_on_host.new.host.store.disk c.in-Ok-open.ensures.same c.in-Err-run_on_host.ensures.same)
     (c.in-Err-run_on_host.ensures.err start o.1)
