@@ -24,7 +24,9 @@ pub enum Task<'a> {
 /// What the help of the program says below its lists.
 const NOTES: &str = "Without a command it is `blocks`.\n\n\
 Status: 0 where all was done, or help was shown; 1 at a fault, which is told on\n\
-standard error as `fault N NAME`; 2 where the words are refused.";
+standard error as `fault N NAME`, and where the stream of `blocks` has a fault or\n\
+an open block; 2 where the words are refused.\n\n\
+Example: tmhost create sheet.tm && tmhost run sheet.tm <script.txt";
 
 const BLOCKS_NOTES: &str =
     "A line is the offset of the block's first byte, the offset behind its last one,\n\
@@ -34,8 +36,7 @@ at a fault of the program; 2 where the words are refused.\n\n\
 Example: printf '\\002verbatim:Hi\\005' | tmhost blocks";
 
 const CREATE_NOTES: &str =
-    "The worksheet is the two files PATH and PATH.alt. Where either exists nothing is\n\
-made, and the fault is 34 NotEmpty.\n\n\
+    "Where PATH or PATH.alt exists nothing is made, and the fault is 34 NotEmpty.\n\n\
 Status: 0 where the worksheet is on the disk; 1 at a fault; 2 where the words are\n\
 refused.\n\n\
 Example: tmhost create sheet.tm";
@@ -48,7 +49,8 @@ Status: 0 where the script ran to its end, also where it has bad lines and refus
 commands; 1 at a fault; 2 where the words are refused.\n\n\
 Example: tmhost run sheet.tm <script.txt";
 
-const SHOW_NOTES: &str = "It changes nothing in the worksheet.\n\n\
+const SHOW_NOTES: &str =
+    "It changes nothing in the worksheet. A field without an output shows `?`.\n\n\
 Status: 0 where all was written; 1 at a fault; 2 where the words are refused.\n\n\
 Example: tmhost show sheet.tm";
 
@@ -70,7 +72,9 @@ fn with_path<'a>(
     ensures made { IfOk result (λ command. app_of command ≡ asked.with_path name.entry.now) }
     ensures local { IfOk result (λ command. (fields_of command).has_globals ≡ false) }
 {
-    let path = Arg::new(alloc, "PATH").required(true);
+    let path = Arg::new(alloc, "PATH")
+        .help("The worksheet, which is the files PATH and PATH.alt")
+        .required(true);
     plain(alloc, name, about, notes).arg(path)
 }
 

@@ -73,6 +73,7 @@ fn helps(alloc: Global, name: &str, usage: &str, about: &str, end: &str) -> Resu
             && errors.is_empty()
             && text.starts_with(about)
             && text.contains(usage)
+            && text.contains("PATH.alt") == usage.contains("PATH")
             && text.contains("Status: 0 ")
             && text.ends_with(end),
     )
