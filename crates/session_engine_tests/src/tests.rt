@@ -2,5 +2,7 @@
 //! worksheet and the disk have then.
 mod desk;
 mod disks;
+mod events;
 mod fields;
 mod lives;
+mod told;
