@@ -2,9 +2,9 @@
 ghost use Rattle.std.specs.Prelude.{IfOk};
 ghost use Rattle.child_edge.specs.Answers.{HasSize};
 
-use crate::children::{ChildFault, Children, ReceiveFault, Received};
 use block_tree::Octets;
 use bytes::Bytes;
+use child_edge::children::{ChildFault, Children, ReceiveFault, Received};
 use std::alloc::Global;
 use worksheet::Name;
 
