@@ -4,7 +4,7 @@ use Rattle.std.proofs.lemmas.List.{append-nil}
 use Rattle.disk_model.specs.Disk.{Image, History, InModel, LeavesOnly, SameDisk}
 use Rattle.disk_model.specs.inside.Moments.{started, weakens, goes_on}
 use Rattle.journal.specs.Kept.{BeforeOrAfter, JournalView, Keeps, ImageStandsFor}
-use Rattle.journal.specs.inside.Batch.{Appended, SomeFirst}
+use Rattle.journal_tests.specs.Batch.{Appended, SomeFirst}
 use Rattle.journal.specs.Area.{StandsFor}
 use Rattle.journal.specs.Limits.{max_payload}
 

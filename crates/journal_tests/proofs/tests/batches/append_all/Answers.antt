@@ -1,7 +1,7 @@
 use Rattle.std.proofs.Common.{◌≡◌, ◌+◌, [], ◌∷◌, ◌++◌, take, arith}
 use Rattle.std.proofs.lemmas.Grind.{common_steps}
-use Rattle.journal.proofs.Batches.{run_on, appended_on}
-use Rattle.journal.proofs.tests.append_all.Goals as goal
+use Rattle.journal_tests.proofs.Batches.{run_on, appended_on}
+use Rattle.journal_tests.proofs.tests.batches.append_all.Goals as goal
 
 pub returns-in-Err-clause-any_moment : goal.returns-in-Err-clause-any_moment
 returns-in-Err-clause-any_moment g c =
