@@ -1,6 +1,7 @@
-use crate::{Area, Choice, Disk, DiskFault, Fill, FuseDisk, FuseMode, MAX_ROOM, MemoryDisk};
-use std::alloc::{AllocError, Global};
+use disk_model::{Area, Choice, Disk, DiskFault, Fill, FuseDisk, FuseMode, MAX_ROOM, MemoryDisk};
+use std::alloc::Global;
 use std::test::Fail;
+use tests_desk::exhausted;
 
 // Four bytes on the disk, and two more written over the last of them and past the end.
 fn half_written(alloc: Global) -> Result<MemoryDisk, Fail> {
@@ -165,29 +166,6 @@ fn fuse_passes_each_call_on_once(rt: HostRuntime) -> Result<(), Fail> {
     disk.sync(Area::Second).map_err(|_| "sync")?;
     assert!(rt; is_still_pending(disk, 4)?);
     Ok(())
-}
-
-// All memory, in blocks of falling size.
-fn exhausted(alloc: Global) -> Result<Vec<Vec<u8>>, AllocError> {
-    let mut held: Vec<Vec<u8>> = Vec::with_capacity(alloc, 200_000)?;
-    let mut size: usize = 1 << 44;
-    for _ in 0..45 {
-        for _ in 0..12_000 {
-            match Vec::with_capacity(alloc, size) {
-                Ok(block) => {
-                    if held.len() >= 199_000 {
-                        return Ok(held);
-                    }
-                    held.push(block)?;
-                }
-                Err(_) => break,
-            }
-        }
-        if size > 1 {
-            size /= 2;
-        }
-    }
-    Ok(held)
 }
 
 #[test]
