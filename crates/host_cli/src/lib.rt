@@ -4,17 +4,11 @@
 
 mod block_lines;
 mod ending;
-#[cfg(test)]
-mod failing;
 mod fault;
 mod file_disk;
 mod input;
-#[cfg(test)]
-mod limits;
 mod memory;
 mod printing;
-#[cfg(test)]
-mod tests;
 mod words;
 
 pub use block_lines::blocks;

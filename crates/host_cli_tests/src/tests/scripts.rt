@@ -1,12 +1,11 @@
 //! Scripts and what they write, with the bytes typed in.
-use crate::failing::{Full, InterruptedOnce, Parts, Unflushed};
-use crate::memory::do_line;
-use crate::{RunFault, run_memory};
-use block_tree::OutOfMemory;
+use super::failing::{Exhausting, Full, InterruptedOnce, Parts, Unflushed};
+use host_cli::{RunFault, run_memory};
 use std::alloc::Global;
 use std::fmt::Write;
+use std::io;
+use std::io::Read;
 use std::test::Fail;
-use worksheet::Sheet;
 
 fn written(alloc: Global, script: &[u8]) -> Result<Vec<u8>, Fail> {
     let mut reader = script;
@@ -97,41 +96,19 @@ fn sessions_and_fields_have_limits(rt: HostRuntime) -> Result<(), Fail> {
     Ok(())
 }
 
-// Takes all memory, so that from then on not even a byte is to be had.
-fn exhausted(alloc: Global) -> Result<Vec<Vec<u8>>, OutOfMemory> {
-    let mut held: Vec<Vec<u8>> = Vec::with_capacity(alloc, 200_000)?;
-    let mut size: usize = 1 << 44;
-    for _ in 0..45 {
-        for _ in 0..12_000 {
-            match Vec::with_capacity(alloc, size) {
-                Ok(block) => {
-                    if held.len() >= 199_000 {
-                        return Ok(held);
-                    }
-                    held.push(block)?;
-                }
-                Err(_) => break,
-            }
-        }
-        if size > 1 {
-            size /= 2;
-        }
-    }
-    Ok(held)
-}
-
 #[test]
 fn without_memory_a_script_goes_on(rt: HostRuntime) -> Result<(), Fail> {
     let alloc = rt.alloc();
-    let mut sheet = Sheet::new(alloc);
     let mut out: Vec<u8> = Vec::with_capacity(alloc, 1_000)?;
-    let held = exhausted(alloc)?;
-    let session = b"session a plain p".as_slice();
-    let told = do_line(alloc, &mut sheet, session, 1, &mut out).is_ok();
-    let refused = do_line(alloc, &mut sheet, b"remove 1".as_slice(), 2, &mut out).is_ok();
-    let bad = do_line(alloc, &mut sheet, b"wait".as_slice(), 3, &mut out).is_ok();
-    drop(held);
-    assert!(rt; told && refused && bad);
+    let mut reader = Exhausting {
+        alloc,
+        rest: b"session a plain p\nremove 1\nwait\n".as_slice(),
+        held: Vec::new(alloc),
+    };
+    let ran = run_memory(alloc, &mut reader, &mut out);
+    let is_held = !reader.held.is_empty();
+    drop(reader);
+    assert!(rt; is_held && ran == Ok(()));
     assert_eq!(rt;
         out.as_slice(),
         b"refused 17 OutOfMemory\nrefused 2 NoField\nbad line 3\n".as_slice()
@@ -139,25 +116,34 @@ fn without_memory_a_script_goes_on(rt: HostRuntime) -> Result<(), Fail> {
     Ok(())
 }
 
+// The fault of this reader, where nothing was written.
+fn reader_fault<R: Read>(alloc: Global, reader: &mut R) -> Option<RunFault> {
+    let mut out: Vec<u8> = Vec::new(alloc);
+    let answer = run_memory(alloc, reader, &mut out);
+    if out.is_empty() { answer.err() } else { None }
+}
+
+// The fault of this writer.
+fn writer_fault<W: io::Write>(alloc: Global, writer: &mut W) -> Option<RunFault> {
+    let mut reader = b"remove 1\n".as_slice();
+    run_memory(alloc, &mut reader, writer).err()
+}
+
 #[test]
 fn a_reader_or_a_writer_of_a_script_that_fails(rt: HostRuntime) -> Result<(), Fail> {
     let alloc = rt.alloc();
     let script = b"remove 1\n".as_slice();
-    let mut out: Vec<u8> = Vec::new(alloc);
-    let mut reader = Parts {
+    let mut parts = Parts {
         rest: script,
         fails: true,
     };
-    assert!(rt; run_memory(alloc, &mut reader, &mut out) == Err(RunFault::Input));
-    let mut reader = InterruptedOnce {
+    assert!(rt; reader_fault(alloc, &mut parts) == Some(RunFault::Input));
+    let mut interrupted = InterruptedOnce {
         rest: script,
         interrupted: false,
     };
-    assert!(rt; run_memory(alloc, &mut reader, &mut out) == Err(RunFault::Input));
-    assert!(rt; out.is_empty());
-    let mut reader = script;
-    assert!(rt; run_memory(alloc, &mut reader, &mut Full) == Err(RunFault::Output));
-    let mut reader = script;
-    assert!(rt; run_memory(alloc, &mut reader, &mut Unflushed) == Err(RunFault::Output));
+    assert!(rt; reader_fault(alloc, &mut interrupted) == Some(RunFault::Input));
+    assert!(rt; writer_fault(alloc, &mut Full) == Some(RunFault::Output));
+    assert!(rt; writer_fault(alloc, &mut Unflushed) == Some(RunFault::Output));
     Ok(())
 }

@@ -1,6 +1,8 @@
 //! Readers and writers that fail, for tests.
+use std::alloc::Global;
 use std::io;
 use std::io::{Read, Write};
+use tests_desk::exhausted;
 
 /// Gives a part of its bytes at each read, at most three, and then fails or ends.
 #[derive(Drop)]
@@ -68,6 +70,27 @@ impl Read for Noise {
         let count = self.left.min(buf.len()).min(65_536);
         buf[..count].copy_from_slice(&noise[..count]);
         self.left -= count;
+        Ok(count)
+    }
+}
+
+/// Gives its bytes, and takes all memory at the read that tells their end. It holds it until it is dropped.
+#[derive(Drop)]
+pub struct Exhausting<'a> {
+    pub alloc: Global,
+    pub rest: &'a [u8],
+    pub held: Vec<Vec<u8>>,
+}
+
+impl Read for Exhausting<'_> {
+    fn read(&mut self, buf: &mut [u8]) -> io::Result<usize> {
+        let count = self.rest.len().min(buf.len());
+        if count == 0 {
+            self.held = exhausted(self.alloc).map_err(|_| io::ErrorKind::OutOfMemory)?;
+            return Ok(0);
+        }
+        buf[..count].copy_from_slice(&self.rest[..count]);
+        self.rest = &self.rest[count..];
         Ok(count)
     }
 }

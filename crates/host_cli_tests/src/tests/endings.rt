@@ -1,7 +1,8 @@
 //! How the program ends over streams that take what they get, and over some that don't.
-use crate::failing::{Full, Parts};
-use crate::{Ending, read_words, refuse_unread_words, refuse_words, run_blocks};
-use std::alloc::{AllocError, Global};
+use super::failing::{Full, Parts};
+use super::words::words;
+use host_cli::{Ending, read_words, refuse_unread_words, refuse_words, run_blocks};
+use std::alloc::Global;
 use std::io;
 use std::test::Fail;
 
@@ -25,50 +26,19 @@ fn whole(rest: &[u8]) -> Parts<'_> {
 #[test]
 fn a_stream_gives_the_status(rt: HostRuntime) -> Result<(), Fail> {
     let alloc = rt.alloc();
-    let none = b"".as_slice();
-    let block = b"0 4 {a:}\n".as_slice();
-    assert!(rt;
-        ends(
-            alloc,
-            whole(b"\x02a:\x05".as_slice()),
-            ending(0, true),
-            block,
-            none
-        )
-    );
-    let fault = b"fault 1 BadTag 1\n".as_slice();
-    assert!(rt;
-        ends(
-            alloc,
-            whole(b"\x02:".as_slice()),
-            ending(1, true),
-            fault,
-            none
-        )
-    );
-    let open = b"unfinished 0\n".as_slice();
-    assert!(rt;
-        ends(
-            alloc,
-            whole(b"\x02a".as_slice()),
-            ending(1, true),
-            open,
-            none
-        )
-    );
+    let rows: [(&[u8], u8, &[u8]); 3] = [
+        (b"\x02a:\x05", 0, b"0 4 {a:}\n"),
+        (b"\x02:", 1, b"fault 1 BadTag 1\n"),
+        (b"\x02a", 1, b"unfinished 0\n"),
+    ];
+    for (rest, status, text) in rows {
+        assert!(rt; ends(alloc, whole(rest), ending(status, true), text, b""));
+    }
     let broken = Parts {
         rest: b"\x02a:\x05".as_slice(),
         fails: true,
     };
-    assert!(rt;
-        ends(
-            alloc,
-            broken,
-            ending(1, true),
-            none,
-            b"fault 40 Input\n".as_slice()
-        )
-    );
+    assert!(rt; ends(alloc, broken, ending(1, true), b"", b"fault 40 Input\n"));
     Ok(())
 }
 
@@ -92,14 +62,6 @@ fn a_full_output_is_told(rt: HostRuntime) -> Result<(), Fail> {
     );
     assert_eq!(rt; ended, ending(1, false));
     Ok(())
-}
-
-fn words(alloc: Global, texts: &[&str]) -> Result<Vec<String>, AllocError> {
-    let mut words = Vec::new(alloc);
-    for text in texts {
-        words.push(String::from_str(alloc, text)?)?;
-    }
-    Ok(words)
 }
 
 #[test]

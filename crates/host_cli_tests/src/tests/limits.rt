@@ -1,8 +1,8 @@
 //! Scripts at each limit and one past it, long scripts, and worksheets of many fields, for tests. The
 //! bytes are typed in.
-use crate::failing::{Counted, Narrow};
-use crate::{RunFault, blocks, read_words, run_memory};
+use super::failing::{Counted, Narrow};
 use clap::error::ErrorKind;
+use host_cli::{RunFault, blocks, read_words, run_memory};
 use std::alloc::{AllocError, Global};
 use std::fmt::Write;
 use std::test::Fail;

@@ -1,0 +1,5 @@
+//! The tests of `host_cli`.
+#![tactic(auto)]
+
+#[cfg(test)]
+mod tests;
