@@ -1,4 +1,4 @@
-use crate::{FeedFault, Found, ReadFault, Reader, read_block, write_block};
+use meta_format::{FeedFault, Found, ReadFault, Reader, read_block, write_block};
 use std::alloc::Global;
 use std::process::Abort;
 use std::test::Fail;
