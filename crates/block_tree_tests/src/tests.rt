@@ -1,5 +1,5 @@
 //! What no clause says: that these calls succeed where memory is to be had.
-use crate::*;
+use block_tree::*;
 use std::alloc::Global;
 use std::test::Fail;
 
