@@ -1,10 +1,13 @@
 //! Printed texts, with their bytes typed in, and the forms of lines.
-use crate::*;
-use block_tree::{Block, Item, Node, Octets, OutOfMemory, Sequence, Tag};
+use block_tree::{Block, Item, Node, Octets, Sequence, Tag};
 use session_engine::{Command, Reply};
+use sheet_text::*;
 use std::alloc::{AllocError, Global};
 use std::test::Fail;
+use tests_desk::exhausted;
 use worksheet::{Op, Refusal, Sheet};
+
+mod hosted;
 
 fn text(alloc: Global, bytes: &[u8]) -> Result<Item, AllocError> {
     Ok(Item::Text(Octets::from_slice(alloc, bytes)?))
@@ -348,29 +351,6 @@ fn names_and_texts_may_be_empty(rt: HostRuntime) -> Result<(), Fail> {
     );
     assert!(rt; matches!(read_line(alloc, b"# x".as_slice()), Ok(ScriptLine::Skip)));
     Ok(())
-}
-
-// Takes all memory, so that from then on not even a byte is to be had.
-fn exhausted(alloc: Global) -> Result<Vec<Vec<u8>>, OutOfMemory> {
-    let mut held: Vec<Vec<u8>> = Vec::with_capacity(alloc, 200_000)?;
-    let mut size: usize = 1 << 44;
-    for _ in 0..45 {
-        for _ in 0..12_000 {
-            match Vec::with_capacity(alloc, size) {
-                Ok(block) => {
-                    if held.len() >= 199_000 {
-                        return Ok(held);
-                    }
-                    held.push(block)?;
-                }
-                Err(_) => break,
-            }
-        }
-        if size > 1 {
-            size /= 2;
-        }
-    }
-    Ok(held)
 }
 
 #[test]
