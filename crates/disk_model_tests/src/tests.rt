@@ -19,32 +19,35 @@ fn crashed(disk: &MemoryDisk, choice: &Choice) -> Result<MemoryDisk, Fail> {
     Ok(disk.crash(choice).map_err(|_| "crash")?)
 }
 
+// Whether a crash leaves these bytes in area First, none in Second, and a disk that wasn't called.
+fn leaves(disk: &MemoryDisk, choice: &Choice, first: &[u8]) -> Result<bool, Fail> {
+    let image = crashed(disk, choice)?;
+    let second = image.content(Area::Second);
+    Ok(image.content(Area::First) == first && second.is_empty() && image.calls() == 0)
+}
+
 #[test]
 fn crash_fills_the_pending_range(rt: HostRuntime) -> Result<(), Fail> {
     let disk = half_written(rt.alloc())?;
-    let fills: [(Fill, &[u8], &[u8]); 5] = [
-        (Fill::Old, b"abcd\0", b"abcd"),
-        (Fill::New, b"abcXY", b"abcX"),
-        (Fill::Torn(1), b"abcX\0", b"abcX"),
-        (Fill::Torn(9), b"abcXY", b"abcX"),
-        (Fill::Byte(0x52), b"abcRR", b"abcR"),
+    let rows: [(Fill, bool, &[u8]); 10] = [
+        (Fill::Old, true, b"abcd\0"),
+        (Fill::Old, false, b"abcd"),
+        (Fill::New, true, b"abcXY"),
+        (Fill::New, false, b"abcX"),
+        (Fill::Torn(1), true, b"abcX\0"),
+        (Fill::Torn(1), false, b"abcX"),
+        (Fill::Torn(9), true, b"abcXY"),
+        (Fill::Torn(9), false, b"abcX"),
+        (Fill::Byte(0x52), true, b"abcRR"),
+        (Fill::Byte(0x52), false, b"abcR"),
     ];
-    for (fill, grown, old) in fills {
+    for (fill, grown, first) in rows {
         let choice = Choice {
             moment: 3,
             fill,
-            grown: true,
+            grown,
         };
-        let image = crashed(&disk, &choice)?;
-        assert_eq!(rt; image.content(Area::First), grown);
-        let choice = Choice {
-            moment: 3,
-            fill,
-            grown: false,
-        };
-        let image = crashed(&disk, &choice)?;
-        assert_eq!(rt; image.content(Area::First), old);
-        assert_eq!(rt; image.calls(), 0);
+        assert!(rt; leaves(&disk, &choice, first)?, "{fill:?} {grown}");
     }
     Ok(())
 }
@@ -52,39 +55,42 @@ fn crash_fills_the_pending_range(rt: HostRuntime) -> Result<(), Fail> {
 #[test]
 fn crash_at_an_earlier_moment(rt: HostRuntime) -> Result<(), Fail> {
     let disk = half_written(rt.alloc())?;
-    let fill = Fill::New;
-    for moment in 0..4u64 {
+    let rows: [(u64, &[u8]); 4] = [(0, b""), (1, b"abcd"), (2, b"abcd"), (3, b"abcXY")];
+    for (moment, first) in rows {
         let choice = Choice {
             moment,
-            fill,
+            fill: Fill::New,
             grown: true,
         };
-        let image = crashed(&disk, &choice)?;
-        let expected: &[u8] = match moment {
-            0 => b"",
-            3 => b"abcXY",
-            _ => b"abcd",
-        };
-        assert_eq!(rt; image.content(Area::First), expected);
-        assert_eq!(rt; image.content(Area::Second), b"".as_slice());
+        assert!(rt; leaves(&disk, &choice, first)?, "moment {moment}");
     }
     Ok(())
 }
 
+// Six bytes, and two writes over them that no sync follows.
+fn written_over(alloc: Global) -> Result<MemoryDisk, Fail> {
+    let first = b"abcdef".as_slice().to_vec(alloc)?;
+    let Ok(mut disk) = MemoryDisk::holding(alloc, 16, first) else {
+        return Err("holding".into());
+    };
+    if disk.write_at(Area::First, 1, b"123").is_err() {
+        return Err("write".into());
+    }
+    if disk.write_at(Area::First, 0, b"XYZ").is_err() {
+        return Err("write".into());
+    }
+    Ok(disk)
+}
+
 #[test]
 fn crash_keeps_what_earlier_writes_left(rt: HostRuntime) -> Result<(), Fail> {
-    let alloc = rt.alloc();
-    let first = b"abcdef".as_slice().to_vec(alloc)?;
-    let mut disk = MemoryDisk::holding(alloc, 16, first).map_err(|_| "holding")?;
-    disk.write_at(Area::First, 1, b"123").map_err(|_| "write")?;
-    disk.write_at(Area::First, 0, b"XYZ").map_err(|_| "write")?;
+    let disk = written_over(rt.alloc())?;
     let choice = Choice {
         moment: 2,
         fill: Fill::Torn(2),
         grown: true,
     };
-    let image = crashed(&disk, &choice)?;
-    assert_eq!(rt; image.content(Area::First), b"XY2def".as_slice());
+    assert!(rt; leaves(&disk, &choice, b"XY2def")?);
     Ok(())
 }
 
@@ -137,34 +143,54 @@ fn is_still_pending(disk: FuseDisk<MemoryDisk>, calls: u64) -> Result<bool, Fail
     )
 }
 
-#[test]
-fn fuse_passes_each_call_on_once(rt: HostRuntime) -> Result<(), Fail> {
-    let alloc = rt.alloc();
+// The same after each of the four calls.
+fn looked(alloc: Global) -> Result<FuseDisk<MemoryDisk>, Fail> {
     let mut disk = behind_a_fuse(alloc)?;
-    let len = disk.len(Area::First).map_err(|_| "len")?;
-    assert_eq!(rt; len, 5);
-    assert!(rt; is_still_pending(disk, 4)?);
-
-    let mut disk = behind_a_fuse(alloc)?;
-    let len = disk.len(Area::First).map_err(|_| "len")?;
-    let mut buffer = [0u8; 4];
-    if len < 4 {
-        return Err("short".into());
+    match disk.len(Area::First) {
+        Ok(5) => Ok(disk),
+        _ => Err("another length".into()),
     }
-    disk.read(Area::First, 0, &mut buffer).map_err(|_| "read")?;
-    assert_eq!(rt; buffer, *b"abcX");
-    assert!(rt; is_still_pending(disk, 5)?);
+}
 
+fn read(alloc: Global) -> Result<FuseDisk<MemoryDisk>, Fail> {
+    let mut disk = behind_a_fuse(alloc)?;
+    let mut buffer = [0u8; 4];
+    match disk.len(Area::First) {
+        Ok(len) if len >= 4 => {}
+        _ => return Err("short".into()),
+    }
+    if disk.read(Area::First, 0, &mut buffer).is_err() || buffer != *b"abcX" {
+        return Err("other bytes".into());
+    }
+    Ok(disk)
+}
+
+fn written(alloc: Global) -> Result<FuseDisk<MemoryDisk>, Fail> {
     let mut disk = behind_a_fuse(alloc)?;
     if disk.room() < 1 {
         return Err("no room".into());
     }
-    disk.write_at(Area::Second, 0, b"a").map_err(|_| "write")?;
-    assert!(rt; is_still_pending(disk, 4)?);
+    match disk.write_at(Area::Second, 0, b"a") {
+        Ok(()) => Ok(disk),
+        Err(_) => Err("write".into()),
+    }
+}
 
+fn synced(alloc: Global) -> Result<FuseDisk<MemoryDisk>, Fail> {
     let mut disk = behind_a_fuse(alloc)?;
-    disk.sync(Area::Second).map_err(|_| "sync")?;
-    assert!(rt; is_still_pending(disk, 4)?);
+    match disk.sync(Area::Second) {
+        Ok(()) => Ok(disk),
+        Err(_) => Err("sync".into()),
+    }
+}
+
+#[test]
+fn fuse_passes_each_call_on_once(rt: HostRuntime) -> Result<(), Fail> {
+    let alloc = rt.alloc();
+    assert!(rt; is_still_pending(looked(alloc)?, 4)?);
+    assert!(rt; is_still_pending(read(alloc)?, 5)?);
+    assert!(rt; is_still_pending(written(alloc)?, 4)?);
+    assert!(rt; is_still_pending(synced(alloc)?, 4)?);
     Ok(())
 }
 

@@ -35,6 +35,17 @@ pub fn accept(alloc: Global, life: &mut Life, id: u32, text: &str) -> Result<Vec
     }
 }
 
+/// Whether this is to be sent once a life has accepted a line.
+pub fn sends(
+    alloc: Global,
+    life: &mut Life,
+    (id, text): (u32, &str),
+    want: &[u8],
+) -> Result<bool, Fail> {
+    let sent = accept(alloc, life, id, text)?;
+    Ok(sent.as_slice() == want)
+}
+
 fn shown(bytes: &[u8]) -> &str {
     match str::from_utf8(bytes) {
         Ok(text) => text,
@@ -107,6 +118,14 @@ pub fn tells(alloc: Global, life: &mut Life, pieces: &[(&str, &str)]) -> Result<
 pub fn life_that(alloc: Global, line: &str, pieces: &[(&str, &str)]) -> Result<Life, Fail> {
     let mut life = life_of(alloc, line)?;
     tells(alloc, &mut life, pieces)?;
+    Ok(life)
+}
+
+/// A life in which no line waits.
+pub fn idle(alloc: Global) -> Result<Life, Fail> {
+    let mut life = life_of(alloc, "x")?;
+    feed(alloc, &mut life, BANNER.as_bytes())?;
+    feed(alloc, &mut life, BANNER.as_bytes())?;
     Ok(life)
 }
 

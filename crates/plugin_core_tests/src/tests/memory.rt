@@ -1,17 +1,9 @@
 //! Calls while no memory is left.
-use super::desk::{BANNER, asked_twice, feed, life_of, line};
+use super::desk::{asked_twice, idle, line};
 use plugin_core::{AcceptFault, Item, Life, Reason};
 use std::alloc::Global;
 use std::test::Fail;
 use tests_desk::exhausted;
-
-// A life in which no line waits.
-fn idle(alloc: Global) -> Result<Life, Fail> {
-    let mut life = life_of(alloc, "x")?;
-    feed(alloc, &mut life, BANNER.as_bytes())?;
-    feed(alloc, &mut life, BANNER.as_bytes())?;
-    Ok(life)
-}
 
 // Accepts a line while no memory is left.
 fn accepted(alloc: Global, life: &mut Life, item: Item) -> Result<Result<(), AcceptFault>, Fail> {
@@ -40,17 +32,21 @@ fn an_item_without_memory(rt: HostRuntime) -> Result<(), Fail> {
     Ok(())
 }
 
+// Whether a piece is refused while no memory is left.
+fn is_refused(alloc: Global, life: &mut Life, piece: &[u8]) -> Result<bool, Fail> {
+    if life.over() {
+        return Err("the life is over".into());
+    }
+    let _held = exhausted(alloc)?;
+    Ok(life.piece(piece).is_err())
+}
+
 #[test]
 fn a_piece_without_memory(rt: HostRuntime) -> Result<(), Fail> {
     let alloc = rt.alloc();
     let mut life = asked_twice(alloc)?;
-    if life.over() {
-        return Err("the life is over".into());
-    }
-    let held = exhausted(alloc)?;
-    let step = life.piece(b"\x02verbatim:A\x05");
-    drop(held);
-    assert!(rt; step.is_err() && life.over());
+    assert!(rt; is_refused(alloc, &mut life, b"\x02verbatim:A\x05")?);
+    assert!(rt; life.over());
     Ok(())
 }
 

@@ -1,5 +1,5 @@
 //! Lines that wait, that are sent, and that are lost.
-use super::desk::{BANNER, accept, asked_twice, feed, life_of, life_that, line, tells};
+use super::desk::{BANNER, accept, asked_twice, idle, life_of, life_that, line, sends, tells};
 use plugin_core::{AcceptFault, Ended, Item, Life, Reason};
 use std::alloc::Global;
 use std::test::Fail;
@@ -43,13 +43,9 @@ fn the_lost_lines_of_half_an_answer(rt: HostRuntime) -> Result<(), Fail> {
 #[test]
 fn a_line_is_sent_at_once_where_nothing_waits(rt: HostRuntime) -> Result<(), Fail> {
     let alloc = rt.alloc();
-    let mut life = life_of(alloc, "x")?;
-    feed(alloc, &mut life, BANNER.as_bytes())?;
-    feed(alloc, &mut life, BANNER.as_bytes())?;
-    let sent = accept(alloc, &mut life, 2, "")?;
-    assert!(rt; sent.as_slice() == b"\n".as_slice());
-    let sent = accept(alloc, &mut life, 3, "z")?;
-    assert!(rt; sent.is_empty());
+    let mut life = idle(alloc)?;
+    assert!(rt; sends(alloc, &mut life, (2, ""), b"\n")?);
+    assert!(rt; sends(alloc, &mut life, (3, "z"), b"")?);
     Ok(())
 }
 
@@ -95,8 +91,7 @@ fn half_a_block_from_before_the_line(rt: HostRuntime) -> Result<(), Fail> {
         ),
     ];
     let mut life = life_that(alloc, "x", &pieces)?;
-    let sent = accept(alloc, &mut life, 2, "y")?;
-    assert!(rt; sent.as_slice() == b"y\n".as_slice());
+    assert!(rt; sends(alloc, &mut life, (2, "y"), b"y\n")?);
     let pieces = [
         ("atim:B\x05", ""),
         ("\x02verbatim:C\x05", "line 2 [> ] \x02verbatim:C\x05\n"),

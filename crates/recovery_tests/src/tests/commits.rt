@@ -72,7 +72,7 @@ fn is_given_back<D: Disk>(store: &mut Store<D>) -> bool {
         return false;
     }
     let refused = store.commit(op);
-    matches!(refused, Err(CommitFault::Full(Op::Clear { id: 1 })))
+    matches!(&refused, Err(CommitFault::Full(Op::Clear { id: 1 })))
 }
 
 #[test]

@@ -101,7 +101,7 @@ pub enum Outcome {
     Closed,
 }
 
-fn outcome_of(committed: Result<(), CommitFault>) -> Outcome {
+fn outcome_of(committed: &Result<(), CommitFault>) -> Outcome {
     match committed {
         Ok(()) => Outcome::Done,
         Err(CommitFault::Full(_)) => Outcome::Full,
@@ -116,7 +116,7 @@ pub fn put<D: Disk>(store: &mut Store<D>, op: Op) -> Outcome {
     if store.sheet().check(&op).is_err() {
         return Outcome::Refused;
     }
-    outcome_of(store.commit(op))
+    outcome_of(&store.commit(op))
 }
 
 /// Prepares the record of an op.

@@ -5,7 +5,6 @@ use disk_model::{Disk, MemoryDisk};
 use journal::create;
 use session_engine::{Host, HostFault};
 use std::alloc::Global;
-use std::process::Abort;
 use std::test::Fail;
 use worksheet::Name;
 
@@ -41,76 +40,61 @@ pub fn take<D: Disk>(
     Ok(host.step(event).err())
 }
 
-/// The host tells these lines of this event.
-pub fn expect_one(
-    rt: &impl Abort,
-    alloc: Global,
-    host: &mut Host<MemoryDisk>,
-    step: &Step<'_>,
-    want: &str,
-) -> Result<(), Fail> {
-    let text = told(alloc, host, event(alloc, step)?)?;
-    assert!(rt; text.as_str() == want, "{want}");
-    Ok(())
+// An error that has what was told.
+fn otherwise(text: &str) -> Fail {
+    text.into()
 }
 
 /// The host tells these lines of these events, one after another.
-fn expect(
-    rt: &impl Abort,
+pub fn tells(
     alloc: Global,
     host: &mut Host<MemoryDisk>,
     steps: &[(Step<'_>, &str)],
 ) -> Result<(), Fail> {
     for (step, want) in steps {
-        expect_one(rt, alloc, host, step, want)?;
+        let text = told(alloc, host, event(alloc, step)?)?;
+        if text.as_str() != *want {
+            return Err(otherwise(text.as_str()));
+        }
     }
     Ok(())
 }
 
 /// The worksheet of the host has these fields.
-pub fn expect_fields(
-    rt: &impl Abort,
-    alloc: Global,
-    host: &Host<MemoryDisk>,
-    want: &str,
-) -> Result<(), Fail> {
+pub fn shows(alloc: Global, host: &Host<MemoryDisk>, want: &str) -> Result<(), Fail> {
     let text = fields(alloc, host)?;
-    assert!(rt; text.as_str() == want, "{want}");
+    if text.as_str() != want {
+        return Err(otherwise(text.as_str()));
+    }
     Ok(())
 }
 
-/// A host on a new worksheet that tells these lines of these events, one after another.
+/// A host on a new worksheet that tells these lines of these events.
 pub fn host_of(
-    rt: &impl Abort,
     alloc: Global,
+    room: u64,
     steps: &[(Step<'_>, &str)],
 ) -> Result<Host<MemoryDisk>, Fail> {
-    let mut host = opened(alloc, 1_000)?;
-    expect(rt, alloc, &mut host, steps)?;
+    let mut host = opened(alloc, room)?;
+    tells(alloc, &mut host, steps)?;
     Ok(host)
 }
 
-/// A host on a new worksheet tells these lines of these events, and then has these fields.
-pub fn expect_all(
-    rt: &impl Abort,
-    alloc: Global,
-    steps: &[(Step<'_>, &str)],
-    want: &str,
-) -> Result<(), Fail> {
-    let host = host_of(rt, alloc, steps)?;
-    expect_fields(rt, alloc, &host, want)
-}
-
-/// The host goes on, and tells these lines of these events.
+/// A host that goes on, and tells these lines of these events.
 pub fn goes_on(
-    rt: &impl Abort,
     alloc: Global,
     host: Host<MemoryDisk>,
     steps: &[(Step<'_>, &str)],
 ) -> Result<Host<MemoryDisk>, Fail> {
     let mut host = host;
-    expect(rt, alloc, &mut host, steps)?;
+    tells(alloc, &mut host, steps)?;
     Ok(host)
+}
+
+/// A host on a new worksheet tells these lines of these events, and then has these fields.
+pub fn plays(alloc: Global, steps: &[(Step<'_>, &str)], want: &str) -> Result<(), Fail> {
+    let host = host_of(alloc, 1_000, steps)?;
+    shows(alloc, &host, want)
 }
 
 /// The number of the life of session `a`, and how many of its lines wait.

@@ -1,11 +1,10 @@
 //! What the disk has, where it is full, fails, or is left by a crash.
-use super::desk::{created, expect_fields, expect_one, open, take};
+use super::desk::{created, goes_on, open, shows, take, tells};
 use super::events::{BANNER, Step};
 use disk_model::{Area, Choice, Disk, Fill, FuseDisk, FuseMode, MemoryDisk};
 use journal::OpenCause;
 use session_engine::{Host, HostFault};
 use std::alloc::Global;
-use std::process::Abort;
 use std::test::Fail;
 
 // Area First after the session, the field, its evaluation and the answer.
@@ -30,28 +29,25 @@ fn example(number: u32) -> (Step<'static>, &'static str) {
     }
 }
 
-// A host on a disk with this room that has taken the first of the five events.
-fn host_on(rt: &impl Abort, alloc: Global, room: u64, count: u32) -> Result<Opened, Fail> {
-    let disk = created(alloc, room)?;
-    let start = disk.calls();
-    let mut host = open(alloc, disk)?;
+// A host takes the first of the five events.
+fn take_first(alloc: Global, host: &mut Host<MemoryDisk>, count: u32) -> Result<(), Fail> {
     for number in 0..count {
-        let (step, want) = example(number);
-        expect_one(rt, alloc, &mut host, &step, want)?;
+        tells(alloc, host, &[example(number)])?;
     }
-    Ok(Opened { start, host })
+    Ok(())
 }
 
-// A host, and how many calls were made on its disk before it was opened.
-#[derive(Drop)]
-struct Opened {
-    start: u64,
-    host: Host<MemoryDisk>,
+// A host on a disk with this room that has taken the first of the five events.
+fn host_on(alloc: Global, disk: MemoryDisk, count: u32) -> Result<Host<MemoryDisk>, Fail> {
+    let mut host = open(alloc, disk)?;
+    take_first(alloc, &mut host, count)?;
+    Ok(host)
 }
 
 #[test]
 fn the_worked_area(rt: HostRuntime) -> Result<(), Fail> {
-    let disk = host_on(&rt, rt.alloc(), 100, 5)?.host.close();
+    let alloc = rt.alloc();
+    let disk = host_on(alloc, created(alloc, 100)?, 5)?.close();
     assert!(rt; disk.content(Area::First) == AREA.as_slice());
     Ok(())
 }
@@ -59,28 +55,21 @@ fn the_worked_area(rt: HostRuntime) -> Result<(), Fail> {
 #[test]
 fn a_room_of_40_bytes(rt: HostRuntime) -> Result<(), Fail> {
     let alloc = rt.alloc();
-    let mut host = host_on(&rt, alloc, 40, 2)?.host;
-    let full = "refused 16 JournalFull\n";
-    expect_one(&rt, alloc, &mut host, &Step::Eval(1), full)?;
-    assert_eq!(rt; host.close().content(Area::First).len(), 40);
+    let host = host_on(alloc, created(alloc, 40)?, 2)?;
+    let full = (Step::Eval(1), "refused 16 JournalFull\n");
+    let disk = goes_on(alloc, host, &[full])?.close();
+    assert_eq!(rt; disk.content(Area::First).len(), 40);
     Ok(())
 }
 
 #[test]
 fn a_room_of_50_bytes(rt: HostRuntime) -> Result<(), Fail> {
     let alloc = rt.alloc();
-    let mut host = host_on(&rt, alloc, 50, 4)?.host;
-    let answer = Step::Piece(1, "\x02verbatim:A\x05");
-    expect_one(&rt, alloc, &mut host, &answer, "fault JournalFull\n")?;
-    expect_one(
-        &rt,
-        alloc,
-        &mut host,
-        &Step::Session("sh"),
-        "fault Closed\n",
-    )?;
-    let again = open(alloc, host.close())?;
-    expect_fields(&rt, alloc, &again, "1 x ?\n")
+    let host = host_on(alloc, created(alloc, 50)?, 4)?;
+    let full = (Step::Piece(1, "\x02verbatim:A\x05"), "fault JournalFull\n");
+    let closed = (Step::Session("sh"), "fault Closed\n");
+    let disk = goes_on(alloc, host, &[full, closed])?.close();
+    shows(alloc, &open(alloc, disk)?, "1 x ?\n")
 }
 
 // How much of the five events the worksheet shows: the session, the field, the answer.
@@ -120,14 +109,10 @@ fn most_left(alloc: Global, disk: &MemoryDisk, start: u64, fill: Fill) -> Result
 
 // Each crash from the opening of a host on leaves what some of the first of the five events made; a crash
 // behind the last one leaves all of it.
-fn leaves_a_front(
-    rt: &impl Abort,
-    alloc: Global,
-    (count, all): (u32, u32),
-    fill: Fill,
-) -> Result<bool, Fail> {
-    let Opened { start, host } = host_on(rt, alloc, 100, count)?;
-    let disk = host.close();
+fn leaves_a_front(alloc: Global, count: u32, all: u32, fill: Fill) -> Result<bool, Fail> {
+    let disk = created(alloc, 100)?;
+    let start = disk.calls();
+    let disk = host_on(alloc, disk, count)?.close();
     let most = most_left(alloc, &disk, start, fill)?;
     Ok(most <= all && left(alloc, &disk, disk.calls(), fill)? == all)
 }
@@ -142,8 +127,8 @@ fn a_crash_at_each_moment(rt: HostRuntime) -> Result<(), Fail> {
         Fill::Byte(0),
         Fill::Byte(0x52),
     ] {
-        for made in [(0, 0), (1, 1), (2, 2), (3, 2), (4, 2), (5, 3)] {
-            assert!(rt; leaves_a_front(&rt, alloc, made, fill)?);
+        for (count, all) in [(0, 0), (1, 1), (2, 2), (3, 2), (4, 2), (5, 3)] {
+            assert!(rt; leaves_a_front(alloc, count, all, fill)?);
         }
     }
     Ok(())

@@ -1,12 +1,11 @@
 //! Fields in flight, and their inputs.
-use super::desk::expect_all;
+use super::desk::plays;
 use super::events::{BANNER, Step};
 use std::test::Fail;
 
 #[test]
 fn a_field_in_flight(rt: HostRuntime) -> Result<(), Fail> {
-    expect_all(
-        &rt,
+    plays(
         rt.alloc(),
         &[
             (Step::Session("p"), "ok\n"),
@@ -28,8 +27,7 @@ fn a_field_in_flight(rt: HostRuntime) -> Result<(), Fail> {
 
 #[test]
 fn an_evaluation_takes_the_answer_away(rt: HostRuntime) -> Result<(), Fail> {
-    expect_all(
-        &rt,
+    plays(
         rt.alloc(),
         &[
             (Step::Session("p"), "ok\n"),
@@ -45,8 +43,7 @@ fn an_evaluation_takes_the_answer_away(rt: HostRuntime) -> Result<(), Fail> {
 
 #[test]
 fn an_empty_input(rt: HostRuntime) -> Result<(), Fail> {
-    expect_all(
-        &rt,
+    plays(
         rt.alloc(),
         &[
             (Step::Session("p"), "ok\n"),
@@ -60,8 +57,7 @@ fn an_empty_input(rt: HostRuntime) -> Result<(), Fail> {
 
 #[test]
 fn an_input_with_a_command_byte(rt: HostRuntime) -> Result<(), Fail> {
-    expect_all(
-        &rt,
+    plays(
         rt.alloc(),
         &[
             (Step::Session("p"), "ok\n"),

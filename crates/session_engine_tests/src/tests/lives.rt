@@ -1,18 +1,17 @@
 //! Lives of interpreters.
-use super::desk::{expect_fields, goes_on, has_prompt, host_of, life, opened};
+use super::desk::{goes_on, has_prompt, host_of, life, opened, shows};
 use super::events::{BANNER, Step, event};
 use super::told::played;
 use disk_model::MemoryDisk;
 use session_engine::{Event, Host};
 use std::alloc::Global;
-use std::process::Abort;
 use std::test::Fail;
 
 // Fields 1 (x) and 2 (y), both evaluated, and the banner.
-fn asked_twice(rt: &impl Abort, alloc: Global) -> Result<Host<MemoryDisk>, Fail> {
+fn asked_twice(alloc: Global) -> Result<Host<MemoryDisk>, Fail> {
     host_of(
-        rt,
         alloc,
+        1_000,
         &[
             (Step::Session("p"), "ok\n"),
             (Step::New(0, "x"), "field 1\n"),
@@ -25,10 +24,10 @@ fn asked_twice(rt: &impl Abort, alloc: Global) -> Result<Host<MemoryDisk>, Fail>
 }
 
 // Field 1 with this input, evaluated.
-fn asked_once(rt: &impl Abort, alloc: Global, input: &str) -> Result<Host<MemoryDisk>, Fail> {
+fn asked_once(alloc: Global, input: &str) -> Result<Host<MemoryDisk>, Fail> {
     host_of(
-        rt,
         alloc,
+        1_000,
         &[
             (Step::Session("p"), "ok\n"),
             (Step::New(0, input), "field 1\n"),
@@ -40,9 +39,8 @@ fn asked_once(rt: &impl Abort, alloc: Global, input: &str) -> Result<Host<Memory
 #[test]
 fn two_answers_in_one_piece(rt: HostRuntime) -> Result<(), Fail> {
     let alloc = rt.alloc();
-    let host = asked_twice(&rt, alloc)?;
+    let host = asked_twice(alloc)?;
     let host = goes_on(
-        &rt,
         alloc,
         host,
         &[
@@ -53,8 +51,7 @@ fn two_answers_in_one_piece(rt: HostRuntime) -> Result<(), Fail> {
             (Step::Piece(1, "\x02verbatim:C\x05"), "answered 2\n"),
         ],
     )?;
-    expect_fields(
-        &rt,
+    shows(
         alloc,
         &host,
         "1 > x \x02verbatim:A\x05\n2 > y \x02verbatim:C\x05\n",
@@ -64,9 +61,8 @@ fn two_answers_in_one_piece(rt: HostRuntime) -> Result<(), Fail> {
 #[test]
 fn cut_between_two_answers(rt: HostRuntime) -> Result<(), Fail> {
     let alloc = rt.alloc();
-    let host = asked_twice(&rt, alloc)?;
+    let host = asked_twice(alloc)?;
     let host = goes_on(
-        &rt,
         alloc,
         host,
         &[
@@ -77,8 +73,7 @@ fn cut_between_two_answers(rt: HostRuntime) -> Result<(), Fail> {
             (Step::Piece(1, "\x02verbatim:B\x05"), "answered 2\n"),
         ],
     )?;
-    expect_fields(
-        &rt,
+    shows(
         alloc,
         &host,
         "1 > x \x02verbatim:A\x05\n2 > y \x02verbatim:B\x05\n",
@@ -88,9 +83,8 @@ fn cut_between_two_answers(rt: HostRuntime) -> Result<(), Fail> {
 #[test]
 fn cut_inside_the_second_answer(rt: HostRuntime) -> Result<(), Fail> {
     let alloc = rt.alloc();
-    let host = asked_twice(&rt, alloc)?;
+    let host = asked_twice(alloc)?;
     let host = goes_on(
-        &rt,
         alloc,
         host,
         &[
@@ -102,8 +96,7 @@ fn cut_inside_the_second_answer(rt: HostRuntime) -> Result<(), Fail> {
             (Step::Piece(1, "\x02verbatim:C\x05"), "answered 2\n"),
         ],
     )?;
-    expect_fields(
-        &rt,
+    shows(
         alloc,
         &host,
         "1 > x \x02verbatim:A\x05\n2 > y \x02verbatim:C\x05\n",
@@ -113,9 +106,8 @@ fn cut_inside_the_second_answer(rt: HostRuntime) -> Result<(), Fail> {
 #[test]
 fn start_refused_then_next_life(rt: HostRuntime) -> Result<(), Fail> {
     let alloc = rt.alloc();
-    let host = asked_once(&rt, alloc, "x")?;
+    let host = asked_once(alloc, "x")?;
     let host = goes_on(
-        &rt,
         alloc,
         host,
         &[
@@ -125,15 +117,15 @@ fn start_refused_then_next_life(rt: HostRuntime) -> Result<(), Fail> {
             (Step::Piece(2, BANNER), "banner a\nsend a 2 x\n"),
         ],
     )?;
-    expect_fields(&rt, alloc, &host, "1 x ?\n")
+    shows(alloc, &host, "1 x ?\n")
 }
 
 #[test]
 fn half_an_answer_and_the_end(rt: HostRuntime) -> Result<(), Fail> {
     let alloc = rt.alloc();
     let host = host_of(
-        &rt,
         alloc,
+        1_000,
         &[
             (Step::Session("p"), "ok\n"),
             (Step::New(0, "x"), "field 1\n"),
@@ -148,15 +140,14 @@ fn half_an_answer_and_the_end(rt: HostRuntime) -> Result<(), Fail> {
         ],
     )?;
     assert!(rt; life(&host).is_none());
-    expect_fields(&rt, alloc, &host, "1 x ?\n2 y ?\n3 z ?\n")
+    shows(alloc, &host, "1 x ?\n2 y ?\n3 z ?\n")
 }
 
 #[test]
 fn a_fault_behind_the_first_answer(rt: HostRuntime) -> Result<(), Fail> {
     let alloc = rt.alloc();
-    let host = asked_twice(&rt, alloc)?;
+    let host = asked_twice(alloc)?;
     let host = goes_on(
-        &rt,
         alloc,
         host,
         &[(
@@ -164,15 +155,14 @@ fn a_fault_behind_the_first_answer(rt: HostRuntime) -> Result<(), Fail> {
             "answered 1\nended a BadTag lost 1\nkill a 1\n",
         )],
     )?;
-    expect_fields(&rt, alloc, &host, "1 > x \x02verbatim:A\x05\n2 y ?\n")
+    shows(alloc, &host, "1 > x \x02verbatim:A\x05\n2 y ?\n")
 }
 
 #[test]
 fn prompts_in_the_blocks(rt: HostRuntime) -> Result<(), Fail> {
     let alloc = rt.alloc();
-    let host = asked_once(&rt, alloc, "x^2")?;
+    let host = asked_once(alloc, "x^2")?;
     let host = goes_on(
-        &rt,
         alloc,
         host,
         &[
@@ -190,8 +180,7 @@ fn prompts_in_the_blocks(rt: HostRuntime) -> Result<(), Fail> {
         ],
     )?;
     assert!(rt; has_prompt(&host, b"Input 2] "));
-    expect_fields(
-        &rt,
+    shows(
         alloc,
         &host,
         "1 Input 1] x^2 \x02verbatim:\x02latex:$x^2$\x05\x05\n",
@@ -201,9 +190,8 @@ fn prompts_in_the_blocks(rt: HostRuntime) -> Result<(), Fail> {
 #[test]
 fn a_prompt_block_as_answer(rt: HostRuntime) -> Result<(), Fail> {
     let alloc = rt.alloc();
-    let host = asked_once(&rt, alloc, "x")?;
+    let host = asked_once(alloc, "x")?;
     let host = goes_on(
-        &rt,
         alloc,
         host,
         &[
@@ -212,15 +200,14 @@ fn a_prompt_block_as_answer(rt: HostRuntime) -> Result<(), Fail> {
         ],
     )?;
     assert!(rt; has_prompt(&host, b"a"));
-    expect_fields(&rt, alloc, &host, "1 > x \x02verbatim:\x05\n")
+    shows(alloc, &host, "1 > x \x02verbatim:\x05\n")
 }
 
 #[test]
 fn a_default_input_with_the_answer(rt: HostRuntime) -> Result<(), Fail> {
     let alloc = rt.alloc();
-    let host = asked_once(&rt, alloc, "x")?;
+    let host = asked_once(alloc, "x")?;
     let host = goes_on(
-        &rt,
         alloc,
         host,
         &[
@@ -231,16 +218,15 @@ fn a_default_input_with_the_answer(rt: HostRuntime) -> Result<(), Fail> {
             ),
         ],
     )?;
-    expect_fields(&rt, alloc, &host, "1 > x \x02verbatim:A\x05\n")
+    shows(alloc, &host, "1 > x \x02verbatim:A\x05\n")
 }
 
 #[test]
 fn a_stopped_session(rt: HostRuntime) -> Result<(), Fail> {
     let alloc = rt.alloc();
-    let host = asked_twice(&rt, alloc)?;
+    let host = asked_twice(alloc)?;
     assert!(rt; life(&host) == Some((1, 2)));
     let host = goes_on(
-        &rt,
         alloc,
         host,
         &[
@@ -249,7 +235,7 @@ fn a_stopped_session(rt: HostRuntime) -> Result<(), Fail> {
             (Step::Stop("b"), "refused 1 NoSession\n"),
         ],
     )?;
-    expect_fields(&rt, alloc, &host, "1 x ?\n2 y ?\n")
+    shows(alloc, &host, "1 x ?\n2 y ?\n")
 }
 
 fn events(alloc: Global, steps: &[Step<'_>]) -> Result<Vec<Event>, Fail> {
@@ -276,5 +262,5 @@ fn events_of_a_play(rt: HostRuntime) -> Result<(), Fail> {
         text.as_str(),
         "ok\nfield 1\nasked 1\nstart a 1 p\nbanner a\nsend a 1 x\nanswered 1\n"
     );
-    expect_fields(&rt, alloc, &host, "1 > x \x02verbatim:A\x05\n")
+    shows(alloc, &host, "1 > x \x02verbatim:A\x05\n")
 }
