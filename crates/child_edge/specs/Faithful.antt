@@ -44,8 +44,12 @@ fault_of (Kill name life) = Child name life child.StopFault
 
 -- the event that comes next, by what the effect's call was answered
 abbrev pub due_of : Option Effect → Option Answer → Option Event
+due_of (Some f) (Some done) = None
 due_of (Some f) (Some fault) = Some (fault_of f)
-due_of (Some f) _ = None
+due_of (Some f) (Some (piece bytes)) = None
+due_of (Some f) (Some end) = None
+due_of (Some f) (Some no_memory) = None
+due_of (Some f) None = None
 due_of None a = None
 
 abbrev pub due_after : Beat → Option Event
@@ -88,16 +92,21 @@ FirstOf {A = A} {S = S} {B = B} P xs (suc k) s bs t =
 abbrev pub EachOf : {A S B : Type 0} → (A → S → List B → S → Type 0) → List A → S → List B → S → Type 0
 EachOf P xs s bs t = FirstOf P xs (length xs) s bs t
 
--- the event of what a receive was answered
+-- the event of what a receive was answered; the last two are none that it gave (`Gave`)
 abbrev pub event_of : Answer → ChildEvent
 event_of (piece bytes) = child.Piece bytes
 event_of end = child.End
-event_of _ = child.ReadFault
+event_of fault = child.ReadFault
+event_of done = child.ReadFault
+event_of no_memory = child.ReadFault
 
--- a receive didn't want memory
+-- a receive gave a piece, the end or a fault: it didn't want memory, and it is never only done
 abbrev pub Gave : Answer → Type 0
+Gave (piece bytes) = Unit {0}
+Gave end = Unit {0}
+Gave fault = Unit {0}
+Gave done = ⊥
 Gave no_memory = ⊥
-Gave _ = Unit {0}
 
 -- What is told of a life in a turn: in a turn that listens what a receive gave, in another that it stalled.
 abbrev pub Hears : {C : Type 0} → Relation C → Bool → List ℕ → ℕ → C → ChildEvent → C → Type 0

@@ -1,3 +1,4 @@
+pub mod Limits
 pub mod Calls
 pub mod Answers
 pub mod Parts

@@ -4,6 +4,7 @@ ghost use Rattle.disk_model.specs.Disk.{SameDisk};
 ghost use Rattle.session_engine.specs.World.{World};
 ghost use Rattle.session_engine.specs.Host.{IsHost, Took};
 ghost use Rattle.child_edge.specs.Edge.{BrokeOff, ByCause, FailsClosed, Ran, Stopped};
+ghost use Rattle.child_edge.specs.Limits.{most_turns};
 ghost use Rattle.child_edge.specs.Calls.{Answer};
 ghost use Rattle.child_edge.specs.Answers.{sent};
 ghost use Rattle.child_edge.specs.Faithful.{at, Beat, Beats, Carried, call_of, due_of, due_after, fault_of, Served, ServedUpTo, TakenUpTo};
@@ -311,11 +312,11 @@ pub fn wait<D: Disk, C: Children>(
 ) -> Result<Vec<Reply>, EdgeFault>
     ensures same { SameDisk host.old.store.disk host.new.store.disk }
     ensures ok { (w : World) → IsHost host.old w → IfOk result (λ replies.
-        Ran (Waited C.after TURNS (at w children.old)) [] host.new children.new replies.items) }
+        Ran (Waited C.after most_turns (at w children.old)) [] host.new children.new replies.items) }
     ensures err { (w : World) → IsHost host.old w → IfErr result (λ fault. ByCause fault.cause
-        (BrokeOff (WaitStopped C.after TURNS (at w children.old)) []
+        (BrokeOff (WaitStopped C.after most_turns (at w children.old)) []
         host.old.store.disk.faults host.new children.new fault.replies.items)
-        (Ran (WaitSoFar C.after TURNS (at w children.old)) []
+        (Ran (WaitSoFar C.after most_turns (at w children.old)) []
         host.new children.new fault.replies.items)) }
 {
     let mut replies = Vec::new(alloc);

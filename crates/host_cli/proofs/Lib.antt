@@ -1,3 +1,5 @@
 pub mod Lines
+pub mod Subcommands
 pub mod Scripting
 pub mod Fronts
+pub mod Runs

@@ -1,18 +1,49 @@
 -- What the words of a command line ask for.
-use Rattle.std.specs.Prelude.{List, Option, Some, None, codes}
-use Rattle.clap.specs.Words.{App, Row, Text, new_app, subcommand_of, with_subcommand}
+use Rattle.std.specs.Prelude.{true, List, Option, Some, None, codes, if◌then◌else◌}
+use Rattle.std.specs.Str.{bytes_eq}
+use Rattle.clap.specs.Words.{App, Row, Rule, Text, first_of, new_app, new_rule, subcommand_of, with_rule, with_subcommand}
 use Rattle.host_cli.specs.declared.words.Task.{Task}
-use Rattle.host_cli.specs.declared.words.Task.TheVariants.{Blocks}
+use Rattle.host_cli.specs.declared.words.Task.TheVariants as task
 
--- the command line of `tmhost`: one subcommand, `blocks`
+-- a task as contracts see it: a path is its bytes
+pub data TaskView : Type 0 where
+  blocks : TaskView
+  create : Text → TaskView
+  run : Text → TaskView
+  show : Text → TaskView
+
+abbrev pub view_of : Task → TaskView
+view_of task.Blocks = blocks
+view_of (task.Create path) = create path.now
+view_of (task.Run path) = run path.now
+view_of (task.Show path) = show path.now
+
+-- the one argument of a subcommand that has one
+abbrev pub path_rule : Rule
+path_rule = record (new_rule (codes "PATH")) { required = true }
+
+abbrev pub with_path : Text → App
+with_path name = with_rule (new_app name) path_rule
+
+-- the command line of `tmhost`: four subcommands, three of them with a path
 abbrev pub tmhost : App
-tmhost = with_subcommand (new_app (codes "tmhost")) (new_app (codes "blocks")).top
+tmhost = with_subcommand (with_subcommand (with_subcommand (with_subcommand
+    (new_app (codes "tmhost")) (new_app (codes "blocks")).top) (with_path (codes "create")).top)
+    (with_path (codes "run")).top) (with_path (codes "show")).top
+
+-- The task of a subcommand with its path; `blocks` has none. Where another has none, `clap` refuses
+-- the words.
+abbrev pub by_path : Text → Option Text → TaskView
+by_path name None = blocks
+by_path name (Some path) = if bytes_eq name (codes "create") then create path
+    else (if bytes_eq name (codes "run") then run path
+    else (if bytes_eq name (codes "show") then show path else blocks))
 
 -- the task of a subcommand, and `blocks` where there is none
-abbrev pub by_subcommand : Option (Text × List Row) → Task
-by_subcommand None = Blocks
-by_subcommand (Some subcommand) = Blocks
+abbrev pub by_subcommand : Option (Text × List Row) → TaskView
+by_subcommand None = blocks
+by_subcommand (Some subcommand) = by_path subcommand.0 (first_of (codes "PATH") subcommand.1)
 
 -- the task that the words ask for, of which the first is the program's own name
-abbrev pub asked_by : List Text → Task
+abbrev pub asked_by : List Text → TaskView
 asked_by words = by_subcommand (subcommand_of tmhost words)

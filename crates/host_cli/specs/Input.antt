@@ -1,6 +1,17 @@
 -- A program's input.
 use Rattle.std.specs.Prelude.{ℕ}
+use Rattle.host_cli.specs.declared.fault.RunFault.{RunFault}
+use Rattle.host_cli.specs.declared.fault.RunFault.TheVariants as fault
 
 -- the most bytes that a program takes
 abbrev pub max_input : ℕ
 max_input = 67108864
+
+-- a fault that reading an input can have
+abbrev pub IsInputFault : RunFault → Type 0
+IsInputFault fault.Input = Unit {0}
+IsInputFault fault.InputTooLong = Unit {0}
+IsInputFault fault.Output = ⊥
+IsInputFault fault.OutOfMemory = Unit {0}
+IsInputFault (fault.Host why) = ⊥
+IsInputFault (fault.Open why) = ⊥

@@ -5,3 +5,7 @@ pub mod Printed
 pub mod Memory
 pub mod Ending
 pub mod Files
+pub mod Lines
+pub mod Run
+pub mod Programs
+pub mod inside

@@ -22,7 +22,7 @@ pub struct Ending {
     pub told: bool,
 }
 
-fn ended(status: u8, told: bool) -> Ending
+pub(crate) fn ended(status: u8, told: bool) -> Ending
     ensures { result ≡ record { status = status; told = told } }
 {
     Ending { status, told }

@@ -1,5 +1,5 @@
 //! A disk of two files.
-ghost use Rattle.std.specs.Prelude.{◌≡◌, ◌≤◌, IfOk, Ok};
+ghost use Rattle.std.specs.Prelude.{◌≡◌, ◌≤◌, IfErr, IfOk, Ok};
 ghost use Rattle.disk_model.specs.Disk.{Called, max_room};
 ghost use Rattle.host_cli.specs.Files.{file_view};
 
@@ -56,13 +56,20 @@ fn open_file<R: Files<File = File>>(rt: &R, path: &str) -> io::Result<File> {
     OpenOptions::new().read(true).write(true).open(rt, path)
 }
 
-/// Opens a file, which is made where it is missing.
+/// Opens a file. A missing one is made, and its name is brought onto the disk.
 fn open_or_make_file<R: Files<File = File>>(rt: &R, path: &str) -> io::Result<File> {
-    OpenOptions::new()
-        .read(true)
-        .write(true)
-        .create(true)
-        .open(rt, path)
+    match open_file(rt, path) {
+        Err(error) if error.kind() == ErrorKind::NotFound => {
+            let file = OpenOptions::new()
+                .read(true)
+                .write(true)
+                .create(true)
+                .open(rt, path)?;
+            sync_folder(rt, folder_of(path))?;
+            Ok(file)
+        }
+        opened => opened,
+    }
 }
 
 /// Makes a file. One that is there is refused.
@@ -84,9 +91,18 @@ fn sync_folder<R: Files<File = File>>(rt: &R, folder: &str) -> io::Result<()> {
     OpenOptions::new().read(true).open(rt, folder)?.sync_all()
 }
 
+/// Whether something has this name, a link that leads nowhere too.
+fn is_there<R: Files<File = File>>(rt: &R, path: &str) -> io::Result<bool> {
+    match fs::symlink_metadata(rt, path) {
+        Ok(_) => Ok(true),
+        Err(error) if error.kind() == ErrorKind::NotFound => Ok(false),
+        Err(error) => Err(error),
+    }
+}
+
 /// Looks for both files before one is made: one that is there is told first.
 fn look_for<R: Files<File = File>>(rt: &R, first: &str, second: &str) -> Result<(), CreateCause> {
-    match (fs::exists(rt, first), fs::exists(rt, second)) {
+    match (is_there(rt, first), is_there(rt, second)) {
         (Ok(true), _) | (_, Ok(true)) => Err(CreateCause::NotEmpty),
         (Ok(false), Ok(false)) => Ok(()),
         _ => Err(CreateCause::Disk),
@@ -95,8 +111,9 @@ fn look_for<R: Files<File = File>>(rt: &R, first: &str, second: &str) -> Result<
 
 impl FileDisk {
     /// Makes both files, empty, first the one at `path`. They and their names are durable once it
-    /// answers. `NotEmpty` where either exists, and nothing was made. `Disk` where a file can't be
-    /// made, an empty path and want of memory for a path included; a file that was made stays.
+    /// answers. `NotEmpty` where either exists, a folder and a link that leads nowhere included,
+    /// and nothing was made. `Disk` where a file can't be made, an empty path and want of memory
+    /// for a path included; a file that was made stays.
     pub fn create<R: Files<File = File>>(
         rt: &R,
         alloc: Global,
@@ -122,13 +139,15 @@ impl FileDisk {
     }
 
     /// Opens both files, first the one at `path`; a missing second one is made. `Disk` where one
-    /// can't be opened or made: a missing file, a folder, an empty path, one that may not be read and
-    /// written, and want of memory for a path.
+    /// can't be opened or made: a missing file at `path`, a folder, an empty path, a file that may
+    /// not be read and written, and want of memory for a path.
     pub fn open<R: Files<File = File>>(
         rt: &R,
         alloc: Global,
         path: &str,
-    ) -> Result<FileDisk, OpenCause> {
+    ) -> Result<FileDisk, OpenCause>
+        ensures { IfErr result (λ why. why ≡ OpenCause.Disk) }
+    {
         let Ok(alt) = second_path(alloc, path) else {
             return Err(OpenCause::Disk);
         };

@@ -1,6 +1,6 @@
 //! A program's input, whole.
-ghost use Rattle.std.specs.Prelude.{◌≡◌, ◌<◌, ◌≤◌, IfOk, IfSome, IsErrOf, length};
-ghost use Rattle.host_cli.specs.Input.{max_input};
+ghost use Rattle.std.specs.Prelude.{◌≡◌, ◌<◌, ◌≤◌, IfErr, IfOk, IfSome, IsErrOf, length};
+ghost use Rattle.host_cli.specs.Input.{IsInputFault, max_input};
 
 use crate::RunFault;
 use std::alloc::Global;
@@ -20,6 +20,7 @@ pub fn read_input<R: Read>(alloc: Global, reader: &mut R) -> Result<Vec<u8>, Run
     ensures long { IsErrOf result RunFault.InputTooLong
         → IfSome (R.remaining reader.old) (λ bytes. max_input < length bytes) }
     ensures no_output { IsErrOf result RunFault.Output → ⊥ }
+    ensures faults { IfErr result IsInputFault }
 {
     let mut input = Vec::new(alloc);
     let mut part = [0u8; 65_536];

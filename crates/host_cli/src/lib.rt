@@ -9,6 +9,9 @@ mod file_disk;
 mod input;
 mod memory;
 mod printing;
+mod programs;
+mod running;
+mod taking;
 mod words;
 
 pub use block_lines::blocks;
@@ -18,4 +21,6 @@ pub use file_disk::FileDisk;
 pub use input::{MAX_INPUT, read_input};
 pub use memory::run_memory;
 pub use printing::show;
+pub use programs::{run_create, run_script, run_show};
+pub use running::run;
 pub use words::{Task, read_words};

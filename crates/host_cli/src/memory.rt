@@ -43,7 +43,7 @@ fn do_op(sheet: &mut Sheet, op: Op) -> Reply
     }
 }
 
-fn write_bad_line<W: Write>(number: u64, writer: &mut W) -> Result<(), RunFault>
+pub(crate) fn write_bad_line<W: Write>(number: u64, writer: &mut W) -> Result<(), RunFault>
     ensures ok { OnOk result
         (Appends (W.contents writer.old) (W.contents writer.new) (bad_line number)) }
     ensures err { IfErr result (λ fault. fault ≡ RunFault.Output) }
@@ -52,7 +52,7 @@ fn write_bad_line<W: Write>(number: u64, writer: &mut W) -> Result<(), RunFault>
     Ok(())
 }
 
-fn write_reply<W: Write>(reply: &Reply, writer: &mut W) -> Result<(), RunFault>
+pub(crate) fn write_reply<W: Write>(reply: &Reply, writer: &mut W) -> Result<(), RunFault>
     ensures ok { OnOk result
         (Appends (W.contents writer.old) (W.contents writer.new) (printed.reply_text reply.now)) }
     ensures err { IfErr result (λ fault. fault ≡ RunFault.Output) }
@@ -61,7 +61,7 @@ fn write_reply<W: Write>(reply: &Reply, writer: &mut W) -> Result<(), RunFault>
     Ok(())
 }
 
-fn write_sheet<W: Write>(sheet: &Sheet, writer: &mut W) -> Result<(), RunFault>
+pub(crate) fn write_sheet<W: Write>(sheet: &Sheet, writer: &mut W) -> Result<(), RunFault>
     ensures ok { OnOk result
         (Appends (W.contents writer.old) (W.contents writer.new)
         (printed.sheet_text sheet.now.contents)) }

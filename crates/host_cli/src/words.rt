@@ -1,37 +1,77 @@
 //! The words of a command line.
-ghost use Rattle.std.specs.Prelude.{◌≡◌, IfOk, false, map, string_bytes};
+ghost use Rattle.std.specs.Prelude.{◌≡◌, IfOk, Some, false, map, string_bytes};
 ghost use Rattle.clap.specs.Words.{FailsBy, app_of, fault_of, new_app, subcommand_rows_of};
 ghost use Rattle.clap.specs.declared.builder.command.Command.TheViews.{out-Command as fields_of};
-ghost use Rattle.host_cli.specs.Asked.{asked_by, by_subcommand, tmhost};
+ghost use Rattle.host_cli.specs.Asked.{asked_by, by_path, by_subcommand, tmhost, view_of};
+ghost use Rattle.host_cli.specs.Asked as asked;
 
-use clap::{ArgMatches, Command, Error};
+use clap::{Arg, ArgMatches, Command, Error};
 use std::alloc::{AllocError, Global};
 
-/// What the program is asked to do.
+/// What the program is asked to do. A path is one of the words.
 #[derive(Clone, Copy, Debug, PartialEq, Eq)]
-pub enum Task {
+pub enum Task<'a> {
     /// Write the blocks of the stream that comes in on standard input.
     Blocks,
+    /// Make an empty worksheet at the path.
+    Create(&'a str),
+    /// Run the script that comes in on standard input over the worksheet at the path.
+    Run(&'a str),
+    /// Write the worksheet at the path.
+    Show(&'a str),
 }
 
-/// What the help says below its lists.
-const NOTES: &str =
-    "Without a command it is `blocks`.\n\nStatus: 0 where all was done, or help was shown; 1 at a fault, or where the\nstream has one or is unfinished; 2 where the words are refused.";
+/// What the help of the program says below its lists.
+const NOTES: &str = "Without a command it is `blocks`.\n\n\
+Status: 0 where all was done, or help was shown; 1 at a fault, which is told on\n\
+standard error as `fault N NAME`; 2 where the words are refused.";
 
-/// A subcommand without arguments.
-fn plain<'a>(alloc: Global, name: &'a str, about: &'a str) -> Command<'a>
+const BLOCKS_NOTES: &str =
+    "A line is the offset of the block's first byte, the offset behind its last one,\n\
+and the block with its tags.\n\n\
+Status: 0 where the stream is whole; 1 where it has a fault or an open block, or\n\
+at a fault of the program; 2 where the words are refused.\n\n\
+Example: printf '\\002verbatim:Hi\\005' | tmhost blocks";
+
+const CREATE_NOTES: &str =
+    "The worksheet is the two files PATH and PATH.alt. Where either exists nothing is\n\
+made, and the fault is 34 NotEmpty.\n\n\
+Status: 0 where the worksheet is on the disk; 1 at a fault; 2 where the words are\n\
+refused.\n\n\
+Example: tmhost create sheet.tm";
+
+const RUN_NOTES: &str =
+    "The script is read whole from standard input. What each line of it gives is\n\
+written before the next one is taken, and what is told as done is on the disk.\n\
+A worksheet must not be run twice at a time: no lock guards it.\n\n\
+Status: 0 where the script ran to its end, also where it has bad lines and refused\n\
+commands; 1 at a fault; 2 where the words are refused.\n\n\
+Example: tmhost run sheet.tm <script.txt";
+
+const SHOW_NOTES: &str = "It changes nothing in the worksheet.\n\n\
+Status: 0 where all was written; 1 at a fault; 2 where the words are refused.\n\n\
+Example: tmhost show sheet.tm";
+
+/// A command without arguments, with a text above and one below its help.
+fn plain<'a>(alloc: Global, name: &'a str, about: &'a str, notes: &'a str) -> Command<'a>
     ensures made { app_of result ≡ new_app name.entry.now }
     ensures local { (fields_of result).has_globals ≡ false }
 {
-    Command::new(alloc, name).about(about)
+    Command::new(alloc, name).about(about).after_help(notes)
 }
 
-/// A command with a text below its help.
-fn noted<'a>(command: Command<'a>, notes: &'a str) -> Command<'a>
-    ensures made { app_of result ≡ app_of command.entry }
-    ensures local { (fields_of result).has_globals ≡ (fields_of command.entry).has_globals }
+/// A subcommand with a path.
+fn with_path<'a>(
+    alloc: Global,
+    name: &'a str,
+    about: &'a str,
+    notes: &'a str,
+) -> Result<Command<'a>, AllocError>
+    ensures made { IfOk result (λ command. app_of command ≡ asked.with_path name.entry.now) }
+    ensures local { IfOk result (λ command. (fields_of command).has_globals ≡ false) }
 {
-    command.after_help(notes)
+    let path = Arg::new(alloc, "PATH").required(true);
+    plain(alloc, name, about, notes).arg(path)
 }
 
 /// The command line of the program.
@@ -42,32 +82,62 @@ fn tmhost_command<'a>(alloc: Global) -> Result<Command<'a>, AllocError>
         alloc,
         "blocks",
         "Write the blocks of the stream on standard input, a line each",
+        BLOCKS_NOTES,
     );
-    let top = plain(
+    let create = with_path(alloc, "create", "Make an empty worksheet", CREATE_NOTES)?;
+    let run = with_path(
+        alloc,
+        "run",
+        "Run the script on standard input over a worksheet",
+        RUN_NOTES,
+    )?;
+    let show = with_path(alloc, "show", "Write a worksheet", SHOW_NOTES)?;
+    let first = plain(
         alloc,
         "tmhost",
         "A worksheet host for interpreters that speak the plugin protocol of GNU TeXmacs",
-    );
-    let top = noted(top, NOTES);
-    let command = top.subcommand(blocks)?;
-    Ok(command)
+        NOTES,
+    )
+    .subcommand(blocks)?;
+    let second = first.subcommand(create)?;
+    let third = second.subcommand(run)?;
+    let fourth = third.subcommand(show)?;
+    Ok(fourth)
+}
+
+/// The task of a subcommand with a path.
+fn task_with_path<'a>(name: &str, path: &'a str) -> Task<'a>
+    ensures { view_of result ≡ by_path name.now (Some path.entry.now) }
+{
+    match name {
+        "create" => Task::Create(path),
+        "run" => Task::Run(path),
+        "show" => Task::Show(path),
+        _ => Task::Blocks,
+    }
 }
 
 /// The task of the matches.
-fn task_of(matches: &ArgMatches<'_>) -> Task
-    ensures { result ≡ by_subcommand (subcommand_rows_of matches.now) }
+fn task_of<'a>(matches: &ArgMatches<'a>) -> Task<'a>
+    ensures { view_of result ≡ by_subcommand (subcommand_rows_of matches.now) }
 {
-    let _subcommand = matches.subcommand();
-    Task::Blocks
+    let Some((name, inner)) = matches.subcommand() else {
+        return Task::Blocks;
+    };
+    match inner.get_str("PATH") {
+        Some(path) => task_with_path(name, path),
+        None => Task::Blocks,
+    }
 }
 
 /// The task that the words of a command line ask for, the program's own name first. Without a
 /// subcommand it is `Blocks`.
 ///
-/// Fails exactly where `clap` refuses the words, or shows its help, with its kind of error; and where
-/// memory is refused.
-pub fn read_words<'a>(alloc: Global, words: &'a [String]) -> Result<Task, Error>
-    ensures task { IfOk result (λ task. task ≡ asked_by (map string_bytes words.entry.now)) }
+/// Fails exactly where `clap` refuses the words, or shows its help, with its kind of error; and
+/// where memory is refused.
+pub fn read_words<'a>(alloc: Global, words: &'a [String]) -> Result<Task<'a>, Error>
+    ensures task { IfOk result (λ task. view_of task
+        ≡ asked_by (map string_bytes words.entry.now)) }
     ensures kinds { FailsBy (fault_of tmhost (map string_bytes words.entry.now)) result }
 {
     let command = tmhost_command(alloc)?;

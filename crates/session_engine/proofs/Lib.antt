@@ -22,6 +22,7 @@ pub mod Living
 pub mod Showing
 pub mod Same
 pub mod Going
+pub mod Stepwise
 pub mod Examples
 pub mod OneThing
 pub mod Totals

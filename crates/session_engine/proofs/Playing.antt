@@ -1,7 +1,7 @@
 -- Events in order.
-use Rattle.std.proofs.Common.{◌≡◌, ◌⊎◌, inl, inr, ⊎_elim, ◌≤◌, List, [], ◌∷◌, ◌++◌, refl, sym, ap, ◌∙◌, subst, arith, append_assoc, append-nil, Option, Some, None}
+use Rattle.std.proofs.Common.{◌≡◌, ⊎_elim, List, [], ◌∷◌, ◌++◌, refl, sym, ap, ◌∙◌, subst, arith, append_assoc, append-nil, Option, Some, None}
 use Rattle.std.specs.Bool.{IsTrue}
-use Rattle.disk_model.specs.Disk.{DiskView, Image, InModel, Leaves, LeavesOnly, SameDisk}
+use Rattle.disk_model.specs.Disk.{DiskView, Image, SameDisk}
 use Rattle.disk_model.specs.inside.Moments.{started, weakens, goes_on}
 use Rattle.worksheet.specs.declared.op.Op.{Op}
 use Rattle.recovery.specs.Sheets.{IsEither, IsSheetImage}
@@ -13,7 +13,7 @@ use Rattle.session_engine.specs.declared.outcome.HostFault.TheVariants as faults
 use Rattle.session_engine.specs.World.{World, sheet_in, with_op_if}
 use Rattle.session_engine.specs.Does.{Does, MayDo, Runs, behind}
 use Rattle.session_engine.specs.Host.{HostView, IsHost, OnDisk, Took}
-use Rattle.session_engine.specs.Faults.{CauseOf, Failed}
+use Rattle.session_engine.specs.Faults.{Failed}
 use Rattle.session_engine.specs.Crash.{HasPlayed, LeftAmong, Moments, MomentsBefore}
 
 pub run_on : (w : World) (es : List Event) (os : List Outcome) (v : World) (e : Event) (d : Does) (o : Outcome) → Runs w es os v → MayDo v e d → o ≡ d.told → Runs w (es ++ e ∷ []) (os ++ o ∷ []) (behind v d)
@@ -57,7 +57,7 @@ module _ (w : World) (events rest : List Event) (told : List Outcome) (host : Ho
   pub nothing_left : Moments w events told host.store.disk host.store.disk
   nothing_left model = started (LeftAmong w events told) host.store.disk.history (λ i image. left_here i (p.stands.stands.images model i image))
 
-behind_ops : (v : World) (d : Does) (o : Op) → d.op ≡ Some o → (behind v d).ops ≡ v.ops ++ o ∷ []
+pub behind_ops : (v : World) (d : Does) (o : Op) → d.op ≡ Some o → (behind v d).ops ≡ v.ops ++ o ∷ []
 behind_ops v d o is = ap (λ (x : Option Op). (with_op_if x (record v { begun = d.begun; lives = d.lives })).ops) is
 
 module _ (w : World) (events rest : List Event) (e : Event) (told : List Outcome) (host : HostView) (p : HasPlayed w events (e ∷ rest) told host) where

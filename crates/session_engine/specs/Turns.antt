@@ -1,9 +1,9 @@
 -- Hosts one after another on one disk, each from its opening to a crash, and what their worksheets show. (docs/HOST.md.)
-use Rattle.std.specs.Prelude.{◌≡◌, ◌⊎◌, ℕ, suc, List, [], ◌∷◌, ◌++◌, Option, Some, None, slice_get}
+use Rattle.std.specs.Prelude.{◌≡◌, ◌⊎◌, ℕ, suc, List, [], ◌∷◌, ◌++◌, Option, Some, slice_get, Result, IfOk, IfErr}
 use Rattle.block_tree.specs.Output.{output}
 use Rattle.meta_format.specs.Stream.{Outer}
 use Rattle.meta_format.specs.Faults.{Kind}
-use Rattle.disk_model.specs.Disk.{Image}
+use Rattle.disk_model.specs.Disk.{DiskView, Image, InModel, LeavesOnly}
 use Rattle.worksheet.specs.declared.op.Op.{Op}
 use Rattle.worksheet.specs.declared.op.Op.TheVariants as op
 use Rattle.worksheet.specs.declared.field.Field.{Field}
@@ -12,17 +12,18 @@ use Rattle.worksheet.specs.Contents.{Contents}
 use Rattle.worksheet.specs.Ops.{sheet_of}
 use Rattle.worksheet.specs.Checks.{Allowed, field_in}
 use Rattle.recovery.specs.Sheets.{IsSheetImage}
-use Rattle.plugin_core.specs.declared.item.Item.{Item}
 use Rattle.plugin_core.specs.declared.item.Item.TheVariants as item
 use Rattle.plugin_core.specs.Past.{received, stream_of, items_of}
 use Rattle.plugin_core.specs.Items.{prompt_of}
 use Rattle.plugin_core.specs.Steps.{Reads}
 use Rattle.plugin_core.specs.AskPoints.{IsAnswer}
-use Rattle.session_engine.specs.Host.{EndsAt, HostView}
+use Rattle.session_engine.specs.Host.{EndsAt, HostView, IsHost, Took}
+use Rattle.session_engine.specs.Faults.{Failed}
 use Rattle.session_engine.specs.declared.command.Command.TheVariants as command
 use Rattle.session_engine.specs.declared.event.ChildEvent.TheVariants as child
 use Rattle.session_engine.specs.declared.event.Event.{Event}
 use Rattle.session_engine.specs.declared.event.Event.TheVariants as event
+use Rattle.session_engine.specs.declared.outcome.HostFault.{HostFault}
 use Rattle.session_engine.specs.declared.outcome.Outcome.{Outcome}
 use Rattle.session_engine.specs.World.{World, Going, world_at_opening, sheet_in, life_of, with_number}
 use Rattle.session_engine.specs.Does.{Gives, Runs}
@@ -101,6 +102,28 @@ PlaysAreTurns = (room end : ℕ) (before : Image) (found : List Op) → Allowed 
     → (LeftAmong (world_at_opening found room end) events told after → (kept : List Op) × Turned room before found (record { events = events; told = [] }) after kept)
     × ((rest : List Event) (host : HostView) (played : HasPlayed (world_at_opening found room end) events rest told host) → IsSheetImage (sheet_in played.leads) after
     → (kept : List Op) × Turned room before found (record { events = events; told = told }) after kept)
+
+-- Each image that a crash leaves of a disk, at every moment from this state of it to that one, makes
+-- such a turn.
+abbrev pub CrashesAreTurns : ℕ → Image → List Op → HostTurn → DiskView → DiskView → Type 0
+CrashesAreTurns room before found turn old new = InModel old
+    (LeavesOnly (λ after. (kept : List Op) × Turned room before found turn after kept) old.history new.history)
+
+-- So are single steps. A host was opened, took events and told their outcomes, and stands for the
+-- world that they led to; now a step takes one event more. A crash at any moment of it, whatever it
+-- answers, makes a turn of the events with this one that told those outcomes. Where it answers Ok, the
+-- host is as a play of the events with this one leaves it, and a crash behind it makes a turn that told
+-- this outcome too.
+abbrev pub StepsAreTurns : Type 0
+StepsAreTurns = (room end : ℕ) (before : Image) (found : List Op)
+    → Allowed found → IsSheetImage (sheet_of found) before → EndsAt before end
+    → (events : List Event) (told : List Outcome) (w : World)
+    → Runs (world_at_opening found room end) events told w
+    → (e : Event) (old new : HostView) (answer : Result Outcome HostFault)
+    → IsHost old w → IfOk answer (Took w e old new) → IfErr answer (Failed w e old new)
+    → CrashesAreTurns room before found (record { events = events ++ e ∷ []; told = told }) old.store.disk new.store.disk
+    × IfOk answer (λ o. HasPlayed (world_at_opening found room end) (events ++ e ∷ []) [] (told ++ o ∷ []) new
+    × CrashesAreTurns room before found (record { events = events ++ e ∷ []; told = told ++ o ∷ [] }) new.store.disk new.store.disk)
 
 -- Each of these hosts was opened on the image that the one before it left, as an image of the worksheet of some ops.
 abbrev pub EachTurned : ℕ → Image → List HostTurn → Image → Type 0

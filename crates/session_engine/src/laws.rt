@@ -1,6 +1,6 @@
 //! Laws of the definitions that the contracts cite (docs/HOST.md, "Laws"). Each function does nothing: its contract is the law.
 ghost use Rattle.session_engine.specs.Apart.{OthersAreSilent, SessionsAreApart, SessionsSeeTheirOwn};
-ghost use Rattle.session_engine.specs.Turns.{EvaluatedAnew, LivesInTurn, PlaysAreTurns};
+ghost use Rattle.session_engine.specs.Turns.{EvaluatedAnew, LivesInTurn, PlaysAreTurns, StepsAreTurns};
 ghost use Rattle.session_engine.specs.Laws.{AnEventDoesOneThing, EachEventHasAnOutcome, NothingIsShownInFlight, NothingOfAnEndedLife, NumbersAreGivenOnce, OutcomesLeadToOneWorld};
 
 /// A session is told the same whatever others' interpreters do: two histories without refusals from
@@ -36,6 +36,12 @@ pub fn lives_in_turn()
 /// A play of events on a host that was just opened is such a turn, wherever a crash comes in it.
 pub fn plays_are_turns()
     ensures { PlaysAreTurns }
+{}
+
+/// So are events that a caller gives a host one by one, each by a step: a crash within a step makes a
+/// turn that told what the steps before it told, and one behind it a turn that told its outcome too.
+pub fn steps_are_turns()
+    ensures { StepsAreTurns }
 {}
 
 /// What a field shows behind an accepted evaluation of it is what a whole block answered behind it, or

@@ -52,6 +52,17 @@ fn write_byte<W: Write>(byte: u8, keeps_lines: bool, out: &mut W) -> Result<(), 
         .map_err(|_| WriteFault)
 }
 
+/// Writes a run of bytes as they are; most runs between bytes that aren't printed as themselves are empty.
+#[inline(always)]
+fn write_run<W: Write>(run: &[u8], out: &mut W) -> Result<(), WriteFault>
+    ensures { OnOk result (Appends (W.contents out.old) (W.contents out.new) run.now) }
+{
+    if run.is_empty() {
+        return Ok(());
+    }
+    out.write_all(run).map_err(|_| WriteFault)
+}
+
 /// Writes bytes, those that are printed as themselves as many at once as stand side by side.
 fn write_bytes<W: Write>(bytes: &[u8], keeps_lines: bool, out: &mut W) -> Result<(), WriteFault>
     ensures { OnOk result
@@ -61,7 +72,7 @@ fn write_bytes<W: Write>(bytes: &[u8], keeps_lines: bool, out: &mut W) -> Result
     let mut start = 0;
     while start < bytes.len() {
         let end = plain_end(bytes, start, keeps_lines);
-        out.write_all(&bytes[start..end]).map_err(|_| WriteFault)?;
+        write_run(&bytes[start..end], out)?;
         if end == bytes.len() {
             return Ok(());
         }

@@ -63,6 +63,9 @@ pub fn plain_end(bytes: &[u8], at: usize, keeps_lines: bool) -> usize
     requires { at ≤ length bytes.now }
     ensures { IsRunAt (is_plain keeps_lines) bytes.now at result }
 {
+    if at < bytes.len() && !is_plain_byte(bytes[at], keeps_lines) {
+        return at;
+    }
     let mut end = at;
     'by_lanes: while bytes.len() - end >= LANES {
         let run = plain_run(bytes, end, keeps_lines);

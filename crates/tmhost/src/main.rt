@@ -2,8 +2,10 @@
 //! where, and with which status it ends, `host_cli` decides.
 #![tactic(auto)]
 
+use child_edge::Processes;
 use host_cli::{
-    Ending, RunFault, Task, end_program, read_words, refuse_unread_words, refuse_words, run_blocks,
+    Ending, FileDisk, RunFault, Task, end_program, read_words, refuse_unread_words, refuse_words,
+    run_blocks, run_create, run_script, run_show,
 };
 use std::fs::{File, OpenOptions};
 use std::io;
@@ -18,15 +20,47 @@ fn hold_descriptor<R: Files<File = File>>(rt: &R) -> io::Result<File> {
 }
 
 /// `blocks` from standard input to standard output.
-fn run_on_streams(rt: &HostRuntime) -> Ending {
+fn blocks_on_streams(rt: &HostRuntime) -> Ending {
     match BufWriter::with_capacity(rt.alloc(), 65_536, rt.stdout()) {
         Ok(mut output) => run_blocks(rt.alloc(), &mut rt.stdin(), &mut output, &mut rt.stderr()),
         Err(_) => end_program(Err(RunFault::OutOfMemory), &mut rt.stderr()),
     }
 }
 
-/// Reads the words and runs the task.
-fn run(rt: &HostRuntime) -> Ending {
+/// `create` at a path.
+fn create_at(rt: &HostRuntime, path: &str) -> Ending {
+    run_create(FileDisk::create(rt, rt.alloc(), path), &mut rt.stderr())
+}
+
+/// `show` from a path to standard output.
+fn show_at(rt: &HostRuntime, path: &str) -> Ending {
+    let files = FileDisk::open(rt, rt.alloc(), path);
+    match BufWriter::with_capacity(rt.alloc(), 65_536, rt.stdout()) {
+        Ok(mut output) => run_show(rt.alloc(), files, &mut output, &mut rt.stderr()),
+        Err(_) => end_program(Err(RunFault::OutOfMemory), &mut rt.stderr()),
+    }
+}
+
+/// `run` of the script on standard input over the files at a path.
+fn run_at(rt: &HostRuntime, path: &str) -> Ending {
+    let files = FileDisk::open(rt, rt.alloc(), path);
+    let output = BufWriter::with_capacity(rt.alloc(), 65_536, rt.stdout());
+    let runtime: Result<_, _> = rt.clone();
+    let (Ok(mut output), Ok(runtime)) = (output, runtime) else {
+        return end_program(Err(RunFault::OutOfMemory), &mut rt.stderr());
+    };
+    run_script(
+        rt.alloc(),
+        &mut rt.stdin(),
+        &mut output,
+        &mut rt.stderr(),
+        files,
+        &mut Processes::new(runtime, rt.alloc()),
+    )
+}
+
+/// Reads the words and does the task.
+fn do_task(rt: &HostRuntime) -> Ending {
     let words = match std::env::args(rt) {
         Ok(words) => words.collect::<Vec<String>>(rt.alloc()),
         Err(error) => return refuse_unread_words(error.kind(), &mut rt.stderr()),
@@ -35,7 +69,10 @@ fn run(rt: &HostRuntime) -> Ending {
         return end_program(Err(RunFault::OutOfMemory), &mut rt.stderr());
     };
     match read_words(rt.alloc(), words.as_slice()) {
-        Ok(Task::Blocks) => run_on_streams(rt),
+        Ok(Task::Blocks) => blocks_on_streams(rt),
+        Ok(Task::Create(path)) => create_at(rt, path),
+        Ok(Task::Run(path)) => run_at(rt, path),
+        Ok(Task::Show(path)) => show_at(rt, path),
         Err(error) => refuse_words(&error, &mut rt.stdout(), &mut rt.stderr()),
     }
 }
@@ -44,5 +81,5 @@ fn main(rt: HostRuntime) -> ExitCode {
     let _first = hold_descriptor(&rt);
     let _second = hold_descriptor(&rt);
     let _third = hold_descriptor(&rt);
-    ExitCode::from(run(&rt).status)
+    ExitCode::from(do_task(&rt).status)
 }

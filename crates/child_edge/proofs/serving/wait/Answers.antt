@@ -1,6 +1,6 @@
 use Rattle.std.proofs.Common.{◌++◌, [], refl, sym, ◌∙◌, arith, append-nil}
 use Rattle.child_edge.specs.Faithful.{at}
-use Rattle.child_edge.specs.declared.serving.TheConstants.{TURNS}
+use Rattle.child_edge.specs.Limits.{most_turns}
 use Rattle.child_edge.proofs.Waits.{Turns-more, told-join, by_cause}
 use Rattle.child_edge.proofs.Faulting.{same-at, same-on, stopped_since}
 use Rattle.child_edge.proofs.serving.wait.Goals as goal
@@ -56,7 +56,7 @@ loop-number-preserved g c = record {
       record {
         beats = r.beats ++ p.beats;
         leads = p.leads;
-        form = Turns-more g.C.Children.after TURNS c.loop-number.number (at w c.args.children.now) r.beats (at r.leads c.loop-number.children) _ p.beats (at p.leads c.turn.new.children) r.form refl (rw seats at p.form);
+        form = Turns-more g.C.Children.after most_turns c.loop-number.number (at w c.args.children.now) r.beats (at r.leads c.loop-number.children) _ p.beats (at p.leads c.turn.new.children) r.form refl (rw seats at p.form);
         stands = p.stands;
         replied = told-join [] c.loop-number.replies.items c.turn.new.replies.items r.beats p.beats r.replied p.replied;
       };

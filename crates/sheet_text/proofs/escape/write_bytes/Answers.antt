@@ -11,7 +11,7 @@ returns-then-end-bytes g c =
     let bytes = c.args.bytes.now in
     let start = c.loop-start.start in
     let end = c.plain_end-end.result in
-    let put : Appends (g.W.Write.contents c.loop-start.out) (g.W.Write.contents c.write_all.new.self) (take (end - start) (drop start bytes)) = search rules in
+    let put : Appends (g.W.Write.contents c.loop-start.out) (g.W.Write.contents c.write_run.new.out) (take (end - start) (drop start bytes)) = search rules in
     run_last (printed_byte c.args.keeps_lines) bytes start end _ _ _ run.ordered (omega (arith, c.if-end-bytes.true)) (plain_byte c.args.keeps_lines bytes start end run.pass)
     c.loop-start.invariant.1 put
 
@@ -22,7 +22,7 @@ loop-start-preserved g c =
     let start = c.loop-start.start in
     let end = c.plain_end-end.result in
     let inside = run.in_range in
-    let put : Appends (g.W.Write.contents c.loop-start.out) (g.W.Write.contents c.write_all.new.self) (take (end - start) (drop start bytes)) = search rules in (
+    let put : Appends (g.W.Write.contents c.loop-start.out) (g.W.Write.contents c.write_run.new.out) (take (end - start) (drop start bytes)) = search rules in (
       omega (arith, inside, c.if-end-bytes.false),
       run_step (printed_byte c.args.keeps_lines) bytes start end _ _ _ _ run.ordered (omega (arith, inside, c.if-end-bytes.false)) (plain_byte c.args.keeps_lines bytes start end run.pass)
           c.loop-start.invariant.1 put c.in_ok-write_byte.ensures,

@@ -1,0 +1,58 @@
+#!/usr/bin/env bash
+# Prints how many commands a second `tmhost run` makes durable, on a script of 2,000 `set` lines, and the same of a plain C program that
+# does the same four calls for records of the same length in a file beside it (bench/plain_commits.c), and their ratio: the medians of
+# RUNS runs (9 where it isn't set) of both programs in turn. The files lie in FOLDER, or where none is given in the current one.
+set -euo pipefail
+folder=$(readlink -f "${1:-.}")
+root=$(dirname "$(dirname "$(readlink -f "${BASH_SOURCE[0]}")")")
+work=$(mktemp -d "$folder/commits.XXXXXX")
+trap 'rm -rf "$work"' EXIT
+"${CC:-cc}" -O2 -o "$work/plain" "$root/bench/plain_commits.c"
+"$root/tmhost" blocks </dev/null
+python3 - "$root/crates/tmhost/out/tmhost" "$work" "${RUNS:-9}" <<'PYTHON'
+import os, statistics, subprocess, sys, time
+
+program, work, runs = sys.argv[1], sys.argv[2], int(sys.argv[3])
+records, text = 2000, "x" * 20
+sheet, other, script = work + "/sheet", work + "/plain.journal", work + "/script"
+# The length of the payload, the payload (its kind, the field, the length of the input, the input), and the next gate.
+length = 4 + 1 + 4 + 2 + len(text) + 1
+
+with open(script, "w") as out:
+    out.write(f"set 1 {text}\n" * records)
+
+# What it writes goes to memory, so that no other process runs beside it.
+def timed(words, given=None, expected=b""):
+    told = os.memfd_create("told")
+    begun = time.perf_counter()
+    subprocess.run(words, stdin=given, stdout=told, check=True)
+    took = time.perf_counter() - begun
+    with open(told, "rb") as text:
+        text.seek(0)
+        assert text.read() == expected
+    return took
+
+def ours():
+    for path in (sheet, sheet + ".alt"):
+        if os.path.exists(path):
+            os.remove(path)
+    subprocess.run([program, "create", sheet], check=True)
+    subprocess.run([program, "run", sheet], input=b"session a plain p\nnew 0 a x\n", stdout=subprocess.DEVNULL, check=True)
+    before = os.path.getsize(sheet)
+    with open(script, "rb") as given:
+        took = timed([program, "run", sheet], given, b"ok\n" * records)
+    assert os.path.getsize(sheet) - before == records * length, "the records have another length"
+    return took
+
+def plain():
+    if os.path.exists(other):
+        os.remove(other)
+    took = timed([work + "/plain", other, str(records), str(length)])
+    assert os.path.getsize(other) == 11 + records * length
+    return took
+
+results = [(ours(), plain()) for _ in range(runs)]
+rates = [records / statistics.median(result[i] for result in results) for i in (0, 1)]
+ratio = statistics.median(theirs / our for our, theirs in results)
+print(f"durable commands a second: tmhost {rates[0]:.0f}, plain {rates[1]:.0f}, ratio of the pairs {ratio:.2f}")
+PYTHON

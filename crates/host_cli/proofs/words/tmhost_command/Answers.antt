@@ -1,0 +1,13 @@
+use Rattle.std.proofs.Common.{ap, ap₂, ◌∙◌}
+use Rattle.clap.specs.Words.{App, Shape, with_subcommand}
+use Rattle.host_cli.proofs.words.tmhost_command.Goals as goal
+
+abbrev top_of : App → Shape
+top_of app = app.top
+
+pub returns : goal.returns
+returns c =
+    let first = c.in_ok-first.ensures.shape c.plain-blocks.ensures.local ∙ ap₂ with_subcommand c.plain.ensures.made (ap top_of c.plain-blocks.ensures.made) in
+    let second = c.in_ok-second.ensures.shape c.in_ok-create.ensures.local ∙ ap₂ with_subcommand first (ap top_of c.in_ok-create.ensures.made) in
+    let third = c.in_ok-third.ensures.shape c.in_ok-run.ensures.local ∙ ap₂ with_subcommand second (ap top_of c.in_ok-run.ensures.made) in
+    c.in_ok-fourth.ensures.shape c.in_ok-show.ensures.local ∙ ap₂ with_subcommand third (ap top_of c.in_ok-show.ensures.made)

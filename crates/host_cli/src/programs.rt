@@ -1,0 +1,138 @@
+//! The programs over a worksheet's files, from their files on: how each ends, and what it says on
+//! which stream.
+ghost use Rattle.std.specs.Prelude.{◌≡◌, ◌≤◌, Err, IfErr, IfOk, Some};
+ghost use Rattle.host_cli.specs.Ending.{ProgramAnswer, TellsFault, status_of};
+ghost use Rattle.host_cli.specs.Programs.{CreateAnswer, Creates, RunAnswer, ShowAnswer, TellsCreate, create_status};
+ghost use Rattle.host_cli.specs.declared.fault.RunFault.TheVariants as fault;
+
+use crate::ending::ended;
+use crate::{Ending, RunFault, create_fault_text, end_program, run, show};
+use child_edge::Children;
+use disk_model::Disk;
+use journal::{CreateCause, OpenCause};
+use std::alloc::Global;
+use std::io::{Read, Write};
+
+/// Tells on a line why no worksheet was made.
+fn end_create<E: Write>(why: CreateCause, errors: &mut E) -> Ending
+    ensures { (result.status ≡ 1)
+        × TellsCreate E.contents errors.old errors.new result.told (Some why) }
+{
+    ended(1, create_fault_text(why, errors).is_ok())
+}
+
+/// Lays an empty worksheet on a disk, and tells where that failed why.
+fn create_on<D: Disk, E: Write>(disk: D, errors: &mut E) -> Ending
+    requires { 11 ≤ (D.view disk).room }
+    ensures { (new : D) × (answer : CreateAnswer)
+        × Creates (D.view disk) (D.view new) answer
+        × (result.status ≡ create_status answer)
+        × TellsCreate E.contents errors.old errors.new result.told answer }
+{
+    match journal::create(disk) {
+        Ok(_) => ended(0, true),
+        Err(fault) => end_create(fault.cause, errors),
+    }
+}
+
+/// The whole program `create` on its files, or on why they weren't made: lays an empty worksheet,
+/// and tells on a line of `errors` why there is none.
+pub fn run_create<D: Disk, E: Write>(files: Result<D, CreateCause>, errors: &mut E) -> Ending
+    requires { IfOk files (λ disk. 11 ≤ (D.view disk).room) }
+
+    ensures no_files { IfErr files (λ why. (result.status ≡ 1)
+        × TellsCreate E.contents errors.old errors.new result.told (Some why)) }
+
+    // What becomes of the disk, and what is said of it.
+    ensures files { IfOk files (λ disk. (new : D) × (answer : CreateAnswer)
+        × Creates (D.view disk) (D.view new) answer
+        × (result.status ≡ create_status answer)
+        × TellsCreate E.contents errors.old errors.new result.told answer) }
+{
+    match files {
+        Ok(disk) => create_on(disk, errors),
+        Err(why) => end_create(why, errors),
+    }
+}
+
+/// Writes the worksheet of a disk, where there is one.
+fn show_files<D: Disk, W: Write>(
+    alloc: Global,
+    files: Result<D, OpenCause>,
+    output: &mut W,
+) -> Result<bool, RunFault>
+    ensures { ShowAnswer D.view W.contents files output.old output.new result }
+{
+    match files {
+        Err(why) => Err(RunFault::Open(why)),
+        Ok(disk) => match show(alloc, disk, output) {
+            Ok(()) => Ok(true),
+            Err(fault) => Err(fault),
+        },
+    }
+}
+
+/// The whole program `show` on its files, or on why they weren't opened: the worksheet goes to
+/// `output`, and the line of a fault to `errors`.
+pub fn run_show<D: Disk, W: Write, E: Write>(
+    alloc: Global,
+    files: Result<D, OpenCause>,
+    output: &mut W,
+    errors: &mut E,
+) -> Ending
+    ensures { (answer : ProgramAnswer)
+        × ShowAnswer D.view W.contents files output.old output.new answer
+        × (result.status ≡ status_of answer)
+        × TellsFault E.contents errors.old errors.new result.told answer }
+{
+    let answer = show_files(alloc, files, output);
+    end_program(answer, errors)
+}
+
+/// Runs a script over a disk, and drops the disk at its end.
+fn run_on<R: Read, W: Write, D: Disk, C: Children>(
+    alloc: Global,
+    input: &mut R,
+    output: &mut W,
+    disk: D,
+    children: &mut C,
+) -> Result<bool, RunFault>
+    ensures { RunAnswer D.view C.after (R.remaining input.old) disk children.old children.new
+        (W.contents output.old) (W.contents output.new)
+        ((output.new ≡ output.old) × (children.new ≡ children.old)) result }
+{
+    match run(alloc, input, output, disk, children) {
+        Ok(_) => Ok(true),
+        Err(fault) => Err(fault),
+    }
+}
+
+/// The whole program `run` on its files, or on why they weren't opened: the script comes from `input`,
+/// which is read only where there are files, and what its lines give goes to `output`, each line flushed.
+/// The line of a fault goes to `errors`.
+pub fn run_script<R: Read, W: Write, E: Write, D: Disk, C: Children>(
+    alloc: Global,
+    input: &mut R,
+    output: &mut W,
+    errors: &mut E,
+    files: Result<D, OpenCause>,
+    children: &mut C,
+) -> Ending
+    // It is told before the script is read.
+    ensures unopened { IfErr files (λ why. (input.new ≡ input.old) × (output.new ≡ output.old)
+        × (children.new ≡ children.old) × (result.status ≡ 1)
+        × TellsFault E.contents errors.old errors.new result.told (Err (fault.Open why))) }
+
+    ensures files { IfOk files (λ disk. (answer : ProgramAnswer)
+        × RunAnswer D.view C.after (R.remaining input.old) disk children.old children.new
+        (W.contents output.old) (W.contents output.new)
+        ((output.new ≡ output.old) × (children.new ≡ children.old)) answer
+        × (result.status ≡ status_of answer)
+        × TellsFault E.contents errors.old errors.new result.told answer) }
+{
+    let answer = match files {
+        Ok(disk) => run_on(alloc, input, output, disk, children),
+        Err(why) => Err(RunFault::Open(why)),
+    };
+    end_program(answer, errors)
+}

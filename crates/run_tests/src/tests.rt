@@ -1,0 +1,6 @@
+mod desk;
+mod examples;
+mod failing;
+mod faults;
+mod real;
+mod talkers;

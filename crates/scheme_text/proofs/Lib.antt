@@ -1,0 +1,8 @@
+pub mod Read
+pub mod Sound
+pub mod Telling
+pub mod Reading
+pub mod Writing
+pub mod Items
+pub mod Examples
+pub mod Requests

@@ -1,0 +1,8 @@
+pub mod Quoting
+pub mod Requests
+pub mod Outputs
+pub mod Answers
+pub mod Told
+pub mod Same
+pub mod Laws
+pub mod inside
