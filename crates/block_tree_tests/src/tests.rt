@@ -15,70 +15,109 @@ fn node(alloc: Global, channel: bool, name: &[u8]) -> Result<Node, OutOfMemory> 
     })
 }
 
+// A node with one text.
+fn leaf(alloc: Global, channel: bool, name: &[u8], bytes: &[u8]) -> Result<Node, OutOfMemory> {
+    let mut leaf = node(alloc, channel, name)?;
+    leaf.items.push(text(alloc, bytes)?)?;
+    Ok(leaf)
+}
+
+// The node with this one behind it, and a text behind that.
+fn with(alloc: Global, outer: Node, inner: Node, bytes: &[u8]) -> Result<Node, OutOfMemory> {
+    let mut outer = outer;
+    outer.items.push(Item::Block(inner))?;
+    outer.items.push(text(alloc, bytes)?)?;
+    Ok(outer)
+}
+
+fn block(node: Node) -> Result<Block, Fail> {
+    match Block::new(node) {
+        Ok(block) => Ok(block),
+        Err(_) => Err("no block".into()),
+    }
+}
+
 // verbatim:4 prompt#> 2
-fn answer_with_prompt(alloc: Global) -> Result<Node, OutOfMemory> {
-    let mut prompt = node(alloc, true, b"prompt".as_slice())?;
-    prompt.items.push(text(alloc, b"> ".as_slice())?)?;
-    let mut answer = node(alloc, false, b"verbatim".as_slice())?;
-    answer.items.push(text(alloc, b"4".as_slice())?)?;
-    answer.items.push(Item::Block(prompt))?;
-    answer.items.push(text(alloc, b"2".as_slice())?)?;
-    Ok(answer)
+fn answer_with_prompt(alloc: Global) -> Result<Block, Fail> {
+    let answer = leaf(alloc, false, b"verbatim", b"4")?;
+    let prompt = leaf(alloc, true, b"prompt", b"> ")?;
+    block(with(alloc, answer, prompt, b"2")?)
+}
+
+// Whether the output of the block is this other one.
+fn puts_out(alloc: Global, whole: &Block, output: Node) -> Result<bool, Fail> {
+    let output = block(output)?;
+    Ok(output_of(alloc, whole)? == output && *whole != output)
+}
+
+// Whether the text of the channel is this one.
+fn says(alloc: Global, whole: &Block, channel: &[u8], text: &[u8]) -> Result<bool, OutOfMemory> {
+    let text = Octets::from_slice(alloc, text)?;
+    Ok(channel_text(alloc, whole, channel)? == Some(text))
 }
 
 #[test]
 fn output_leaves_the_prompt_and_joins_texts(rt: HostRuntime) -> Result<(), Fail> {
     let alloc = rt.alloc();
-    let mut joined = node(alloc, false, b"verbatim".as_slice())?;
-    joined.items.push(text(alloc, b"42".as_slice())?)?;
-    let block = Block::new(answer_with_prompt(alloc)?).map_err(|_| "no block")?;
-    let wanted = Block::new(joined).map_err(|_| "no block")?;
-    assert!(rt; output_of(alloc, &block)? == wanted);
-    assert!(rt; block.copy()? == block);
-    assert!(rt; block != wanted);
+    let whole = answer_with_prompt(alloc)?;
+    assert!(rt; puts_out(alloc, &whole, leaf(alloc, false, b"verbatim", b"42")?)?);
+    assert!(rt; whole.copy()? == whole);
     Ok(())
 }
 
 #[test]
 fn channels_have_texts(rt: HostRuntime) -> Result<(), Fail> {
     let alloc = rt.alloc();
-    let block = Block::new(answer_with_prompt(alloc)?).map_err(|_| "no block")?;
-    let prompt = channel_text(alloc, &block, b"prompt".as_slice())?;
-    assert!(rt; prompt == Some(Octets::from_slice(alloc, b"> ".as_slice())?));
-    assert!(rt; channel_text(alloc, &block, b"input".as_slice())?.is_none());
+    let whole = answer_with_prompt(alloc)?;
+    assert!(rt; says(alloc, &whole, b"prompt", b"> ")?);
+    assert!(rt; channel_text(alloc, &whole, b"input")?.is_none());
     Ok(())
 }
 
-// prompt#A prompt#B C: the block that opens last gives the text, and the outer one has no output.
+// prompt#A prompt#B C
+fn two_prompts(alloc: Global) -> Result<Block, Fail> {
+    let outer = leaf(alloc, true, b"prompt", b"A")?;
+    let inner = leaf(alloc, true, b"prompt", b"B")?;
+    block(with(alloc, outer, inner, b"C")?)
+}
+
+// The block that opens last gives the text, and the outer one has no output.
 #[test]
 fn the_last_to_open_is_the_prompt(rt: HostRuntime) -> Result<(), Fail> {
     let alloc = rt.alloc();
-    let mut inner = node(alloc, true, b"prompt".as_slice())?;
-    inner.items.push(text(alloc, b"B".as_slice())?)?;
-    let mut outer = node(alloc, true, b"prompt".as_slice())?;
-    outer.items.push(text(alloc, b"A".as_slice())?)?;
-    outer.items.push(Item::Block(inner))?;
-    outer.items.push(text(alloc, b"C".as_slice())?)?;
-    let block = Block::new(outer).map_err(|_| "no block")?;
-    let prompt = channel_text(alloc, &block, b"prompt".as_slice())?;
-    assert!(rt; prompt == Some(Octets::from_slice(alloc, b"B".as_slice())?));
-    let empty = Block::new(node(alloc, false, b"verbatim".as_slice())?).map_err(|_| "no block")?;
-    assert!(rt; output_of(alloc, &block)? == empty);
+    let whole = two_prompts(alloc)?;
+    assert!(rt; says(alloc, &whole, b"prompt", b"B")?);
+    assert!(rt; puts_out(alloc, &whole, node(alloc, false, b"verbatim")?)?);
     Ok(())
+}
+
+// Whether a queue gives back two numbers in their order.
+fn queue_keeps(alloc: Global) -> bool {
+    let mut queue = Queue::new(alloc);
+    if queue.push(1u32).is_err() || queue.push(2u32).is_err() {
+        return false;
+    }
+    let is_there = queue.len() == 2 && queue.front() == Some(&1);
+    is_there && queue.pop() == Some(1) && queue.pop() == Some(2) && queue.is_empty()
+}
+
+// Whether a sequence has the number that it is given.
+fn sequence_keeps(alloc: Global) -> bool {
+    let mut sequence = Sequence::new(alloc);
+    sequence.push(7u8).is_ok() && sequence.as_slice() == [7u8].as_slice()
+}
+
+// Whether a text is what its string was, and a copy of it too.
+fn text_keeps(alloc: Global, string: &str) -> Result<bool, OutOfMemory> {
+    let text = Text::from_string(String::from_str(alloc, string)?);
+    Ok(text.copy()? == text && text.as_str() == string)
 }
 
 #[test]
 fn lists_keep_what_they_are_given(rt: HostRuntime) -> Result<(), Fail> {
     let alloc = rt.alloc();
-    let mut queue = Queue::new(alloc);
-    queue.push(1u32).map_err(|_| "memory")?;
-    queue.push(2u32).map_err(|_| "memory")?;
-    assert!(rt; queue.len() == 2 && queue.front() == Some(&1));
-    assert!(rt; queue.pop() == Some(1) && queue.pop() == Some(2) && queue.is_empty());
-    let mut sequence = Sequence::new(alloc);
-    sequence.push(7u8).map_err(|_| "memory")?;
-    assert!(rt; sequence.as_slice() == [7u8].as_slice());
-    let text = Text::from_string(String::from_str(alloc, "é")?);
-    assert!(rt; text.copy()? == text && text.as_str() == "é");
+    assert!(rt; queue_keeps(alloc));
+    assert!(rt; sequence_keeps(alloc));
+    assert!(rt; text_keeps(alloc, "é")?);
     Ok(())
 }
