@@ -12,8 +12,6 @@ mod output;
 mod queue;
 mod sequence;
 mod shape;
-#[cfg(test)]
-mod tests;
 mod text;
 mod tree;
 

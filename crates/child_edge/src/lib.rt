@@ -7,8 +7,6 @@ pub mod processes;
 pub mod scripted;
 pub mod serving;
 mod stopping;
-#[cfg(test)]
-mod tests;
 mod waiting;
 
 pub use children::{ChildFault, Children, ReceiveFault, Received};

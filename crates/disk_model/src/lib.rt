@@ -17,6 +17,3 @@ pub use memory::MemoryDisk;
 
 /// A growth was refused. Nothing has changed.
 pub use std::alloc::AllocError as OutOfMemory;
-
-#[cfg(test)]
-mod tests;

@@ -158,6 +158,3 @@ pub fn blocks<R: Read, W: Write>(
     writer.flush().map_err(|_| RunFault::Output)?;
     Ok(whole)
 }
-
-#[cfg(test)]
-mod tests;

@@ -102,6 +102,3 @@ pub fn refuse_unread_words<E: Write>(kind: io::ErrorKind, errors: &mut E) -> End
         _ => ended(2, true),
     }
 }
-
-#[cfg(test)]
-mod tests;

@@ -4,20 +4,14 @@
 
 mod block_lines;
 mod ending;
-#[cfg(test)]
-mod failing;
 mod fault;
 mod file_disk;
 mod input;
-#[cfg(test)]
-mod limits;
 mod memory;
 mod printing;
 mod programs;
 mod running;
 mod taking;
-#[cfg(test)]
-mod tests;
 mod words;
 
 pub use block_lines::blocks;

@@ -95,7 +95,7 @@ fn do_command<W: Write>(
 }
 
 /// Does what a line says and writes what it gives.
-pub(crate) fn do_line<W: Write>(
+fn do_line<W: Write>(
     alloc: Global,
     sheet: &mut Sheet,
     line: &[u8],

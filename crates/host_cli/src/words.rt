@@ -148,6 +148,3 @@ pub fn read_words<'a>(alloc: Global, words: &'a [String]) -> Result<Task<'a>, Er
     let matches = command.try_get_matches_from(words)?;
     Ok(task_of(&matches))
 }
-
-#[cfg(test)]
-mod tests;

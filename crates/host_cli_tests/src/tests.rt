@@ -1,4 +1,11 @@
-//! What is printed and what stands in real files, with the bytes typed in.
+//! What is printed and what stands in real files, with the bytes typed in, over readers and writers that work
+//! and some that fail.
+mod endings;
+mod failing;
 mod file_disk;
+mod limits;
 mod programs;
+mod scripts;
+mod streams;
 mod tasks;
+mod words;

@@ -3,5 +3,4 @@ pub mod Loads
 pub mod Steps
 pub mod Unique
 pub mod Walks
-pub mod Batches
 pub mod Creating

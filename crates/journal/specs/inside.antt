@@ -1,4 +1,3 @@
 pub mod Frame
 pub mod Walk
-pub mod Batch
 pub mod Loaded

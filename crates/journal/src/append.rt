@@ -5,6 +5,7 @@ ghost use Rattle.journal.specs.Area.{body_of, closed_gate, IsPayload, open_gate}
 ghost use Rattle.journal.specs.Kept.{Keeps, BeforeOrAfter, active_of, other_of};
 ghost use Rattle.journal.specs.Limits.{max_payload};
 
+use crate::walk::OPEN_GATE;
 use disk_model::{Area, Disk, DiskFault};
 
 /// Writes the bytes of a frame behind the closed gate at `end`, and opens the gate once they are
@@ -41,7 +42,7 @@ pub(crate) fn add<D: Disk>(disk: &mut D, end: u64, bytes: &[u8]) -> Result<(), D
 {
     disk.write_at(Area::First, end + 1, bytes)?;
     disk.sync(Area::First)?;
-    disk.write_at(Area::First, end, &[0x52])?;
+    disk.write_at(Area::First, end, &[OPEN_GATE])?;
     disk.sync(Area::First)?;
     Ok(())
 }

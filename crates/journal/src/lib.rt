@@ -16,6 +16,3 @@ pub use frame::{Frame, MAX_PAYLOAD};
 pub use journal::{AppendFault, Journal, OpenFault};
 pub use opening::{CreateCause, CreateFault, OpenCause, create};
 pub use walk::Payload;
-
-#[cfg(test)]
-mod tests;

@@ -14,6 +14,12 @@ use crate::{MAX_PAYLOAD, OpenCause};
 use block_tree::Octets;
 use std::alloc::Global;
 
+/// A gate that is open; at any other byte it is closed.
+pub(crate) const OPEN_GATE: u8 = b'R';
+
+/// The selector that names area Second as the active one; at any other byte First is.
+const NAMES_SECOND: u8 = b'B';
+
 /// A payload that an opening found.
 #[derive(Drop, Debug)]
 pub struct Payload {
@@ -38,7 +44,7 @@ fn step_at(rest: &[u8]) -> Step<'_>
     requires { 0 < length rest.now }
     ensures { IsStep max_payload rest.now result }
 {
-    let [0x52, more @ ..] = rest else {
+    let [OPEN_GATE, more @ ..] = rest else {
         return Step::End;
     };
     let [b0, b1, b2, b3, more @ ..] = more else {
@@ -63,7 +69,7 @@ fn behind_header(bytes: &[u8]) -> Option<&[u8]>
     }
     let (front, rest) = bytes.split_at(10);
     let (magic, selector) = front.split_at(9);
-    if magic != b"TMWSHEET\x01".as_slice() || selector[0] == b'B' {
+    if magic != b"TMWSHEET\x01".as_slice() || selector[0] == NAMES_SECOND {
         return None;
     }
     Some(rest)

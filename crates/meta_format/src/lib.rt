@@ -12,8 +12,6 @@ mod read;
 mod reader;
 mod runs;
 mod scan;
-#[cfg(test)]
-mod tests;
 mod write;
 
 pub use laws::{

@@ -9,8 +9,6 @@ mod life;
 mod limits;
 mod piece;
 mod step;
-#[cfg(test)]
-mod tests;
 
 pub use item::Item;
 pub use laws::{

@@ -21,6 +21,3 @@ pub use reading::{DecodeFault, decode};
 pub use size::code_len;
 pub use store::Store;
 pub use writing::encode;
-
-#[cfg(test)]
-mod tests;

@@ -17,8 +17,6 @@ mod play;
 pub mod reply;
 mod table;
 mod take;
-#[cfg(test)]
-mod tests;
 
 pub use command::Command;
 pub use event::{ChildEvent, Event};

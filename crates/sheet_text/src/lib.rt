@@ -12,8 +12,6 @@ mod plain;
 mod replies;
 mod script;
 mod sheet;
-#[cfg(test)]
-mod tests;
 
 pub use blocks::{block_text, tree_text};
 pub use escape::{write_line, write_lines};

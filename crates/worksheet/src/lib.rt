@@ -15,8 +15,6 @@ pub mod name;
 pub mod op;
 pub mod refusal;
 pub mod sheet;
-#[cfg(test)]
-mod tests;
 
 pub use field::{Answer, Field, Session};
 pub use fields::{Fields, Sessions};

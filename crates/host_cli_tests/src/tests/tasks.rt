@@ -1,17 +1,10 @@
 //! Command lines with paths, and the help of each subcommand.
+use super::words::words;
 use clap::error::ErrorKind;
 use host_cli::{Ending, Task, read_words, refuse_words};
-use std::alloc::{AllocError, Global};
+use std::alloc::Global;
 use std::str;
 use std::test::Fail;
-
-fn words(alloc: Global, texts: &[&str]) -> Result<Vec<String>, AllocError> {
-    let mut words = Vec::new(alloc);
-    for text in texts {
-        words.push(String::from_str(alloc, text)?)?;
-    }
-    Ok(words)
-}
 
 // Whether these words ask for this task.
 fn asks(alloc: Global, texts: &[&str], task: Task<'_>) -> Result<bool, Fail> {

@@ -1,0 +1,5 @@
+//! The tests of `block_tree`.
+#![tactic(auto)]
+
+#[cfg(test)]
+mod tests;

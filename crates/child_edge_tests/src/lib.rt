@@ -1,0 +1,5 @@
+//! The tests of `child_edge`.
+#![tactic(auto)]
+
+#[cfg(test)]
+mod tests;

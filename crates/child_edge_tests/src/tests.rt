@@ -1,0 +1,165 @@
+//! Worked examples, with what is told typed in.
+use crate::tests::desk::{Asked, told};
+use crate::tests::talkers::{Silent, Turned};
+use block_tree::{OutOfMemory, Queue};
+use child_edge::{Got, Part, PieceBytes, Processes, Scripted};
+use std::alloc::Global;
+use std::fs;
+use std::test::Fail;
+use worksheet::Name;
+
+mod desk;
+mod talkers;
+
+const BANNER: &[u8] = b"\x02verbatim:Hello\x02prompt#Input 1] \x05\x05";
+
+const ANSWER: &[u8] = b"\x02verbatim:\x02latex:$x^2$\x05\x02prompt#Input 2] \x05\x05";
+
+fn piece(alloc: Global, bytes: &[u8]) -> Result<Got, Fail> {
+    let bytes = Vec::from_slice(alloc, bytes)?;
+    if bytes.is_empty() || bytes.len() > 65_536 {
+        return Err("no piece".into());
+    }
+    Ok(Got::Piece(PieceBytes::from_vec(bytes)))
+}
+
+fn add_piece(alloc: Global, receives: &mut Queue<Got>, bytes: &[u8]) -> Result<(), Fail> {
+    match receives.push(piece(alloc, bytes)?) {
+        Ok(()) => Ok(()),
+        Err(_) => Err("memory".into()),
+    }
+}
+
+// The life of session `a` that gives these pieces.
+fn part(alloc: Global, pieces: &[&[u8]]) -> Result<Part, Fail> {
+    let mut receives = Queue::new(alloc);
+    for bytes in pieces {
+        add_piece(alloc, &mut receives, bytes)?;
+    }
+    let Some(name) = Name::new(b"a") else {
+        return Err("a name".into());
+    };
+    Ok(Part {
+        name,
+        life: 1,
+        start: true,
+        sends: Queue::new(alloc),
+        receives,
+        stop: true,
+    })
+}
+
+fn scripted(alloc: Global, pieces: &[&[u8]]) -> Result<Scripted, Fail> {
+    let mut parts = Vec::new(alloc);
+    parts.push(part(alloc, pieces)?)?;
+    Ok(Scripted::new(alloc, parts))
+}
+
+fn asked<'a>(name: &'a str, program: &'a str, word: &'a str, input: &'a str) -> Asked<'a> {
+    Asked {
+        name,
+        program,
+        word,
+        input,
+    }
+}
+
+#[test]
+fn prompts_in_the_blocks(rt: HostRuntime) -> Result<(), Fail> {
+    let alloc = rt.alloc();
+    let mut children = scripted(alloc, &[BANNER, ANSWER])?;
+    let text = told(alloc, &mut children, &[asked("a", "sh", "p", "x^2")])?;
+    assert_eq!(rt;
+        text.as_str(),
+        "ok, field 1, asked, wait: banner a, answered 1, stop: ended a Stopped lost 0, fields: 1: Input 1] x^2, answered, "
+    );
+    Ok(())
+}
+
+fn single_bytes<'a>(alloc: Global, all: &[&'a [u8]]) -> Result<Vec<&'a [u8]>, OutOfMemory> {
+    let mut pieces = Vec::new(alloc);
+    for bytes in all {
+        for byte in bytes.chunks(1) {
+            pieces.push(byte)?;
+        }
+    }
+    Ok(pieces)
+}
+
+#[test]
+fn the_same_in_pieces_of_one_byte(rt: HostRuntime) -> Result<(), Fail> {
+    let alloc = rt.alloc();
+    let pieces = single_bytes(alloc, &[BANNER, ANSWER])?;
+    let mut children = scripted(alloc, pieces.as_slice())?;
+    let text = told(alloc, &mut children, &[asked("a", "sh", "p", "x^2")])?;
+    assert_eq!(rt;
+        text.as_str(),
+        "ok, field 1, asked, wait: banner a, answered 1, stop: ended a Stopped lost 0, fields: 1: Input 1] x^2, answered, "
+    );
+    Ok(())
+}
+
+#[test]
+fn a_session_that_stalls(rt: HostRuntime) -> Result<(), Fail> {
+    let alloc = rt.alloc();
+    let mut children = Silent::new(alloc);
+    let text = told(alloc, &mut children, &[asked("a", "sh", "p", "x")])?;
+    assert_eq!(rt;
+        text.as_str(),
+        "ok, field 1, asked, wait: ended a Stalled lost 1, stop: ok, fields: 1: > x, open, "
+    );
+    assert_eq!(rt; children.receives, 100_000);
+    assert_eq!(rt; children.stops, 1);
+    Ok(())
+}
+
+#[test]
+fn the_first_session_waits_for_the_second(rt: HostRuntime) -> Result<(), Fail> {
+    let alloc = rt.alloc();
+    let mut children = Turned::new(alloc);
+    let all = [asked("a", "p", "p", "x"), asked("b", "p", "p", "x")];
+    let text = told(alloc, &mut children, &all)?;
+    assert!(rt;
+        text.as_str()
+            .contains("wait: banner b, banner a, answered 2, answered 1, stop: ")
+    );
+    Ok(())
+}
+
+// An interpreter that gives each line back as its answer.
+const ECHOES: &str =
+    "printf '\\002verbatim:\\005'\nwhile IFS= read -r l; do printf '\\002verbatim:%s\\005' \"$l\"; done\n";
+
+#[test]
+fn real_interpreters(rt: HostRuntime) -> Result<(), Fail> {
+    let alloc = rt.alloc();
+    let path = "child_edge_real_interpreters.sh";
+    fs::write(&rt, path, ECHOES)?;
+    let mut children = Processes::new(rt.clone()?, alloc);
+    let all = [asked("a", "sh", path, "one"), asked("b", "sh", path, "two")];
+    let text = told(alloc, &mut children, &all)?;
+    fs::remove_file(&rt, path)?;
+    assert!(rt;
+        text.as_str().ends_with(
+            "stop: ended a Stopped lost 0, ended b Stopped lost 0, fields: 2: > two, answered, 1: > one, answered, "
+        )
+    );
+    Ok(())
+}
+
+#[test]
+fn real_children_that_are_none(rt: HostRuntime) -> Result<(), Fail> {
+    let alloc = rt.alloc();
+    let mut children = Processes::new(rt.clone()?, alloc);
+    let all = [
+        asked("a", "sh", "no_such_file", "x"),
+        asked("b", "echo", "no_such_file", "x"),
+        asked("c", "/nonexistent/p", "no_such_file", "x"),
+    ];
+    let text = told(alloc, &mut children, &all)?;
+    assert_eq!(rt;
+        text.as_str(),
+        "ok, field 1, asked, ok, field 2, asked, ok, field 3, asked, ended c StartRefused lost 1, wait: ended a Ended lost 1, ended b Ended lost 1, stop: ok, ok, ok, fields: 3: > x, open, 2: > x, open, 1: > x, open, "
+    );
+    Ok(())
+}

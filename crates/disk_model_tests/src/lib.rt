@@ -1,0 +1,5 @@
+//! The tests of `disk_model`.
+#![tactic(auto)]
+
+#[cfg(test)]
+mod tests;

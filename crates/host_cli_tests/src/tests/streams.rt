@@ -1,0 +1,163 @@
+//! The printed lines, with their bytes typed in, and readers and writers that fail.
+use super::failing::{Full, InterruptedOnce, Noise, Parts, Unflushed};
+use host_cli::{RunFault, blocks};
+use std::alloc::{AllocError, Global};
+use std::io::{Read, Write};
+use std::test::Fail;
+
+// Whether `blocks` prints this text of the stream, and gives this answer.
+fn prints(alloc: Global, stream: &[u8], text: &[u8], whole: bool) -> bool {
+    let mut reader = Parts {
+        rest: stream,
+        fails: false,
+    };
+    let mut out: Vec<u8> = Vec::new(alloc);
+    let answer = blocks(alloc, &mut reader, &mut out);
+    answer == Ok(whole) && out.as_slice() == text
+}
+
+// Whether `blocks` prints a text of a whole stream that begins and ends so.
+fn prints_between(alloc: Global, stream: &[u8], front: &[u8], back: &[u8]) -> bool {
+    let mut reader = stream;
+    let mut out: Vec<u8> = Vec::new(alloc);
+    let answer = blocks(alloc, &mut reader, &mut out);
+    answer == Ok(true) && out.starts_with(front) && out.ends_with(back)
+}
+
+// So many times these bytes.
+fn times(alloc: Global, bytes: &[u8], count: usize) -> Result<Vec<u8>, AllocError> {
+    let mut all = Vec::new(alloc);
+    for _ in 0..count {
+        all.extend_from_slice(bytes)?;
+    }
+    Ok(all)
+}
+
+// So many times these bytes, between a front and a back.
+fn around(
+    alloc: Global,
+    front: &[u8],
+    (bytes, count): (&[u8], usize),
+    back: &[u8],
+) -> Result<Vec<u8>, AllocError> {
+    let mut all = Vec::from_slice(alloc, front)?;
+    all.append(&mut times(alloc, bytes, count)?)?;
+    all.extend_from_slice(back)?;
+    Ok(all)
+}
+
+#[test]
+fn noise_and_escapes(rt: HostRuntime) -> Result<(), Fail> {
+    let rows: [(&[u8], &[u8]); 4] = [
+        (b"", b""),
+        (
+            b"noise\x02verbatim:Hi there!\x05\n",
+            b"5 25 {verbatim:Hi there!}\n",
+        ),
+        (
+            b"\x02verbatim:\x1b\x02\x1b\x05\x1b\x1b\x1b[\x05",
+            b"0 19 {verbatim:\\x02\\x05\\x1b\\x1b[}\n",
+        ),
+        (
+            b"\x02verbatim:4\x02prompt#In 2] \x05\x05",
+            b"0 27 {verbatim:4{prompt#In 2] }}\n",
+        ),
+    ];
+    for (stream, text) in rows {
+        assert!(rt; prints(rt.alloc(), stream, text, true));
+    }
+    Ok(())
+}
+
+#[test]
+fn bad_tags(rt: HostRuntime) -> Result<(), Fail> {
+    let alloc = rt.alloc();
+    assert!(rt; prints(alloc, b"\x02:x\x05", b"fault 1 BadTag 1\n", false));
+    assert!(rt; prints(alloc, b"ab\x02verb\x02", b"fault 1 BadTag 7\n", false));
+    let long = around(alloc, b"\x02", (b"a", 65), b"")?;
+    assert!(rt; prints(alloc, long.as_slice(), b"fault 1 BadTag 65\n", false));
+    let right = around(alloc, b"\x02", (b"a", 64), b":\x05")?;
+    assert!(rt; prints_between(alloc, right.as_slice(), b"0 67 {aaaa", b"aaaa:}\n"));
+    Ok(())
+}
+
+#[test]
+fn an_unfinished_block(rt: HostRuntime) -> Result<(), Fail> {
+    let alloc = rt.alloc();
+    assert!(rt; prints(alloc, b"\x02verbatim:x", b"unfinished 0\n", false));
+    let behind = b"\x02a:\x05\n\x02verbatim:\x1b";
+    assert!(rt; prints(alloc, behind, b"0 4 {a:}\nunfinished 5\n", false));
+    Ok(())
+}
+
+#[test]
+fn thirty_two_levels_and_one_more(rt: HostRuntime) -> Result<(), Fail> {
+    let alloc = rt.alloc();
+    let back = times(alloc, b"\x05", 32)?;
+    let deep = around(alloc, b"", (b"\x02a:", 32), back.as_slice())?;
+    assert!(rt; prints_between(alloc, deep.as_slice(), b"0 128 {a:{a:{a:", b"}}}\n"));
+    let deeper = times(alloc, b"\x02a:", 33)?;
+    assert!(rt; prints(alloc, deeper.as_slice(), b"fault 2 TooDeep 96\n", false));
+    Ok(())
+}
+
+#[test]
+fn the_longest_block_and_one_byte_more(rt: HostRuntime) -> Result<(), Fail> {
+    let alloc = rt.alloc();
+    let long = around(alloc, b"\x02verbatim:", (b"x", 1_048_565), b"\x05")?;
+    let front = b"0 1048576 {verbatim:xxx";
+    assert!(rt; prints_between(alloc, long.as_slice(), front, b"xxx}\n"));
+    let longer = around(alloc, b"\x02verbatim:", (b"x", 1_048_566), b"\x05")?;
+    assert!(rt;
+        prints(
+            alloc,
+            longer.as_slice(),
+            b"fault 3 TooLong 1048575\n",
+            false
+        )
+    );
+    Ok(())
+}
+
+// The fault of this reader, where nothing was written.
+fn reader_fault<R: Read>(alloc: Global, reader: &mut R) -> Option<RunFault> {
+    let mut out: Vec<u8> = Vec::new(alloc);
+    let answer = blocks(alloc, reader, &mut out);
+    if out.is_empty() { answer.err() } else { None }
+}
+
+// The fault of this writer.
+fn writer_fault<W: Write>(alloc: Global, writer: &mut W) -> Option<RunFault> {
+    let mut reader = b"\x02a:\x05".as_slice();
+    blocks(alloc, &mut reader, writer).err()
+}
+
+#[test]
+fn a_reader_or_a_writer_that_fails(rt: HostRuntime) -> Result<(), Fail> {
+    let alloc = rt.alloc();
+    let mut parts = Parts {
+        rest: b"\x02a:\x05".as_slice(),
+        fails: true,
+    };
+    assert!(rt; reader_fault(alloc, &mut parts) == Some(RunFault::Input));
+    let mut interrupted = InterruptedOnce {
+        rest: b"\x02a:\x05".as_slice(),
+        interrupted: false,
+    };
+    assert!(rt; reader_fault(alloc, &mut interrupted) == Some(RunFault::Input));
+    assert!(rt; writer_fault(alloc, &mut Full) == Some(RunFault::Output));
+    assert!(rt; writer_fault(alloc, &mut Unflushed) == Some(RunFault::Output));
+    Ok(())
+}
+
+#[test]
+fn the_longest_input_and_one_byte_more(rt: HostRuntime) -> Result<(), Fail> {
+    let alloc = rt.alloc();
+    let mut out: Vec<u8> = Vec::new(alloc);
+    let mut reader = Noise { left: 67_108_864 };
+    assert!(rt; blocks(alloc, &mut reader, &mut out) == Ok(true));
+    let mut reader = Noise { left: 67_108_865 };
+    assert!(rt; reader_fault(alloc, &mut reader) == Some(RunFault::InputTooLong));
+    assert!(rt; out.is_empty());
+    Ok(())
+}

@@ -1,0 +1,5 @@
+//! The tests of `journal`.
+#![tactic(auto)]
+
+#[cfg(test)]
+mod tests;

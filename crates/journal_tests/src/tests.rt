@@ -1,0 +1,7 @@
+//! What no clause says: the worked examples, byte by byte, and what happens where a disk or memory fails.
+mod batches;
+mod crashes;
+mod desk;
+mod memory;
+mod openings;
+mod records;

@@ -1,0 +1,141 @@
+//! Calls while no memory is left.
+ghost use Rattle.std.specs.Prelude.{◌≤◌};
+
+use super::desk::{Appended, SESSION, append, cause_of, created, empty, frame, has};
+use disk_model::{Area, Disk, DiskFault, MemoryDisk};
+use journal::{CreateCause, Frame, Journal, create};
+use std::alloc::Global;
+use std::test::Fail;
+use tests_desk::exhausted;
+
+// Why a disk isn't created while no memory is left.
+fn refused(alloc: Global, disk: MemoryDisk) -> Result<Option<CreateCause>, Fail> {
+    let _held = exhausted(alloc)?;
+    cause_of(disk)
+}
+
+// Appends a payload of nine bytes while no memory is left. Nine bytes fit then, and ten do where they
+// are to.
+fn appended<D: Disk>(
+    alloc: Global,
+    journal: Journal<D>,
+    frame: &Frame,
+    ten_fit: bool,
+) -> Result<Appended<D>, Fail> {
+    let _held = exhausted(alloc)?;
+    if !journal.fits(9) || journal.fits(10) != ten_fit {
+        return Err("it fits otherwise".into());
+    }
+    Ok(append(journal, frame))
+}
+
+#[test]
+fn without_memory_the_disk_fails_and_nothing_breaks(rt: HostRuntime) -> Result<(), Fail> {
+    let alloc = rt.alloc();
+    let cause = refused(alloc, MemoryDisk::new(alloc, 25))?;
+    assert_eq!(rt; cause, Some(CreateCause::Disk));
+    let frame = frame(alloc, &SESSION)?;
+    let journal = empty(alloc, created(alloc, 25)?)?;
+    let Appended::Failed(disk) = appended(alloc, journal, &frame, false)? else {
+        return Err("no fault".into());
+    };
+    let journal = empty(alloc, disk)?;
+    assert!(rt; matches!(append(journal, &frame), Appended::Done(_)));
+    Ok(())
+}
+
+// A disk of an array, whose calls take no memory. Nothing is claimed of its bytes.
+#[derive(Drop)]
+struct ArrayDisk {
+    first: [u8; 64],
+    len: usize,
+    faults: u64,
+    ghost fits: { len ≤ 64 },
+}
+
+impl Disk for ArrayDisk {
+    ghost use Rattle.disk_model.specs.Disk.{unclaimed};
+    ghost use Rattle.disk_model.specs.Calls.{started_with};
+    ghost use Rattle.std.specs.Prelude.{false, []};
+    ghost use Rattle.std.proofs.Common.{arith};
+
+    ghost view = { λ d. record {
+      room = 64;
+      faults = d.faults;
+      keeps_model = false;
+      history = started_with (record { first = []; second = [] });
+    } };
+
+    ghost small = { λ d. Prim.omega arith };
+
+    ghost content_stays = { λ d h. unclaimed h };
+
+    fn room(&self) -> u64 {
+        64
+    }
+
+    fn len(&mut self, area: Area) -> Result<u64, DiskFault> {
+        let _faults = self.faults;
+        match area {
+            Area::First => Ok(self.len as u64),
+            Area::Second => Ok(0),
+        }
+    }
+
+    fn read(&mut self, _area: Area, offset: u64, buffer: &mut [u8]) -> Result<(), DiskFault> {
+        let _faults = self.faults;
+        let at = offset as usize;
+        if at > 64 || buffer.len() > 64 - at {
+            self.faults = self.faults.saturating_add(1);
+            return Err(DiskFault);
+        }
+        buffer.copy_from_slice(&self.first[at..at + buffer.len()]);
+        Ok(())
+    }
+
+    fn write_at(&mut self, _area: Area, offset: u64, bytes: &[u8]) -> Result<(), DiskFault> {
+        let _faults = self.faults;
+        let at = offset as usize;
+        if at > 64 || bytes.len() > 64 - at {
+            self.faults = self.faults.saturating_add(1);
+            return Err(DiskFault);
+        }
+        let end = at + bytes.len();
+        self.first[at..end].copy_from_slice(bytes);
+        if self.len < end {
+            self.len = end;
+        }
+        Ok(())
+    }
+
+    fn sync(&mut self, _area: Area) -> Result<(), DiskFault> {
+        let _faults = self.faults;
+        Ok(())
+    }
+}
+
+// An empty disk that was made while no memory was left.
+fn created_without_memory(alloc: Global) -> Result<ArrayDisk, Fail> {
+    let disk = ArrayDisk {
+        first: [0; 64],
+        len: 0,
+        faults: 0,
+    };
+    let _held = exhausted(alloc)?;
+    match create(disk) {
+        Ok(disk) => Ok(disk),
+        Err(_) => Err("create".into()),
+    }
+}
+
+#[test]
+fn create_and_append_take_no_memory(rt: HostRuntime) -> Result<(), Fail> {
+    let alloc = rt.alloc();
+    let frame = frame(alloc, &SESSION)?;
+    let journal = empty(alloc, created_without_memory(alloc)?)?;
+    let Appended::Done(journal) = appended(alloc, journal, &frame, true)? else {
+        return Err("append".into());
+    };
+    assert!(rt; has(alloc, journal.into_disk(), &[(10, &SESSION)])?);
+    Ok(())
+}

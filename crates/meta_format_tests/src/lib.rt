@@ -1,0 +1,5 @@
+//! The tests of `meta_format`.
+#![tactic(auto)]
+
+#[cfg(test)]
+mod tests;

@@ -1,0 +1,5 @@
+//! The tests of `plugin_core`.
+#![tactic(auto)]
+
+#[cfg(test)]
+mod tests;

@@ -1,0 +1,6 @@
+//! What no clause says: worked examples, and refused memory.
+mod answers;
+mod desk;
+mod limits;
+mod memory;
+mod waiting;

@@ -1,0 +1,5 @@
+//! The tests of `recovery`.
+#![tactic(auto)]
+
+#[cfg(test)]
+mod tests;

@@ -1,0 +1,159 @@
+//! Ops, and stores on disks in memory.
+use block_tree::{Octets, OutOfMemory, Sequence};
+use disk_model::{Disk, MemoryDisk};
+use journal::create;
+use meta_format::read_block;
+use recovery::{CommitFault, PrepareFault, Store};
+use std::alloc::Global;
+use std::test::Fail;
+use worksheet::Op;
+
+/// Area First after the session, the field, the clearing and the answer of the worked example.
+pub const AREA: [u8; 76] = [
+    0x54, 0x4d, 0x57, 0x53, 0x48, 0x45, 0x45, 0x54, 0x01, 0x41, // header
+    0x52, 0x00, 0x00, 0x00, 0x09, 0x01, 0x01, 0x61, 0x00, 0x01, 0x00, 0x02, 0x73, 0x68, // session
+    0x52, 0x00, 0x00, 0x00, 0x0a, 0x02, 0x00, 0x00, 0x00, 0x00, 0x01, 0x61, 0x00, 0x01, 0x78, // new
+    0x52, 0x00, 0x00, 0x00, 0x05, 0x06, 0x00, 0x00, 0x00, 0x01, // clear
+    0x52, 0x00, 0x00, 0x00, 0x15, 0x07, 0x00, 0x00, 0x00, 0x01, 0x00, 0x02, 0x3e, 0x20, 0x02, 0x76,
+    0x65, 0x72, 0x62, 0x61, 0x74, 0x69, 0x6d, 0x3a, 0x41, 0x05, // answer
+    0x00,
+];
+
+pub fn octets(alloc: Global, bytes: &[u8]) -> Result<Octets, OutOfMemory> {
+    Octets::from_slice(alloc, bytes)
+}
+
+/// Session `a`, plain, with the word `sh`.
+pub fn session(alloc: Global) -> Result<Op, OutOfMemory> {
+    let mut words = Vec::new(alloc);
+    words.push(octets(alloc, b"sh")?)?;
+    Ok(Op::Session {
+        name: octets(alloc, b"a")?,
+        tab: false,
+        words: Sequence::from_vec(words),
+    })
+}
+
+/// A field of it with the input `x`.
+pub fn new(alloc: Global) -> Result<Op, OutOfMemory> {
+    Ok(Op::New {
+        after: 0,
+        session: octets(alloc, b"a")?,
+        input: octets(alloc, b"x")?,
+    })
+}
+
+/// The answer to field 1 with this output.
+pub fn answer(alloc: Global, output: &[u8]) -> Result<Op, Fail> {
+    let prompt = octets(alloc, b"> ")?;
+    match read_block(alloc, output) {
+        Ok(output) => Ok(Op::Answer {
+            id: 1,
+            prompt,
+            output,
+        }),
+        Err(_) => Err("no block".into()),
+    }
+}
+
+/// A disk in memory with an empty journal.
+pub fn empty_disk(alloc: Global, room: u64) -> Result<MemoryDisk, Fail> {
+    if room < 11 || room > 100 {
+        return Err("room".into());
+    }
+    match create(MemoryDisk::new(alloc, room)) {
+        Ok(disk) => Ok(disk),
+        Err(_) => Err("create".into()),
+    }
+}
+
+/// A disk in memory whose area First has these bytes.
+pub fn holding(alloc: Global, first: &[u8]) -> Result<MemoryDisk, Fail> {
+    if first.len() > 100 {
+        return Err("too long".into());
+    }
+    match MemoryDisk::holding(alloc, 100, first.to_vec(alloc)?) {
+        Ok(disk) => Ok(disk),
+        Err(_) => Err("holding".into()),
+    }
+}
+
+pub fn store_on<D: Disk>(alloc: Global, disk: D) -> Result<Store<D>, Fail> {
+    match Store::open(alloc, disk) {
+        Ok(store) => Ok(store),
+        Err(_) => Err("open".into()),
+    }
+}
+
+pub fn created(alloc: Global, room: u64) -> Result<Store<MemoryDisk>, Fail> {
+    store_on(alloc, empty_disk(alloc, room)?)
+}
+
+/// What came of an op.
+#[derive(Clone, Copy, Debug, PartialEq, Eq)]
+pub enum Outcome {
+    Done,
+    /// The worksheet doesn't allow it.
+    Refused,
+    Full,
+    OutOfMemory,
+    Disk,
+    Closed,
+}
+
+fn outcome_of(committed: &Result<(), CommitFault>) -> Outcome {
+    match committed {
+        Ok(()) => Outcome::Done,
+        Err(CommitFault::Full(_)) => Outcome::Full,
+        Err(CommitFault::OutOfMemory(_)) => Outcome::OutOfMemory,
+        Err(CommitFault::Disk) => Outcome::Disk,
+        Err(CommitFault::Closed) => Outcome::Closed,
+    }
+}
+
+/// Commits an op.
+pub fn put<D: Disk>(store: &mut Store<D>, op: Op) -> Outcome {
+    if store.sheet().check(&op).is_err() {
+        return Outcome::Refused;
+    }
+    outcome_of(&store.commit(op))
+}
+
+/// Prepares the record of an op.
+pub fn prepared<D: Disk>(store: &mut Store<D>, op: &Op) -> Outcome {
+    if store.sheet().check(op).is_err() {
+        return Outcome::Refused;
+    }
+    match store.prepare(op) {
+        Ok(_) => Outcome::Done,
+        Err(PrepareFault::Full) => Outcome::Full,
+        Err(PrepareFault::OutOfMemory) => Outcome::OutOfMemory,
+        Err(PrepareFault::Closed) => Outcome::Closed,
+    }
+}
+
+/// Whether the worksheet has session `a`.
+pub fn has_session<D: Disk>(store: &Store<D>) -> bool {
+    store.sheet().session(b"a").is_some()
+}
+
+// The ops of the worked example, in order.
+fn op(alloc: Global, number: usize) -> Result<Op, Fail> {
+    match number {
+        0 => Ok(session(alloc)?),
+        1 => Ok(new(alloc)?),
+        2 => Ok(Op::Clear { id: 1 }),
+        _ => answer(alloc, b"\x02verbatim:A\x05"),
+    }
+}
+
+/// A store with the first ops of the worked example.
+pub fn store_of(alloc: Global, room: u64, ops: usize) -> Result<Store<MemoryDisk>, Fail> {
+    let mut store = created(alloc, room)?;
+    for number in 0..ops {
+        if put(&mut store, op(alloc, number)?) != Outcome::Done {
+            return Err("not committed".into());
+        }
+    }
+    Ok(store)
+}

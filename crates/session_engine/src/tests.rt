@@ -1,6 +1,0 @@
-//! Worked examples, by their events: what is told, what is to be done with the children, and what the
-//! worksheet and the disk have then.
-mod desk;
-mod disks;
-mod fields;
-mod lives;

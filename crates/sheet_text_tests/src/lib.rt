@@ -1,0 +1,5 @@
+//! The tests of `sheet_text`.
+#![tactic(auto)]
+
+#[cfg(test)]
+mod tests;

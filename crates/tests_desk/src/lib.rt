@@ -1,0 +1,6 @@
+//! What the tests of several crates use.
+#![tactic(auto)]
+
+mod memory;
+
+pub use memory::exhausted;

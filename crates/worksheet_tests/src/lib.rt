@@ -1,0 +1,5 @@
+//! The tests of `worksheet`.
+#![tactic(auto)]
+
+#[cfg(test)]
+mod tests;
