@@ -1,7 +1,6 @@
-//! How `create`, `run` and `show` end, over disks in memory and over files.
-use child_edge::Scripted;
+//! How `create` and `show` end, over disks in memory and over files.
 use disk_model::{FuseDisk, FuseMode, MemoryDisk};
-use host_cli::{Ending, FileDisk, run_create, run_script, run_show};
+use host_cli::{Ending, FileDisk, run_create, run_show};
 use journal::{CreateCause, OpenCause};
 use std::alloc::Global;
 use std::io::Write;
@@ -151,80 +150,5 @@ fn show_leaves_the_files_as_they_were(rt: HostRuntime) -> Result<(), Fail> {
     assert_eq!(rt; fs::read(&rt, "shown/sheet")?.as_slice(), SHEET);
     assert!(rt; fs::read(&rt, "shown/sheet.alt")?.is_empty());
     fs::remove_dir_all(&rt, "shown")?;
-    Ok(())
-}
-
-// An empty worksheet.
-const EMPTY_SHEET: &[u8] = b"TMWSHEET\x01A\0";
-
-#[test]
-fn run_without_files_reads_no_script(rt: HostRuntime) -> Result<(), Fail> {
-    let alloc = rt.alloc();
-    let mut script = b"print\n".as_slice();
-    let mut output: Vec<u8> = Vec::new(alloc);
-    let mut errors: Vec<u8> = Vec::new(alloc);
-    let none: Result<MemoryDisk, OpenCause> = Err(OpenCause::Disk);
-    let mut children = Scripted::new(alloc, Vec::new(alloc));
-    let ended = run_script(
-        alloc,
-        &mut script,
-        &mut output,
-        &mut errors,
-        none,
-        &mut children,
-    );
-    assert_eq!(rt; ended, ending(1, true));
-    assert_eq!(rt; script, b"print\n".as_slice());
-    assert!(rt; output.is_empty());
-    assert_eq!(rt; errors.as_slice(), b"fault 32 Disk\n".as_slice());
-    Ok(())
-}
-
-// Whether `run` of this script over an empty worksheet ends so, and writes this.
-fn runs(alloc: Global, script: &[u8], end: Ending, out: &[u8], said: &[u8]) -> Result<bool, Fail> {
-    let mut script = script;
-    let mut output: Vec<u8> = Vec::new(alloc);
-    let mut errors: Vec<u8> = Vec::new(alloc);
-    let files: Result<MemoryDisk, OpenCause> = Ok(holding(alloc, EMPTY_SHEET)?);
-    let mut children = Scripted::new(alloc, Vec::new(alloc));
-    let ended = run_script(
-        alloc,
-        &mut script,
-        &mut output,
-        &mut errors,
-        files,
-        &mut children,
-    );
-    Ok(ended == end && output.as_slice() == out && errors.as_slice() == said)
-}
-
-#[test]
-fn run_does_a_script(rt: HostRuntime) -> Result<(), Fail> {
-    let alloc = rt.alloc();
-    let script = b"session a plain sh\nnew 0 a x\nfoo\nremove 2\nprint\n".as_slice();
-    let text = b"ok\nfield 1\nbad line 3\nrefused 2 NoField\n#1 a\n> x\n?\n".as_slice();
-    assert!(rt; runs(alloc, script, ending(0, true), text, b"".as_slice())?);
-    Ok(())
-}
-
-#[test]
-fn run_tells_damage(rt: HostRuntime) -> Result<(), Fail> {
-    let alloc = rt.alloc();
-    let mut script = b"print\n".as_slice();
-    let mut output: Vec<u8> = Vec::new(alloc);
-    let mut errors: Vec<u8> = Vec::new(alloc);
-    let files: Result<MemoryDisk, OpenCause> = Ok(holding(alloc, &SHEET[..48])?);
-    let mut children = Scripted::new(alloc, Vec::new(alloc));
-    let ended = run_script(
-        alloc,
-        &mut script,
-        &mut output,
-        &mut errors,
-        files,
-        &mut children,
-    );
-    assert_eq!(rt; ended, ending(1, true));
-    assert!(rt; output.is_empty());
-    assert_eq!(rt; errors.as_slice(), b"fault 30 Damaged 39\n".as_slice());
     Ok(())
 }
