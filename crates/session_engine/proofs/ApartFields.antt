@@ -101,6 +101,7 @@ same_field name f g i s t a false e own =
 -- the field of a line has been made, and is this session's
 abbrev pub HasOwner : List Op → List ℕ → Item → Type 0
 HasOwner os name (item.Line id text) = (id < next_of os) × ((field_of os id).session ≡ name)
+HasOwner os name (item.Complete id text cursor) = Unit {0}
 
 next_grows : (os : List Op) (o : Op) (id : ℕ) → id < next_of os → id < next_of (os ++ o ∷ [])
 next_grows os o id h = subst (λ (n : ℕ). id < n) (sym (next_from-push 1 os o)) (go o)
@@ -129,6 +130,7 @@ owner_still os o id h = ap (λ (f : Field). f.session) (field_of-push os o id) �
 
 pub owned_still : (os : List Op) (o : Op) (name : List ℕ) (i : Item) → HasOwner os name i → HasOwner (os ++ o ∷ []) name i
 owned_still os o name (item.Line id text) h = (next_grows os o id h.0, owner_still os o id h.0 ∙ h.1)
+owned_still os o name (item.Complete id text cursor) h = tt
 
 -- A field that there is, among these.
 pub found_owner : (os : List Op) (bound id : ℕ) (ids : List ℕ) → AllBelow bound ids → is_some (find (λ f. f.id == id) (map (field_of os) ids)) ≡ true

@@ -48,6 +48,7 @@ unseen n w (event.Child m number c) o v b k h g s =
     go : (z : World) → z.ops ≡ w.ops → (a : Option Answered) → AnswerOwned w.ops m a → Seen n (with_op_if (op_by a) z).ops b
     go z kept None mine = subst (λ (os : List Op). Seen n os b) (sym kept) s
     go z kept (Some (answered.Banner block)) mine = subst (λ (os : List Op). Seen n os b) (sym kept) s
+    go z kept (Some (answered.Complete id result)) mine = subst (λ (os : List Op). Seen n os b) (sym kept) s
     go z kept (Some (answered.Line id prompt output)) mine = subst (λ (os : List Op). Seen n (os ++ op.Answer id prompt output ∷ []) b) (sym kept) (seen_past n m w.ops b id prompt output mine apart s)
 
 -- what is told of is all that is seen

@@ -24,7 +24,7 @@ use Rattle.session_engine.specs.declared.outcome.Effect.{Effect}
 use Rattle.session_engine.specs.declared.outcome.Effect.TheVariants as effect
 use Rattle.session_engine.specs.declared.reply.Closed.{Closed}
 use Rattle.session_engine.specs.declared.reply.Reply.TheVariants as reply
-use Rattle.session_engine.specs.World.{World, Going, life_of, with_number, session_of_field, line_of_field}
+use Rattle.session_engine.specs.World.{World, Going, life_of, with_number, session_of_field, line_of_field, request_of_field}
 use Rattle.session_engine.specs.Does.{ends, replies, refused, told_of, told_with, sends_or_kills, kill_if, closed_told}
 use Rattle.session_engine.specs.inside.Given.{Commanded, Childed, Pieced, Ended_by, stops, outcome_of, GivesByParts}
 use Rattle.session_engine.specs.inside.Parts.{asks}
@@ -103,6 +103,7 @@ accepted_silent n w (command.Remove id) h = (refl, refl)
 accepted_silent n w (command.Move id place) h = (refl, refl)
 accepted_silent n w (command.Clear id) h = (refl, refl)
 accepted_silent n w (command.Eval id) h = ask_silent n (session_of_field w id) w (line_of_field w id) (life_of w (session_of_field w id)) h
+accepted_silent n w (command.Complete id cursor) h = ask_silent n (session_of_field w id) w (request_of_field w id cursor) (life_of w (session_of_field w id)) h
 accepted_silent n w (command.Stop m) h = stop_silent n m w (life_of w m) (λ l e. first_has m w.lives l e) h
 
 command_silent : (n : List ℕ) (w : World) (c : Command) (o : Outcome) (v : World) → concerns n w (event.Command c) ≡ false → GivesByParts w (event.Command c) o v → Silent n o

@@ -167,6 +167,7 @@ at_alike n w v z e a = subst (λ (y : World). AreAlike n w y) (sym e) a
 other_op : (n : List ℕ) (w z : World) (a : Option Answered) → AreAlike n w z → AreAlike n w (with_op_if (op_by a) z)
 other_op n w z None a = a
 other_op n w z (Some (answered.Banner b)) a = a
+other_op n w z (Some (answered.Complete id result)) a = a
 other_op n w z (Some (answered.Line id prompt output)) a = record { ops = a.ops ∙ sym (commanded-push z.ops (op.Answer id prompt output) ∙ append-nil (commanded z.ops)); lives = a.lives }
 
 other_on : (n : List ℕ) (w : World) (y : Going) (e : Option Ended) → bytes_eq y.name n ≡ false → AreAlike n w (goes_on y e w)

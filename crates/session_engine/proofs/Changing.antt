@@ -48,6 +48,7 @@ as_op w (command.Remove id) o e = let is : op.Remove id ≡ o = cc in subst (λ 
 as_op w (command.Move id place) o e = let is : op.Move id place ≡ o = cc in subst (λ (o : Op). IsOp w (command.Move id place) o) is (record { refusals_are = refl; does_is = refl; takes = refl })
 as_op w (command.Clear id) o e = let is : op.Clear id ≡ o = cc in subst (λ (o : Op). IsOp w (command.Clear id) o) is (record { refusals_are = refl; does_is = refl; takes = refl })
 as_op w (command.Eval id) o e = cc
+as_op w (command.Complete id cursor) o e = cc
 as_op w (command.Stop name) o e = cc
 
 pub first_behind : (rs qs : List (Refusal × Bool)) → first_of rs ≡ None → first_of (rs ++ qs) ≡ first_of qs
@@ -106,6 +107,7 @@ spared_here id (item.Line other text ∷ items) h = go (other == id) refl h (spa
         → AllByRecursion (SparesItem (op.Remove id)) (item.Line other text ∷ items)
     go true e h rest = cc
     go false e h rest = (grind (arith, nat_tests, e), rest h)
+spared_here id (item.Complete other text cursor ∷ items) h = (tt, spared_here id items h)
 
 spared_in : (id : ℕ) (ls : List Going) → waits_in ls id ≡ false → AllByRecursion (SparesLife (op.Remove id)) ls
 spared_in id [] h = tt
@@ -117,6 +119,7 @@ spared_in id (l ∷ ls) h = go (list_any (λ i. is_line_of id i) (waiting_in l))
 
 no_matter : (o : Op) → ((id : ℕ) → Spares id o) → (i : Item) → SparesItem o i
 no_matter o all (item.Line id text) = all id
+no_matter o all (item.Complete id text cursor) = tt
 
 pub spares : (w : World) (o : Op) → first_of (checks w o) ≡ None → AllByRecursion (SparesLife o) w.lives
 spares w (op.Session name tab words) h = all_lives (op.Session name tab words) w.lives (no_matter (op.Session name tab words) (λ id. tt))

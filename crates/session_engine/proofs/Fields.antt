@@ -62,6 +62,7 @@ items_still : (os : List Op) (o : Op) (items : List Item) → Allowed os → fir
     → AllByRecursion (HasField (sheet_of (os ++ o ∷ []))) items
 items_still os o [] allowed next s all = tt
 items_still os o (item.Line id text ∷ items) allowed next s all = (has_still os o id allowed next s.0 all.0, items_still os o items allowed next s.1 all.1)
+items_still os o (item.Complete id text cursor ∷ items) allowed next s all = (tt, items_still os o items allowed next s.1 all.1)
 
 pub fields_still : (os : List Op) (o : Op) (ls : List Going) → Allowed os → first_refusal (sheet_of os) o ≡ None → AllByRecursion (SparesLife o) ls → AllByRecursion (HaveFields (sheet_of os)) ls
     → AllByRecursion (HaveFields (sheet_of (os ++ o ∷ []))) ls
@@ -72,6 +73,7 @@ fields_still os o (l ∷ ls) allowed next s all = (items_still os o (waiting_in 
 spared_items : (id : ℕ) (prompt : List ℕ) (out : Tree) (items : List Item) → AllByRecursion (SparesItem (op.Answer id prompt out)) items
 spared_items id prompt out [] = tt
 spared_items id prompt out (item.Line other text ∷ items) = (tt, spared_items id prompt out items)
+spared_items id prompt out (item.Complete other text cursor ∷ items) = (tt, spared_items id prompt out items)
 
 pub spared : (id : ℕ) (prompt : List ℕ) (out : Tree) (ls : List Going) → AllByRecursion (SparesLife (op.Answer id prompt out)) ls
 spared id prompt out [] = tt
@@ -115,6 +117,7 @@ allowed_answer short sheet past before b all = go (answers_of past before) (item
         let f : has_field sheet id ≡ true = has (item.Line id text) refl in
         let k : nat_lt prompt_limit (length prompt) ≡ false = grind (arith, nat_tests, le) in
         rw (f, k) refl
+    line (Some (item.Complete id text cursor)) prompt le has = tt
 
     go : (answers : List Outer) (items : List Item) (prompt : List ℕ) → length prompt ≤ prompt_limit → AllByRecursion (HasField sheet) (unanswered answers items) → AllowedIf sheet (op_by (answer_behind answers items prompt b.block))
     go [] items prompt le all = tt

@@ -40,6 +40,7 @@ use Rattle.session_engine.proofs.FieldLaws.{HasInput, KeepsInput, input_stays}
 -- a line is the input of a field that there is
 abbrev pub HasLine : List Op → Item → Type 0
 HasLine os (item.Line id text) = HasInput os id text
+HasLine os (item.Complete id text cursor) = Unit {0}
 
 -- a life that goes on: its blocks are those of its stream, and each line that waits is its field's input
 pub record SoundLife (os : List Op) (l : Going) : Type 0 where
@@ -108,10 +109,12 @@ pieced os l piece blocks h reads =
 
 abbrev pub KeepsLine : Op → Item → Type 0
 KeepsLine o (item.Line id text) = KeepsInput id o
+KeepsLine o (item.Complete id text cursor) = Unit {0}
 
 line_stays : (os : List Op) (o : Op) → Allowed os → first_refusal (sheet_of os) o ≡ None → (items : List Item) → AllByRecursion (KeepsLine o) items → AllByRecursion (HasLine os) items → AllByRecursion (HasLine (os ++ o ∷ [])) items
 line_stays os o allowed next [] keeps all = tt
 line_stays os o allowed next (item.Line id text ∷ items) keeps all = (input_stays os o id text allowed next keeps.0 all.0, line_stays os o allowed next items keeps.1 all.1)
+line_stays os o allowed next (item.Complete id text cursor ∷ items) keeps all = (tt, line_stays os o allowed next items keeps.1 all.1)
 
 lives_stay : (os : List Op) (o : Op) → Allowed os → first_refusal (sheet_of os) o ≡ None → (ls : List Going) → AllByRecursion (λ l. AllByRecursion (KeepsLine o) (waiting_in l)) ls → AllByRecursion (SoundLife os) ls
     → AllByRecursion (SoundLife (os ++ o ∷ [])) ls
@@ -128,6 +131,7 @@ committed o w h next keeps = record { allowed = allowed_goes_on w.ops o h.allowe
 every_item : (o : Op) → ((id : ℕ) → KeepsInput id o) → (items : List Item) → AllByRecursion (KeepsLine o) items
 every_item o all [] = tt
 every_item o all (item.Line id text ∷ items) = (all id, every_item o all items)
+every_item o all (item.Complete id text cursor ∷ items) = (tt, every_item o all items)
 
 every_life : (o : Op) → ((id : ℕ) → KeepsInput id o) → (ls : List Going) → AllByRecursion (λ l. AllByRecursion (KeepsLine o) (waiting_in l)) ls
 every_life o all [] = tt
@@ -145,6 +149,7 @@ other_items id o all (item.Line other text ∷ items) h = go (other == id) refl 
         → AllByRecursion (KeepsLine o) (item.Line other text ∷ items)
     go true e h rest = cc
     go false e h rest = (all other (grind (arith, nat_tests, e)), rest h)
+other_items id o all (item.Complete other text cursor ∷ items) h = (tt, other_items id o all items h)
 
 other_lives : (id : ℕ) (o : Op) → ((other : ℕ) → (id == other) ≡ false → KeepsInput other o) → (ls : List Going) → waits_in ls id ≡ false → AllByRecursion (λ l. AllByRecursion (KeepsLine o) (waiting_in l)) ls
 other_lives id o all [] h = tt

@@ -110,6 +110,7 @@ module _ (store : StoreView) (rs : List Running) (begun : ℕ) (w : World) (name
       go : (a : Option Answered) → CommittedIf store w.ops (op_by a) new → AllowedIf (sheet_in w) (op_by a) → EngineStandsFor new (settled step.ended) begun (with_op_if (op_by a) (goes_on (with_piece f.life piece takes.after) step.ended w))
       go None done allowed = subst (λ (s : StoreView). EngineStandsFor s (settled step.ended) begun (goes_on (with_piece f.life piece takes.after) step.ended w)) (sym done) lives_stand
       go (Some (answered.Banner b)) done allowed = subst (λ (s : StoreView). EngineStandsFor s (settled step.ended) begun (goes_on (with_piece f.life piece takes.after) step.ended w)) (sym done) lives_stand
+      go (Some (answered.Complete id result)) done allowed = subst (λ (s : StoreView). EngineStandsFor s (settled step.ended) begun (goes_on (with_piece f.life piece takes.after) step.ended w)) (sym done) lives_stand
       go (Some (answered.Line id prompt out)) done allowed =
           let v = goes_on (with_piece f.life piece takes.after) step.ended w in
           let os = ops_of (with_piece f.life piece takes.after) step.ended w in

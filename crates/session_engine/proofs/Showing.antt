@@ -38,7 +38,7 @@ use Rattle.session_engine.specs.declared.event.Event.TheVariants as event
 use Rattle.session_engine.specs.declared.outcome.Outcome.{Outcome}
 use Rattle.session_engine.specs.Commands.{op_of}
 use Rattle.session_engine.specs.Host.{HasField, HaveFields}
-use Rattle.session_engine.specs.World.{World, Going, sheet_in, waiting_in, life_of, session_of_field, line_of_field, in_flight, with_number, with_op, with_op_if}
+use Rattle.session_engine.specs.World.{World, Going, sheet_in, waiting_in, life_of, session_of_field, line_of_field, in_flight, with_number, with_op, with_op_if, request_of_field}
 use Rattle.session_engine.specs.inside.Parts.{with_life, without_life, with_item, goes_on, checks, op_refusals, eval_refusals}
 use Rattle.session_engine.specs.Does.{op_by, with_piece}
 use Rattle.session_engine.specs.Refused.{full, command_refusals}
@@ -112,6 +112,7 @@ module _ (os : List Op) (past : List LifeEvent) (before after : List Outer) (pie
         out_is = cc;
         waits = first_dropped (HasLine os) (length ys) (items_of past) (item.Line id text) here (subst (λ (l : List Outer). AllByRecursion (HasLine os) (unanswered l (items_of past))) e all);
       }
+  by_item a ys b (Some (item.Complete other text cursor)) e f g h = cc
 
   by_answers : (ys : List Outer) (b : Outer) → answers_of past before ≡ ys → slice_get (answers_of (past ++ received piece ∷ []) after) (length ys) ≡ Some b
       → answer_behind ys (items_of past) (prompt_of past before) b.block ≡ Some (answered.Line id prompt out) → IsClosing os past before after piece id prompt out
@@ -129,6 +130,7 @@ module _ (os : List Op) (past : List LifeEvent) (before after : List Outer) (pie
 has_fields : (os : List Op) (items : List Item) → AllByRecursion (HasLine os) items → AllByRecursion (HasField (sheet_of os)) items
 has_fields os [] all = tt
 has_fields os (item.Line id text ∷ items) all = (ap (λ (f : Option Field). is_some f) all.0.found, has_fields os items all.1)
+has_fields os (item.Complete id text cursor ∷ items) all = (tt, has_fields os items all.1)
 
 pub answer_allowed : (w : World) (l : Going) (piece : List ℕ) (after : List Outer) (fault : Option Kind) → SoundLife w.ops l → AllowedIf (sheet_in w) (op_by (step_of l.past l.blocks piece after fault).answered)
 answer_allowed w l piece after fault h = go (closed_in l.past l.blocks (received piece) after)
@@ -180,6 +182,7 @@ module _ (w : World) (name : List ℕ) (number : ℕ) (l : Going) (piece : List 
   with_answer : (u : World) → u.ops ≡ w.ops → Sound u → (x : Option Answered) → (step_of l.past l.blocks piece blocks fault).answered ≡ x → Stepped w (event.Child name number (child.Piece piece)) (with_op_if (op_by x) u)
   with_answer u e sound None a = record { sound = sound; shown = λ f answer some has. inl (subst (λ (os : List Op). Has (sheet_of os) f) e has) }
   with_answer u e sound (Some (answered.Banner b)) a = record { sound = sound; shown = λ f answer some has. inl (subst (λ (os : List Op). Has (sheet_of os) f) e has) }
+  with_answer u e sound (Some (answered.Complete id result)) a = record { sound = sound; shown = λ f answer some has. inl (subst (λ (os : List Op). Has (sheet_of os) f) e has) }
   with_answer u e sound (Some (answered.Line id prompt out)) a =
       let o : Op = op.Answer id prompt out in
       let next : first_refusal (sheet_in w) o ≡ None = subst (λ (x : Option Answered). AllowedIf (sheet_in w) (op_by x)) a (answer_allowed w l piece blocks fault life) in
@@ -209,6 +212,7 @@ no_answer (command.Remove other) o e id prompt out is = let no : Some (op.Remove
 no_answer (command.Move other place) o e id prompt out is = let no : Some (op.Move other place) ≡ Some (op.Answer id prompt out) = e ∙ ap (λ (p : Op). Some p) is in cc
 no_answer (command.Clear other) o e id prompt out is = let no : Some (op.Clear other) ≡ Some (op.Answer id prompt out) = e ∙ ap (λ (p : Op). Some p) is in cc
 no_answer (command.Eval other) o e id prompt out is = cc
+no_answer (command.Complete other cursor) o e id prompt out is = cc
 no_answer (command.Stop name) o e id prompt out is = cc
 
 as_done : (w : World) (c : Command) (o : Op) → op_of c ≡ Some o → Sound w → first_of (command_refusals w c) ≡ None → Stepped w (event.Command c) (after w c)
@@ -258,6 +262,15 @@ as_evaluated w id h first =
           (by_op w.ops f a h.allowed some o next (subst (λ (os : List Op). Has (sheet_of (os ++ o ∷ [])) f) same shows));
     }
 
+as_completed : (w : World) (id cursor : ℕ) → Sound w → Stepped w (event.Command (command.Complete id cursor)) (after w (command.Complete id cursor))
+as_completed w id cursor h =
+    let name = session_of_field w id in
+    let i = request_of_field w id cursor in
+    record {
+      sound = asked w name i (life_of w name) refl h tt;
+      shown = λ f a some shows. inl (subst (λ (os : List Op). Has (sheet_of os) f) (ops_item w name i (life_of w name)) shows);
+    }
+
 accepted : (w : World) (c : Command) → Sound w → first_of (command_refusals w c) ≡ None → Stepped w (event.Command c) (after w c)
 accepted w (command.Session name tab words) h first = as_done w (command.Session name tab words) (op.Session name tab words) refl h first
 accepted w (command.New place session input) h first = as_done w (command.New place session input) (op.New place session input) refl h first
@@ -266,6 +279,7 @@ accepted w (command.Remove id) h first = as_done w (command.Remove id) (op.Remov
 accepted w (command.Move id place) h first = as_done w (command.Move id place) (op.Move id place) refl h first
 accepted w (command.Clear id) h first = as_done w (command.Clear id) (op.Clear id) refl h first
 accepted w (command.Eval id) h first = as_evaluated w id h first
+accepted w (command.Complete id cursor) h first = as_completed w id cursor h
 accepted w (command.Stop name) h first = record { sound = gone name w h; shown = λ f a some has. inl has }
 
 -- Events of children.
