@@ -1,5 +1,5 @@
 -- One command in two worlds that are alike for a session.
-use Rattle.std.proofs.Common.{◌≡◌, ◌⊎◌, ⊎_elim, ◌+◌, ℕ, List, [], ◌∷◌, ◌++◌, length, drop, refl, ap, sym, ◌∙◌, subst, Bool, true, false, Option, Some, None}
+use Rattle.std.proofs.Common.{◌≡◌, ⊎_elim, ◌+◌, ℕ, List, [], ◌∷◌, ◌++◌, length, drop, refl, ap, sym, ◌∙◌, subst, Bool, true, false, Option, Some, None}
 use Rattle.std.specs.Prelude.{if◌then◌else◌}
 use Rattle.std.specs.Str.{bytes_eq}
 use Rattle.std.proofs.lemmas.List.{append-nil}
@@ -12,22 +12,19 @@ use Rattle.worksheet.specs.Checks.{first_of, session_named}
 use Rattle.worksheet.specs.Ops.{sessions_of, next_of}
 use Rattle.plugin_core.specs.declared.item.Item.{Item}
 use Rattle.plugin_core.specs.declared.item.Item.TheVariants as item
-use Rattle.plugin_core.specs.declared.step.Reason.TheVariants as reason
 use Rattle.session_engine.specs.declared.command.Command.{Command}
 use Rattle.session_engine.specs.declared.command.Command.TheVariants as command
 use Rattle.session_engine.specs.declared.event.Event.{Event}
 use Rattle.session_engine.specs.declared.event.Event.TheVariants as event
 use Rattle.session_engine.specs.declared.outcome.Outcome.{Outcome}
-use Rattle.session_engine.specs.declared.outcome.Effect.{Effect}
 use Rattle.session_engine.specs.declared.outcome.Effect.TheVariants as effect
-use Rattle.session_engine.specs.declared.reply.Reply.{Reply}
 use Rattle.session_engine.specs.declared.reply.Reply.TheVariants as reply
 use Rattle.session_engine.specs.Named.{first_named, without_named, replace_named}
-use Rattle.session_engine.specs.World.{World, Going, life_of, with_op, session_of_field, line_of_field, sheet_in, request_of_field}
-use Rattle.session_engine.specs.Does.{ends, replies, refused, joined_by, begun_with, starting_words}
+use Rattle.session_engine.specs.World.{World, Going, life_of, with_op, session_of_field, line_of_field, request_of_field}
+use Rattle.session_engine.specs.Does.{replies, refused, joined_by, begun_with, starting_words}
 use Rattle.session_engine.specs.inside.Given.{Commanded, stops, outcome_of, after, GivesByParts}
-use Rattle.session_engine.specs.inside.Parts.{with_life, without_life, with_item, asks}
-use Rattle.session_engine.specs.Refused.{command_refusals, command_takes_memory}
+use Rattle.session_engine.specs.inside.Parts.{without_life, with_item, asks}
+use Rattle.session_engine.specs.Refused.{command_refusals}
 use Rattle.session_engine.specs.Apart.{AreAlike, named, commanded, concerns, begins, number_if, is_refusal, added}
 use Rattle.session_engine.proofs.ApartLives.{same_name, is_itself, replaced_other, without_other, named-push, first_has}
 use Rattle.session_engine.proofs.ApartOps.{next_alike, sessions_alike, session_of_alike, input_of_alike}

@@ -1,30 +1,27 @@
 -- Lines that wait are those of their own session's fields.
-use Rattle.std.proofs.Common.{◌≡◌, ◌⊎◌, ⊎_elim, inl, inr, ◌<◌, ◌+◌, ℕ, zero, suc, List, [], ◌∷◌, ◌++◌, length, drop, map, refl, ap, sym, ◌∙◌, subst, Bool, true, false, Option, Some, None}
-use Rattle.std.specs.Prelude.{if◌then◌else◌, ◌==◌, not, slice_get, option_map, option_and_then, is_some}
+use Rattle.std.proofs.Common.{◌≡◌, ⊎_elim, ◌<◌, ℕ, zero, suc, List, [], ◌∷◌, ◌++◌, length, refl, ap, sym, ◌∙◌, subst, Bool, true, false, Option, Some, None}
+use Rattle.std.specs.Prelude.{if◌then◌else◌, ◌==◌, not, slice_get, option_map, option_and_then}
 use Rattle.std.specs.Str.{bytes_eq}
 use Rattle.std.specs.List.{AllByRecursion}
 use Rattle.std.proofs.lemmas.List.{append-nil}
-use Rattle.block_tree.specs.Tree.{Tree}
 use Rattle.block_tree.specs.Output.{output}
 use Rattle.meta_format.specs.Stream.{Outer}
 use Rattle.meta_format.specs.Faults.{Kind}
 use Rattle.worksheet.specs.declared.op.Op.{Op}
 use Rattle.worksheet.specs.declared.op.Op.TheVariants as op
 use Rattle.worksheet.specs.declared.refusal.Refusal.{Refusal}
-use Rattle.worksheet.specs.Ops.{next_of, order_of, field_of, sheet_of}
+use Rattle.worksheet.specs.Ops.{next_of, order_of, field_of}
 use Rattle.worksheet.specs.Edits.{AllBelow}
-use Rattle.worksheet.specs.Checks.{first_of, has_field, Allowed}
+use Rattle.worksheet.specs.Checks.{first_of, has_field}
 use Rattle.worksheet.proofs.Finds.{true_from_not}
 use Rattle.worksheet.proofs.NextLaws.{sound_of}
 use Rattle.plugin_core.specs.declared.item.Item.{Item}
 use Rattle.plugin_core.specs.declared.item.Item.TheVariants as item
 use Rattle.plugin_core.specs.declared.step.Step.{Step}
 use Rattle.plugin_core.specs.declared.step.Ended.{Ended}
-use Rattle.plugin_core.specs.declared.step.Reason.{Reason}
-use Rattle.plugin_core.specs.declared.step.Reason.TheVariants as reason
 use Rattle.plugin_core.specs.declared.step.Answered.{Answered}
 use Rattle.plugin_core.specs.declared.step.Answered.TheVariants as answered
-use Rattle.plugin_core.specs.Past.{accepted, received, items_of}
+use Rattle.plugin_core.specs.Past.{received, items_of}
 use Rattle.plugin_core.specs.Answers.{answers_of}
 use Rattle.plugin_core.specs.Items.{answer_behind, answer_to, prompt_of}
 use Rattle.plugin_core.specs.Steps.{answered_with, step_of}
@@ -34,13 +31,12 @@ use Rattle.session_engine.specs.declared.command.Command.{Command}
 use Rattle.session_engine.specs.declared.command.Command.TheVariants as command
 use Rattle.session_engine.specs.declared.event.ChildEvent.{ChildEvent}
 use Rattle.session_engine.specs.declared.event.ChildEvent.TheVariants as child
-use Rattle.session_engine.specs.declared.event.Event.{Event}
 use Rattle.session_engine.specs.declared.event.Event.TheVariants as event
 use Rattle.session_engine.specs.declared.outcome.Outcome.{Outcome}
-use Rattle.session_engine.specs.Named.{first_named, without_named, replace_named}
+use Rattle.session_engine.specs.Named.{without_named, replace_named}
 use Rattle.session_engine.specs.World.{World, Going, life_of, with_number, with_op, with_op_if, session_of_field, line_of_field, sheet_in, request_of_field}
 use Rattle.session_engine.specs.Does.{with_piece, op_by, joined_by, begun_with}
-use Rattle.session_engine.specs.inside.Given.{Commanded, Childed, Pieced, Ended_by, after, GivesByParts}
+use Rattle.session_engine.specs.inside.Given.{Commanded, Childed, after, GivesByParts}
 use Rattle.session_engine.specs.inside.Parts.{with_life, without_life, with_item, goes_on}
 use Rattle.session_engine.specs.Refused.{command_refusals}
 use Rattle.session_engine.specs.Apart.{IsOpened}

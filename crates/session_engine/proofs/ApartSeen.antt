@@ -20,7 +20,7 @@ use Rattle.session_engine.proofs.ByParts.{by_parts}
 use Rattle.session_engine.proofs.ApartLives.{same_name, is_itself}
 use Rattle.session_engine.proofs.ApartOps.{drop_length, order_alike, next_alike, sessions_alike, session_alike, input_alike}
 use Rattle.session_engine.proofs.ApartFields.{Seen, seen_itself, seen_back, seen_on, seen_more, seen_past, same_field}
-use Rattle.session_engine.proofs.ApartOwners.{Owned, Grown, OfChild, AnswerOwned, opened_owned, command_grows, child_grows, child_grown}
+use Rattle.session_engine.proofs.ApartOwners.{Owned, Grown, AnswerOwned, opened_owned, command_grows, child_grows, child_grown}
 use Rattle.session_engine.proofs.ApartRuns.{sessions_are_apart}
 
 -- all ops that are told of

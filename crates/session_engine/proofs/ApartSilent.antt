@@ -1,8 +1,7 @@
 -- What others' events tell.
-use Rattle.std.proofs.Common.{◌≡◌, ◌⊎◌, ⊎_elim, ℕ, List, refl, ap, sym, ◌∙◌, subst, Bool, true, false, Option, Some, None}
+use Rattle.std.proofs.Common.{◌≡◌, ⊎_elim, ℕ, List, refl, ap, sym, ◌∙◌, subst, Bool, true, false, Option, Some, None}
 use Rattle.std.specs.Prelude.{if◌then◌else◌, ◌==◌, option_map}
 use Rattle.std.specs.Str.{bytes_eq}
-use Rattle.meta_format.specs.Stream.{Outer}
 use Rattle.worksheet.specs.declared.refusal.Refusal.{Refusal}
 use Rattle.worksheet.specs.Checks.{first_of}
 use Rattle.plugin_core.specs.declared.item.Item.{Item}
@@ -17,16 +16,14 @@ use Rattle.session_engine.specs.declared.command.Command.{Command}
 use Rattle.session_engine.specs.declared.command.Command.TheVariants as command
 use Rattle.session_engine.specs.declared.event.ChildEvent.{ChildEvent}
 use Rattle.session_engine.specs.declared.event.ChildEvent.TheVariants as child
-use Rattle.session_engine.specs.declared.event.Event.{Event}
 use Rattle.session_engine.specs.declared.event.Event.TheVariants as event
 use Rattle.session_engine.specs.declared.outcome.Outcome.{Outcome}
-use Rattle.session_engine.specs.declared.outcome.Effect.{Effect}
 use Rattle.session_engine.specs.declared.outcome.Effect.TheVariants as effect
 use Rattle.session_engine.specs.declared.reply.Closed.{Closed}
 use Rattle.session_engine.specs.declared.reply.Reply.TheVariants as reply
 use Rattle.session_engine.specs.World.{World, Going, life_of, with_number, session_of_field, line_of_field, request_of_field}
-use Rattle.session_engine.specs.Does.{ends, replies, refused, told_of, told_with, sends_or_kills, kill_if, closed_told}
-use Rattle.session_engine.specs.inside.Given.{Commanded, Childed, Pieced, Ended_by, stops, outcome_of, GivesByParts}
+use Rattle.session_engine.specs.Does.{ends, replies, refused, told_of, told_with, sends_or_kills, closed_told}
+use Rattle.session_engine.specs.inside.Given.{Commanded, Childed, stops, outcome_of, GivesByParts}
 use Rattle.session_engine.specs.inside.Parts.{asks}
 use Rattle.session_engine.specs.Refused.{command_refusals}
 use Rattle.session_engine.specs.Apart.{OthersAreSilent, concerns, is_told, is_on}

@@ -1,5 +1,5 @@
 -- Lemmas on an Eval.
-use Rattle.std.proofs.Common.{◌≡◌, ◌≤◌, ◌⊎◌, inl, inr, ⊎_elim, ◌+◌, ℕ, List, [], ◌∷◌, ◌++◌, length, refl, ap, sym, ◌∙◌, subst, arith, Bool, true, false, Option, Some, None}
+use Rattle.std.proofs.Common.{◌≡◌, inl, inr, ⊎_elim, ◌+◌, ℕ, List, [], ◌∷◌, ◌++◌, length, refl, ap, sym, ◌∙◌, subst, arith, Bool, true, false, Option, Some, None}
 use Rattle.std.specs.Prelude.{nat_le, nat_eq, is_some, ◌&&◌, not, if◌then◌else◌}
 use Rattle.std.proofs.lemmas.Bool.Decides.{nat_tests}
 use Rattle.worksheet.specs.declared.op.Op.{Op}
@@ -18,7 +18,7 @@ use Rattle.plugin_core.specs.declared.item.Item.TheVariants as item
 use Rattle.session_engine.specs.Limits.{most_lives}
 use Rattle.session_engine.specs.declared.table.Running.{Running}
 use Rattle.session_engine.specs.inside.Tables.{Joined, Begun, with_life}
-use Rattle.session_engine.specs.Host.{RunsAs, Lives, HasField, HaveFields, EngineStandsFor}
+use Rattle.session_engine.specs.Host.{Lives, HasField, HaveFields, EngineStandsFor}
 use Rattle.session_engine.proofs.Tables.{found, not_found, pushed, numbers_are}
 use Rattle.session_engine.proofs.Standing.{all_at, put}
 use Rattle.session_engine.specs.World.{World, Going, life_of, session_of_field, sheet_in, waiting_in, fits, fits_in}
@@ -44,10 +44,9 @@ use Rattle.session_engine.specs.Host.{name_of, number_in}
 use Rattle.session_engine.proofs.Tables.{numbers_stay}
 use Rattle.session_engine.specs.World.{by_field, in_flight, line_of_field, with_op, with_op_if}
 use Rattle.session_engine.specs.Refused.{command_refusals}
-use Rattle.session_engine.specs.Does.{refused}
 use Rattle.session_engine.specs.inside.Commits.{RefusesEval, SparesItem, SparesLife, told_asked, begun_with_words}
 use Rattle.session_engine.specs.Does.{does, asks_item, tells, behind, CommandDoes, MayDo}
-use Rattle.session_engine.specs.Faults.{CauseOf, Failed, MayGive}
+use Rattle.session_engine.specs.Faults.{CauseOf, Failed}
 use Rattle.session_engine.specs.Host.{HostView, OnDisk}
 use Rattle.session_engine.specs.declared.reply.Reply.TheVariants as reply
 use Rattle.session_engine.proofs.Changing.{first_behind, first_before}

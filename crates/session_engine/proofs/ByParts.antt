@@ -1,7 +1,6 @@
 -- What events give, by rows and by parts.
-use Rattle.std.proofs.Common.{◌≡◌, ◌⊎◌, inl, inr, ⊎_elim, ◌∙◌, ap, sym, subst, ℕ, List, [], ◌∷◌, ◌++◌, Option, Some, None, refl, Bool, true, false}
+use Rattle.std.proofs.Common.{◌≡◌, inl, inr, ⊎_elim, ◌∙◌, ap, sym, subst, ℕ, List, Option, Some, None, refl, Bool, true, false}
 use Rattle.meta_format.specs.Stream.{Outer}
-use Rattle.meta_format.specs.Faults.{Kind}
 use Rattle.worksheet.specs.declared.op.Op.{Op}
 use Rattle.worksheet.specs.declared.op.Op.TheVariants as op
 use Rattle.worksheet.specs.declared.refusal.Refusal.{Refusal}
@@ -11,8 +10,7 @@ use Rattle.plugin_core.specs.declared.step.Ended.{Ended}
 use Rattle.plugin_core.specs.declared.step.Step.{Step}
 use Rattle.plugin_core.specs.declared.step.Reason.{Reason}
 use Rattle.plugin_core.specs.declared.step.Reason.TheVariants as reason
-use Rattle.plugin_core.specs.Past.{received, stream_of}
-use Rattle.plugin_core.specs.Steps.{Reads, step_of}
+use Rattle.plugin_core.specs.Steps.{step_of}
 use Rattle.session_engine.specs.declared.command.Command.{Command}
 use Rattle.session_engine.specs.declared.command.Command.TheVariants as command
 use Rattle.session_engine.specs.declared.event.ChildEvent.{ChildEvent}
@@ -20,13 +18,12 @@ use Rattle.session_engine.specs.declared.event.ChildEvent.TheVariants as child
 use Rattle.session_engine.specs.declared.event.Event.{Event}
 use Rattle.session_engine.specs.declared.event.Event.TheVariants as event
 use Rattle.session_engine.specs.declared.outcome.Outcome.{Outcome}
-use Rattle.session_engine.specs.declared.reply.Reply.{Reply}
 use Rattle.session_engine.specs.declared.reply.Reply.TheVariants as reply
 use Rattle.session_engine.specs.World.{World, Going, life_of, with_number, with_op, with_op_if, session_of_field, line_of_field, request_of_field}
-use Rattle.session_engine.specs.Refused.{command_refusals, command_takes_memory}
-use Rattle.session_engine.specs.Does.{Does, does, behind, ends_life, steps, tells, told_of, op_by, with_piece, CommandDoes, ChildDoes, MayDo, Gives}
-use Rattle.session_engine.specs.inside.Parts.{asks, with_item, without_life, goes_on}
-use Rattle.session_engine.specs.inside.Given.{stops, outcome_of, after, Commanded, Pieced, IsPieced, Ignored, Ended_by, Childed, GivesByParts}
+use Rattle.session_engine.specs.Refused.{command_refusals}
+use Rattle.session_engine.specs.Does.{Does, does, behind, ends_life, steps, tells, op_by, with_piece, CommandDoes, ChildDoes, MayDo, Gives}
+use Rattle.session_engine.specs.inside.Parts.{without_life, goes_on}
+use Rattle.session_engine.specs.inside.Given.{stops, outcome_of, after, Commanded, Ended_by, Childed, GivesByParts}
 use Rattle.session_engine.specs.Commands.{op_of}
 use Rattle.session_engine.proofs.Changing.{as_op}
 use Rattle.session_engine.proofs.Asking.{asked_told, asked_leads}

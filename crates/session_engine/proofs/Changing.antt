@@ -1,5 +1,5 @@
 -- What an op of a command gives, against the definitions.
-use Rattle.std.proofs.Common.{◌≡◌, ◌⊎◌, inl, inr, ⊎_elim, ◌+◌, ℕ, List, [], ◌∷◌, ◌++◌, length, refl, ap, sym, ◌∙◌, subst, arith, Bool, true, false, Option, Some, None, Result, Ok, Err}
+use Rattle.std.proofs.Common.{◌≡◌, inl, inr, ℕ, List, [], ◌∷◌, ◌++◌, refl, ap, sym, ◌∙◌, subst, arith, Bool, true, false, Option, Some, None, Result, Ok, Err}
 use Rattle.std.specs.Prelude.{if◌then◌else◌, ◌==◌, ◌||◌, not, OnErr, IfErr}
 use Rattle.std.specs.List.{AllByRecursion, list_any}
 use Rattle.std.proofs.lemmas.Bool.Decides.{nat_tests}
@@ -10,7 +10,6 @@ use Rattle.worksheet.specs.declared.refusal.Refusal.{Refusal}
 use Rattle.worksheet.specs.declared.refusal.Refusal.TheVariants as refusal
 use Rattle.worksheet.specs.Checks.{first_of, first_refusal}
 use Rattle.worksheet.specs.Checks.{refusals as sheet_refusals}
-use Rattle.recovery.specs.Sheets.{StoreView, IsSheetImage}
 use Rattle.plugin_core.specs.declared.item.Item.{Item}
 use Rattle.plugin_core.specs.declared.item.Item.TheVariants as item
 use Rattle.plugin_core.specs.Items.{is_line_of}
@@ -24,13 +23,11 @@ use Rattle.session_engine.specs.declared.outcome.HostFault.TheVariants as faults
 use Rattle.session_engine.specs.declared.reply.Reply.TheVariants as reply
 use Rattle.session_engine.specs.declared.table.Running.{Running}
 use Rattle.session_engine.proofs.Tables.{numbers_are}
-use Rattle.session_engine.specs.World.{World, Going, waiting_in, waits_in, in_flight, sheet_in, fits, fits_in, with_op}
+use Rattle.session_engine.specs.World.{World, Going, waiting_in, waits_in, in_flight, sheet_in, fits}
 use Rattle.session_engine.specs.inside.Parts.{second, checks, op_refusals}
 use Rattle.session_engine.specs.Refused.{full, command_refusals, command_takes_memory}
-use Rattle.session_engine.specs.Commands.{reply_to}
-use Rattle.session_engine.specs.Does.{replies, refused}
-use Rattle.session_engine.specs.Does.{Does, changes, does, tells, CommandDoes, MayDo}
-use Rattle.session_engine.specs.Faults.{MayGive, CauseOf, Failed}
+use Rattle.session_engine.specs.Does.{changes, does, tells, CommandDoes, MayDo}
+use Rattle.session_engine.specs.Faults.{CauseOf, Failed}
 use Rattle.session_engine.specs.Host.{HostView, EngineStandsFor, OnDisk, number_in}
 use Rattle.session_engine.specs.inside.Commits.{Spares, SparesItem, SparesLife}
 

@@ -1,20 +1,19 @@
 -- Lemmas on a Complete.
-use Rattle.std.proofs.Common.{◌≡◌, ◌≤◌, ◌<◌, ◌⊎◌, inl, inr, ⊎_elim, ◌+◌, ℕ, zero, suc, List, [], ◌∷◌, length, refl, ap, sym, ◌∙◌, subst, arith, Bool, true, false, Option, Some, None}
-use Rattle.std.specs.Prelude.{nat_le, nat_lt, is_some, ◌&&◌, not, if◌then◌else◌, drop, slice_index}
+use Rattle.std.proofs.Common.{◌≡◌, ◌≤◌, ◌<◌, inl, inr, ⊎_elim, ℕ, zero, suc, List, [], ◌∷◌, length, refl, ap, sym, ◌∙◌, subst, arith, Bool, true, false, Option, Some, None}
+use Rattle.std.specs.Prelude.{nat_le, nat_lt, is_some, ◌&&◌, not, drop, slice_index}
 use Rattle.std.proofs.lemmas.Bool.Decides.{nat_tests}
 use Rattle.std.specs.Str.{IsCharBoundary}
 use Rattle.worksheet.specs.declared.refusal.Refusal.{Refusal}
 use Rattle.worksheet.specs.declared.refusal.Refusal.TheVariants as refusal
 use Rattle.worksheet.specs.declared.field.Field.{Field}
-use Rattle.worksheet.specs.Checks.{first_of, field_in, has_field, session_named}
+use Rattle.worksheet.specs.Checks.{first_of, field_in, session_named}
 use Rattle.worksheet.proofs.Finds.{none_applies}
 use Rattle.plugin_core.specs.declared.item.Item.{Item}
 use Rattle.plugin_core.specs.declared.item.Item.TheVariants as item
 use Rattle.session_engine.specs.declared.command.Command.TheVariants as command
 use Rattle.session_engine.specs.declared.event.Event.TheVariants as event
-use Rattle.session_engine.specs.declared.outcome.Outcome.{Outcome}
 use Rattle.session_engine.specs.declared.reply.Reply.TheVariants as reply
-use Rattle.session_engine.specs.World.{World, Going, by_field, sheet_in, life_of, session_of_field, input_of, request_of_field}
+use Rattle.session_engine.specs.World.{World, by_field, sheet_in, life_of, session_of_field, input_of, request_of_field}
 use Rattle.session_engine.specs.Refused.{command_refusals, takes_tab, begins_inside, is_cursor, lives_are_spent}
 use Rattle.session_engine.specs.Does.{does, tells, behind, CommandDoes, MayDo}
 use Rattle.session_engine.specs.inside.Parts.{queue_refusals, asks, with_item}

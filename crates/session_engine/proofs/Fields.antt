@@ -1,6 +1,6 @@
 -- Fields that are there after one op more.
 use Rattle.std.proofs.Common.{◌≡◌, ◌≤◌, ◌+◌, ℕ, zero, suc, List, [], ◌∷◌, ◌++◌, length, length-append, drop, refl, ap, sym, ◌∙◌, subst, arith, Bool, true, false, Option, Some, None}
-use Rattle.std.specs.Prelude.{if◌then◌else◌, ◌==◌, is_some, not, nat_lt, slice_get, option_to_list, option_map, option_and_then}
+use Rattle.std.specs.Prelude.{if◌then◌else◌, is_some, nat_lt, slice_get, option_to_list, option_map, option_and_then}
 use Rattle.std.specs.List.{AllByRecursion}
 use Rattle.std.proofs.lemmas.Bool.Decides.{nat_tests}
 use Rattle.std.proofs.lemmas.List.{append-nil, drop-drop}
@@ -24,10 +24,10 @@ use Rattle.plugin_core.specs.Kept.{InterpreterView, Takes}
 use Rattle.plugin_core.specs.Items.{unanswered, waiting_of, prompt_of, answer_behind, answer_to}
 use Rattle.plugin_core.specs.Steps.{answered_with}
 use Rattle.plugin_core.specs.Steps.{closed_by as closed_in}
-use Rattle.plugin_core.proofs.Pasts.{items_of-received, items_of-accepted}
+use Rattle.plugin_core.proofs.Pasts.{items_of-received}
 use Rattle.plugin_core.specs.declared.item.Item.{Item}
 use Rattle.plugin_core.specs.declared.item.Item.TheVariants as item
-use Rattle.session_engine.specs.World.{World, Going, waiting_in, sheet_in}
+use Rattle.session_engine.specs.World.{Going, waiting_in}
 use Rattle.session_engine.specs.Does.{op_by}
 use Rattle.session_engine.specs.Host.{HasField, HaveFields}
 use Rattle.session_engine.specs.inside.Commits.{AllowedIf, Spares, SparesItem, SparesLife}

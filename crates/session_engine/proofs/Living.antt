@@ -1,35 +1,26 @@
 -- What holds wherever a history leads.
-use Rattle.std.proofs.Common.{◌≡◌, ◌⊎◌, inl, inr, ⊎_elim, ◌+◌, ℕ, zero, suc, List, [], ◌∷◌, ◌++◌, length, drop, refl, ap, sym, ◌∙◌, subst, arith, append-nil, Bool, true, false, Option, Some, None}
-use Rattle.std.specs.Prelude.{if◌then◌else◌, ◌==◌, ◌||◌, not, is_some, slice_get, option_to_list, option_map, option_and_then}
+use Rattle.std.proofs.Common.{◌≡◌, ℕ, List, [], ◌∷◌, ◌++◌, refl, sym, subst, arith, Bool, true, false, Option, Some, None}
+use Rattle.std.specs.Prelude.{if◌then◌else◌, ◌==◌, ◌||◌}
 use Rattle.std.specs.List.{AllByRecursion, list_any}
 use Rattle.std.specs.Str.{bytes_eq}
 use Rattle.std.proofs.lemmas.Bool.Decides.{nat_tests}
-use Rattle.block_tree.specs.Tree.{Tree}
-use Rattle.meta_format.specs.Limits.{limits}
-use Rattle.meta_format.specs.Stream.{Outer, Chain, Stream}
-use Rattle.meta_format.specs.Faults.{Kind}
+use Rattle.meta_format.specs.Stream.{Outer}
 use Rattle.worksheet.specs.declared.op.Op.{Op}
 use Rattle.worksheet.specs.declared.op.Op.TheVariants as op
-use Rattle.worksheet.specs.declared.refusal.Refusal.{Refusal}
-use Rattle.worksheet.specs.declared.refusal.Refusal.TheVariants as refusal
-use Rattle.worksheet.specs.declared.field.Field.{Field}
-use Rattle.worksheet.specs.declared.field.Answer.{Answer}
 use Rattle.worksheet.specs.Ops.{sheet_of}
-use Rattle.worksheet.specs.Checks.{Allowed, has_field, field_in, first_of, first_refusal}
-use Rattle.worksheet.proofs.Finds.{none_applies, true_from_not}
+use Rattle.worksheet.specs.Checks.{Allowed, first_of, first_refusal}
+use Rattle.worksheet.proofs.Finds.{none_applies}
 use Rattle.worksheet.proofs.Existence.{allowed_goes_on}
 use Rattle.plugin_core.specs.declared.item.Item.{Item}
 use Rattle.plugin_core.specs.declared.item.Item.TheVariants as item
-use Rattle.plugin_core.specs.Past.{accepted, received, stream_of, items_of}
-use Rattle.plugin_core.specs.Past.{Event as LifeEvent}
-use Rattle.plugin_core.specs.Answers.{answers_of}
-use Rattle.plugin_core.specs.Items.{unanswered, waiting_of, is_line_of}
+use Rattle.plugin_core.specs.Past.{received, stream_of}
+use Rattle.plugin_core.specs.Items.{is_line_of}
 use Rattle.plugin_core.specs.Steps.{Reads}
 use Rattle.plugin_core.proofs.Pasts.{stream_of-accepted}
 use Rattle.plugin_core.proofs.OneMore.{waiting_of-accepted}
 use Rattle.plugin_core.proofs.ByAskPoints.{reads_lie}
-use Rattle.session_engine.specs.Named.{first_named, without_named, replace_named}
-use Rattle.session_engine.specs.World.{World, Going, sheet_in, waiting_in, waits_in, in_flight, life_of, with_op}
+use Rattle.session_engine.specs.Named.{without_named, replace_named}
+use Rattle.session_engine.specs.World.{World, Going, sheet_in, waiting_in, waits_in, life_of, with_op}
 use Rattle.session_engine.specs.inside.Parts.{with_life, without_life, with_item, checks}
 use Rattle.session_engine.specs.Does.{with_piece, joined_by, begun_with}
 use Rattle.session_engine.proofs.Fields.{waiting_still}

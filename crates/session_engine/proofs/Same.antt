@@ -1,8 +1,6 @@
 -- Worlds with one worksheet go on alike.
-use Rattle.std.proofs.Common.{◌≡◌, ◌⊎◌, inl, inr, ⊎_elim, ◌+◌, ℕ, List, [], ◌∷◌, ◌++◌, length, refl, ap, sym, ◌∙◌, subst, Bool, true, false, Option, Some, None}
+use Rattle.std.proofs.Common.{◌≡◌, inl, inr, ⊎_elim, ◌+◌, ℕ, List, [], ◌∷◌, ◌++◌, refl, ap, sym, ◌∙◌, subst, Bool, true, false, Option, Some, None}
 use Rattle.std.specs.Prelude.{not}
-use Rattle.meta_format.specs.Faults.{Kind}
-use Rattle.meta_format.specs.Stream.{Outer}
 use Rattle.worksheet.specs.declared.op.Op.{Op}
 use Rattle.worksheet.specs.declared.op.Op.TheVariants as op
 use Rattle.worksheet.specs.declared.refusal.Refusal.{Refusal}
@@ -15,30 +13,25 @@ use Rattle.worksheet.proofs.Existence.{allowed_goes_on}
 use Rattle.worksheet.proofs.NextLaws.{same_next}
 use Rattle.plugin_core.specs.declared.item.Item.{Item}
 use Rattle.plugin_core.specs.declared.item.Item.TheVariants as item
-use Rattle.plugin_core.specs.declared.step.Answered.{Answered}
-use Rattle.plugin_core.specs.declared.step.Answered.TheVariants as answered
 use Rattle.plugin_core.specs.declared.step.Ended.{Ended}
 use Rattle.plugin_core.specs.declared.step.Reason.{Reason}
 use Rattle.plugin_core.specs.declared.step.Reason.TheVariants as reason
 use Rattle.plugin_core.specs.Steps.{step_of}
 use Rattle.session_engine.specs.declared.command.Command.{Command}
 use Rattle.session_engine.specs.declared.command.Command.TheVariants as command
-use Rattle.session_engine.specs.declared.event.ChildEvent.{ChildEvent}
 use Rattle.session_engine.specs.declared.event.ChildEvent.TheVariants as child
 use Rattle.session_engine.specs.declared.event.Event.{Event}
 use Rattle.session_engine.specs.declared.event.Event.TheVariants as event
 use Rattle.session_engine.specs.declared.outcome.Effect.TheVariants as effect
 use Rattle.session_engine.specs.declared.outcome.Outcome.{Outcome}
-use Rattle.session_engine.specs.declared.reply.Reply.{Reply}
 use Rattle.session_engine.specs.declared.reply.Reply.TheVariants as reply
 use Rattle.session_engine.specs.Commands.{op_of}
 use Rattle.session_engine.specs.inside.Commits.{AllowedIf}
-use Rattle.session_engine.specs.World.{World, Going, sheet_in, waiting_in, life_of, session_of_field, input_of, line_of_field, by_field, in_flight, with_number, with_op, with_op_if, request_of_field}
-use Rattle.session_engine.specs.inside.Parts.{with_life, without_life, with_item, goes_on, second, checks, op_refusals, queue_refusals, eval_refusals, asks}
-use Rattle.session_engine.specs.Does.{op_by, with_piece, starting_words, replies, refused, Runs}
+use Rattle.session_engine.specs.World.{World, Going, sheet_in, life_of, session_of_field, line_of_field, by_field, in_flight, with_number, with_op, with_op_if, request_of_field}
+use Rattle.session_engine.specs.inside.Parts.{with_item, goes_on, second, checks, op_refusals, queue_refusals, asks}
+use Rattle.session_engine.specs.Does.{op_by, with_piece, starting_words, replies, Runs}
 use Rattle.session_engine.specs.Refused.{full, command_refusals, takes_tab, is_cursor}
-use Rattle.session_engine.specs.Commands.{reply_to}
-use Rattle.session_engine.specs.inside.Given.{outcome_of, after, Commanded, Ignored, Ended_by, IsPieced, Pieced, Childed, GivesByParts}
+use Rattle.session_engine.specs.inside.Given.{outcome_of, after, Commanded, Ended_by, Pieced, GivesByParts}
 use Rattle.session_engine.proofs.ByParts.{by_parts, by_rows, op_after}
 use Rattle.session_engine.proofs.Changing.{as_op, allowed_by}
 use Rattle.session_engine.proofs.Living.{Sound, the_life}

@@ -1,6 +1,6 @@
 -- What an event does to what a field shows.
-use Rattle.std.proofs.Common.{◌≡◌, ◌⊎◌, inl, inr, ⊎_elim, ◌+◌, ℕ, zero, suc, List, [], ◌∷◌, ◌++◌, length, drop, refl, ap, sym, ◌∙◌, subst, arith, append-nil, Bool, true, false, Option, Some, None}
-use Rattle.std.specs.Prelude.{if◌then◌else◌, ◌==◌, not, is_some, slice_get, option_map, option_and_then}
+use Rattle.std.proofs.Common.{◌≡◌, ◌⊎◌, inl, inr, ⊎_elim, ℕ, zero, suc, List, [], ◌∷◌, ◌++◌, length, drop, refl, ap, sym, ◌∙◌, subst, Bool, true, false, Option, Some, None}
+use Rattle.std.specs.Prelude.{if◌then◌else◌, ◌==◌, is_some, slice_get, option_map, option_and_then}
 use Rattle.std.specs.List.{AllByRecursion}
 use Rattle.block_tree.specs.Tree.{Tree}
 use Rattle.block_tree.specs.Output.{output}
@@ -11,9 +11,8 @@ use Rattle.worksheet.specs.declared.op.Op.TheVariants as op
 use Rattle.worksheet.specs.declared.refusal.Refusal.{Refusal}
 use Rattle.worksheet.specs.declared.field.Field.{Field}
 use Rattle.worksheet.specs.declared.field.Answer.{Answer}
-use Rattle.worksheet.specs.Contents.{Contents}
 use Rattle.worksheet.specs.Ops.{sheet_of}
-use Rattle.worksheet.specs.Checks.{Allowed, has_field, field_in, first_of, first_refusal}
+use Rattle.worksheet.specs.Checks.{has_field, field_in, first_of, first_refusal}
 use Rattle.worksheet.proofs.Finds.{none_applies, true_from_not}
 use Rattle.plugin_core.specs.declared.item.Item.{Item}
 use Rattle.plugin_core.specs.declared.item.Item.TheVariants as item
@@ -31,18 +30,17 @@ use Rattle.plugin_core.proofs.ByAskPoints.{reads_lie, by_events}
 use Rattle.plugin_core.proofs.Prompts.{short_prompts}
 use Rattle.session_engine.specs.declared.command.Command.{Command}
 use Rattle.session_engine.specs.declared.command.Command.TheVariants as command
-use Rattle.session_engine.specs.declared.event.ChildEvent.{ChildEvent}
 use Rattle.session_engine.specs.declared.event.ChildEvent.TheVariants as child
 use Rattle.session_engine.specs.declared.event.Event.{Event}
 use Rattle.session_engine.specs.declared.event.Event.TheVariants as event
 use Rattle.session_engine.specs.declared.outcome.Outcome.{Outcome}
 use Rattle.session_engine.specs.Commands.{op_of}
-use Rattle.session_engine.specs.Host.{HasField, HaveFields}
-use Rattle.session_engine.specs.World.{World, Going, sheet_in, waiting_in, life_of, session_of_field, line_of_field, in_flight, with_number, with_op, with_op_if, request_of_field}
-use Rattle.session_engine.specs.inside.Parts.{with_life, without_life, with_item, goes_on, checks, op_refusals, eval_refusals}
+use Rattle.session_engine.specs.Host.{HasField}
+use Rattle.session_engine.specs.World.{World, Going, sheet_in, waiting_in, life_of, session_of_field, line_of_field, with_number, with_op, with_op_if, request_of_field}
+use Rattle.session_engine.specs.inside.Parts.{with_life, without_life, with_item, goes_on, checks}
 use Rattle.session_engine.specs.Does.{op_by, with_piece}
 use Rattle.session_engine.specs.Refused.{full, command_refusals}
-use Rattle.session_engine.specs.inside.Given.{outcome_of, after, Commanded, Ignored, Ended_by, IsPieced, Pieced, Childed, GivesByParts}
+use Rattle.session_engine.specs.inside.Given.{after, Commanded, Ended_by, Pieced, GivesByParts}
 use Rattle.session_engine.specs.inside.Commits.{AllowedIf}
 use Rattle.session_engine.specs.Does.{Gives}
 use Rattle.session_engine.proofs.ByParts.{by_parts, op_after}
@@ -51,7 +49,7 @@ use Rattle.session_engine.proofs.Changing.{as_op, first_before, allowed_by}
 use Rattle.session_engine.proofs.Asking.{line_is}
 use Rattle.session_engine.specs.Turns.{Has, ClosesAnswer}
 use Rattle.session_engine.proofs.FieldLaws.{HasInput, AnsweredBy, by_op}
-use Rattle.session_engine.proofs.Living.{HasLine, SoundLife, Sound, KeepsLines, gone, put, the_life, asked, pieced, committed, every_line, checked}
+use Rattle.session_engine.proofs.Living.{HasLine, SoundLife, Sound, gone, put, the_life, asked, pieced, committed, every_line, checked}
 
 -- Where an event has led: what holds everywhere holds there, and a field that shows an answer did so before, or the event closed it.
 pub record Stepped (w : World) (e : Event) (v : World) : Type 0 where

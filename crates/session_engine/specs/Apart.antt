@@ -5,11 +5,8 @@ use Rattle.std.specs.List.{AllByRecursion}
 use Rattle.worksheet.specs.declared.op.Op.{Op}
 use Rattle.worksheet.specs.declared.op.Op.TheVariants as op
 use Rattle.worksheet.specs.declared.field.Field.{Field}
-use Rattle.worksheet.specs.declared.field.Session.{Session}
 use Rattle.worksheet.specs.Contents.{Contents}
-use Rattle.worksheet.specs.Ops.{field_of}
 use Rattle.worksheet.specs.Checks.{Allowed}
-use Rattle.session_engine.specs.declared.command.Command.{Command}
 use Rattle.session_engine.specs.declared.command.Command.TheVariants as command
 use Rattle.session_engine.specs.declared.event.Event.{Event}
 use Rattle.session_engine.specs.declared.event.Event.TheVariants as event

@@ -1,6 +1,6 @@
 -- What the store does for an event.
-use Rattle.std.specs.Prelude.{◌≡◌, ◌⊎◌, ◌+◌, ◌==◌, ℕ, List, [], ◌∷◌, ◌++◌, length, Bool, true, false, Option, Some, None, option_map}
-use Rattle.disk_model.specs.Disk.{DiskView, Image, InModel, Leaves, Rises}
+use Rattle.std.specs.Prelude.{◌≡◌, ◌⊎◌, ◌+◌, ◌==◌, ℕ, List, [], ◌∷◌, ◌++◌, length, true, false, Option, Some, None, option_map}
+use Rattle.disk_model.specs.Disk.{Image, InModel, Leaves, Rises}
 use Rattle.worksheet.specs.declared.op.Op.{Op}
 use Rattle.worksheet.specs.declared.op.Op.TheVariants as op
 use Rattle.worksheet.specs.declared.refusal.Refusal.{Refusal}
@@ -24,7 +24,6 @@ use Rattle.session_engine.specs.World.{World, Going, waiting_in, with_op, fits, 
 use Rattle.session_engine.specs.Refused.{command_refusals}
 use Rattle.session_engine.specs.declared.command.Command.TheVariants as command
 use Rattle.session_engine.specs.Does.{replies, refused}
-use Rattle.session_engine.specs.Host.{OnDisk}
 use Rattle.session_engine.specs.inside.Parts.{eval_refusals, asks, with_item}
 use Rattle.session_engine.specs.inside.Engines.{StandsAt}
 

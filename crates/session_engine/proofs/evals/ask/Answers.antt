@@ -1,7 +1,6 @@
-use Rattle.std.proofs.Common.{◌≡◌, ◌++◌, ◌∷◌, [], List, inl, inr, ap, sym, ◌∙◌, refl, Option, Some, None}
+use Rattle.std.proofs.Common.{◌≡◌, ◌++◌, ◌∷◌, [], List, inl, inr, ap, sym, ◌∙◌, refl, Some}
 use Rattle.std.proofs.lemmas.Result.{IfOk-at_ok}
-use Rattle.plugin_core.specs.Kept.{Accepts, LifeHasPast}
-use Rattle.plugin_core.specs.Past.{accepted}
+use Rattle.plugin_core.specs.Kept.{Accepts}
 use Rattle.session_engine.specs.declared.table.Running.{Running}
 use Rattle.session_engine.specs.Host.{name_of, life_in}
 use Rattle.session_engine.specs.inside.Tables.{with_life}

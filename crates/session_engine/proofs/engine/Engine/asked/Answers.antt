@@ -1,8 +1,8 @@
-use Rattle.std.proofs.Common.{◌≡◌, ◌+◌, ℕ, List, ⊎_elim, ap, sym, ◌∙◌, refl, subst, Option, Some, None}
+use Rattle.std.proofs.Common.{◌+◌, ℕ, List, ⊎_elim, ap, sym, ◌∙◌, subst}
 use Rattle.recovery.specs.Sheets.{StoreView}
 use Rattle.session_engine.specs.declared.table.Running.{Running}
-use Rattle.session_engine.specs.World.{World, Going, life_of}
-use Rattle.session_engine.specs.inside.Parts.{with_item, asks}
+use Rattle.session_engine.specs.World.{life_of}
+use Rattle.session_engine.specs.inside.Parts.{with_item}
 use Rattle.session_engine.specs.Host.{EngineStandsFor}
 use Rattle.session_engine.proofs.Tables.{found}
 use Rattle.session_engine.proofs.Asking.{joins, begins, goes_back}

@@ -1,9 +1,8 @@
-use Rattle.std.proofs.Common.{◌≡◌, inl, inr, ℕ, List, ap, sym, ◌∙◌, refl, subst, true, false, Bool, Option, Some, None}
+use Rattle.std.proofs.Common.{◌≡◌, inr, ℕ, List, ap, sym, ◌∙◌, refl, subst, false, Option}
 use Rattle.worksheet.specs.declared.op.Op.{Op}
 use Rattle.worksheet.specs.declared.refusal.Refusal.TheVariants as refusal
 use Rattle.recovery.specs.Sheets.{StoreView}
 use Rattle.plugin_core.specs.declared.item.Item.{Item}
-use Rattle.plugin_core.specs.declared.item.Item.TheVariants as item
 use Rattle.session_engine.specs.declared.command.Command.TheVariants as command
 use Rattle.session_engine.specs.declared.reply.Reply.TheVariants as reply
 use Rattle.session_engine.specs.declared.table.Running.{Running}

@@ -1,12 +1,10 @@
-use Rattle.std.proofs.Common.{◌≡◌, ℕ, List, ap, sym, ◌∙◌, refl, subst, true, false, Bool, Option, Some, None}
-use Rattle.worksheet.specs.declared.field.Field.{Field}
+use Rattle.std.proofs.Common.{◌≡◌, ℕ, List, ap, sym, ◌∙◌, subst, true, Some, None}
 use Rattle.worksheet.specs.Contents.{SheetView, Contents}
 use Rattle.worksheet.specs.Checks.{field_in, first_of, session_named}
 use Rattle.worksheet.proofs.Finds.{field_in-id}
-use Rattle.plugin_core.specs.declared.item.Item.{Item}
 use Rattle.plugin_core.specs.declared.item.Item.TheVariants as item
 use Rattle.std.specs.Str.{IsCharBoundary}
-use Rattle.session_engine.specs.World.{World, sheet_in, life_of}
+use Rattle.session_engine.specs.World.{sheet_in, life_of}
 use Rattle.session_engine.specs.Refused.{takes_tab}
 use Rattle.session_engine.specs.inside.Parts.{queue_refusals}
 use Rattle.session_engine.proofs.Asking.{session_is}
