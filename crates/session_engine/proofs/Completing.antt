@@ -74,7 +74,7 @@ chain has tab cursor rs = (refusal.NoField, not has) ∷ (refusal.NoTab, not tab
 pub no_field_first : (w : World) (id cursor : ℕ) → field_in (sheet_in w).fields id ≡ None → first_of (command_refusals w (command.Complete id cursor)) ≡ Some refusal.NoField
 no_field_first w id cursor e =
     ap (λ (b : Bool). first_of (chain b (takes_tab (session_named (sheet_in w).sessions (session_of_field w id))) (is_cursor (input_of w id) cursor) (queue_refusals w (life_of w (session_of_field w id)))))
-        (ap (λ (o : Option Field). is_some o) e)
+    (ap (λ (o : Option Field). is_some o) e)
 
 module _ (w : World) (id cursor : ℕ) (f : Field) (e : field_in (sheet_in w).fields id ≡ Some f) where
   abbrev tab_of : Bool
@@ -89,7 +89,7 @@ module _ (w : World) (id cursor : ℕ) (f : Field) (e : field_in (sheet_in w).fi
   at_field : first_of (command_refusals w (command.Complete id cursor)) ≡ first_of (chain true tab_of (is_cursor f.input cursor) (queue_refusals w (life_of w f.session)))
   at_field =
       ap (λ (b : Bool). first_of (chain b (takes_tab (session_named (sheet_in w).sessions (session_of_field w id))) (is_cursor (input_of w id) cursor) (queue_refusals w (life_of w (session_of_field w id)))))
-          (ap (λ (o : Option Field). is_some o) e)
+      (ap (λ (o : Option Field). is_some o) e)
       ∙ ap (λ (n : List ℕ). first_of (chain true (takes_tab (session_named (sheet_in w).sessions n)) (is_cursor (input_of w id) cursor) (queue_refusals w (life_of w n)))) (session_is w id f e)
       ∙ ap (λ (t : List ℕ). first_of (chain true tab_of (is_cursor t cursor) (queue_refusals w (life_of w f.session)))) input_is
 

@@ -4,8 +4,8 @@ ghost use Rattle.std.specs.Str.{IsCharBoundary};
 ghost use Rattle.plugin_core.specs.Items.{IsAskable};
 ghost use Rattle.plugin_core.specs.declared.item.Item.TheVariants as item_of;
 
-use crate::engine::{Engine, refused};
 use crate::Outcome;
+use crate::engine::{Engine, refused};
 use block_tree::OutOfMemory;
 use disk_model::Disk;
 use plugin_core::Item;

@@ -32,7 +32,8 @@ fn a_request_and_its_answers(rt: HostRuntime) -> Result<(), Fail> {
 #[test]
 fn refused_requests(rt: HostRuntime) -> Result<(), Fail> {
     let alloc = rt.alloc();
-    let script = b"session a plain p\nsession t tab p\nnew 0 a h\nnew 0 t \xc3\xa9\ncomplete 1 1\ncomplete 3 0\ncomplete 2 1\ncomplete 2 3\ncomplete 2\ncomplete 2 2\n".as_slice();
+    let script =
+        b"session a plain p\nsession t tab p\nnew 0 a h\nnew 0 t \xc3\xa9\ncomplete 1 1\ncomplete 3 0\ncomplete 2 1\ncomplete 2 3\ncomplete 2\ncomplete 2 2\n".as_slice();
     let mut children = Given::new(alloc).of(b"t")?;
     let (text, _disk) = ran(alloc, script, created(alloc)?, &mut children)?;
     assert!(rt;
