@@ -1,4 +1,7 @@
 //! Lives in front of a test, and what their steps tell in lines.
+ghost use Rattle.std.specs.Prelude.{IfOk};
+ghost use Rattle.plugin_core.specs.Items.{IsAskable};
+
 use block_tree::{Block, Octets, OutOfMemory};
 use meta_format::write_block;
 use plugin_core::{Answered, Item, Life, Step};
@@ -11,7 +14,9 @@ use std::test::Fail;
 /// A block with no text, as a banner.
 pub const BANNER: &str = "\x02verbatim:\x05";
 
-pub fn line(alloc: Global, id: u32, text: &str) -> Result<Item, OutOfMemory> {
+pub fn line(alloc: Global, id: u32, text: &str) -> Result<Item, OutOfMemory>
+    ensures { IfOk result IsAskable }
+{
     let text = Octets::from_slice(alloc, text.as_bytes())?;
     Ok(Item::Line { id, text })
 }

@@ -1,4 +1,6 @@
 //! Calls while no memory is left.
+ghost use Rattle.plugin_core.specs.Items.{IsAskable};
+
 use super::desk::{asked_twice, idle, line};
 use plugin_core::{AcceptFault, Item, Life, Reason};
 use std::alloc::Global;
@@ -6,7 +8,9 @@ use std::test::Fail;
 use tests_desk::exhausted;
 
 // Accepts a line while no memory is left.
-fn accepted(alloc: Global, life: &mut Life, item: Item) -> Result<Result<(), AcceptFault>, Fail> {
+fn accepted(alloc: Global, life: &mut Life, item: Item) -> Result<Result<(), AcceptFault>, Fail>
+    requires { IsAskable item }
+{
     if life.over() {
         return Err("the life is over".into());
     }
