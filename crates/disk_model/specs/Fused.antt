@@ -9,13 +9,14 @@ use Rattle.disk_model.specs.declared.fuse.FuseMode.{FuseMode}
 abbrev pub fuse_view : {D : Type 0} → (D → DiskView) → FuseDisk D → DiskView
 fuse_view view f = fused (view f.inner) f.fuse.refused
 
--- a fuse that has counted no call
+-- a fuse that has counted no call, and that no read was asked of
 pub record IsNew {D : Type 0} (f : FuseDisk D) (inner : D) (k : ℕ) (mode : FuseMode) : Type 0 where
   pub inner_is : f.inner ≡ inner
   pub k_is : f.fuse.k ≡ k
   pub mode_is : f.fuse.mode ≡ mode
   pub calls : f.fuse.calls ≡ 0
   pub refused : f.fuse.refused ≡ 0
+  pub longest_read : f.longest_read ≡ 0
 
 -- the next call is one that the fuse fails
 abbrev pub IsBlown : {D : Type 0} → FuseDisk D → Type 0

@@ -1,5 +1,5 @@
 // A disk that fails from some call on, or at one call alone.
-ghost use Rattle.std.specs.Prelude.{◌≡◌, ◌+◌, ◌≤◌, ◌↔◌, length, take, drop, min, IfOk, IsErr, OnErr, OnOk};
+ghost use Rattle.std.specs.Prelude.{◌≡◌, ◌+◌, ◌≤◌, ◌↔◌, length, take, drop, max, min, IfOk, IsErr, OnErr, OnOk};
 ghost use Rattle.disk_model.specs.Fuse.{Blows};
 ghost use Rattle.disk_model.specs.Disk.{Called, InModel, Looks, Rises, Syncs, Writes, area_of, max_faults, bytes_on};
 
@@ -58,6 +58,7 @@ impl Fuse {
 pub struct FuseDisk<D: Disk> {
     inner: D,
     fuse: Fuse,
+    longest_read: u64,
 }
 
 impl<D: Disk> FuseDisk<D> {
@@ -74,14 +75,26 @@ impl<D: Disk> FuseDisk<D> {
             calls: 0,
             refused: 0,
         };
-        FuseDisk { inner, fuse }
+        FuseDisk {
+            inner,
+            fuse,
+            longest_read: 0,
+        }
+    }
+
+    /// The length in bytes of the longest read that was asked so far, 0 before the first. A read that
+    /// failed counts too. It takes no memory.
+    pub fn longest_read(&self) -> u64
+        ensures { result ≡ self.now.longest_read }
+    {
+        self.longest_read
     }
 
     /// The disk inside, as it stands.
     pub fn into_inner(self) -> D
         ensures { result ≡ self.inner }
     {
-        let FuseDisk { inner, fuse: _ } = self;
+        let FuseDisk { inner, .. } = self;
         inner
     }
 }
@@ -107,6 +120,7 @@ impl<D: Disk> Disk for FuseDisk<D> {
         ensures length { InModel (fuse_view D.view self.old)
             (IfOk result (λ n. n ≡ length (area_of area (bytes_on (fuse_view D.view self.old))))) }
         ensures spends { Spends D.view result self.old self.new }
+        ensures longest { self.new.longest_read ≡ self.old.longest_read }
     {
         self.fuse.spend()?;
         self.inner.len(area)
@@ -123,7 +137,9 @@ impl<D: Disk> Disk for FuseDisk<D> {
             (OnOk result (buffer.new ≡ take (length buffer.old)
             (drop offset (area_of area (bytes_on (fuse_view D.view self.old)))))) }
         ensures spends { Spends D.view result self.old self.new }
+        ensures longest { self.new.longest_read ≡ max self.old.longest_read (length buffer.old) }
     {
+        self.longest_read = self.longest_read.max(buffer.len() as u64);
         self.fuse.spend()?;
         self.inner.read(area, offset, buffer)
     }
@@ -137,6 +153,7 @@ impl<D: Disk> Disk for FuseDisk<D> {
             (Writes area offset bytes.now result (fuse_view D.view self.old).history
             (fuse_view D.view self.new).history) }
         ensures spends { Spends D.view result self.old self.new }
+        ensures longest { self.new.longest_read ≡ self.old.longest_read }
     {
         self.fuse.spend()?;
         self.inner.write_at(area, offset, bytes)
@@ -148,6 +165,7 @@ impl<D: Disk> Disk for FuseDisk<D> {
             (Syncs area result (fuse_view D.view self.old).history
             (fuse_view D.view self.new).history) }
         ensures spends { Spends D.view result self.old self.new }
+        ensures longest { self.new.longest_read ≡ self.old.longest_read }
     {
         self.fuse.spend()?;
         self.inner.sync(area)

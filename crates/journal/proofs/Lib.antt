@@ -1,6 +1,9 @@
 pub mod Bytes
+pub mod Givens
 pub mod Loads
+pub mod Readings
 pub mod Steps
 pub mod Unique
 pub mod Walks
+pub mod Windows
 pub mod Creating

@@ -62,7 +62,7 @@ module _ (limit : ℕ) (fits : limit < 2 ^ 32) where
       none_broken ps qs g x more eps.1 eqs.1 closed broken rest
 
   -- a record and what stands behind it are not broken
-  whole_record : (p rest : List ℕ) → IsPayload limit p → 0 < length rest → IsBroken limit (body_of p ++ rest) → ⊥
+  pub whole_record : (p rest : List ℕ) → IsPayload limit p → 0 < length rest → IsBroken limit (body_of p ++ rest) → ⊥
   whole_record p rest is some broken =
       let told : from_be_bytes w32 (to_be_bytes w32 (length p)) ≡ length p = from_be_bytes-to_be_bytes_4 (length p) (omega (arith, is.1, fits)) in
       let longer = length-append p rest in

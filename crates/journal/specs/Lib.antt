@@ -4,6 +4,8 @@ pub mod Damage
 pub mod Kept
 pub mod Journal
 pub mod Open
+pub mod Opening
+pub mod Next
 pub mod Laws
 pub mod Payloads
 pub mod inside

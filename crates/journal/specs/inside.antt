@@ -1,3 +1,4 @@
 pub mod Frame
+pub mod Reads
 pub mod Walk
-pub mod Loaded
+pub mod Window

@@ -1,14 +1,13 @@
 // A journal on a disk that it owns.
 ghost use Rattle.std.specs.Prelude.{◌≡◌, ◌<◌, ◌≤◌, ◌+◌, ◌++◌, ◌∷◌, ◌↔◌, [], List, ℕ, length, IfOk, IfErr, IsTrue, MatchResult};
-ghost use Rattle.disk_model.specs.Disk.{InModel, LeavesOnly, Looks, SameDisk, Rises, bytes_on};
+ghost use Rattle.disk_model.specs.Disk.{InModel, LeavesOnly, Looks, SameDisk, Rises, bytes_on, max_room};
 ghost use Rattle.journal.specs.Payloads.{payloads_in, AreGates};
 ghost use Rattle.journal.specs.Open.{Tells};
 ghost use Rattle.journal.specs.Kept.{BeforeOrAfter, Fits, Keeps, ImageStandsFor, active_of, other_of};
 ghost use Rattle.journal.specs.Area.{added_at, first_gate};
 
 use crate::append::add;
-use crate::opening::scan;
-use crate::{Frame, MAX_PAYLOAD, OpenCause, Payload};
+use crate::{Frame, MAX_PAYLOAD, Next, OpenCause, Opening, Payload};
 use disk_model::{Disk, DiskFault};
 use std::alloc::Global;
 use std::marker::Model;
@@ -86,11 +85,33 @@ impl<D: Disk> Journal<D> {
             (λ found. found.0.disk.faults ≡ (D.view disk).faults)
             (λ e. (e.cause ≡ OpenCause.Disk → ⊥) → (D.view e.disk).faults ≡ (D.view disk).faults) }
     {
-        let mut disk = disk;
-        match scan(alloc, &mut disk) {
-            Ok((end, payloads)) => Ok((Journal { disk, end }, payloads)),
-            Err(cause) => Err(OpenFault { cause, disk }),
+        let mut opening = match Opening::begin(alloc, disk) {
+            Ok(opening) => opening,
+            Err(fault) => return Err(fault),
+        };
+        let mut payloads = Vec::new(alloc);
+        loop {
+            match opening.next() {
+                Ok(Next::Payload(behind, payload)) => {
+                    if let Err(_) = payloads.push(payload) {
+                        let (cause, disk) = (OpenCause::OutOfMemory, behind.into_disk());
+                        return Err(OpenFault { cause, disk });
+                    }
+                    opening = behind;
+                }
+                Ok(Next::End(journal)) => return Ok((journal, payloads)),
+                Err(fault) => return Err(fault),
+            }
         }
+    }
+
+    // The journal of this disk, whose closed gate is there.
+    pub(crate) fn ending_at(disk: D, end: u64) -> Journal<D>
+        requires small { end ≤ max_room }
+        requires inside { InModel (D.view disk) (end < length (active_of (bytes_on (D.view disk)))) }
+        ensures { result ≡ record { disk = D.view disk; end = end } }
+    {
+        Journal { disk, end }
     }
 
     /// Whether a payload of so many bytes fits behind the end: it has at most 2,097,152 bytes, and

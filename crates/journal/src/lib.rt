@@ -9,10 +9,13 @@ mod frame;
 mod journal;
 pub mod laws;
 mod opening;
+mod payloads;
 mod walk;
+mod window;
 
 pub use disk_model::OutOfMemory;
 pub use frame::{Frame, MAX_PAYLOAD};
 pub use journal::{AppendFault, Journal, OpenFault};
 pub use opening::{CreateCause, CreateFault, OpenCause, create};
+pub use payloads::{Next, Opening};
 pub use walk::Payload;

@@ -1,15 +1,16 @@
 // Making a journal's disk, and reading it.
 ghost use Rattle.std.specs.Prelude.{◌≡◌, ◌≤◌, ◌<◌, ◌⊎◌, [], List, ℕ, length, IfOk, IfErr, OnErr, OnOk, IsErrOf, MatchResult};
-ghost use Rattle.disk_model.specs.Disk.{ChangesArea, InModel, LeavesOnly, Looks, Reaches, SameDisk, Rises, Torn, max_room, bytes_on};
+ghost use Rattle.disk_model.specs.Disk.{ChangesArea, InModel, LeavesOnly, Looks, Reaches, SameDisk, Rises, Torn, bytes_on};
 ghost use Rattle.journal.specs.Area.{created, first_gate};
-ghost use Rattle.journal.specs.Kept.{Keeps, active_of};
-ghost use Rattle.journal.specs.inside.Loaded.{Holds};
-ghost use Rattle.journal.specs.Payloads.{payloads_in, AreGates};
-ghost use Rattle.journal.specs.Open.{AreEmpty, IsPassing, Tells};
+ghost use Rattle.journal.specs.Kept.{ImageStandsFor, Keeps, active_of};
+ghost use Rattle.journal.specs.inside.Reads.{Fails, Reads};
+ghost use Rattle.journal.specs.inside.Window.{Shows};
+ghost use Rattle.journal.specs.Open.{AreEmpty, Tells};
 ghost use Rattle.journal.specs.declared.opening.CreateCause.TheVariants.{Disk as CreateDisk};
 ghost use Rattle.journal.specs.declared.opening.OpenCause.TheVariants.{Disk as OpenDisk, OutOfMemory};
 
-use crate::walk::{Payload, read_area};
+use crate::walk::end_of_walk;
+use crate::window::Window;
 use disk_model::{Area, Disk, DiskFault};
 use std::alloc::{AllocError, AllocFailed, Global};
 
@@ -161,47 +162,28 @@ fn lay<D: Disk>(disk: &mut D) -> Result<(), CreateCause>
     Ok(())
 }
 
-// The bytes of area First, once they are durable.
-fn load<D: Disk>(alloc: Global, disk: &mut D) -> Result<Vec<u8>, OpenCause>
-    ensures same { SameDisk (D.view disk.old) (D.view disk.new) }
-    ensures bytes { InModel (D.view disk.old)
-        (IfOk result (λ bytes. (bytes.items ≡ active_of (bytes_on (D.view disk.old)))
-        × Holds (D.view disk.new).history bytes.items)) }
-    ensures small { IfOk result (λ bytes. length bytes.items ≤ max_room) }
-    ensures looks { InModel (D.view disk.old)
-        (Looks (D.view disk.old).history (D.view disk.new).history) }
-    ensures faulty { IsErrOf result OpenCause.Disk
-        → Rises (D.view disk.old).faults (D.view disk.new).faults }
-    ensures steady { (IsErrOf result OpenCause.Disk → ⊥)
-        → (D.view disk.new).faults ≡ (D.view disk.old).faults }
-    ensures cause { IfErr result IsPassing }
-{
-    disk.sync(Area::First)?;
-    let len = disk.len(Area::First)?;
-    let mut bytes = vec![in alloc; 0u8; len as usize]?;
-    disk.read(Area::First, 0, &mut bytes)?;
-    Ok(bytes)
-}
-
-/// The payloads that area First stands for, and the offset of the closed gate behind them.
-pub(crate) fn scan<D: Disk>(alloc: Global, disk: &mut D) -> Result<(u64, Vec<Payload>), OpenCause>
-    ensures same { SameDisk (D.view disk.old) (D.view disk.new) }
-
-    ensures found { InModel (D.view disk.old)
-        (IfOk result (λ found. Keeps (D.view disk.new).history found.0
-        (payloads_in found.1.items))) }
-    ensures gates { InModel (D.view disk.old)
-        (IfOk result (λ found. AreGates first_gate found.1.items)) }
+// A window on area First once it is durable, and the offset of the closed gate there.
+pub(crate) fn survey<D: Disk>(alloc: Global, disk: &mut D) -> Result<(Window, u64), OpenCause>
+    ensures reads { Reads (Fails result) (D.view disk.old) (D.view disk.new) }
+    ensures end { InModel (D.view disk.old)
+        (IfOk result (λ found. (payloads : List (List ℕ))
+        × ImageStandsFor (bytes_on (D.view disk.old)) payloads
+        × Keeps (D.view disk.new).history found.1 payloads)) }
+    ensures shows { InModel (D.view disk.old)
+        (IfOk result (λ found. Shows found.0 (active_of (bytes_on (D.view disk.old))))) }
+    ensures inside { IfOk result (λ found. (first_gate ≤ found.1) × (found.1 < found.0.limit)) }
     ensures fault { InModel (D.view disk.old) (IfErr result (Tells (bytes_on (D.view disk.old)))) }
-    ensures end { IfOk result (λ found. found.0 ≤ max_room) }
-
-    ensures looks { InModel (D.view disk.old)
-        (Looks (D.view disk.old).history (D.view disk.new).history) }
-    ensures faulty { IsErrOf result OpenCause.Disk
-        → Rises (D.view disk.old).faults (D.view disk.new).faults }
-    ensures steady { (IsErrOf result OpenCause.Disk → ⊥)
-        → (D.view disk.new).faults ≡ (D.view disk.old).faults }
 {
-    let bytes = load(alloc, disk)?;
-    read_area(alloc, &bytes)
+    if let Err(DiskFault) = disk.sync(Area::First) {
+        return Err(OpenCause::Disk);
+    }
+    let len = match disk.len(Area::First) {
+        Ok(len) => len,
+        Err(DiskFault) => return Err(OpenCause::Disk),
+    };
+    let mut window = Window::new(alloc, len);
+    match end_of_walk(&mut window, disk) {
+        Ok(end) => Ok((window, end)),
+        Err(cause) => Err(cause),
+    }
 }

@@ -1,18 +1,20 @@
-// The records of an area, gate by gate.
-ghost use Rattle.std.specs.Prelude.{◌≡◌, ◌≢◌, ◌<◌, ◌≤◌, ◌+◌, ◌++◌, ℕ, length, IfOk, IfErr, IfSome, IfNone};
-ghost use Rattle.disk_model.specs.Disk.{max_room};
+// The walk over the gates of area First, by their length fields alone.
+ghost use Rattle.std.specs.Prelude.{◌≡◌, ◌≢◌, ◌<◌, ◌≤◌, ◌+◌, ◌++◌, List, ℕ, length, min, drop, IfOk, IfErr, IfSome, IfNone, OnOk};
+ghost use Rattle.disk_model.specs.Disk.{InModel, bytes_on, max_room};
 ghost use Rattle.disk_model.specs.declared.disk.Area.TheVariants.{First};
 ghost use Rattle.journal.specs.Limits.{max_payload};
-ghost use Rattle.journal.specs.Area.{HeaderOf, StandsFor, end_of, first_gate};
+ghost use Rattle.journal.specs.Area.{HeaderOf, IsPayload, end_of, first_gate, record_of};
 ghost use Rattle.journal.specs.Damage.{HasHeader};
-ghost use Rattle.journal.specs.Payloads.{AreGates, payloads_in};
-ghost use Rattle.journal.specs.inside.Walk.{IsStep};
-ghost use Rattle.journal.specs.Open.{TellsOf};
-ghost use Rattle.journal.specs.declared.opening.OpenCause.TheVariants.{Disk};
+ghost use Rattle.journal.specs.Kept.{ImageStandsFor, active_of};
+ghost use Rattle.journal.specs.Open.{IsPassing, Tells};
+ghost use Rattle.journal.specs.inside.Reads.{Begins, Fails, Reads};
+ghost use Rattle.journal.specs.inside.Walk.{IsLength, IsStep};
+ghost use Rattle.journal.specs.inside.Window.{Shows};
 
+use crate::window::Window;
 use crate::{MAX_PAYLOAD, OpenCause};
 use block_tree::Octets;
-use std::alloc::Global;
+use disk_model::Disk;
 
 /// A gate that is open; at any other byte it is closed.
 pub(crate) const OPEN_GATE: u8 = b'R';
@@ -30,32 +32,34 @@ pub struct Payload {
 }
 
 // What stands at a gate.
-enum Step<'a> {
+#[derive(Clone, Copy)]
+enum Step {
     // The gate is closed.
     End,
     // What stands behind the gate is no record.
     Broken,
-    // The payload behind the gate, and what stands from the next gate on.
-    Record(&'a [u8], &'a [u8]),
+    // A record, whose payload has so many bytes.
+    Record(u64),
 }
 
-// What stands at the gate that these bytes begin with.
-fn step_at(rest: &[u8]) -> Step<'_>
-    requires { 0 < length rest.now }
-    ensures { IsStep max_payload rest.now result }
+// What stands at a gate, from the bytes there and how many there are up to the area's end.
+fn step_at(front: &[u8], left: u64) -> Step
+    requires { min left 5 ≤ length front.now }
+    ensures step { (rest : List ℕ) → left ≡ length rest → 0 < left → Begins front.now rest
+        → IsStep max_payload rest result }
+    ensures len { IsLength left result }
 {
-    let [OPEN_GATE, more @ ..] = rest else {
+    let [OPEN_GATE, ..] = front else {
         return Step::End;
     };
-    let [b0, b1, b2, b3, more @ ..] = more else {
+    let [_, b0, b1, b2, b3, ..] = front else {
         return Step::Broken;
     };
-    let len = u32::from_be_bytes([*b0, *b1, *b2, *b3]);
-    if len == 0 || u64::from(len) > MAX_PAYLOAD || more.len() <= len as usize {
+    let len = u64::from(u32::from_be_bytes([*b0, *b1, *b2, *b3]));
+    if len == 0 || len > MAX_PAYLOAD || left <= 5 + len {
         return Step::Broken;
     }
-    let (payload, after) = more.split_at(len as usize);
-    Step::Record(payload, after)
+    Step::Record(len)
 }
 
 // What stands behind a header of area First.
@@ -75,32 +79,104 @@ fn behind_header(bytes: &[u8]) -> Option<&[u8]>
     Some(rest)
 }
 
-/// The payloads that the bytes of area First stand for, and the offset of the closed gate behind
-/// them.
-pub(crate) fn read_area(alloc: Global, bytes: &[u8]) -> Result<(u64, Vec<Payload>), OpenCause>
-    requires { length bytes.now ≤ max_room }
-    ensures found { IfOk result
-        (λ found. StandsFor max_payload bytes.now (payloads_in found.1.items)) }
-    ensures end { IfOk result (λ found. found.0 ≡ end_of (payloads_in found.1.items)) }
-    ensures gates { IfOk result (λ found. AreGates first_gate found.1.items) }
-    ensures fault { IfErr result (TellsOf bytes.now) }
-    ensures no_call { IfErr result (λ cause. cause ≢ Disk) }
+// The offset of the closed gate behind the records of area First, which begins with a header.
+fn walk_gates<D: Disk>(window: &mut Window, disk: &mut D) -> Result<u64, OpenCause>
+    requires header { InModel (D.view disk.old) (HasHeader (active_of (bytes_on (D.view disk.old)))) }
+    requires some { first_gate < window.old.limit }
+    requires shows { InModel (D.view disk.old)
+        (Shows window.old (active_of (bytes_on (D.view disk.old)))) }
+    ensures reads { Reads (Fails result) (D.view disk.old) (D.view disk.new) }
+    ensures limit { window.new.limit ≡ window.old.limit }
+    ensures shows { InModel (D.view disk.old)
+        (OnOk result (Shows window.new (active_of (bytes_on (D.view disk.old))))) }
+    ensures end { InModel (D.view disk.old)
+        (IfOk result (λ end. (payloads : List (List ℕ))
+        × ImageStandsFor (bytes_on (D.view disk.old)) payloads × (end ≡ end_of payloads))) }
+    ensures inside { IfOk result (λ end. (first_gate ≤ end) × (end < window.new.limit)) }
+    ensures fault { InModel (D.view disk.old) (IfErr result (Tells (bytes_on (D.view disk.old)))) }
 {
-    let Some(mut rest) = behind_header(bytes) else {
-        return Err(OpenCause::NotASheet);
-    };
-    let mut payloads = Vec::new(alloc);
     let mut gate = 10;
     loop {
-        match step_at(rest) {
-            Step::End => return Ok((gate, payloads)),
+        let left = window.limit - gate;
+        if let Err(cause) = window.fill(disk, gate, left.min(5)) {
+            return Err(cause);
+        }
+        match step_at(window.behind(gate), left) {
+            Step::End => return Ok(gate),
             Step::Broken => return Err(OpenCause::Damaged(gate)),
-            Step::Record(payload, after) => {
-                let bytes = Octets::from_vec(Vec::from_slice(alloc, payload)?);
-                payloads.push(Payload { gate, bytes })?;
-                gate += 5 + payload.len() as u64;
-                rest = after;
-            }
+            Step::Record(len) => gate += 5 + len,
         }
     }
+}
+
+/// The offset of the closed gate behind the records that area First has behind its header.
+pub(crate) fn end_of_walk<D: Disk>(window: &mut Window, disk: &mut D) -> Result<u64, OpenCause>
+    requires shows { InModel (D.view disk.old)
+        (Shows window.old (active_of (bytes_on (D.view disk.old)))) }
+    ensures reads { Reads (Fails result) (D.view disk.old) (D.view disk.new) }
+    ensures limit { window.new.limit ≡ window.old.limit }
+    ensures shows { InModel (D.view disk.old)
+        (OnOk result (Shows window.new (active_of (bytes_on (D.view disk.old))))) }
+    ensures end { InModel (D.view disk.old)
+        (IfOk result (λ end. (payloads : List (List ℕ))
+        × ImageStandsFor (bytes_on (D.view disk.old)) payloads × (end ≡ end_of payloads))) }
+    ensures inside { IfOk result (λ end. (first_gate ≤ end) × (end < window.new.limit)) }
+    ensures fault { InModel (D.view disk.old) (IfErr result (Tells (bytes_on (D.view disk.old)))) }
+{
+    if let Err(cause) = window.fill(disk, 0, window.limit.min(11)) {
+        return Err(cause);
+    }
+    let Some(_) = behind_header(window.behind(0)) else {
+        return Err(OpenCause::NotASheet);
+    };
+    walk_gates(window, disk)
+}
+
+// The length of the payload behind a gate, of at most so many bytes, from the bytes there and how
+// many there are up to the area's end. Only bytes that the walk didn't see tell no such length, and
+// there it is 1.
+fn payload_len_at(front: &[u8], left: u64, most: u64) -> u64
+    requires front { min left 5 ≤ length front.now }
+    requires most { 1 ≤ most }
+    ensures len { (1 ≤ result) × (result ≤ most) × (result ≤ max_payload) }
+    ensures told { (payload rest : List ℕ) → IsPayload max_payload payload → length payload ≤ most
+        → 0 < length rest → left ≡ length (record_of payload ++ rest)
+        → Begins front.now (record_of payload ++ rest) → result ≡ length payload }
+{
+    match step_at(front, left) {
+        Step::Record(len) => len.min(most),
+        Step::End | Step::Broken => 1,
+    }
+}
+
+/// The bytes of the payload whose gate this is, before the closed gate at `end`.
+pub(crate) fn payload_at<D: Disk>(
+    window: &mut Window,
+    disk: &mut D,
+    gate: u64,
+    end: u64,
+) -> Result<Vec<u8>, OpenCause>
+    requires some { gate + 6 ≤ end }
+    requires inside { end < window.old.limit }
+    requires shows { InModel (D.view disk.old)
+        (Shows window.old (active_of (bytes_on (D.view disk.old)))) }
+    ensures reads { Reads (Fails result) (D.view disk.old) (D.view disk.new) }
+    ensures limit { window.new.limit ≡ window.old.limit }
+    ensures shows { InModel (D.view disk.old)
+        (OnOk result (Shows window.new (active_of (bytes_on (D.view disk.old))))) }
+    ensures cause { IfErr result IsPassing }
+    ensures payload { IfOk result (λ bytes. IsPayload max_payload bytes.items) }
+    ensures inside { IfOk result (λ bytes. gate + 5 + length bytes.items ≤ end) }
+    ensures bytes { InModel (D.view disk.old)
+        ((payload rest : List ℕ) → IsPayload max_payload payload → 0 < length rest
+        → gate + 5 + length payload ≤ end
+        → drop gate (active_of (bytes_on (D.view disk.old))) ≡ record_of payload ++ rest
+        → IfOk result (λ bytes. bytes.items ≡ payload)) }
+{
+    let left = window.limit - gate;
+    if let Err(cause) = window.fill(disk, gate, 5) {
+        return Err(cause);
+    }
+    let len = payload_len_at(window.behind(gate), left, end - gate - 5);
+    window.copy(disk, gate + 5, len)
 }

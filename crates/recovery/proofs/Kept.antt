@@ -7,13 +7,14 @@ use Rattle.worksheet.specs.Contents.{Contents, SheetView}
 use Rattle.worksheet.specs.Ops.{sheet_of}
 use Rattle.worksheet.specs.Checks.{first_refusal}
 use Rattle.journal.specs.Area.{StandsFor}
-use Rattle.journal.specs.Kept.{Fits, ImageStandsFor, Keeps, BeforeOrAfter}
+use Rattle.journal.specs.Kept.{Fits, ImageStandsFor, JournalView, Keeps, BeforeOrAfter}
 use Rattle.journal.specs.Limits.{max_payload}
 use Rattle.recovery.specs.Code.{IsPayloadOf}
 use Rattle.recovery.specs.Sheets.{StoreView, codes_of, Makes, HasPlace, IsSheetImage, IsStore, KeepsOps, SameStore, StandsWithOrWithout}
 use Rattle.recovery.specs.declared.base.Base.{Base}
 use Rattle.recovery.specs.declared.base.Base.TheVariants.{Open, Closed}
-use Rattle.recovery.specs.inside.Base.{disk_of, disk_in, end_in, is_closed, is_closed_store, KeepsIn, IsStoreOf, store_on}
+use Rattle.recovery.specs.inside.Base.{disk_of, disk_in, end_in, is_closed, is_closed_store, KeepsIn, KeepsSheet, IsStoreOf, store_on}
+use Rattle.recovery.specs.inside.Taken.{TakesAll}
 use Rattle.recovery.proofs.Allowed.{makes_more}
 use Rattle.recovery.proofs.Images.{all_images, made_in}
 use Rattle.recovery.proofs.Taking.{codes_push}
@@ -26,6 +27,14 @@ inside view (Closed disk) payloads opened keeps = absurd cc
 outside : {D : Type 0} (view : D → DiskView) (base : Base D) (payloads : List (List ℕ)) → KeepsIn base payloads → Keeps (disk_of view base).history (end_in base) payloads
 outside view (Open journal) payloads keeps = keeps
 outside view (Closed disk) payloads keeps = absurd keeps
+
+-- a journal whose payloads were all taken keeps the sheet that they made
+pub keeps_taken : {D : Type 0} (journal : JournalView) (sheet : Contents) (payloads : List (List ℕ)) → TakesAll payloads journal sheet → KeepsSheet {D = D} (Open journal) sheet
+keeps_taken journal sheet payloads taken = record {
+  ops = taken.ops;
+  keeps = subst (λ (l : List (List ℕ)). Keeps journal.disk.history journal.end l) taken.are taken.keeps;
+  makes = taken.makes;
+}
 
 -- an open store keeps some ops
 pub some_kept : {D : Type 0} (view : D → DiskView) (base : Option (Base D)) (sheet : SheetView) → IsStoreOf view base sheet.contents

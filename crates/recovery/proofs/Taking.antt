@@ -1,78 +1,60 @@
--- Payloads taken one behind another, as a loop does.
-use Rattle.std.proofs.Common.{◌≡◌, ℕ, zero, suc, ◌+◌, ◌<◌, List, [], ◌∷◌, ◌++◌, length, get_or, take, drop, refl, sym, ap, ◌∙◌, subst, append_assoc, append-nil, length-append, arith}
+-- Payloads taken one behind another.
+use Rattle.std.proofs.Common.{◌≡◌, ℕ, List, [], ◌∷◌, ◌++◌, refl, sym, ap, ◌∙◌, subst, append_assoc}
 use Rattle.std.proofs.lemmas.List.{map-append}
+use Rattle.disk_model.specs.Disk.{InModel}
 use Rattle.worksheet.specs.declared.op.Op.{Op}
 use Rattle.worksheet.specs.Contents.{Contents}
 use Rattle.worksheet.specs.Ops.{sheet_of}
 use Rattle.journal.specs.declared.walk.Payload.{Payload}
 use Rattle.journal.specs.declared.opening.OpenCause.{OpenCause}
 use Rattle.journal.specs.declared.opening.OpenCause.TheVariants as causes
-use Rattle.journal.specs.Area.{record_of, records, end_of}
-use Rattle.journal.specs.Payloads.{payloads_in, AreGates}
+use Rattle.journal.specs.Area.{end_of}
+use Rattle.journal.specs.Opening.{HasGiven, OpeningView}
 use Rattle.recovery.specs.Code.{code_of}
 use Rattle.recovery.specs.Sheets.{codes_of, Makes}
 use Rattle.recovery.specs.inside.Taken.{TakesOps, Refuses, RefusesFrom}
 
--- the first i payloads were taken
-pub record Reached (ps : List Payload) (i : ℕ) (sheet : Contents) : Type 0 where
-  pub ops : List Op
-  pub is : payloads_in (take i ps) ≡ codes_of ops
-  pub makes : Makes ops sheet
-  pub gates : AreGates 10 ps → AreGates (end_of (codes_of ops)) (drop i ps)
-
-payloads_more : (ps : List Payload) (i : ℕ) (d : Payload) → i < length ps → payloads_in (take (suc i) ps) ≡ payloads_in (take i ps) ++ (get_or ps i d).bytes ∷ []
-payloads_more [] i d lt = absurd (omega (arith, lt))
-payloads_more (p ∷ ps) zero d lt = refl
-payloads_more (p ∷ ps) (suc i) d lt = ap (λ (l : List (List ℕ)). p.bytes ∷ l) (payloads_more ps i d (omega (arith, lt)))
-
-payloads_split : (ps : List Payload) (i : ℕ) (d : Payload) → i < length ps → payloads_in ps ≡ payloads_in (take i ps) ++ (get_or ps i d).bytes ∷ payloads_in (drop (suc i) ps)
-payloads_split [] i d lt = absurd (omega (arith, lt))
-payloads_split (p ∷ ps) zero d lt = refl
-payloads_split (p ∷ ps) (suc i) d lt = ap (λ (l : List (List ℕ)). p.bytes ∷ l) (payloads_split ps i d (omega (arith, lt)))
-
-gate_here : (ps : List Payload) (gate i : ℕ) (d : Payload) → i < length ps → AreGates gate (drop i ps) → ((get_or ps i d).gate ≡ gate) × AreGates (gate + length (record_of (get_or ps i d).bytes)) (drop (suc i) ps)
-gate_here [] gate i d lt gates = absurd (omega (arith, lt))
-gate_here (p ∷ ps) gate zero d lt gates = gates
-gate_here (p ∷ ps) gate (suc i) d lt gates = gate_here ps gate i d (omega (arith, lt)) gates
-
-records_push : (ps : List (List ℕ)) (p : List ℕ) → records (ps ++ p ∷ []) ≡ records ps ++ record_of p
-records_push [] p = append-nil (record_of p)
-records_push (q ∷ ps) p = ap (λ (l : List ℕ). record_of q ++ l) (records_push ps p) ∙ sym (append_assoc (record_of q) (records ps) (record_of p))
-
 pub codes_push : (os : List Op) (o : Op) → codes_of (os ++ o ∷ []) ≡ codes_of os ++ code_of o ∷ []
 codes_push os o = map-append code_of os (o ∷ [])
 
-end_push : (os : List Op) (o : Op) → end_of (codes_of os) + length (record_of (code_of o)) ≡ end_of (codes_of (os ++ o ∷ []))
-end_push os o =
-    let n : length (records (codes_of (os ++ o ∷ []))) ≡ length (records (codes_of os)) + length (record_of (code_of o)) =
-    ap (λ (l : List (List ℕ)). length (records l)) (codes_push os o) ∙ ap (λ (l : List ℕ). length l) (records_push (codes_of os) (code_of o)) ∙ length-append (records (codes_of os)) (record_of (code_of o)) in
-    omega (arith, n)
+-- the payloads so far are taken, and these are left
+pub record Left (now : OpeningView) (ops : List Op) (payloads : List (List ℕ)) : Type 0 where
+  pub left : List (List ℕ)
+  pub given : HasGiven now (codes_of ops) left
+  pub are : payloads ≡ codes_of ops ++ left
 
-pub reached_more : (ps : List Payload) (i : ℕ) (d : Payload) (before after : Contents) → i < length ps → (far : Reached ps i before) → TakesOps far.ops (get_or ps i d).bytes after → Reached ps (suc i) after
-reached_more ps i d before after lt far takes = record {
-  ops = far.ops ++ takes.next ∷ [];
-  is = payloads_more ps i d lt ∙ ap (λ (l : List (List ℕ)). l ++ (get_or ps i d).bytes ∷ []) far.is ∙ ap (λ (b : List ℕ). codes_of far.ops ++ b ∷ []) takes.is ∙ sym (codes_push far.ops takes.next);
-  makes = takes.makes;
-  gates = λ gates.
-      let here = (gate_here ps (end_of (codes_of far.ops)) i d lt (far.gates gates)).1 in
-      let same : end_of (codes_of far.ops) + length (record_of (get_or ps i d).bytes) ≡ end_of (codes_of (far.ops ++ takes.next ∷ [])) =
-      ap (λ (b : List ℕ). end_of (codes_of far.ops) + length (record_of b)) takes.is ∙ end_push far.ops takes.next in
-      subst (λ (n : ℕ). AreGates n (drop (suc i) ps)) same here;
-}
+-- an opening has given the payloads of ops that make this sheet
+pub record Reached (old now : OpeningView) (sheet : Contents) : Type 0 where
+  pub ops : List Op
+  pub makes : Makes ops sheet
+  pub so_far : InModel old.disk ((payloads : List (List ℕ)) → HasGiven old [] payloads → Left now ops payloads)
 
-makes_itself : (ops : List Op) (sheet : Contents) → Makes ops sheet → Makes ops (sheet_of ops)
-makes_itself ops sheet makes = record { typed = makes.typed; allowed = makes.allowed; is = refl }
+-- one payload more
+pub left_on : (now behind : OpeningView) (ops : List Op) (payloads : List (List ℕ)) (bytes : List ℕ) (sheet : Contents) (far : Left now ops payloads)
+    → ((others : List (List ℕ)) × (far.left ≡ bytes ∷ others) × HasGiven behind (codes_of ops ++ bytes ∷ []) others)
+    → (takes : TakesOps ops bytes sheet) → Left behind (ops ++ takes.next ∷ []) payloads
+left_on now behind ops payloads bytes sheet far next takes =
+    let codes : codes_of ops ++ bytes ∷ [] ≡ codes_of (ops ++ takes.next ∷ []) =
+    ap (λ (b : List ℕ). codes_of ops ++ b ∷ []) takes.is ∙ sym (codes_push ops takes.next) in
+    record {
+      left = next.0;
+      given = subst (λ (l : List (List ℕ)). HasGiven behind l next.0) codes next.2;
+      are = far.are ∙ ap (λ (l : List (List ℕ)). codes_of ops ++ l) next.1 ∙ sym (append_assoc (codes_of ops) (bytes ∷ []) next.0)
+          ∙ ap (λ (l : List (List ℕ)). l ++ next.0) codes;
+    }
 
-pub refused_here : (ps : List Payload) (i : ℕ) (d : Payload) (sheet : Contents) (cause : OpenCause) → i < length ps → (far : Reached ps i sheet) → Refuses far.ops (get_or ps i d) cause → AreGates 10 ps → RefusesFrom (payloads_in ps) cause
-refused_here ps i d sheet (causes.Damaged gate) lt far refuses gates = record {
-  ops = far.ops;
-  payload = (get_or ps i d).bytes;
-  more = payloads_in (drop (suc i) ps);
-  is = payloads_split ps i d lt ∙ ap (λ (l : List (List ℕ)). l ++ (get_or ps i d).bytes ∷ payloads_in (drop (suc i) ps)) far.is;
-  gate_is = refuses.0 ∙ (gate_here ps (end_of (codes_of far.ops)) i d lt (far.gates gates)).0;
-  makes = makes_itself far.ops sheet far.makes;
+-- a payload that is refused
+pub refused_here : (now : OpeningView) (ops : List Op) (payloads : List (List ℕ)) (p : Payload) (sheet : Contents) (cause : OpenCause) (far : Left now ops payloads)
+    → (others : List (List ℕ)) → far.left ≡ p.bytes ∷ others → p.gate ≡ now.gate → Makes ops sheet → Refuses ops p cause → RefusesFrom payloads cause
+refused_here now ops payloads p sheet (causes.Damaged gate) far others next here makes refuses = record {
+  ops = ops;
+  payload = p.bytes;
+  more = others;
+  is = far.are ∙ ap (λ (l : List (List ℕ)). codes_of ops ++ l) next;
+  gate_is = refuses.0 ∙ here ∙ far.given.gate_is;
+  makes = record { typed = makes.typed; allowed = makes.allowed; is = refl };
   wrong = refuses.1;
 }
-refused_here ps i d sheet causes.NotASheet lt far refuses gates = refuses
-refused_here ps i d sheet causes.Disk lt far refuses gates = refuses
-refused_here ps i d sheet causes.OutOfMemory lt far refuses gates = tt
+refused_here now ops payloads p sheet causes.NotASheet far others next here makes refuses = refuses
+refused_here now ops payloads p sheet causes.Disk far others next here makes refuses = tt
+refused_here now ops payloads p sheet causes.OutOfMemory far others next here makes refuses = tt

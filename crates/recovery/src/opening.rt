@@ -1,12 +1,14 @@
 // The worksheet of payloads.
-ghost use Rattle.std.specs.Prelude.{◌≡◌, List, IfOk, IfErr, OnOk, IsErrOf};
+ghost use Rattle.std.specs.Prelude.{◌≡◌, ◌≤◌, [], List, ℕ, IfOk, IfErr, OnOk, IsErrOf, MatchResult};
+ghost use Rattle.disk_model.specs.Disk.{InModel, Looks, Rises, SameDisk};
 ghost use Rattle.worksheet.specs.declared.op.Op.{Op};
-ghost use Rattle.journal.specs.Payloads.{payloads_in, AreGates};
-ghost use Rattle.recovery.specs.Sheets.{codes_of, Makes};
-ghost use Rattle.recovery.specs.inside.Taken.{TakesOps, Refuses, RefusesFrom};
+ghost use Rattle.journal.specs.Opening.{HasGiven};
+ghost use Rattle.recovery.specs.Sheets.{Makes};
+ghost use Rattle.recovery.specs.inside.Taken.{disk_taken, TakesAll, TakesOps, Refuses, RefusesFrom};
 
 use crate::reading::{DecodeFault, decode};
-use journal::{OpenCause, Payload};
+use disk_model::Disk;
+use journal::{Journal, Next, OpenCause, OpenFault, Opening, Payload};
 use std::alloc::Global;
 use worksheet::Sheet;
 
@@ -32,18 +34,42 @@ fn take(alloc: Global, sheet: &mut Sheet, payload: &Payload) -> Result<(), OpenC
     Ok(())
 }
 
-/// The worksheet of payloads that stand in a journal, or where the first is that no worksheet has.
-pub(crate) fn sheet_of_payloads(alloc: Global, payloads: &[Payload]) -> Result<Sheet, OpenCause>
-    ensures sheet { IfOk result
-        (λ sheet. (ops : List Op) × (payloads_in payloads.now ≡ codes_of ops)
-        × Makes ops sheet.contents) }
-    ensures refused { AreGates 10 payloads.now
-        → IfErr result (RefusesFrom (payloads_in payloads.now)) }
-    ensures passing { IsErrOf result OpenCause.Disk → ⊥ }
+/// The journal of an opening that has given nothing, and the worksheet of its payloads. One payload
+/// after another is taken, and none is kept.
+pub(crate) fn take_all<D: Disk>(
+    alloc: Global,
+    opening: Opening<D>,
+) -> Result<(Journal<D>, Sheet), OpenFault<D>>
+    requires { opening.gate ≤ opening.end }
+    ensures same { SameDisk opening.disk (disk_taken D.view result) }
+    ensures made { IfOk result (λ found. (ops : List Op) × Makes ops found.1.contents) }
+    ensures taken { InModel opening.disk
+        ((payloads : List (List ℕ)) → HasGiven opening [] payloads
+        → IfOk result (λ found. TakesAll payloads found.0 found.1.contents)) }
+    ensures refused { InModel opening.disk
+        ((payloads : List (List ℕ)) → HasGiven opening [] payloads
+        → IfErr result (λ e. RefusesFrom payloads e.cause)) }
+    ensures looks { InModel opening.disk
+        (Looks opening.disk.history (disk_taken D.view result).history) }
+    ensures faulty { IfErr result
+        (λ e. e.cause ≡ OpenCause.Disk → Rises opening.disk.faults (D.view e.disk).faults) }
+    ensures steady { MatchResult result
+        (λ found. found.0.disk.faults ≡ opening.disk.faults)
+        (λ e. (e.cause ≡ OpenCause.Disk → ⊥) → (D.view e.disk).faults ≡ opening.disk.faults) }
 {
+    let mut opening = opening;
     let mut sheet = Sheet::new(alloc);
-    for payload in payloads {
-        take(alloc, &mut sheet, payload)?;
+    loop {
+        match opening.next() {
+            Ok(Next::Payload(behind, payload)) => {
+                if let Err(cause) = take(alloc, &mut sheet, &payload) {
+                    let disk = behind.into_disk();
+                    return Err(OpenFault { cause, disk });
+                }
+                opening = behind;
+            }
+            Ok(Next::End(journal)) => return Ok((journal, sheet)),
+            Err(fault) => return Err(fault),
+        }
     }
-    Ok(sheet)
 }

@@ -11,11 +11,11 @@ ghost use Rattle.recovery.specs.Sheets.{IsSheetImage, IsEither, KeepsOps, Makes,
 
 use crate::base::Base;
 use crate::fault::{CommitFault, PrepareFault};
-use crate::opening::sheet_of_payloads;
+use crate::opening::take_all;
 use crate::size::code_len;
 use crate::writing::encode;
 use disk_model::{Disk, DiskFault};
-use journal::{Frame, Journal, OpenCause, OpenFault};
+use journal::{Frame, OpenCause, OpenFault, Opening};
 use std::alloc::Global;
 use std::marker::Model;
 use worksheet::{Op, Sheet};
@@ -87,17 +87,17 @@ impl<D: Disk> Store<D> {
             (λ store. store.disk.faults ≡ (D.view disk).faults)
             (λ e. (e.cause ≡ OpenCause.Disk → ⊥) → (D.view e.disk).faults ≡ (D.view disk).faults) }
     {
-        let (journal, payloads) = Journal::open(alloc, disk)?;
-        match sheet_of_payloads(alloc, &payloads) {
-            Ok(sheet) => Ok(Store {
+        let opening = match Opening::begin(alloc, disk) {
+            Ok(opening) => opening,
+            Err(fault) => return Err(fault),
+        };
+        match take_all(alloc, opening) {
+            Ok((journal, sheet)) => Ok(Store {
                 alloc,
                 base: Some(Base::Open(journal)),
                 sheet,
             }),
-            Err(cause) => Err(OpenFault {
-                cause,
-                disk: journal.into_disk(),
-            }),
+            Err(fault) => Err(fault),
         }
     }
 

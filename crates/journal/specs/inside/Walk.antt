@@ -1,13 +1,22 @@
--- A walk over the gates of an area. No public clause speaks of `IsStep`.
-use Rattle.std.specs.Prelude.{◌≡◌, ◌≢◌, ℕ, ◌<◌, List, ◌∷◌, ◌++◌, length, slice_index}
-use Rattle.journal.specs.Area.{record_of, IsPayload, open_gate}
+-- A walk over the gates of an area. No public clause speaks of it.
+use Rattle.std.specs.Prelude.{◌≡◌, ◌≢◌, ℕ, ◌+◌, ◌<◌, ◌≤◌, List, ◌∷◌, ◌++◌, length}
+use Rattle.std.specs.Int.{to_be_bytes, w32}
+use Rattle.journal.specs.Area.{open_gate}
 use Rattle.journal.specs.Damage.{IsBroken}
+use Rattle.journal.specs.Limits.{max_payload}
 use Rattle.journal.specs.declared.walk.Step.{Step}
 use Rattle.journal.specs.declared.walk.Step.TheVariants.{End, Broken, Record}
 
--- what stands at the gate that these bytes begin with
+-- what stands at the gate that these bytes begin with; of a record the length of its payload, which
+-- the bytes behind it exceed
 abbrev pub IsStep : ℕ → List ℕ → Step → Type 0
-IsStep limit rest End = slice_index rest 0 ≢ open_gate
+IsStep limit rest End = (gate : ℕ) × (more : List ℕ) × (rest ≡ gate ∷ more) × (gate ≢ open_gate)
 IsStep limit rest Broken = (more : List ℕ) × (rest ≡ open_gate ∷ more) × IsBroken limit more
-IsStep limit rest (Record payload after) = IsPayload limit payload.now
-    × (rest ≡ record_of payload.now ++ after.now) × (0 < length after.now)
+IsStep limit rest (Record n) = (more : List ℕ)
+    × (rest ≡ open_gate ∷ (to_be_bytes w32 n ++ more)) × (1 ≤ n) × (n ≤ limit) × (n < length more)
+
+-- over any bytes: the length that a record tells is a payload's, and the record ends before the last
+-- of so many bytes
+abbrev pub IsLength : ℕ → Step → Type 0
+IsLength left (Record n) = (1 ≤ n) × (n ≤ max_payload) × (5 + n < left)
+IsLength left step = Unit {0}

@@ -3,7 +3,7 @@ ghost use Rattle.std.specs.Prelude.{◌≤◌};
 
 use super::desk::{Appended, SESSION, append, cause_of, created, empty, frame, has};
 use disk_model::{Area, Disk, DiskFault, MemoryDisk};
-use journal::{CreateCause, Frame, Journal, create};
+use journal::{CreateCause, Frame, Journal, OpenCause, Opening, create};
 use std::alloc::Global;
 use std::test::Fail;
 use tests_desk::exhausted;
@@ -137,5 +137,46 @@ fn create_and_append_take_no_memory(rt: HostRuntime) -> Result<(), Fail> {
         return Err("append".into());
     };
     assert!(rt; has(alloc, journal.into_disk(), &[(10, &SESSION)])?);
+    Ok(())
+}
+
+// The session behind the closed gate of a journal on a disk of an array.
+fn array_with_session(alloc: Global) -> Result<ArrayDisk, Fail> {
+    let frame = frame(alloc, &SESSION)?;
+    let journal = empty(alloc, created_without_memory(alloc)?)?;
+    match appended(alloc, journal, &frame, true)? {
+        Appended::Done(journal) => Ok(journal.into_disk()),
+        _ => Err("append".into()),
+    }
+}
+
+// Whether an opening is refused for want of memory where none is left as it begins.
+fn begins_without_memory(alloc: Global, disk: ArrayDisk) -> Result<bool, Fail> {
+    let _held = exhausted(alloc)?;
+    match Opening::begin(alloc, disk) {
+        Ok(_) => Ok(true),
+        Err(fault) if fault.cause == OpenCause::OutOfMemory => Ok(false),
+        Err(_) => Err("another fault".into()),
+    }
+}
+
+// Whether the first payload comes where no memory is left once the opening has begun.
+fn gives_without_memory(alloc: Global, disk: ArrayDisk) -> Result<bool, Fail> {
+    let Ok(opening) = Opening::begin(alloc, disk) else {
+        return Err("begin".into());
+    };
+    let _held = exhausted(alloc)?;
+    match opening.next() {
+        Ok(_) => Ok(true),
+        Err(fault) if fault.cause == OpenCause::OutOfMemory => Ok(false),
+        Err(_) => Err("another fault".into()),
+    }
+}
+
+#[test]
+fn an_opening_without_memory(rt: HostRuntime) -> Result<(), Fail> {
+    let alloc = rt.alloc();
+    assert!(rt; !begins_without_memory(alloc, array_with_session(alloc)?)?);
+    assert!(rt; !gives_without_memory(alloc, array_with_session(alloc)?)?);
     Ok(())
 }

@@ -26,6 +26,18 @@ fn the_first_damage_is_told(rt: HostRuntime) -> Result<(), Fail> {
     Ok(())
 }
 
+// The worksheet is empty, so it refuses the first payload, Remove 1. Damage of the gates comes first,
+// also where it stands behind that payload.
+#[test]
+fn damage_of_the_gates_comes_before_a_refused_op(rt: HostRuntime) -> Result<(), Fail> {
+    let alloc = rt.alloc();
+    let broken = b"TMWSHEET\x01A\x52\x00\x00\x00\x05\x04\x00\x00\x00\x01\x52";
+    assert_eq!(rt; refusal(alloc, broken)?, Some(OpenCause::Damaged(20)));
+    let whole = b"TMWSHEET\x01A\x52\x00\x00\x00\x05\x04\x00\x00\x00\x01\x00";
+    assert_eq!(rt; refusal(alloc, whole)?, Some(OpenCause::Damaged(10)));
+    Ok(())
+}
+
 // Why the first bytes of the example, so many, don't open: the header is not whole, or the record
 // behind this gate.
 fn cause_of(len: usize) -> OpenCause {

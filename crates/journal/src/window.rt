@@ -1,0 +1,158 @@
+// Reads of area First through a window of at most 65,536 bytes.
+ghost use Rattle.std.specs.Prelude.{◌≡◌, ◌+◌, ◌-◌, ◌≤◌, List, ℕ, length, take, drop, IfErr, IfOk, OnOk, vec_len};
+ghost use Rattle.disk_model.specs.Disk.{InModel, bytes_on, max_room};
+ghost use Rattle.journal.specs.Kept.{active_of};
+ghost use Rattle.journal.specs.Open.{IsPassing};
+ghost use Rattle.journal.specs.inside.Reads.{Begins, Fails, Reads, longest_read};
+
+use crate::OpenCause;
+use disk_model::{Area, Disk, DiskFault};
+use std::alloc::{AllocError, Global};
+
+// The most bytes that are read at once.
+const LONGEST_READ: u64 = 65_536;
+
+/// Some bytes of area First, from `start` on. None at `limit` or behind it is read.
+#[derive(Drop)]
+pub(crate) struct Window {
+    alloc: Global,
+    pub(crate) limit: u64,
+    start: u64,
+    bytes: Vec<u8>,
+    ghost small: { limit ≤ max_room },
+    ghost inside: { start + vec_len bytes ≤ limit },
+}
+
+// So many bytes of area First, in one read.
+fn read_part<D: Disk>(alloc: Global, disk: &mut D, at: u64, len: u64) -> Result<Vec<u8>, OpenCause>
+    requires short { len ≤ longest_read }
+    requires inside { InModel (D.view disk.old)
+        (at + len ≤ length (active_of (bytes_on (D.view disk.old)))) }
+    ensures reads { Reads (Fails result) (D.view disk.old) (D.view disk.new) }
+    ensures cause { IfErr result IsPassing }
+    ensures len { IfOk result (λ bytes. vec_len bytes ≡ len) }
+    ensures bytes { InModel (D.view disk.old)
+        (IfOk result (λ bytes. Begins bytes.items
+        (drop at (active_of (bytes_on (D.view disk.old)))))) }
+{
+    let Ok(mut bytes) = vec![in alloc; 0u8; len as usize] else {
+        return Err(OpenCause::OutOfMemory);
+    };
+    match disk.read(Area::First, at, &mut bytes) {
+        Ok(()) => Ok(bytes),
+        Err(DiskFault) => Err(OpenCause::Disk),
+    }
+}
+
+// The first bytes, so many at most.
+fn front_of(bytes: &[u8], most: u64) -> &[u8]
+    ensures { result.now ≡ take most bytes.now }
+{
+    if bytes.len() as u64 <= most {
+        return bytes;
+    }
+    let (front, _) = bytes.split_at(most as usize);
+    front
+}
+
+impl Window {
+    ghost use Rattle.journal.specs.inside.Window.{Shows};
+
+    /// A window on an area of this length, which shows nothing yet.
+    pub(crate) fn new(alloc: Global, limit: u64) -> Window
+        requires { limit ≤ max_room }
+        ensures limit { result.limit ≡ limit }
+        ensures shows { (area : List ℕ) → limit ≡ length area → Shows result area }
+    {
+        Window {
+            alloc,
+            limit,
+            start: 0,
+            bytes: Vec::new(alloc),
+        }
+    }
+
+    /// Has the window show the bytes from `at` on, of which `need` are needed.
+    pub(crate) fn fill<D: Disk>(
+        &mut self,
+        disk: &mut D,
+        at: u64,
+        need: u64,
+    ) -> Result<(), OpenCause>
+        requires inside { at + need ≤ self.old.limit }
+        requires short { need ≤ longest_read }
+        requires shows { InModel (D.view disk.old)
+            (Shows self.old (active_of (bytes_on (D.view disk.old)))) }
+        ensures reads { Reads (Fails result) (D.view disk.old) (D.view disk.new) }
+        ensures cause { IfErr result IsPassing }
+        ensures limit { self.new.limit ≡ self.old.limit }
+        ensures from { OnOk result (self.new.start ≤ at) }
+        ensures to { OnOk result (at + need ≤ self.new.start + vec_len self.new.bytes) }
+        ensures shows { InModel (D.view disk.old)
+            (OnOk result (Shows self.new (active_of (bytes_on (D.view disk.old))))) }
+    {
+        if self.start <= at && at + need <= self.start + self.bytes.len() as u64 {
+            return Ok(());
+        }
+        let len = (self.limit - at).min(LONGEST_READ);
+        match read_part(self.alloc, disk, at, len) {
+            Ok(bytes) => {
+                *self = Window {
+                    alloc: self.alloc,
+                    limit: self.limit,
+                    start: at,
+                    bytes,
+                };
+                Ok(())
+            }
+            Err(cause) => Err(cause),
+        }
+    }
+
+    /// The bytes that the window shows from `at` on.
+    pub(crate) fn behind(&self, at: u64) -> &[u8]
+        requires from { self.now.start ≤ at }
+        requires to { at ≤ self.now.start + vec_len self.now.bytes }
+        ensures len { at + length result.now ≡ self.now.start + vec_len self.now.bytes }
+        ensures shows { (area : List ℕ) → Shows self.now area → Begins result.now (drop at area) }
+    {
+        let (_, behind) = self.bytes.split_at((at - self.start) as usize);
+        behind
+    }
+
+    /// So many bytes of area First from `at` on, read in parts.
+    pub(crate) fn copy<D: Disk>(
+        &mut self,
+        disk: &mut D,
+        at: u64,
+        len: u64,
+    ) -> Result<Vec<u8>, OpenCause>
+        requires inside { at + len ≤ self.old.limit }
+        requires shows { InModel (D.view disk.old)
+            (Shows self.old (active_of (bytes_on (D.view disk.old)))) }
+        ensures reads { Reads (Fails result) (D.view disk.old) (D.view disk.new) }
+        ensures cause { IfErr result IsPassing }
+        ensures limit { self.new.limit ≡ self.old.limit }
+        ensures shows { InModel (D.view disk.old)
+            (OnOk result (Shows self.new (active_of (bytes_on (D.view disk.old))))) }
+        ensures len { IfOk result (λ bytes. vec_len bytes ≡ len) }
+        ensures bytes { InModel (D.view disk.old)
+            (IfOk result (λ bytes. Begins bytes.items
+            (drop at (active_of (bytes_on (D.view disk.old)))))) }
+    {
+        let Ok(mut bytes) = Vec::with_capacity(self.alloc, len as usize) else {
+            return Err(OpenCause::OutOfMemory);
+        };
+        while (bytes.len() as u64) < len {
+            let here = at + bytes.len() as u64;
+            if let Err(cause) = self.fill(disk, here, 1) {
+                return Err(cause);
+            }
+            let part = front_of(self.behind(here), len - bytes.len() as u64);
+            if let Err(AllocError) = bytes.extend_from_slice(part) {
+                return Err(OpenCause::OutOfMemory);
+            }
+        }
+        Ok(bytes)
+    }
+}
