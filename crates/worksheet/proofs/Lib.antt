@@ -1,5 +1,9 @@
 pub mod NameLaws
 pub mod EditLaws
+pub mod EntryLaws
+pub mod Lookup
+pub mod MoveLaws
+pub mod Standing
 pub mod CheckLaws
 pub mod Finds
 pub mod SoundLaws

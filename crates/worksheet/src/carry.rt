@@ -5,29 +5,34 @@ ghost use Rattle.worksheet.specs.declared.op.Op.TheVariants as op;
 ghost use Rattle.worksheet.specs.Names.{is_name};
 ghost use Rattle.worksheet.specs.Checks.{field_in, first_refusal, numbers, room_for, session_named};
 ghost use Rattle.worksheet.specs.Edits.{AreApart, HasNumbersApart, contents_with, edited, fields_without, moved};
+ghost use Rattle.worksheet.specs.inside.Entries.{AreFields, shown};
 ghost use Rattle.worksheet.specs.inside.SheetInside.{held_of};
 
 use crate::check::session_with;
-use crate::edits::{put_field, set_answer, set_input, take_field};
+use crate::edits::{move_field, put_field, remove_field, set_answer, set_input};
 use crate::field::{Answer, Field, Session};
 use crate::name::Name;
 use crate::op::Op;
+use crate::slot::Slot;
 use block_tree::{Octets, Sequence, Text};
+use indexmap::IndexMap;
 
 /// Does what an allowed op says to a worksheet of these parts. There is room for it.
 pub(crate) fn carry_out(
-    fields: &mut Vec<Field>,
+    fields: &mut IndexMap<u32, Slot>,
     sessions: &mut Vec<Session>,
     next: &mut u32,
     op: Op,
 )
-    requires sound { HasNumbersApart (contents_with fields.old.items sessions.old.items next.old) }
-    requires allowed { first_refusal (contents_with fields.old.items sessions.old.items next.old) op
+    requires sound { HasNumbersApart (contents_with (shown fields.old.entries) sessions.old.items next.old) }
+    requires allowed { first_refusal (contents_with (shown fields.old.entries) sessions.old.items next.old) op
         ≡ None }
     requires room { room_for (held_of
         (record { fields = fields.old; sessions = sessions.old; next = next.old })) op ≡ true }
-    ensures { contents_with fields.new.items sessions.new.items next.new
-        ≡ edited (contents_with fields.old.items sessions.old.items next.old) op }
+    requires fields { AreFields fields.old.entries }
+    ensures fields { AreFields fields.new.entries }
+    ensures edited { contents_with (shown fields.new.entries) sessions.new.items next.new
+        ≡ edited (contents_with (shown fields.old.entries) sessions.old.items next.old) op }
 {
     match op {
         Op::Session { name, tab, words } => add_session(sessions, name, tab, words),
@@ -97,24 +102,4 @@ fn text_of(bytes: Octets) -> Text
         Ok(text) => Text::from_string(text),
         Err(_) => unreachable!(),
     }
-}
-
-/// Takes the field with this number out and gives it up.
-fn remove_field(fields: &mut Vec<Field>, id: u32)
-    requires apart { AreApart (numbers fields.old.items) }
-    requires there { IsSome (field_in fields.old.items id) }
-    ensures { fields.new.items ≡ fields_without id fields.old.items }
-{
-    take_field(fields, id);
-}
-
-/// Moves a field directly behind another, or first for 0.
-fn move_field(fields: &mut Vec<Field>, id: u32, after: u32)
-    requires apart { AreApart (numbers fields.old.items) }
-    requires allowed { first_refusal (contents_with fields.old.items [] 0) (op.Move id after)
-        ≡ None }
-    ensures { fields.new.items ≡ moved id after fields.old.items (field_in fields.old.items id) }
-{
-    let field = take_field(fields, id);
-    put_field(fields, after, field);
 }

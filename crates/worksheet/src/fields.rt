@@ -3,16 +3,20 @@ ghost use Rattle.std.specs.Prelude.{◌≡◌, List};
 ghost use Rattle.std.specs.Coded.{coded_list};
 ghost use Rattle.std.specs.Iterator.{YieldsFirstRef, item_count};
 ghost use Rattle.worksheet.specs.inside.Codes.{coded_field};
+ghost use Rattle.worksheet.specs.inside.Entries.{shown};
 ghost use Rattle.worksheet.specs.declared.field.Field.{Field};
 ghost use Rattle.worksheet.specs.declared.field.Session.{Session};
 
 use crate::field::{Field, Session};
+use crate::slot::Slot;
+use indexmap::IndexMap;
+use indexmap::map::Slice;
 use std::marker::Model;
 
 /// The fields of a worksheet that are still to come, in their order.
 #[derive(Drop)]
 pub struct Fields<'a> {
-    rest: &'a [Field],
+    rest: Slice<'a, u32, Slot>,
 }
 
 impl<'a> Model for Fields<'a> {
@@ -20,15 +24,17 @@ impl<'a> Model for Fields<'a> {
 
     ghost coded = { coded_list coded_field };
 
-    ghost view = { λ fields. fields.rest.now };
+    ghost view = { λ fields. shown fields.rest };
 }
 
 impl<'a> Fields<'a> {
     /// These fields, first to last.
-    pub(crate) fn new(rest: &'a [Field]) -> Fields<'a>
-        ensures { result ≡ rest.entry.now }
+    pub(crate) fn new(fields: &'a IndexMap<u32, Slot>) -> Fields<'a>
+        ensures { result ≡ shown fields.entry.now.entries }
     {
-        Fields { rest }
+        Fields {
+            rest: fields.as_slice(),
+        }
     }
 }
 
@@ -40,9 +46,13 @@ impl<'a> Iterator for Fields<'a> {
     ghost remaining = { item_count (λ rest. rest) };
 
     fn next(&mut self) -> Option<&'a Field> {
-        let (field, others) = self.rest.split_first()?;
-        self.rest = others;
-        Some(field)
+        while let Some(((_, slot), others)) = self.rest.split_first() {
+            self.rest = others;
+            if let Some(field) = slot.get() {
+                return Some(field);
+            }
+        }
+        None
     }
 }
 

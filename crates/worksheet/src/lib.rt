@@ -13,8 +13,10 @@ pub mod laws;
 pub mod limits;
 pub mod name;
 pub mod op;
+mod places;
 pub mod refusal;
 pub mod sheet;
+mod slot;
 
 pub use field::{Answer, Field, Session};
 pub use fields::{Fields, Sessions};

@@ -4,12 +4,16 @@ ghost use Rattle.std.specs.Option.{option_copied};
 ghost use Rattle.std.specs.Result.{result_err};
 
 use crate::carry::carry_out;
-use crate::check::{check_op, field_with, is_new_name, session_with};
+use crate::check::{check_op, is_new_name, session_with};
+use crate::edits::reserve_number;
 use crate::field::{Field, Session};
 use crate::fields::{Fields, Sessions};
 use crate::op::Op;
+use crate::places::{field_with, is_reserved};
 use crate::refusal::Refusal;
+use crate::slot::Slot;
 use block_tree::OutOfMemory;
+use indexmap::IndexMap;
 use std::alloc::Global;
 use std::marker::Model;
 
@@ -17,7 +21,7 @@ use std::marker::Model;
 /// ops, those that it has taken, and contains what they say.
 #[derive(Drop)]
 pub struct Sheet {
-    fields: Vec<Field>,
+    fields: IndexMap<u32, Slot>,
     sessions: Vec<Session>,
     next: u32,
 }
@@ -47,7 +51,7 @@ impl Sheet {
         ensures { result.contents ≡ sheet_of [] }
     {
         Sheet {
-            fields: Vec::new(alloc),
+            fields: IndexMap::new(alloc),
             sessions: Vec::new(alloc),
             next: 1,
         }
@@ -67,7 +71,7 @@ impl Sheet {
         ensures { result ≡ room_for self.now op.now }
     {
         match op {
-            Op::New { .. } => self.fields.len() < self.fields.capacity(),
+            Op::New { .. } => is_reserved(&self.fields, self.next),
             Op::Session { name, .. } => {
                 !is_new_name(&self.sessions, name.as_slice())
                     || self.sessions.len() < self.sessions.capacity()
@@ -92,7 +96,7 @@ impl Sheet {
             return Ok(());
         }
         match op {
-            Op::New { .. } => self.fields.reserve(1),
+            Op::New { .. } => reserve_number(&mut self.fields, self.next),
             Op::Session { .. } => self.sessions.reserve(1),
             Op::Set { .. }
             | Op::Remove { .. }

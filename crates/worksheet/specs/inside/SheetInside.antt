@@ -1,16 +1,12 @@
--- A worksheet in its vectors.
+-- A worksheet in its maps.
 use Rattle.std.specs.Prelude.{ℕ, Bool, true, false, Option, Some, None, nat_lt, vec_len, vec_capacity}
 use Rattle.worksheet.specs.declared.sheet.Sheet.TheInside.{Inside}
 use Rattle.worksheet.specs.Contents.{Contents, SheetView, SessionRoom, ready_for_none, ready_for_any}
 use Rattle.worksheet.specs.Edits.{HasNumbersApart, contents_with}
+use Rattle.worksheet.specs.inside.Entries.{AreFields, shown, reserved}
 
 abbrev pub contents_of : Inside → Contents
-contents_of sheet = contents_with sheet.fields.items sheet.sessions.items sheet.next
-
--- a vector with room for one more has it for any number and any name
-abbrev pub number_ready : Bool → ℕ → Option ℕ
-number_ready true next = Some next
-number_ready false next = None
+contents_of sheet = contents_with (shown sheet.fields.entries) sheet.sessions.items sheet.next
 
 abbrev pub sessions_ready : Bool → SessionRoom
 sessions_ready true = ready_for_any
@@ -19,9 +15,10 @@ sessions_ready false = ready_for_none
 abbrev pub held_of : Inside → SheetView
 held_of sheet = record {
   contents = contents_of sheet;
-  field_room = number_ready (nat_lt (vec_len sheet.fields) (vec_capacity sheet.fields)) sheet.next;
+  field_room = reserved sheet.fields.entries;
   session_room = sessions_ready (nat_lt (vec_len sheet.sessions) (vec_capacity sheet.sessions));
 }
 
-abbrev pub IsSoundInside : Inside → Type 0
-IsSoundInside sheet = HasNumbersApart (contents_of sheet)
+pub record IsSoundInside (sheet : Inside) : Type 0 where
+  pub sound : HasNumbersApart (contents_of sheet)
+  pub fields : AreFields sheet.fields.entries
