@@ -1,11 +1,10 @@
 -- A map some of whose keys have no value, and edits of it at a place, seen as edits of the list of its values.
-use Rattle.std.proofs.Common.{◌≡◌, ℕ, ◌<◌, ◌≤◌, ◌+◌, List, [], ◌∷◌, ◌++◌, length, take, drop, map, set, get_or, slice_get, refl, ap, sym, ◌∙◌, subst, arith, Bool, true, false, Option, Some, None, zero, suc, insert, remove}
+use Rattle.std.proofs.Common.{◌≡◌, ℕ, ◌<◌, ◌≤◌, ◌+◌, List, [], ◌∷◌, ◌++◌, length, set, get_or, slice_get, refl, ap, ◌∙◌, arith, true, Option, Some, None, zero, suc, insert, remove}
 use Rattle.std.specs.Prelude.{is_some}
 use Rattle.indexmap.specs.IndexMap.{set_value_at, move_index}
-use Rattle.worksheet.specs.inside.Entries.{shown, reserved, with_shown, with_reserved, Fits, FitsOne}
+use Rattle.worksheet.specs.inside.Entries.{shown, reserved, with_reserved, Fits}
 
 module _ {K V : Type 0} (key : V → K) where
-
   -- a map without a reserved key is as long as its values
   pub length-full : (es : List (K × Option V)) → reserved es ≡ None → length es ≡ length (shown es)
   length-full [] h = refl
@@ -149,7 +148,6 @@ module _ {K V : Type 0} (key : V → K) where
 -- A value moves.
 module _ {K V : Type 0} (key : V → K) (es : List (K × Option V)) (from to : ℕ) (d : V)
     (f : Fits key es) (h : from < length (shown es)) (g : to < length (shown es)) where
-
   entry : move_index es from to ≡ insert (remove es from) to (key (get_or (shown es) from d), Some (get_or (shown es) from d))
   entry = rw (entry_at key es from d f h) refl
 

@@ -4,6 +4,7 @@ pub mod EntryLaws
 pub mod Lookup
 pub mod MoveLaws
 pub mod Standing
+pub mod NamedSessions
 pub mod CheckLaws
 pub mod Finds
 pub mod SoundLaws

@@ -1,9 +1,11 @@
 -- What looking a key up finds.
-use Rattle.std.proofs.Common.{◌≡◌, ℕ, ◌<◌, ◌≤◌, ◌+◌, List, [], ◌∷◌, ◌++◌, length, map, get_or, slice_get, refl, ap, sym, ◌∙◌, arith, Bool, true, false, Option, Some, None, zero, suc, cond}
+use Rattle.std.proofs.Common.{◌≡◌, ℕ, ◌<◌, List, [], ◌∷◌, length, get_or, slice_get, refl, ◌∙◌, arith, Bool, true, false, Option, Some, None, zero, suc, cond}
 use Rattle.std.specs.Prelude.{is_some, ◌||◌}
+use Rattle.std.specs.Borrow.{Bor}
+use Rattle.std.specs.Option.{option_copied}
 use Rattle.std.specs.List.{find}
 use Rattle.std.specs.Map.{lookup, values_of}
-use Rattle.worksheet.specs.inside.Entries.{shown, reserved, with_shown, with_reserved, Fits, FitsOne}
+use Rattle.worksheet.specs.inside.Entries.{shown, reserved, Fits}
 
 abbrev pub flat : {V : Type 0} → Option (Option V) → Option V
 flat None = None
@@ -13,11 +15,14 @@ pub none_from : {A : Type 0} (o : Option A) → is_some o ≡ false → o ≡ No
 none_from None e = refl
 none_from (Some x) e = cc
 
+pub is_some-copied : {A : Type 0} (o : Option (Bor A)) → is_some (option_copied o) ≡ is_some o
+is_some-copied None = refl
+is_some-copied (Some x) = refl
+
 abbrev the_value : {V : Type 0} → Bool → Option (Option V)
 the_value b = cond b (Some None) None
 
 module _ {K V : Type 0} (key : V → K) (test other : K → Bool) (same : (k : K) → test k ≡ other k) where
-
   -- the value that is found under a key
   pub lookup-shown : (es : List (K × Option V)) → Fits key es → flat (lookup test es) ≡ find (λ v. other (key v)) (shown es)
   lookup-shown [] f = refl

@@ -1,15 +1,13 @@
 -- A field that moves, by its place and by its number.
-use Rattle.std.proofs.Common.{◌≡◌, ◌≢◌, ℕ, ◌<◌, ◌≤◌, ◌+◌, List, [], ◌∷◌, length, map, set, get_or, refl, ap, sym, ◌∙◌, subst, arith, Bool, true, false, Some, None, zero, suc, insert, remove, Option, cond}
-use Rattle.std.specs.Prelude.{◌==◌, ◌||◌, ◌&&◌, is_some, nat_eq, nat_lt}
-use Rattle.std.specs.List.{find, list_any, zip}
-use Rattle.std.specs.Map.{lookup}
+use Rattle.std.proofs.Common.{◌≡◌, ℕ, ◌<◌, ◌≤◌, List, [], ◌∷◌, length, get_or, refl, ap, sym, ◌∙◌, subst, arith, Bool, true, false, zero, suc, insert, remove}
+use Rattle.std.specs.Prelude.{◌==◌, nat_eq, nat_lt}
 use Rattle.std.proofs.lemmas.Bool.Decides.{nat_tests}
 use Rattle.std.proofs.lemmas.List.Edits.{get_or-remove_below, get_or-remove_above}
 use Rattle.worksheet.specs.declared.field.Field.{Field}
 use Rattle.worksheet.specs.Ops.{put_behind}
-use Rattle.worksheet.specs.Checks.{numbers, field_in, stands_behind}
-use Rattle.worksheet.specs.Edits.{Lacks, AreApart, AllBelow, at_field, fields_without, placed_field, moved}
-use Rattle.worksheet.proofs.EditLaws.{insert-put_behind, remove-fields_without, find-at}
+use Rattle.worksheet.specs.Checks.{numbers}
+use Rattle.worksheet.specs.Edits.{AreApart, fields_without}
+use Rattle.worksheet.proofs.EditLaws.{insert-put_behind, remove-fields_without}
 use Rattle.worksheet.proofs.SoundLaws.{AreApart-without}
 
 length-remove : {X : Type 0} (xs : List X) (i : ℕ) → i < length xs → suc (length (remove xs i)) ≡ length xs
@@ -19,7 +17,6 @@ length-remove (x ∷ xs) (suc i) h = ap suc (length-remove xs i (omega arith))
 
 -- A field comes directly behind another, that stood at b, where it is taken out of its place.
 module _ (id after : ℕ) (x : Field) (fs : List Field) (from : ℕ) (d : Field) (a : AreApart (numbers fs)) (h : from < length fs) (e : (get_or fs from d).id ≡ id) where
-
   put_at : (j : ℕ) → j < length (remove fs from) → (get_or (remove fs from) j d).id ≡ after
       → insert (remove fs from) (suc j) x ≡ put_behind (λ other. other.id == after) x (fields_without id fs)
   put_at j l g =

@@ -1,5 +1,5 @@
 -- Where a field stands in the map.
-use Rattle.std.proofs.Common.{◌≡◌, [], map, set, ◌≢◌, ◌∙◌, ◌∷◌, ◌++◌, ◌-◌, ap, zero, insert, remove, ℕ, ◌<◌, ◌≤◌, List, length, length-append, get_or, slice_get, sym, subst, arith, refl, Bool, true, false, Some, None, Option, suc}
+use Rattle.std.proofs.Common.{◌≡◌, [], map, ◌≢◌, ◌∙◌, ◌∷◌, ◌++◌, ◌-◌, ap, zero, insert, remove, ℕ, ◌<◌, ◌≤◌, List, length, length-append, get_or, slice_get, sym, subst, arith, refl, true, false, Some, None, Option, suc}
 use Rattle.std.specs.Prelude.{◌==◌, is_some, nat_eq, IsSome}
 use Rattle.std.specs.Map.{lookup, values_of}
 use Rattle.std.proofs.lemmas.Bool.Decides.{nat_tests}
@@ -88,12 +88,11 @@ moves fs id after from to a t h found other behind first later down up d =
         let isnt : (after == 0) ≡ false = grind (arith, nat_tests) in
         let w = later (λ y. absurd (omega (arith, y, z))) d in
         rw isnt (put_either id after (get_or fs from d) fs from d a h (found d) w.0 w.2 w.3 other to
-            (λ l. let k = down (omega (arith, w.1, l)) in omega (arith, k, w.1)) (λ l. up (omega (arith, w.1, l)) ∙ w.1))
+        (λ l. let k = down (omega (arith, w.1, l)) in omega (arith, k, w.1)) (λ l. up (omega (arith, w.1, l)) ∙ w.1))
 
 -- the field at a place is changed
 module _ (es : List (ℕ × Option Field)) (id at : ℕ) (change : Field → Field) (f : AreFields es) (h : at < length (shown es)) (kept : (x : Field) → (change x).id ≡ x.id)
     (old new : Option Field) (is : slice_get (values_of es) at ≡ Some old) (e : new ≡ option_map change old) where
-
   value_there : (es : List (ℕ × Option Field)) (at : ℕ) (d : Field) → AreFields es → at < length (shown es) → slice_get (values_of es) at ≡ Some (Some (get_or (shown es) at d))
   value_there [] at d f h = absurd (omega (arith, h))
   value_there ((k, None) ∷ es) at d f h = absurd (let z : length (shown es) ≡ 0 = rw f refl in omega (arith, z, h))

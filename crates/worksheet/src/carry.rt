@@ -1,18 +1,18 @@
 //! What an allowed op does.
-ghost use Rattle.std.specs.Prelude.{◌≡◌, ◌+◌, ◌<◌, ◌∷◌, ◌++◌, [], ℕ, true, None, IsSome, vec_len, vec_capacity, is_some};
+ghost use Rattle.std.specs.Prelude.{◌≡◌, ◌+◌, ◌∷◌, ◌++◌, [], ℕ, true, None, Some, is_some};
 ghost use Rattle.std.specs.Str.{is_utf8};
 ghost use Rattle.worksheet.specs.declared.op.Op.TheVariants as op;
 ghost use Rattle.worksheet.specs.Names.{is_name};
 ghost use Rattle.worksheet.specs.Checks.{field_in, first_refusal, numbers, room_for, session_named};
 ghost use Rattle.worksheet.specs.Edits.{AreApart, HasNumbersApart, contents_with, edited, fields_without, moved};
-ghost use Rattle.worksheet.specs.inside.Entries.{AreFields, shown};
+ghost use Rattle.worksheet.specs.inside.Entries.{AreFields, AreSessions, shown, reserved};
 ghost use Rattle.worksheet.specs.inside.SheetInside.{held_of};
 
-use crate::check::session_with;
 use crate::edits::{move_field, put_field, remove_field, set_answer, set_input};
 use crate::field::{Answer, Field, Session};
 use crate::name::Name;
 use crate::op::Op;
+use crate::session_map::{put_session, session_with};
 use crate::slot::Slot;
 use block_tree::{Octets, Sequence, Text};
 use indexmap::IndexMap;
@@ -20,19 +20,21 @@ use indexmap::IndexMap;
 /// Does what an allowed op says to a worksheet of these parts. There is room for it.
 pub(crate) fn carry_out(
     fields: &mut IndexMap<u32, Slot>,
-    sessions: &mut Vec<Session>,
+    sessions: &mut IndexMap<Name, Option<Session>>,
     next: &mut u32,
     op: Op,
 )
-    requires sound { HasNumbersApart (contents_with (shown fields.old.entries) sessions.old.items next.old) }
-    requires allowed { first_refusal (contents_with (shown fields.old.entries) sessions.old.items next.old) op
+    requires sound { HasNumbersApart (contents_with (shown fields.old.entries) (shown sessions.old.entries) next.old) }
+    requires allowed { first_refusal (contents_with (shown fields.old.entries) (shown sessions.old.entries) next.old) op
         ≡ None }
     requires room { room_for (held_of
         (record { fields = fields.old; sessions = sessions.old; next = next.old })) op ≡ true }
     requires fields { AreFields fields.old.entries }
+    requires sessions { AreSessions sessions.old.entries }
     ensures fields { AreFields fields.new.entries }
-    ensures edited { contents_with (shown fields.new.entries) sessions.new.items next.new
-        ≡ edited (contents_with (shown fields.old.entries) sessions.old.items next.old) op }
+    ensures sessions { AreSessions sessions.new.entries }
+    ensures edited { contents_with (shown fields.new.entries) (shown sessions.new.entries) next.new
+        ≡ edited (contents_with (shown fields.old.entries) (shown sessions.old.entries) next.old) op }
 {
     match op {
         Op::Session { name, tab, words } => add_session(sessions, name, tab, words),
@@ -55,22 +57,35 @@ pub(crate) fn carry_out(
     }
 }
 
-/// Puts a session behind the others. There is room for it.
-fn add_session(sessions: &mut Vec<Session>, name: Octets, tab: bool, words: Sequence<Octets>)
+/// Puts a session behind the others, under its name, which is held ready for it.
+fn add_session(
+    sessions: &mut IndexMap<Name, Option<Session>>,
+    name: Octets,
+    tab: bool,
+    words: Sequence<Octets>,
+)
     requires named { is_name name ≡ true }
-    requires room { vec_len sessions.old < vec_capacity sessions.old }
-    ensures { sessions.new.items
-        ≡ sessions.old.items ++ record { name = name; tab = tab; words = words } ∷ [] }
+    requires sessions { AreSessions sessions.old.entries }
+    requires ready { reserved sessions.old.entries ≡ Some name }
+    ensures made { shown sessions.new.entries
+        ≡ shown sessions.old.entries ++ record { name = name; tab = tab; words = words } ∷ [] }
+    ensures sessions { AreSessions sessions.new.entries }
 {
     let Some(name) = Name::new(name.as_slice()) else {
         unreachable!();
     };
-    sessions.push_reserved(Session { name, tab, words });
+    put_session(sessions, Session { name, tab, words });
 }
 
 /// A field of this session without an answer.
-fn new_field(sessions: &[Session], id: u32, session: Octets, input: Octets) -> Field
-    requires there { is_some (session_named sessions.now session) ≡ true }
+fn new_field(
+    sessions: &IndexMap<Name, Option<Session>>,
+    id: u32,
+    session: Octets,
+    input: Octets,
+) -> Field
+    requires sessions { AreSessions sessions.now.entries }
+    requires there { is_some (session_named (shown sessions.now.entries) session) ≡ true }
     requires text { is_utf8 input ≡ true }
     ensures { result ≡ record { id = id; session = session; input = input; answer = None } }
 {
@@ -83,8 +98,9 @@ fn new_field(sessions: &[Session], id: u32, session: Octets, input: Octets) -> F
 }
 
 /// The name with these bytes of one of the sessions.
-fn name_with(sessions: &[Session], name: &[u8]) -> Name
-    requires { is_some (session_named sessions.now name.now) ≡ true }
+fn name_with(sessions: &IndexMap<Name, Option<Session>>, name: &[u8]) -> Name
+    requires sessions { AreSessions sessions.now.entries }
+    requires there { is_some (session_named (shown sessions.now.entries) name.now) ≡ true }
     ensures { result ≡ name.now }
 {
     let Some(found) = session_with(sessions, name) else {

@@ -7,7 +7,7 @@ ghost use Rattle.worksheet.specs.Checks.{is_input as input_test, is_input_byte a
 ghost use Rattle.std.specs.Str.{is_utf8 as utf8_test};
 ghost use Rattle.block_tree.specs.Tree.{Tree};
 ghost use Rattle.worksheet.specs.Edits.{AreApart, contents_with};
-ghost use Rattle.worksheet.specs.inside.Entries.{AreFields, shown};
+ghost use Rattle.worksheet.specs.inside.Entries.{AreFields, AreSessions, shown};
 ghost use Rattle.worksheet.specs.declared.op.Op.TheVariants as op;
 
 use crate::field::Session;
@@ -15,10 +15,11 @@ use crate::limits::{
     LAST_NUMBER, LONGEST_INPUT, LONGEST_PROMPT, LONGEST_WORD, MOST_FIELDS, MOST_SESSIONS,
     MOST_WORDS,
 };
-use crate::name::is_name;
+use crate::name::{Name, is_name};
 use crate::op::Op;
 use crate::places::{count_fields, field_with, stands_behind};
 use crate::refusal::Refusal;
+use crate::session_map::{count_sessions, session_with};
 use crate::slot::Slot;
 use block_tree::Octets;
 use indexmap::IndexMap;
@@ -69,15 +70,6 @@ fn is_utf8(bytes: &[u8]) -> bool
     str::from_utf8(bytes).is_ok()
 }
 
-/// The session with this name.
-pub(crate) fn session_with<'a>(sessions: &'a [Session], name: &[u8]) -> Option<&'a Session>
-    ensures { option_copied result ≡ session_found sessions.now name.now }
-{
-    sessions
-        .iter()
-        .find(|session| session.name.as_slice() == name)
-}
-
 fn has_field(fields: &IndexMap<u32, Slot>, id: u32) -> bool
     requires { AreFields fields.now.entries }
     ensures { result ≡ is_some (field_in (shown fields.now.entries) id) }
@@ -85,8 +77,9 @@ fn has_field(fields: &IndexMap<u32, Slot>, id: u32) -> bool
     field_with(fields, id).is_some()
 }
 
-fn has_session(sessions: &[Session], name: &[u8]) -> bool
-    ensures { result ≡ is_some (session_found sessions.now name.now) }
+fn has_session(sessions: &IndexMap<Name, Option<Session>>, name: &[u8]) -> bool
+    requires { AreSessions sessions.now.entries }
+    ensures { result ≡ is_some (session_found (shown sessions.now.entries) name.now) }
 {
     session_with(sessions, name).is_some()
 }
@@ -99,8 +92,9 @@ fn has_place(fields: &IndexMap<u32, Slot>, after: u32) -> bool
 }
 
 /// Whether a session with this name can be made beside these.
-pub(crate) fn is_new_name(sessions: &[Session], name: &[u8]) -> bool
-    ensures { result ≡ new_name_test (contents_with [] sessions.now 0) name.now }
+pub(crate) fn is_new_name(sessions: &IndexMap<Name, Option<Session>>, name: &[u8]) -> bool
+    requires { AreSessions sessions.now.entries }
+    ensures { result ≡ new_name_test (contents_with [] (shown sessions.now.entries) 0) name.now }
 {
     is_name(name) && !has_session(sessions, name)
 }
@@ -108,14 +102,15 @@ pub(crate) fn is_new_name(sessions: &[Session], name: &[u8]) -> bool
 /// The first refusal that an op meets in a worksheet of these parts.
 pub(crate) fn check_op(
     fields: &IndexMap<u32, Slot>,
-    sessions: &[Session],
+    sessions: &IndexMap<Name, Option<Session>>,
     next: u32,
     op: &Op,
 ) -> Result<(), Refusal>
     requires fields { AreFields fields.now.entries }
+    requires sessions { AreSessions sessions.now.entries }
     requires apart { AreApart (numbers (shown fields.now.entries)) }
     ensures { result_err result
-        ≡ first_refusal (contents_with (shown fields.now.entries) sessions.now next) op.now }
+        ≡ first_refusal (contents_with (shown fields.now.entries) (shown sessions.now.entries) next) op.now }
 {
     match op {
         Op::Session {
@@ -146,9 +141,14 @@ pub(crate) fn check_op(
     }
 }
 
-fn check_session(sessions: &[Session], name: &[u8], words: &[Octets]) -> Result<(), Refusal>
+fn check_session(
+    sessions: &IndexMap<Name, Option<Session>>,
+    name: &[u8],
+    words: &[Octets],
+) -> Result<(), Refusal>
+    requires { AreSessions sessions.now.entries }
     ensures { result_err result
-        ≡ first_refusal (contents_with [] sessions.now 0) (op.Session name.now false words.now) }
+        ≡ first_refusal (contents_with [] (shown sessions.now.entries) 0) (op.Session name.now false words.now) }
 {
     if !is_name(name) {
         Err(Refusal::BadName)
@@ -156,7 +156,7 @@ fn check_session(sessions: &[Session], name: &[u8], words: &[Octets]) -> Result<
         Err(Refusal::SessionExists)
     } else if !are_words(words) {
         Err(Refusal::BadWords)
-    } else if sessions.len() >= MOST_SESSIONS {
+    } else if count_sessions(sessions) >= MOST_SESSIONS {
         Err(Refusal::TooManySessions)
     } else {
         Ok(())
@@ -165,15 +165,16 @@ fn check_session(sessions: &[Session], name: &[u8], words: &[Octets]) -> Result<
 
 fn check_new(
     fields: &IndexMap<u32, Slot>,
-    sessions: &[Session],
+    sessions: &IndexMap<Name, Option<Session>>,
     next: u32,
     after: u32,
     session: &[u8],
     input: &[u8],
 ) -> Result<(), Refusal>
-    requires { AreFields fields.now.entries }
+    requires fields { AreFields fields.now.entries }
+    requires sessions { AreSessions sessions.now.entries }
     ensures { result_err result
-        ≡ first_refusal (contents_with (shown fields.now.entries) sessions.now next)
+        ≡ first_refusal (contents_with (shown fields.now.entries) (shown sessions.now.entries) next)
         (op.New after session.now input.now) }
 {
     if !has_session(sessions, session) {

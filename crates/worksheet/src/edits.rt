@@ -1,13 +1,13 @@
 //! Changes of a map of fields.
-ghost use Rattle.std.specs.Prelude.{◌≡◌, ◌≢◌, ◌+◌, ◌<◌, ◌≤◌, ◌++◌, ◌∷◌, [], ℕ, Some, None, true, false, length, map, nat_eq, IsSome, OnOk, OnErr, IsOk, ◌||◌, ◌==◌, is_some};
+ghost use Rattle.std.specs.Prelude.{◌≡◌, ◌≢◌, ◌+◌, ◌<◌, ◌≤◌, ◌++◌, ◌∷◌, [], ℕ, Some, None, true, false, length, map, nat_eq, IsSome, OnOk, OnErr, ◌||◌, ◌==◌, is_some};
 ghost use Rattle.worksheet.specs.declared.field.Field.{Field};
-ghost use Rattle.worksheet.specs.Checks.{field_in, numbers};
+ghost use Rattle.worksheet.specs.Checks.{field_in, is_number, numbers};
 ghost use Rattle.worksheet.specs.Edits.{AreApart, AllBelow, at_field, fields_without, moved, placed_field, with_answer, with_input};
 ghost use Rattle.worksheet.specs.inside.Entries.{AreFields, shown, reserved};
 ghost use Rattle.indexmap.specs.IndexMap.{get};
 
 use crate::field::{Answer, Field};
-use crate::places::{count_fields, is_reserved, place_behind, place_of, reserved_number};
+use crate::places::{count_fields, place_behind, place_of, reserved_number};
 use crate::slot::Slot;
 use block_tree::{OutOfMemory, Text};
 use indexmap::IndexMap;
@@ -25,22 +25,17 @@ fn add_number(fields: &mut IndexMap<u32, Slot>, number: u32) -> Result<(), OutOf
     }
 }
 
-/// Holds the next number ready for a field, behind the fields, and no other number any more.
-pub(crate) fn reserve_number(
-    fields: &mut IndexMap<u32, Slot>,
-    next: u32,
-) -> Result<(), OutOfMemory>
+/// Holds the next number ready for a field, behind the fields, and no other number any more. It isn't
+/// ready yet.
+pub(crate) fn reserve_number(fields: &mut IndexMap<u32, Slot>, next: u32) -> Result<(), OutOfMemory>
     requires fields { AreFields fields.old.entries }
     requires below { AllBelow next (numbers (shown fields.old.entries)) }
+    requires absent { is_number (reserved fields.old.entries) next ≡ false }
     ensures ok { OnOk result (reserved fields.new.entries ≡ Some next) }
     ensures same { shown fields.new.entries ≡ shown fields.old.entries }
     ensures err { OnErr result (fields.new.entries ≡ fields.old.entries) }
-    ensures ready { reserved fields.old.entries ≡ Some next → IsOk result }
     ensures fields { AreFields fields.new.entries }
 {
-    if is_reserved(fields, next) {
-        return Ok(());
-    }
     let has_earlier = reserved_number(fields).is_some();
     let earlier = count_fields(fields);
     add_number(fields, next)?;

@@ -8,6 +8,7 @@ ghost use Rattle.worksheet.specs.declared.field.Field.{Field};
 ghost use Rattle.worksheet.specs.declared.field.Session.{Session};
 
 use crate::field::{Field, Session};
+use crate::name::Name;
 use crate::slot::Slot;
 use indexmap::IndexMap;
 use indexmap::map::Slice;
@@ -59,21 +60,23 @@ impl<'a> Iterator for Fields<'a> {
 /// The sessions of a worksheet that are still to come, in the order of their making.
 #[derive(Drop)]
 pub struct Sessions<'a> {
-    rest: &'a [Session],
+    rest: Slice<'a, Name, Option<Session>>,
 }
 
 impl<'a> Model for Sessions<'a> {
     ghost Value = { List Session };
 
-    ghost view = { λ sessions. sessions.rest.now };
+    ghost view = { λ sessions. shown sessions.rest };
 }
 
 impl<'a> Sessions<'a> {
     /// These sessions, first to last.
-    pub(crate) fn new(rest: &'a [Session]) -> Sessions<'a>
-        ensures { result ≡ rest.entry.now }
+    pub(crate) fn new(sessions: &'a IndexMap<Name, Option<Session>>) -> Sessions<'a>
+        ensures { result ≡ shown sessions.entry.now.entries }
     {
-        Sessions { rest }
+        Sessions {
+            rest: sessions.as_slice(),
+        }
     }
 }
 
@@ -85,8 +88,12 @@ impl<'a> Iterator for Sessions<'a> {
     ghost remaining = { item_count (λ rest. rest) };
 
     fn next(&mut self) -> Option<&'a Session> {
-        let (session, others) = self.rest.split_first()?;
-        self.rest = others;
-        Some(session)
+        while let Some(((_, session), others)) = self.rest.split_first() {
+            self.rest = others;
+            if let Some(session) = session {
+                return Some(session);
+            }
+        }
+        None
     }
 }

@@ -15,6 +15,7 @@ pub mod name;
 pub mod op;
 mod places;
 pub mod refusal;
+mod session_map;
 pub mod sheet;
 mod slot;
 

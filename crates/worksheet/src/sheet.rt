@@ -4,13 +4,15 @@ ghost use Rattle.std.specs.Option.{option_copied};
 ghost use Rattle.std.specs.Result.{result_err};
 
 use crate::carry::carry_out;
-use crate::check::{check_op, is_new_name, session_with};
+use crate::check::{check_op, is_new_name};
 use crate::edits::reserve_number;
 use crate::field::{Field, Session};
 use crate::fields::{Fields, Sessions};
+use crate::name::Name;
 use crate::op::Op;
 use crate::places::{field_with, is_reserved};
 use crate::refusal::Refusal;
+use crate::session_map::{is_ready_name, reserve_name, session_with};
 use crate::slot::Slot;
 use block_tree::OutOfMemory;
 use indexmap::IndexMap;
@@ -22,7 +24,7 @@ use std::marker::Model;
 #[derive(Drop)]
 pub struct Sheet {
     fields: IndexMap<u32, Slot>,
-    sessions: Vec<Session>,
+    sessions: IndexMap<Name, Option<Session>>,
     next: u32,
 }
 
@@ -52,7 +54,7 @@ impl Sheet {
     {
         Sheet {
             fields: IndexMap::new(alloc),
-            sessions: Vec::new(alloc),
+            sessions: IndexMap::new(alloc),
             next: 1,
         }
     }
@@ -74,7 +76,7 @@ impl Sheet {
             Op::New { .. } => is_reserved(&self.fields, self.next),
             Op::Session { name, .. } => {
                 !is_new_name(&self.sessions, name.as_slice())
-                    || self.sessions.len() < self.sessions.capacity()
+                    || is_ready_name(&self.sessions, name.as_slice())
             }
             Op::Set { .. }
             | Op::Remove { .. }
@@ -97,7 +99,7 @@ impl Sheet {
         }
         match op {
             Op::New { .. } => reserve_number(&mut self.fields, self.next),
-            Op::Session { .. } => self.sessions.reserve(1),
+            Op::Session { name, .. } => reserve_name(&mut self.sessions, name.as_slice()),
             Op::Set { .. }
             | Op::Remove { .. }
             | Op::Move { .. }

@@ -1,4 +1,4 @@
-use Rattle.std.proofs.Common.{◌≡◌, ◌∙◌, ◌++◌, ◌∷◌, [], ap, nat_eq, Option}
+use Rattle.std.proofs.Common.{◌∙◌, ◌++◌, ◌∷◌, [], ap, nat_eq, Option}
 use Rattle.indexmap.proofs.CallerLemmas.{insert_entry-new}
 use Rattle.worksheet.specs.declared.field.Field.{Field}
 use Rattle.worksheet.proofs.edits.add_number.Goals as goal

@@ -1,5 +1,4 @@
 use Rattle.std.proofs.Common.{◌≡◌, ◌<◌, ◌≤◌, suc, ◌∙◌, arith, length, ap}
-use Rattle.worksheet.specs.declared.field.Field.{Field}
 use Rattle.worksheet.specs.inside.Entries.{shown}
 use Rattle.worksheet.proofs.EntryLaws.{shown_within}
 use Rattle.worksheet.proofs.Standing.{key_of, moved-shown, moved-fields}

@@ -1,9 +1,7 @@
-use Rattle.std.proofs.Common.{◌≡◌, ◌∙◌, ap, sym, subst, arith, ℕ, Option, Some, length}
+use Rattle.std.proofs.Common.{◌∙◌, ap, arith}
 use Rattle.std.specs.Prelude.{is_some}
 use Rattle.indexmap.proofs.CallerLemmas.{index_map_len-with_value_at}
-use Rattle.worksheet.specs.declared.field.Field.{Field}
-use Rattle.worksheet.specs.Edits.{placed_field}
-use Rattle.worksheet.specs.inside.Entries.{AreFields, shown}
+use Rattle.worksheet.specs.inside.Entries.{shown}
 use Rattle.worksheet.proofs.EntryLaws.{length-ready}
 use Rattle.worksheet.proofs.Standing.{key_of, put-shown, put-fields}
 use Rattle.worksheet.proofs.edits.put_field.Goals as goal

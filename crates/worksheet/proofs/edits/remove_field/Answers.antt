@@ -1,4 +1,4 @@
-use Rattle.std.proofs.Common.{◌≡◌, ◌∙◌, ap, subst, length, List}
+use Rattle.std.proofs.Common.{◌∙◌, ap}
 use Rattle.worksheet.specs.declared.field.Field.{Field}
 use Rattle.worksheet.proofs.Standing.{gone}
 use Rattle.worksheet.specs.inside.Entries.{shown}

@@ -1,13 +1,13 @@
-use Rattle.std.proofs.Common.{◌≡◌, ◌∙◌, ap, sym, subst, Some, true, false}
+use Rattle.std.proofs.Common.{◌≡◌, ◌∙◌, ap, sym, true}
 use Rattle.std.specs.Prelude.{is_some}
-use Rattle.worksheet.specs.inside.Entries.{AreFields, shown, reserved}
+use Rattle.worksheet.specs.inside.Entries.{reserved}
 use Rattle.worksheet.proofs.EntryLaws.{shown-renew, reserved-renew, Fits-renew, shown-push, reserved-push, Fits-push}
 use Rattle.worksheet.proofs.Lookup.{none_from}
 use Rattle.worksheet.proofs.Standing.{key_of, next_absent}
 use Rattle.worksheet.proofs.edits.reserve_number.Goals as goal
 
 pub add_number-requires : goal.add_number-requires
-add_number-requires c = next_absent c.args.fields.now.entries c.args.next c.requires.fields c.requires.below (sym c.is_reserved.ensures ∙ c.if-is_reserved.false)
+add_number-requires c = next_absent c.args.fields.now.entries c.args.next c.requires.fields c.requires.below c.requires.absent
 
 pub returns-then-has_earlier-clause-ok : goal.returns-then-has_earlier-clause-ok
 returns-then-has_earlier-clause-ok c =

@@ -1,4 +1,4 @@
-use Rattle.std.proofs.Common.{◌≡◌, ◌<◌, arith, length, refl}
+use Rattle.std.proofs.Common.{arith, refl}
 use Rattle.worksheet.specs.Edits.{with_answer}
 use Rattle.worksheet.proofs.EntryLaws.{shown_within}
 use Rattle.worksheet.proofs.Standing.{key_of, changed-shown, changed-fields}

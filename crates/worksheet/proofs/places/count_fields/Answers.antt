@@ -1,4 +1,4 @@
-use Rattle.std.proofs.Common.{◌≡◌, ◌∙◌, ap, sym, true, refl, arith}
+use Rattle.std.proofs.Common.{◌≡◌, ◌∙◌, ap, sym, true, arith}
 use Rattle.std.specs.Prelude.{is_some}
 use Rattle.worksheet.specs.inside.Entries.{reserved}
 use Rattle.worksheet.proofs.EntryLaws.{length-full, length-ready}

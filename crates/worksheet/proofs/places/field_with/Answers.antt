@@ -1,4 +1,4 @@
-use Rattle.std.proofs.Common.{◌≡◌, ◌∙◌, ap}
+use Rattle.std.proofs.Common.{◌∙◌, ap}
 use Rattle.worksheet.proofs.Lookup.{flat}
 use Rattle.worksheet.proofs.Standing.{found_under}
 use Rattle.worksheet.proofs.places.field_with.Goals as goal

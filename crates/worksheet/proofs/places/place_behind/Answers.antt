@@ -1,4 +1,4 @@
-use Rattle.std.proofs.Common.{◌≡◌, ◌<◌, arith, length}
+use Rattle.std.proofs.Common.{arith}
 use Rattle.worksheet.proofs.EntryLaws.{shown_within}
 use Rattle.worksheet.proofs.Standing.{key_of}
 use Rattle.worksheet.proofs.places.place_behind.Goals as goal

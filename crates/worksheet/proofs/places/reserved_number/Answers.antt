@@ -1,4 +1,4 @@
-use Rattle.std.proofs.Common.{◌≡◌, ◌∙◌, ◌-◌, ap, sym, length, arith, Option, None, refl}
+use Rattle.std.proofs.Common.{◌∙◌, ◌-◌, ap, sym, length, arith, Option, None, refl}
 use Rattle.worksheet.specs.declared.field.Field.{Field}
 use Rattle.worksheet.specs.inside.Entries.{with_reserved}
 use Rattle.worksheet.proofs.EntryLaws.{reserved-last}

@@ -1,4 +1,4 @@
-use Rattle.std.proofs.Common.{◌≡◌, ◌≢◌, ◌∙◌, sym, arith}
+use Rattle.std.proofs.Common.{sym, arith}
 use Rattle.worksheet.proofs.EntryLaws.{shown_within}
 use Rattle.worksheet.proofs.Standing.{key_of, stands-first, stands-later}
 use Rattle.worksheet.proofs.places.stands_behind.Goals as goal

@@ -1,4 +1,4 @@
-use Rattle.std.proofs.Common.{◌≡◌, length, ℕ}
+use Rattle.std.proofs.Common.{◌≡◌, length}
 use Rattle.worksheet.specs.inside.Entries.{shown}
 use Rattle.worksheet.proofs.fields.FieldsIterator.next.Given as goal
 

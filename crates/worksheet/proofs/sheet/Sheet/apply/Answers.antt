@@ -12,6 +12,7 @@ pub invariant_of-self : goal.invariant_of-self
 invariant_of-self c = record {
   sound = subst (λ (s : Contents). HasNumbersApart s) (sym c.carry_out.ensures.edited) (IsSound-edited (contents_of c.self.inside) c.args.op c.self.invariant.sound);
   fields = c.carry_out.ensures.fields;
+  sessions = c.carry_out.ensures.sessions;
 }
 
 pub returns-clause-ok : goal.returns-clause-ok
