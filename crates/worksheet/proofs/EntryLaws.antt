@@ -32,12 +32,6 @@ module _ {K V : Type 0} (key : V → K) where
   shown-set ((k, Some w) ∷ es) zero v f h = refl
   shown-set ((k, Some w) ∷ es) (suc i) v f h = ap (λ (vs : List V). w ∷ vs) (shown-set es i v f.1 (omega arith))
 
-  pub reserved-set : (es : List (K × Option V)) (i : ℕ) (v : V) → Fits key es → i < length (shown es) → reserved (set_value_at es i (Some v)) ≡ reserved es
-  reserved-set [] i v f h = absurd (omega arith)
-  reserved-set ((k, None) ∷ es) i v f h = absurd (let e : length (shown es) ≡ 0 = rw f refl in omega (arith, e, h))
-  reserved-set ((k, Some w) ∷ es) zero v f h = refl
-  reserved-set ((k, Some w) ∷ es) (suc i) v f h = reserved-set es i v f.1 (omega arith)
-
   pub Fits-set : (es : List (K × Option V)) (i : ℕ) (v d : V) → Fits key es → i < length (shown es) → key v ≡ key (get_or (shown es) i d) → Fits key (set_value_at es i (Some v))
   Fits-set [] i v d f h e = absurd (omega arith)
   Fits-set ((k, None) ∷ es) i v d f h e = absurd (let n : length (shown es) ≡ 0 = rw f refl in omega (arith, n, h))
@@ -51,12 +45,6 @@ module _ {K V : Type 0} (key : V → K) where
   shown-remove ((k, Some w) ∷ es) zero f h = refl
   shown-remove ((k, Some w) ∷ es) (suc i) f h = ap (λ (vs : List V). w ∷ vs) (shown-remove es i f.1 (omega arith))
 
-  pub reserved-remove : (es : List (K × Option V)) (i : ℕ) → Fits key es → i < length (shown es) → reserved (remove es i) ≡ reserved es
-  reserved-remove [] i f h = absurd (omega arith)
-  reserved-remove ((k, None) ∷ es) i f h = absurd (let e : length (shown es) ≡ 0 = rw f refl in omega (arith, e, h))
-  reserved-remove ((k, Some w) ∷ es) zero f h = refl
-  reserved-remove ((k, Some w) ∷ es) (suc i) f h = reserved-remove es i f.1 (omega arith)
-
   pub Fits-remove : (es : List (K × Option V)) (i : ℕ) → Fits key es → i < length (shown es) → Fits key (remove es i)
   Fits-remove [] i f h = absurd (omega arith)
   Fits-remove ((k, None) ∷ es) i f h = absurd (let e : length (shown es) ≡ 0 = rw f refl in omega (arith, e, h))
@@ -69,12 +57,6 @@ module _ {K V : Type 0} (key : V → K) where
   shown-insert [] (suc i) k v f h = absurd (omega arith)
   shown-insert ((l, None) ∷ es) (suc i) k v f h = absurd (let e : length (shown es) ≡ 0 = rw f refl in omega (arith, e, h))
   shown-insert ((l, Some w) ∷ es) (suc i) k v f h = ap (λ (vs : List V). w ∷ vs) (shown-insert es i k v f.1 (omega arith))
-
-  pub reserved-insert : (es : List (K × Option V)) (i : ℕ) (k : K) (v : V) → Fits key es → i ≤ length (shown es) → reserved (insert es i (k, Some v)) ≡ reserved es
-  reserved-insert es zero k v f h = refl
-  reserved-insert [] (suc i) k v f h = absurd (omega arith)
-  reserved-insert ((l, None) ∷ es) (suc i) k v f h = absurd (let e : length (shown es) ≡ 0 = rw f refl in omega (arith, e, h))
-  reserved-insert ((l, Some w) ∷ es) (suc i) k v f h = reserved-insert es i k v f.1 (omega arith)
 
   pub Fits-insert : (es : List (K × Option V)) (i : ℕ) (k : K) (v : V) → Fits key es → i ≤ length (shown es) → key v ≡ k → Fits key (insert es i (k, Some v))
   Fits-insert es zero k v f h e = (e, f)
@@ -103,11 +85,6 @@ module _ {K V : Type 0} (key : V → K) where
   shown-fill [] v f h = cc
   shown-fill ((k, None) ∷ es) v f h = rw f refl
   shown-fill ((k, Some w) ∷ es) v f h = ap (λ (vs : List V). w ∷ vs) (shown-fill es v f.1 h)
-
-  pub reserved-fill : (es : List (K × Option V)) (v : V) → Fits key es → is_some (reserved es) ≡ true → reserved (set_value_at es (length (shown es)) (Some v)) ≡ None
-  reserved-fill [] v f h = cc
-  reserved-fill ((k, None) ∷ es) v f h = rw f refl
-  reserved-fill ((k, Some w) ∷ es) v f h = reserved-fill es v f.1 h
 
   pub Fits-fill : (es : List (K × Option V)) (v : V) → Fits key es → reserved es ≡ Some (key v) → Fits key (set_value_at es (length (shown es)) (Some v))
   Fits-fill [] v f h = cc
@@ -167,12 +144,6 @@ module _ {K V : Type 0} (key : V → K) (es : List (K × Option V)) (from to : �
       ap shown entry
       ∙ shown-insert key (remove es from) to _ _ (Fits-remove key es from f h) shorter
       ∙ ap (λ (vs : List V). insert vs to (get_or (shown es) from d)) (shown-remove key es from f h)
-
-  pub reserved-move : reserved (move_index es from to) ≡ reserved es
-  reserved-move =
-      ap reserved entry
-      ∙ reserved-insert key (remove es from) to _ _ (Fits-remove key es from f h) shorter
-      ∙ reserved-remove key es from f h
 
   pub Fits-move : Fits key (move_index es from to)
   Fits-move = rw entry (Fits-insert key (remove es from) to _ _ (Fits-remove key es from f h) shorter refl)

@@ -25,13 +25,13 @@ module _ (id after : ℕ) (x : Field) (fs : List Field) (from : ℕ) (d : Field)
       insert-put_behind after x (remove fs from) j d apart l g ∙ ap (λ (gs : List Field). put_behind (λ other. other.id == after) x gs) same
 
   -- it stood behind it
-  pub put_down : (b : ℕ) → b < from → (get_or fs b d).id ≡ after → insert (remove fs from) (suc b) x ≡ put_behind (λ other. other.id == after) x (fields_without id fs)
+  put_down : (b : ℕ) → b < from → (get_or fs b d).id ≡ after → insert (remove fs from) (suc b) x ≡ put_behind (λ other. other.id == after) x (fields_without id fs)
   put_down b l g =
       let n = length-remove fs from h in
       put_at b (omega (arith, n, l, h)) (subst (λ (f : Field). f.id ≡ after) (sym (get_or-remove_below fs from d b l h)) g)
 
   -- it stood in front of it
-  pub put_up : (c : ℕ) → from ≤ c → suc c < length fs → (get_or fs (suc c) d).id ≡ after → insert (remove fs from) (suc c) x ≡ put_behind (λ other. other.id == after) x (fields_without id fs)
+  put_up : (c : ℕ) → from ≤ c → suc c < length fs → (get_or fs (suc c) d).id ≡ after → insert (remove fs from) (suc c) x ≡ put_behind (λ other. other.id == after) x (fields_without id fs)
   put_up c l k g =
       let n = length-remove fs from h in
       let there : get_or (remove fs from) c d ≡ get_or fs (suc c) d = get_or-remove_above fs from d c l h ∙ ap (λ i. get_or fs i d) (omega arith) in

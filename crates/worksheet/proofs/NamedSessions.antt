@@ -51,13 +51,6 @@ name_absent es name a new h =
     other None e = refl
     other (Some k) e = flips name k ∙ e
 
-pub a_name : (name : List ℕ) (taken : Bool) → (is_name name && not taken) ≡ true → is_name name ≡ true
-a_name name taken = go (is_name name)
-  where
-    go : (b : Bool) → (b && not taken) ≡ true → b ≡ true
-    go true e = refl
-    go false e = cc
-
 pub AreNamed-push : (ss : List Session) (s : Session) → AreNamed ss → is_name s.name ≡ true → AreNamed (ss ++ s ∷ [])
 AreNamed-push [] s a n = (n, tt)
 AreNamed-push (t ∷ ss) s a n = (a.0, AreNamed-push ss s a.1 n)

@@ -61,10 +61,6 @@ next_absent es next f below h = lookup-absent key_of (nat_eq next) (λ k. k == n
     go None e = refl
     go (Some k) e = flips next k ∙ e
 
-pub reserved_is : (o : Option ℕ) (next : ℕ) → is_number o next ≡ true → o ≡ Some next
-reserved_is None next e = cc
-reserved_is (Some k) next e = let same : k ≡ next = grind (arith, nat_tests) in ap (λ n. Some n) same
-
 -- a field goes from where it stands
 pub gone : (fs : List Field) (id at : ℕ) → AreApart (numbers fs) → IsSome (field_in fs id) → at < length fs → ((d : Field) → (get_or fs at d).id ≡ id) → remove fs at ≡ fields_without id fs
 gone fs id at a t h found = go (field_in fs id) t

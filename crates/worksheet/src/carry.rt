@@ -24,17 +24,19 @@ pub(crate) fn carry_out(
     next: &mut u32,
     op: Op,
 )
-    requires sound { HasNumbersApart (contents_with (shown fields.old.entries) (shown sessions.old.entries) next.old) }
-    requires allowed { first_refusal (contents_with (shown fields.old.entries) (shown sessions.old.entries) next.old) op
-        ≡ None }
-    requires room { room_for (held_of
-        (record { fields = fields.old; sessions = sessions.old; next = next.old })) op ≡ true }
     requires fields { AreFields fields.old.entries }
     requires sessions { AreSessions sessions.old.entries }
+    requires sound { HasNumbersApart
+        (contents_with (shown fields.old.entries) (shown sessions.old.entries) next.old) }
+    requires allowed { first_refusal
+        (contents_with (shown fields.old.entries) (shown sessions.old.entries) next.old) op ≡ None }
+    requires room { room_for (held_of
+        (record { fields = fields.old; sessions = sessions.old; next = next.old })) op ≡ true }
+    ensures edited { contents_with (shown fields.new.entries) (shown sessions.new.entries) next.new
+        ≡ edited
+        (contents_with (shown fields.old.entries) (shown sessions.old.entries) next.old) op }
     ensures fields { AreFields fields.new.entries }
     ensures sessions { AreSessions sessions.new.entries }
-    ensures edited { contents_with (shown fields.new.entries) (shown sessions.new.entries) next.new
-        ≡ edited (contents_with (shown fields.old.entries) (shown sessions.old.entries) next.old) op }
 {
     match op {
         Op::Session { name, tab, words } => add_session(sessions, name, tab, words),

@@ -110,7 +110,8 @@ pub(crate) fn check_op(
     requires sessions { AreSessions sessions.now.entries }
     requires apart { AreApart (numbers (shown fields.now.entries)) }
     ensures { result_err result
-        ≡ first_refusal (contents_with (shown fields.now.entries) (shown sessions.now.entries) next) op.now }
+        ≡ first_refusal
+        (contents_with (shown fields.now.entries) (shown sessions.now.entries) next) op.now }
 {
     match op {
         Op::Session {
@@ -148,7 +149,8 @@ fn check_session(
 ) -> Result<(), Refusal>
     requires { AreSessions sessions.now.entries }
     ensures { result_err result
-        ≡ first_refusal (contents_with [] (shown sessions.now.entries) 0) (op.Session name.now false words.now) }
+        ≡ first_refusal (contents_with [] (shown sessions.now.entries) 0)
+        (op.Session name.now false words.now) }
 {
     if !is_name(name) {
         Err(Refusal::BadName)
@@ -174,7 +176,8 @@ fn check_new(
     requires fields { AreFields fields.now.entries }
     requires sessions { AreSessions sessions.now.entries }
     ensures { result_err result
-        ≡ first_refusal (contents_with (shown fields.now.entries) (shown sessions.now.entries) next)
+        ≡ first_refusal
+        (contents_with (shown fields.now.entries) (shown sessions.now.entries) next)
         (op.New after session.now input.now) }
 {
     if !has_session(sessions, session) {
@@ -208,7 +211,8 @@ fn check_set(fields: &IndexMap<u32, Slot>, id: u32, input: &[u8]) -> Result<(), 
 
 fn check_there(fields: &IndexMap<u32, Slot>, id: u32) -> Result<(), Refusal>
     requires { AreFields fields.now.entries }
-    ensures { result_err result ≡ first_refusal (contents_with (shown fields.now.entries) [] 0) (op.Remove id) }
+    ensures { result_err result
+        ≡ first_refusal (contents_with (shown fields.now.entries) [] 0) (op.Remove id) }
 {
     if !has_field(fields, id) {
         Err(Refusal::NoField)
@@ -220,7 +224,8 @@ fn check_there(fields: &IndexMap<u32, Slot>, id: u32) -> Result<(), Refusal>
 fn check_move(fields: &IndexMap<u32, Slot>, id: u32, after: u32) -> Result<(), Refusal>
     requires fields { AreFields fields.now.entries }
     requires apart { AreApart (numbers (shown fields.now.entries)) }
-    ensures { result_err result ≡ first_refusal (contents_with (shown fields.now.entries) [] 0) (op.Move id after) }
+    ensures { result_err result
+        ≡ first_refusal (contents_with (shown fields.now.entries) [] 0) (op.Move id after) }
 {
     if !has_field(fields, id) || !has_place(fields, after) {
         Err(Refusal::NoField)
@@ -235,7 +240,8 @@ fn check_answer(fields: &IndexMap<u32, Slot>, id: u32, prompt: &[u8]) -> Result<
     requires { AreFields fields.now.entries }
     ensures { (output : Tree)
         → result_err result
-        ≡ first_refusal (contents_with (shown fields.now.entries) [] 0) (op.Answer id prompt.now output) }
+        ≡ first_refusal (contents_with (shown fields.now.entries) [] 0)
+        (op.Answer id prompt.now output) }
 {
     if !has_field(fields, id) {
         Err(Refusal::NoField)

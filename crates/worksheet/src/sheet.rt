@@ -21,6 +21,10 @@ use std::marker::Model;
 
 /// A worksheet: fields in their order, and the sessions that they belong to. It stands for a list of
 /// ops, those that it has taken, and contains what they say.
+///
+/// Its fields stand in a map by number whose order is theirs, its sessions in one by name. Behind them
+/// each map may have one entry without a value, for the next field or session: memory is ready for
+/// that one. No call shows such an entry, and no limit counts it.
 #[derive(Drop)]
 pub struct Sheet {
     fields: IndexMap<u32, Slot>,
@@ -86,7 +90,8 @@ impl Sheet {
         }
     }
 
-    /// Makes memory ready for an op. It changes nothing that the worksheet contains.
+    /// Makes memory ready for an op. It changes nothing that the worksheet contains. Memory is ready for
+    /// one new session at a time: where it is made ready for one, it isn't any more for another.
     pub fn make_room(&mut self, op: &Op) -> Result<(), OutOfMemory>
         ensures ok { OnOk result (room_for self.new op.now ≡ true) }
         ensures same { self.new.contents ≡ self.old.contents }
