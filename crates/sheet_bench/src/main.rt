@@ -1,13 +1,19 @@
-//! Prints how long the calls of a worksheet take as it grows: for each size the time of a call in
-//! nanoseconds, and of one print in microseconds. It does so only where it is given a word.
+//! Prints what the calls of a worksheet cost as it grows: for each size the time of a call in
+//! nanoseconds. It does so only where it is given a word.
 #![tactic(auto)]
 
 use block_tree::{Octets, OutOfMemory, Sequence};
-use sheet_text::sheet_text;
+use std::alloc::Global;
 use std::io;
 use std::process::ExitCode;
 use std::time::Instant;
 use worksheet::{Op, Sheet};
+
+/// How many calls are timed at once.
+const CALLS: u32 = 100;
+
+/// How often they are, of which the quickest is told.
+const ROUNDS: u32 = 20;
 
 /// A measurement that couldn't be made.
 #[derive(Drop)]
@@ -25,13 +31,27 @@ impl From<io::Error> for Failed {
     }
 }
 
+fn octets(alloc: Global, text: &str) -> Result<Octets, OutOfMemory> {
+    Octets::from_slice(alloc, text.as_bytes())
+}
+
+/// A worksheet with one session and no field.
+fn with_session(alloc: Global) -> Result<Sheet, Failed> {
+    let mut sheet = Sheet::new(alloc);
+    let mut words = Vec::new(alloc);
+    words.push(octets(alloc, "p")?).map_err(|_| Failed)?;
+    let session = Op::Session {
+        name: octets(alloc, "a")?,
+        tab: false,
+        words: Sequence::from_vec(words),
+    };
+    take(&mut sheet, session)?;
+    Ok(sheet)
+}
+
 fn take(sheet: &mut Sheet, op: Op) -> Result<(), Failed> {
     sheet.check(&op).map_err(|_| Failed)?;
     sheet.apply(op).map_err(|_| Failed)
-}
-
-fn octets(rt: &HostRuntime, text: &str) -> Result<Octets, OutOfMemory> {
-    Octets::from_slice(rt.alloc(), text.as_bytes())
 }
 
 /// Nanoseconds for one of so many calls since a moment.
@@ -45,69 +65,180 @@ fn each(rt: &HostRuntime, start: &Instant, calls: u32) -> Result<u64, Failed> {
     )
 }
 
-fn add(rt: &HostRuntime, sheet: &mut Sheet, fields: u32) -> Result<u64, Failed> {
+/// Does these ops, and tells the nanoseconds of one.
+fn time_ops(rt: &HostRuntime, sheet: &mut Sheet, ops: Vec<Op>) -> Result<u64, Failed> {
     let start = Instant::now(rt)?;
-    for after in 0..fields {
-        let op = Op::New {
-            after,
-            session: octets(rt, "a")?,
-            input: octets(rt, "x^2 + 1")?,
-        };
+    for op in ops {
         take(sheet, op)?;
     }
-    each(rt, &start, fields)
+    each(rt, &start, CALLS)
 }
 
-fn move_all(rt: &HostRuntime, sheet: &mut Sheet, fields: u32) -> Result<u64, Failed> {
-    let start = Instant::now(rt)?;
-    for id in 1..fields {
-        take(sheet, Op::Move { id, after: fields })?;
+/// What is done to a field.
+#[derive(Clone, Copy)]
+enum Change {
+    Set,
+    Clear,
+    Remove,
+    MoveBehind(u32),
+}
+
+fn op_on(alloc: Global, change: Change, id: u32) -> Result<Op, Failed> {
+    Ok(match change {
+        Change::Set => Op::Set {
+            id,
+            input: octets(alloc, "x^3 - 1")?,
+        },
+        Change::Clear => Op::Clear { id },
+        Change::Remove => Op::Remove { id },
+        Change::MoveBehind(after) => Op::Move { id, after },
+    })
+}
+
+/// The numbers of the fields in their order.
+fn order(alloc: Global, sheet: &Sheet) -> Result<Vec<u32>, Failed> {
+    let mut all = Vec::new(alloc);
+    for field in sheet.fields() {
+        all.push(field.id).map_err(|_| Failed)?;
     }
-    each(rt, &start, fields)
+    Ok(all)
 }
 
-fn set_all(rt: &HostRuntime, sheet: &mut Sheet, fields: u32) -> Result<u64, Failed> {
-    let start = Instant::now(rt)?;
-    for id in 0..fields {
-        let input = octets(rt, "x^3 - 1")?;
-        take(sheet, Op::Set { id: id + 1, input })?;
+/// The last number of these.
+fn last(ids: &[u32]) -> u32 {
+    ids.last().copied().unwrap_or(0)
+}
+
+/// This change of the first fields, or of the last ones, last first.
+fn changes(
+    alloc: Global,
+    ids: &[u32],
+    change: Change,
+    is_first: bool,
+) -> Result<Vec<Op>, Failed> {
+    let mut ops = Vec::new(alloc);
+    for i in 0..(CALLS as usize) {
+        let at = if is_first {
+            i
+        } else {
+            ids.len().saturating_sub(i.saturating_add(1))
+        };
+        let id = ids.get(at).copied().unwrap_or(0);
+        ops.push(op_on(alloc, change, id)?).map_err(|_| Failed)?;
     }
-    each(rt, &start, fields)
+    Ok(ops)
 }
 
-fn print_all(rt: &HostRuntime, sheet: &Sheet) -> Result<u64, Failed> {
-    let mut out: Vec<u8> = Vec::with_capacity(rt.alloc(), 1_000_000)?;
-    let start = Instant::now(rt)?;
-    sheet_text(sheet, &mut out).map_err(|_| Failed)?;
-    each(rt, &start, 1_000)
-}
-
-fn remove_all(rt: &HostRuntime, sheet: &mut Sheet, fields: u32) -> Result<u64, Failed> {
-    let start = Instant::now(rt)?;
-    for id in 0..fields {
-        take(sheet, Op::Remove { id: id + 1 })?;
+/// New fields behind the last one.
+fn news(alloc: Global, sheet: &Sheet, ids: &[u32], count: u32) -> Result<Vec<Op>, Failed> {
+    let mut ops = Vec::new(alloc);
+    let mut after = last(ids);
+    for i in 0..count {
+        let op = Op::New {
+            after,
+            session: octets(alloc, "a")?,
+            input: octets(alloc, "x^2 + 1")?,
+        };
+        after = sheet.next_id().saturating_add(i);
+        ops.push(op).map_err(|_| Failed)?;
     }
-    each(rt, &start, fields)
+    Ok(ops)
+}
+
+/// Nanoseconds of each call with so many fields: a new one behind the last, `set` and `clear` of the
+/// last ones, a move of the first one behind the last, removal of the last, and of the first.
+#[derive(Clone, Copy)]
+struct Costs {
+    new: u64,
+    set: u64,
+    clear: u64,
+    moved: u64,
+    removed_last: u64,
+    removed_first: u64,
+}
+
+impl Costs {
+    /// The least of each of two.
+    fn least(self, other: Costs) -> Costs {
+        Costs {
+            new: self.new.min(other.new),
+            set: self.set.min(other.set),
+            clear: self.clear.min(other.clear),
+            moved: self.moved.min(other.moved),
+            removed_last: self.removed_last.min(other.removed_last),
+            removed_first: self.removed_first.min(other.removed_first),
+        }
+    }
+}
+
+/// Adds fields behind the last one.
+fn add(rt: &HostRuntime, sheet: &mut Sheet, count: u32) -> Result<u64, Failed> {
+    let ids = order(rt.alloc(), sheet)?;
+    let ops = news(rt.alloc(), sheet, ids.as_slice(), count)?;
+    time_ops(rt, sheet, ops)
+}
+
+/// Times a change of the first fields, or of the last ones.
+fn time_change(
+    rt: &HostRuntime,
+    sheet: &mut Sheet,
+    change: Change,
+    is_first: bool,
+) -> Result<u64, Failed> {
+    let ids = order(rt.alloc(), sheet)?;
+    let ops = changes(rt.alloc(), ids.as_slice(), change, is_first)?;
+    time_ops(rt, sheet, ops)
+}
+
+/// Times moves of the first field, each behind the one that is last at the beginning.
+fn time_moves(rt: &HostRuntime, sheet: &mut Sheet) -> Result<u64, Failed> {
+    let ids = order(rt.alloc(), sheet)?;
+    let change = Change::MoveBehind(last(ids.as_slice()));
+    let mut ops = changes(rt.alloc(), ids.as_slice(), change, true)?;
+    // With as many fields as calls, the last would move behind itself.
+    if ids.len() <= CALLS as usize {
+        ops.pop();
+    }
+    time_ops(rt, sheet, ops)
+}
+
+/// One round on a worksheet that lacks as many fields as calls are timed.
+fn round(rt: &HostRuntime, sheet: &mut Sheet) -> Result<Costs, Failed> {
+    let new = add(rt, sheet, CALLS)?;
+    let set = time_change(rt, sheet, Change::Set, false)?;
+    let clear = time_change(rt, sheet, Change::Clear, false)?;
+    let moved = time_moves(rt, sheet)?;
+    let removed_last = time_change(rt, sheet, Change::Remove, false)?;
+    add(rt, sheet, CALLS)?;
+    let removed_first = time_change(rt, sheet, Change::Remove, true)?;
+    Ok(Costs {
+        new,
+        set,
+        clear,
+        moved,
+        removed_last,
+        removed_first,
+    })
 }
 
 /// Prints the row of a worksheet with so many fields.
 fn measure(rt: &HostRuntime, fields: u32) -> Result<(), Failed> {
-    let mut sheet = Sheet::new(rt.alloc());
-    let mut words = Vec::new(rt.alloc());
-    words.push(octets(rt, "p")?).map_err(|_| Failed)?;
-    let session = Op::Session {
-        name: octets(rt, "a")?,
-        tab: false,
-        words: Sequence::from_vec(words),
-    };
-    take(&mut sheet, session)?;
-    let new = add(rt, &mut sheet, fields)?;
-    let moved = move_all(rt, &mut sheet, fields)?;
-    let set = set_all(rt, &mut sheet, fields)?;
-    let print = print_all(rt, &sheet)?;
-    let removed = remove_all(rt, &mut sheet, fields)?;
+    let mut sheet = with_session(rt.alloc())?;
+    add(rt, &mut sheet, fields.saturating_sub(CALLS))?;
+    let mut least = round(rt, &mut sheet)?;
+    for _ in 1..ROUNDS {
+        least = least.least(round(rt, &mut sheet)?);
+    }
+    let Costs {
+        new,
+        set,
+        clear,
+        moved,
+        removed_last,
+        removed_first,
+    } = least;
     println!(rt;
-        "{fields} fields: new {new} ns, move {moved} ns, set {set} ns, remove {removed} ns, print {print} us"
+        "{fields} {new} {set} {clear} {moved} {removed_last} {removed_first}"
     )?;
     Ok(())
 }

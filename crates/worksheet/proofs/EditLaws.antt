@@ -26,7 +26,7 @@ other_at n (f ∷ fs) zero d a h = a.0
 other_at n (f ∷ fs) (suc i) d a h = other_at n fs i d a.1 (omega arith)
 
 -- a field behind the first isn't the first
-not_first : (id : ℕ) (f : Field) (fs : List Field) (i : ℕ) (d : Field) → Lacks f.id (numbers fs) → i < length fs → (get_or fs i d).id ≡ id → (f.id == id) ≡ false
+pub not_first : (id : ℕ) (f : Field) (fs : List Field) (i : ℕ) (d : Field) → Lacks f.id (numbers fs) → i < length fs → (get_or fs i d).id ≡ id → (f.id == id) ≡ false
 not_first id f fs i d a h e = let o = other_at f.id fs i d a h in grind (arith, nat_tests)
 
 pub set-at_field : (id : ℕ) (change : Field → Field) (fs : List Field) (i : ℕ) (d : Field) → AreApart (numbers fs) → i < length fs → (get_or fs i d).id ≡ id

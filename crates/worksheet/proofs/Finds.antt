@@ -8,7 +8,6 @@ use Rattle.worksheet.specs.declared.refusal.Refusal.{Refusal}
 use Rattle.worksheet.specs.declared.field.Field.{Field}
 use Rattle.worksheet.specs.declared.field.Session.{Session}
 use Rattle.worksheet.specs.Checks.{field_in, session_named, first_of}
-use Rattle.worksheet.specs.Edits.{fields_without}
 
 -- none of these refusals applies
 abbrev pub NoneApplies : List (Refusal × Bool) → Type 0
@@ -48,16 +47,3 @@ field_in-id (g ∷ fs) id f h = go (g.id == id) refl h (field_in-id fs id f)
     go : (b : Bool) → (g.id == id) ≡ b → (if b then Some g else field_in fs id) ≡ Some f → (field_in fs id ≡ Some f → f.id ≡ id) → f.id ≡ id
     go true e h rest = let is : g ≡ f = cc in rw (← is) (grind (arith, nat_tests))
     go false e h rest = rest h
-
--- a field stays where another is taken out
-pub field_in-without : (fs : List Field) (id after : ℕ) → (after == id) ≡ false → is_some (field_in fs after) ≡ true → is_some (field_in (fields_without id fs) after) ≡ true
-field_in-without [] id after other h = h
-field_in-without (g ∷ fs) id after other h = go (g.id == id) (g.id == after) refl refl h (field_in-without fs id after other)
-  where
-    go : (b c : Bool) → (g.id == id) ≡ b → (g.id == after) ≡ c → is_some (if c then Some g else field_in fs after) ≡ true
-        → (is_some (field_in fs after) ≡ true → is_some (field_in (fields_without id fs) after) ≡ true)
-        → is_some (field_in (if not b then g ∷ fields_without id fs else fields_without id fs) after) ≡ true
-    go true true e d h rest = absurd (grind (arith, nat_tests))
-    go true false e d h rest = rest h
-    go false true e d h rest = rw d refl
-    go false false e d h rest = rw d (rest h)

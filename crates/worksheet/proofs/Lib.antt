@@ -1,5 +1,10 @@
 pub mod NameLaws
 pub mod EditLaws
+pub mod EntryLaws
+pub mod Lookup
+pub mod MoveLaws
+pub mod Standing
+pub mod NamedSessions
 pub mod CheckLaws
 pub mod Finds
 pub mod SoundLaws

@@ -1,3 +1,4 @@
 pub mod NameInside
 pub mod Codes
+pub mod Entries
 pub mod SheetInside

@@ -1,33 +1,42 @@
 //! What an allowed op does.
-ghost use Rattle.std.specs.Prelude.{◌≡◌, ◌+◌, ◌<◌, ◌∷◌, ◌++◌, [], ℕ, true, None, IsSome, vec_len, vec_capacity, is_some};
+ghost use Rattle.std.specs.Prelude.{◌≡◌, ◌+◌, ◌∷◌, ◌++◌, [], ℕ, true, None, Some, is_some};
 ghost use Rattle.std.specs.Str.{is_utf8};
 ghost use Rattle.worksheet.specs.declared.op.Op.TheVariants as op;
 ghost use Rattle.worksheet.specs.Names.{is_name};
 ghost use Rattle.worksheet.specs.Checks.{field_in, first_refusal, numbers, room_for, session_named};
 ghost use Rattle.worksheet.specs.Edits.{AreApart, HasNumbersApart, contents_with, edited, fields_without, moved};
+ghost use Rattle.worksheet.specs.inside.Entries.{AreFields, AreSessions, shown, reserved};
 ghost use Rattle.worksheet.specs.inside.SheetInside.{held_of};
 
-use crate::check::session_with;
-use crate::edits::{put_field, set_answer, set_input, take_field};
+use crate::edits::{move_field, put_field, remove_field, set_answer, set_input};
 use crate::field::{Answer, Field, Session};
 use crate::name::Name;
 use crate::op::Op;
+use crate::session_map::{put_session, session_with};
+use crate::slot::Slot;
 use block_tree::{Octets, Sequence, Text};
+use indexmap::IndexMap;
 
 /// Does what an allowed op says to a worksheet of these parts. There is room for it.
 pub(crate) fn carry_out(
-    fields: &mut Vec<Field>,
-    sessions: &mut Vec<Session>,
+    fields: &mut IndexMap<u32, Slot>,
+    sessions: &mut IndexMap<Name, Option<Session>>,
     next: &mut u32,
     op: Op,
 )
-    requires sound { HasNumbersApart (contents_with fields.old.items sessions.old.items next.old) }
-    requires allowed { first_refusal (contents_with fields.old.items sessions.old.items next.old) op
-        ≡ None }
+    requires fields { AreFields fields.old.entries }
+    requires sessions { AreSessions sessions.old.entries }
+    requires sound { HasNumbersApart
+        (contents_with (shown fields.old.entries) (shown sessions.old.entries) next.old) }
+    requires allowed { first_refusal
+        (contents_with (shown fields.old.entries) (shown sessions.old.entries) next.old) op ≡ None }
     requires room { room_for (held_of
         (record { fields = fields.old; sessions = sessions.old; next = next.old })) op ≡ true }
-    ensures { contents_with fields.new.items sessions.new.items next.new
-        ≡ edited (contents_with fields.old.items sessions.old.items next.old) op }
+    ensures edited { contents_with (shown fields.new.entries) (shown sessions.new.entries) next.new
+        ≡ edited
+        (contents_with (shown fields.old.entries) (shown sessions.old.entries) next.old) op }
+    ensures fields { AreFields fields.new.entries }
+    ensures sessions { AreSessions sessions.new.entries }
 {
     match op {
         Op::Session { name, tab, words } => add_session(sessions, name, tab, words),
@@ -50,22 +59,35 @@ pub(crate) fn carry_out(
     }
 }
 
-/// Puts a session behind the others. There is room for it.
-fn add_session(sessions: &mut Vec<Session>, name: Octets, tab: bool, words: Sequence<Octets>)
+/// Puts a session behind the others, under its name, which is held ready for it.
+fn add_session(
+    sessions: &mut IndexMap<Name, Option<Session>>,
+    name: Octets,
+    tab: bool,
+    words: Sequence<Octets>,
+)
     requires named { is_name name ≡ true }
-    requires room { vec_len sessions.old < vec_capacity sessions.old }
-    ensures { sessions.new.items
-        ≡ sessions.old.items ++ record { name = name; tab = tab; words = words } ∷ [] }
+    requires sessions { AreSessions sessions.old.entries }
+    requires ready { reserved sessions.old.entries ≡ Some name }
+    ensures made { shown sessions.new.entries
+        ≡ shown sessions.old.entries ++ record { name = name; tab = tab; words = words } ∷ [] }
+    ensures sessions { AreSessions sessions.new.entries }
 {
     let Some(name) = Name::new(name.as_slice()) else {
         unreachable!();
     };
-    sessions.push_reserved(Session { name, tab, words });
+    put_session(sessions, Session { name, tab, words });
 }
 
 /// A field of this session without an answer.
-fn new_field(sessions: &[Session], id: u32, session: Octets, input: Octets) -> Field
-    requires there { is_some (session_named sessions.now session) ≡ true }
+fn new_field(
+    sessions: &IndexMap<Name, Option<Session>>,
+    id: u32,
+    session: Octets,
+    input: Octets,
+) -> Field
+    requires sessions { AreSessions sessions.now.entries }
+    requires there { is_some (session_named (shown sessions.now.entries) session) ≡ true }
     requires text { is_utf8 input ≡ true }
     ensures { result ≡ record { id = id; session = session; input = input; answer = None } }
 {
@@ -78,8 +100,9 @@ fn new_field(sessions: &[Session], id: u32, session: Octets, input: Octets) -> F
 }
 
 /// The name with these bytes of one of the sessions.
-fn name_with(sessions: &[Session], name: &[u8]) -> Name
-    requires { is_some (session_named sessions.now name.now) ≡ true }
+fn name_with(sessions: &IndexMap<Name, Option<Session>>, name: &[u8]) -> Name
+    requires sessions { AreSessions sessions.now.entries }
+    requires there { is_some (session_named (shown sessions.now.entries) name.now) ≡ true }
     ensures { result ≡ name.now }
 {
     let Some(found) = session_with(sessions, name) else {
@@ -97,24 +120,4 @@ fn text_of(bytes: Octets) -> Text
         Ok(text) => Text::from_string(text),
         Err(_) => unreachable!(),
     }
-}
-
-/// Takes the field with this number out and gives it up.
-fn remove_field(fields: &mut Vec<Field>, id: u32)
-    requires apart { AreApart (numbers fields.old.items) }
-    requires there { IsSome (field_in fields.old.items id) }
-    ensures { fields.new.items ≡ fields_without id fields.old.items }
-{
-    take_field(fields, id);
-}
-
-/// Moves a field directly behind another, or first for 0.
-fn move_field(fields: &mut Vec<Field>, id: u32, after: u32)
-    requires apart { AreApart (numbers fields.old.items) }
-    requires allowed { first_refusal (contents_with fields.old.items [] 0) (op.Move id after)
-        ≡ None }
-    ensures { fields.new.items ≡ moved id after fields.old.items (field_in fields.old.items id) }
-{
-    let field = take_field(fields, id);
-    put_field(fields, after, field);
 }

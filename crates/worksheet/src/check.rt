@@ -3,21 +3,26 @@ ghost use Rattle.std.specs.Prelude.{◌≡◌, ◌==◌, ◌||◌, [], List, fal
 ghost use Rattle.std.specs.List.{list_all};
 ghost use Rattle.std.specs.Option.{option_copied};
 ghost use Rattle.std.specs.Result.{result_err};
-ghost use Rattle.worksheet.specs.Checks.{is_input as input_test, is_input_byte as input_byte_test, is_no_low_byte as low_byte_test, is_word as word_test, are_words as words_test, is_new_name as new_name_test, field_in, session_named as session_found, stands_behind as place_test, numbers, first_refusal};
+ghost use Rattle.worksheet.specs.Checks.{is_input as input_test, is_input_byte as input_byte_test, is_no_low_byte as low_byte_test, is_word as word_test, are_words as words_test, is_new_name as new_name_test, field_in, session_named as session_found, numbers, first_refusal};
 ghost use Rattle.std.specs.Str.{is_utf8 as utf8_test};
 ghost use Rattle.block_tree.specs.Tree.{Tree};
-ghost use Rattle.worksheet.specs.Edits.{contents_with};
+ghost use Rattle.worksheet.specs.Edits.{AreApart, contents_with};
+ghost use Rattle.worksheet.specs.inside.Entries.{AreFields, AreSessions, shown};
 ghost use Rattle.worksheet.specs.declared.op.Op.TheVariants as op;
 
-use crate::field::{Field, Session};
+use crate::field::Session;
 use crate::limits::{
     LAST_NUMBER, LONGEST_INPUT, LONGEST_PROMPT, LONGEST_WORD, MOST_FIELDS, MOST_SESSIONS,
     MOST_WORDS,
 };
-use crate::name::is_name;
+use crate::name::{Name, is_name};
 use crate::op::Op;
+use crate::places::{count_fields, field_with, stands_behind};
 use crate::refusal::Refusal;
+use crate::session_map::{count_sessions, session_with};
+use crate::slot::Slot;
 use block_tree::Octets;
+use indexmap::IndexMap;
 
 /// Whether these bytes are an input: UTF-8, at most 4,095 bytes, with no character below U+0020 but
 /// TAB.
@@ -65,70 +70,48 @@ fn is_utf8(bytes: &[u8]) -> bool
     str::from_utf8(bytes).is_ok()
 }
 
-/// The field with this number.
-pub(crate) fn field_with(fields: &[Field], id: u32) -> Option<&Field>
-    ensures { option_copied result ≡ field_in fields.now id }
-{
-    fields.iter().find(|field| field.id == id)
-}
-
-/// The session with this name.
-pub(crate) fn session_with<'a>(sessions: &'a [Session], name: &[u8]) -> Option<&'a Session>
-    ensures { option_copied result ≡ session_found sessions.now name.now }
-{
-    sessions
-        .iter()
-        .find(|session| session.name.as_slice() == name)
-}
-
-/// Whether a field stands directly behind another, first for 0.
-fn stands_behind(fields: &[Field], after: u32, id: u32) -> bool
-    ensures { result ≡ place_test after id (numbers fields.now) }
-{
-    let mut before = 0;
-    for field in fields {
-        if field.id == id {
-            return before == after;
-        }
-        before = field.id;
-    }
-    false
-}
-
-fn has_field(fields: &[Field], id: u32) -> bool
-    ensures { result ≡ is_some (field_in fields.now id) }
+fn has_field(fields: &IndexMap<u32, Slot>, id: u32) -> bool
+    requires { AreFields fields.now.entries }
+    ensures { result ≡ is_some (field_in (shown fields.now.entries) id) }
 {
     field_with(fields, id).is_some()
 }
 
-fn has_session(sessions: &[Session], name: &[u8]) -> bool
-    ensures { result ≡ is_some (session_found sessions.now name.now) }
+fn has_session(sessions: &IndexMap<Name, Option<Session>>, name: &[u8]) -> bool
+    requires { AreSessions sessions.now.entries }
+    ensures { result ≡ is_some (session_found (shown sessions.now.entries) name.now) }
 {
     session_with(sessions, name).is_some()
 }
 
-fn has_place(fields: &[Field], after: u32) -> bool
-    ensures { result ≡ ((after == 0) || is_some (field_in fields.now after)) }
+fn has_place(fields: &IndexMap<u32, Slot>, after: u32) -> bool
+    requires { AreFields fields.now.entries }
+    ensures { result ≡ ((after == 0) || is_some (field_in (shown fields.now.entries) after)) }
 {
     after == 0 || has_field(fields, after)
 }
 
 /// Whether a session with this name can be made beside these.
-pub(crate) fn is_new_name(sessions: &[Session], name: &[u8]) -> bool
-    ensures { result ≡ new_name_test (contents_with [] sessions.now 0) name.now }
+pub(crate) fn is_new_name(sessions: &IndexMap<Name, Option<Session>>, name: &[u8]) -> bool
+    requires { AreSessions sessions.now.entries }
+    ensures { result ≡ new_name_test (contents_with [] (shown sessions.now.entries) 0) name.now }
 {
     is_name(name) && !has_session(sessions, name)
 }
 
 /// The first refusal that an op meets in a worksheet of these parts.
 pub(crate) fn check_op(
-    fields: &[Field],
-    sessions: &[Session],
+    fields: &IndexMap<u32, Slot>,
+    sessions: &IndexMap<Name, Option<Session>>,
     next: u32,
     op: &Op,
 ) -> Result<(), Refusal>
+    requires fields { AreFields fields.now.entries }
+    requires sessions { AreSessions sessions.now.entries }
+    requires apart { AreApart (numbers (shown fields.now.entries)) }
     ensures { result_err result
-        ≡ first_refusal (contents_with fields.now sessions.now next) op.now }
+        ≡ first_refusal
+        (contents_with (shown fields.now.entries) (shown sessions.now.entries) next) op.now }
 {
     match op {
         Op::Session {
@@ -159,9 +142,15 @@ pub(crate) fn check_op(
     }
 }
 
-fn check_session(sessions: &[Session], name: &[u8], words: &[Octets]) -> Result<(), Refusal>
+fn check_session(
+    sessions: &IndexMap<Name, Option<Session>>,
+    name: &[u8],
+    words: &[Octets],
+) -> Result<(), Refusal>
+    requires { AreSessions sessions.now.entries }
     ensures { result_err result
-        ≡ first_refusal (contents_with [] sessions.now 0) (op.Session name.now false words.now) }
+        ≡ first_refusal (contents_with [] (shown sessions.now.entries) 0)
+        (op.Session name.now false words.now) }
 {
     if !is_name(name) {
         Err(Refusal::BadName)
@@ -169,7 +158,7 @@ fn check_session(sessions: &[Session], name: &[u8], words: &[Octets]) -> Result<
         Err(Refusal::SessionExists)
     } else if !are_words(words) {
         Err(Refusal::BadWords)
-    } else if sessions.len() >= MOST_SESSIONS {
+    } else if count_sessions(sessions) >= MOST_SESSIONS {
         Err(Refusal::TooManySessions)
     } else {
         Ok(())
@@ -177,15 +166,18 @@ fn check_session(sessions: &[Session], name: &[u8], words: &[Octets]) -> Result<
 }
 
 fn check_new(
-    fields: &[Field],
-    sessions: &[Session],
+    fields: &IndexMap<u32, Slot>,
+    sessions: &IndexMap<Name, Option<Session>>,
     next: u32,
     after: u32,
     session: &[u8],
     input: &[u8],
 ) -> Result<(), Refusal>
+    requires fields { AreFields fields.now.entries }
+    requires sessions { AreSessions sessions.now.entries }
     ensures { result_err result
-        ≡ first_refusal (contents_with fields.now sessions.now next)
+        ≡ first_refusal
+        (contents_with (shown fields.now.entries) (shown sessions.now.entries) next)
         (op.New after session.now input.now) }
 {
     if !has_session(sessions, session) {
@@ -194,7 +186,7 @@ fn check_new(
         Err(Refusal::NoField)
     } else if !is_input(input) {
         Err(Refusal::BadInput)
-    } else if fields.len() >= MOST_FIELDS {
+    } else if count_fields(fields) >= MOST_FIELDS {
         Err(Refusal::TooManyFields)
     } else if next > LAST_NUMBER {
         Err(Refusal::IdsSpent)
@@ -203,9 +195,10 @@ fn check_new(
     }
 }
 
-fn check_set(fields: &[Field], id: u32, input: &[u8]) -> Result<(), Refusal>
+fn check_set(fields: &IndexMap<u32, Slot>, id: u32, input: &[u8]) -> Result<(), Refusal>
+    requires { AreFields fields.now.entries }
     ensures { result_err result
-        ≡ first_refusal (contents_with fields.now [] 0) (op.Set id input.now) }
+        ≡ first_refusal (contents_with (shown fields.now.entries) [] 0) (op.Set id input.now) }
 {
     if !has_field(fields, id) {
         Err(Refusal::NoField)
@@ -216,8 +209,10 @@ fn check_set(fields: &[Field], id: u32, input: &[u8]) -> Result<(), Refusal>
     }
 }
 
-fn check_there(fields: &[Field], id: u32) -> Result<(), Refusal>
-    ensures { result_err result ≡ first_refusal (contents_with fields.now [] 0) (op.Remove id) }
+fn check_there(fields: &IndexMap<u32, Slot>, id: u32) -> Result<(), Refusal>
+    requires { AreFields fields.now.entries }
+    ensures { result_err result
+        ≡ first_refusal (contents_with (shown fields.now.entries) [] 0) (op.Remove id) }
 {
     if !has_field(fields, id) {
         Err(Refusal::NoField)
@@ -226,8 +221,11 @@ fn check_there(fields: &[Field], id: u32) -> Result<(), Refusal>
     }
 }
 
-fn check_move(fields: &[Field], id: u32, after: u32) -> Result<(), Refusal>
-    ensures { result_err result ≡ first_refusal (contents_with fields.now [] 0) (op.Move id after) }
+fn check_move(fields: &IndexMap<u32, Slot>, id: u32, after: u32) -> Result<(), Refusal>
+    requires fields { AreFields fields.now.entries }
+    requires apart { AreApart (numbers (shown fields.now.entries)) }
+    ensures { result_err result
+        ≡ first_refusal (contents_with (shown fields.now.entries) [] 0) (op.Move id after) }
 {
     if !has_field(fields, id) || !has_place(fields, after) {
         Err(Refusal::NoField)
@@ -238,10 +236,12 @@ fn check_move(fields: &[Field], id: u32, after: u32) -> Result<(), Refusal>
     }
 }
 
-fn check_answer(fields: &[Field], id: u32, prompt: &[u8]) -> Result<(), Refusal>
+fn check_answer(fields: &IndexMap<u32, Slot>, id: u32, prompt: &[u8]) -> Result<(), Refusal>
+    requires { AreFields fields.now.entries }
     ensures { (output : Tree)
         → result_err result
-        ≡ first_refusal (contents_with fields.now [] 0) (op.Answer id prompt.now output) }
+        ≡ first_refusal (contents_with (shown fields.now.entries) [] 0)
+        (op.Answer id prompt.now output) }
 {
     if !has_field(fields, id) {
         Err(Refusal::NoField)

@@ -1,83 +1,117 @@
-//! Changes of a list of fields.
-ghost use Rattle.std.specs.Prelude.{◌≡◌, ◌+◌, ◌<◌, ◌≤◌, ℕ, Some, None, true, length, map, insert, IsSome, IsTrue, vec_len, vec_capacity, slice_index_or, ◌||◌, ◌==◌, is_some};
+//! Changes of a map of fields.
+ghost use Rattle.std.specs.Prelude.{◌≡◌, ◌≢◌, ◌+◌, ◌<◌, ◌≤◌, ◌++◌, ◌∷◌, [], ℕ, Some, None, true, false, length, map, nat_eq, IsSome, OnOk, OnErr, ◌||◌, ◌==◌, is_some};
 ghost use Rattle.worksheet.specs.declared.field.Field.{Field};
-ghost use Rattle.worksheet.specs.Checks.{field_in, numbers};
-ghost use Rattle.worksheet.specs.Edits.{AreApart, at_field, fields_without, placed_field, with_answer, with_input};
+ghost use Rattle.worksheet.specs.Checks.{field_in, is_number, numbers};
+ghost use Rattle.worksheet.specs.Edits.{AreApart, AllBelow, at_field, fields_without, moved, placed_field, with_answer, with_input};
+ghost use Rattle.worksheet.specs.inside.Entries.{AreFields, shown, reserved};
+ghost use Rattle.indexmap.specs.IndexMap.{get};
 
 use crate::field::{Answer, Field};
-use block_tree::Text;
+use crate::places::{count_fields, place_behind, place_of, reserved_number};
+use crate::slot::Slot;
+use block_tree::{OutOfMemory, Text};
+use indexmap::IndexMap;
 
-/// The place of the field with this number.
-fn place_of(fields: &[Field], id: u32) -> usize
-    requires { IsSome (field_in fields.now id) }
-    ensures within { result < length fields.now }
-    ensures found { (d : Field) → (slice_index_or fields.now result d).id ≡ id }
+/// Puts a number that has no entry behind the others, without a field.
+fn add_number(fields: &mut IndexMap<u32, Slot>, number: u32) -> Result<(), OutOfMemory>
+    requires { get nat_eq fields.old number ≡ None }
+    ensures ok { OnOk result (fields.new.entries ≡ fields.old.entries ++ (number, None) ∷ []) }
+    ensures err { OnErr result (fields.new.entries ≡ fields.old.entries) }
 {
-    for i in 0..fields.len() {
-        if fields[i].id == id {
-            return i;
-        }
-    }
-    unreachable!();
-}
-
-/// Puts a field at this place. There is room for it.
-fn insert_at(fields: &mut Vec<Field>, at: usize, field: Field)
-    requires within { at ≤ vec_len fields.old }
-    requires room { vec_len fields.old < vec_capacity fields.old }
-    ensures { fields.new.items ≡ insert fields.old.items at field }
-{
-    if fields.insert(at, field).is_err() {
-        unreachable!();
+    let slot = Slot::empty(*fields.allocator())?;
+    match fields.insert(number, slot) {
+        Ok(_) => Ok(()),
+        Err(_) => Err(OutOfMemory),
     }
 }
 
-/// Puts a field directly behind the one with this number, or first for 0. There is room for it.
-pub(crate) fn put_field(fields: &mut Vec<Field>, after: u32, field: Field)
-    requires apart { AreApart (numbers fields.old.items) }
-    requires place { ((after == 0) || is_some (field_in fields.old.items after)) ≡ true }
-    requires room { vec_len fields.old < vec_capacity fields.old }
-    ensures { fields.new.items ≡ placed_field after field fields.old.items }
+/// Holds the next number ready for a field, behind the fields, and no other number any more. It isn't
+/// ready yet.
+pub(crate) fn reserve_number(fields: &mut IndexMap<u32, Slot>, next: u32) -> Result<(), OutOfMemory>
+    requires fields { AreFields fields.old.entries }
+    requires below { AllBelow next (numbers (shown fields.old.entries)) }
+    requires absent { is_number (reserved fields.old.entries) next ≡ false }
+    ensures ok { OnOk result (reserved fields.new.entries ≡ Some next) }
+    ensures same { shown fields.new.entries ≡ shown fields.old.entries }
+    ensures err { OnErr result (fields.new.entries ≡ fields.old.entries) }
+    ensures fields { AreFields fields.new.entries }
 {
-    if after == 0 {
-        insert_at(fields, 0, field);
-    } else {
-        let at = place_of(fields, after) + 1;
-        insert_at(fields, at, field);
+    let has_earlier = reserved_number(fields).is_some();
+    let earlier = count_fields(fields);
+    add_number(fields, next)?;
+    if has_earlier {
+        fields.shift_remove_index(earlier);
     }
+    Ok(())
 }
 
-/// Takes the field with this number out.
-pub(crate) fn take_field(fields: &mut Vec<Field>, id: u32) -> Field
-    requires apart { AreApart (numbers fields.old.items) }
-    requires there { IsSome (field_in fields.old.items id) }
-    ensures taken { field_in fields.old.items id ≡ Some result }
-    ensures items { fields.new.items ≡ fields_without id fields.old.items }
-    ensures len { vec_len fields.new + 1 ≡ vec_len fields.old }
-    ensures capacity { vec_capacity fields.new ≡ vec_capacity fields.old }
+/// Puts a field under its number, which is held ready for it, directly behind the field with this
+/// number, or first for 0.
+pub(crate) fn put_field(fields: &mut IndexMap<u32, Slot>, after: u32, field: Field)
+    requires ready { reserved fields.old.entries ≡ Some field.id }
+    requires fields { AreFields fields.old.entries }
+    requires apart { AreApart (numbers (shown fields.old.entries)) }
+    requires place { ((after == 0) || is_some (field_in (shown fields.old.entries) after)) ≡ true }
+    ensures made { shown fields.new.entries ≡ placed_field after field (shown fields.old.entries) }
+    ensures fields { AreFields fields.new.entries }
+{
+    let from = count_fields(fields);
+    let to = place_behind(fields, after);
+    fields[from].put(field);
+    fields.move_index(from, to);
+}
+
+/// Takes the field with this number out and gives it up.
+pub(crate) fn remove_field(fields: &mut IndexMap<u32, Slot>, id: u32)
+    requires fields { AreFields fields.old.entries }
+    requires apart { AreApart (numbers (shown fields.old.entries)) }
+    requires there { IsSome (field_in (shown fields.old.entries) id) }
+    ensures made { shown fields.new.entries ≡ fields_without id (shown fields.old.entries) }
+    ensures fields { AreFields fields.new.entries }
 {
     let at = place_of(fields, id);
-    fields.remove(at)
+    fields.shift_remove_index(at);
+}
+
+/// Moves a field directly behind another, or first for 0.
+pub(crate) fn move_field(fields: &mut IndexMap<u32, Slot>, id: u32, after: u32)
+    requires fields { AreFields fields.old.entries }
+    requires apart { AreApart (numbers (shown fields.old.entries)) }
+    requires there { IsSome (field_in (shown fields.old.entries) id) }
+    requires place { ((after == 0) || is_some (field_in (shown fields.old.entries) after)) ≡ true }
+    requires other { (after == id) ≡ false }
+    ensures made { shown fields.new.entries
+        ≡ moved id after (shown fields.old.entries) (field_in (shown fields.old.entries) id) }
+    ensures fields { AreFields fields.new.entries }
+{
+    let from = place_of(fields, id);
+    let behind = place_behind(fields, after);
+    let to = if from < behind { behind - 1 } else { behind };
+    fields.move_index(from, to);
 }
 
 /// Gives the field with this number another input, and takes its answer away.
-pub(crate) fn set_input(fields: &mut Vec<Field>, id: u32, input: Text)
-    requires apart { AreApart (numbers fields.old.items) }
-    requires there { IsSome (field_in fields.old.items id) }
-    ensures { fields.new.items ≡ map (at_field id (with_input input)) fields.old.items }
+pub(crate) fn set_input(fields: &mut IndexMap<u32, Slot>, id: u32, input: Text)
+    requires fields { AreFields fields.old.entries }
+    requires apart { AreApart (numbers (shown fields.old.entries)) }
+    requires there { IsSome (field_in (shown fields.old.entries) id) }
+    ensures made { shown fields.new.entries
+        ≡ map (at_field id (with_input input)) (shown fields.old.entries) }
+    ensures fields { AreFields fields.new.entries }
 {
     let at = place_of(fields, id);
-    let field = &mut fields[at];
-    field.input = input;
-    field.answer = None;
+    fields[at].set_input(input);
 }
 
 /// Gives the field with this number another answer, or none.
-pub(crate) fn set_answer(fields: &mut Vec<Field>, id: u32, answer: Option<Answer>)
-    requires apart { AreApart (numbers fields.old.items) }
-    requires there { IsSome (field_in fields.old.items id) }
-    ensures { fields.new.items ≡ map (at_field id (with_answer answer)) fields.old.items }
+pub(crate) fn set_answer(fields: &mut IndexMap<u32, Slot>, id: u32, answer: Option<Answer>)
+    requires fields { AreFields fields.old.entries }
+    requires apart { AreApart (numbers (shown fields.old.entries)) }
+    requires there { IsSome (field_in (shown fields.old.entries) id) }
+    ensures made { shown fields.new.entries
+        ≡ map (at_field id (with_answer answer)) (shown fields.old.entries) }
+    ensures fields { AreFields fields.new.entries }
 {
     let at = place_of(fields, id);
-    fields[at].answer = answer;
+    fields[at].set_answer(answer);
 }

@@ -13,8 +13,11 @@ pub mod laws;
 pub mod limits;
 pub mod name;
 pub mod op;
+mod places;
 pub mod refusal;
+mod session_map;
 pub mod sheet;
+mod slot;
 
 pub use field::{Answer, Field, Session};
 pub use fields::{Fields, Sessions};

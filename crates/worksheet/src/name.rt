@@ -2,10 +2,13 @@
 ghost use Rattle.std.specs.Prelude.{◌≡◌, ◌↔◌, IsTrue, IsSome, IfSome};
 ghost use Rattle.std.specs.List.{list_all};
 ghost use Rattle.std.specs.Str.{bytes_eq};
+ghost use Rattle.std.specs.Hash as fed;
 ghost use Rattle.std.proofs.Common.{rules};
+ghost use Rattle.std.specs.Cmp.Rules.{hashing};
 ghost use Rattle.worksheet.specs.Names.{is_name as name_test, is_name_byte as byte_test};
 
 use crate::limits::LONGEST_NAME;
+use std::hash::{Hash, Hasher};
 use std::marker::Model;
 
 /// The name of a session: 1 to 32 bytes, each an ASCII letter, a digit, `_` or `-`. Contracts see it
@@ -70,6 +73,16 @@ impl PartialEq for Name {
 
 impl Eq for Name {
     ghost laws = { Prim.search rules };
+}
+
+impl Hash for Name {
+    ghost hash_input = { fed.slice fed.u8 };
+
+    ghost respects_eq = { Prim.search (hashing, rules) };
+
+    fn hash<H: Hasher>(&self, state: &mut H) {
+        self.as_slice().hash(state);
+    }
 }
 
 /// Whether these bytes are a name.

@@ -4,21 +4,31 @@ ghost use Rattle.std.specs.Option.{option_copied};
 ghost use Rattle.std.specs.Result.{result_err};
 
 use crate::carry::carry_out;
-use crate::check::{check_op, field_with, is_new_name, session_with};
+use crate::check::{check_op, is_new_name};
+use crate::edits::reserve_number;
 use crate::field::{Field, Session};
 use crate::fields::{Fields, Sessions};
+use crate::name::Name;
 use crate::op::Op;
+use crate::places::{field_with, is_reserved};
 use crate::refusal::Refusal;
+use crate::session_map::{is_ready_name, reserve_name, session_with};
+use crate::slot::Slot;
 use block_tree::OutOfMemory;
+use indexmap::IndexMap;
 use std::alloc::Global;
 use std::marker::Model;
 
 /// A worksheet: fields in their order, and the sessions that they belong to. It stands for a list of
 /// ops, those that it has taken, and contains what they say.
+///
+/// Its fields stand in a map by number whose order is theirs, its sessions in one by name. Behind them
+/// each map may have one entry without a value, for the next field or session: memory is ready for
+/// that one. No call shows such an entry, and no limit counts it.
 #[derive(Drop)]
 pub struct Sheet {
-    fields: Vec<Field>,
-    sessions: Vec<Session>,
+    fields: IndexMap<u32, Slot>,
+    sessions: IndexMap<Name, Option<Session>>,
     next: u32,
 }
 
@@ -47,8 +57,8 @@ impl Sheet {
         ensures { result.contents ≡ sheet_of [] }
     {
         Sheet {
-            fields: Vec::new(alloc),
-            sessions: Vec::new(alloc),
+            fields: IndexMap::new(alloc),
+            sessions: IndexMap::new(alloc),
             next: 1,
         }
     }
@@ -67,10 +77,10 @@ impl Sheet {
         ensures { result ≡ room_for self.now op.now }
     {
         match op {
-            Op::New { .. } => self.fields.len() < self.fields.capacity(),
+            Op::New { .. } => is_reserved(&self.fields, self.next),
             Op::Session { name, .. } => {
                 !is_new_name(&self.sessions, name.as_slice())
-                    || self.sessions.len() < self.sessions.capacity()
+                    || is_ready_name(&self.sessions, name.as_slice())
             }
             Op::Set { .. }
             | Op::Remove { .. }
@@ -80,7 +90,8 @@ impl Sheet {
         }
     }
 
-    /// Makes memory ready for an op. It changes nothing that the worksheet contains.
+    /// Makes memory ready for an op. It changes nothing that the worksheet contains. Memory is ready for
+    /// one new session at a time: where it is made ready for one, it isn't any more for another.
     pub fn make_room(&mut self, op: &Op) -> Result<(), OutOfMemory>
         ensures ok { OnOk result (room_for self.new op.now ≡ true) }
         ensures same { self.new.contents ≡ self.old.contents }
@@ -92,8 +103,8 @@ impl Sheet {
             return Ok(());
         }
         match op {
-            Op::New { .. } => self.fields.reserve(1),
-            Op::Session { .. } => self.sessions.reserve(1),
+            Op::New { .. } => reserve_number(&mut self.fields, self.next),
+            Op::Session { name, .. } => reserve_name(&mut self.sessions, name.as_slice()),
             Op::Set { .. }
             | Op::Remove { .. }
             | Op::Move { .. }

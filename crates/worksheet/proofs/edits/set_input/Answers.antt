@@ -1,15 +1,14 @@
-use Rattle.std.proofs.Common.{◌≡◌, ◌<◌, List, length, map, set, get_or, ap, sym, subst, arith}
-use Rattle.worksheet.specs.declared.field.Field.{Field}
-use Rattle.worksheet.specs.Edits.{at_field, with_input}
-use Rattle.worksheet.proofs.EditLaws.{set-at_field}
+use Rattle.std.proofs.Common.{arith, refl}
+use Rattle.worksheet.specs.Edits.{with_input}
+use Rattle.worksheet.proofs.EntryLaws.{shown_within}
+use Rattle.worksheet.proofs.Standing.{key_of, changed-shown, changed-fields}
 use Rattle.worksheet.proofs.edits.set_input.Goals as goal
 
-pub returns : goal.returns
-returns c =
-    let fs = c.args.fields.now.items in
-    let at = c.place_of-at.result in
-    let old = c.index_mut-field.result.now in
-    let within : at < length fs = omega (arith, c.place_of-at.ensures.within, ap length c.deref.ensures.value) in
-    let found = subst (λ (xs : List Field). (get_or xs at old).id ≡ c.args.id) c.deref.ensures.value (c.place_of-at.ensures.found old) in
-    subst (λ (x : Field). set fs at (with_input c.args.input x) ≡ map (at_field c.args.id (with_input c.args.input)) fs) (sym c.index_mut-field.ensures.value)
-    (set-at_field c.args.id (with_input c.args.input) fs at old c.requires.apart within found)
+pub index_mut-requires : goal.index_mut-requires
+index_mut-requires c = let n = shown_within key_of c.args.fields.now.entries c.requires.fields in omega (arith, n, c.place_of-at.ensures.within)
+
+pub returns-clause-made : goal.returns-clause-made
+returns-clause-made c = changed-shown c.args.fields.now.entries c.args.id c.place_of-at.result (with_input c.args.input) c.requires.fields c.place_of-at.ensures.within (λ _. refl) c.index_mut.result.now c.set_input.new.self c.index_mut.ensures.value c.set_input.ensures c.requires.apart c.requires.there c.place_of-at.ensures.found
+
+pub returns-clause-fields : goal.returns-clause-fields
+returns-clause-fields c = changed-fields c.args.fields.now.entries c.args.id c.place_of-at.result (with_input c.args.input) c.requires.fields c.place_of-at.ensures.within (λ _. refl) c.index_mut.result.now c.set_input.new.self c.index_mut.ensures.value c.set_input.ensures c.requires.there
