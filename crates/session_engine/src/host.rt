@@ -1,5 +1,5 @@
 //! The host.
-ghost use Rattle.std.specs.Prelude.{◌≡◌, ◌↔◌, List, true, false, IfOk, IfErr, OnErr, IsErrOf, length, option_map};
+ghost use Rattle.std.specs.Prelude.{◌≡◌, ◌↔◌, List, true, false, IfOk, IfErr, OnErr, IsErrOf, MatchResult, length, option_map};
 ghost use Rattle.std.specs.Option.{option_copied};
 ghost use Rattle.disk_model.specs.Disk.{InModel, Looks, Rises, SameDisk, bytes_on};
 ghost use Rattle.worksheet.specs.declared.op.Op.{Op};
@@ -79,6 +79,11 @@ impl<D: Disk> Host<D> {
             (λ e. TellsOfSheet (bytes_on (D.view disk)) e.cause)) }
         ensures faulty { IfErr result (λ e. e.cause ≡ OpenCause.Disk
             → Rises (D.view disk).faults (D.view e.disk).faults) }
+
+        // A failure of the disk is told as one, and nothing else is.
+        ensures steady { MatchResult result
+            (λ host. host.store.disk.faults ≡ (D.view disk).faults)
+            (λ e. (e.cause ≡ OpenCause.Disk → ⊥) → (D.view e.disk).faults ≡ (D.view disk).faults) }
 
         // It changes no byte, and at every moment each image is one that a crash could leave at the start.
         ensures looks { InModel (D.view disk)
