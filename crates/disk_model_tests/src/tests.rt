@@ -270,14 +270,18 @@ fn a_disk_that_keeps_no_model_is_called_anywhere(rt: HostRuntime) {
 #[test]
 fn the_longest_read_is_told(rt: HostRuntime) {
     let mut disk = FuseDisk::new(Unclaimed { faults: 0 }, 3, FuseMode::From);
-    let mut buffer = [0u8; 8];
     assert_eq!(rt; disk.longest_read(), 0);
-    assert!(rt; disk.read(Area::First, 0, &mut buffer[..4]).is_ok());
+    assert!(rt; disk.read(Area::First, 0, &mut [0u8; 4]).is_ok());
     assert_eq!(rt; disk.longest_read(), 4);
-    assert!(rt; disk.read(Area::Second, 9, &mut buffer[..2]).is_ok());
+    assert!(rt; disk.read(Area::Second, 9, &mut [0u8; 2]).is_ok());
     assert_eq!(rt; disk.longest_read(), 4);
-    assert!(rt; disk.read(Area::First, 0, &mut buffer).is_err());
+    assert!(rt; disk.read(Area::First, 0, &mut [0u8; 8]).is_err());
     assert_eq!(rt; disk.longest_read(), 8);
+}
+
+#[test]
+fn a_write_is_no_read(rt: HostRuntime) {
+    let mut disk = FuseDisk::new(Unclaimed { faults: 0 }, 1, FuseMode::From);
     assert!(rt; disk.write_at(Area::First, 0, b"0123456789").is_err());
-    assert_eq!(rt; disk.longest_read(), 8);
+    assert_eq!(rt; disk.longest_read(), 0);
 }

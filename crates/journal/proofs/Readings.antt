@@ -1,6 +1,6 @@
 -- Calls that read, one after another.
-use Rattle.std.proofs.Common.{◌≡◌, ℕ, ◌+◌, ◌≤◌, min, sym, ◌∙◌, ap, subst, refl, arith, Result, Ok, Err, IsTrue}
-use Rattle.disk_model.specs.Disk.{DiskView, Image, IsImage, Called, InModel, Looks, SameDisk, Rises, content_of, max_faults}
+use Rattle.std.proofs.Common.{◌≡◌, ℕ, sym, ◌∙◌, subst, refl, arith, Result, IsTrue}
+use Rattle.disk_model.specs.Disk.{DiskView, Image, IsImage, Called, InModel, Looks, SameDisk, Rises, content_of}
 use Rattle.disk_model.specs.inside.Moments.{looks_on, started}
 use Rattle.journal.specs.inside.Reads.{Reads}
 

@@ -39,9 +39,9 @@ GivesNext given left (Err fault) = Unit {0}
 
 -- Over any disk: a payload names the gate at which it was next, has a payload's length, and the next
 -- gate is the one behind its record, at most at the end; the journal's end is that of the opening.
-abbrev pub GoesOn : {D : Type 0} → OpeningView → Result (Next D) (OpenFault D) → Type 0
-GoesOn old (Ok (next.Payload opening payload)) = (payload.gate ≡ old.gate)
+abbrev pub StepsOn : {D : Type 0} → OpeningView → Result (Next D) (OpenFault D) → Type 0
+StepsOn old (Ok (next.Payload opening payload)) = (payload.gate ≡ old.gate)
     × IsPayload max_payload payload.bytes × (opening.gate ≡ old.gate + 5 + length payload.bytes)
     × (opening.gate ≤ opening.end) × (opening.end ≡ old.end)
-GoesOn old (Ok (next.End journal)) = journal.end ≡ old.end
-GoesOn old (Err fault) = Unit {0}
+StepsOn old (Ok (next.End journal)) = journal.end ≡ old.end
+StepsOn old (Err fault) = Unit {0}

@@ -1,5 +1,5 @@
 // Making a journal's disk, and reading it.
-ghost use Rattle.std.specs.Prelude.{◌≡◌, ◌≤◌, ◌<◌, ◌⊎◌, [], List, ℕ, length, IfOk, IfErr, OnErr, OnOk, IsErrOf, MatchResult};
+ghost use Rattle.std.specs.Prelude.{◌≡◌, ◌≤◌, ◌<◌, [], List, ℕ, IfOk, IfErr, OnErr, OnOk, IsErrOf, MatchResult};
 ghost use Rattle.disk_model.specs.Disk.{ChangesArea, InModel, LeavesOnly, Looks, Reaches, SameDisk, Rises, Torn, bytes_on};
 ghost use Rattle.journal.specs.Area.{created, first_gate};
 ghost use Rattle.journal.specs.Kept.{ImageStandsFor, Keeps, active_of};

@@ -54,7 +54,7 @@ pub enum Next<D: Disk> {
 }
 
 impl<D: Disk> Opening<D> {
-    ghost use Rattle.journal.specs.Next.{begun, disk_behind, BeginsPayloads, GivesNext, GoesOn};
+    ghost use Rattle.journal.specs.Next.{begun, disk_behind, BeginsPayloads, GivesNext, StepsOn};
 
     /// Begins to open a disk that a crash may have left: it makes area First durable, and walks over
     /// its gates by their length fields alone. It writes nothing. A disk that stands for no payloads
@@ -113,7 +113,7 @@ impl<D: Disk> Opening<D> {
             ((given left : List (List ℕ)) → HasGiven self given left
             → GivesNext given left result) }
         ensures cause { IfErr result (λ e. IsPassing e.cause) }
-        ensures on { GoesOn self result }
+        ensures on { StepsOn self result }
 
         // It changes no byte, and at every moment each image is one that a crash could leave before.
         ensures looks { InModel self.disk

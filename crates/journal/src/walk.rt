@@ -1,6 +1,6 @@
 // The walk over the gates of area First, by their length fields alone.
-ghost use Rattle.std.specs.Prelude.{◌≡◌, ◌≢◌, ◌<◌, ◌≤◌, ◌+◌, ◌++◌, List, ℕ, length, min, drop, IfOk, IfErr, IfSome, IfNone, OnOk};
-ghost use Rattle.disk_model.specs.Disk.{InModel, bytes_on, max_room};
+ghost use Rattle.std.specs.Prelude.{◌≡◌, ◌<◌, ◌≤◌, ◌+◌, ◌++◌, List, ℕ, length, min, drop, IfOk, IfErr, IfSome, IfNone, OnOk};
+ghost use Rattle.disk_model.specs.Disk.{InModel, bytes_on};
 ghost use Rattle.disk_model.specs.declared.disk.Area.TheVariants.{First};
 ghost use Rattle.journal.specs.Limits.{max_payload};
 ghost use Rattle.journal.specs.Area.{HeaderOf, IsPayload, end_of, first_gate, record_of};

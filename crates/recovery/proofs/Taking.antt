@@ -4,11 +4,9 @@ use Rattle.std.proofs.lemmas.List.{map-append}
 use Rattle.disk_model.specs.Disk.{InModel}
 use Rattle.worksheet.specs.declared.op.Op.{Op}
 use Rattle.worksheet.specs.Contents.{Contents}
-use Rattle.worksheet.specs.Ops.{sheet_of}
 use Rattle.journal.specs.declared.walk.Payload.{Payload}
 use Rattle.journal.specs.declared.opening.OpenCause.{OpenCause}
 use Rattle.journal.specs.declared.opening.OpenCause.TheVariants as causes
-use Rattle.journal.specs.Area.{end_of}
 use Rattle.journal.specs.Opening.{HasGiven, OpeningView}
 use Rattle.recovery.specs.Code.{code_of}
 use Rattle.recovery.specs.Sheets.{codes_of, Makes}

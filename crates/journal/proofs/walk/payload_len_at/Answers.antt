@@ -1,4 +1,4 @@
-use Rattle.std.proofs.Common.{◌≡◌, ◌++◌, ⊎_elim, length, sym, ◌∙◌, arith}
+use Rattle.std.proofs.Common.{◌≡◌, ◌++◌, ⊎_elim, length, arith}
 use Rattle.journal.specs.Area.{record_of}
 use Rattle.journal.specs.declared.walk.Step.TheVariants as steps
 use Rattle.journal.proofs.Walks.{told_here}

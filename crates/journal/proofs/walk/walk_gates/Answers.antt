@@ -1,8 +1,6 @@
-use Rattle.std.proofs.Common.{◌≡◌, ◌-◌, refl, sym, ◌∙◌, arith, ℕ, List, drop}
-use Rattle.disk_model.specs.Disk.{Image, InModel, bytes_on}
+use Rattle.std.proofs.Common.{◌-◌, refl, ◌∙◌, arith}
+use Rattle.disk_model.specs.Disk.{Image, bytes_on}
 use Rattle.journal.specs.Kept.{active_of}
-use Rattle.journal.specs.Limits.{max_payload}
-use Rattle.journal.specs.inside.Walk.{IsStep}
 use Rattle.journal.specs.inside.Window.{Shows}
 use Rattle.journal.specs.declared.walk.Step.TheVariants as steps
 use Rattle.journal.proofs.Readings.{none_read, reads_on, so_before, unfailed}

@@ -1,4 +1,4 @@
-use Rattle.std.proofs.Common.{◌≡◌, ◌++◌, ◌∷◌, [], sym, ◌∙◌, subst, arith, IsTrue}
+use Rattle.std.proofs.Common.{◌++◌, ◌∷◌, [], sym, ◌∙◌, subst, arith, IsTrue}
 use Rattle.disk_model.specs.Disk.{DiskView, Looks}
 use Rattle.disk_model.specs.inside.Moments.{looks_on}
 use Rattle.recovery.specs.Sheets.{codes_of}

@@ -1,4 +1,4 @@
-use Rattle.std.proofs.Common.{◌≡◌, List, ℕ, [], ◌∷◌, ◌++◌, ap, sym, subst, ◌∙◌, arith, IsTrue}
+use Rattle.std.proofs.Common.{◌≡◌, List, ℕ, [], ◌∷◌, ◌++◌, ap, sym, subst, ◌∙◌}
 use Rattle.disk_model.specs.Disk.{DiskView, Looks}
 use Rattle.disk_model.specs.inside.Moments.{looks_on}
 use Rattle.journal.specs.Area.{first_gate}

@@ -1,4 +1,4 @@
-use Rattle.std.proofs.Common.{◌≡◌, ◌≤◌, ◌-◌, List, ℕ}
+use Rattle.std.proofs.Common.{◌≤◌, ◌-◌, List, ℕ}
 use Rattle.disk_model.specs.Disk.{InModel}
 use Rattle.journal.specs.Area.{first_gate}
 use Rattle.journal.specs.Opening.{HasGiven}

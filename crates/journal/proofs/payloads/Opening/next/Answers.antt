@@ -1,4 +1,4 @@
-use Rattle.std.proofs.Common.{◌≡◌, ◌+◌, List, ℕ, length, ap, refl, sym, subst, ◌∙◌, arith, IsTrue}
+use Rattle.std.proofs.Common.{◌+◌, length, ap, refl, sym, subst, ◌∙◌, arith, IsTrue}
 use Rattle.journal.specs.Kept.{JournalView, Keeps}
 use Rattle.journal.specs.Opening.{HasGiven, OpeningView}
 use Rattle.journal.proofs.Givens.{all_given, given_on, next_left, none_left}

@@ -1,7 +1,6 @@
-use Rattle.std.proofs.Common.{◌≡◌, refl, sym, ◌∙◌, ap, subst, arith, ℕ, List, ◌++◌, drop, length}
+use Rattle.std.proofs.Common.{refl, ◌∙◌, ap, arith, length}
 use Rattle.disk_model.specs.Disk.{Image, bytes_on}
 use Rattle.journal.specs.Kept.{active_of}
-use Rattle.journal.specs.inside.Reads.{Begins}
 use Rattle.journal.specs.inside.Window.{Shows}
 use Rattle.journal.proofs.Readings.{none_read, reads_on, so_before, unfailed}
 use Rattle.journal.proofs.Windows.{begins_none, more_fits, more_read}

@@ -1,4 +1,4 @@
-use Rattle.std.proofs.Common.{◌≡◌, refl, sym, ◌∙◌, subst, IsTrue, Some, List, ℕ}
+use Rattle.std.proofs.Common.{refl, sym, subst, IsTrue, Some, List, ℕ}
 use Rattle.disk_model.specs.inside.Moments.{looks_on}
 use Rattle.journal.specs.Kept.{ImageStandsFor}
 use Rattle.disk_model.specs.Disk.{bytes_on}
