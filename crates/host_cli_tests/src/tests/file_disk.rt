@@ -17,11 +17,17 @@ fn folder(rt: &HostRuntime, name: &str) -> io::Result<()> {
 }
 
 fn creates(rt: &HostRuntime, path: &str) -> Result<(), CreateCause> {
-    FileDisk::create(rt, rt.alloc(), path).map(drop)
+    match FileDisk::create(rt, rt.alloc(), path) {
+        Ok(_) => Ok(()),
+        Err(why) => Err(why),
+    }
 }
 
 fn opens(rt: &HostRuntime, path: &str) -> Result<(), OpenCause> {
-    FileDisk::open(rt, rt.alloc(), path).map(drop)
+    match FileDisk::open(rt, rt.alloc(), path) {
+        Ok(_) => Ok(()),
+        Err(why) => Err(why),
+    }
 }
 
 fn is_there(rt: &HostRuntime, path: &str) -> bool {
