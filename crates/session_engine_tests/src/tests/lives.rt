@@ -104,6 +104,15 @@ fn start_refused_then_next_life(rt: HostRuntime) -> Result<(), Fail> {
     )
 }
 
+// A host has no life of session `a`, and these fields.
+fn shows_no_life(alloc: Global, host: Host<MemoryDisk>, want: &str) -> Result<(), Fail> {
+    if life(&host).is_none() {
+        shows(alloc, &host, want)
+    } else {
+        Err("a life".into())
+    }
+}
+
 #[test]
 fn half_an_answer_and_the_end(rt: HostRuntime) -> Result<(), Fail> {
     let alloc = rt.alloc();
@@ -123,8 +132,7 @@ fn half_an_answer_and_the_end(rt: HostRuntime) -> Result<(), Fail> {
             (Step::End(1), "ended a Ended lost 3\nkill a 1\n"),
         ],
     )?;
-    assert!(rt; life(&host).is_none());
-    shows(alloc, &host, "1 x ?\n2 y ?\n3 z ?\n")
+    shows_no_life(alloc, host, "1 x ?\n2 y ?\n3 z ?\n")
 }
 
 #[test]
@@ -237,6 +245,17 @@ fn events(alloc: Global, steps: &[Step<'_>]) -> Result<Vec<Event>, Fail> {
     Ok(events)
 }
 
+// Whether a host tells these lines of a play of these events.
+fn tells_all(
+    alloc: Global,
+    host: &mut Host<MemoryDisk>,
+    events: Vec<Event>,
+    want: &str,
+) -> Result<bool, Fail> {
+    let text = played(alloc, host, events)?;
+    Ok(text.as_str() == want)
+}
+
 // A host tells these lines of a play of these events, and then has these fields.
 fn plays_all(
     alloc: Global,
@@ -245,7 +264,7 @@ fn plays_all(
     (text, want): (&str, &str),
 ) -> Result<(), Fail> {
     let mut host = host;
-    if played(alloc, &mut host, events)?.as_str() == text {
+    if tells_all(alloc, &mut host, events, text)? {
         shows(alloc, &host, want)
     } else {
         Err("another text".into())
