@@ -1,14 +1,14 @@
 -- The equations of a node.
-use Rattle.std.proofs.Common.{◌≡◌, ℕ, Bool, true, false, not, ◌&&◌, nat_le, max, ◌+◌, length, List, [], ◌∷◌, ◌++◌, map, refl, ap, sym, ◌∙◌, append_assoc, arith, ◌≤◌}
+use Rattle.std.proofs.Common.{◌≡◌, ℕ, Bool, true, false, not, ◌&&◌, nat_le, length, List, [], ◌∷◌, ◌++◌, map, refl, ap, sym, ◌∙◌, append_assoc, ◌≤◌}
 use Rattle.std.specs.List.{flat_map}
 use Rattle.block_tree.specs.Tree.{Items, Piece, text_piece, block_piece, items_from, put}
 use Rattle.block_tree.specs.View.{piece_of, tree_of, tree_out, tree_roll, piece_text, piece_block}
 use Rattle.block_tree.specs.inside.Marks.{open_mark, letter, close_mark, marks_of, marks}
 use Rattle.std.proofs.lemmas.Bool.{and_from, le-leb}
-use Rattle.block_tree.specs.Shape.{is_tag_name, levels, depth, is_block, max_tag, max_depth}
+use Rattle.block_tree.specs.Shape.{is_tag_name, depth, is_block, max_tag, max_depth}
 use Rattle.block_tree.specs.inside.Reading.{is_right}
 use Rattle.block_tree.proofs.Shapes.{right_proper}
-use Rattle.block_tree.specs.inside.Nodes.{piece_marks, node_marks, item_marks, piece_depth, node_depth, item_depth, largest, tree_plain, piece_plain, is_right_node, is_plain_item, all_right}
+use Rattle.block_tree.specs.inside.Nodes.{piece_marks, node_marks, item_marks, node_depth, tree_plain, piece_plain, is_right_node, is_plain_item, all_right}
 use Rattle.block_tree.specs.declared.tree.Item.{Item}
 use Rattle.block_tree.specs.declared.tree.Item.TheVariants.{Block, Text}
 use Rattle.block_tree.specs.declared.tree.Node.{Node, Node-F, out-Node, roll-Node}
@@ -65,27 +65,6 @@ plain_item_text t = ap piece_plain (piece_text t)
 pub plain_item_block : (n : Node) → is_plain_item (Block n) ≡ (false, is_right_node n)
 unfolding is_plain_item is_right_node
 plain_item_block n = ap piece_plain (piece_block n)
-
-put_levels : (p : Piece) (rest : Items) → levels (put p rest) ≡ max (piece_depth p) (levels rest)
-put_levels (text_piece t) rest = let same : levels rest ≡ max 0 (levels rest) = omega arith in same
-put_levels (block_piece b) rest = refl
-
-items_levels : (xs : List Item) → levels (items_from (map piece_of xs)) ≡ largest (map item_depth xs)
-unfolding item_depth
-items_levels [] = refl
-items_levels (x ∷ xs) = put_levels (piece_of x) (items_from (map piece_of xs)) ∙ ap (max (piece_depth (piece_of x))) (items_levels xs)
-
-pub depth_out : (n : Node) → node_depth n ≡ 1 + largest (map item_depth (out-Node n).items.items)
-unfolding node_depth
-depth_out n = ap depth (tree_out n) ∙ ap (λ k. 1 + k) (items_levels (out-Node n).items.items)
-
-pub depth_text : (t : List ℕ) → item_depth (Text t) ≡ 0
-unfolding item_depth
-depth_text t = ap piece_depth (piece_text t)
-
-pub depth_block : (n : Node) → item_depth (Block n) ≡ node_depth n
-unfolding item_depth node_depth
-depth_block n = ap piece_depth (piece_block n)
 
 pub tree_marks : (n : Node) → marks (tree_of n) ≡ node_marks n
 unfolding node_marks

@@ -2,9 +2,8 @@
 use Rattle.std.proofs.lemmas.List.{length-map}
 use Rattle.std.proofs.Common.{◌≡◌, suc, false, ◌&&◌, length, List, [], ◌∷◌, map, refl, ap, sym, ◌∙◌}
 use Rattle.std.proofs.lemmas.Bool.{and_parts, and_from, true≢false, false≢true, and_right}
-use Rattle.block_tree.specs.Tree.{Items, Tree, Piece, text_piece, block_piece, items_from, put}
-use Rattle.std.specs.Bool.{Decides}
-use Rattle.block_tree.specs.Same.{same_items, same_tree, same_piece, same_tree-Decides}
+use Rattle.block_tree.specs.Tree.{Items, Piece, text_piece, block_piece, items_from, put}
+use Rattle.block_tree.specs.Same.{same_items, same_piece}
 use Rattle.block_tree.specs.View.{piece_of, tree_out}
 use Rattle.block_tree.specs.declared.tree.Item.{Item}
 
@@ -24,8 +23,5 @@ items_apart (p ∷ ps) (q ∷ qs) h = sym (put_same p q (items_from ps) (items_f
 
 pub pieces_apart : (xs ys : List Item) → (length xs ≡ length ys → ⊥) → false ≡ same_items (items_from (map piece_of xs)) (items_from (map piece_of ys))
 pieces_apart xs ys h = items_apart (map piece_of xs) (map piece_of ys) (λ e. h (sym (length-map xs piece_of) ∙ e ∙ length-map ys piece_of))
-
-pub trees_decide : (a b : Tree) → Decides (same_tree a b) (a ≡ b)
-trees_decide = same_tree-Decides
 
 pub ruleset same_rules = (tree_out, put_same, pieces_apart, and_right)

@@ -1,5 +1,5 @@
 -- Every stream has no fault, or a first one.
-use Rattle.std.proofs.Common.{◌≡◌, ℕ, List, length, sym, subst, ◌⊎◌, inl, inr}
+use Rattle.std.proofs.Common.{ℕ, List, length, sym, subst, ◌⊎◌, inl, inr}
 use Rattle.meta_format.specs.Limits.{Limits, IsRoomy}
 use Rattle.meta_format.specs.Stream.{Outer}
 use Rattle.meta_format.specs.Faults.{Kind, IsSound}

@@ -1,13 +1,12 @@
 -- Bytes of a text that are taken at once.
-use Rattle.std.proofs.Common.{◌≡◌, ℕ, zero, suc, nat_eq, ◌+◌, ◌-◌, ◌<◌, ◌≤◌, All, Bool, true, false, List, [], ◌∷◌, ◌++◌, map, length, get_or, refl, sym, ap, ◌∙◌, arith, append_assoc, append-nil, add-zero, subst}
+use Rattle.std.proofs.Common.{◌≡◌, ℕ, zero, suc, nat_eq, ◌+◌, ◌-◌, ◌<◌, ◌≤◌, All, false, List, [], ◌∷◌, ◌++◌, map, length, get_or, refl, sym, ap, ◌∙◌, arith, append_assoc, append-nil, add-zero, subst}
 use Rattle.std.proofs.lemmas.Bool.{false_from_ne_true, lt-leb, cond-false}
 use Rattle.block_tree.specs.inside.Marks.{Mark, letter}
 use Rattle.block_tree.specs.Shape.{max_depth}
 use Rattle.meta_format.specs.inside.Levels.{weight, stack_marks, IsHeld, AreOpen}
 use Rattle.meta_format.specs.inside.Rows.{Leads, IsOpen}
-use Rattle.meta_format.specs.inside.Scan.{most_of, mode_at, scan_state, AreLevels, IsPlacedAt, IsPlaced}
+use Rattle.meta_format.specs.inside.Scan.{mode_at, scan_state, IsPlacedAt, IsPlaced}
 use Rattle.meta_format.specs.inside.Levels.{IsLevel}
-use Rattle.meta_format.specs.declared.bounds.Bounds.{Bounds}
 use Rattle.meta_format.specs.declared.level.Level.{Level}
 use Rattle.meta_format.specs.declared.scan.Place.{Place}
 use Rattle.meta_format.specs.declared.scan.Place.TheVariants as place
@@ -18,7 +17,7 @@ use Rattle.memchr.specs.Find.{Nowhere, Passes, is_byte, is_byte3}
 use Rattle.meta_format.specs.Limits.{Limits}
 use Rattle.meta_format.specs.Spelling.{is_special}
 use Rattle.meta_format.specs.Stream.{Outer}
-use Rattle.meta_format.specs.inside.Machine.{outside, body_of, State, turns, apply, run}
+use Rattle.meta_format.specs.inside.Machine.{outside, body_of, turns, apply, run}
 use Rattle.meta_format.proofs.Spelled.{body_plain}
 
 -- the search for a special byte passes over others

@@ -68,7 +68,3 @@ scans_stopped most old mid new before between found c rest s stop.BadTag h k = f
 scans_stopped most old mid new before between found c rest s stop.TooDeep h k = fell most (scan_state mid (outers between)) c new.at (outers found) too_deep rest (run most (scan_state old (outers before)) s) h k
 scans_stopped most old mid new before between found c rest s stop.TooLong h k = fell most (scan_state mid (outers between)) c new.at (outers found) too_long rest (run most (scan_state old (outers before)) s) h k
 scans_stopped most old mid new before between found c rest s stop.OutOfMemory h k = tt
-
-pub outers-append : (fs gs : List Found) → outers (fs ++ gs) ≡ outers fs ++ outers gs
-outers-append [] gs = refl
-outers-append (f ∷ fs) gs = ap (λ os. outer_of f ∷ os) (outers-append fs gs)

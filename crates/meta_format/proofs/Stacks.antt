@@ -1,6 +1,5 @@
 -- The last level of a stack.
 use Rattle.std.proofs.Common.{◌≡◌, ℕ, zero, suc, ◌+◌, ◌-◌, ◌<◌, List, [], ◌∷◌, ◌++◌, length, get_or, set, refl, ap, sym, ◌∙◌, append_assoc, append-nil, arith, map}
-use Rattle.block_tree.specs.inside.Marks.{letter}
 use Rattle.block_tree.proofs.Trees.{marks_roll, marks_out, item_marks_text, item_marks_block}
 use Rattle.std.specs.List.{flat_map}
 
@@ -13,9 +12,5 @@ flat_map-set_last f (x ∷ []) (suc i) y d more e h = absurd (omega arith)
 flat_map-set_last f (x ∷ z ∷ xs) zero y d more e h = absurd (omega arith)
 flat_map-set_last f (x ∷ z ∷ xs) (suc i) y d more e h =
     ap (λ ys. f x ++ ys) (flat_map-set_last f (z ∷ xs) i y d more (omega arith) h) ∙ sym (append_assoc (f x) (flat_map f (z ∷ xs)) more)
-
-pub map_letter-push : (t : List ℕ) (c : ℕ) → map letter (t ++ c ∷ []) ≡ map letter t ++ letter c ∷ []
-map_letter-push [] c = refl
-map_letter-push (x ∷ t) c = ap (λ ms. letter x ∷ ms) (map_letter-push t c)
 
 pub ruleset tree_rules = (marks_roll, marks_out, item_marks_text, item_marks_block, append_assoc, append-nil)

@@ -1,7 +1,8 @@
 //! How the program ends over streams that take what they get, and over some that don't.
 use super::failing::{Full, Parts};
-use super::words::words;
-use host_cli::{Ending, read_words, refuse_unread_words, refuse_words, run_blocks};
+use super::words::refusal;
+use clap::Error;
+use host_cli::{Ending, refuse_unread_words, refuse_words, run_blocks};
 use std::alloc::Global;
 use std::io;
 use std::test::Fail;
@@ -10,113 +11,111 @@ fn ending(status: u8, told: bool) -> Ending {
     Ending { status, told }
 }
 
+fn stream(rest: &[u8], fails: bool) -> Parts<'_> {
+    Parts { rest, fails }
+}
+
 // Whether the program ends so over this stream, and writes this on its output and its errors.
-fn ends(alloc: Global, input: Parts<'_>, end: Ending, out: &[u8], said: &[u8]) -> bool {
+fn ends(alloc: Global, input: Parts<'_>, status: u8, (out, said): (&[u8], &[u8])) -> bool {
     let mut input = input;
     let mut output: Vec<u8> = Vec::new(alloc);
     let mut errors: Vec<u8> = Vec::new(alloc);
     let ended = run_blocks(alloc, &mut input, &mut output, &mut errors);
-    ended == end && output.as_slice() == out && errors.as_slice() == said
-}
-
-fn whole(rest: &[u8]) -> Parts<'_> {
-    Parts { rest, fails: false }
+    ended == ending(status, true) && output.as_slice() == out && errors.as_slice() == said
 }
 
 #[test]
-fn a_stream_gives_the_status(rt: HostRuntime) -> Result<(), Fail> {
-    let alloc = rt.alloc();
-    let rows: [(&[u8], u8, &[u8]); 3] = [
-        (b"\x02a:\x05", 0, b"0 4 {a:}\n"),
-        (b"\x02:", 1, b"fault 1 BadTag 1\n"),
-        (b"\x02a", 1, b"unfinished 0\n"),
+fn a_stream_gives_the_status(rt: HostRuntime) {
+    let rows: [(&[u8], bool, u8, (&[u8], &[u8])); 4] = [
+        (b"\x02a:\x05", false, 0, (b"0 4 {a:}\n", b"")),
+        (b"\x02:", false, 1, (b"fault 1 BadTag 1\n", b"")),
+        (b"\x02a", false, 1, (b"unfinished 0\n", b"")),
+        (b"\x02a:\x05", true, 1, (b"", b"fault 40 Input\n")),
     ];
-    for (rest, status, text) in rows {
-        assert!(rt; ends(alloc, whole(rest), ending(status, true), text, b""));
+    for (rest, fails, status, texts) in rows {
+        assert!(rt;
+            ends(rt.alloc(), stream(rest, fails), status, texts),
+            "{status}"
+        );
     }
-    let broken = Parts {
-        rest: b"\x02a:\x05".as_slice(),
-        fails: true,
-    };
-    assert!(rt; ends(alloc, broken, ending(1, true), b"", b"fault 40 Input\n"));
-    Ok(())
+}
+
+// How the program ends over a full output, and what it writes on its errors.
+fn ends_full(alloc: Global, said: &[u8]) -> bool {
+    let mut errors: Vec<u8> = Vec::new(alloc);
+    let mut input = stream(b"\x02a:\x05", false);
+    let ended = run_blocks(alloc, &mut input, &mut Full, &mut errors);
+    ended == ending(1, true) && errors.as_slice() == said
+}
+
+// How it ends where its errors can't be written either.
+fn ends_untold(alloc: Global) -> Ending {
+    let mut input = stream(b"\x02a:\x05", false);
+    run_blocks(alloc, &mut input, &mut Full, &mut Full)
 }
 
 #[test]
-fn a_full_output_is_told(rt: HostRuntime) -> Result<(), Fail> {
-    let alloc = rt.alloc();
+fn a_full_output_is_told(rt: HostRuntime) {
+    assert!(rt; ends_full(rt.alloc(), b"fault 42 Output\n"));
+    assert!(rt; ends_untold(rt.alloc()) == ending(1, false));
+}
+
+// Whether a refusal ends so, with a text on the output that begins so, and none on the errors.
+fn is_shown(alloc: Global, error: &Error, status: u8, front: &[u8]) -> bool {
+    let mut output: Vec<u8> = Vec::new(alloc);
     let mut errors: Vec<u8> = Vec::new(alloc);
-    let ended = run_blocks(
-        alloc,
-        &mut whole(b"\x02a:\x05".as_slice()),
-        &mut Full,
-        &mut errors,
-    );
-    assert_eq!(rt; ended, ending(1, true));
-    assert_eq!(rt; errors.as_slice(), b"fault 42 Output\n".as_slice());
-    let ended = run_blocks(
-        alloc,
-        &mut whole(b"\x02a:\x05".as_slice()),
-        &mut Full,
-        &mut Full,
-    );
-    assert_eq!(rt; ended, ending(1, false));
-    Ok(())
+    let ended = refuse_words(error, &mut output, &mut errors);
+    ended == ending(status, true) && output.as_slice().starts_with(front) && errors.is_empty()
+}
+
+// The same with a full output, and this text on the errors.
+fn is_shown_full(alloc: Global, error: &Error, status: u8, said: &[u8]) -> bool {
+    let mut errors: Vec<u8> = Vec::new(alloc);
+    let ended = refuse_words(error, &mut Full, &mut errors);
+    ended == ending(status, true) && errors.as_slice() == said
 }
 
 #[test]
 fn help_is_shown_on_the_output(rt: HostRuntime) -> Result<(), Fail> {
-    let alloc = rt.alloc();
-    let help = words(alloc, &["tmhost", "--help"])?;
-    let error = read_words(alloc, help.as_slice()).err().ok_or("a task")?;
+    let error = refusal(rt.alloc(), &["tmhost", "--help"]).ok_or("a task")?;
+    assert!(rt; is_shown(rt.alloc(), &error, 0, b"A worksheet host"));
+    assert!(rt; is_shown_full(rt.alloc(), &error, 1, b"fault 42 Output\n"));
+    Ok(())
+}
+
+// Whether a refusal ends so, with a text on the errors that begins so, and none on the output.
+fn is_told(alloc: Global, error: &Error, status: u8, front: &[u8]) -> bool {
     let mut output: Vec<u8> = Vec::new(alloc);
     let mut errors: Vec<u8> = Vec::new(alloc);
-    assert_eq!(rt;
-        refuse_words(&error, &mut output, &mut errors),
-        ending(0, true)
-    );
-    assert!(rt;
-        output
-            .as_slice()
-            .starts_with(b"A worksheet host".as_slice())
-    );
-    assert!(rt; errors.is_empty());
-    assert_eq!(rt;
-        refuse_words(&error, &mut Full, &mut errors),
-        ending(1, true)
-    );
-    assert_eq!(rt; errors.as_slice(), b"fault 42 Output\n".as_slice());
-    Ok(())
+    let ended = refuse_words(error, &mut output, &mut errors);
+    ended == ending(status, true) && output.is_empty() && errors.as_slice().starts_with(front)
+}
+
+// How a refusal ends where its errors can't be written.
+fn is_untold(alloc: Global, error: &Error) -> Ending {
+    let mut output: Vec<u8> = Vec::new(alloc);
+    refuse_words(error, &mut output, &mut Full)
 }
 
 #[test]
 fn a_refusal_is_told_on_the_errors(rt: HostRuntime) -> Result<(), Fail> {
-    let alloc = rt.alloc();
-    let unknown = words(alloc, &["tmhost", "foo"])?;
-    let error = read_words(alloc, unknown.as_slice()).err().ok_or("a task")?;
-    let mut output: Vec<u8> = Vec::new(alloc);
-    let mut errors: Vec<u8> = Vec::new(alloc);
-    assert_eq!(rt;
-        refuse_words(&error, &mut output, &mut errors),
-        ending(2, true)
-    );
-    assert!(rt; output.is_empty() && errors.as_slice().starts_with(b"error: ".as_slice()));
-    assert_eq!(rt;
-        refuse_words(&error, &mut output, &mut Full),
-        ending(2, false)
-    );
+    let error = refusal(rt.alloc(), &["tmhost", "foo"]).ok_or("a task")?;
+    assert!(rt; is_told(rt.alloc(), &error, 2, b"error: "));
+    assert!(rt; is_untold(rt.alloc(), &error) == ending(2, false));
     Ok(())
 }
 
-#[test]
-fn words_that_are_no_text_are_refused_silently(rt: HostRuntime) -> Result<(), Fail> {
-    let alloc = rt.alloc();
+// Whether words that can't be read for this reason end so, with this text on the errors.
+fn are_refused(alloc: Global, kind: io::ErrorKind, status: u8, said: &[u8]) -> bool {
     let mut errors: Vec<u8> = Vec::new(alloc);
+    let ended = refuse_unread_words(kind, &mut errors);
+    ended == ending(status, true) && errors.as_slice() == said
+}
+
+#[test]
+fn words_that_are_no_text_are_refused_silently(rt: HostRuntime) {
     let invalid = io::ErrorKind::InvalidData;
-    assert_eq!(rt; refuse_unread_words(invalid, &mut errors), ending(2, true));
-    assert!(rt; errors.is_empty());
+    assert!(rt; are_refused(rt.alloc(), invalid, 2, b""));
     let memory = io::ErrorKind::OutOfMemory;
-    assert_eq!(rt; refuse_unread_words(memory, &mut errors), ending(1, true));
-    assert_eq!(rt; errors.as_slice(), b"fault 43 OutOfMemory\n".as_slice());
-    Ok(())
+    assert!(rt; are_refused(rt.alloc(), memory, 1, b"fault 43 OutOfMemory\n"));
 }

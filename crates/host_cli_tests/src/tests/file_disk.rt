@@ -1,74 +1,81 @@
 //! The two files of a worksheet, in folders of the tests' own.
-use host_cli::{Ending, FileDisk, run_create, run_show};
+use super::programs::{has, shows_path};
+use host_cli::{Ending, FileDisk, run_create};
 use journal::{CreateCause, OpenCause};
-use std::fs;
 use std::fs::{File, Permissions};
 use std::os::unix::fs::{PermissionsExt, symlink};
 use std::test::Fail;
+use std::{fs, io};
 
 // What `create` lays on area First.
 const EMPTY_SHEET: &[u8] = b"TMWSHEET\x01A\x00";
 
 // An empty folder of this name.
-fn folder(rt: &HostRuntime, name: &str) -> Result<(), Fail> {
+fn folder(rt: &HostRuntime, name: &str) -> io::Result<()> {
     let _ = fs::remove_dir_all(rt, name);
-    fs::create_dir(rt, name)?;
-    Ok(())
+    fs::create_dir(rt, name)
 }
 
 fn creates(rt: &HostRuntime, path: &str) -> Result<(), CreateCause> {
-    FileDisk::create(rt, rt.alloc(), path).map(drop)
+    match FileDisk::create(rt, rt.alloc(), path) {
+        Ok(_) => Ok(()),
+        Err(why) => Err(why),
+    }
 }
 
 fn opens(rt: &HostRuntime, path: &str) -> Result<(), OpenCause> {
-    FileDisk::open(rt, rt.alloc(), path).map(drop)
+    match FileDisk::open(rt, rt.alloc(), path) {
+        Ok(_) => Ok(()),
+        Err(why) => Err(why),
+    }
 }
 
 fn is_there(rt: &HostRuntime, path: &str) -> bool {
     fs::symlink_metadata(rt, path).is_ok()
 }
 
+// Whether `create` ends so, and writes this on its errors.
+fn create_ends(rt: &HostRuntime, path: &str, status: u8, said: &[u8]) -> bool {
+    let mut errors: Vec<u8> = Vec::new(rt.alloc());
+    let ended = run_create(FileDisk::create(rt, rt.alloc(), path), &mut errors);
+    let want = Ending { status, told: true };
+    ended == want && errors.as_slice() == said
+}
+
 #[test]
 fn create_makes_both_files(rt: HostRuntime) -> Result<(), Fail> {
     folder(&rt, "create_makes_both_files")?;
     let path = "create_makes_both_files/sheet";
-    let mut errors: Vec<u8> = Vec::new(rt.alloc());
-    let ended = run_create(FileDisk::create(&rt, rt.alloc(), path), &mut errors);
-    assert_eq!(rt;
-        ended,
-        Ending {
-            status: 0,
-            told: true
-        }
-    );
-    assert!(rt; errors.is_empty());
-    assert_eq!(rt; fs::read(&rt, path)?.as_slice(), EMPTY_SHEET);
-    assert!(rt; fs::read(&rt, "create_makes_both_files/sheet.alt")?.is_empty());
+    assert!(rt; create_ends(&rt, path, 0, b""));
+    assert!(rt; has(&rt, path, EMPTY_SHEET));
+    assert!(rt; has(&rt, "create_makes_both_files/sheet.alt", b""));
 
     // A second time it is refused, and nothing is changed.
-    let ended = run_create(FileDisk::create(&rt, rt.alloc(), path), &mut errors);
-    assert_eq!(rt;
-        ended,
-        Ending {
-            status: 1,
-            told: true
-        }
-    );
-    assert_eq!(rt; errors.as_slice(), b"fault 34 NotEmpty\n".as_slice());
-    assert_eq!(rt; fs::read(&rt, path)?.as_slice(), EMPTY_SHEET);
+    assert!(rt; create_ends(&rt, path, 1, b"fault 34 NotEmpty\n"));
+    assert!(rt; has(&rt, path, EMPTY_SHEET));
     fs::remove_dir_all(&rt, "create_makes_both_files")?;
     Ok(())
 }
 
+// Files, folders and links that are there, for what is not created.
+fn make_things(rt: &HostRuntime) -> io::Result<()> {
+    folder(rt, "not_created")?;
+    fs::write(rt, "not_created/first", b"x".as_slice())?;
+    fs::write(rt, "not_created/second.alt", b"".as_slice())?;
+    fs::create_dir(rt, "not_created/folder")?;
+    fs::create_dir(rt, "not_created/other.alt")?;
+    symlink(rt, "nowhere", "not_created/link")?;
+    symlink(rt, "nowhere", "not_created/alias.alt")
+}
+
+// Whether nothing is created for this path, which has something, so that the other file isn't there.
+fn is_not_created(rt: &HostRuntime, path: &str, missing: &str) -> bool {
+    creates(rt, path) == Err(CreateCause::NotEmpty) && !is_there(rt, missing)
+}
+
 #[test]
 fn what_is_there_is_not_created(rt: HostRuntime) -> Result<(), Fail> {
-    folder(&rt, "not_created")?;
-    fs::write(&rt, "not_created/first", b"x".as_slice())?;
-    fs::write(&rt, "not_created/second.alt", b"".as_slice())?;
-    fs::create_dir(&rt, "not_created/folder")?;
-    fs::create_dir(&rt, "not_created/other.alt")?;
-    symlink(&rt, "nowhere", "not_created/link")?;
-    symlink(&rt, "nowhere", "not_created/alias.alt")?;
+    make_things(&rt)?;
     for (path, missing) in [
         ("not_created/first", "not_created/first.alt"),
         ("not_created/second", "not_created/second"),
@@ -77,14 +84,10 @@ fn what_is_there_is_not_created(rt: HostRuntime) -> Result<(), Fail> {
         ("not_created/link", "not_created/link.alt"),
         ("not_created/alias", "not_created/alias"),
     ] {
-        assert_eq!(rt; creates(&rt, path), Err(CreateCause::NotEmpty), "{path}");
-        assert!(rt; !is_there(&rt, missing), "{path}");
+        assert!(rt; is_not_created(&rt, path, missing), "{path}");
     }
     assert!(rt; !is_there(&rt, "not_created/nowhere"));
-    assert_eq!(rt;
-        fs::read(&rt, "not_created/first")?.as_slice(),
-        b"x".as_slice()
-    );
+    assert!(rt; has(&rt, "not_created/first", b"x"));
     fs::remove_dir_all(&rt, "not_created")?;
     Ok(())
 }
@@ -99,41 +102,45 @@ fn what_can_not_be_made_is_a_fault_of_the_disk(rt: HostRuntime) -> Result<(), Fa
         "not_made/file/sheet",
         "not_made/\0",
     ] {
-        assert_eq!(rt; creates(&rt, path), Err(CreateCause::Disk), "{path:?}");
+        assert!(rt; creates(&rt, path) == Err(CreateCause::Disk), "{path:?}");
     }
-    assert!(rt; !is_there(&rt, ".alt"));
-    assert!(rt; !is_there(&rt, "not_made/none"));
-    assert_eq!(rt; fs::read(&rt, "not_made/file")?.as_slice(), b"x".as_slice());
+    assert!(rt; !is_there(&rt, ".alt") && !is_there(&rt, "not_made/none"));
+    assert!(rt; has(&rt, "not_made/file", b"x"));
     fs::remove_dir_all(&rt, "not_made")?;
     Ok(())
+}
+
+// Whether the worksheet is opened, and has this second file then.
+fn opens_with(rt: &HostRuntime, second: &[u8]) -> bool {
+    opens(rt, "second_made/sheet") == Ok(()) && has(rt, "second_made/sheet.alt", second)
 }
 
 #[test]
 fn a_missing_second_file_is_made(rt: HostRuntime) -> Result<(), Fail> {
     folder(&rt, "second_made")?;
     fs::write(&rt, "second_made/sheet", EMPTY_SHEET)?;
-    assert_eq!(rt; opens(&rt, "second_made/sheet"), Ok(()));
-    assert!(rt; fs::read(&rt, "second_made/sheet.alt")?.is_empty());
-    assert_eq!(rt; fs::read(&rt, "second_made/sheet")?.as_slice(), EMPTY_SHEET);
+    assert!(rt; opens_with(&rt, b""));
+    assert!(rt; has(&rt, "second_made/sheet", EMPTY_SHEET));
 
     // One that is there is left as it is.
     fs::write(&rt, "second_made/sheet.alt", b"y".as_slice())?;
-    assert_eq!(rt; opens(&rt, "second_made/sheet"), Ok(()));
-    assert_eq!(rt;
-        fs::read(&rt, "second_made/sheet.alt")?.as_slice(),
-        b"y".as_slice()
-    );
+    assert!(rt; opens_with(&rt, b"y"));
     fs::remove_dir_all(&rt, "second_made")?;
     Ok(())
 }
 
+// Things that are no worksheet.
+fn make_no_sheets(rt: &HostRuntime) -> io::Result<()> {
+    folder(rt, "not_opened")?;
+    fs::create_dir(rt, "not_opened/folder")?;
+    fs::write(rt, "not_opened/sheet", EMPTY_SHEET)?;
+    fs::create_dir(rt, "not_opened/sheet.alt")?;
+    symlink(rt, "nowhere", "not_opened/link")
+}
+
 #[test]
 fn what_can_not_be_opened_is_a_fault_of_the_disk(rt: HostRuntime) -> Result<(), Fail> {
-    folder(&rt, "not_opened")?;
-    fs::create_dir(&rt, "not_opened/folder")?;
-    fs::write(&rt, "not_opened/sheet", EMPTY_SHEET)?;
-    fs::create_dir(&rt, "not_opened/sheet.alt")?;
-    symlink(&rt, "nowhere", "not_opened/link")?;
+    make_no_sheets(&rt)?;
     for path in [
         "",
         "not_opened/none",
@@ -143,7 +150,7 @@ fn what_can_not_be_opened_is_a_fault_of_the_disk(rt: HostRuntime) -> Result<(), 
         "not_opened/sheet/in",
         "not_opened/\0",
     ] {
-        assert_eq!(rt; opens(&rt, path), Err(OpenCause::Disk), "{path:?}");
+        assert!(rt; opens(&rt, path) == Err(OpenCause::Disk), "{path:?}");
     }
     for made in [
         ".alt",
@@ -155,51 +162,52 @@ fn what_can_not_be_opened_is_a_fault_of_the_disk(rt: HostRuntime) -> Result<(), 
     ] {
         assert!(rt; !is_there(&rt, made), "{made}");
     }
-    assert_eq!(rt; fs::read(&rt, "not_opened/sheet")?.as_slice(), EMPTY_SHEET);
+    assert!(rt; has(&rt, "not_opened/sheet", EMPTY_SHEET));
     fs::remove_dir_all(&rt, "not_opened")?;
     Ok(())
+}
+
+// Whether the file is opened where it may be read and else is a fault, and then has no second one.
+fn is_opened_or_not(rt: &HostRuntime, path: &str, second: &str) -> bool {
+    let may_read = fs::read(rt, path).is_ok();
+    let expected = if may_read {
+        Ok(())
+    } else {
+        Err(OpenCause::Disk)
+    };
+    opens(rt, path) == expected && is_there(rt, second) == may_read
 }
 
 // A file without permissions is read by the superuser alone.
 #[test]
 fn a_file_that_may_not_be_read_is_not_opened(rt: HostRuntime) -> Result<(), Fail> {
     folder(&rt, "not_read")?;
-    let path = "not_read/sheet";
-    fs::write(&rt, path, EMPTY_SHEET)?;
-    fs::set_permissions(&rt, path, Permissions::from_mode(0))?;
-    let may_read = fs::read(&rt, path).is_ok();
-    let expected = if may_read {
-        Ok(())
-    } else {
-        Err(OpenCause::Disk)
-    };
-    assert_eq!(rt; opens(&rt, path), expected);
-    assert_eq!(rt; is_there(&rt, "not_read/sheet.alt"), may_read);
+    fs::write(&rt, "not_read/sheet", EMPTY_SHEET)?;
+    fs::set_permissions(&rt, "not_read/sheet", Permissions::from_mode(0))?;
+    assert!(rt; is_opened_or_not(&rt, "not_read/sheet", "not_read/sheet.alt"));
     fs::remove_dir_all(&rt, "not_read")?;
     Ok(())
+}
+
+// A new file of this length.
+fn make_long(rt: &HostRuntime, path: &str, len: u64) -> io::Result<()> {
+    let file = File::create(rt, path)?;
+    file.set_len(len)
+}
+
+fn has_len(rt: &HostRuntime, path: &str, len: u64) -> bool {
+    match fs::metadata(rt, path) {
+        Ok(found) => found.len() == len,
+        Err(_) => false,
+    }
 }
 
 #[test]
 fn a_file_longer_than_the_room(rt: HostRuntime) -> Result<(), Fail> {
     folder(&rt, "too_long")?;
-    let path = "too_long/sheet";
-    let file = File::create(&rt, path)?;
-    file.set_len(2_147_483_649)?;
-    drop(file);
-    let mut output: Vec<u8> = Vec::new(rt.alloc());
-    let mut errors: Vec<u8> = Vec::new(rt.alloc());
-    let files = FileDisk::open(&rt, rt.alloc(), path);
-    let ended = run_show(rt.alloc(), files, &mut output, &mut errors);
-    assert_eq!(rt;
-        ended,
-        Ending {
-            status: 1,
-            told: true
-        }
-    );
-    assert_eq!(rt; errors.as_slice(), b"fault 32 Disk\n".as_slice());
-    assert!(rt; output.is_empty());
-    assert_eq!(rt; fs::metadata(&rt, path)?.len(), 2_147_483_649);
+    make_long(&rt, "too_long/sheet", 2_147_483_649)?;
+    assert!(rt; shows_path(&rt, "too_long/sheet", 1, (b"", b"fault 32 Disk\n")));
+    assert!(rt; has_len(&rt, "too_long/sheet", 2_147_483_649));
     fs::remove_dir_all(&rt, "too_long")?;
     Ok(())
 }

@@ -1,172 +1,235 @@
 //! Scripts at each limit and one past it, long scripts, and worksheets of many fields, for tests. The
 //! bytes are typed in.
 use super::failing::{Counted, Narrow};
+use super::scripts::gives;
+use super::words::words;
 use clap::error::ErrorKind;
 use host_cli::{RunFault, blocks, read_words, run_memory};
 use std::alloc::{AllocError, Global};
 use std::fmt::Write;
 use std::test::Fail;
 
-// Whether the script gives this text.
-fn gives(alloc: Global, script: &[u8], text: &[u8]) -> bool {
-    let mut reader = script;
-    let mut out: Vec<u8> = Vec::new(alloc);
-    run_memory(alloc, &mut reader, &mut out) == Ok(()) && out.as_slice() == text
-}
-
-// The front, and so many bytes `x` behind it.
-fn long_line(alloc: Global, front: &[u8], count: u32) -> Result<Vec<u8>, AllocError> {
+// The front, so many times these bytes, and the back.
+fn line(
+    alloc: Global,
+    front: &[u8],
+    (bytes, count): (&[u8], u32),
+    back: &[u8],
+) -> Result<Vec<u8>, AllocError> {
     let mut line = Vec::from_slice(alloc, front)?;
     for _ in 0..count {
-        line.push(b'x')?;
+        line.extend_from_slice(bytes)?;
     }
+    line.extend_from_slice(back)?;
     Ok(line)
 }
 
-#[test]
-fn inputs_have_4095_bytes_at_most(rt: HostRuntime) -> Result<(), Fail> {
-    let alloc = rt.alloc();
-    let new = b"session a plain p\nnew 0 a ".as_slice();
-    let longest = long_line(alloc, new, 4_095)?;
-    assert!(rt; gives(alloc, longest.as_slice(), b"ok\nfield 1\n".as_slice()));
-    let bad = b"ok\nrefused 7 BadInput\n".as_slice();
-    for count in [4_096, 5_000, 100_000] {
-        let longer = long_line(alloc, new, count)?;
-        assert!(rt; gives(alloc, longer.as_slice(), bad), "{count} bytes");
+// Whether a script of the front, so many times these bytes, and the back gives this text.
+fn line_gives(
+    alloc: Global,
+    (front, back): (&[u8], &[u8]),
+    run: (&[u8], u32),
+    text: &[u8],
+) -> bool {
+    match line(alloc, front, run, back) {
+        Ok(script) => gives(alloc, script.as_slice(), text),
+        Err(_) => false,
     }
-    let set = b"session a plain p\nnew 0 a \nset 1 ".as_slice();
-    let longest = long_line(alloc, set, 4_095)?;
-    assert!(rt; gives(alloc, longest.as_slice(), b"ok\nfield 1\nok\n".as_slice()));
-    let longer = long_line(alloc, set, 4_096)?;
-    let bad = b"ok\nfield 1\nrefused 7 BadInput\n".as_slice();
-    assert!(rt; gives(alloc, longer.as_slice(), bad));
-    Ok(())
 }
 
 #[test]
-fn names_have_32_bytes_at_most(rt: HostRuntime) -> Result<(), Fail> {
-    let alloc = rt.alloc();
+fn inputs_have_4095_bytes_at_most(rt: HostRuntime) {
+    let new: &[u8] = b"session a plain p\nnew 0 a ";
+    let set: &[u8] = b"session a plain p\nnew 0 a \nset 1 ";
+    let rows: [(&[u8], u32, &[u8]); 6] = [
+        (new, 4_095, b"ok\nfield 1\n"),
+        (new, 4_096, b"ok\nrefused 7 BadInput\n"),
+        (new, 5_000, b"ok\nrefused 7 BadInput\n"),
+        (new, 100_000, b"ok\nrefused 7 BadInput\n"),
+        (set, 4_095, b"ok\nfield 1\nok\n"),
+        (set, 4_096, b"ok\nfield 1\nrefused 7 BadInput\n"),
+    ];
+    for (front, count, text) in rows {
+        assert!(rt;
+            line_gives(rt.alloc(), (front, b""), (b"x", count), text),
+            "{count} bytes"
+        );
+    }
+}
+
+#[test]
+fn names_have_32_bytes_at_most(rt: HostRuntime) {
     for (count, text) in [
         (32, "ok\n"),
         (33, "refused 5 BadName\n"),
         (300, "refused 5 BadName\n"),
     ] {
-        let mut script = long_line(alloc, b"session ".as_slice(), count)?;
-        script.extend_from_slice(b" plain p".as_slice())?;
+        let ends = (b"session ".as_slice(), b" plain p".as_slice());
         assert!(rt;
-            gives(alloc, script.as_slice(), text.as_bytes()),
+            line_gives(rt.alloc(), ends, (b"x", count), text.as_bytes()),
             "{count} bytes"
         );
     }
-    Ok(())
 }
 
 #[test]
-fn words_are_16_of_1024_bytes_at_most(rt: HostRuntime) -> Result<(), Fail> {
-    let alloc = rt.alloc();
-    let session = b"session a plain".as_slice();
-    let bad = b"refused 6 BadWords\n".as_slice();
-    for (count, text) in [(16, b"ok\n".as_slice()), (17, bad), (300, bad)] {
-        let mut script = Vec::from_slice(alloc, session)?;
-        for _ in 0..count {
-            script.extend_from_slice(b" p".as_slice())?;
-        }
-        assert!(rt; gives(alloc, script.as_slice(), text), "{count} words");
+fn words_are_16_of_1024_bytes_at_most(rt: HostRuntime) {
+    let many: &[u8] = b"session a plain";
+    let long: &[u8] = b"session a plain p ";
+    let rows: [(&[u8], &[u8], u32, &str); 6] = [
+        (many, b" p", 16, "ok\n"),
+        (many, b" p", 17, "refused 6 BadWords\n"),
+        (many, b" p", 300, "refused 6 BadWords\n"),
+        (long, b"x", 1_024, "ok\n"),
+        (long, b"x", 1_025, "refused 6 BadWords\n"),
+        (long, b"x", 20_000, "refused 6 BadWords\n"),
+    ];
+    for (front, bytes, count, text) in rows {
+        let run = (bytes, count);
+        assert!(rt;
+            line_gives(rt.alloc(), (front, b""), run, text.as_bytes()),
+            "{count}"
+        );
     }
-    for (count, text) in [(1_024, b"ok\n".as_slice()), (1_025, bad), (20_000, bad)] {
-        let script = long_line(alloc, b"session a plain p ".as_slice(), count)?;
-        assert!(rt; gives(alloc, script.as_slice(), text), "{count} bytes");
+}
+
+// A script of a session, so many fields, and the print of the worksheet.
+fn fields(alloc: Global, count: u32) -> Result<String, AllocError> {
+    let mut script = String::from_str(alloc, "session a plain p\n")?;
+    for i in 0..count {
+        let id = i.saturating_add(1);
+        writeln!(script, "new {i} a x{id}")?;
     }
-    Ok(())
+    script.push_str("print\n")?;
+    Ok(script)
+}
+
+// What it gives.
+fn fields_text(alloc: Global, count: u32) -> Result<String, AllocError> {
+    let mut text = String::from_str(alloc, "ok\n")?;
+    for i in 0..count {
+        let id = i.saturating_add(1);
+        writeln!(text, "field {id}")?;
+    }
+    for i in 0..count {
+        let id = i.saturating_add(1);
+        writeln!(text, "#{id} a\n> x{id}\n?")?;
+    }
+    Ok(text)
 }
 
 #[test]
 fn three_thousand_fields_are_printed(rt: HostRuntime) -> Result<(), Fail> {
-    let alloc = rt.alloc();
-    let mut script = String::new(alloc);
-    let mut replies = String::new(alloc);
-    let mut sheet = String::new(alloc);
-    writeln!(script, "session a plain p").map_err(|_| "memory")?;
-    writeln!(replies, "ok").map_err(|_| "memory")?;
-    for i in 0..3_000u32 {
-        let id = i + 1;
-        writeln!(script, "new {i} a x{id}").map_err(|_| "memory")?;
-        writeln!(replies, "field {id}").map_err(|_| "memory")?;
-        writeln!(sheet, "#{id} a\n> x{id}\n?").map_err(|_| "memory")?;
-    }
-    writeln!(script, "print").map_err(|_| "memory")?;
-    replies.push_str(sheet.as_str())?;
-    assert!(rt; gives(alloc, script.as_bytes(), replies.as_bytes()));
+    let script = fields(rt.alloc(), 3_000)?;
+    let text = fields_text(rt.alloc(), 3_000)?;
+    assert!(rt; gives(rt.alloc(), script.as_bytes(), text.as_bytes()));
     Ok(())
+}
+
+// So many times four lines, of which the second and the last one are told.
+fn four_lines(alloc: Global, count: u32) -> Result<String, AllocError> {
+    let mut script = String::new(alloc);
+    for _ in 0..count {
+        script.push_str("# a remark\nremove 1\n\nwait\n")?;
+    }
+    Ok(script)
+}
+
+// What they give.
+fn four_lines_text(alloc: Global, count: u32) -> Result<String, AllocError> {
+    let mut text = String::new(alloc);
+    for i in 0..count {
+        let number = i.saturating_mul(4).saturating_add(4);
+        writeln!(text, "refused 2 NoField\nbad line {number}")?;
+    }
+    Ok(text)
 }
 
 #[test]
 fn a_hundred_thousand_lines_run(rt: HostRuntime) -> Result<(), Fail> {
-    let alloc = rt.alloc();
-    let mut script = String::new(alloc);
-    let mut text = String::new(alloc);
-    for i in 0..25_000u32 {
-        let number = i * 4 + 4;
-        writeln!(script, "# a remark\nremove 1\n\nwait").map_err(|_| "memory")?;
-        writeln!(text, "refused 2 NoField\nbad line {number}").map_err(|_| "memory")?;
-    }
-    assert!(rt; gives(alloc, script.as_bytes(), text.as_bytes()));
+    let script = four_lines(rt.alloc(), 25_000)?;
+    let text = four_lines_text(rt.alloc(), 25_000)?;
+    assert!(rt; gives(rt.alloc(), script.as_bytes(), text.as_bytes()));
     Ok(())
 }
 
+// Whether a writer with this room gets this text of the script, and the run fails for it.
+fn fails_behind(alloc: Global, script: &[u8], text: &[u8]) -> bool {
+    let mut reader = script;
+    let mut out = Narrow {
+        taken: Vec::new(alloc),
+        room: text.len(),
+    };
+    let answer = run_memory(alloc, &mut reader, &mut out);
+    answer == Err(RunFault::Output) && out.taken.as_slice() == text
+}
+
 #[test]
-fn a_writer_that_fails_in_the_middle(rt: HostRuntime) -> Result<(), Fail> {
-    let alloc = rt.alloc();
-    let script = b"session a plain p\nnew 0 a x\nnew 1 a y\nprint\nremove 9\n".as_slice();
-    let text = b"ok\nfield 1\nfield 2\n#1 a\n> x\n?\n#2 a\n> y\n?\nrefused 2 NoField\n".as_slice();
+fn a_writer_that_fails_in_the_middle(rt: HostRuntime) {
+    let script: &[u8] = b"session a plain p\nnew 0 a x\nnew 1 a y\nprint\nremove 9\n";
+    let text: &[u8] = b"ok\nfield 1\nfield 2\n#1 a\n> x\n?\n#2 a\n> y\n?\nrefused 2 NoField\n";
     for room in 0..text.len() {
-        let mut reader = script;
-        let mut out = Narrow {
-            taken: Vec::new(alloc),
-            room,
-        };
-        let answer = run_memory(alloc, &mut reader, &mut out);
-        assert!(rt; answer == Err(RunFault::Output), "{room} bytes");
-        assert!(rt; out.taken.as_slice() == &text[..room], "{room} bytes");
+        assert!(rt;
+            fails_behind(rt.alloc(), script, &text[..room]),
+            "{room} bytes"
+        );
     }
-    Ok(())
+}
+
+// How often `blocks` reads this whole stream.
+fn reads_of_blocks(alloc: Global, bytes: &[u8]) -> Option<u64> {
+    let mut out: Vec<u8> = Vec::new(alloc);
+    let mut reader = Counted {
+        rest: bytes,
+        reads: 0,
+    };
+    match blocks(alloc, &mut reader, &mut out) {
+        Ok(true) => Some(reader.reads),
+        _ => None,
+    }
+}
+
+// How often `run_memory` reads this script.
+fn reads_of_script(alloc: Global, bytes: &[u8]) -> Option<u64> {
+    let mut out: Vec<u8> = Vec::new(alloc);
+    let mut reader = Counted {
+        rest: bytes,
+        reads: 0,
+    };
+    match run_memory(alloc, &mut reader, &mut out) {
+        Ok(()) => Some(reader.reads),
+        Err(_) => None,
+    }
 }
 
 #[test]
-fn no_read_follows_the_end_of_the_input(rt: HostRuntime) -> Result<(), Fail> {
-    let alloc = rt.alloc();
-    let mut out: Vec<u8> = Vec::new(alloc);
-    for (bytes, reads) in [
-        (b"".as_slice(), 1),
-        (b"abc".as_slice(), 2),
-        (b"abc\n\n#\n".as_slice(), 4),
-    ] {
-        let mut reader = Counted {
-            rest: bytes,
-            reads: 0,
-        };
-        assert!(rt; blocks(alloc, &mut reader, &mut out) == Ok(true));
-        assert_eq!(rt; reader.reads, reads);
-        let mut reader = Counted {
-            rest: bytes,
-            reads: 0,
-        };
-        assert!(rt; run_memory(alloc, &mut reader, &mut out) == Ok(()));
-        assert_eq!(rt; reader.reads, reads);
+fn no_read_follows_the_end_of_the_input(rt: HostRuntime) {
+    for (text, reads) in [("", 1), ("abc", 2), ("abc\n\n#\n", 4)] {
+        assert!(rt;
+            reads_of_blocks(rt.alloc(), text.as_bytes()) == Some(reads),
+            "{text:?}"
+        );
+        assert!(rt;
+            reads_of_script(rt.alloc(), text.as_bytes()) == Some(reads),
+            "{text:?}"
+        );
     }
-    Ok(())
+}
+
+// One word more, and whether these words are refused for one that isn't known.
+fn are_refused_with_one_more(alloc: Global, words: &mut Vec<String>) -> Result<bool, AllocError> {
+    words.push(String::from_str(alloc, "x")?)?;
+    match read_words(alloc, words.as_slice()) {
+        Ok(_) => Ok(false),
+        Err(error) => Ok(error.kind() == ErrorKind::UnknownArgument),
+    }
 }
 
 #[test]
 fn many_words_are_refused_as_words(rt: HostRuntime) -> Result<(), Fail> {
-    let alloc = rt.alloc();
-    let mut words = Vec::new(alloc);
-    words.push(String::from_str(alloc, "tmhost")?)?;
-    words.push(String::from_str(alloc, "blocks")?)?;
+    let mut words = words(rt.alloc(), &["tmhost", "blocks"])?;
     for _ in 0..40 {
-        words.push(String::from_str(alloc, "x")?)?;
-        let refused = read_words(alloc, words.as_slice());
-        assert!(rt; refused.is_err_and(|e| e.kind() == ErrorKind::UnknownArgument));
+        assert!(rt; are_refused_with_one_more(rt.alloc(), &mut words) == Ok(true));
     }
     Ok(())
 }

@@ -1,11 +1,11 @@
 //! How `create` and `show` end, over disks in memory and over files.
+use super::failing::Full;
 use disk_model::{FuseDisk, FuseMode, MemoryDisk};
 use host_cli::{Ending, FileDisk, run_create, run_show};
 use journal::{CreateCause, OpenCause};
 use std::alloc::Global;
-use std::io::Write;
+use std::fs;
 use std::test::Fail;
-use std::{fs, io};
 
 // Area First of a worksheet: session `a` with the word `sh`, field 1 with the input `x`, its output
 // cleared, and its answer `A`.
@@ -15,140 +15,158 @@ const SHEET: &[u8] =
 // The same, printed.
 const SHEET_TEXT: &[u8] = b"#1 a\n> x\nA\n";
 
-// Takes nothing.
-#[derive(Drop)]
-struct Full;
-
-impl Write for Full {
-    fn write(&mut self, buf: &[u8]) -> io::Result<usize> {
-        let _ = buf;
-        Err(io::Error::from(io::ErrorKind::StorageFull))
-    }
-
-    fn flush(&mut self) -> io::Result<()> {
-        Err(io::Error::from(io::ErrorKind::StorageFull))
-    }
-}
-
 fn ending(status: u8, told: bool) -> Ending {
     Ending { status, told }
 }
 
-// A disk with these bytes in area First.
-fn holding(alloc: Global, first: &[u8]) -> Result<MemoryDisk, Fail> {
-    if first.len() > 1_000 {
-        return Err("a short area".into());
-    }
-    let bytes = Vec::from_slice(alloc, first)?;
-    Ok(MemoryDisk::holding(alloc, 1_000, bytes)?)
-}
-
-#[test]
-fn create_tells_what_failed(rt: HostRuntime) -> Result<(), Fail> {
-    let alloc = rt.alloc();
+// Whether `create` on an empty disk of 11 bytes of room ends so, and writes this on its errors.
+fn creates(alloc: Global, status: u8, said: &[u8]) -> bool {
     let mut errors: Vec<u8> = Vec::new(alloc);
     let ended = run_create(Ok(MemoryDisk::new(alloc, 11)), &mut errors);
-    assert_eq!(rt; ended, ending(0, true));
-    assert!(rt; errors.is_empty());
-    let one_byte = MemoryDisk::holding(alloc, 100, Vec::from_slice(alloc, &[0])?)?;
-    let ended = run_create(Ok(one_byte), &mut errors);
-    assert_eq!(rt; ended, ending(1, true));
-    assert_eq!(rt; errors.as_slice(), b"fault 34 NotEmpty\n".as_slice());
-    Ok(())
+    ended == ending(status, true) && errors.as_slice() == said
+}
+
+// The same on a disk with one byte.
+fn creates_on_a_byte(alloc: Global, status: u8, said: &[u8]) -> Option<bool> {
+    let mut errors: Vec<u8> = Vec::new(alloc);
+    let bytes = Vec::from_slice(alloc, &[0]).ok()?;
+    let disk = MemoryDisk::holding(alloc, 100, bytes).ok()?;
+    let ended = run_create(Ok(disk), &mut errors);
+    Some(ended == ending(status, true) && errors.as_slice() == said)
 }
 
 #[test]
-fn create_tells_a_disk_that_fails(rt: HostRuntime) -> Result<(), Fail> {
-    let alloc = rt.alloc();
+fn create_tells_what_failed(rt: HostRuntime) {
+    assert!(rt; creates(rt.alloc(), 0, b""));
+    assert!(rt; creates_on_a_byte(rt.alloc(), 1, b"fault 34 NotEmpty\n") == Some(true));
+}
+
+// The same on a disk that fails.
+fn creates_on_a_broken_disk(alloc: Global, status: u8, said: &[u8]) -> bool {
     let mut errors: Vec<u8> = Vec::new(alloc);
     let broken = FuseDisk::new(MemoryDisk::new(alloc, 100), 1, FuseMode::From);
     let ended = run_create(Ok(broken), &mut errors);
-    assert_eq!(rt; ended, ending(1, true));
-    assert_eq!(rt; errors.as_slice(), b"fault 32 Disk\n".as_slice());
-    Ok(())
+    ended == ending(status, true) && errors.as_slice() == said
 }
 
 #[test]
-fn create_without_files(rt: HostRuntime) -> Result<(), Fail> {
-    let alloc = rt.alloc();
-    let mut errors: Vec<u8> = Vec::new(alloc);
-    let none: Result<MemoryDisk, CreateCause> = Err(CreateCause::Disk);
-    assert_eq!(rt; run_create(none, &mut errors), ending(1, true));
-    assert_eq!(rt; errors.as_slice(), b"fault 32 Disk\n".as_slice());
-    let none: Result<MemoryDisk, CreateCause> = Err(CreateCause::NotEmpty);
-    assert_eq!(rt; run_create(none, &mut Full), ending(1, false));
-    Ok(())
+fn create_tells_a_disk_that_fails(rt: HostRuntime) {
+    assert!(rt; creates_on_a_broken_disk(rt.alloc(), 1, b"fault 32 Disk\n"));
 }
 
-// Whether `show` of this area ends so, and writes this on its output and its errors.
-fn shows(alloc: Global, first: &[u8], end: Ending, out: &[u8], said: &[u8]) -> Result<bool, Fail> {
+// The same without files.
+fn creates_without_files(alloc: Global, status: u8, said: &[u8]) -> bool {
+    let mut errors: Vec<u8> = Vec::new(alloc);
+    let none: Result<MemoryDisk, CreateCause> = Err(CreateCause::Disk);
+    let ended = run_create(none, &mut errors);
+    ended == ending(status, true) && errors.as_slice() == said
+}
+
+#[test]
+fn create_without_files(rt: HostRuntime) {
+    assert!(rt; creates_without_files(rt.alloc(), 1, b"fault 32 Disk\n"));
+    let none: Result<MemoryDisk, CreateCause> = Err(CreateCause::NotEmpty);
+    assert!(rt; run_create(none, &mut Full) == ending(1, false));
+}
+
+// A disk with these bytes in area First.
+fn holding(alloc: Global, first: &[u8]) -> Option<MemoryDisk> {
+    if first.len() > 1_000 {
+        return None;
+    }
+    let bytes = Vec::from_slice(alloc, first).ok()?;
+    MemoryDisk::holding(alloc, 1_000, bytes).ok()
+}
+
+// Whether `show` of these files ends so, and writes this on its output and its errors.
+fn shows_files(
+    alloc: Global,
+    files: Result<MemoryDisk, OpenCause>,
+    status: u8,
+    (out, said): (&[u8], &[u8]),
+) -> bool {
     let mut output: Vec<u8> = Vec::new(alloc);
     let mut errors: Vec<u8> = Vec::new(alloc);
-    let files: Result<MemoryDisk, OpenCause> = Ok(holding(alloc, first)?);
     let ended = run_show(alloc, files, &mut output, &mut errors);
-    Ok(ended == end && output.as_slice() == out && errors.as_slice() == said)
+    ended == ending(status, true) && output.as_slice() == out && errors.as_slice() == said
+}
+
+// The same of a disk with these bytes in area First.
+fn shows(alloc: Global, first: &[u8], status: u8, texts: (&[u8], &[u8])) -> bool {
+    match holding(alloc, first) {
+        Some(disk) => shows_files(alloc, Ok(disk), status, texts),
+        None => false,
+    }
+}
+
+// The worksheet without its answer and without the clearing.
+fn unanswered(alloc: Global) -> Option<Vec<u8>> {
+    let mut first = Vec::from_slice(alloc, &SHEET[..49]).ok()?;
+    first.push(0).ok()?;
+    Some(first)
 }
 
 #[test]
 fn show_writes_the_worksheet_or_tells_the_damage(rt: HostRuntime) -> Result<(), Fail> {
-    let alloc = rt.alloc();
-    let none = b"".as_slice();
-    assert_eq!(rt; SHEET.len(), 76);
-    assert!(rt; shows(alloc, SHEET, ending(0, true), SHEET_TEXT, none)?);
-    let unanswered = b"#1 a\n> x\n?\n".as_slice();
-    let mut first = Vec::from_slice(alloc, &SHEET[..49])?;
-    first.push(0)?;
-    assert!(rt; shows(alloc, first.as_slice(), ending(0, true), unanswered, none)?);
-    let damaged = b"fault 30 Damaged 39\n".as_slice();
-    assert!(rt; shows(alloc, &SHEET[..48], ending(1, true), none, damaged)?);
-    let no_sheet = b"fault 31 NotASheet\n".as_slice();
-    assert!(rt; shows(alloc, &SHEET[..10], ending(1, true), none, no_sheet)?);
+    let first = unanswered(rt.alloc()).ok_or("memory")?;
+    assert!(rt; SHEET.len() == 76);
+    let rows: [(&[u8], u8, (&[u8], &[u8])); 4] = [
+        (SHEET, 0, (SHEET_TEXT, b"")),
+        (first.as_slice(), 0, (b"#1 a\n> x\n?\n", b"")),
+        (&SHEET[..48], 1, (b"", b"fault 30 Damaged 39\n")),
+        (&SHEET[..10], 1, (b"", b"fault 31 NotASheet\n")),
+    ];
+    for (area, status, texts) in rows {
+        assert!(rt; shows(rt.alloc(), area, status, texts), "{status}");
+    }
     Ok(())
 }
 
 #[test]
-fn show_without_files(rt: HostRuntime) -> Result<(), Fail> {
-    let alloc = rt.alloc();
-    let mut output: Vec<u8> = Vec::new(alloc);
-    let mut errors: Vec<u8> = Vec::new(alloc);
+fn show_without_files(rt: HostRuntime) {
     let none: Result<MemoryDisk, OpenCause> = Err(OpenCause::Disk);
-    assert_eq!(rt;
-        run_show(alloc, none, &mut output, &mut errors),
-        ending(1, true)
-    );
-    assert!(rt; output.is_empty());
-    assert_eq!(rt; errors.as_slice(), b"fault 32 Disk\n".as_slice());
-    Ok(())
+    assert!(rt; shows_files(rt.alloc(), none, 1, (b"", b"fault 32 Disk\n")));
+}
+
+// Whether `show` of these files over a full output ends so, and writes this on its errors.
+fn shows_full(alloc: Global, disk: MemoryDisk, status: u8, said: &[u8]) -> bool {
+    let mut errors: Vec<u8> = Vec::new(alloc);
+    let files: Result<MemoryDisk, OpenCause> = Ok(disk);
+    let ended = run_show(alloc, files, &mut Full, &mut errors);
+    ended == ending(status, true) && errors.as_slice() == said
 }
 
 #[test]
 fn show_tells_a_full_output(rt: HostRuntime) -> Result<(), Fail> {
-    let alloc = rt.alloc();
-    let mut errors: Vec<u8> = Vec::new(alloc);
-    let files: Result<MemoryDisk, OpenCause> = Ok(holding(alloc, SHEET)?);
-    assert_eq!(rt;
-        run_show(alloc, files, &mut Full, &mut errors),
-        ending(1, true)
-    );
-    assert_eq!(rt; errors.as_slice(), b"fault 42 Output\n".as_slice());
+    let disk = holding(rt.alloc(), SHEET).ok_or("no disk")?;
+    assert!(rt; shows_full(rt.alloc(), disk, 1, b"fault 42 Output\n"));
     Ok(())
+}
+
+/// Whether `show` of the worksheet in these files ends so, and writes this on its output and its errors.
+pub fn shows_path(rt: &HostRuntime, path: &str, status: u8, (out, said): (&[u8], &[u8])) -> bool {
+    let mut output: Vec<u8> = Vec::new(rt.alloc());
+    let mut errors: Vec<u8> = Vec::new(rt.alloc());
+    let files = FileDisk::open(rt, rt.alloc(), path);
+    let ended = run_show(rt.alloc(), files, &mut output, &mut errors);
+    ended == ending(status, true) && output.as_slice() == out && errors.as_slice() == said
+}
+
+/// Whether the file has these bytes.
+pub fn has(rt: &HostRuntime, path: &str, bytes: &[u8]) -> bool {
+    match fs::read(rt, path) {
+        Ok(found) => found.as_slice() == bytes,
+        Err(_) => false,
+    }
 }
 
 #[test]
 fn show_leaves_the_files_as_they_were(rt: HostRuntime) -> Result<(), Fail> {
-    let alloc = rt.alloc();
     let _ = fs::remove_dir_all(&rt, "shown");
     fs::create_dir(&rt, "shown")?;
     fs::write(&rt, "shown/sheet", SHEET)?;
-    let mut output: Vec<u8> = Vec::new(alloc);
-    let mut errors: Vec<u8> = Vec::new(alloc);
-    let files = FileDisk::open(&rt, alloc, "shown/sheet");
-    let ended = run_show(alloc, files, &mut output, &mut errors);
-    assert_eq!(rt; ended, ending(0, true));
-    assert_eq!(rt; output.as_slice(), SHEET_TEXT);
-    assert!(rt; errors.is_empty());
-    assert_eq!(rt; fs::read(&rt, "shown/sheet")?.as_slice(), SHEET);
-    assert!(rt; fs::read(&rt, "shown/sheet.alt")?.is_empty());
+    assert!(rt; shows_path(&rt, "shown/sheet", 0, (SHEET_TEXT, b"")));
+    assert!(rt; has(&rt, "shown/sheet", SHEET) && has(&rt, "shown/sheet.alt", b""));
     fs::remove_dir_all(&rt, "shown")?;
     Ok(())
 }

@@ -24,30 +24,28 @@ fn prints_between(alloc: Global, stream: &[u8], front: &[u8], back: &[u8]) -> bo
     answer == Ok(true) && out.starts_with(front) && out.ends_with(back)
 }
 
-// So many times these bytes.
-fn times(alloc: Global, bytes: &[u8], count: usize) -> Result<Vec<u8>, AllocError> {
-    let mut all = Vec::new(alloc);
+fn add_times(all: &mut Vec<u8>, (bytes, count): (&[u8], usize)) -> Result<(), AllocError> {
     for _ in 0..count {
         all.extend_from_slice(bytes)?;
     }
-    Ok(all)
+    Ok(())
 }
 
-// So many times these bytes, between a front and a back.
-fn around(
+// Two runs of so many times these bytes, between a front and a back.
+fn stream(
     alloc: Global,
     front: &[u8],
-    (bytes, count): (&[u8], usize),
-    back: &[u8],
+    first: (&[u8], usize),
+    second: (&[u8], usize),
 ) -> Result<Vec<u8>, AllocError> {
     let mut all = Vec::from_slice(alloc, front)?;
-    all.append(&mut times(alloc, bytes, count)?)?;
-    all.extend_from_slice(back)?;
+    add_times(&mut all, first)?;
+    add_times(&mut all, second)?;
     Ok(all)
 }
 
 #[test]
-fn noise_and_escapes(rt: HostRuntime) -> Result<(), Fail> {
+fn noise_and_escapes(rt: HostRuntime) {
     let rows: [(&[u8], &[u8]); 4] = [
         (b"", b""),
         (
@@ -66,56 +64,68 @@ fn noise_and_escapes(rt: HostRuntime) -> Result<(), Fail> {
     for (stream, text) in rows {
         assert!(rt; prints(rt.alloc(), stream, text, true));
     }
-    Ok(())
+}
+
+// Tags of so many bytes, and what comes behind them.
+fn tag(alloc: Global, count: usize, back: &[u8]) -> Result<Vec<u8>, AllocError> {
+    stream(alloc, b"\x02", (b"a", count), (back, 1))
 }
 
 #[test]
 fn bad_tags(rt: HostRuntime) -> Result<(), Fail> {
     let alloc = rt.alloc();
-    assert!(rt; prints(alloc, b"\x02:x\x05", b"fault 1 BadTag 1\n", false));
-    assert!(rt; prints(alloc, b"ab\x02verb\x02", b"fault 1 BadTag 7\n", false));
-    let long = around(alloc, b"\x02", (b"a", 65), b"")?;
-    assert!(rt; prints(alloc, long.as_slice(), b"fault 1 BadTag 65\n", false));
-    let right = around(alloc, b"\x02", (b"a", 64), b":\x05")?;
+    let long = tag(alloc, 65, b"")?;
+    let right = tag(alloc, 64, b":\x05")?;
+    let rows: [(&[u8], &[u8]); 3] = [
+        (b"\x02:x\x05", b"fault 1 BadTag 1\n"),
+        (b"ab\x02verb\x02", b"fault 1 BadTag 7\n"),
+        (long.as_slice(), b"fault 1 BadTag 65\n"),
+    ];
+    for (stream, text) in rows {
+        assert!(rt; prints(alloc, stream, text, false));
+    }
     assert!(rt; prints_between(alloc, right.as_slice(), b"0 67 {aaaa", b"aaaa:}\n"));
     Ok(())
 }
 
 #[test]
-fn an_unfinished_block(rt: HostRuntime) -> Result<(), Fail> {
-    let alloc = rt.alloc();
-    assert!(rt; prints(alloc, b"\x02verbatim:x", b"unfinished 0\n", false));
-    let behind = b"\x02a:\x05\n\x02verbatim:\x1b";
-    assert!(rt; prints(alloc, behind, b"0 4 {a:}\nunfinished 5\n", false));
-    Ok(())
+fn an_unfinished_block(rt: HostRuntime) {
+    let rows: [(&[u8], &[u8]); 2] = [
+        (b"\x02verbatim:x", b"unfinished 0\n"),
+        (
+            b"\x02a:\x05\n\x02verbatim:\x1b",
+            b"0 4 {a:}\nunfinished 5\n",
+        ),
+    ];
+    for (stream, text) in rows {
+        assert!(rt; prints(rt.alloc(), stream, text, false));
+    }
 }
 
 #[test]
 fn thirty_two_levels_and_one_more(rt: HostRuntime) -> Result<(), Fail> {
     let alloc = rt.alloc();
-    let back = times(alloc, b"\x05", 32)?;
-    let deep = around(alloc, b"", (b"\x02a:", 32), back.as_slice())?;
+    let deep = stream(alloc, b"", (b"\x02a:", 32), (b"\x05", 32))?;
     assert!(rt; prints_between(alloc, deep.as_slice(), b"0 128 {a:{a:{a:", b"}}}\n"));
-    let deeper = times(alloc, b"\x02a:", 33)?;
+    let deeper = stream(alloc, b"", (b"\x02a:", 33), (b"", 0))?;
     assert!(rt; prints(alloc, deeper.as_slice(), b"fault 2 TooDeep 96\n", false));
     Ok(())
+}
+
+// A block with a text of so many bytes.
+fn long(alloc: Global, count: usize) -> Result<Vec<u8>, AllocError> {
+    stream(alloc, b"\x02verbatim:", (b"x", count), (b"\x05", 1))
 }
 
 #[test]
 fn the_longest_block_and_one_byte_more(rt: HostRuntime) -> Result<(), Fail> {
     let alloc = rt.alloc();
-    let long = around(alloc, b"\x02verbatim:", (b"x", 1_048_565), b"\x05")?;
+    let longest = long(alloc, 1_048_565)?;
     let front = b"0 1048576 {verbatim:xxx";
-    assert!(rt; prints_between(alloc, long.as_slice(), front, b"xxx}\n"));
-    let longer = around(alloc, b"\x02verbatim:", (b"x", 1_048_566), b"\x05")?;
-    assert!(rt;
-        prints(
-            alloc,
-            longer.as_slice(),
-            b"fault 3 TooLong 1048575\n",
-            false
-        )
-    );
+    assert!(rt; prints_between(alloc, longest.as_slice(), front, b"xxx}\n"));
+    let longer = long(alloc, 1_048_566)?;
+    let text = b"fault 3 TooLong 1048575\n";
+    assert!(rt; prints(alloc, longer.as_slice(), text, false));
     Ok(())
 }
 
@@ -133,31 +143,32 @@ fn writer_fault<W: Write>(alloc: Global, writer: &mut W) -> Option<RunFault> {
 }
 
 #[test]
-fn a_reader_or_a_writer_that_fails(rt: HostRuntime) -> Result<(), Fail> {
+fn a_reader_or_a_writer_that_fails(rt: HostRuntime) {
     let alloc = rt.alloc();
     let mut parts = Parts {
-        rest: b"\x02a:\x05".as_slice(),
+        rest: b"\x02a:\x05",
         fails: true,
     };
     assert!(rt; reader_fault(alloc, &mut parts) == Some(RunFault::Input));
     let mut interrupted = InterruptedOnce {
-        rest: b"\x02a:\x05".as_slice(),
+        rest: b"\x02a:\x05",
         interrupted: false,
     };
     assert!(rt; reader_fault(alloc, &mut interrupted) == Some(RunFault::Input));
     assert!(rt; writer_fault(alloc, &mut Full) == Some(RunFault::Output));
     assert!(rt; writer_fault(alloc, &mut Unflushed) == Some(RunFault::Output));
-    Ok(())
+}
+
+// Whether `blocks` takes so many bytes of noise, and prints nothing.
+fn takes_noise(alloc: Global, count: usize) -> bool {
+    let mut out: Vec<u8> = Vec::new(alloc);
+    let mut reader = Noise { left: count };
+    blocks(alloc, &mut reader, &mut out) == Ok(true) && out.is_empty()
 }
 
 #[test]
-fn the_longest_input_and_one_byte_more(rt: HostRuntime) -> Result<(), Fail> {
-    let alloc = rt.alloc();
-    let mut out: Vec<u8> = Vec::new(alloc);
-    let mut reader = Noise { left: 67_108_864 };
-    assert!(rt; blocks(alloc, &mut reader, &mut out) == Ok(true));
+fn the_longest_input_and_one_byte_more(rt: HostRuntime) {
+    assert!(rt; takes_noise(rt.alloc(), 67_108_864));
     let mut reader = Noise { left: 67_108_865 };
-    assert!(rt; reader_fault(alloc, &mut reader) == Some(RunFault::InputTooLong));
-    assert!(rt; out.is_empty());
-    Ok(())
+    assert!(rt; reader_fault(rt.alloc(), &mut reader) == Some(RunFault::InputTooLong));
 }

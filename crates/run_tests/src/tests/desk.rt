@@ -12,8 +12,8 @@ use worksheet::Name;
 pub const BANNER: &[u8] = b"\x02verbatim:\x05";
 
 /// An empty worksheet on a disk in memory.
-pub fn created(alloc: Global) -> Result<MemoryDisk, Fail> {
-    Ok(create(MemoryDisk::new(alloc, 1_000_000)).map_err(|_| "create")?)
+pub fn created(alloc: Global) -> Option<MemoryDisk> {
+    create(MemoryDisk::new(alloc, 1_000_000)).ok()
 }
 
 /// A disk in memory without a byte.
@@ -80,45 +80,80 @@ impl Given {
     }
 }
 
-/// What a script writes over these children, and the disk behind it.
-pub fn ran<C: Children>(
+/// The first life of session `a`, which gives these pieces.
+pub fn giving(alloc: Global, pieces: &[&[u8]]) -> Result<Scripted, Fail> {
+    let mut given = Given::new(alloc);
+    for piece in pieces {
+        given.piece(piece)?;
+    }
+    given.of_a()
+}
+
+// What a script writes over these children on this disk, and the disk behind it.
+fn ran<C: Children>(
     alloc: Global,
     script: &[u8],
     disk: MemoryDisk,
     children: &mut C,
-) -> Result<(Vec<u8>, MemoryDisk), Fail> {
+) -> Option<(Vec<u8>, MemoryDisk)> {
     let mut reader = script;
     let mut text: Vec<u8> = Vec::new(alloc);
     match run(alloc, &mut reader, &mut text, disk, children) {
-        Ok(disk) => Ok((text, disk)),
-        Err(_) => Err("a fault".into()),
+        Ok(disk) => Some((text, disk)),
+        Err(_) => None,
     }
 }
 
-/// The fault of a script, and what was written before it.
-pub fn stopped<R: Read, C: Children>(
+/// The disk that a script leaves which writes this text over these children on an empty worksheet.
+pub fn left_by<C: Children>(
+    alloc: Global,
+    script: &[u8],
+    children: &mut C,
+    want: &[u8],
+) -> Option<MemoryDisk> {
+    let disk = created(alloc)?;
+    let (text, disk) = ran(alloc, script, disk, children)?;
+    if text.as_slice() == want {
+        Some(disk)
+    } else {
+        None
+    }
+}
+
+/// Whether a script writes this text over these children on an empty worksheet.
+pub fn writes<C: Children>(alloc: Global, script: &[u8], children: &mut C, want: &[u8]) -> bool {
+    left_by(alloc, script, children, want).is_some()
+}
+
+/// Whether it does, and the worksheet is printed so then.
+pub fn leaves<C: Children>(
+    alloc: Global,
+    script: &[u8],
+    children: &mut C,
+    (text, sheet): (&[u8], &[u8]),
+) -> bool {
+    match left_by(alloc, script, children, text) {
+        Some(disk) => is_shown(alloc, disk, sheet),
+        None => false,
+    }
+}
+
+/// The fault of a script, where nothing was written before it.
+pub fn fault<R: Read, C: Children>(
     alloc: Global,
     reader: &mut R,
     disk: MemoryDisk,
     children: &mut C,
-) -> Result<(Vec<u8>, RunFault), Fail> {
+) -> Option<RunFault> {
     let mut text: Vec<u8> = Vec::new(alloc);
     match run(alloc, reader, &mut text, disk, children) {
-        Ok(_) => Err("no fault".into()),
-        Err(fault) => Ok((text, fault)),
+        Err(fault) if text.is_empty() => Some(fault),
+        _ => None,
     }
 }
 
-/// The worksheet of a disk in print.
-pub fn shown(alloc: Global, disk: MemoryDisk) -> Result<Vec<u8>, Fail> {
+/// Whether the worksheet of a disk is printed so.
+pub fn is_shown(alloc: Global, disk: MemoryDisk, want: &[u8]) -> bool {
     let mut text: Vec<u8> = Vec::new(alloc);
-    match show(alloc, disk, &mut text) {
-        Ok(()) => Ok(text),
-        Err(_) => Err("show".into()),
-    }
-}
-
-/// Whether the bytes are these.
-pub fn are(bytes: &Vec<u8>, want: &[u8]) -> bool {
-    bytes.as_slice() == want
+    show(alloc, disk, &mut text) == Ok(()) && text.as_slice() == want
 }

@@ -1,7 +1,8 @@
 //! Readers, writers and disks that fail.
-use super::desk::{Given, are, created, empty, ran, stopped};
+use super::desk::{created, empty, fault, giving, left_by};
 use super::failing::{Full, Noise, Parts, Unflushed};
 use super::talkers::Turned;
+use child_edge::Scripted;
 use host_cli::{RunFault, run, show};
 use journal::OpenCause;
 use std::alloc::Global;
@@ -9,90 +10,87 @@ use std::test::Fail;
 
 #[test]
 fn a_reader_that_fails(rt: HostRuntime) -> Result<(), Fail> {
-    let alloc = rt.alloc();
+    let mut children = giving(rt.alloc(), &[])?;
+    let disk = created(rt.alloc()).ok_or("no disk")?;
     let mut reader = Parts {
         rest: b"session a plain p\n",
         fails: true,
     };
-    let mut children = Given::new(alloc).of_a()?;
-    let (text, fault) = stopped(alloc, &mut reader, created(alloc)?, &mut children)?;
-    assert_eq!(rt; fault, RunFault::Input);
-    assert!(rt; are(&text, b""));
+    let input = Some(RunFault::Input);
+    assert!(rt; fault(rt.alloc(), &mut reader, disk, &mut children) == input);
     Ok(())
 }
 
 #[test]
 fn a_script_of_one_byte_too_many(rt: HostRuntime) -> Result<(), Fail> {
-    let alloc = rt.alloc();
+    let mut children = giving(rt.alloc(), &[])?;
+    let disk = created(rt.alloc()).ok_or("no disk")?;
     let mut reader = Noise { left: 67_108_865 };
-    let mut children = Given::new(alloc).of_a()?;
-    let (text, fault) = stopped(alloc, &mut reader, created(alloc)?, &mut children)?;
-    assert_eq!(rt; fault, RunFault::InputTooLong);
-    assert!(rt; are(&text, b""));
+    let too_long = Some(RunFault::InputTooLong);
+    assert!(rt; fault(rt.alloc(), &mut reader, disk, &mut children) == too_long);
     Ok(())
+}
+
+// Whether a script of so many bytes of noise, over an empty worksheet, writes this text.
+fn noise_writes(alloc: Global, count: usize, children: &mut Scripted, want: &[u8]) -> Option<bool> {
+    let disk = created(alloc)?;
+    let mut reader = Noise { left: count };
+    let mut text: Vec<u8> = Vec::new(alloc);
+    let ran = run(alloc, &mut reader, &mut text, disk, children).is_ok();
+    Some(ran && text.as_slice() == want)
 }
 
 #[test]
 fn the_longest_script(rt: HostRuntime) -> Result<(), Fail> {
-    let alloc = rt.alloc();
-    let mut reader = Noise { left: 67_108_864 };
-    let mut children = Given::new(alloc).of_a()?;
-    let mut text: Vec<u8> = Vec::new(alloc);
-    let disk = created(alloc)?;
-    let all_is_well = run(alloc, &mut reader, &mut text, disk, &mut children).is_ok();
-    assert!(rt; all_is_well);
-    assert!(rt; are(&text, b"bad line 1\n"));
+    let mut children = giving(rt.alloc(), &[])?;
+    let done = noise_writes(rt.alloc(), 67_108_864, &mut children, b"bad line 1\n");
+    assert!(rt; done == Some(true));
     Ok(())
 }
 
 #[test]
 fn a_disk_that_is_no_worksheet(rt: HostRuntime) -> Result<(), Fail> {
-    let alloc = rt.alloc();
+    let mut children = giving(rt.alloc(), &[])?;
     let mut reader = b"print\n".as_slice();
-    let mut children = Given::new(alloc).of_a()?;
-    let (text, fault) = stopped(alloc, &mut reader, empty(alloc), &mut children)?;
-    assert_eq!(rt; fault, RunFault::Open(OpenCause::NotASheet));
-    assert!(rt; are(&text, b""));
+    let no_sheet = Some(RunFault::Open(OpenCause::NotASheet));
+    let disk = empty(rt.alloc());
+    assert!(rt; fault(rt.alloc(), &mut reader, disk, &mut children) == no_sheet);
     Ok(())
 }
 
-// The fault of a script whose writer takes nothing, or can't put it where it belongs.
-fn at_full(alloc: Global, children: &mut Turned, flushes: bool) -> Result<RunFault, Fail> {
-    let mut reader = b"session b plain p\nnew 0 b y\neval 1\n".as_slice();
+const EVALUATES: &[u8] = b"session b plain p\nnew 0 b y\neval 1\n";
+
+// The fault of a script whose writer takes nothing.
+fn fault_at_full(alloc: Global) -> Option<RunFault> {
+    let mut children = Turned::new(alloc);
+    let mut reader = EVALUATES;
     let disk = created(alloc)?;
-    let answer = if flushes {
-        run(alloc, &mut reader, &mut Unflushed, disk, children)
-    } else {
-        run(alloc, &mut reader, &mut Full, disk, children)
-    };
-    match answer {
-        Ok(_) => Err("no fault".into()),
-        Err(fault) => Ok(fault),
-    }
+    run(alloc, &mut reader, &mut Full, disk, &mut children).err()
+}
+
+// The fault of a script whose writer can't put the text where it belongs.
+fn fault_at_flush(alloc: Global) -> Option<RunFault> {
+    let mut children = Turned::new(alloc);
+    let mut reader = EVALUATES;
+    let disk = created(alloc)?;
+    run(alloc, &mut reader, &mut Unflushed, disk, &mut children).err()
 }
 
 #[test]
-fn a_writer_that_fails(rt: HostRuntime) -> Result<(), Fail> {
-    let alloc = rt.alloc();
-    let mut children = Turned::new(alloc);
-    assert_eq!(rt; at_full(alloc, &mut children, false)?, RunFault::Output);
-    Ok(())
+fn a_writer_that_fails(rt: HostRuntime) {
+    assert!(rt; fault_at_full(rt.alloc()) == Some(RunFault::Output));
 }
 
 #[test]
-fn a_flush_that_fails(rt: HostRuntime) -> Result<(), Fail> {
-    let alloc = rt.alloc();
-    let mut children = Turned::new(alloc);
-    assert_eq!(rt; at_full(alloc, &mut children, true)?, RunFault::Output);
-    Ok(())
+fn a_flush_that_fails(rt: HostRuntime) {
+    assert!(rt; fault_at_flush(rt.alloc()) == Some(RunFault::Output));
 }
 
 #[test]
 fn show_to_a_writer_that_fails(rt: HostRuntime) -> Result<(), Fail> {
-    let alloc = rt.alloc();
-    let script = b"session a plain p\nnew 0 a x\n".as_slice();
-    let mut children = Given::new(alloc).of_a()?;
-    let (_text, disk) = ran(alloc, script, created(alloc)?, &mut children)?;
-    assert_eq!(rt; show(alloc, disk, &mut Full), Err(RunFault::Output));
+    let mut children = giving(rt.alloc(), &[])?;
+    let script = b"session a plain p\nnew 0 a x\n";
+    let disk = left_by(rt.alloc(), script, &mut children, b"ok\nfield 1\n").ok_or("no disk")?;
+    assert!(rt; show(rt.alloc(), disk, &mut Full) == Err(RunFault::Output));
     Ok(())
 }

@@ -1,11 +1,10 @@
 //! Real interpreters over real files.
-use super::desk::are;
 use child_edge::Processes;
 use host_cli::{FileDisk, run, show};
 use journal::create;
 use std::alloc::Global;
-use std::fs;
 use std::test::Fail;
+use std::{fs, io};
 
 // Prints an empty block, and answers each line with it.
 const ECHOES: &str =
@@ -27,28 +26,47 @@ fn make(rt: &HostRuntime, path: &str) -> Result<(), Fail> {
 }
 
 // What a script writes over the worksheet in these files and real interpreters.
-fn run_in_files(rt: &HostRuntime, path: &str, script: &str) -> Result<Vec<u8>, Fail> {
-    let Ok(disk) = FileDisk::open(rt, rt.alloc(), path) else {
-        return Err("open".into());
-    };
-    let mut children = Processes::new(rt.clone()?, rt.alloc());
+fn run_in_files(rt: &HostRuntime, path: &str, script: &str) -> Option<Vec<u8>> {
+    let disk = FileDisk::open(rt, rt.alloc(), path).ok()?;
+    let mut children = Processes::new(rt.clone().ok()?, rt.alloc());
     let mut reader = script.as_bytes();
     let mut text: Vec<u8> = Vec::new(rt.alloc());
     match run(rt.alloc(), &mut reader, &mut text, disk, &mut children) {
-        Ok(_) => Ok(text),
-        Err(_) => Err("run".into()),
+        Ok(_) => Some(text),
+        Err(_) => None,
     }
 }
 
-fn show_files(rt: &HostRuntime, path: &str) -> Result<Vec<u8>, Fail> {
-    let Ok(disk) = FileDisk::open(rt, rt.alloc(), path) else {
-        return Err("open".into());
-    };
-    let mut text: Vec<u8> = Vec::new(rt.alloc());
-    match show(rt.alloc(), disk, &mut text) {
-        Ok(()) => Ok(text),
-        Err(_) => Err("show".into()),
+// Whether a script writes this text over the worksheet in these files and real interpreters.
+fn writes(rt: &HostRuntime, path: &str, script: &str, want: &[u8]) -> bool {
+    match run_in_files(rt, path, script) {
+        Some(text) => text.as_slice() == want,
+        None => false,
     }
+}
+
+// Whether it writes a text that begins so.
+fn begins(rt: &HostRuntime, path: &str, script: &str, front: &[u8]) -> bool {
+    match run_in_files(rt, path, script) {
+        Some(text) => text.as_slice().starts_with(front),
+        None => false,
+    }
+}
+
+// Whether the worksheet in these files is printed so.
+fn shows(rt: &HostRuntime, path: &str, want: &[u8]) -> bool {
+    let mut text: Vec<u8> = Vec::new(rt.alloc());
+    match FileDisk::open(rt, rt.alloc(), path) {
+        Ok(disk) => show(rt.alloc(), disk, &mut text) == Ok(()) && text.as_slice() == want,
+        Err(_) => false,
+    }
+}
+
+fn remove(rt: &HostRuntime, paths: &[&str]) -> io::Result<()> {
+    for path in paths {
+        fs::remove_file(rt, path)?;
+    }
+    Ok(())
 }
 
 #[test]
@@ -57,16 +75,10 @@ fn two_interpreters_and_one_wait(rt: HostRuntime) -> Result<(), Fail> {
     make(&rt, "two.sheet")?;
     let script =
         "session a plain sh two_echoes.sh\nsession b plain sh two_echoes.sh\nnew 0 a one\nnew 1 b two\neval 1\neval 2\nwait\n";
-    let text = run_in_files(&rt, "two.sheet", script)?;
-    assert!(rt;
-        text.as_slice()
-            .starts_with(b"ok\nok\nfield 1\nfield 2\nasked\nasked\n")
-    );
-    let shown = show_files(&rt, "two.sheet")?;
-    assert!(rt; are(&shown, b"#1 a\n> one\none\n#2 b\n> two\ntwo\n"));
-    for path in ["two_echoes.sh", "two.sheet", "two.sheet.alt"] {
-        fs::remove_file(&rt, path)?;
-    }
+    let front = b"ok\nok\nfield 1\nfield 2\nasked\nasked\n";
+    assert!(rt; begins(&rt, "two.sheet", script, front));
+    assert!(rt; shows(&rt, "two.sheet", b"#1 a\n> one\none\n#2 b\n> two\ntwo\n"));
+    remove(&rt, &["two_echoes.sh", "two.sheet", "two.sheet.alt"])?;
     Ok(())
 }
 
@@ -76,21 +88,12 @@ fn a_copy_while_a_line_is_evaluated(rt: HostRuntime) -> Result<(), Fail> {
     fs::write(&rt, "copies.sh", COPIES)?;
     make(&rt, "work.sheet")?;
     let script = "session a plain sh copies.sh\nnew 0 a work.sheet\neval 1\nwait\n";
-    let text = run_in_files(&rt, "work.sheet", script)?;
-    assert!(rt; are(&text, b"ok\nfield 1\nasked\nbanner a\nanswered 1\n"));
-    let copy = show_files(&rt, "work.sheet.copy")?;
-    assert!(rt; are(&copy, b"#1 a\n> work.sheet\n?\n"));
-    let shown = show_files(&rt, "work.sheet")?;
-    assert!(rt; are(&shown, b"#1 a\n> work.sheet\nwork.sheet\n"));
-    for path in [
-        "copies.sh",
-        "work.sheet",
-        "work.sheet.alt",
-        "work.sheet.copy",
-        "work.sheet.copy.alt",
-    ] {
-        fs::remove_file(&rt, path)?;
-    }
+    let text = b"ok\nfield 1\nasked\nbanner a\nanswered 1\n";
+    assert!(rt; writes(&rt, "work.sheet", script, text));
+    assert!(rt; shows(&rt, "work.sheet.copy", b"#1 a\n> work.sheet\n?\n"));
+    assert!(rt; shows(&rt, "work.sheet", b"#1 a\n> work.sheet\nwork.sheet\n"));
+    remove(&rt, &["copies.sh", "work.sheet", "work.sheet.alt"])?;
+    remove(&rt, &["work.sheet.copy", "work.sheet.copy.alt"])?;
     Ok(())
 }
 
@@ -100,15 +103,9 @@ fn programs_that_are_no_interpreters(rt: HostRuntime) -> Result<(), Fail> {
     make(&rt, "none.sheet")?;
     let script =
         "session a plain /nonexistent/p\nsession b plain true\nnew 0 a x\nnew 1 b y\neval 1\neval 2\nwait\nprint\n";
-    let text = run_in_files(&rt, "none.sheet", script)?;
-    assert!(rt;
-        are(
-            &text,
-            b"ok\nok\nfield 1\nfield 2\nasked\nended a StartRefused lost 1\nasked\nended b Ended lost 1\n#1 a\n> x\n?\n#2 b\n> y\n?\n"
-        )
-    );
-    for path in ["none.sheet", "none.sheet.alt"] {
-        fs::remove_file(&rt, path)?;
-    }
+    let text =
+        b"ok\nok\nfield 1\nfield 2\nasked\nended a StartRefused lost 1\nasked\nended b Ended lost 1\n#1 a\n> x\n?\n#2 b\n> y\n?\n";
+    assert!(rt; writes(&rt, "none.sheet", script, text));
+    remove(&rt, &["none.sheet", "none.sheet.alt"])?;
     Ok(())
 }

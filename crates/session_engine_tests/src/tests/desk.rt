@@ -45,6 +45,22 @@ fn otherwise(text: &str) -> Fail {
     text.into()
 }
 
+// The host tells these lines of this event.
+fn tells_of(
+    alloc: Global,
+    host: &mut Host<MemoryDisk>,
+    step: &Step<'_>,
+    want: &str,
+) -> Result<(), Fail> {
+    let event = event(alloc, step)?;
+    let text = told(alloc, host, event)?;
+    if text.as_str() == want {
+        Ok(())
+    } else {
+        Err(otherwise(text.as_str()))
+    }
+}
+
 /// The host tells these lines of these events, one after another.
 pub fn tells(
     alloc: Global,
@@ -52,10 +68,7 @@ pub fn tells(
     steps: &[(Step<'_>, &str)],
 ) -> Result<(), Fail> {
     for (step, want) in steps {
-        let text = told(alloc, host, event(alloc, step)?)?;
-        if text.as_str() != *want {
-            return Err(otherwise(text.as_str()));
-        }
+        tells_of(alloc, host, step, want)?;
     }
     Ok(())
 }
@@ -63,10 +76,11 @@ pub fn tells(
 /// The worksheet of the host has these fields.
 pub fn shows(alloc: Global, host: &Host<MemoryDisk>, want: &str) -> Result<(), Fail> {
     let text = fields(alloc, host)?;
-    if text.as_str() != want {
-        return Err(otherwise(text.as_str()));
+    if text.as_str() == want {
+        Ok(())
+    } else {
+        Err(otherwise(text.as_str()))
     }
-    Ok(())
 }
 
 /// A host on a new worksheet that tells these lines of these events.
@@ -91,10 +105,20 @@ pub fn goes_on(
     Ok(host)
 }
 
+/// A host that goes on tells these lines of these events, and then has these fields.
+pub fn then_shows(
+    alloc: Global,
+    host: Host<MemoryDisk>,
+    steps: &[(Step<'_>, &str)],
+    want: &str,
+) -> Result<(), Fail> {
+    let host = goes_on(alloc, host, steps)?;
+    shows(alloc, &host, want)
+}
+
 /// A host on a new worksheet tells these lines of these events, and then has these fields.
 pub fn plays(alloc: Global, steps: &[(Step<'_>, &str)], want: &str) -> Result<(), Fail> {
-    let host = host_of(alloc, 1_000, steps)?;
-    shows(alloc, &host, want)
+    then_shows(alloc, opened(alloc, 1_000)?, steps, want)
 }
 
 /// The number of the life of session `a`, and how many of its lines wait.

@@ -1,5 +1,5 @@
 //! Lives of interpreters.
-use super::desk::{goes_on, has_prompt, host_of, life, opened, shows};
+use super::desk::{goes_on, has_prompt, host_of, life, opened, shows, then_shows};
 use super::events::{BANNER, Step, event};
 use super::told::played;
 use disk_model::MemoryDisk;
@@ -39,10 +39,9 @@ fn asked_once(alloc: Global, input: &str) -> Result<Host<MemoryDisk>, Fail> {
 #[test]
 fn two_answers_in_one_piece(rt: HostRuntime) -> Result<(), Fail> {
     let alloc = rt.alloc();
-    let host = asked_twice(alloc)?;
-    let host = goes_on(
+    then_shows(
         alloc,
-        host,
+        asked_twice(alloc)?,
         &[
             (
                 Step::Piece(1, "\x02verbatim:A\x05\x02verbatim:B\x05"),
@@ -50,10 +49,6 @@ fn two_answers_in_one_piece(rt: HostRuntime) -> Result<(), Fail> {
             ),
             (Step::Piece(1, "\x02verbatim:C\x05"), "answered 2\n"),
         ],
-    )?;
-    shows(
-        alloc,
-        &host,
         "1 > x \x02verbatim:A\x05\n2 > y \x02verbatim:C\x05\n",
     )
 }
@@ -61,10 +56,9 @@ fn two_answers_in_one_piece(rt: HostRuntime) -> Result<(), Fail> {
 #[test]
 fn cut_between_two_answers(rt: HostRuntime) -> Result<(), Fail> {
     let alloc = rt.alloc();
-    let host = asked_twice(alloc)?;
-    let host = goes_on(
+    then_shows(
         alloc,
-        host,
+        asked_twice(alloc)?,
         &[
             (
                 Step::Piece(1, "\x02verbatim:A\x05"),
@@ -72,10 +66,6 @@ fn cut_between_two_answers(rt: HostRuntime) -> Result<(), Fail> {
             ),
             (Step::Piece(1, "\x02verbatim:B\x05"), "answered 2\n"),
         ],
-    )?;
-    shows(
-        alloc,
-        &host,
         "1 > x \x02verbatim:A\x05\n2 > y \x02verbatim:B\x05\n",
     )
 }
@@ -83,10 +73,9 @@ fn cut_between_two_answers(rt: HostRuntime) -> Result<(), Fail> {
 #[test]
 fn cut_inside_the_second_answer(rt: HostRuntime) -> Result<(), Fail> {
     let alloc = rt.alloc();
-    let host = asked_twice(alloc)?;
-    let host = goes_on(
+    then_shows(
         alloc,
-        host,
+        asked_twice(alloc)?,
         &[
             (
                 Step::Piece(1, "\x02verbatim:A\x05\x02verb"),
@@ -95,10 +84,6 @@ fn cut_inside_the_second_answer(rt: HostRuntime) -> Result<(), Fail> {
             (Step::Piece(1, "atim:B\x05"), "nothing\n"),
             (Step::Piece(1, "\x02verbatim:C\x05"), "answered 2\n"),
         ],
-    )?;
-    shows(
-        alloc,
-        &host,
         "1 > x \x02verbatim:A\x05\n2 > y \x02verbatim:C\x05\n",
     )
 }
@@ -106,18 +91,26 @@ fn cut_inside_the_second_answer(rt: HostRuntime) -> Result<(), Fail> {
 #[test]
 fn start_refused_then_next_life(rt: HostRuntime) -> Result<(), Fail> {
     let alloc = rt.alloc();
-    let host = asked_once(alloc, "x")?;
-    let host = goes_on(
+    then_shows(
         alloc,
-        host,
+        asked_once(alloc, "x")?,
         &[
             (Step::StartRefused(1), "ended a StartRefused lost 1\n"),
             (Step::Eval(1), "asked 2\nstart a 2 p\n"),
             (Step::Piece(1, BANNER), "nothing\n"),
             (Step::Piece(2, BANNER), "banner a\nsend a 2 x\n"),
         ],
-    )?;
-    shows(alloc, &host, "1 x ?\n")
+        "1 x ?\n",
+    )
+}
+
+// A host has no life of session `a`, and these fields.
+fn shows_no_life(alloc: Global, host: Host<MemoryDisk>, want: &str) -> Result<(), Fail> {
+    if life(&host).is_none() {
+        shows(alloc, &host, want)
+    } else {
+        Err("a life".into())
+    }
 }
 
 #[test]
@@ -139,32 +132,46 @@ fn half_an_answer_and_the_end(rt: HostRuntime) -> Result<(), Fail> {
             (Step::End(1), "ended a Ended lost 3\nkill a 1\n"),
         ],
     )?;
-    assert!(rt; life(&host).is_none());
-    shows(alloc, &host, "1 x ?\n2 y ?\n3 z ?\n")
+    shows_no_life(alloc, host, "1 x ?\n2 y ?\n3 z ?\n")
 }
 
 #[test]
 fn a_fault_behind_the_first_answer(rt: HostRuntime) -> Result<(), Fail> {
     let alloc = rt.alloc();
-    let host = asked_twice(alloc)?;
-    let host = goes_on(
+    then_shows(
         alloc,
-        host,
+        asked_twice(alloc)?,
         &[(
             Step::Piece(1, "\x02verbatim:A\x05\x02:"),
             "answered 1\nended a BadTag lost 1\nkill a 1\n",
         )],
-    )?;
-    shows(alloc, &host, "1 > x \x02verbatim:A\x05\n2 y ?\n")
+        "1 > x \x02verbatim:A\x05\n2 y ?\n",
+    )
+}
+
+// A host that goes on tells these lines of these events, and then has this prompt for the next line of
+// session `a`, and these fields.
+fn then_asks(
+    alloc: Global,
+    host: Host<MemoryDisk>,
+    steps: &[(Step<'_>, &str)],
+    (prompt, want): (&[u8], &str),
+) -> Result<(), Fail> {
+    let host = goes_on(alloc, host, steps)?;
+    if has_prompt(&host, prompt) {
+        shows(alloc, &host, want)
+    } else {
+        Err("another prompt".into())
+    }
 }
 
 #[test]
 fn prompts_in_the_blocks(rt: HostRuntime) -> Result<(), Fail> {
     let alloc = rt.alloc();
-    let host = asked_once(alloc, "x^2")?;
-    let host = goes_on(
+    let want = "1 Input 1] x^2 \x02verbatim:\x02latex:$x^2$\x05\x05\n";
+    then_asks(
         alloc,
-        host,
+        asked_once(alloc, "x^2")?,
         &[
             (
                 Step::Piece(1, "\x02verbatim:Hello\x02prompt#Input 1] \x05\x05"),
@@ -178,38 +185,30 @@ fn prompts_in_the_blocks(rt: HostRuntime) -> Result<(), Fail> {
                 "answered 1\n",
             ),
         ],
-    )?;
-    assert!(rt; has_prompt(&host, b"Input 2] "));
-    shows(
-        alloc,
-        &host,
-        "1 Input 1] x^2 \x02verbatim:\x02latex:$x^2$\x05\x05\n",
+        (b"Input 2] ", want),
     )
 }
 
 #[test]
 fn a_prompt_block_as_answer(rt: HostRuntime) -> Result<(), Fail> {
     let alloc = rt.alloc();
-    let host = asked_once(alloc, "x")?;
-    let host = goes_on(
+    then_asks(
         alloc,
-        host,
+        asked_once(alloc, "x")?,
         &[
             (Step::Piece(1, BANNER), "banner a\nsend a 1 x\n"),
             (Step::Piece(1, "\x02prompt#a\x05"), "answered 1\n"),
         ],
-    )?;
-    assert!(rt; has_prompt(&host, b"a"));
-    shows(alloc, &host, "1 > x \x02verbatim:\x05\n")
+        (b"a", "1 > x \x02verbatim:\x05\n"),
+    )
 }
 
 #[test]
 fn a_default_input_with_the_answer(rt: HostRuntime) -> Result<(), Fail> {
     let alloc = rt.alloc();
-    let host = asked_once(alloc, "x")?;
-    let host = goes_on(
+    then_shows(
         alloc,
-        host,
+        asked_once(alloc, "x")?,
         &[
             (Step::Piece(1, BANNER), "banner a\nsend a 1 x\n"),
             (
@@ -217,8 +216,8 @@ fn a_default_input_with_the_answer(rt: HostRuntime) -> Result<(), Fail> {
                 "answered 1\ndefault a y\n",
             ),
         ],
-    )?;
-    shows(alloc, &host, "1 > x \x02verbatim:A\x05\n")
+        "1 > x \x02verbatim:A\x05\n",
+    )
 }
 
 #[test]
@@ -226,7 +225,7 @@ fn a_stopped_session(rt: HostRuntime) -> Result<(), Fail> {
     let alloc = rt.alloc();
     let host = asked_twice(alloc)?;
     assert!(rt; life(&host) == Some((1, 2)));
-    let host = goes_on(
+    then_shows(
         alloc,
         host,
         &[
@@ -234,8 +233,8 @@ fn a_stopped_session(rt: HostRuntime) -> Result<(), Fail> {
             (Step::Stop("a"), "ok\n"),
             (Step::Stop("b"), "refused 1 NoSession\n"),
         ],
-    )?;
-    shows(alloc, &host, "1 x ?\n2 y ?\n")
+        "1 x ?\n2 y ?\n",
+    )
 }
 
 fn events(alloc: Global, steps: &[Step<'_>]) -> Result<Vec<Event>, Fail> {
@@ -246,10 +245,35 @@ fn events(alloc: Global, steps: &[Step<'_>]) -> Result<Vec<Event>, Fail> {
     Ok(events)
 }
 
+// Whether a host tells these lines of a play of these events.
+fn tells_all(
+    alloc: Global,
+    host: &mut Host<MemoryDisk>,
+    events: Vec<Event>,
+    want: &str,
+) -> Result<bool, Fail> {
+    let text = played(alloc, host, events)?;
+    Ok(text.as_str() == want)
+}
+
+// A host tells these lines of a play of these events, and then has these fields.
+fn plays_all(
+    alloc: Global,
+    host: Host<MemoryDisk>,
+    events: Vec<Event>,
+    (text, want): (&str, &str),
+) -> Result<(), Fail> {
+    let mut host = host;
+    if tells_all(alloc, &mut host, events, text)? {
+        shows(alloc, &host, want)
+    } else {
+        Err("another text".into())
+    }
+}
+
 #[test]
 fn events_of_a_play(rt: HostRuntime) -> Result<(), Fail> {
     let alloc = rt.alloc();
-    let mut host = opened(alloc, 1_000)?;
     let steps = [
         Step::Session("p"),
         Step::New(0, "x"),
@@ -257,10 +281,8 @@ fn events_of_a_play(rt: HostRuntime) -> Result<(), Fail> {
         Step::Piece(1, BANNER),
         Step::Piece(1, "\x02verbatim:A\x05"),
     ];
-    let text = played(alloc, &mut host, events(alloc, &steps)?)?;
-    assert_eq!(rt;
-        text.as_str(),
-        "ok\nfield 1\nasked 1\nstart a 1 p\nbanner a\nsend a 1 x\nanswered 1\n"
-    );
-    shows(alloc, &host, "1 > x \x02verbatim:A\x05\n")
+    let text = "ok\nfield 1\nasked 1\nstart a 1 p\nbanner a\nsend a 1 x\nanswered 1\n";
+    let all = events(alloc, &steps)?;
+    let texts = (text, "1 > x \x02verbatim:A\x05\n");
+    plays_all(alloc, opened(alloc, 1_000)?, all, texts)
 }

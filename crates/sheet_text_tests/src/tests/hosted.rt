@@ -1,12 +1,12 @@
 //! What a host replies and what its worksheet shows, in the texts that are printed of them.
-use super::printed;
+use super::sheets::is_printed;
+use block_tree::OutOfMemory;
 use bytes::Bytes;
 use disk_model::MemoryDisk;
 use journal::create;
 use session_engine::{ChildEvent, Event, Host};
 use sheet_text::{ScriptLine, read_line, reply_text};
 use std::alloc::Global;
-use std::test::Fail;
 use worksheet::Name;
 
 // What a host is told: a line of a script, or what came of the first child of session `a`.
@@ -17,93 +17,107 @@ enum Given<'a> {
     End,
 }
 
-fn child(event: ChildEvent) -> Result<Event, Fail> {
-    match Name::new(b"a") {
-        Some(name) => Ok(Event::Child {
-            name,
-            life: 1,
-            event,
-        }),
-        None => Err("no name".into()),
+fn child(event: ChildEvent) -> Option<Event> {
+    let name = Name::new(b"a")?;
+    Some(Event::Child {
+        name,
+        life: 1,
+        event,
+    })
+}
+
+fn piece(alloc: Global, text: &str) -> Result<ChildEvent, OutOfMemory> {
+    Ok(ChildEvent::Piece(Bytes::copy_from_slice(alloc, text.as_bytes())?))
+}
+
+fn line(alloc: Global, line: &str) -> Option<Event> {
+    match read_line(alloc, line.as_bytes()) {
+        Ok(ScriptLine::Command(command)) => Some(Event::Command(command)),
+        _ => None,
     }
 }
 
-fn event(alloc: Global, given: &Given<'_>) -> Result<Event, Fail> {
+fn event(alloc: Global, given: Given<'_>) -> Option<Event> {
     match given {
-        Given::Line(line) => match read_line(alloc, line.as_bytes()) {
-            Ok(ScriptLine::Command(command)) => Ok(Event::Command(command)),
-            _ => Err("no command".into()),
-        },
-        Given::Piece(text) => {
-            let bytes = Bytes::copy_from_slice(alloc, text.as_bytes())?;
-            child(ChildEvent::Piece(bytes))
-        }
+        Given::Line(text) => line(alloc, text),
+        Given::Piece(text) => child(piece(alloc, text).ok()?),
         Given::End => child(ChildEvent::End),
     }
 }
 
-fn opened(alloc: Global) -> Result<Host<MemoryDisk>, Fail> {
-    let Ok(disk) = create(MemoryDisk::new(alloc, 1_000)) else {
-        return Err("create".into());
-    };
-    match Host::open(alloc, disk) {
-        Ok(host) => Ok(host),
-        Err(_) => Err("open".into()),
+fn opened(alloc: Global) -> Option<Host<MemoryDisk>> {
+    match create(MemoryDisk::new(alloc, 1_000)) {
+        Ok(disk) => Host::open(alloc, disk).ok(),
+        Err(_) => None,
     }
 }
 
-fn add_reply(host: &mut Host<MemoryDisk>, event: Event, out: &mut Vec<u8>) -> Result<(), Fail> {
+// Whether an event was taken, and its reply written.
+fn replies(host: &mut Host<MemoryDisk>, event: Event, out: &mut Vec<u8>) -> bool {
     match host.step(event) {
-        Ok(outcome) => Ok(reply_text(&outcome.reply, out)?),
-        Err(_) => Err("a fault".into()),
+        Ok(outcome) => reply_text(&outcome.reply, out).is_ok(),
+        Err(_) => false,
     }
 }
 
-// The texts of the replies, one behind another.
-fn replies(alloc: Global, host: &mut Host<MemoryDisk>, all: &[Given<'_>]) -> Result<Vec<u8>, Fail> {
+// The same of what is given.
+fn takes(alloc: Global, host: &mut Host<MemoryDisk>, given: Given<'_>, out: &mut Vec<u8>) -> bool {
+    match event(alloc, given) {
+        Some(event) => replies(host, event, out),
+        None => false,
+    }
+}
+
+// The texts of the replies, one behind another, up to the first that there isn't.
+fn told(alloc: Global, host: &mut Host<MemoryDisk>, all: &[Given<'_>]) -> Vec<u8> {
     let mut out = Vec::new(alloc);
     for given in all {
-        add_reply(host, event(alloc, given)?, &mut out)?;
+        if !takes(alloc, host, *given, &mut out) {
+            break;
+        }
     }
-    Ok(out)
+    out
+}
+
+// Whether these are the texts of the replies of a new host, and its worksheet is printed so then.
+fn plays(alloc: Global, all: &[Given<'_>], (text, sheet): (&[u8], &[u8])) -> bool {
+    match opened(alloc) {
+        Some(host) => tells(alloc, host, all, (text, sheet)),
+        None => false,
+    }
+}
+
+// The same of a host that was opened.
+fn tells(
+    alloc: Global,
+    host: Host<MemoryDisk>,
+    all: &[Given<'_>],
+    (text, sheet): (&[u8], &[u8]),
+) -> bool {
+    let mut host = host;
+    told(alloc, &mut host, all).as_slice() == text && is_printed(alloc, host.sheet(), sheet)
 }
 
 #[test]
-fn a_prompt_alone_is_an_empty_line(rt: HostRuntime) -> Result<(), Fail> {
-    let alloc = rt.alloc();
-    let mut host = opened(alloc)?;
+fn a_prompt_alone_is_an_empty_line(rt: HostRuntime) {
     let all = [
         Given::Line("session a plain p"),
         Given::Line("new 0 a x"),
         Given::Line("eval 1"),
         Given::Piece("\x02verbatim:\x05"),
         Given::Piece("\x02prompt#a\x05"),
+        Given::Line("eval 1"),
+        Given::Piece("\x02verbatim:A\x05"),
     ];
-    assert_eq!(rt;
-        replies(alloc, &mut host, &all)?.as_slice(),
-        b"ok\nfield 1\nasked\nbanner a\nanswered 1\n".as_slice()
-    );
-    assert_eq!(rt;
-        printed(alloc, host.sheet())?.as_slice(),
-        b"#1 a\n> x\n\n".as_slice()
-    );
+    let text = b"ok\nfield 1\nasked\nbanner a\nanswered 1\n";
+    assert!(rt; plays(rt.alloc(), &all[..5], (text, b"#1 a\n> x\n\n")));
     // its prompt is that of the next line
-    let all = [Given::Line("eval 1"), Given::Piece("\x02verbatim:A\x05")];
-    assert_eq!(rt;
-        replies(alloc, &mut host, &all)?.as_slice(),
-        b"asked\nanswered 1\n".as_slice()
-    );
-    assert_eq!(rt;
-        printed(alloc, host.sheet())?.as_slice(),
-        b"#1 a\nax\nA\n".as_slice()
-    );
-    Ok(())
+    let text = b"ok\nfield 1\nasked\nbanner a\nanswered 1\nasked\nanswered 1\n";
+    assert!(rt; plays(rt.alloc(), &all, (text, b"#1 a\nax\nA\n")));
 }
 
 #[test]
-fn an_end_loses_the_lines_that_wait(rt: HostRuntime) -> Result<(), Fail> {
-    let alloc = rt.alloc();
-    let mut host = opened(alloc)?;
+fn an_end_loses_the_lines_that_wait(rt: HostRuntime) {
     let all = [
         Given::Line("session a plain p"),
         Given::Line("new 0 a x"),
@@ -116,13 +130,8 @@ fn an_end_loses_the_lines_that_wait(rt: HostRuntime) -> Result<(), Fail> {
         Given::Piece("\x02verbatim:hal"),
         Given::End,
     ];
-    assert_eq!(rt;
-        replies(alloc, &mut host, &all)?.as_slice(),
-        b"ok\nfield 1\nfield 2\nfield 3\nasked\nasked\nasked\nbanner a\nended a Ended lost 3\n".as_slice()
-    );
-    assert_eq!(rt;
-        printed(alloc, host.sheet())?.as_slice(),
-        b"#1 a\n> x\n?\n#2 a\n> y\n?\n#3 a\n> z\n?\n".as_slice()
-    );
-    Ok(())
+    let text =
+        b"ok\nfield 1\nfield 2\nfield 3\nasked\nasked\nasked\nbanner a\nended a Ended lost 3\n";
+    let sheet = b"#1 a\n> x\n?\n#2 a\n> y\n?\n#3 a\n> z\n?\n";
+    assert!(rt; plays(rt.alloc(), &all, (text, sheet)));
 }

@@ -1,6 +1,4 @@
-use Rattle.std.proofs.Common.{rules, refl, length, ◌≡◌, ◌++◌, map, All, ◌+◌}
-use Rattle.block_tree.specs.inside.Marks.{letter}
-use Rattle.meta_format.specs.inside.Levels.{stack_marks, IsLevel}
+use Rattle.std.proofs.Common.{rules, refl, length, ◌≡◌, ◌+◌}
 use Rattle.meta_format.specs.inside.Scan.{most_of}
 use Rattle.meta_format.specs.declared.scan.Scanner.{Scanner}
 use Rattle.meta_format.proofs.Letters.{took_text, placed_text}
