@@ -46,7 +46,7 @@ fn each_moment_leaves(
     (first, last): (u64, u64),
     wanted: Between,
 ) -> Result<bool, Fail> {
-    for moment in first..last + 1 {
+    for moment in first..last.saturating_add(1) {
         if !each_choice_leaves(alloc, disk, moment, wanted)? {
             return Ok(false);
         }
@@ -61,17 +61,15 @@ fn calls_behind(alloc: Global, count: u32) -> Result<u64, Fail> {
 
 // A crash within this event leaves the worksheet before it, or with it; behind its `Ok` with it alone.
 fn is_whole_or_absent(alloc: Global, number: u32) -> Result<bool, Fail> {
+    let stop = number.saturating_add(1);
     let first = calls_behind(alloc, number)?;
-    let disk = disk_of(alloc, number + 1)?;
+    let disk = disk_of(alloc, stop)?;
     let last = disk.calls();
     let within = Between {
         start: number,
-        stop: number + 1,
+        stop,
     };
-    let with = Between {
-        start: number + 1,
-        stop: number + 1,
-    };
+    let with = Between { start: stop, stop };
     Ok(
         each_moment_leaves(alloc, &disk, (first, last), within)?
             && each_choice_leaves(alloc, &disk, last, with)?,

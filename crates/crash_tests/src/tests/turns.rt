@@ -77,7 +77,7 @@ fn played(alloc: Global, disk: MemoryDisk) -> Result<MemoryDisk, Fail> {
 
 // Whether each crash of this kind, at each moment from this one on, leaves at least what so many events made.
 fn keeps(alloc: Global, disk: &MemoryDisk, first: &Choice, count: u32) -> Result<bool, Fail> {
-    for moment in first.moment..disk.calls() + 1 {
+    for moment in first.moment..disk.calls().saturating_add(1) {
         let choice = Choice {
             moment,
             fill: first.fill,
@@ -107,7 +107,7 @@ fn nothing_is_lost(alloc: Global, disk: &MemoryDisk, choice: &Choice) -> Result<
 fn nothing_is_lost_in_turn(alloc: Global, fill: Fill, grown: bool) -> Result<bool, Fail> {
     let created = created(alloc)?.calls();
     let disk = disk_of(alloc, EVENTS)?;
-    for moment in created..disk.calls() + 1 {
+    for moment in created..disk.calls().saturating_add(1) {
         let choice = Choice {
             moment,
             fill,
