@@ -1,18 +1,16 @@
 -- Worked examples of the definitions.
-use Rattle.std.proofs.Common.{◌≡◌, ℕ, List, [], ◌∷◌, ◌++◌, refl, Option, Some, None, true, false}
+use Rattle.std.proofs.Common.{◌≡◌, ℕ, List, [], ◌∷◌, ◌++◌, refl, Some, None, true, false}
 use Rattle.std.specs.Prelude.{codes, replicate}
 use Rattle.block_tree.specs.Tree.{Items, Tree, end, text, block}
-use Rattle.block_tree.specs.Output.{output, text_on_channel, no_output}
+use Rattle.block_tree.specs.Output.{output, no_output}
 use Rattle.meta_format.specs.Stream.{Outer}
 use Rattle.plugin_core.specs.declared.item.Item.{Item}
 use Rattle.plugin_core.specs.declared.item.Item.TheVariants as item
-use Rattle.plugin_core.specs.declared.step.Step.{Step}
 use Rattle.plugin_core.specs.declared.step.Answered.TheVariants as answered
 use Rattle.plugin_core.specs.declared.step.Reason.TheVariants as reason
 use Rattle.meta_format.specs.Faults.{bad_tag}
 use Rattle.plugin_core.specs.Past.{Event, accepted, received}
-use Rattle.plugin_core.specs.Answers.{answers_of, ask_of}
-use Rattle.plugin_core.specs.Items.{waiting_of, asked_of, prompt_of}
+use Rattle.plugin_core.specs.Answers.{answers_of}
 use Rattle.plugin_core.specs.Steps.{step_of, sent_by}
 use Rattle.plugin_core.specs.Blocks.{prompt_in, default_in}
 

@@ -1,17 +1,15 @@
 -- Which lines wait.
-use Rattle.std.proofs.Common.{◌≡◌, ◌↔◌, ℕ, ◌+◌, ◌<◌, ◌≤◌, List, [], ◌∷◌, length, drop, refl, ap, sym, ◌∙◌, subst, arith, Bool, true, false, ◌||◌, Option, Some, None, suc, zero, IsTrue}
+use Rattle.std.proofs.Common.{◌≡◌, ◌↔◌, ℕ, ◌<◌, ◌≤◌, List, [], ◌∷◌, length, drop, refl, ap, sym, subst, arith, Bool, true, false, ◌||◌, Some, suc, zero, IsTrue}
 use Rattle.std.specs.Prelude.{slice_get, nat_eq, nat_le}
 use Rattle.std.specs.List.{list_any}
 use Rattle.std.proofs.lemmas.Bool.Decides.{nat_tests}
 use Rattle.meta_format.specs.Stream.{Outer}
-use Rattle.meta_format.specs.Faults.{Kind}
 use Rattle.plugin_core.specs.declared.item.Item.{Item}
 use Rattle.plugin_core.specs.declared.item.Item.TheVariants as item
-use Rattle.plugin_core.specs.Past.{Event, stream_of, items_of}
+use Rattle.plugin_core.specs.Past.{items_of}
 use Rattle.plugin_core.specs.Answers.{answers_of}
 use Rattle.plugin_core.specs.AskPoints.{IsAnswer}
 use Rattle.plugin_core.specs.Items.{waiting_of, unanswered, is_line_of}
-use Rattle.plugin_core.specs.Steps.{Reads}
 use Rattle.plugin_core.specs.Waits.{HasUnanswered, WaitsWhatIsUnanswered}
 use Rattle.plugin_core.proofs.ByAskPoints.{answers_by_ask_points}
 
@@ -35,6 +33,8 @@ any_behind zero id (item.Line other text ∷ is) e = go (nat_eq other id) refl e
         let k : other ≡ id = grind (arith, nat_tests) in
         record { number = 0; text = text; line = ap (λ (n : ℕ). Some (item.Line n text)) k; late = omega arith }
     go false same e ih = let h = ih e in record { number = suc h.number; text = h.text; line = h.line; late = omega arith }
+any_behind zero id (item.Complete other text cursor ∷ is) e =
+    let h = any_behind zero id is e in record { number = suc h.number; text = h.text; line = h.line; late = omega arith }
 any_behind (suc n) id [] e = cc
 any_behind (suc n) id (i ∷ is) e = shift n id i is (any_behind n id is e)
 
@@ -49,6 +49,8 @@ behind_any zero id (item.Line other words ∷ is) (suc k) text e h = go (nat_eq 
     go : (t : Bool) → list_any (λ i. is_line_of id i) is ≡ true → (t || list_any (λ i. is_line_of id i) is) ≡ true
     go true ih = refl
     go false ih = ih
+behind_any zero id (item.Complete other words cursor ∷ is) zero text e h = cc
+behind_any zero id (item.Complete other words cursor ∷ is) (suc k) text e h = behind_any zero id is k text e (omega arith)
 behind_any (suc n) id (i ∷ is) zero text e h = absurd (omega arith)
 behind_any (suc n) id (i ∷ is) (suc k) text e h = behind_any n id is k text e (omega arith)
 

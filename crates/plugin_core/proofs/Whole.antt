@@ -1,6 +1,6 @@
--- What is told of a line is the whole answer to it.
-use Rattle.std.proofs.Common.{◌≡◌, ℕ, ◌+◌, ◌<◌, ◌≤◌, List, [], ◌∷◌, ◌++◌, length, take, refl, ap, sym, ◌∙◌, subst, arith, Bool, true, false, Option, Some, None, suc, zero, length-append, append_assoc}
-use Rattle.std.specs.Prelude.{nat_le, slice_get, option_map, option_and_then, option_to_list, if◌then◌else◌}
+-- What is told of an item is the whole answer to it.
+use Rattle.std.proofs.Common.{◌≡◌, ℕ, ◌+◌, ◌<◌, ◌≤◌, List, [], ◌∷◌, ◌++◌, length, refl, ap, sym, ◌∙◌, subst, arith, Bool, true, false, Option, Some, None, suc, length-append, append_assoc}
+use Rattle.std.specs.Prelude.{nat_le, slice_get, option_map, option_and_then, Result, option_to_list, if◌then◌else◌}
 use Rattle.std.proofs.Math.Seq.{take-append_seam}
 use Rattle.std.proofs.lemmas.List.{append-nil, take_all}
 use Rattle.block_tree.specs.Tree.{Tree}
@@ -9,10 +9,13 @@ use Rattle.meta_format.specs.Limits.{limits}
 use Rattle.meta_format.specs.Stream.{Outer, Chain, Stream}
 use Rattle.meta_format.specs.Stream.Chain.{none as chain_none, next as chain_next}
 use Rattle.meta_format.specs.Faults.{Kind}
-use Rattle.meta_format.specs.Reader.{CloseWithin}
+use Rattle.scheme_text.specs.Told.{told_by}
+use Rattle.scheme_text.specs.declared.answer.BadCompletion.{BadCompletion}
+use Rattle.scheme_text.specs.declared.answer.Completions.{Completions}
 use Rattle.plugin_core.specs.declared.item.Item.{Item}
 use Rattle.plugin_core.specs.declared.item.Item.TheVariants as item
 use Rattle.plugin_core.specs.declared.step.Step.{Step}
+use Rattle.plugin_core.specs.declared.step.Answered.{Answered}
 use Rattle.plugin_core.specs.declared.step.Answered.TheVariants as answered
 use Rattle.plugin_core.specs.Past.{Event, received, stream_of, items_of}
 use Rattle.plugin_core.specs.Answers.{first_from, answers_of, ask_of}
@@ -21,7 +24,7 @@ use Rattle.plugin_core.specs.Items.{prompt_of, answer_to, answer_behind}
 use Rattle.plugin_core.specs.Steps.{Reads, closed_by, answered_with}
 use Rattle.plugin_core.specs.Kept.{InterpreterView, Takes}
 use Rattle.plugin_core.specs.inside.Changes.{closed_among}
-use Rattle.plugin_core.specs.Whole.{IsWholeIn, IsItsAnswer, TellsTheAnswer}
+use Rattle.plugin_core.specs.Whole.{IsWholeIn, IsItsAnswer, IsItsCompletion, TellsTheAnswer, TellsTheCompletion}
 use Rattle.plugin_core.proofs.Pasts.{stream_of-received}
 use Rattle.plugin_core.proofs.Spans.{LieWithin, LieWithin-behind, LieWithin-closed}
 use Rattle.plugin_core.proofs.Asks.{found-stop}
@@ -94,9 +97,20 @@ before_last past e = ap (λ (ts : List Event). length (stream_of ts)) (take-appe
 after_last : (past : List Event) (e : Event) → length_after (past ++ e ∷ []) (suc (length past)) ≡ length (stream_of (past ++ e ∷ []))
 after_last past e = ap (λ (ts : List Event). length (stream_of ts)) (take_all (suc (length past)) (past ++ e ∷ []) (omega (arith, length-append past (e ∷ []))))
 
-pub tells_the_answer : TellsTheAnswer
-tells_the_answer past before piece step life reads t id prompt out told =
-    closed (closed_by past before (received piece) t.after) refl (sym (ap (λ (x : Step). x.answered) t.gives) ∙ told)
+-- The item that is told of, or the banner: a whole block of the stream answers it, whose last byte came in this piece.
+data IsOf (past : List Event) (piece : List ℕ) (after : List Outer) (prompt : List ℕ) : Answered → Type 0 where
+  of_banner : (out : Tree) → IsOf past piece after prompt (answered.Banner out)
+  of_item : (number : ℕ) (asked : Item) (answer : Outer) → slice_get (items_of past) number ≡ Some asked → IsAnswer (past ++ received piece ∷ []) after (suc number) answer
+      → ClosesIn (past ++ received piece ∷ []) (length past) answer → IsWholeIn (stream_of (past ++ received piece ∷ [])) answer
+      → IsOf past piece after prompt (answer_to asked prompt (output answer.block))
+
+same_some : (a b : Answered) → Some a ≡ Some b → a ≡ b
+same_some a b e = cc
+
+tells_of : (past : List Event) (before : List Outer) (piece : List ℕ) (step : Step) (life : InterpreterView) → Reads (stream_of past) before None → (t : Takes past before piece step life)
+    → (told : Answered) → step.answered ≡ Some told → IsOf past piece t.after (prompt_of past before) told
+tells_of past before piece step life reads t told is_told =
+    closed (closed_by past before (received piece) t.after) refl (sym (ap (λ (x : Step). x.answered) t.gives) ∙ is_told)
   where
     now : List Event
     now = past ++ received piece ∷ []
@@ -120,8 +134,8 @@ tells_the_answer past before piece step life reads t id prompt out told =
     by_ask b None e = cc
     by_ask b (Some p) e = (found-stop (length (stream_of past)) (length (stream_of now)) p t.more b fresh e, found_whole (stream_of now) p t.more b whole e)
 
-    closed : (o : Option Outer) → closed_by past before (received piece) t.after ≡ o → option_and_then (answered_with past before) o ≡ Some (answered.Line id prompt out)
-        → IsItsAnswer past piece t.after id out × (prompt ≡ prompt_of past before)
+    closed : (o : Option Outer) → closed_by past before (received piece) t.after ≡ o → option_and_then (answered_with past before) o ≡ Some told
+        → IsOf past piece t.after (prompt_of past before) told
     closed None c e = cc
     closed (Some b) c e = behind_some (answers_of past before) refl e
       where
@@ -131,27 +145,65 @@ tells_the_answer past before piece step life reads t id prompt out told =
         listed : slice_get (answers_of now t.after) (length (answers_of past before)) ≡ Some b
         listed = ap (λ (bs : List Outer). slice_get bs (length (answers_of past before))) (t.answers ∙ ap (λ (o : Option Outer). answers_of past before ++ option_to_list o) c) ∙ last_is (answers_of past before) b
 
-        behind_some : (rs : List Outer) → answers_of past before ≡ rs → answer_behind rs (items_of past) (prompt_of past before) b.block ≡ Some (answered.Line id prompt out)
-            → IsItsAnswer past piece t.after id out × (prompt ≡ prompt_of past before)
-        behind_some [] f e = cc
-        behind_some (banner ∷ rs) f e = of_item (slice_get (items_of past) (length rs)) refl e
+        behind_some : (rs : List Outer) → answers_of past before ≡ rs → answer_behind rs (items_of past) (prompt_of past before) b.block ≡ Some told
+            → IsOf past piece t.after (prompt_of past before) told
+        behind_some [] f e = subst (IsOf past piece t.after (prompt_of past before)) (same_some (answered.Banner (output b.block)) told e) (of_banner (output b.block))
+        behind_some (banner ∷ rs) f e = by_item (slice_get (items_of past) (length rs)) refl e
           where
-            of_item : (o : Option Item) → slice_get (items_of past) (length rs) ≡ o → option_map (λ i. answer_to i (prompt_of past before) (output b.block)) o ≡ Some (answered.Line id prompt out)
-                → IsItsAnswer past piece t.after id out × (prompt ≡ prompt_of past before)
-            of_item None g e = cc
-            of_item (Some (item.Line other text)) g e =
-                let same_id : other ≡ id = cc in
-                let same_prompt : prompt ≡ prompt_of past before = cc in
-                let same_out : out ≡ output b.block = cc in (
-                  record {
-                    number = length rs;
-                    text = text;
-                    answer = b;
-                    line = g ∙ ap (λ (n : ℕ). Some (item.Line n text)) same_id;
-                    answers = (answers_by_ask_points now t.after t.fault t.reads (suc (length rs)) b).1 (subst (λ (xs : List Outer). slice_get (answers_of now t.after) (length xs) ≡ Some b) f listed);
-                    closes = (subst (λ (n : ℕ). n < b.stop) (sym (before_last past (received piece))) place.0.0, subst (λ (n : ℕ). b.stop ≤ n) (sym (after_last past (received piece))) place.0.1);
-                    whole = place.1;
-                    shown = same_out;
-                  },
-                  same_prompt,
-                )
+            by_item : (o : Option Item) → slice_get (items_of past) (length rs) ≡ o → option_map (λ i. answer_to i (prompt_of past before) (output b.block)) o ≡ Some told
+                → IsOf past piece t.after (prompt_of past before) told
+            by_item None g e = cc
+            by_item (Some i) g e = subst (IsOf past piece t.after (prompt_of past before)) (same_some (answer_to i (prompt_of past before) (output b.block)) told e)
+                (of_item (length rs) i b g
+                ((answers_by_ask_points now t.after t.fault t.reads (suc (length rs)) b).1 (subst (λ (xs : List Outer). slice_get (answers_of now t.after) (length xs) ≡ Some b) f listed))
+                (subst (λ (n : ℕ). n < b.stop) (sym (before_last past (received piece))) place.0.0, subst (λ (n : ℕ). b.stop ≤ n) (sym (after_last past (received piece))) place.0.1)
+                place.1)
+
+-- A told answer of a line is of a line.
+line_told : (past : List Event) (piece : List ℕ) (after : List Outer) (q : List ℕ) (told : Answered) → IsOf past piece after q told
+    → (id : ℕ) (prompt : List ℕ) (out : Tree) → told ≡ answered.Line id prompt out → IsItsAnswer past piece after id out × (prompt ≡ q)
+line_told past piece after q _ (of_banner b) id prompt out e = cc
+line_told past piece after q _ (of_item number (item.Line other text) b g answers closes whole) id prompt out e =
+    let same_id : other ≡ id = cc in
+    let same_prompt : prompt ≡ q = cc in
+    let same_out : out ≡ output b.block = cc in (
+      record {
+        number = number;
+        text = text;
+        answer = b;
+        line = g ∙ ap (λ (n : ℕ). Some (item.Line n text)) same_id;
+        answers = answers;
+        closes = closes;
+        whole = whole;
+        shown = same_out;
+      },
+      same_prompt,
+    )
+line_told past piece after q _ (of_item number (item.Complete other text cursor) b g answers closes whole) id prompt out e = cc
+
+completion_told : (past : List Event) (piece : List ℕ) (after : List Outer) (q : List ℕ) (told : Answered) → IsOf past piece after q told
+    → (id : ℕ) (result : Result Completions BadCompletion) → told ≡ answered.Complete id result → IsItsCompletion past piece after id result
+completion_told past piece after q _ (of_banner b) id result e = cc
+completion_told past piece after q _ (of_item number (item.Line other text) b g answers closes whole) id result e = cc
+completion_told past piece after q _ (of_item number (item.Complete other text cursor) b g answers closes whole) id result e =
+    let same_id : other ≡ id = cc in
+    let same_result : result ≡ told_by (output b.block) = cc in
+    record {
+      number = number;
+      text = text;
+      cursor = cursor;
+      answer = b;
+      asks = g ∙ ap (λ (n : ℕ). Some (item.Complete n text cursor)) same_id;
+      answers = answers;
+      closes = closes;
+      whole = whole;
+      told = same_result;
+    }
+
+pub tells_the_answer : TellsTheAnswer
+tells_the_answer past before piece step life reads t id prompt out told =
+    line_told past piece t.after (prompt_of past before) (answered.Line id prompt out) (tells_of past before piece step life reads t (answered.Line id prompt out) told) id prompt out refl
+
+pub tells_the_completion : TellsTheCompletion
+tells_the_completion past before piece step life reads t id result told =
+    completion_told past piece t.after (prompt_of past before) (answered.Complete id result) (tells_of past before piece step life reads t (answered.Complete id result) told) id result refl

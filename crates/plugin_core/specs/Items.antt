@@ -1,8 +1,11 @@
 -- The items of a life: which wait, which are asked, and what is sent for them. (docs/PROTOCOL.md, one life.)
-use Rattle.std.specs.Prelude.{ℕ, nat_eq, Bool, List, [], ◌∷◌, ◌++◌, length, take, drop, Option, Some, option_map, slice_get}
+use Rattle.std.specs.Prelude.{ℕ, nat_eq, Bool, false, List, [], ◌∷◌, ◌++◌, length, take, drop, Option, Some, option_map, slice_get}
+use Rattle.std.specs.Str.{IsCharBoundary}
 use Rattle.block_tree.specs.Tree.{Tree}
 use Rattle.block_tree.specs.Output.{output}
 use Rattle.meta_format.specs.Stream.{Outer}
+use Rattle.scheme_text.specs.Requests.{request}
+use Rattle.scheme_text.specs.Told.{told_by}
 use Rattle.plugin_core.specs.declared.item.Item.{Item}
 use Rattle.plugin_core.specs.declared.item.Item.TheVariants as item
 use Rattle.plugin_core.specs.declared.step.Answered.{Answered}
@@ -28,17 +31,19 @@ asked_of past blocks = take (length (answers_of past blocks)) (items_of past)
 abbrev pub next_behind : {T : Type 0} → List T → List T → Option T
 next_behind before after = slice_get after (length before)
 
--- what is sent for an item: its text and a line feed
+-- what is sent for an item: the text of a line and a line feed, or the request of completions
 abbrev pub bytes_of : Item → List ℕ
 bytes_of (item.Line id text) = text ++ 10 ∷ []
+bytes_of (item.Complete id text cursor) = request text cursor
 
 -- the prompt of an item that has these answers before it
 abbrev pub prompt_of : List Event → List Outer → List ℕ
 prompt_of past blocks = prompt_behind first_prompt (answers_of past blocks)
 
--- what is told of an answer with this output to an item
+-- what is told of an answer with this output to an item; of a request of completions what the output tells
 abbrev pub answer_to : Item → List ℕ → Tree → Answered
 answer_to (item.Line id text) prompt out = answered.Line id prompt out
+answer_to (item.Complete id text cursor) prompt out = answered.Complete id (told_by out)
 
 -- What is told of an answer that comes after these: the first is the banner, and each other one answers an item.
 abbrev pub answer_behind : List Outer → List Item → List ℕ → Tree → Option Answered
@@ -47,3 +52,9 @@ answer_behind (banner ∷ answers) items prompt b = option_map (λ i. answer_to 
 
 abbrev pub is_line_of : ℕ → Item → Bool
 is_line_of id (item.Line other text) = nat_eq other id
+is_line_of id (item.Complete other text cursor) = false
+
+-- An item that may be accepted: the cursor of a request of completions stands in front of a character of its text, or at the end.
+abbrev pub IsAskable : Item → Type 0
+IsAskable (item.Line id text) = Unit {0}
+IsAskable (item.Complete id text cursor) = IsCharBoundary text cursor

@@ -1,7 +1,7 @@
 //! Laws of the definitions that the contracts cite. Each function does nothing: its contract is the law.
 ghost use Rattle.plugin_core.specs.AskPoints.{AnswersByAskPoints, SendsWhatIsAsked};
 ghost use Rattle.plugin_core.specs.Laws.{OneReading, OneStep, ShortPrompts};
-ghost use Rattle.plugin_core.specs.Whole.{TellsTheAnswer};
+ghost use Rattle.plugin_core.specs.Whole.{TellsTheAnswer, TellsTheCompletion};
 ghost use Rattle.plugin_core.specs.Waits.{WaitsWhatIsUnanswered};
 
 /// The answers of a past are those that its ask points give: each is the first block that starts at or
@@ -42,6 +42,12 @@ pub fn short_prompts()
 /// its ask point, and whose last byte came in this piece; and the prompt that the line had.
 pub fn tells_the_answer()
     ensures { TellsTheAnswer }
+{}
+
+/// What a piece tells of a request of completions is what the output of a whole block of the stream
+/// tells, which answers this request by its ask point, and whose last byte came in this piece.
+pub fn tells_the_completion()
+    ensures { TellsTheCompletion }
 {}
 
 /// A field's line waits exactly where it was accepted and no block answers it so far.

@@ -13,7 +13,7 @@ mod step;
 pub use item::Item;
 pub use laws::{
     answers_by_ask_points, one_reading, one_step, sends_what_is_asked, short_prompts,
-    tells_the_answer, waits_what_is_unanswered,
+    tells_the_answer, tells_the_completion, waits_what_is_unanswered,
 };
 pub use life::{AcceptFault, Life};
 pub use limits::{LONGEST_PROMPT, MOST_WAITING};

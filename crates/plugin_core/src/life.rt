@@ -3,7 +3,7 @@ ghost use Rattle.std.specs.Prelude.{◌≡◌, ◌≤◌, ◌↔◌, ◌∷◌, 
 ghost use Rattle.std.specs.List.{list_any};
 ghost use Rattle.meta_format.specs.Stream.{Outer};
 ghost use Rattle.plugin_core.specs.Past.{Event, accepted, received};
-ghost use Rattle.plugin_core.specs.Items.{waiting_of, prompt_of, is_line_of};
+ghost use Rattle.plugin_core.specs.Items.{waiting_of, prompt_of, is_line_of, IsAskable};
 ghost use Rattle.plugin_core.specs.Limits.{prompt_limit, most_waiting};
 
 use crate::item::bytes_for;
@@ -36,6 +36,8 @@ pub struct Life {
 
 impl Model for Life {
     ghost use Rattle.std.specs.Prelude.{◌≡◌, ◌≤◌, false, length};
+    ghost use Rattle.std.specs.List.{AllByRecursion};
+    ghost use Rattle.plugin_core.specs.Items.{IsAskable};
     ghost use Rattle.plugin_core.specs.Kept.{InterpreterView, IsFed};
     ghost use Rattle.plugin_core.specs.Limits.{prompt_limit, most_waiting};
 
@@ -43,7 +45,7 @@ impl Model for Life {
 
     ghost view = { λ life. record { number = life.number; over = life.over; reader = life.reader; ask = life.ask; greeted = life.greeted; waiting = life.waiting.items; prompt = life.prompt } };
 
-    ghost invariant = { λ life. (length life.waiting.items ≤ most_waiting) × (life.over ≡ false → IsFed life.reader) × (length life.prompt ≤ prompt_limit) };
+    ghost invariant = { λ life. (length life.waiting.items ≤ most_waiting) × (life.over ≡ false → IsFed life.reader) × (length life.prompt ≤ prompt_limit) × AllByRecursion IsAskable life.waiting.items };
 }
 
 /// Why an item was not accepted. It is given back.
@@ -62,6 +64,7 @@ impl Life {
     /// A life with this number that begins with an item, before the first byte of its stream. The item is
     /// asked once the banner has closed. Where memory is refused the item is given back.
     pub fn begin(alloc: Global, number: u32, item: Item) -> Result<Life, (Item, OutOfMemory)>
+        requires { IsAskable item }
         ensures ok { IfOk result (λ life. LifeHasPast life (accepted item ∷ []) []) }
         ensures number { IfOk result (λ life. life.number ≡ number) }
         ensures err { IfErr result (λ refused. refused.0 ≡ item) }
@@ -92,7 +95,8 @@ impl Life {
     ///
     /// An error gives the item back, and changes nothing.
     pub fn accept(&mut self, item: Item) -> Result<Option<Octets>, AcceptFault>
-        requires { self.old.over ≡ false }
+        requires goes_on { self.old.over ≡ false }
+        requires askable { IsAskable item }
         ensures ok { (past : List Event) (blocks : List Outer) → LifeHasPast self.old past blocks
             → IfOk result (λ sent. Accepts past blocks item sent self.new) }
         ensures full { (past : List Event) (blocks : List Outer) → LifeHasPast self.old past blocks
@@ -109,7 +113,8 @@ impl Life {
 
     /// Puts an item behind those that wait.
     fn join(&mut self, item: Item) -> Result<Option<Octets>, AcceptFault>
-        requires { self.old.over ≡ false }
+        requires goes_on { self.old.over ≡ false }
+        requires askable { IsAskable item }
         ensures ok { IfOk result (λ sent. Joins self.old self.new item sent) }
         ensures full { IsErrOf result (AcceptFault.Full item)
             ↔ (length self.old.waiting ≡ most_waiting) }
@@ -213,5 +218,10 @@ fn is_line(item: &Item, id: u32) -> bool
 {
     match item {
         Item::Line { id: other, text: _ } => *other == id,
+        Item::Complete {
+            id: _,
+            text: _,
+            cursor: _,
+        } => false,
     }
 }

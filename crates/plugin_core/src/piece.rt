@@ -14,6 +14,7 @@ use crate::limits::LONGEST_PROMPT;
 use crate::{Answered, Ended, Item, Life, Reason, Step};
 use block_tree::{Block, Octets, OutOfMemory, Queue, channel_text, output_of};
 use meta_format::{FeedFault, Found};
+use scheme_text::{AnswerFault, BadCompletion, read_answer};
 use std::alloc::Global;
 use std::collections::VecDeque;
 
@@ -147,7 +148,7 @@ impl Life {
         let default_input = channel_text(self.alloc, block, b"input")?;
         let next = self.prompt_behind(block)?;
         let prompt = std::mem::replace(&mut self.prompt, next);
-        let answered = self.answer_first(prompt, output);
+        let answered = self.answer_first(prompt, output)?;
         self.ask = self.next_ask();
         Ok(Closing {
             answered,
@@ -168,17 +169,22 @@ impl Life {
     }
 
     /// What is told of the answer to the first item, or of the banner.
-    fn answer_first(&mut self, prompt: Octets, output: Block) -> Option<Answered>
-        ensures answered { result ≡ answer_first self.old.greeted self.old.waiting prompt output }
+    fn answer_first(
+        &mut self,
+        prompt: Octets,
+        output: Block,
+    ) -> Result<Option<Answered>, OutOfMemory>
+        ensures answered { IfOk result (λ told. told
+            ≡ answer_first self.old.greeted self.old.waiting prompt output) }
         ensures kept { self.new ≡ record self.old { greeted = true; waiting = waiting_then self.old.greeted self.old.waiting } }
     {
         if !self.greeted {
             self.greeted = true;
-            return Some(Answered::Banner(output));
+            return Ok(Some(Answered::Banner(output)));
         }
         match self.waiting.pop_front() {
-            Some(item) => Some(answer(item, prompt, output)),
-            None => None,
+            Some(item) => Ok(Some(answer(self.alloc, item, prompt, output)?)),
+            None => Ok(None),
         }
     }
 
@@ -227,10 +233,22 @@ fn prompt_of_block(alloc: Global, block: &Block) -> Result<Option<Octets>, OutOf
 }
 
 /// What is told of an answer to an item.
-fn answer(item: Item, prompt: Octets, output: Block) -> Answered
-    ensures { result ≡ answer_to item prompt output }
+fn answer(alloc: Global, item: Item, prompt: Octets, output: Block) -> Result<Answered, OutOfMemory>
+    ensures { IfOk result (λ told. told ≡ answer_to item prompt output) }
 {
     match item {
-        Item::Line { id, text: _ } => Answered::Line { id, prompt, output },
+        Item::Line { id, text: _ } => Ok(Answered::Line { id, prompt, output }),
+        Item::Complete {
+            id,
+            text: _,
+            cursor: _,
+        } => {
+            let result = match read_answer(alloc, &output) {
+                Ok(completions) => Ok(completions),
+                Err(AnswerFault::BadCompletion) => Err(BadCompletion),
+                Err(AnswerFault::OutOfMemory) => return Err(OutOfMemory),
+            };
+            Ok(Answered::Complete { id, result })
+        }
     }
 }

@@ -3,6 +3,7 @@ ghost use Rattle.std.specs.Prelude.{◌≡◌, None};
 
 use crate::Item;
 use block_tree::{Block, Octets, Queue};
+use scheme_text::{BadCompletion, Completions};
 
 /// Why a life ended.
 #[derive(Clone, Copy, Debug, PartialEq, Eq)]
@@ -37,6 +38,11 @@ pub enum Answered {
         id: u32,
         prompt: Octets,
         output: Block,
+    },
+    /// The answer to a request of completions: the number of its field, and what the output tells.
+    Complete {
+        id: u32,
+        result: Result<Completions, BadCompletion>,
     },
 }
 

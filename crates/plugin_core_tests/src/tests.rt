@@ -1,5 +1,6 @@
 //! What no clause says: worked examples, and refused memory.
 mod answers;
+mod completions;
 mod desk;
 mod limits;
 mod memory;

@@ -1,3 +1,4 @@
+mod completions;
 mod desk;
 mod examples;
 mod failing;

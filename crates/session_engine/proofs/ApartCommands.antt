@@ -1,5 +1,5 @@
 -- One command in two worlds that are alike for a session.
-use Rattle.std.proofs.Common.{◌≡◌, ◌⊎◌, ⊎_elim, ◌+◌, ℕ, List, [], ◌∷◌, ◌++◌, length, drop, refl, ap, sym, ◌∙◌, subst, Bool, true, false, Option, Some, None}
+use Rattle.std.proofs.Common.{◌≡◌, ⊎_elim, ◌+◌, ℕ, List, [], ◌∷◌, ◌++◌, length, drop, refl, ap, sym, ◌∙◌, subst, Bool, true, false, Option, Some, None}
 use Rattle.std.specs.Prelude.{if◌then◌else◌}
 use Rattle.std.specs.Str.{bytes_eq}
 use Rattle.std.proofs.lemmas.List.{append-nil}
@@ -12,22 +12,19 @@ use Rattle.worksheet.specs.Checks.{first_of, session_named}
 use Rattle.worksheet.specs.Ops.{sessions_of, next_of}
 use Rattle.plugin_core.specs.declared.item.Item.{Item}
 use Rattle.plugin_core.specs.declared.item.Item.TheVariants as item
-use Rattle.plugin_core.specs.declared.step.Reason.TheVariants as reason
 use Rattle.session_engine.specs.declared.command.Command.{Command}
 use Rattle.session_engine.specs.declared.command.Command.TheVariants as command
 use Rattle.session_engine.specs.declared.event.Event.{Event}
 use Rattle.session_engine.specs.declared.event.Event.TheVariants as event
 use Rattle.session_engine.specs.declared.outcome.Outcome.{Outcome}
-use Rattle.session_engine.specs.declared.outcome.Effect.{Effect}
 use Rattle.session_engine.specs.declared.outcome.Effect.TheVariants as effect
-use Rattle.session_engine.specs.declared.reply.Reply.{Reply}
 use Rattle.session_engine.specs.declared.reply.Reply.TheVariants as reply
 use Rattle.session_engine.specs.Named.{first_named, without_named, replace_named}
-use Rattle.session_engine.specs.World.{World, Going, life_of, with_op, session_of_field, line_of_field, sheet_in}
-use Rattle.session_engine.specs.Does.{ends, replies, refused, joined_by, begun_with, starting_words}
+use Rattle.session_engine.specs.World.{World, Going, life_of, with_op, session_of_field, line_of_field, request_of_field}
+use Rattle.session_engine.specs.Does.{replies, refused, joined_by, begun_with, starting_words}
 use Rattle.session_engine.specs.inside.Given.{Commanded, stops, outcome_of, after, GivesByParts}
-use Rattle.session_engine.specs.inside.Parts.{with_life, without_life, with_item, asks}
-use Rattle.session_engine.specs.Refused.{command_refusals, command_takes_memory}
+use Rattle.session_engine.specs.inside.Parts.{without_life, with_item, asks}
+use Rattle.session_engine.specs.Refused.{command_refusals}
 use Rattle.session_engine.specs.Apart.{AreAlike, named, commanded, concerns, begins, number_if, is_refusal, added}
 use Rattle.session_engine.proofs.ApartLives.{same_name, is_itself, replaced_other, without_other, named-push, first_has}
 use Rattle.session_engine.proofs.ApartOps.{next_alike, sessions_alike, session_of_alike, input_of_alike}
@@ -72,36 +69,47 @@ item_own n i (Some l) w x s a e = (
   refl,
 )
 
--- an Eval of a field of the session with this name, with this item
-abbrev evaled : World → ℕ → List ℕ → Item → World
-evaled w id m i = with_op (op.Clear id) (with_item w m i (life_of w m))
+-- an item of a field of the session with this name
+abbrev itemed : World → List ℕ → Item → World
+itemed w m i = with_item w m i (life_of w m)
 
-abbrev evaling : World → List ℕ → Item → Outcome
-evaling w m i = asks w m i (life_of w m)
+abbrev asking : World → List ℕ → Item → Outcome
+asking w m i = asks w m i (life_of w m)
 
-evals : (n m : List ℕ) (id : ℕ) (i : Item) (w x : World) → AreAlike n w x
+items_alike : (n m : List ℕ) (i : Item) (w x : World) → AreAlike n w x
     → number_if (bytes_eq m n) (life_of w n) (w.begun + 1) ≡ number_if (bytes_eq m n) (life_of x n) (x.begun + 1)
-    → AreAlike n (evaled w id m i) (evaled x id m i) × (bytes_eq m n ≡ true → evaling w m i ≡ evaling x m i)
-evals n m id i w x a e = go (bytes_eq m n) refl e
+    → AreAlike n (itemed w m i) (itemed x m i) × (bytes_eq m n ≡ true → asking w m i ≡ asking x m i)
+items_alike n m i w x a e = go (bytes_eq m n) refl e
   where
     go : (b : Bool) → bytes_eq m n ≡ b → number_if b (life_of w n) (w.begun + 1) ≡ number_if b (life_of x n) (x.begun + 1)
-        → AreAlike n (evaled w id m i) (evaled x id m i) × (bytes_eq m n ≡ true → evaling w m i ≡ evaling x m i)
+        → AreAlike n (itemed w m i) (itemed x m i) × (bytes_eq m n ≡ true → asking w m i ≡ asking x m i)
     go true h k =
         let s : n ≡ m = sym (same_name m n h) in
         let l : life_of w n ≡ life_of x n = life_alike n w x a in
         let q = item_own n i (life_of w n) w x (λ g t. first_has n w.lives g t) a (k ∙ ap (λ (g : Option Going). number_if true g (x.begun + 1)) (sym l)) in
-        let r : AreAlike n (with_item w n i (life_of w n)) (with_item x n i (life_of x n)) × (asks w n i (life_of w n) ≡ asks x n i (life_of x n)) =
-        subst (λ (g : Option Going). AreAlike n (with_item w n i (life_of w n)) (with_item x n i g) × (asks w n i (life_of w n) ≡ asks x n i g)) l q in
-        subst (λ (j : List ℕ). AreAlike n (evaled w id j i) (evaled x id j i) × (bytes_eq m n ≡ true → evaling w j i ≡ evaling x j i)) s
-        (push_alike n (with_item w n i (life_of w n)) (with_item x n i (life_of x n)) (op.Clear id) r.0, λ t. r.1)
+        let r : AreAlike n (itemed w n i) (itemed x n i) × (asking w n i ≡ asking x n i) =
+        subst (λ (g : Option Going). AreAlike n (itemed w n i) (with_item x n i g) × (asking w n i ≡ asks x n i g)) l q in
+        subst (λ (j : List ℕ). AreAlike n (itemed w j i) (itemed x j i) × (bytes_eq m n ≡ true → asking w j i ≡ asking x j i)) s (r.0, λ t. r.1)
     go false h k = (
-      push_alike n (with_item w m i (life_of w m)) (with_item x m i (life_of x m)) (op.Clear id)
-          (alike_on n (with_item w m i (life_of w m)) w (with_item x m i (life_of x m)) (alike_back n w (with_item w m i (life_of w m)) (item_other n m i (life_of w m) w (λ l t. first_has m w.lives l t) h))
-          (alike_on n w x (with_item x m i (life_of x m)) a (item_other n m i (life_of x m) x (λ l t. first_has m x.lives l t) h))),
+      alike_on n (itemed w m i) w (itemed x m i) (alike_back n w (itemed w m i) (item_other n m i (life_of w m) w (λ l t. first_has m w.lives l t) h))
+          (alike_on n w x (itemed x m i) a (item_other n m i (life_of x m) x (λ l t. first_has m x.lives l t) h)),
       λ t. cc,
     )
 
-eval_adds : (id : ℕ) (m j : List ℕ) (i k : Item) (w x : World) → added w (evaled w id m i) ≡ added x (evaled x id j k)
+-- and of one that is the same in both
+record AskAlike (n : List ℕ) (w x : World) (m j : List ℕ) (i k : Item) : Type 0 where
+  alike : AreAlike n (itemed w m i) (itemed x j k)
+  about : bytes_eq m n ≡ bytes_eq j n
+  says : bytes_eq m n ≡ true → asking w m i ≡ asking x j k
+
+asks_alike : (n : List ℕ) (w x : World) (m j : List ℕ) (i k : Item) → AreAlike n w x → m ≡ j → i ≡ k
+    → number_if (bytes_eq m n) (life_of w n) (w.begun + 1) ≡ number_if (bytes_eq j n) (life_of x n) (x.begun + 1) → AskAlike n w x m j i k
+asks_alike n w x m j i k a s t e =
+    let g = items_alike n m i w x a (e ∙ ap (λ (p : List ℕ). number_if (bytes_eq p n) (life_of x n) (x.begun + 1)) (sym s)) in
+    subst (λ (p : List ℕ). AskAlike n w x m p i k) s
+    (subst (λ (q : Item). AskAlike n w x m m i q) t (record { alike = g.0; about = refl; says = g.1 }))
+
+eval_adds : (id : ℕ) (m j : List ℕ) (i k : Item) (w x : World) → added w (with_op (op.Clear id) (itemed w m i)) ≡ added x (with_op (op.Clear id) (itemed x j k))
 eval_adds id m j i k w x = ap (λ (os : List Op). drop (length w.ops) (os ++ op.Clear id ∷ [])) (item_ops m i (life_of w m) w) ∙ one_added w x (op.Clear id)
     ∙ sym (ap (λ (os : List Op). drop (length x.ops) (os ++ op.Clear id ∷ [])) (item_ops j k (life_of x j) x))
 
@@ -145,17 +153,24 @@ accepted_same n w x (command.Stop m) a e = stopped n m w x a
 accepted_same n w x (command.Eval id) a e =
     let s : session_of_field w id ≡ session_of_field x id = session_of_alike w x id a.ops in
     let t : line_of_field w id ≡ line_of_field x id = ap (λ (text : List ℕ). item.Line id text) (input_of_alike w x id a.ops) in
-    let m : List ℕ = session_of_field w id in
-    let i : Item = line_of_field w id in
-    let k : number_if (bytes_eq m n) (life_of w n) (w.begun + 1) ≡ number_if (bytes_eq m n) (life_of x n) (x.begun + 1) = e ∙ ap (λ (j : List ℕ). number_if (bytes_eq j n) (life_of x n) (x.begun + 1)) (sym s) in
-    let g = evals n m id i w x a k in
-    let there : evaled x id m i ≡ evaled x id (session_of_field x id) (line_of_field x id) = ap (λ (j : List ℕ). evaled x id j i) s ∙ ap (λ (j : Item). evaled x id (session_of_field x id) j) t in
-    let told : evaling x m i ≡ evaling x (session_of_field x id) (line_of_field x id) = ap (λ (j : List ℕ). evaling x j i) s ∙ ap (λ (j : Item). evaling x (session_of_field x id) j) t in
+    let g = asks_alike n w x (session_of_field w id) (session_of_field x id) (line_of_field w id) (line_of_field x id) a s t e in
     record {
-      alike = subst (λ (z : World). AreAlike n (evaled w id m i) z) there g.0;
-      about = ap (λ (j : List ℕ). bytes_eq j n) s;
-      says = λ h. g.1 h ∙ told;
-      adds = eval_adds id m (session_of_field x id) i (line_of_field x id) w x;
+      alike = push_alike n (itemed w (session_of_field w id) (line_of_field w id)) (itemed x (session_of_field x id) (line_of_field x id)) (op.Clear id) g.alike;
+      about = g.about;
+      says = g.says;
+      adds = eval_adds id (session_of_field w id) (session_of_field x id) (line_of_field w id) (line_of_field x id) w x;
+    }
+accepted_same n w x (command.Complete id cursor) a e =
+    let s : session_of_field w id ≡ session_of_field x id = session_of_alike w x id a.ops in
+    let t : request_of_field w id cursor ≡ request_of_field x id cursor = ap (λ (text : List ℕ). item.Complete id text cursor) (input_of_alike w x id a.ops) in
+    let g = asks_alike n w x (session_of_field w id) (session_of_field x id) (request_of_field w id cursor) (request_of_field x id cursor) a s t e in
+    record {
+      alike = g.alike;
+      about = g.about;
+      says = g.says;
+      adds = nothing_added w x (itemed w (session_of_field w id) (request_of_field w id cursor)).ops (itemed x (session_of_field x id) (request_of_field x id cursor)).ops
+          (item_ops (session_of_field w id) (request_of_field w id cursor) (life_of w (session_of_field w id)) w)
+          (item_ops (session_of_field x id) (request_of_field x id cursor) (life_of x (session_of_field x id)) x);
     }
 
 -- what isn't refused is accepted
@@ -185,9 +200,12 @@ command_same n w x c o p v u a g h q r e =
       adds = ap (λ (z : World). added w z) here.1 ∙ s.adds ∙ sym (ap (λ (z : World). added x z) there.1);
     }
 
--- the numbers that both begin with
-pub begins_alike : (n : List ℕ) (w x : World) (e : Event) → AreAlike n w x → (is js : List ℕ) → begins n w e ++ is ≡ begins n x e ++ js → (begins n w e ≡ begins n x e) × (is ≡ js)
-begins_alike n w x (event.Command (command.Eval id)) a is js h =
+-- the number that an item of a field begins with
+abbrev item_begins : List ℕ → World → ℕ → List ℕ
+item_begins n w id = number_if (bytes_eq (session_of_field w id) n) (life_of w n) (w.begun + 1)
+
+item_begins_alike : (n : List ℕ) (w x : World) (id : ℕ) → AreAlike n w x → (is js : List ℕ) → item_begins n w id ++ is ≡ item_begins n x id ++ js → (item_begins n w id ≡ item_begins n x id) × (is ≡ js)
+item_begins_alike n w x id a is js h =
     let s : session_of_field w id ≡ session_of_field x id = session_of_alike w x id a.ops in
     let k : number_if (bytes_eq (session_of_field w id) n) (life_of w n) (x.begun + 1) ≡ number_if (bytes_eq (session_of_field x id) n) (life_of x n) (x.begun + 1) =
     ap (λ (m : List ℕ). number_if (bytes_eq m n) (life_of w n) (x.begun + 1)) s ∙ ap (λ (l : Option Going). number_if (bytes_eq (session_of_field x id) n) l (x.begun + 1)) (life_alike n w x a) in
@@ -198,6 +216,11 @@ begins_alike n w x (event.Command (command.Eval id)) a is js h =
     go true None h = let k : w.begun + 1 ≡ x.begun + 1 = cc in (ap (λ (j : ℕ). j ∷ []) k, cc)
     go true (Some l) h = (refl, h)
     go false l h = (refl, h)
+
+-- the numbers that both begin with
+pub begins_alike : (n : List ℕ) (w x : World) (e : Event) → AreAlike n w x → (is js : List ℕ) → begins n w e ++ is ≡ begins n x e ++ js → (begins n w e ≡ begins n x e) × (is ≡ js)
+begins_alike n w x (event.Command (command.Eval id)) a is js h = item_begins_alike n w x id a is js h
+begins_alike n w x (event.Command (command.Complete id cursor)) a is js h = item_begins_alike n w x id a is js h
 begins_alike n w x (event.Command (command.Session name tab words)) a is js h = (refl, h)
 begins_alike n w x (event.Command (command.New place session input)) a is js h = (refl, h)
 begins_alike n w x (event.Command (command.Set id input)) a is js h = (refl, h)

@@ -1,8 +1,8 @@
 -- Fields, and whose they are, behind one op more.
 use Rattle.std.proofs.Common.{◌≡◌, ◌<◌, ◌+◌, ℕ, List, [], ◌∷◌, ◌++◌, map, refl, ap, sym, ◌∙◌, subst, arith, append_assoc, Bool, true, false, Option, Some, None}
-use Rattle.std.specs.Prelude.{if◌then◌else◌, ◌==◌, not, filter, cond, is_some}
+use Rattle.std.specs.Prelude.{if◌then◌else◌, ◌==◌, not, cond, is_some}
 use Rattle.std.specs.Str.{bytes_eq}
-use Rattle.std.specs.List.{find, AllByRecursion}
+use Rattle.std.specs.List.{find}
 use Rattle.std.proofs.lemmas.Bool.Decides.{nat_tests}
 use Rattle.std.proofs.lemmas.List.{append-nil}
 use Rattle.block_tree.specs.Tree.{Tree}
@@ -10,7 +10,7 @@ use Rattle.worksheet.specs.declared.op.Op.{Op}
 use Rattle.worksheet.specs.declared.op.Op.TheVariants as op
 use Rattle.worksheet.specs.declared.field.Field.{Field}
 use Rattle.worksheet.specs.declared.field.Answer.{Answer}
-use Rattle.worksheet.specs.Ops.{sheet_of, next_from, next_of, next_after, order_from, order_of, order_after, is_about, field_of, placed, put_behind, without}
+use Rattle.worksheet.specs.Ops.{next_of, next_after, order_of, order_after, is_about, field_of, placed, put_behind, without}
 use Rattle.worksheet.specs.Edits.{AllBelow}
 use Rattle.worksheet.specs.Checks.{numbers}
 use Rattle.worksheet.proofs.OneMore.{next_from-push, order_from-push, field_of-push, changed}
@@ -19,7 +19,7 @@ use Rattle.plugin_core.specs.declared.item.Item.{Item}
 use Rattle.plugin_core.specs.declared.item.Item.TheVariants as item
 use Rattle.session_engine.specs.World.{by_field}
 use Rattle.session_engine.specs.Apart.{commanded, is_commanded, seen_by}
-use Rattle.session_engine.proofs.ApartOps.{commanded-push, next_alike, order_alike, session_alike, input_alike}
+use Rattle.session_engine.proofs.ApartOps.{commanded-push, next_alike, session_alike}
 
 -- The same ops but answers, and the same answers of this session's fields.
 pub record Seen (name : List ℕ) (a b : List Op) : Type 0 where
@@ -101,6 +101,7 @@ same_field name f g i s t a false e own =
 -- the field of a line has been made, and is this session's
 abbrev pub HasOwner : List Op → List ℕ → Item → Type 0
 HasOwner os name (item.Line id text) = (id < next_of os) × ((field_of os id).session ≡ name)
+HasOwner os name (item.Complete id text cursor) = Unit {0}
 
 next_grows : (os : List Op) (o : Op) (id : ℕ) → id < next_of os → id < next_of (os ++ o ∷ [])
 next_grows os o id h = subst (λ (n : ℕ). id < n) (sym (next_from-push 1 os o)) (go o)
@@ -129,6 +130,7 @@ owner_still os o id h = ap (λ (f : Field). f.session) (field_of-push os o id) �
 
 pub owned_still : (os : List Op) (o : Op) (name : List ℕ) (i : Item) → HasOwner os name i → HasOwner (os ++ o ∷ []) name i
 owned_still os o name (item.Line id text) h = (next_grows os o id h.0, owner_still os o id h.0 ∙ h.1)
+owned_still os o name (item.Complete id text cursor) h = tt
 
 -- A field that there is, among these.
 pub found_owner : (os : List Op) (bound id : ℕ) (ids : List ℕ) → AllBelow bound ids → is_some (find (λ f. f.id == id) (map (field_of os) ids)) ≡ true

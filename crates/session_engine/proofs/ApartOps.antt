@@ -7,8 +7,8 @@ use Rattle.worksheet.specs.declared.op.Op.{Op}
 use Rattle.worksheet.specs.declared.op.Op.TheVariants as op
 use Rattle.worksheet.specs.declared.field.Field.{Field}
 use Rattle.worksheet.specs.declared.field.Session.{Session}
-use Rattle.worksheet.specs.Ops.{sheet_of, next_from, next_of, order_from, order_of, sessions_of, about_from, about, is_about, last_given, session_by, input_by, field_of, placed, without}
-use Rattle.session_engine.specs.World.{World, by_field, session_of_field, input_of, sheet_in}
+use Rattle.worksheet.specs.Ops.{next_from, next_of, order_from, order_of, sessions_of, about_from, about, last_given, session_by, input_by, field_of, placed, without}
+use Rattle.session_engine.specs.World.{World, by_field, session_of_field, input_of}
 use Rattle.session_engine.specs.Apart.{is_commanded, commanded}
 
 pub commanded-push : (os : List Op) (o : Op) → commanded (os ++ o ∷ []) ≡ commanded os ++ (if is_commanded o then o ∷ [] else [])

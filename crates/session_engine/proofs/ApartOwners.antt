@@ -1,30 +1,27 @@
 -- Lines that wait are those of their own session's fields.
-use Rattle.std.proofs.Common.{◌≡◌, ◌⊎◌, ⊎_elim, inl, inr, ◌<◌, ◌+◌, ℕ, zero, suc, List, [], ◌∷◌, ◌++◌, length, drop, map, refl, ap, sym, ◌∙◌, subst, Bool, true, false, Option, Some, None}
-use Rattle.std.specs.Prelude.{if◌then◌else◌, ◌==◌, not, slice_get, option_map, option_and_then, is_some}
+use Rattle.std.proofs.Common.{◌≡◌, ⊎_elim, ◌<◌, ℕ, zero, suc, List, [], ◌∷◌, ◌++◌, length, refl, ap, sym, ◌∙◌, subst, Bool, true, false, Option, Some, None}
+use Rattle.std.specs.Prelude.{if◌then◌else◌, ◌==◌, not, slice_get, option_map, option_and_then}
 use Rattle.std.specs.Str.{bytes_eq}
 use Rattle.std.specs.List.{AllByRecursion}
 use Rattle.std.proofs.lemmas.List.{append-nil}
-use Rattle.block_tree.specs.Tree.{Tree}
 use Rattle.block_tree.specs.Output.{output}
 use Rattle.meta_format.specs.Stream.{Outer}
 use Rattle.meta_format.specs.Faults.{Kind}
 use Rattle.worksheet.specs.declared.op.Op.{Op}
 use Rattle.worksheet.specs.declared.op.Op.TheVariants as op
 use Rattle.worksheet.specs.declared.refusal.Refusal.{Refusal}
-use Rattle.worksheet.specs.Ops.{next_of, order_of, field_of, sheet_of}
+use Rattle.worksheet.specs.Ops.{next_of, order_of, field_of}
 use Rattle.worksheet.specs.Edits.{AllBelow}
-use Rattle.worksheet.specs.Checks.{first_of, has_field, Allowed}
+use Rattle.worksheet.specs.Checks.{first_of, has_field}
 use Rattle.worksheet.proofs.Finds.{true_from_not}
 use Rattle.worksheet.proofs.NextLaws.{sound_of}
 use Rattle.plugin_core.specs.declared.item.Item.{Item}
 use Rattle.plugin_core.specs.declared.item.Item.TheVariants as item
 use Rattle.plugin_core.specs.declared.step.Step.{Step}
 use Rattle.plugin_core.specs.declared.step.Ended.{Ended}
-use Rattle.plugin_core.specs.declared.step.Reason.{Reason}
-use Rattle.plugin_core.specs.declared.step.Reason.TheVariants as reason
 use Rattle.plugin_core.specs.declared.step.Answered.{Answered}
 use Rattle.plugin_core.specs.declared.step.Answered.TheVariants as answered
-use Rattle.plugin_core.specs.Past.{accepted, received, items_of}
+use Rattle.plugin_core.specs.Past.{received, items_of}
 use Rattle.plugin_core.specs.Answers.{answers_of}
 use Rattle.plugin_core.specs.Items.{answer_behind, answer_to, prompt_of}
 use Rattle.plugin_core.specs.Steps.{answered_with, step_of}
@@ -34,13 +31,12 @@ use Rattle.session_engine.specs.declared.command.Command.{Command}
 use Rattle.session_engine.specs.declared.command.Command.TheVariants as command
 use Rattle.session_engine.specs.declared.event.ChildEvent.{ChildEvent}
 use Rattle.session_engine.specs.declared.event.ChildEvent.TheVariants as child
-use Rattle.session_engine.specs.declared.event.Event.{Event}
 use Rattle.session_engine.specs.declared.event.Event.TheVariants as event
 use Rattle.session_engine.specs.declared.outcome.Outcome.{Outcome}
-use Rattle.session_engine.specs.Named.{first_named, without_named, replace_named}
-use Rattle.session_engine.specs.World.{World, Going, life_of, with_number, with_op, with_op_if, session_of_field, line_of_field, sheet_in}
+use Rattle.session_engine.specs.Named.{without_named, replace_named}
+use Rattle.session_engine.specs.World.{World, Going, life_of, with_number, with_op, with_op_if, session_of_field, line_of_field, sheet_in, request_of_field}
 use Rattle.session_engine.specs.Does.{with_piece, op_by, joined_by, begun_with}
-use Rattle.session_engine.specs.inside.Given.{Commanded, Childed, Pieced, Ended_by, after, GivesByParts}
+use Rattle.session_engine.specs.inside.Given.{Commanded, Childed, after, GivesByParts}
 use Rattle.session_engine.specs.inside.Parts.{with_life, without_life, with_item, goes_on}
 use Rattle.session_engine.specs.Refused.{command_refusals}
 use Rattle.session_engine.specs.Apart.{IsOpened}
@@ -133,6 +129,7 @@ accepted_owned w (command.Eval id) h none =
     let t = there w id h (first_passes (command_refusals w (command.Eval id)) none) in
     owned_op (with_item w (session_of_field w id) (line_of_field w id) (life_of w (session_of_field w id))) (op.Clear id) tt
     (owned_item w (session_of_field w id) (line_of_field w id) (life_of w (session_of_field w id)) refl (t.0, sym t.1) h)
+accepted_owned w (command.Complete id cursor) h none = owned_item w (session_of_field w id) (request_of_field w id cursor) (life_of w (session_of_field w id)) refl tt h
 accepted_owned w (command.Stop m) h none = owned_without w m h
 
 -- What an event adds to the ops, and whether it is an answer of another session.
@@ -159,6 +156,7 @@ accepted_ops w (command.Remove id) = (op.Remove id ∷ [], refl)
 accepted_ops w (command.Move id place) = (op.Move id place ∷ [], refl)
 accepted_ops w (command.Clear id) = (op.Clear id ∷ [], refl)
 accepted_ops w (command.Eval id) = (op.Clear id ∷ [], ap (λ (os : List Op). os ++ op.Clear id ∷ []) (item_ops (session_of_field w id) (line_of_field w id) (life_of w (session_of_field w id)) w))
+accepted_ops w (command.Complete id cursor) = ([], item_ops (session_of_field w id) (request_of_field w id cursor) (life_of w (session_of_field w id)) w ∙ sym (append-nil w.ops))
 accepted_ops w (command.Stop m) = ([], sym (append-nil w.ops))
 
 pub command_grows : (w : World) (c : Command) (o : Outcome) (v : World) → Owned w → GivesByParts w (event.Command c) o v → Grown w v
@@ -175,6 +173,7 @@ abbrev pub AnswerOwned : List Op → List ℕ → Option Answered → Type 0
 AnswerOwned os name None = Unit {0}
 AnswerOwned os name (Some (answered.Banner b)) = Unit {0}
 AnswerOwned os name (Some (answered.Line id prompt output)) = (field_of os id).session ≡ name
+AnswerOwned os name (Some (answered.Complete id result)) = Unit {0}
 
 item_at : (P : Item → Type 0) (n : ℕ) (items : List Item) (i : Item) → slice_get items n ≡ Some i → AllByRecursion P items → P i
 item_at P n [] i h all = cc
@@ -187,6 +186,7 @@ answer_owned os l b own = go (answers_of l.past l.blocks)
     line : (k : Option Item) → ((i : Item) → k ≡ Some i → HasOwner os l.name i) → AnswerOwned os l.name (option_map (λ i. answer_to i (prompt_of l.past l.blocks) (output b.block)) k)
     line None has = tt
     line (Some (item.Line id text)) has = (has (item.Line id text) refl).1
+    line (Some (item.Complete id text cursor)) has = tt
 
     go : (answers : List Outer) → AnswerOwned os l.name (answer_behind answers (items_of l.past) (prompt_of l.past l.blocks) b.block)
     go [] = tt
@@ -263,6 +263,7 @@ child_grown m w v g = grown_to w v (with_op_if (op_by g.answer) g.on) g.is (go g
     go : (a : Option Answered) → Grown w (with_op_if (op_by a) g.on)
     go None = record { owned = g.owned; more = []; ops = g.kept ∙ sym (append-nil w.ops) }
     go (Some (answered.Banner b)) = record { owned = g.owned; more = []; ops = g.kept ∙ sym (append-nil w.ops) }
+    go (Some (answered.Complete id result)) = record { owned = g.owned; more = []; ops = g.kept ∙ sym (append-nil w.ops) }
     go (Some (answered.Line id prompt output)) = record {
       owned = owned_op g.on (op.Answer id prompt output) tt g.owned;
       more = op.Answer id prompt output ∷ [];

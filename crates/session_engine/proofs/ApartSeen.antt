@@ -20,7 +20,7 @@ use Rattle.session_engine.proofs.ByParts.{by_parts}
 use Rattle.session_engine.proofs.ApartLives.{same_name, is_itself}
 use Rattle.session_engine.proofs.ApartOps.{drop_length, order_alike, next_alike, sessions_alike, session_alike, input_alike}
 use Rattle.session_engine.proofs.ApartFields.{Seen, seen_itself, seen_back, seen_on, seen_more, seen_past, same_field}
-use Rattle.session_engine.proofs.ApartOwners.{Owned, Grown, OfChild, AnswerOwned, opened_owned, command_grows, child_grows, child_grown}
+use Rattle.session_engine.proofs.ApartOwners.{Owned, Grown, AnswerOwned, opened_owned, command_grows, child_grows, child_grown}
 use Rattle.session_engine.proofs.ApartRuns.{sessions_are_apart}
 
 -- all ops that are told of
@@ -48,6 +48,7 @@ unseen n w (event.Child m number c) o v b k h g s =
     go : (z : World) → z.ops ≡ w.ops → (a : Option Answered) → AnswerOwned w.ops m a → Seen n (with_op_if (op_by a) z).ops b
     go z kept None mine = subst (λ (os : List Op). Seen n os b) (sym kept) s
     go z kept (Some (answered.Banner block)) mine = subst (λ (os : List Op). Seen n os b) (sym kept) s
+    go z kept (Some (answered.Complete id result)) mine = subst (λ (os : List Op). Seen n os b) (sym kept) s
     go z kept (Some (answered.Line id prompt output)) mine = subst (λ (os : List Op). Seen n (os ++ op.Answer id prompt output ∷ []) b) (sym kept) (seen_past n m w.ops b id prompt output mine apart s)
 
 -- what is told of is all that is seen

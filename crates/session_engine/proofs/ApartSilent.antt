@@ -1,8 +1,7 @@
 -- What others' events tell.
-use Rattle.std.proofs.Common.{◌≡◌, ◌⊎◌, ⊎_elim, ℕ, List, refl, ap, sym, ◌∙◌, subst, Bool, true, false, Option, Some, None}
+use Rattle.std.proofs.Common.{◌≡◌, ⊎_elim, ℕ, List, refl, ap, sym, ◌∙◌, subst, Bool, true, false, Option, Some, None}
 use Rattle.std.specs.Prelude.{if◌then◌else◌, ◌==◌, option_map}
 use Rattle.std.specs.Str.{bytes_eq}
-use Rattle.meta_format.specs.Stream.{Outer}
 use Rattle.worksheet.specs.declared.refusal.Refusal.{Refusal}
 use Rattle.worksheet.specs.Checks.{first_of}
 use Rattle.plugin_core.specs.declared.item.Item.{Item}
@@ -17,16 +16,14 @@ use Rattle.session_engine.specs.declared.command.Command.{Command}
 use Rattle.session_engine.specs.declared.command.Command.TheVariants as command
 use Rattle.session_engine.specs.declared.event.ChildEvent.{ChildEvent}
 use Rattle.session_engine.specs.declared.event.ChildEvent.TheVariants as child
-use Rattle.session_engine.specs.declared.event.Event.{Event}
 use Rattle.session_engine.specs.declared.event.Event.TheVariants as event
 use Rattle.session_engine.specs.declared.outcome.Outcome.{Outcome}
-use Rattle.session_engine.specs.declared.outcome.Effect.{Effect}
 use Rattle.session_engine.specs.declared.outcome.Effect.TheVariants as effect
 use Rattle.session_engine.specs.declared.reply.Closed.{Closed}
 use Rattle.session_engine.specs.declared.reply.Reply.TheVariants as reply
-use Rattle.session_engine.specs.World.{World, Going, life_of, with_number, session_of_field, line_of_field}
-use Rattle.session_engine.specs.Does.{ends, replies, refused, told_of, told_with, sends_or_kills, kill_if, closed_told}
-use Rattle.session_engine.specs.inside.Given.{Commanded, Childed, Pieced, Ended_by, stops, outcome_of, GivesByParts}
+use Rattle.session_engine.specs.World.{World, Going, life_of, with_number, session_of_field, line_of_field, request_of_field}
+use Rattle.session_engine.specs.Does.{ends, replies, refused, told_of, told_with, sends_or_kills, closed_told}
+use Rattle.session_engine.specs.inside.Given.{Commanded, Childed, stops, outcome_of, GivesByParts}
 use Rattle.session_engine.specs.inside.Parts.{asks}
 use Rattle.session_engine.specs.Refused.{command_refusals}
 use Rattle.session_engine.specs.Apart.{OthersAreSilent, concerns, is_told, is_on}
@@ -103,6 +100,7 @@ accepted_silent n w (command.Remove id) h = (refl, refl)
 accepted_silent n w (command.Move id place) h = (refl, refl)
 accepted_silent n w (command.Clear id) h = (refl, refl)
 accepted_silent n w (command.Eval id) h = ask_silent n (session_of_field w id) w (line_of_field w id) (life_of w (session_of_field w id)) h
+accepted_silent n w (command.Complete id cursor) h = ask_silent n (session_of_field w id) w (request_of_field w id cursor) (life_of w (session_of_field w id)) h
 accepted_silent n w (command.Stop m) h = stop_silent n m w (life_of w m) (λ l e. first_has m w.lives l e) h
 
 command_silent : (n : List ℕ) (w : World) (c : Command) (o : Outcome) (v : World) → concerns n w (event.Command c) ≡ false → GivesByParts w (event.Command c) o v → Silent n o

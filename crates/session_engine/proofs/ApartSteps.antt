@@ -1,17 +1,12 @@
 -- One event in two worlds that are alike for a session.
-use Rattle.std.proofs.Common.{◌≡◌, ◌⊎◌, ⊎_elim, ◌+◌, ℕ, List, [], ◌∷◌, ◌++◌, length, drop, refl, ap, sym, ◌∙◌, subst, Bool, true, false, Option, Some, None}
-use Rattle.std.specs.Prelude.{if◌then◌else◌, ◌==◌, option_map}
+use Rattle.std.proofs.Common.{◌≡◌, ℕ, List, [], ◌∷◌, ◌++◌, length, drop, refl, ap, sym, ◌∙◌, subst, Bool, true, false, Option, Some, None}
+use Rattle.std.specs.Prelude.{if◌then◌else◌, ◌==◌}
 use Rattle.std.specs.Str.{bytes_eq}
 use Rattle.std.proofs.lemmas.List.{append-nil}
 use Rattle.meta_format.specs.Stream.{Outer}
 use Rattle.meta_format.specs.Faults.{Kind}
 use Rattle.worksheet.specs.declared.op.Op.{Op}
 use Rattle.worksheet.specs.declared.op.Op.TheVariants as op
-use Rattle.worksheet.specs.declared.refusal.Refusal.{Refusal}
-use Rattle.worksheet.specs.declared.field.Session.{Session}
-use Rattle.worksheet.specs.Checks.{first_of, session_named}
-use Rattle.plugin_core.specs.declared.item.Item.{Item}
-use Rattle.plugin_core.specs.declared.item.Item.TheVariants as item
 use Rattle.plugin_core.specs.declared.step.Step.{Step}
 use Rattle.plugin_core.specs.declared.step.Ended.{Ended}
 use Rattle.plugin_core.specs.declared.step.Reason.{Reason}
@@ -21,23 +16,19 @@ use Rattle.plugin_core.specs.declared.step.Answered.TheVariants as answered
 use Rattle.plugin_core.specs.Past.{received, stream_of}
 use Rattle.plugin_core.specs.Steps.{step_of}
 use Rattle.plugin_core.specs.Laws.{OneReading}
-use Rattle.session_engine.specs.declared.command.Command.{Command}
-use Rattle.session_engine.specs.declared.command.Command.TheVariants as command
 use Rattle.session_engine.specs.declared.event.ChildEvent.{ChildEvent}
 use Rattle.session_engine.specs.declared.event.ChildEvent.TheVariants as child
-use Rattle.session_engine.specs.declared.event.Event.{Event}
 use Rattle.session_engine.specs.declared.event.Event.TheVariants as event
 use Rattle.session_engine.specs.declared.outcome.Outcome.{Outcome}
 use Rattle.session_engine.specs.declared.reply.Reply.TheVariants as reply
-use Rattle.session_engine.specs.Named.{first_named, without_named, replace_named}
-use Rattle.session_engine.specs.World.{World, Going, life_of, with_number, with_op, with_op_if, session_of_field, input_of, line_of_field, sheet_in}
-use Rattle.session_engine.specs.Does.{with_piece, op_by, ends, replies, told_of, refused, joined_by, begun_with}
-use Rattle.session_engine.specs.inside.Given.{Commanded, Childed, Ended_by, Pieced, IsPieced, Ignored, stops, outcome_of, after, GivesByParts}
-use Rattle.session_engine.specs.inside.Parts.{with_life, without_life, with_item, goes_on, asks}
-use Rattle.session_engine.specs.Refused.{command_refusals, command_takes_memory}
-use Rattle.session_engine.specs.Apart.{AreAlike, named, commanded, is_commanded, concerns, begins, number_if, is_refusal, is_kept, added}
-use Rattle.session_engine.proofs.ApartLives.{same_name, is_itself, put_first, rest_of, front_of, replaced_other, without_other, replaced_own, without_own, named-push, first_is, first_has}
-use Rattle.session_engine.proofs.ApartOps.{commanded-push, next_alike, sessions_alike, session_of_alike, input_of_alike, drop_length, drop_itself}
+use Rattle.session_engine.specs.Named.{without_named, replace_named}
+use Rattle.session_engine.specs.World.{World, Going, life_of, with_number, with_op, with_op_if}
+use Rattle.session_engine.specs.Does.{with_piece, op_by, ends, replies, told_of}
+use Rattle.session_engine.specs.inside.Given.{Childed, Ended_by, Pieced, Ignored, GivesByParts}
+use Rattle.session_engine.specs.inside.Parts.{without_life, goes_on}
+use Rattle.session_engine.specs.Apart.{AreAlike, named, commanded, is_commanded, added}
+use Rattle.session_engine.proofs.ApartLives.{is_itself, put_first, rest_of, front_of, replaced_other, without_other, replaced_own, without_own, first_is, first_has}
+use Rattle.session_engine.proofs.ApartOps.{commanded-push, drop_length, drop_itself}
 
 pub alike_back : (n : List ℕ) (w v : World) → AreAlike n w v → AreAlike n v w
 alike_back n w v a = record { ops = sym a.ops; lives = sym a.lives }
@@ -167,6 +158,7 @@ at_alike n w v z e a = subst (λ (y : World). AreAlike n w y) (sym e) a
 other_op : (n : List ℕ) (w z : World) (a : Option Answered) → AreAlike n w z → AreAlike n w (with_op_if (op_by a) z)
 other_op n w z None a = a
 other_op n w z (Some (answered.Banner b)) a = a
+other_op n w z (Some (answered.Complete id result)) a = a
 other_op n w z (Some (answered.Line id prompt output)) a = record { ops = a.ops ∙ sym (commanded-push z.ops (op.Answer id prompt output) ∙ append-nil (commanded z.ops)); lives = a.lives }
 
 other_on : (n : List ℕ) (w : World) (y : Going) (e : Option Ended) → bytes_eq y.name n ≡ false → AreAlike n w (goes_on y e w)

@@ -1,5 +1,5 @@
 -- Lemmas on an Eval.
-use Rattle.std.proofs.Common.{◌≡◌, ◌≤◌, ◌⊎◌, inl, inr, ⊎_elim, ◌+◌, ℕ, List, [], ◌∷◌, ◌++◌, length, refl, ap, sym, ◌∙◌, subst, arith, Bool, true, false, Option, Some, None}
+use Rattle.std.proofs.Common.{◌≡◌, inl, inr, ⊎_elim, ◌+◌, ℕ, List, [], ◌∷◌, ◌++◌, length, refl, ap, sym, ◌∙◌, subst, arith, Bool, true, false, Option, Some, None}
 use Rattle.std.specs.Prelude.{nat_le, nat_eq, is_some, ◌&&◌, not, if◌then◌else◌}
 use Rattle.std.proofs.lemmas.Bool.Decides.{nat_tests}
 use Rattle.worksheet.specs.declared.op.Op.{Op}
@@ -18,7 +18,7 @@ use Rattle.plugin_core.specs.declared.item.Item.TheVariants as item
 use Rattle.session_engine.specs.Limits.{most_lives}
 use Rattle.session_engine.specs.declared.table.Running.{Running}
 use Rattle.session_engine.specs.inside.Tables.{Joined, Begun, with_life}
-use Rattle.session_engine.specs.Host.{RunsAs, Lives, HasField, HaveFields, EngineStandsFor}
+use Rattle.session_engine.specs.Host.{Lives, HasField, HaveFields, EngineStandsFor}
 use Rattle.session_engine.proofs.Tables.{found, not_found, pushed, numbers_are}
 use Rattle.session_engine.proofs.Standing.{all_at, put}
 use Rattle.session_engine.specs.World.{World, Going, life_of, session_of_field, sheet_in, waiting_in, fits, fits_in}
@@ -42,12 +42,11 @@ use Rattle.session_engine.specs.Named.{first_named, without_named}
 use Rattle.session_engine.specs.inside.Tables.{Asked, CanGoBack}
 use Rattle.session_engine.specs.Host.{name_of, number_in}
 use Rattle.session_engine.proofs.Tables.{numbers_stay}
-use Rattle.session_engine.specs.World.{by_field, in_flight, line_of_field, with_op}
+use Rattle.session_engine.specs.World.{by_field, in_flight, line_of_field, with_op, with_op_if}
 use Rattle.session_engine.specs.Refused.{command_refusals}
-use Rattle.session_engine.specs.Does.{refused}
 use Rattle.session_engine.specs.inside.Commits.{RefusesEval, SparesItem, SparesLife, told_asked, begun_with_words}
-use Rattle.session_engine.specs.Does.{does, evaluates, tells, behind, CommandDoes, MayDo}
-use Rattle.session_engine.specs.Faults.{CauseOf, Failed, MayGive}
+use Rattle.session_engine.specs.Does.{does, asks_item, tells, behind, CommandDoes, MayDo}
+use Rattle.session_engine.specs.Faults.{CauseOf, Failed}
 use Rattle.session_engine.specs.Host.{HostView, OnDisk}
 use Rattle.session_engine.specs.declared.reply.Reply.TheVariants as reply
 use Rattle.session_engine.proofs.Changing.{first_behind, first_before}
@@ -151,6 +150,7 @@ ops_item w name i (Some l) = refl
 spared_items : (id : ℕ) (items : List Item) → AllByRecursion (SparesItem (op.Clear id)) items
 spared_items id [] = tt
 spared_items id (item.Line other text ∷ items) = (tt, spared_items id items)
+spared_items id (item.Complete other text cursor ∷ items) = (tt, spared_items id items)
 
 pub spared_clear : (id : ℕ) (ls : List Going) → AllByRecursion (SparesLife (op.Clear id)) ls
 spared_clear id [] = tt
@@ -226,17 +226,17 @@ gives_in_flight w id f e waits =
 
 -- An evaluation in the parts that a host works on.
 
-pub evaluated_told : (w : World) (id : ℕ) (name : List ℕ) (l : Option Going) → (evaluates w id name l).told ≡ asks w name (line_of_field w id) l
-evaluated_told w id name None = refl
-evaluated_told w id name (Some l) = refl
+pub asked_told : (w : World) (i : Item) (o : Option Op) (name : List ℕ) (l : Option Going) → (asks_item w i o name l).told ≡ asks w name i l
+asked_told w i o name None = refl
+asked_told w i o name (Some l) = refl
 
-pub evaluated_leads : (w : World) (id : ℕ) (name : List ℕ) (l : Option Going) → behind w (evaluates w id name l) ≡ with_op (op.Clear id) (with_item w name (line_of_field w id) l)
-evaluated_leads w id name None = refl
-evaluated_leads w id name (Some l) = refl
+pub asked_leads : (w : World) (i : Item) (o : Option Op) (name : List ℕ) (l : Option Going) → behind w (asks_item w i o name l) ≡ with_op_if o (with_item w name i l)
+asked_leads w i o name None = refl
+asked_leads w i o name (Some l) = refl
 
-evaluated_op : (w : World) (id : ℕ) (name : List ℕ) (l : Option Going) → (evaluates w id name l).op ≡ Some (op.Clear id)
-evaluated_op w id name None = refl
-evaluated_op w id name (Some l) = refl
+pub asked_op : (w : World) (i : Item) (o : Option Op) (name : List ℕ) (l : Option Going) → (asks_item w i o name l).op ≡ o
+asked_op w i o name None = refl
+asked_op w i o name (Some l) = refl
 
 module _ (w : World) (id : ℕ) (f : Field) (e : field_in (sheet_in w).fields id ≡ Some f) (free : in_flight w id ≡ false) where
   pub eval_refused : (r : Refusal) → RefusesEval w id r → MayDo w (event.Command (command.Eval id)) (tells w (reply.Refused r))
@@ -252,17 +252,17 @@ module _ (w : World) (id : ℕ) (f : Field) (e : field_in (sheet_in w).fields id
   eval_told line is =
       let s = sym (session_is w id f e) in
       let l : line ≡ line_of_field w id = is ∙ sym (line_is w id f e) in
-      ap (λ (n : List ℕ). asks w n line (life_of w n)) s ∙ ap (λ (i : Item). asks w (session_of_field w id) i (life_of w (session_of_field w id))) l ∙ sym (evaluated_told w id (session_of_field w id) (life_of w (session_of_field w id)))
+      ap (λ (n : List ℕ). asks w n line (life_of w n)) s ∙ ap (λ (i : Item). asks w (session_of_field w id) i (life_of w (session_of_field w id))) l ∙ sym (asked_told w (line_of_field w id) (Some (op.Clear id)) (session_of_field w id) (life_of w (session_of_field w id)))
 
   pub eval_leads : (line : Item) → line ≡ item.Line id f.input → with_op (op.Clear id) (with_item w f.session line (life_of w f.session)) ≡ behind w (does w (command.Eval id))
   eval_leads line is =
       let s = sym (session_is w id f e) in
       let l : line ≡ line_of_field w id = is ∙ sym (line_is w id f e) in
       ap (λ (n : List ℕ). with_op (op.Clear id) (with_item w n line (life_of w n))) s ∙ ap (λ (i : Item). with_op (op.Clear id) (with_item w (session_of_field w id) i (life_of w (session_of_field w id)))) l
-      ∙ sym (evaluated_leads w id (session_of_field w id) (life_of w (session_of_field w id)))
+      ∙ sym (asked_leads w (line_of_field w id) (Some (op.Clear id)) (session_of_field w id) (life_of w (session_of_field w id)))
 
   pub eval_gives : (does w (command.Eval id)).op ≡ Some (op.Clear id)
-  eval_gives = evaluated_op w id (session_of_field w id) (life_of w (session_of_field w id))
+  eval_gives = asked_op w (line_of_field w id) (Some (op.Clear id)) (session_of_field w id) (life_of w (session_of_field w id))
 
   -- the disk's fault at an Eval, behind a preparation that changed nothing
   pub eval_fails : (old mid new : HostView) (r : Result Outcome HostFault) → EngineStandsFor old.store old.lives old.begun w → first_of (eval_refusals w id) ≡ None → SameStore old.store mid.store → mid.lives ≡ old.lives

@@ -1,7 +1,6 @@
 -- What events give, by rows and by parts.
-use Rattle.std.proofs.Common.{◌≡◌, ◌⊎◌, inl, inr, ⊎_elim, ◌∙◌, ap, sym, subst, ℕ, List, [], ◌∷◌, ◌++◌, Option, Some, None, refl, Bool, true, false}
+use Rattle.std.proofs.Common.{◌≡◌, inl, inr, ⊎_elim, ◌∙◌, ap, sym, subst, ℕ, List, Option, Some, None, refl, Bool, true, false}
 use Rattle.meta_format.specs.Stream.{Outer}
-use Rattle.meta_format.specs.Faults.{Kind}
 use Rattle.worksheet.specs.declared.op.Op.{Op}
 use Rattle.worksheet.specs.declared.op.Op.TheVariants as op
 use Rattle.worksheet.specs.declared.refusal.Refusal.{Refusal}
@@ -11,8 +10,7 @@ use Rattle.plugin_core.specs.declared.step.Ended.{Ended}
 use Rattle.plugin_core.specs.declared.step.Step.{Step}
 use Rattle.plugin_core.specs.declared.step.Reason.{Reason}
 use Rattle.plugin_core.specs.declared.step.Reason.TheVariants as reason
-use Rattle.plugin_core.specs.Past.{received, stream_of}
-use Rattle.plugin_core.specs.Steps.{Reads, step_of}
+use Rattle.plugin_core.specs.Steps.{step_of}
 use Rattle.session_engine.specs.declared.command.Command.{Command}
 use Rattle.session_engine.specs.declared.command.Command.TheVariants as command
 use Rattle.session_engine.specs.declared.event.ChildEvent.{ChildEvent}
@@ -20,16 +18,15 @@ use Rattle.session_engine.specs.declared.event.ChildEvent.TheVariants as child
 use Rattle.session_engine.specs.declared.event.Event.{Event}
 use Rattle.session_engine.specs.declared.event.Event.TheVariants as event
 use Rattle.session_engine.specs.declared.outcome.Outcome.{Outcome}
-use Rattle.session_engine.specs.declared.reply.Reply.{Reply}
 use Rattle.session_engine.specs.declared.reply.Reply.TheVariants as reply
-use Rattle.session_engine.specs.World.{World, Going, life_of, with_number, with_op, with_op_if, session_of_field, line_of_field}
-use Rattle.session_engine.specs.Refused.{command_refusals, command_takes_memory}
-use Rattle.session_engine.specs.Does.{Does, does, behind, evaluates, ends_life, steps, tells, told_of, op_by, with_piece, CommandDoes, ChildDoes, MayDo, Gives}
-use Rattle.session_engine.specs.inside.Parts.{asks, with_item, without_life, goes_on}
-use Rattle.session_engine.specs.inside.Given.{stops, outcome_of, after, Commanded, Pieced, IsPieced, Ignored, Ended_by, Childed, GivesByParts}
+use Rattle.session_engine.specs.World.{World, Going, life_of, with_number, with_op, with_op_if, session_of_field, line_of_field, request_of_field}
+use Rattle.session_engine.specs.Refused.{command_refusals}
+use Rattle.session_engine.specs.Does.{Does, does, behind, ends_life, steps, tells, op_by, with_piece, CommandDoes, ChildDoes, MayDo, Gives}
+use Rattle.session_engine.specs.inside.Parts.{without_life, goes_on}
+use Rattle.session_engine.specs.inside.Given.{stops, outcome_of, after, Commanded, Ended_by, Childed, GivesByParts}
 use Rattle.session_engine.specs.Commands.{op_of}
 use Rattle.session_engine.proofs.Changing.{as_op}
-use Rattle.session_engine.proofs.Asking.{evaluated_told, evaluated_leads}
+use Rattle.session_engine.proofs.Asking.{asked_told, asked_leads}
 use Rattle.session_engine.proofs.Tables.{first_has_name}
 use Rattle.session_engine.proofs.Stopping.{without_none_here}
 
@@ -49,7 +46,8 @@ same_outcome w (command.Set id input) = refl
 same_outcome w (command.Remove id) = refl
 same_outcome w (command.Move id place) = refl
 same_outcome w (command.Clear id) = refl
-same_outcome w (command.Eval id) = evaluated_told w id (session_of_field w id) (life_of w (session_of_field w id))
+same_outcome w (command.Eval id) = asked_told w (line_of_field w id) (Some (op.Clear id)) (session_of_field w id) (life_of w (session_of_field w id))
+same_outcome w (command.Complete id cursor) = asked_told w (request_of_field w id cursor) None (session_of_field w id) (life_of w (session_of_field w id))
 same_outcome w (command.Stop name) = stopped_told w (life_of w name)
 
 same_after : (w : World) (c : Command) → behind w (does w c) ≡ after w c
@@ -59,7 +57,8 @@ same_after w (command.Set id input) = refl
 same_after w (command.Remove id) = refl
 same_after w (command.Move id place) = refl
 same_after w (command.Clear id) = refl
-same_after w (command.Eval id) = evaluated_leads w id (session_of_field w id) (life_of w (session_of_field w id))
+same_after w (command.Eval id) = asked_leads w (line_of_field w id) (Some (op.Clear id)) (session_of_field w id) (life_of w (session_of_field w id))
+same_after w (command.Complete id cursor) = asked_leads w (request_of_field w id cursor) None (session_of_field w id) (life_of w (session_of_field w id))
 same_after w (command.Stop name) = stopped_leads w name (life_of w name) refl
 
 stepped : (w : World) (l : Going) (piece : List ℕ) (blocks : List Outer) (s : Step) → behind w (steps w l piece blocks s) ≡ with_op_if (op_by s.answered) (goes_on (with_piece l piece blocks) s.ended w)

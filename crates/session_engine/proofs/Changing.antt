@@ -1,5 +1,5 @@
 -- What an op of a command gives, against the definitions.
-use Rattle.std.proofs.Common.{◌≡◌, ◌⊎◌, inl, inr, ⊎_elim, ◌+◌, ℕ, List, [], ◌∷◌, ◌++◌, length, refl, ap, sym, ◌∙◌, subst, arith, Bool, true, false, Option, Some, None, Result, Ok, Err}
+use Rattle.std.proofs.Common.{◌≡◌, inl, inr, ℕ, List, [], ◌∷◌, ◌++◌, refl, ap, sym, ◌∙◌, subst, arith, Bool, true, false, Option, Some, None, Result, Ok, Err}
 use Rattle.std.specs.Prelude.{if◌then◌else◌, ◌==◌, ◌||◌, not, OnErr, IfErr}
 use Rattle.std.specs.List.{AllByRecursion, list_any}
 use Rattle.std.proofs.lemmas.Bool.Decides.{nat_tests}
@@ -10,7 +10,6 @@ use Rattle.worksheet.specs.declared.refusal.Refusal.{Refusal}
 use Rattle.worksheet.specs.declared.refusal.Refusal.TheVariants as refusal
 use Rattle.worksheet.specs.Checks.{first_of, first_refusal}
 use Rattle.worksheet.specs.Checks.{refusals as sheet_refusals}
-use Rattle.recovery.specs.Sheets.{StoreView, IsSheetImage}
 use Rattle.plugin_core.specs.declared.item.Item.{Item}
 use Rattle.plugin_core.specs.declared.item.Item.TheVariants as item
 use Rattle.plugin_core.specs.Items.{is_line_of}
@@ -24,13 +23,11 @@ use Rattle.session_engine.specs.declared.outcome.HostFault.TheVariants as faults
 use Rattle.session_engine.specs.declared.reply.Reply.TheVariants as reply
 use Rattle.session_engine.specs.declared.table.Running.{Running}
 use Rattle.session_engine.proofs.Tables.{numbers_are}
-use Rattle.session_engine.specs.World.{World, Going, waiting_in, waits_in, in_flight, sheet_in, fits, fits_in, with_op}
+use Rattle.session_engine.specs.World.{World, Going, waiting_in, waits_in, in_flight, sheet_in, fits}
 use Rattle.session_engine.specs.inside.Parts.{second, checks, op_refusals}
 use Rattle.session_engine.specs.Refused.{full, command_refusals, command_takes_memory}
-use Rattle.session_engine.specs.Commands.{reply_to}
-use Rattle.session_engine.specs.Does.{replies, refused}
-use Rattle.session_engine.specs.Does.{Does, changes, does, tells, CommandDoes, MayDo}
-use Rattle.session_engine.specs.Faults.{MayGive, CauseOf, Failed}
+use Rattle.session_engine.specs.Does.{changes, does, tells, CommandDoes, MayDo}
+use Rattle.session_engine.specs.Faults.{CauseOf, Failed}
 use Rattle.session_engine.specs.Host.{HostView, EngineStandsFor, OnDisk, number_in}
 use Rattle.session_engine.specs.inside.Commits.{Spares, SparesItem, SparesLife}
 
@@ -48,6 +45,7 @@ as_op w (command.Remove id) o e = let is : op.Remove id ≡ o = cc in subst (λ 
 as_op w (command.Move id place) o e = let is : op.Move id place ≡ o = cc in subst (λ (o : Op). IsOp w (command.Move id place) o) is (record { refusals_are = refl; does_is = refl; takes = refl })
 as_op w (command.Clear id) o e = let is : op.Clear id ≡ o = cc in subst (λ (o : Op). IsOp w (command.Clear id) o) is (record { refusals_are = refl; does_is = refl; takes = refl })
 as_op w (command.Eval id) o e = cc
+as_op w (command.Complete id cursor) o e = cc
 as_op w (command.Stop name) o e = cc
 
 pub first_behind : (rs qs : List (Refusal × Bool)) → first_of rs ≡ None → first_of (rs ++ qs) ≡ first_of qs
@@ -106,6 +104,7 @@ spared_here id (item.Line other text ∷ items) h = go (other == id) refl h (spa
         → AllByRecursion (SparesItem (op.Remove id)) (item.Line other text ∷ items)
     go true e h rest = cc
     go false e h rest = (grind (arith, nat_tests, e), rest h)
+spared_here id (item.Complete other text cursor ∷ items) h = (tt, spared_here id items h)
 
 spared_in : (id : ℕ) (ls : List Going) → waits_in ls id ≡ false → AllByRecursion (SparesLife (op.Remove id)) ls
 spared_in id [] h = tt
@@ -117,6 +116,7 @@ spared_in id (l ∷ ls) h = go (list_any (λ i. is_line_of id i) (waiting_in l))
 
 no_matter : (o : Op) → ((id : ℕ) → Spares id o) → (i : Item) → SparesItem o i
 no_matter o all (item.Line id text) = all id
+no_matter o all (item.Complete id text cursor) = tt
 
 pub spares : (w : World) (o : Op) → first_of (checks w o) ≡ None → AllByRecursion (SparesLife o) w.lives
 spares w (op.Session name tab words) h = all_lives (op.Session name tab words) w.lives (no_matter (op.Session name tab words) (λ id. tt))

@@ -1,5 +1,5 @@
 -- Worked examples of the definitions.
-use Rattle.std.proofs.Common.{◌≡◌, ℕ, List, [], ◌∷◌, refl, Bool, true, false, Option, Some, None}
+use Rattle.std.proofs.Common.{◌≡◌, ℕ, List, [], ◌∷◌, refl, true, false, Some, None}
 use Rattle.worksheet.specs.declared.op.Op.{Op}
 use Rattle.worksheet.specs.declared.op.Op.TheVariants as op
 use Rattle.worksheet.specs.declared.refusal.Refusal.TheVariants as refusal
@@ -10,11 +10,10 @@ use Rattle.session_engine.specs.declared.command.Command.TheVariants as command
 use Rattle.session_engine.specs.declared.event.ChildEvent.TheVariants as child
 use Rattle.session_engine.specs.declared.event.Event.TheVariants as event
 use Rattle.session_engine.specs.declared.outcome.Effect.TheVariants as effect
-use Rattle.session_engine.specs.declared.outcome.Outcome.{Outcome}
 use Rattle.session_engine.specs.declared.reply.Reply.TheVariants as reply
-use Rattle.session_engine.specs.World.{World, world_at_opening, life_of, with_number}
+use Rattle.session_engine.specs.World.{World, world_at_opening, life_of}
 use Rattle.session_engine.specs.Refused.{command_refusals}
-use Rattle.session_engine.specs.Does.{Does, behind, does, ends_life, replies, MayDo}
+use Rattle.session_engine.specs.Does.{behind, does, ends_life, replies, MayDo}
 
 -- session a with the word p, and its fields 1 (x) and 2 (y)
 

@@ -1,6 +1,6 @@
 -- Fields that are there after one op more.
 use Rattle.std.proofs.Common.{◌≡◌, ◌≤◌, ◌+◌, ℕ, zero, suc, List, [], ◌∷◌, ◌++◌, length, length-append, drop, refl, ap, sym, ◌∙◌, subst, arith, Bool, true, false, Option, Some, None}
-use Rattle.std.specs.Prelude.{if◌then◌else◌, ◌==◌, is_some, not, nat_lt, slice_get, option_to_list, option_map, option_and_then}
+use Rattle.std.specs.Prelude.{if◌then◌else◌, is_some, nat_lt, slice_get, option_to_list, option_map, option_and_then}
 use Rattle.std.specs.List.{AllByRecursion}
 use Rattle.std.proofs.lemmas.Bool.Decides.{nat_tests}
 use Rattle.std.proofs.lemmas.List.{append-nil, drop-drop}
@@ -24,10 +24,10 @@ use Rattle.plugin_core.specs.Kept.{InterpreterView, Takes}
 use Rattle.plugin_core.specs.Items.{unanswered, waiting_of, prompt_of, answer_behind, answer_to}
 use Rattle.plugin_core.specs.Steps.{answered_with}
 use Rattle.plugin_core.specs.Steps.{closed_by as closed_in}
-use Rattle.plugin_core.proofs.Pasts.{items_of-received, items_of-accepted}
+use Rattle.plugin_core.proofs.Pasts.{items_of-received}
 use Rattle.plugin_core.specs.declared.item.Item.{Item}
 use Rattle.plugin_core.specs.declared.item.Item.TheVariants as item
-use Rattle.session_engine.specs.World.{World, Going, waiting_in, sheet_in}
+use Rattle.session_engine.specs.World.{Going, waiting_in}
 use Rattle.session_engine.specs.Does.{op_by}
 use Rattle.session_engine.specs.Host.{HasField, HaveFields}
 use Rattle.session_engine.specs.inside.Commits.{AllowedIf, Spares, SparesItem, SparesLife}
@@ -62,6 +62,7 @@ items_still : (os : List Op) (o : Op) (items : List Item) → Allowed os → fir
     → AllByRecursion (HasField (sheet_of (os ++ o ∷ []))) items
 items_still os o [] allowed next s all = tt
 items_still os o (item.Line id text ∷ items) allowed next s all = (has_still os o id allowed next s.0 all.0, items_still os o items allowed next s.1 all.1)
+items_still os o (item.Complete id text cursor ∷ items) allowed next s all = (tt, items_still os o items allowed next s.1 all.1)
 
 pub fields_still : (os : List Op) (o : Op) (ls : List Going) → Allowed os → first_refusal (sheet_of os) o ≡ None → AllByRecursion (SparesLife o) ls → AllByRecursion (HaveFields (sheet_of os)) ls
     → AllByRecursion (HaveFields (sheet_of (os ++ o ∷ []))) ls
@@ -72,6 +73,7 @@ fields_still os o (l ∷ ls) allowed next s all = (items_still os o (waiting_in 
 spared_items : (id : ℕ) (prompt : List ℕ) (out : Tree) (items : List Item) → AllByRecursion (SparesItem (op.Answer id prompt out)) items
 spared_items id prompt out [] = tt
 spared_items id prompt out (item.Line other text ∷ items) = (tt, spared_items id prompt out items)
+spared_items id prompt out (item.Complete other text cursor ∷ items) = (tt, spared_items id prompt out items)
 
 pub spared : (id : ℕ) (prompt : List ℕ) (out : Tree) (ls : List Going) → AllByRecursion (SparesLife (op.Answer id prompt out)) ls
 spared id prompt out [] = tt
@@ -115,6 +117,7 @@ allowed_answer short sheet past before b all = go (answers_of past before) (item
         let f : has_field sheet id ≡ true = has (item.Line id text) refl in
         let k : nat_lt prompt_limit (length prompt) ≡ false = grind (arith, nat_tests, le) in
         rw (f, k) refl
+    line (Some (item.Complete id text cursor)) prompt le has = tt
 
     go : (answers : List Outer) (items : List Item) (prompt : List ℕ) → length prompt ≤ prompt_limit → AllByRecursion (HasField sheet) (unanswered answers items) → AllowedIf sheet (op_by (answer_behind answers items prompt b.block))
     go [] items prompt le all = tt

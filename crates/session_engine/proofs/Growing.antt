@@ -1,9 +1,9 @@
 -- What a piece adds to the stream of a life that goes on.
-use Rattle.std.proofs.Common.{◌≡◌, ◌⊎◌, inl, inr, ⊎_elim, ◌+◌, ℕ, false, List, [], ◌∷◌, ◌++◌, length, refl, ap, sym, ◌∙◌, subst, arith, length-append, append-nil, Option, Some, None}
+use Rattle.std.proofs.Common.{◌≡◌, ◌⊎◌, inl, inr, ⊎_elim, ◌+◌, ℕ, false, List, [], ◌∷◌, ◌++◌, length, refl, ap, ◌∙◌, subst, length-append, Option, Some, None}
 use Rattle.std.specs.Prelude.{option_to_list}
 use Rattle.meta_format.specs.Limits.{limits}
-use Rattle.meta_format.specs.Stream.{Outer, Chain, Stream}
-use Rattle.meta_format.specs.Faults.{Kind, FaultAt}
+use Rattle.meta_format.specs.Stream.{Outer}
+use Rattle.meta_format.specs.Faults.{Kind}
 use Rattle.meta_format.specs.inside.Machine.{Mode, outside, tag_of, body_of, escape_of, broken, State, start_state, run, IsAlive, begun}
 use Rattle.meta_format.specs.Reader.{ReaderView, CloseWithin}
 use Rattle.meta_format.specs.Reader.{ReaderHasRead}

@@ -38,7 +38,7 @@ use Rattle.session_engine.specs.declared.event.ChildEvent.TheVariants as child
 use Rattle.session_engine.specs.declared.event.Event.{Event}
 use Rattle.session_engine.specs.declared.event.Event.TheVariants as event
 use Rattle.session_engine.specs.declared.outcome.Outcome.{Outcome}
-use Rattle.session_engine.specs.World.{World, Going, world_at_opening, life_of, line_of_field, session_of_field, waiting_in, waits_in, with_number, with_op, with_op_if}
+use Rattle.session_engine.specs.World.{World, Going, world_at_opening, life_of, line_of_field, request_of_field, session_of_field, waiting_in, waits_in, with_number, with_op, with_op_if}
 use Rattle.session_engine.specs.Refused.{command_refusals}
 use Rattle.session_engine.specs.Does.{Gives, Runs, begun_with, joined_by, op_by, with_piece}
 use Rattle.session_engine.specs.inside.Parts.{goes_on, with_item, without_life}
@@ -78,11 +78,13 @@ abbrev answers_one : ℕ → Option Answered → ℕ
 answers_one id None = 0
 answers_one id (Some (answered.Banner b)) = 0
 answers_one id (Some (answered.Line other prompt out)) = one_of other id
+answers_one id (Some (answered.Complete other result)) = 0
 
 module _ (id : ℕ) (prompt : List ℕ) (out : Tree) where
   one_less : (k : ℕ) (items : List Item) → lines_among id (drop (suc k) items) + answers_one id (option_map (λ i. answer_to i prompt out) (slice_get items k)) ≡ lines_among id (drop k items)
   one_less zero [] = refl
   one_less zero (item.Line other text ∷ items) = omega arith
+  one_less zero (item.Complete other text cursor ∷ items) = omega arith
   one_less (suc k) [] = refl
   one_less (suc k) (i ∷ items) = one_less k items
 
@@ -226,6 +228,15 @@ module _ (id : ℕ) where
           fewer w (after w (command.Eval other)) (omega (arith, more, none))
           (λ quiet. subst (λ (os : List Op). (field_of (os ++ op.Clear other ∷ []) id).answer ≡ None) (sym ops) (still_none w.ops (op.Clear other) id tt quiet)) h
 
+  -- no line more, and the same ops
+  completed : (w : World) (other cursor : ℕ) → Sound w → IsQuiet id w → IsQuiet id (after w (command.Complete other cursor))
+  completed w other cursor s h =
+      let name = session_of_field w other in
+      let i = request_of_field w other cursor in
+      let more = line_more w name i (life_of w name) refl s in
+      let ops = item_ops w name i (life_of w name) in
+      fewer w (after w (command.Complete other cursor)) (omega (arith, more)) (λ quiet. subst (λ (os : List Op). (field_of os id).answer ≡ None) (sym ops) quiet) h
+
   accepted_so : (w : World) (c : Command) → Sound w → first_of (command_refusals w c) ≡ None → IsQuiet id w → IsQuiet id (after w c)
   accepted_so w (command.Session name tab words) s first h = with_one w (op.Session name tab words) tt h
   accepted_so w (command.New place session input) s first h = with_one w (op.New place session input) tt h
@@ -234,6 +245,7 @@ module _ (id : ℕ) where
   accepted_so w (command.Move other place) s first h = with_one w (op.Move other place) tt h
   accepted_so w (command.Clear other) s first h = with_one w (op.Clear other) tt h
   accepted_so w (command.Eval other) s first h = evaluated w other s first h
+  accepted_so w (command.Complete other cursor) s first h = completed w other cursor s h
   accepted_so w (command.Stop name) s first h = stopped w name h
 
   commanded_so : (w : World) (c : Command) (o : Outcome) (v : World) (r : Option Refusal) → first_of (command_refusals w c) ≡ r → Sound w → Commanded w c r o v → IsQuiet id w → IsQuiet id v
@@ -270,6 +282,7 @@ module _ (id : ℕ) where
       go false e le =
           fewer w (with_op (op.Answer other prompt out) u) (omega (arith, le))
           (λ none. subst (λ (os : List Op). (field_of (os ++ op.Answer other prompt out ∷ []) id).answer ≡ None) (sym ops) (still_none w.ops (op.Answer other prompt out) id e none)) h
+  answered_so w u (Some (answered.Complete other result)) ops le h = fewer w u (omega (arith, le)) (λ none. subst (λ (os : List Op). (field_of os id).answer ≡ None) (sym ops) none) h
 
   pieced_so : (w : World) (x : Option Going) (piece : List ℕ) (o : Outcome) (v : World) → Sound w → ((l : Going) → x ≡ Some l → life_of w l.name ≡ Some l) → Pieced w x piece o v → IsQuiet id w → IsQuiet id v
   pieced_so w None piece o v s own done h = same w v done.1 h
@@ -340,6 +353,7 @@ module _ (os : List Op) (allowed : Allowed os) where
         (line.field, line.found, ap (λ (f : Field). f.session) (sym is) ∙ own.0.1, line.input, ap (λ (f : Field). f.answer) (sym is) ∙ quiet id (omega (arith, here))),
         items_wait name items (λ other lt. quiet other (omega (arith, lt))) has.1 own.1,
       )
+  items_wait name (item.Complete id text cursor ∷ items) quiet has own = (tt, items_wait name items (λ other lt. quiet other (omega (arith, lt))) has.1 own.1)
 
   lives_wait : (ls : List Going) → ((id : ℕ) → 0 < total (lines_of id) ls → (field_of os id).answer ≡ None) → AllByRecursion (SoundLife os) ls → AllByRecursion (OwnsItems os) ls
       → AllByRecursion (λ l. AllByRecursion (WaitsForField (sheet_of os) l.name) (waiting_in l)) ls

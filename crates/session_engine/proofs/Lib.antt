@@ -5,6 +5,7 @@ pub mod PieceLaws
 pub mod Changing
 pub mod Stopping
 pub mod Asking
+pub mod Completing
 pub mod Playing
 pub mod ByParts
 pub mod ApartLives

@@ -1,35 +1,26 @@
 -- What holds wherever a history leads.
-use Rattle.std.proofs.Common.{◌≡◌, ◌⊎◌, inl, inr, ⊎_elim, ◌+◌, ℕ, zero, suc, List, [], ◌∷◌, ◌++◌, length, drop, refl, ap, sym, ◌∙◌, subst, arith, append-nil, Bool, true, false, Option, Some, None}
-use Rattle.std.specs.Prelude.{if◌then◌else◌, ◌==◌, ◌||◌, not, is_some, slice_get, option_to_list, option_map, option_and_then}
+use Rattle.std.proofs.Common.{◌≡◌, ℕ, List, [], ◌∷◌, ◌++◌, refl, sym, subst, arith, Bool, true, false, Option, Some, None}
+use Rattle.std.specs.Prelude.{if◌then◌else◌, ◌==◌, ◌||◌}
 use Rattle.std.specs.List.{AllByRecursion, list_any}
 use Rattle.std.specs.Str.{bytes_eq}
 use Rattle.std.proofs.lemmas.Bool.Decides.{nat_tests}
-use Rattle.block_tree.specs.Tree.{Tree}
-use Rattle.meta_format.specs.Limits.{limits}
-use Rattle.meta_format.specs.Stream.{Outer, Chain, Stream}
-use Rattle.meta_format.specs.Faults.{Kind}
+use Rattle.meta_format.specs.Stream.{Outer}
 use Rattle.worksheet.specs.declared.op.Op.{Op}
 use Rattle.worksheet.specs.declared.op.Op.TheVariants as op
-use Rattle.worksheet.specs.declared.refusal.Refusal.{Refusal}
-use Rattle.worksheet.specs.declared.refusal.Refusal.TheVariants as refusal
-use Rattle.worksheet.specs.declared.field.Field.{Field}
-use Rattle.worksheet.specs.declared.field.Answer.{Answer}
 use Rattle.worksheet.specs.Ops.{sheet_of}
-use Rattle.worksheet.specs.Checks.{Allowed, has_field, field_in, first_of, first_refusal}
-use Rattle.worksheet.proofs.Finds.{none_applies, true_from_not}
+use Rattle.worksheet.specs.Checks.{Allowed, first_of, first_refusal}
+use Rattle.worksheet.proofs.Finds.{none_applies}
 use Rattle.worksheet.proofs.Existence.{allowed_goes_on}
 use Rattle.plugin_core.specs.declared.item.Item.{Item}
 use Rattle.plugin_core.specs.declared.item.Item.TheVariants as item
-use Rattle.plugin_core.specs.Past.{accepted, received, stream_of, items_of}
-use Rattle.plugin_core.specs.Past.{Event as LifeEvent}
-use Rattle.plugin_core.specs.Answers.{answers_of}
-use Rattle.plugin_core.specs.Items.{unanswered, waiting_of, is_line_of}
+use Rattle.plugin_core.specs.Past.{received, stream_of}
+use Rattle.plugin_core.specs.Items.{is_line_of}
 use Rattle.plugin_core.specs.Steps.{Reads}
 use Rattle.plugin_core.proofs.Pasts.{stream_of-accepted}
 use Rattle.plugin_core.proofs.OneMore.{waiting_of-accepted}
 use Rattle.plugin_core.proofs.ByAskPoints.{reads_lie}
-use Rattle.session_engine.specs.Named.{first_named, without_named, replace_named}
-use Rattle.session_engine.specs.World.{World, Going, sheet_in, waiting_in, waits_in, in_flight, life_of, with_op}
+use Rattle.session_engine.specs.Named.{without_named, replace_named}
+use Rattle.session_engine.specs.World.{World, Going, sheet_in, waiting_in, waits_in, life_of, with_op}
 use Rattle.session_engine.specs.inside.Parts.{with_life, without_life, with_item, checks}
 use Rattle.session_engine.specs.Does.{with_piece, joined_by, begun_with}
 use Rattle.session_engine.proofs.Fields.{waiting_still}
@@ -40,6 +31,7 @@ use Rattle.session_engine.proofs.FieldLaws.{HasInput, KeepsInput, input_stays}
 -- a line is the input of a field that there is
 abbrev pub HasLine : List Op → Item → Type 0
 HasLine os (item.Line id text) = HasInput os id text
+HasLine os (item.Complete id text cursor) = Unit {0}
 
 -- a life that goes on: its blocks are those of its stream, and each line that waits is its field's input
 pub record SoundLife (os : List Op) (l : Going) : Type 0 where
@@ -108,10 +100,12 @@ pieced os l piece blocks h reads =
 
 abbrev pub KeepsLine : Op → Item → Type 0
 KeepsLine o (item.Line id text) = KeepsInput id o
+KeepsLine o (item.Complete id text cursor) = Unit {0}
 
 line_stays : (os : List Op) (o : Op) → Allowed os → first_refusal (sheet_of os) o ≡ None → (items : List Item) → AllByRecursion (KeepsLine o) items → AllByRecursion (HasLine os) items → AllByRecursion (HasLine (os ++ o ∷ [])) items
 line_stays os o allowed next [] keeps all = tt
 line_stays os o allowed next (item.Line id text ∷ items) keeps all = (input_stays os o id text allowed next keeps.0 all.0, line_stays os o allowed next items keeps.1 all.1)
+line_stays os o allowed next (item.Complete id text cursor ∷ items) keeps all = (tt, line_stays os o allowed next items keeps.1 all.1)
 
 lives_stay : (os : List Op) (o : Op) → Allowed os → first_refusal (sheet_of os) o ≡ None → (ls : List Going) → AllByRecursion (λ l. AllByRecursion (KeepsLine o) (waiting_in l)) ls → AllByRecursion (SoundLife os) ls
     → AllByRecursion (SoundLife (os ++ o ∷ [])) ls
@@ -128,6 +122,7 @@ committed o w h next keeps = record { allowed = allowed_goes_on w.ops o h.allowe
 every_item : (o : Op) → ((id : ℕ) → KeepsInput id o) → (items : List Item) → AllByRecursion (KeepsLine o) items
 every_item o all [] = tt
 every_item o all (item.Line id text ∷ items) = (all id, every_item o all items)
+every_item o all (item.Complete id text cursor ∷ items) = (tt, every_item o all items)
 
 every_life : (o : Op) → ((id : ℕ) → KeepsInput id o) → (ls : List Going) → AllByRecursion (λ l. AllByRecursion (KeepsLine o) (waiting_in l)) ls
 every_life o all [] = tt
@@ -145,6 +140,7 @@ other_items id o all (item.Line other text ∷ items) h = go (other == id) refl 
         → AllByRecursion (KeepsLine o) (item.Line other text ∷ items)
     go true e h rest = cc
     go false e h rest = (all other (grind (arith, nat_tests, e)), rest h)
+other_items id o all (item.Complete other text cursor ∷ items) h = (tt, other_items id o all items h)
 
 other_lives : (id : ℕ) (o : Op) → ((other : ℕ) → (id == other) ≡ false → KeepsInput other o) → (ls : List Going) → waits_in ls id ≡ false → AllByRecursion (λ l. AllByRecursion (KeepsLine o) (waiting_in l)) ls
 other_lives id o all [] h = tt

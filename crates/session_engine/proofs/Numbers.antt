@@ -4,6 +4,8 @@ use Rattle.std.specs.Prelude.{if◌then◌else◌, ◌==◌, ◌&&◌, option_ma
 use Rattle.std.specs.Str.{bytes_eq}
 use Rattle.std.proofs.lemmas.Bool.Decides.{nat_tests}
 use Rattle.worksheet.specs.declared.op.Op.{Op}
+use Rattle.worksheet.specs.declared.op.Op.TheVariants as op
+use Rattle.plugin_core.specs.declared.item.Item.{Item}
 use Rattle.worksheet.specs.declared.refusal.Refusal.{Refusal}
 use Rattle.worksheet.specs.Checks.{first_of}
 use Rattle.plugin_core.specs.declared.step.Ended.{Ended}
@@ -24,9 +26,9 @@ use Rattle.session_engine.specs.declared.reply.Closed.{Closed}
 use Rattle.session_engine.specs.declared.reply.Reply.{Reply}
 use Rattle.session_engine.specs.declared.reply.Reply.TheVariants as reply
 use Rattle.session_engine.specs.Named.{first_named, without_named, replace_named}
-use Rattle.session_engine.specs.World.{World, Going, world_at_opening, life_of, line_of_field, session_of_field, with_number, with_op_if}
+use Rattle.session_engine.specs.World.{World, Going, world_at_opening, life_of, line_of_field, session_of_field, with_number, with_op_if, request_of_field}
 use Rattle.session_engine.specs.Refused.{command_refusals}
-use Rattle.session_engine.specs.Does.{Does, MayDo, ChildDoes, CommandDoes, Gives, Runs, behind, begun_with, closed_told, does, ends_life, evaluates, joined_by, sends_or_kills, steps, tells, told_of, told_with, with_piece}
+use Rattle.session_engine.specs.Does.{Does, MayDo, ChildDoes, CommandDoes, Gives, Runs, behind, begun_with, closed_told, does, ends_life, asks_item, joined_by, sends_or_kills, steps, tells, told_of, told_with, with_piece}
 use Rattle.session_engine.specs.Apart.{named}
 use Rattle.session_engine.specs.Laws.{AreNumbered, NumbersAreGivenOnce, NothingOfAnEndedLife, all_started, lives_numbered, numbers_to, started_by}
 use Rattle.session_engine.proofs.Tables.{first_has_name}
@@ -86,9 +88,9 @@ module _ (w : World) where
       go None is = Becomes.one_changes l (with_piece l piece blocks) own refl refl (rw is refl) refl none
       go (Some e) is = Becomes.one_ends l own (rw is refl) refl none
 
-  evaluates_so : (id : ℕ) (name : List ℕ) (o : Option Going) → life_of w name ≡ o → Becomes w (evaluates w id name o)
-  evaluates_so id name None h = Becomes.one_begins (begun_with w name (line_of_field w id)) h refl refl refl refl
-  evaluates_so id name (Some l) h = Becomes.one_changes l (joined_by l (line_of_field w id)) (its_own w name l h) refl refl refl refl (go (sent_by l.past l.blocks (accepted (line_of_field w id)) l.blocks))
+  asks_so : (i : Item) (given : Option Op) (name : List ℕ) (o : Option Going) → life_of w name ≡ o → Becomes w (asks_item w i given name o)
+  asks_so i given name None h = Becomes.one_begins (begun_with w name i) h refl refl refl refl
+  asks_so i given name (Some l) h = Becomes.one_changes l (joined_by l i) (its_own w name l h) refl refl refl refl (go (sent_by l.past l.blocks (accepted i) l.blocks))
     where
       go : (bytes : Option (List ℕ)) → started_by (option_map (λ bs. effect.Send name l.number bs) bytes) ≡ []
       go None = refl
@@ -101,7 +103,8 @@ module _ (w : World) where
   does_so (command.Remove id) = Becomes.all_stay refl refl refl
   does_so (command.Move id after) = Becomes.all_stay refl refl refl
   does_so (command.Clear id) = Becomes.all_stay refl refl refl
-  does_so (command.Eval id) = evaluates_so id (session_of_field w id) (life_of w (session_of_field w id)) refl
+  does_so (command.Eval id) = asks_so (line_of_field w id) (Some (op.Clear id)) (session_of_field w id) (life_of w (session_of_field w id)) refl
+  does_so (command.Complete id cursor) = asks_so (request_of_field w id cursor) None (session_of_field w id) (life_of w (session_of_field w id)) refl
   does_so (command.Stop name) = ends_so reason.Stopped true (life_of w name) reply.Done (λ l h. its_own w name l h)
 
   command_so : (c : Command) (r : Option Refusal) (d : Does) → CommandDoes w c r d → Becomes w d

@@ -6,6 +6,7 @@ use Rattle.meta_format.specs.Faults.{Kind}
 use Rattle.meta_format.proofs.Feeds.{roomy}
 use Rattle.meta_format.proofs.FaultOrNone.{fault_or_none}
 use Rattle.meta_format.proofs.EveryStream.{a_reading}
+use Rattle.worksheet.specs.declared.op.Op.TheVariants as op
 use Rattle.worksheet.specs.declared.refusal.Refusal.{Refusal}
 use Rattle.worksheet.specs.Checks.{first_of}
 use Rattle.plugin_core.specs.Laws.{OneReading}
@@ -20,9 +21,9 @@ use Rattle.session_engine.specs.declared.event.Event.TheVariants as event
 use Rattle.session_engine.specs.declared.outcome.Outcome.{Outcome}
 use Rattle.session_engine.specs.declared.reply.Reply.TheVariants as reply
 use Rattle.plugin_core.specs.declared.step.Reason.TheVariants as reason
-use Rattle.session_engine.specs.World.{World, Going, life_of, session_of_field, with_number}
+use Rattle.session_engine.specs.World.{World, Going, life_of, session_of_field, with_number, line_of_field, request_of_field}
 use Rattle.session_engine.specs.Refused.{command_refusals, command_takes_memory}
-use Rattle.session_engine.specs.Does.{Does, MayDo, ChildDoes, CommandDoes, Gives, Runs, behind, does, ends_life, evaluates, steps, tells}
+use Rattle.session_engine.specs.Does.{Does, MayDo, ChildDoes, CommandDoes, Gives, Runs, behind, does, ends_life, asks_item, steps, tells}
 use Rattle.session_engine.specs.Apart.{is_refusal}
 use Rattle.session_engine.specs.Laws.{EachEventHasAnOutcome, AnEventDoesOneThing, OutcomesLeadToOneWorld, lacks_memory, may_want}
 
@@ -103,7 +104,12 @@ module _ (one : OneReading) (w : World) where
   accepts (command.Clear id) = refl
   accepts (command.Eval id) = go (life_of w (session_of_field w id))
     where
-      go : (l : Option Going) → is_refusal (evaluates w id (session_of_field w id) l).told.reply ≡ false
+      go : (l : Option Going) → is_refusal (asks_item w (line_of_field w id) (Some (op.Clear id)) (session_of_field w id) l).told.reply ≡ false
+      go None = refl
+      go (Some l) = refl
+  accepts (command.Complete id cursor) = go (life_of w (session_of_field w id))
+    where
+      go : (l : Option Going) → is_refusal (asks_item w (request_of_field w id cursor) None (session_of_field w id) l).told.reply ≡ false
       go None = refl
       go (Some l) = refl
   accepts (command.Stop name) = go (life_of w name)

@@ -1,22 +1,20 @@
 -- What a piece gives, against the definitions.
-use Rattle.std.proofs.Common.{◌≡◌, ◌⊎◌, inl, inr, ⊎_elim, ◌+◌, ℕ, List, [], ◌∷◌, ◌++◌, length, refl, ap, sym, ◌∙◌, subst, arith, Bool, true, false, Option, Some, None}
+use Rattle.std.proofs.Common.{◌≡◌, ℕ, List, [], ◌∷◌, ◌++◌, refl, ap, sym, ◌∙◌, subst, arith, true, false, Option, Some, None}
 use Rattle.std.specs.Prelude.{if◌then◌else◌, ◌==◌, is_some, option_map}
-use Rattle.std.specs.Bool.{IsTrue}
 use Rattle.std.specs.Str.{bytes_eq}
 use Rattle.std.proofs.lemmas.Slice.Eq.{bytes_eq-Decides}
 use Rattle.std.proofs.lemmas.Bool.Decides.{nat_tests}
-use Rattle.disk_model.specs.Disk.{DiskView, Image, SameDisk, LeavesOnly, InModel}
-use Rattle.disk_model.specs.inside.Moments.{weakens}
+use Rattle.disk_model.specs.Disk.{SameDisk, LeavesOnly, InModel}
 use Rattle.worksheet.specs.declared.op.Op.{Op}
 use Rattle.worksheet.specs.Ops.{sheet_of}
 use Rattle.meta_format.specs.Faults.{Kind}
-use Rattle.recovery.specs.Sheets.{StoreView, SameStore, IsSheetImage}
+use Rattle.recovery.specs.Sheets.{StoreView}
 use Rattle.plugin_core.specs.declared.step.Step.{Step}
 use Rattle.plugin_core.specs.declared.step.Ended.{Ended}
 use Rattle.plugin_core.specs.declared.step.Answered.{Answered}
 use Rattle.plugin_core.specs.declared.step.Answered.TheVariants as answered
 use Rattle.plugin_core.specs.Past.{received}
-use Rattle.plugin_core.specs.Steps.{step_of, ended_by}
+use Rattle.plugin_core.specs.Steps.{ended_by}
 use Rattle.plugin_core.specs.Steps.{closed_by as closed_in}
 use Rattle.plugin_core.specs.Kept.{InterpreterView, Takes, GoesOn}
 use Rattle.plugin_core.specs.Laws.{ShortPrompts}
@@ -27,17 +25,17 @@ use Rattle.session_engine.specs.declared.outcome.HostFault.TheVariants as faults
 use Rattle.session_engine.specs.declared.event.Event.TheVariants as event
 use Rattle.session_engine.specs.Does.{Does, MayDo, ChildDoes, behind, lives_behind, steps}
 use Rattle.session_engine.specs.Host.{OnDisk}
-use Rattle.session_engine.specs.Faults.{CauseOf, MayGive, is_piece}
+use Rattle.session_engine.specs.Faults.{CauseOf, is_piece}
 use Rattle.session_engine.specs.declared.event.ChildEvent.TheVariants as child
 use Rattle.session_engine.specs.Named.{without_named, replace_named}
-use Rattle.session_engine.specs.Host.{name_of, life_in}
+use Rattle.session_engine.specs.Host.{name_of}
 use Rattle.session_engine.specs.inside.Tables.{with_life as running_with}
-use Rattle.session_engine.specs.World.{World, Going, life_of, with_number, with_op_if, sheet_in, fits, fits_in}
-use Rattle.session_engine.specs.Does.{with_piece, op_by, closed_told, told_with, told_of}
+use Rattle.session_engine.specs.World.{World, Going, life_of, with_number, with_op_if, sheet_in, fits}
+use Rattle.session_engine.specs.Does.{with_piece, op_by, closed_told, told_with}
 use Rattle.session_engine.specs.inside.Parts.{goes_on}
-use Rattle.session_engine.specs.Host.{RunsAs, Lives, HasField, HaveFields, EngineStandsFor}
+use Rattle.session_engine.specs.Host.{HasField, HaveFields, EngineStandsFor}
 use Rattle.session_engine.specs.inside.Commits.{AllowedIf, CommittedIf, IsEitherIf, NotKept}
-use Rattle.session_engine.proofs.Tables.{Found, found, without_replaced}
+use Rattle.session_engine.proofs.Tables.{Found, without_replaced}
 use Rattle.session_engine.proofs.Fields.{waiting_still, allowed_step, spared}
 use Rattle.session_engine.proofs.Standing.{all_at, put, gone, committed, fit_in}
 
@@ -110,6 +108,7 @@ module _ (store : StoreView) (rs : List Running) (begun : ℕ) (w : World) (name
       go : (a : Option Answered) → CommittedIf store w.ops (op_by a) new → AllowedIf (sheet_in w) (op_by a) → EngineStandsFor new (settled step.ended) begun (with_op_if (op_by a) (goes_on (with_piece f.life piece takes.after) step.ended w))
       go None done allowed = subst (λ (s : StoreView). EngineStandsFor s (settled step.ended) begun (goes_on (with_piece f.life piece takes.after) step.ended w)) (sym done) lives_stand
       go (Some (answered.Banner b)) done allowed = subst (λ (s : StoreView). EngineStandsFor s (settled step.ended) begun (goes_on (with_piece f.life piece takes.after) step.ended w)) (sym done) lives_stand
+      go (Some (answered.Complete id result)) done allowed = subst (λ (s : StoreView). EngineStandsFor s (settled step.ended) begun (goes_on (with_piece f.life piece takes.after) step.ended w)) (sym done) lives_stand
       go (Some (answered.Line id prompt out)) done allowed =
           let v = goes_on (with_piece f.life piece takes.after) step.ended w in
           let os = ops_of (with_piece f.life piece takes.after) step.ended w in

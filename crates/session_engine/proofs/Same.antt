@@ -1,8 +1,6 @@
 -- Worlds with one worksheet go on alike.
-use Rattle.std.proofs.Common.{◌≡◌, ◌⊎◌, inl, inr, ⊎_elim, ◌+◌, ℕ, List, [], ◌∷◌, ◌++◌, length, refl, ap, sym, ◌∙◌, subst, Bool, true, false, Option, Some, None}
+use Rattle.std.proofs.Common.{◌≡◌, inl, inr, ⊎_elim, ◌+◌, ℕ, List, [], ◌∷◌, ◌++◌, refl, ap, sym, ◌∙◌, subst, Bool, true, false, Option, Some, None}
 use Rattle.std.specs.Prelude.{not}
-use Rattle.meta_format.specs.Faults.{Kind}
-use Rattle.meta_format.specs.Stream.{Outer}
 use Rattle.worksheet.specs.declared.op.Op.{Op}
 use Rattle.worksheet.specs.declared.op.Op.TheVariants as op
 use Rattle.worksheet.specs.declared.refusal.Refusal.{Refusal}
@@ -15,30 +13,25 @@ use Rattle.worksheet.proofs.Existence.{allowed_goes_on}
 use Rattle.worksheet.proofs.NextLaws.{same_next}
 use Rattle.plugin_core.specs.declared.item.Item.{Item}
 use Rattle.plugin_core.specs.declared.item.Item.TheVariants as item
-use Rattle.plugin_core.specs.declared.step.Answered.{Answered}
-use Rattle.plugin_core.specs.declared.step.Answered.TheVariants as answered
 use Rattle.plugin_core.specs.declared.step.Ended.{Ended}
 use Rattle.plugin_core.specs.declared.step.Reason.{Reason}
 use Rattle.plugin_core.specs.declared.step.Reason.TheVariants as reason
 use Rattle.plugin_core.specs.Steps.{step_of}
 use Rattle.session_engine.specs.declared.command.Command.{Command}
 use Rattle.session_engine.specs.declared.command.Command.TheVariants as command
-use Rattle.session_engine.specs.declared.event.ChildEvent.{ChildEvent}
 use Rattle.session_engine.specs.declared.event.ChildEvent.TheVariants as child
 use Rattle.session_engine.specs.declared.event.Event.{Event}
 use Rattle.session_engine.specs.declared.event.Event.TheVariants as event
 use Rattle.session_engine.specs.declared.outcome.Effect.TheVariants as effect
 use Rattle.session_engine.specs.declared.outcome.Outcome.{Outcome}
-use Rattle.session_engine.specs.declared.reply.Reply.{Reply}
 use Rattle.session_engine.specs.declared.reply.Reply.TheVariants as reply
 use Rattle.session_engine.specs.Commands.{op_of}
 use Rattle.session_engine.specs.inside.Commits.{AllowedIf}
-use Rattle.session_engine.specs.World.{World, Going, sheet_in, waiting_in, life_of, session_of_field, input_of, line_of_field, by_field, in_flight, with_number, with_op, with_op_if}
-use Rattle.session_engine.specs.inside.Parts.{with_life, without_life, with_item, goes_on, second, checks, op_refusals, queue_refusals, eval_refusals, asks}
-use Rattle.session_engine.specs.Does.{op_by, with_piece, starting_words, replies, refused, Runs}
-use Rattle.session_engine.specs.Refused.{full, command_refusals}
-use Rattle.session_engine.specs.Commands.{reply_to}
-use Rattle.session_engine.specs.inside.Given.{outcome_of, after, Commanded, Ignored, Ended_by, IsPieced, Pieced, Childed, GivesByParts}
+use Rattle.session_engine.specs.World.{World, Going, sheet_in, life_of, session_of_field, line_of_field, by_field, in_flight, with_number, with_op, with_op_if, request_of_field}
+use Rattle.session_engine.specs.inside.Parts.{with_item, goes_on, second, checks, op_refusals, queue_refusals, asks}
+use Rattle.session_engine.specs.Does.{op_by, with_piece, starting_words, replies, Runs}
+use Rattle.session_engine.specs.Refused.{full, command_refusals, takes_tab, is_cursor}
+use Rattle.session_engine.specs.inside.Given.{outcome_of, after, Commanded, Ended_by, Pieced, GivesByParts}
 use Rattle.session_engine.proofs.ByParts.{by_parts, by_rows, op_after}
 use Rattle.session_engine.proofs.Changing.{as_op, allowed_by}
 use Rattle.session_engine.proofs.Living.{Sound, the_life}
@@ -74,6 +67,9 @@ module _ (w : World) (b : List Op) (same : sheet_of w.ops ≡ sheet_of b) where
   line_same : (id : ℕ) → line_of_field w id ≡ line_of_field (by_ops b w) id
   line_same id = ap (λ (s : Contents). item.Line id (by_field (field_in s.fields id) [] (λ f. f.input))) same
 
+  request_same : (id cursor : ℕ) → request_of_field w id cursor ≡ request_of_field (by_ops b w) id cursor
+  request_same id cursor = ap (λ (s : Contents). item.Complete id (by_field (field_in s.fields id) [] (λ f. f.input)) cursor) same
+
   op_refusals_same : (o : Op) → op_refusals w o ≡ op_refusals (by_ops b w) o
   op_refusals_same o = ap (λ (rs : List (Refusal × Bool)). rs ++ full w o ∷ []) (checks_same o)
 
@@ -86,6 +82,11 @@ module _ (w : World) (b : List Op) (same : sheet_of w.ops ≡ sheet_of b) where
   refusals_same (command.Clear id) = op_refusals_same (op.Clear id)
   refusals_same (command.Eval id) =
       ap (λ (s : Contents). (refusal.NoField, not (has_field s id)) ∷ (refusal.InFlight, in_flight w id) ∷ queue_refusals w (life_of w (by_field (field_in s.fields id) [] (λ f. f.session))) ++ full w (op.Clear id) ∷ []) same
+  refusals_same (command.Complete id cursor) =
+      ap (λ (s : Contents). (refusal.NoField, not (has_field s id))
+      ∷ (refusal.NoTab, not (takes_tab (session_named s.sessions (by_field (field_in s.fields id) [] (λ f. f.session)))))
+      ∷ (refusal.BadCursor, not (is_cursor (by_field (field_in s.fields id) [] (λ f. f.input)) cursor))
+      ∷ queue_refusals w (life_of w (by_field (field_in s.fields id) [] (λ f. f.session)))) same
   refusals_same (command.Stop name) = ap (λ (s : Contents). (refusal.NoSession, not (has_session s name)) ∷ []) same
 
   asks_same : (name : List ℕ) (i : Item) (l : Option Going) → asks w name i l ≡ asks (by_ops b w) name i l
@@ -103,6 +104,10 @@ module _ (w : World) (b : List Op) (same : sheet_of w.ops ≡ sheet_of b) where
       asks_same (session_of_field w id) (line_of_field w id) (life_of w (session_of_field w id))
       ∙ ap (λ (n : List ℕ). asks (by_ops b w) n (line_of_field w id) (life_of w n)) (session_same id)
       ∙ ap (λ (i : Item). asks (by_ops b w) (session_of_field (by_ops b w) id) i (life_of w (session_of_field (by_ops b w) id))) (line_same id)
+  outcome_same (command.Complete id cursor) =
+      asks_same (session_of_field w id) (request_of_field w id cursor) (life_of w (session_of_field w id))
+      ∙ ap (λ (n : List ℕ). asks (by_ops b w) n (request_of_field w id cursor) (life_of w n)) (session_same id)
+      ∙ ap (λ (i : Item). asks (by_ops b w) (session_of_field (by_ops b w) id) i (life_of w (session_of_field (by_ops b w) id))) (request_same id cursor)
   outcome_same (command.Stop name) = refl
 
 item_same : (w : World) (b : List Op) (name : List ℕ) (i : Item) (l : Option Going) → with_item (by_ops b w) name i l ≡ by_ops b (with_item w name i l)
@@ -146,6 +151,20 @@ module _ (w : World) (b : List Op) (h : Sound w) (allowed : Allowed b) (same : s
         allowed = allowed_goes_on b o allowed (subst (λ (s : Contents). first_refusal s o ≡ None) same next);
       }
 
+  by_complete : (id cursor : ℕ) → LeadsOn w b (command.Complete id cursor)
+  by_complete id cursor =
+      let name = session_of_field w id in
+      let other = session_of_field (by_ops b w) id in
+      let i = request_of_field w id cursor in
+      record {
+        ops = b;
+        is = sym (ap (λ (n : List ℕ). with_item (by_ops b w) n i (life_of w n)) (session_same w b same id)
+            ∙ ap (λ (j : Item). with_item (by_ops b w) other j (life_of w other)) (request_same w b same id cursor))
+            ∙ item_same w b name i (life_of w name);
+        same = ap (λ (os : List Op). sheet_of os) (ops_item w name i (life_of w name)) ∙ same;
+        allowed = allowed;
+      }
+
   leads_on : (c : Command) → first_of (command_refusals w c) ≡ None → LeadsOn w b c
   leads_on (command.Session name tab words) first = by_op (command.Session name tab words) (op.Session name tab words) refl first
   leads_on (command.New place session input) first = by_op (command.New place session input) (op.New place session input) refl first
@@ -154,6 +173,7 @@ module _ (w : World) (b : List Op) (h : Sound w) (allowed : Allowed b) (same : s
   leads_on (command.Move id place) first = by_op (command.Move id place) (op.Move id place) refl first
   leads_on (command.Clear id) first = by_op (command.Clear id) (op.Clear id) refl first
   leads_on (command.Eval id) first = by_eval id first
+  leads_on (command.Complete id cursor) first = by_complete id cursor
   leads_on (command.Stop name) first = record { ops = b; is = refl; same = same; allowed = allowed }
 
   nothing : (e : Event) (o : Outcome) (v : World) → v ≡ w → GivesByParts (by_ops b w) e o (by_ops b w) → Follows w b e o v

@@ -1,6 +1,6 @@
 -- What an event does to what a field shows.
-use Rattle.std.proofs.Common.{◌≡◌, ◌⊎◌, inl, inr, ⊎_elim, ◌+◌, ℕ, zero, suc, List, [], ◌∷◌, ◌++◌, length, drop, refl, ap, sym, ◌∙◌, subst, arith, append-nil, Bool, true, false, Option, Some, None}
-use Rattle.std.specs.Prelude.{if◌then◌else◌, ◌==◌, not, is_some, slice_get, option_map, option_and_then}
+use Rattle.std.proofs.Common.{◌≡◌, ◌⊎◌, inl, inr, ⊎_elim, ℕ, zero, suc, List, [], ◌∷◌, ◌++◌, length, drop, refl, ap, sym, ◌∙◌, subst, Bool, true, false, Option, Some, None}
+use Rattle.std.specs.Prelude.{if◌then◌else◌, ◌==◌, is_some, slice_get, option_map, option_and_then}
 use Rattle.std.specs.List.{AllByRecursion}
 use Rattle.block_tree.specs.Tree.{Tree}
 use Rattle.block_tree.specs.Output.{output}
@@ -11,9 +11,8 @@ use Rattle.worksheet.specs.declared.op.Op.TheVariants as op
 use Rattle.worksheet.specs.declared.refusal.Refusal.{Refusal}
 use Rattle.worksheet.specs.declared.field.Field.{Field}
 use Rattle.worksheet.specs.declared.field.Answer.{Answer}
-use Rattle.worksheet.specs.Contents.{Contents}
 use Rattle.worksheet.specs.Ops.{sheet_of}
-use Rattle.worksheet.specs.Checks.{Allowed, has_field, field_in, first_of, first_refusal}
+use Rattle.worksheet.specs.Checks.{has_field, field_in, first_of, first_refusal}
 use Rattle.worksheet.proofs.Finds.{none_applies, true_from_not}
 use Rattle.plugin_core.specs.declared.item.Item.{Item}
 use Rattle.plugin_core.specs.declared.item.Item.TheVariants as item
@@ -31,18 +30,17 @@ use Rattle.plugin_core.proofs.ByAskPoints.{reads_lie, by_events}
 use Rattle.plugin_core.proofs.Prompts.{short_prompts}
 use Rattle.session_engine.specs.declared.command.Command.{Command}
 use Rattle.session_engine.specs.declared.command.Command.TheVariants as command
-use Rattle.session_engine.specs.declared.event.ChildEvent.{ChildEvent}
 use Rattle.session_engine.specs.declared.event.ChildEvent.TheVariants as child
 use Rattle.session_engine.specs.declared.event.Event.{Event}
 use Rattle.session_engine.specs.declared.event.Event.TheVariants as event
 use Rattle.session_engine.specs.declared.outcome.Outcome.{Outcome}
 use Rattle.session_engine.specs.Commands.{op_of}
-use Rattle.session_engine.specs.Host.{HasField, HaveFields}
-use Rattle.session_engine.specs.World.{World, Going, sheet_in, waiting_in, life_of, session_of_field, line_of_field, in_flight, with_number, with_op, with_op_if}
-use Rattle.session_engine.specs.inside.Parts.{with_life, without_life, with_item, goes_on, checks, op_refusals, eval_refusals}
+use Rattle.session_engine.specs.Host.{HasField}
+use Rattle.session_engine.specs.World.{World, Going, sheet_in, waiting_in, life_of, session_of_field, line_of_field, with_number, with_op, with_op_if, request_of_field}
+use Rattle.session_engine.specs.inside.Parts.{with_life, without_life, with_item, goes_on, checks}
 use Rattle.session_engine.specs.Does.{op_by, with_piece}
 use Rattle.session_engine.specs.Refused.{full, command_refusals}
-use Rattle.session_engine.specs.inside.Given.{outcome_of, after, Commanded, Ignored, Ended_by, IsPieced, Pieced, Childed, GivesByParts}
+use Rattle.session_engine.specs.inside.Given.{after, Commanded, Ended_by, Pieced, GivesByParts}
 use Rattle.session_engine.specs.inside.Commits.{AllowedIf}
 use Rattle.session_engine.specs.Does.{Gives}
 use Rattle.session_engine.proofs.ByParts.{by_parts, op_after}
@@ -51,7 +49,7 @@ use Rattle.session_engine.proofs.Changing.{as_op, first_before, allowed_by}
 use Rattle.session_engine.proofs.Asking.{line_is}
 use Rattle.session_engine.specs.Turns.{Has, ClosesAnswer}
 use Rattle.session_engine.proofs.FieldLaws.{HasInput, AnsweredBy, by_op}
-use Rattle.session_engine.proofs.Living.{HasLine, SoundLife, Sound, KeepsLines, gone, put, the_life, asked, pieced, committed, every_line, checked}
+use Rattle.session_engine.proofs.Living.{HasLine, SoundLife, Sound, gone, put, the_life, asked, pieced, committed, every_line, checked}
 
 -- Where an event has led: what holds everywhere holds there, and a field that shows an answer did so before, or the event closed it.
 pub record Stepped (w : World) (e : Event) (v : World) : Type 0 where
@@ -112,6 +110,7 @@ module _ (os : List Op) (past : List LifeEvent) (before after : List Outer) (pie
         out_is = cc;
         waits = first_dropped (HasLine os) (length ys) (items_of past) (item.Line id text) here (subst (λ (l : List Outer). AllByRecursion (HasLine os) (unanswered l (items_of past))) e all);
       }
+  by_item a ys b (Some (item.Complete other text cursor)) e f g h = cc
 
   by_answers : (ys : List Outer) (b : Outer) → answers_of past before ≡ ys → slice_get (answers_of (past ++ received piece ∷ []) after) (length ys) ≡ Some b
       → answer_behind ys (items_of past) (prompt_of past before) b.block ≡ Some (answered.Line id prompt out) → IsClosing os past before after piece id prompt out
@@ -129,6 +128,7 @@ module _ (os : List Op) (past : List LifeEvent) (before after : List Outer) (pie
 has_fields : (os : List Op) (items : List Item) → AllByRecursion (HasLine os) items → AllByRecursion (HasField (sheet_of os)) items
 has_fields os [] all = tt
 has_fields os (item.Line id text ∷ items) all = (ap (λ (f : Option Field). is_some f) all.0.found, has_fields os items all.1)
+has_fields os (item.Complete id text cursor ∷ items) all = (tt, has_fields os items all.1)
 
 pub answer_allowed : (w : World) (l : Going) (piece : List ℕ) (after : List Outer) (fault : Option Kind) → SoundLife w.ops l → AllowedIf (sheet_in w) (op_by (step_of l.past l.blocks piece after fault).answered)
 answer_allowed w l piece after fault h = go (closed_in l.past l.blocks (received piece) after)
@@ -180,6 +180,7 @@ module _ (w : World) (name : List ℕ) (number : ℕ) (l : Going) (piece : List 
   with_answer : (u : World) → u.ops ≡ w.ops → Sound u → (x : Option Answered) → (step_of l.past l.blocks piece blocks fault).answered ≡ x → Stepped w (event.Child name number (child.Piece piece)) (with_op_if (op_by x) u)
   with_answer u e sound None a = record { sound = sound; shown = λ f answer some has. inl (subst (λ (os : List Op). Has (sheet_of os) f) e has) }
   with_answer u e sound (Some (answered.Banner b)) a = record { sound = sound; shown = λ f answer some has. inl (subst (λ (os : List Op). Has (sheet_of os) f) e has) }
+  with_answer u e sound (Some (answered.Complete id result)) a = record { sound = sound; shown = λ f answer some has. inl (subst (λ (os : List Op). Has (sheet_of os) f) e has) }
   with_answer u e sound (Some (answered.Line id prompt out)) a =
       let o : Op = op.Answer id prompt out in
       let next : first_refusal (sheet_in w) o ≡ None = subst (λ (x : Option Answered). AllowedIf (sheet_in w) (op_by x)) a (answer_allowed w l piece blocks fault life) in
@@ -209,6 +210,7 @@ no_answer (command.Remove other) o e id prompt out is = let no : Some (op.Remove
 no_answer (command.Move other place) o e id prompt out is = let no : Some (op.Move other place) ≡ Some (op.Answer id prompt out) = e ∙ ap (λ (p : Op). Some p) is in cc
 no_answer (command.Clear other) o e id prompt out is = let no : Some (op.Clear other) ≡ Some (op.Answer id prompt out) = e ∙ ap (λ (p : Op). Some p) is in cc
 no_answer (command.Eval other) o e id prompt out is = cc
+no_answer (command.Complete other cursor) o e id prompt out is = cc
 no_answer (command.Stop name) o e id prompt out is = cc
 
 as_done : (w : World) (c : Command) (o : Op) → op_of c ≡ Some o → Sound w → first_of (command_refusals w c) ≡ None → Stepped w (event.Command c) (after w c)
@@ -258,6 +260,15 @@ as_evaluated w id h first =
           (by_op w.ops f a h.allowed some o next (subst (λ (os : List Op). Has (sheet_of (os ++ o ∷ [])) f) same shows));
     }
 
+as_completed : (w : World) (id cursor : ℕ) → Sound w → Stepped w (event.Command (command.Complete id cursor)) (after w (command.Complete id cursor))
+as_completed w id cursor h =
+    let name = session_of_field w id in
+    let i = request_of_field w id cursor in
+    record {
+      sound = asked w name i (life_of w name) refl h tt;
+      shown = λ f a some shows. inl (subst (λ (os : List Op). Has (sheet_of os) f) (ops_item w name i (life_of w name)) shows);
+    }
+
 accepted : (w : World) (c : Command) → Sound w → first_of (command_refusals w c) ≡ None → Stepped w (event.Command c) (after w c)
 accepted w (command.Session name tab words) h first = as_done w (command.Session name tab words) (op.Session name tab words) refl h first
 accepted w (command.New place session input) h first = as_done w (command.New place session input) (op.New place session input) refl h first
@@ -266,6 +277,7 @@ accepted w (command.Remove id) h first = as_done w (command.Remove id) (op.Remov
 accepted w (command.Move id place) h first = as_done w (command.Move id place) (op.Move id place) refl h first
 accepted w (command.Clear id) h first = as_done w (command.Clear id) (op.Clear id) refl h first
 accepted w (command.Eval id) h first = as_evaluated w id h first
+accepted w (command.Complete id cursor) h first = as_completed w id cursor h
 accepted w (command.Stop name) h first = record { sound = gone name w h; shown = λ f a some has. inl has }
 
 -- Events of children.

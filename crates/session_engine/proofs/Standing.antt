@@ -1,5 +1,5 @@
 -- What a host stands for, after a change of its parts.
-use Rattle.std.proofs.Common.{◌≡◌, ◌≤◌, ◌+◌, ℕ, List, [], ◌∷◌, ◌++◌, length, refl, ap, sym, ◌∙◌, subst, arith, Bool, true, false, Option, Some, None}
+use Rattle.std.proofs.Common.{◌≡◌, ◌+◌, ℕ, List, [], ◌∷◌, length, refl, ap, sym, ◌∙◌, subst, arith, Bool, true, false, Option, Some, None}
 use Rattle.std.specs.Prelude.{if◌then◌else◌, ◌==◌}
 use Rattle.std.specs.List.{AllByRecursion}
 use Rattle.std.specs.Str.{bytes_eq}
@@ -11,7 +11,7 @@ use Rattle.worksheet.specs.Checks.{first_refusal}
 use Rattle.worksheet.proofs.Existence.{allowed_goes_on}
 use Rattle.recovery.specs.Code.{code_of}
 use Rattle.recovery.specs.Sheets.{StoreView, SameStore, IsSheetImage}
-use Rattle.session_engine.specs.inside.Commits.{Committed, NotCommitted, SparesLife}
+use Rattle.session_engine.specs.inside.Commits.{Committed, SparesLife}
 use Rattle.session_engine.proofs.Fields.{fields_still}
 use Rattle.session_engine.specs.declared.table.Running.{Running}
 use Rattle.session_engine.specs.Named.{first_named, without_named, replace_named}

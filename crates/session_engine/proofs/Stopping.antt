@@ -1,10 +1,10 @@
 -- What ends of lives from outside give, against the definitions.
-use Rattle.std.proofs.Common.{◌≡◌, inl, inr, ℕ, List, ap, sym, ◌∙◌, refl, subst, Bool, true, false, Option, Some, None}
+use Rattle.std.proofs.Common.{◌≡◌, inl, ℕ, List, ap, sym, refl, subst, Bool, true, false, Option, Some, None}
 use Rattle.std.specs.Prelude.{not, is_some, if◌then◌else◌}
 use Rattle.worksheet.specs.declared.field.Session.{Session}
 use Rattle.worksheet.specs.declared.refusal.Refusal.{Refusal}
 use Rattle.worksheet.specs.declared.refusal.Refusal.TheVariants as refusal
-use Rattle.worksheet.specs.Checks.{session_named, has_session, first_of}
+use Rattle.worksheet.specs.Checks.{session_named, first_of}
 use Rattle.plugin_core.specs.declared.step.Reason.{Reason}
 use Rattle.plugin_core.specs.declared.step.Reason.TheVariants as reason
 use Rattle.session_engine.specs.declared.command.Command.TheVariants as command
@@ -14,7 +14,7 @@ use Rattle.session_engine.specs.declared.event.Event.TheVariants as event
 use Rattle.session_engine.specs.declared.reply.Reply.TheVariants as reply
 use Rattle.session_engine.specs.World.{World, Going, life_of, sheet_in}
 use Rattle.session_engine.specs.Refused.{command_refusals}
-use Rattle.session_engine.specs.Does.{Does, ends_life, tells, ChildDoes, CommandDoes, MayDo}
+use Rattle.session_engine.specs.Does.{ends_life, tells, ChildDoes, CommandDoes, MayDo}
 use Rattle.session_engine.specs.inside.Parts.{end_by, without_life}
 use Rattle.session_engine.proofs.Tables.{without_none}
 

@@ -1,13 +1,12 @@
 -- Lives in the host's hands, against those of a history.
-use Rattle.std.proofs.Common.{◌≡◌, ◌<◌, ◌≤◌, ◌+◌, ℕ, zero, suc, List, [], ◌∷◌, ◌++◌, length, refl, ap, sym, ◌∙◌, subst, arith, Bool, true, false, Option, Some, None, get_or, set, remove, drop}
-use Rattle.std.specs.Prelude.{if◌then◌else◌, ◌==◌, option_map}
+use Rattle.std.proofs.Common.{◌≡◌, ◌<◌, ◌+◌, ℕ, zero, suc, List, [], ◌∷◌, ◌++◌, length, refl, ap, sym, ◌∙◌, subst, arith, Bool, true, false, Option, Some, None, get_or, set, remove, drop}
+use Rattle.std.specs.Prelude.{if◌then◌else◌, option_map}
 use Rattle.std.specs.Str.{bytes_eq}
 use Rattle.std.proofs.lemmas.Slice.Eq.{bytes_eq-Decides}
-use Rattle.std.proofs.lemmas.Bool.Decides.{nat_tests}
 use Rattle.session_engine.specs.declared.table.Running.{Running}
 use Rattle.session_engine.specs.Named.{first_named, without_named, replace_named, place_from}
 use Rattle.session_engine.specs.Host.{name_of, life_in, number_in}
-use Rattle.session_engine.specs.inside.Tables.{has_number, with_life, TakesOut}
+use Rattle.session_engine.specs.inside.Tables.{with_life, TakesOut}
 use Rattle.session_engine.specs.World.{Going}
 use Rattle.plugin_core.specs.Kept.{InterpreterView}
 use Rattle.session_engine.specs.Host.{RunsAs, Lives}

@@ -5,11 +5,8 @@ use Rattle.std.specs.List.{AllByRecursion}
 use Rattle.worksheet.specs.declared.op.Op.{Op}
 use Rattle.worksheet.specs.declared.op.Op.TheVariants as op
 use Rattle.worksheet.specs.declared.field.Field.{Field}
-use Rattle.worksheet.specs.declared.field.Session.{Session}
 use Rattle.worksheet.specs.Contents.{Contents}
-use Rattle.worksheet.specs.Ops.{field_of}
 use Rattle.worksheet.specs.Checks.{Allowed}
-use Rattle.session_engine.specs.declared.command.Command.{Command}
 use Rattle.session_engine.specs.declared.command.Command.TheVariants as command
 use Rattle.session_engine.specs.declared.event.Event.{Event}
 use Rattle.session_engine.specs.declared.event.Event.TheVariants as event
@@ -41,6 +38,7 @@ concerns name w (event.Command (command.Remove id)) = true
 concerns name w (event.Command (command.Move id place)) = true
 concerns name w (event.Command (command.Clear id)) = true
 concerns name w (event.Command (command.Eval id)) = bytes_eq (session_of_field w id) name
+concerns name w (event.Command (command.Complete id cursor)) = bytes_eq (session_of_field w id) name
 concerns name w (event.Command (command.Stop other)) = bytes_eq other name
 
 -- the number that a life of this session begins with, where none goes on
@@ -59,6 +57,7 @@ begins name w (event.Command (command.Remove id)) = []
 begins name w (event.Command (command.Move id place)) = []
 begins name w (event.Command (command.Clear id)) = []
 begins name w (event.Command (command.Eval id)) = number_if (bytes_eq (session_of_field w id) name) (life_of w name) (w.begun + 1)
+begins name w (event.Command (command.Complete id cursor)) = number_if (bytes_eq (session_of_field w id) name) (life_of w name) (w.begun + 1)
 begins name w (event.Command (command.Stop other)) = []
 
 -- the numbers of this session's lives that begin in a history

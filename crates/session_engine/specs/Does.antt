@@ -32,7 +32,7 @@ use Rattle.session_engine.specs.declared.reply.Closed.{Closed}
 use Rattle.session_engine.specs.declared.reply.Closed.TheVariants as closed
 use Rattle.session_engine.specs.declared.reply.Reply.{Reply}
 use Rattle.session_engine.specs.declared.reply.Reply.TheVariants as reply
-use Rattle.session_engine.specs.World.{World, Going, life_of, with_number, with_op_if, session_of_field, line_of_field, sheet_in, waiting_in}
+use Rattle.session_engine.specs.World.{World, Going, life_of, with_number, with_op_if, session_of_field, line_of_field, request_of_field, sheet_in, waiting_in}
 use Rattle.session_engine.specs.Refused.{command_refusals, command_takes_memory}
 
 -- What an event does: what is told, the op that it gives if any, how many lives have begun behind it, and the lives that go on.
@@ -71,12 +71,14 @@ abbrev pub closed_told : Option Answered → Option Closed
 closed_told None = None
 closed_told (Some (answered.Banner b)) = Some (closed.Banner b)
 closed_told (Some (answered.Line id prompt output)) = Some (closed.Line id)
+closed_told (Some (answered.Complete id result)) = Some (closed.Complete id result)
 
 -- the op that it gives
 abbrev pub op_by : Option Answered → Option Op
 op_by None = None
 op_by (Some (answered.Banner b)) = None
 op_by (Some (answered.Line id prompt output)) = Some (op.Answer id prompt output)
+op_by (Some (answered.Complete id result)) = None
 
 abbrev pub sends_or_kills : List ℕ → ℕ → Option (List ℕ) → Option Ended → Option Effect
 sends_or_kills name number send None = option_map (λ bytes. effect.Send name number bytes) send
@@ -138,19 +140,19 @@ abbrev pub starting_words : Option Session → List (List ℕ)
 starting_words None = []
 starting_words (Some s) = s.words
 
--- A session is asked the line of a field, whose answer is taken away. The line begins a life, or joins the one that goes on.
-abbrev pub evaluates : World → ℕ → List ℕ → Option Going → Does
-evaluates w id name None = record {
+-- A session is asked an item, which gives this op or none. The item begins a life, or joins the one that goes on.
+abbrev pub asks_item : World → Item → Option Op → List ℕ → Option Going → Does
+asks_item w i given name None = record {
   told = record { reply = reply.Asked (w.begun + 1); effect = Some (effect.Start name (w.begun + 1) (starting_words (session_named (sheet_in w).sessions name))) };
-  op = Some (op.Clear id);
+  op = given;
   begun = w.begun + 1;
-  lives = w.lives ++ begun_with w name (line_of_field w id) ∷ [];
+  lives = w.lives ++ begun_with w name i ∷ [];
 }
-evaluates w id name (Some l) = record {
-  told = record { reply = reply.Asked l.number; effect = option_map (λ bytes. effect.Send name l.number bytes) (sent_by l.past l.blocks (accepted (line_of_field w id)) l.blocks) };
-  op = Some (op.Clear id);
+asks_item w i given name (Some l) = record {
+  told = record { reply = reply.Asked l.number; effect = option_map (λ bytes. effect.Send name l.number bytes) (sent_by l.past l.blocks (accepted i) l.blocks) };
+  op = given;
   begun = w.begun;
-  lives = put_back (joined_by l (line_of_field w id)) w.lives;
+  lives = put_back (joined_by l i) w.lives;
 }
 
 -- a life ends from outside; where none goes on, only this is told
@@ -170,7 +172,10 @@ does w (command.Set id input) = changes w (op.Set id input)
 does w (command.Remove id) = changes w (op.Remove id)
 does w (command.Move id after) = changes w (op.Move id after)
 does w (command.Clear id) = changes w (op.Clear id)
-does w (command.Eval id) = evaluates w id (session_of_field w id) (life_of w (session_of_field w id))
+-- the line of the field is asked, and its answer is taken away
+does w (command.Eval id) = asks_item w (line_of_field w id) (Some (op.Clear id)) (session_of_field w id) (life_of w (session_of_field w id))
+-- its input is asked at the cursor, and the worksheet stays as it is
+does w (command.Complete id cursor) = asks_item w (request_of_field w id cursor) None (session_of_field w id) (life_of w (session_of_field w id))
 does w (command.Stop name) = ends_life w reason.Stopped true (life_of w name) reply.Done
 
 -- What an event of a child does, where this is the life with its number, if that goes on. A piece does what the stream of the

@@ -1,5 +1,5 @@
 -- Which events can have which fault, and what it leaves. (docs/HOST.md, "Faults".)
-use Rattle.std.specs.Prelude.{◌≡◌, ℕ, List, Bool, true, false, Option, Some, is_some, option_map}
+use Rattle.std.specs.Prelude.{◌≡◌, ℕ, List, Bool, true, false, Some, is_some, option_map}
 use Rattle.disk_model.specs.Disk.{DiskView, Rises}
 use Rattle.worksheet.specs.declared.op.Op.{Op}
 use Rattle.session_engine.specs.declared.event.ChildEvent.TheVariants as child

@@ -52,9 +52,10 @@ Lives (r ∷ rs) (l ∷ ls) = RunsAs r l × Lives rs ls
 Lives [] (l ∷ ls) = ⊥
 Lives (r ∷ rs) [] = ⊥
 
--- a line is that of a field that there is
+-- a line is that of a field that there is; that of a request of completions may be removed
 abbrev pub HasField : Contents → Item → Type 0
 HasField sheet (item.Line id text) = has_field sheet id ≡ true
+HasField sheet (item.Complete id text cursor) = Unit {0}
 
 -- each line that waits is that of a field that there is
 abbrev pub HaveFields : Contents → Going → Type 0

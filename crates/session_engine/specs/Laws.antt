@@ -91,9 +91,10 @@ NothingOfAnEndedLife = (ops : List Op) (room end : ℕ) (es : List Event) (os : 
 -- Fields in flight.
 
 -- A line of this session waits for a field: the worksheet has it, it is this session's, its input is the line's text, and it
--- shows no answer.
+-- shows no answer. Of a request of completions nothing is said.
 abbrev pub WaitsForField : Contents → List ℕ → Item → Type 0
 WaitsForField sheet name (item.Line id text) = (f : Field) × (field_in sheet.fields id ≡ Some f) × (f.session ≡ name) × (f.input ≡ text) × (f.answer ≡ None)
+WaitsForField sheet name (item.Complete id text cursor) = Unit {0}
 
 -- how many of these items are lines of this field
 abbrev pub lines_among : ℕ → List Item → ℕ

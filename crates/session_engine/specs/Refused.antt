@@ -1,9 +1,10 @@
 -- Which commands are refused, and why: for each command its refusals in their order, each beside whether it applies. The first
 -- that applies is answered. (docs/HOST.md, "Refusals".)
-use Rattle.std.specs.Prelude.{ℕ, ◌==◌, ◌||◌, not, Bool, true, false, List, [], ◌∷◌, length, nat_le, nat_lt, Option, Some, None}
+use Rattle.std.specs.Prelude.{ℕ, ◌==◌, ◌||◌, ◌&&◌, not, Bool, true, false, List, [], ◌∷◌, length, drop, nat_le, nat_lt, Option, Some, None}
 use Rattle.worksheet.specs.Limits.{most_sessions, most_fields, last_number}
 use Rattle.worksheet.specs.Names.{is_name}
-use Rattle.worksheet.specs.Checks.{has_session, has_field, has_place, is_input, are_words, stands_behind, numbers}
+use Rattle.worksheet.specs.Checks.{has_session, has_field, has_place, is_input, are_words, stands_behind, numbers, session_named}
+use Rattle.worksheet.specs.declared.field.Session.{Session}
 use Rattle.worksheet.specs.declared.op.Op.{Op}
 use Rattle.worksheet.specs.declared.op.Op.TheVariants as op
 use Rattle.worksheet.specs.declared.refusal.Refusal.{Refusal}
@@ -12,7 +13,7 @@ use Rattle.plugin_core.specs.Limits.{most_waiting}
 use Rattle.session_engine.specs.Limits.{most_lives}
 use Rattle.session_engine.specs.declared.command.Command.{Command}
 use Rattle.session_engine.specs.declared.command.Command.TheVariants as command
-use Rattle.session_engine.specs.World.{World, Going, sheet_in, in_flight, fits, life_of, session_of_field, waiting_in}
+use Rattle.session_engine.specs.World.{World, Going, sheet_in, in_flight, fits, life_of, session_of_field, input_of, waiting_in}
 
 abbrev pub no_session : World → List ℕ → Refusal × Bool
 no_session w name = (refusal.NoSession, not (has_session (sheet_in w) name))
@@ -51,6 +52,26 @@ many_fields w = (refusal.TooManyFields, nat_le most_fields (length (sheet_in w).
 
 abbrev pub ids_spent : World → Refusal × Bool
 ids_spent w = (refusal.IdsSpent, nat_lt last_number (sheet_in w).next)
+
+-- the interpreter of a session answers requests of completions
+abbrev pub takes_tab : Option Session → Bool
+takes_tab None = false
+takes_tab (Some s) = s.tab
+
+abbrev pub no_tab : World → List ℕ → Refusal × Bool
+no_tab w name = (refusal.NoTab, not (takes_tab (session_named (sheet_in w).sessions name)))
+
+-- what is left of a text begins inside a character: with a byte that goes on one (RFC 3629, 3)
+abbrev pub begins_inside : List ℕ → Bool
+begins_inside [] = false
+begins_inside (b ∷ bs) = nat_le 128 b && nat_lt b 192
+
+-- a place in a text, as the number of bytes before it: in front of a character, or at the end
+abbrev pub is_cursor : List ℕ → ℕ → Bool
+is_cursor text at = nat_le at (length text) && not (begins_inside (drop at text))
+
+abbrev pub bad_cursor : World → ℕ → ℕ → Refusal × Bool
+bad_cursor w id cursor = (refusal.BadCursor, not (is_cursor (input_of w id) cursor))
 
 -- so many items wait in this life that it takes no more
 abbrev pub queue_is_full : Option Going → Bool
@@ -99,6 +120,13 @@ command_refusals w (command.Eval id) =
     ∷ lives_spent w (session_of_field w id)
     ∷ full w (op.Clear id)
     ∷ []
+command_refusals w (command.Complete id cursor) =
+    no_field w id
+    ∷ no_tab w (session_of_field w id)
+    ∷ bad_cursor w id cursor
+    ∷ queue_full w (session_of_field w id)
+    ∷ lives_spent w (session_of_field w id)
+    ∷ []
 command_refusals w (command.Stop name) = no_session w name ∷ []
 
 -- Behind these stands want of memory: all commands but a Stop take memory.
@@ -110,4 +138,5 @@ command_takes_memory (command.Remove id) = true
 command_takes_memory (command.Move id after) = true
 command_takes_memory (command.Clear id) = true
 command_takes_memory (command.Eval id) = true
+command_takes_memory (command.Complete id cursor) = true
 command_takes_memory (command.Stop name) = false

@@ -75,6 +75,10 @@ input_of w id = by_field (field_in (sheet_in w).fields id) [] (λ f. f.input)
 abbrev pub line_of_field : World → ℕ → Item
 line_of_field w id = item.Line id (input_of w id)
 
+-- the item of a request of completions at a cursor: the field's input at this moment
+abbrev pub request_of_field : World → ℕ → ℕ → Item
+request_of_field w id cursor = item.Complete id (input_of w id) cursor
+
 -- the payload of an op fits behind an end of the journal, with its record's 5 bytes and the next gate
 abbrev pub fits_in : ℕ → ℕ → Op → Bool
 fits_in room end o = nat_le (length (code_of o)) max_payload && nat_le (end + 5 + length (code_of o) + 1) room

@@ -68,5 +68,6 @@ pub(crate) fn keep<D: Disk>(
             Ok(Some(_)) => Err(HostFault::OutOfMemory),
             Err(DiskFault) => Err(HostFault::Disk),
         },
+        Some(Answered::Complete { id, result }) => Ok(Some(Closed::Complete(id, result))),
     }
 }

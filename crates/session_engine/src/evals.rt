@@ -3,6 +3,7 @@ ghost use Rattle.std.specs.Prelude.{◌≡◌, ◌∷◌, [], false, true, Some,
 ghost use Rattle.disk_model.specs.Disk.{InModel, LeavesOnly, Rises, SameDisk};
 ghost use Rattle.worksheet.specs.declared.op.Op.TheVariants as op;
 ghost use Rattle.recovery.specs.Sheets.{IsEither, IsReady, SameStore};
+ghost use Rattle.plugin_core.specs.Items.{IsAskable};
 ghost use Rattle.plugin_core.specs.declared.item.Item.TheVariants as item_of;
 ghost use Rattle.session_engine.specs.inside.Tables.{Asked, CanGoBack, GoesOnAt};
 ghost use Rattle.session_engine.specs.Host.{number_in};
@@ -56,7 +57,8 @@ fn ask(
     name: Name,
     item: Item,
 ) -> Result<(u32, Option<Octets>), OutOfMemory>
-    requires { GoesOnAt lives.old.items name }
+    requires going { GoesOnAt lives.old.items name }
+    requires askable { IsAskable item }
     ensures ok { IfOk result
         (λ told. Asked name next item lives.old.items lives.new.items told.0 told.1) }
     ensures err { OnErr result (lives.new.items ≡ lives.old.items) }
@@ -98,8 +100,8 @@ impl<D: Disk> Engine<D> {
     ghost use Rattle.std.specs.Result.{result_err};
     ghost use Rattle.worksheet.specs.Checks.{first_of, has_field};
 
-    /// Whether a session takes one line more.
-    fn queue(&self, name: Name) -> Result<(), Refusal>
+    /// Whether a session takes one item more.
+    pub(crate) fn queue(&self, name: Name) -> Result<(), Refusal>
         ensures { (w : World) → StandsAt self.now w
             → result_err result ≡ first_of (queue_refusals w (life_of w name)) }
     {
@@ -144,8 +146,9 @@ impl<D: Disk> Engine<D> {
     }
 
     /// Asks an item of a session: it begins a life, or joins the one that goes on.
-    fn asked(&mut self, name: Name, item: Item) -> Result<Outcome, OutOfMemory>
-        requires { Works self.old }
+    pub(crate) fn asked(&mut self, name: Name, item: Item) -> Result<Outcome, OutOfMemory>
+        requires works { Works self.old }
+        requires askable { IsAskable item }
         ensures ok { (w : World) → StandsAt self.old w
             → lives_are_spent w.begun (life_of w name) ≡ false → HasField (sheet_in w) item
             → IfOk result (λ o. (o ≡ asks w name item (life_of w name))
@@ -226,6 +229,7 @@ impl<D: Disk> Engine<D> {
     ) -> Result<Outcome, HostFault>
         requires works { Works self.old }
         requires ready { IsReady self.old.store (op.Clear id) frame }
+        requires askable { IsAskable line }
         ensures same { SameDisk self.old.store.disk self.new.store.disk }
         ensures ok { (w : World) → StandsAt self.old w
             → lives_are_spent w.begun (life_of w name) ≡ false → HasField (sheet_in w) line

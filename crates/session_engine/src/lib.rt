@@ -5,6 +5,7 @@
 mod changes;
 pub mod command;
 mod commits;
+mod completes;
 mod ends;
 mod engine;
 mod evals;

@@ -43,6 +43,7 @@ impl<D: Disk> Engine<D> {
     {
         match command {
             Command::Eval { id } => self.eval(id),
+            Command::Complete { id, cursor } => Ok(self.complete(id, cursor)),
             Command::Stop { name } => Ok(self.stop(name)),
             other => match other.into_op() {
                 Some(op) => self.alter(op),

@@ -47,14 +47,14 @@ pub ruleset tree_steps = (Appends-trans, Appends-nil, in_frame, tree_text_out, p
 
 pub ruleset block_steps = (Appends-trans, Appends-nil, in_frame, block_text_out, piece_text, piece_block)
 
-pub next_item : (f : Item → List ℕ) (xs : List Item) (i : ℕ) (x : Item) (ys : List ℕ) (a b c : Option (List ℕ)) → i < length xs → x ≡ get_or xs i x → f x ≡ ys
+pub next_item : {A : Type 0} (f : A → List ℕ) (xs : List A) (i : ℕ) (x : A) (ys : List ℕ) (a b c : Option (List ℕ)) → i < length xs → x ≡ get_or xs i x → f x ≡ ys
     → Appends a b (flat_map f (take i xs)) → Appends b c ys → Appends a c (flat_map f (take (i + 1) xs))
 next_item f xs i x ys a b c h e is p q =
     let more : flat_map f (take (i + 1) xs) ≡ flat_map f (take i xs) ++ ys =
     ap (flat_map f) (take_more xs i x h ∙ ap (λ y. take i xs ++ y ∷ []) (sym e)) ∙ flat_map-append f (take i xs) (x ∷ []) ∙ ap (λ t. flat_map f (take i xs) ++ t) (append-nil (f x) ∙ is) in
     subst (Appends a c) (sym more) (Appends-trans a b c (flat_map f (take i xs)) ys p q)
 
-all_items : (f : Item → List ℕ) (xs ys : List Item) (i : ℕ) → length xs ≤ i → xs ≡ ys → flat_map f (take i xs) ≡ flat_map f ys
+pub all_items : {A : Type 0} (f : A → List ℕ) (xs ys : List A) (i : ℕ) → length xs ≤ i → xs ≡ ys → flat_map f (take i xs) ≡ flat_map f ys
 all_items f xs ys i h e = ap (flat_map f) (take_all i xs h ∙ e)
 
 pub tree_done : (n : Node) (xs : List Item) (i : ℕ) (a b c d : Option (List ℕ)) → length xs ≤ i → xs ≡ (out-Node n).items.items

@@ -1,5 +1,5 @@
 -- Bytes as they are printed.
-use Rattle.std.specs.Prelude.{ℕ, ◌+◌, ◌/◌, ◌%◌, Bool, true, false, List, [], ◌∷◌, cond, not, nat_lt, nat_eq, ◌||◌, ◌&&◌}
+use Rattle.std.specs.Prelude.{ℕ, ◌+◌, ◌/◌, ◌%◌, Bool, true, false, List, [], ◌∷◌, ◌++◌, cond, not, nat_lt, nat_eq, ◌||◌, ◌&&◌}
 use Rattle.std.specs.List.{flat_map}
 
 -- a hexadecimal digit, in lower case
@@ -25,3 +25,11 @@ on_line = flat_map (printed_byte false)
 -- bytes on as many lines as they have
 abbrev pub on_lines : List ℕ → List ℕ
 on_lines = flat_map (printed_byte true)
+
+-- a byte between quotes: a quote, 34, and a backslash, 92, stand behind a backslash, and every other byte as on a line
+abbrev pub byte_in_quotes : ℕ → List ℕ
+byte_in_quotes b = cond (nat_eq b 34 || nat_eq b 92) (92 ∷ b ∷ []) (printed_byte false b)
+
+-- bytes between quotes, on one line
+abbrev pub in_quotes : List ℕ → List ℕ
+in_quotes bytes = 34 ∷ (flat_map byte_in_quotes bytes ++ 34 ∷ [])

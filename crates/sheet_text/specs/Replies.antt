@@ -1,5 +1,6 @@
 -- What is told of a life, in print. (docs/SCRIPT.md, "What is written".)
-use Rattle.std.specs.Prelude.{ℕ, List, [], ◌∷◌, ◌++◌, length, Option, Some, None, codes}
+use Rattle.std.specs.Prelude.{ℕ, List, [], ◌∷◌, ◌++◌, length, Option, Some, None, Result, Ok, Err, codes}
+use Rattle.std.specs.List.{flat_map}
 use Rattle.std.specs.Fmt.{decimal}
 use Rattle.plugin_core.specs.declared.step.Reason.{Reason}
 use Rattle.plugin_core.specs.declared.step.Reason.TheVariants as reason
@@ -7,7 +8,9 @@ use Rattle.plugin_core.specs.declared.step.Ended.{Ended}
 use Rattle.session_engine.specs.declared.reply.ChildReply.{ChildReply}
 use Rattle.session_engine.specs.declared.reply.Closed.{Closed}
 use Rattle.session_engine.specs.declared.reply.Closed.TheVariants as closed
-use Rattle.sheet_text.specs.Escape.{on_line}
+use Rattle.scheme_text.specs.declared.answer.Completions.{Completions}
+use Rattle.scheme_text.specs.declared.answer.BadCompletion.{BadCompletion}
+use Rattle.sheet_text.specs.Escape.{on_line, in_quotes}
 
 -- why a life ended
 abbrev pub reason_name : Reason → List ℕ
@@ -24,11 +27,21 @@ reason_name reason.Stopped = codes "Stopped"
 abbrev pub banner_line : List ℕ → List ℕ
 banner_line name = codes "banner " ++ name ++ 10 ∷ []
 
--- the answer that closed: 'banner' and the session, or 'answered' and the field
+-- each of these texts between quotes, behind a space
+abbrev pub spaced_texts : List (List ℕ) → List ℕ
+spaced_texts texts = flat_map (λ text. 32 ∷ in_quotes text) texts
+
+-- 'completed', the field, and the root and the completions; or 'bad' where the answer tells none
+abbrev pub completed_line : ℕ → Result Completions BadCompletion → List ℕ
+completed_line id (Ok told) = codes "completed " ++ decimal id ++ spaced_texts (told.root ∷ told.rest) ++ 10 ∷ []
+completed_line id (Err bad) = codes "completed " ++ decimal id ++ codes " bad" ++ 10 ∷ []
+
+-- the answer that closed: 'banner' and the session, or 'answered' or 'completed' and the field
 abbrev pub closed_line : List ℕ → Option Closed → List ℕ
 closed_line name None = []
 closed_line name (Some (closed.Banner block)) = banner_line name
 closed_line name (Some (closed.Line id)) = codes "answered " ++ decimal id ++ 10 ∷ []
+closed_line name (Some (closed.Complete id told)) = completed_line id told
 
 -- 'default', the session, and the default input on one line
 abbrev pub default_line : List ℕ → Option (List ℕ) → List ℕ

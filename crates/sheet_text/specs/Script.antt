@@ -89,15 +89,22 @@ new_of rest = new_behind (number_written (before_space rest)) (behind_space rest
 abbrev pub set_of : List ℕ → Option Command
 set_of rest = option_map (λ id. command.Set id (text_given (behind_space rest))) (number_written (before_space rest))
 
--- AFTER
-abbrev pub move_behind : Option ℕ → Option (List ℕ) → Option Command
-move_behind None rest = None
-move_behind (Some id) None = None
-move_behind (Some id) (Some rest) = option_map (λ after. command.Move id after) (number_written rest)
+-- two numbers, the second behind the space after the first
+abbrev pub numbers_behind : Option ℕ → Option (List ℕ) → Option (ℕ × ℕ)
+numbers_behind None rest = None
+numbers_behind (Some first) None = None
+numbers_behind (Some first) (Some rest) = option_map (λ second. (first, second)) (number_written rest)
+
+abbrev pub two_numbers : List ℕ → Option (ℕ × ℕ)
+two_numbers rest = numbers_behind (number_written (before_space rest)) (behind_space rest)
 
 -- ID AFTER
 abbrev pub move_of : List ℕ → Option Command
-move_of rest = move_behind (number_written (before_space rest)) (behind_space rest)
+move_of rest = option_map (λ numbers. command.Move numbers.0 numbers.1) (two_numbers rest)
+
+-- ID CURSOR
+abbrev pub complete_of : List ℕ → Option Command
+complete_of rest = option_map (λ numbers. command.Complete numbers.0 numbers.1) (two_numbers rest)
 
 -- the command of this name, with what stands behind the space after the name
 abbrev pub command_of : List ℕ → List ℕ → Option Command
@@ -109,6 +116,7 @@ command_of name rest =
     else if bytes_eq name (codes "move") then move_of rest
     else if bytes_eq name (codes "clear") then option_map (λ id. command.Clear id) (number_written rest)
     else if bytes_eq name (codes "eval") then option_map (λ id. command.Eval id) (number_written rest)
+    else if bytes_eq name (codes "complete") then complete_of rest
     else if bytes_eq name (codes "stop") then Some (command.Stop rest)
     else None
 
@@ -142,6 +150,7 @@ keeps_bytes (command.Remove id) = false
 keeps_bytes (command.Move id after) = false
 keeps_bytes (command.Clear id) = false
 keeps_bytes (command.Eval id) = false
+keeps_bytes (command.Complete id cursor) = false
 keeps_bytes (command.Stop name) = true
 
 abbrev pub wants_memory_for : Option Command → Bool

@@ -2,7 +2,7 @@
 ghost use Rattle.std.specs.Prelude.{◌≡◌, ◌<◌, OnOk, ℕ, Option, Some};
 ghost use Rattle.std.specs.List.{flat_map, last_or};
 ghost use Rattle.std.specs.Io.KnownBytes.{Appends};
-ghost use Rattle.sheet_text.specs.Escape.{hex, on_line, on_lines, printed_byte};
+ghost use Rattle.sheet_text.specs.Escape.{byte_in_quotes, hex, in_quotes, on_line, on_lines, printed_byte};
 ghost use Rattle.sheet_text.specs.Escape as escape;
 
 use crate::WriteFault;
@@ -96,5 +96,38 @@ pub fn write_lines<W: Write>(bytes: &[u8], out: &mut W) -> Result<(), WriteFault
     ensures { OnOk result (Appends (W.contents out.old) (W.contents out.new) (on_lines bytes.now)) }
 {
     write_bytes(bytes, true, out)?;
+    Ok(())
+}
+
+/// Writes a byte as it stands between quotes.
+fn write_byte_in_quotes<W: Write>(byte: u8, out: &mut W) -> Result<(), WriteFault>
+    ensures { OnOk result
+        (Appends (W.contents out.old) (W.contents out.new) (byte_in_quotes byte)) }
+{
+    if byte == b'"' || byte == b'\\' {
+        return out.write_all(&[b'\\', byte]).map_err(|_| WriteFault);
+    }
+    write_byte(byte, false, out)
+}
+
+/// Writes bytes as they stand between quotes.
+fn write_in_quotes<W: Write>(bytes: &[u8], out: &mut W) -> Result<(), WriteFault>
+    ensures { OnOk result
+        (Appends (W.contents out.old) (W.contents out.new) (flat_map byte_in_quotes bytes.now)) }
+{
+    for byte in bytes {
+        write_byte_in_quotes(*byte, out)?;
+    }
+    Ok(())
+}
+
+/// Writes bytes between quotes like `write_line`, but a quote and a backslash behind a backslash.
+#[tactic(auto, using(crate::proofs::Appending::steps))]
+pub(crate) fn write_quoted<W: Write>(bytes: &[u8], out: &mut W) -> Result<(), WriteFault>
+    ensures { OnOk result (Appends (W.contents out.old) (W.contents out.new) (in_quotes bytes.now)) }
+{
+    out.write_all(b"\"").map_err(|_| WriteFault)?;
+    write_in_quotes(bytes, out)?;
+    out.write_all(b"\"").map_err(|_| WriteFault)?;
     Ok(())
 }

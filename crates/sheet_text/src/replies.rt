@@ -1,13 +1,15 @@
 //! Replies as they are printed.
-ghost use Rattle.std.specs.Prelude.{◌≡◌, OnOk};
+ghost use Rattle.std.specs.Prelude.{◌≡◌, ◌∷◌, OnOk};
 ghost use Rattle.std.specs.Io.KnownBytes.{Appends};
 ghost use Rattle.sheet_text.specs.Texts as printed;
 ghost use Rattle.sheet_text.specs.Replies as child;
+ghost use Rattle.sheet_text.specs.Escape.{in_quotes};
 
-use crate::escape::write_line;
+use crate::escape::{write_line, write_quoted};
 use crate::fault::WriteFault;
 use block_tree::Octets;
 use plugin_core::{Ended, Reason};
+use scheme_text::{BadCompletion, Completions};
 use session_engine::{ChildReply, Closed, Reply};
 use std::io::Write;
 use worksheet::Name;
@@ -40,6 +42,50 @@ fn write_banner<W: Write>(name: Name, out: &mut W) -> Result<(), WriteFault>
     Ok(())
 }
 
+/// Writes texts between quotes, each behind a space.
+fn write_texts<W: Write>(texts: &[Octets], out: &mut W) -> Result<(), WriteFault>
+    ensures { OnOk result
+        (Appends (W.contents out.old) (W.contents out.new) (child.spaced_texts texts.now)) }
+{
+    for text in texts {
+        write_spaced(text.as_slice(), out)?;
+    }
+    Ok(())
+}
+
+/// Writes a space, and a text between quotes.
+#[tactic(auto, using(crate::proofs::Appending::steps))]
+fn write_spaced<W: Write>(text: &[u8], out: &mut W) -> Result<(), WriteFault>
+    ensures { OnOk result
+        (Appends (W.contents out.old) (W.contents out.new) (32 ∷ in_quotes text.now)) }
+{
+    out.write_all(b" ").map_err(|_| WriteFault)?;
+    write_quoted(text, out)?;
+    Ok(())
+}
+
+/// Writes what an answer to a request of completions told.
+#[tactic(auto, using(crate::proofs::Appending::steps))]
+fn write_completed<W: Write>(
+    id: u32,
+    told: &Result<Completions, BadCompletion>,
+    out: &mut W,
+) -> Result<(), WriteFault>
+    ensures { OnOk result
+        (Appends (W.contents out.old) (W.contents out.new) (child.completed_line id told.now)) }
+{
+    write!(out, "completed {id}").map_err(|_| WriteFault)?;
+    match told {
+        Ok(told) => {
+            write_spaced(told.root.as_slice(), out)?;
+            write_texts(told.rest.as_slice(), out)?;
+        }
+        Err(_) => out.write_all(b" bad").map_err(|_| WriteFault)?,
+    }
+    out.write_all(b"\n").map_err(|_| WriteFault)?;
+    Ok(())
+}
+
 /// Writes what an answer closed.
 fn write_closed<W: Write>(
     name: Name,
@@ -53,6 +99,7 @@ fn write_closed<W: Write>(
         None => Ok(()),
         Some(Closed::Banner(_)) => write_banner(name, out),
         Some(Closed::Line(id)) => writeln!(out, "answered {id}").map_err(|_| WriteFault),
+        Some(Closed::Complete(id, told)) => write_completed(*id, told, out),
     }
 }
 
@@ -112,7 +159,7 @@ fn write_child<W: Write>(told: &ChildReply, out: &mut W) -> Result<(), WriteFaul
 
 /// Writes the lines of a reply: `ok`, `field ID`, `asked`, `refused N NAME` with the number and the
 /// name of the refusal, or what is told of a life, of which each line is written that there is:
-/// `banner NAME` or `answered ID`, `default NAME TEXT`, `ended NAME REASON lost N`. A reply that
+/// `banner NAME` or `answered ID` or `completed ID TEXTS`, `default NAME TEXT`, `ended NAME REASON lost N`. A reply that
 /// nothing came of has no line.
 ///
 /// After a `WriteFault` a part of the text may have gone out.

@@ -140,19 +140,39 @@ fn read_set(alloc: Global, rest: &[u8]) -> Result<Command, LineFault>
     Ok(Command::Set { id, input })
 }
 
+/// Two numbers, the second behind the space after the first.
+fn two_numbers(rest: &[u8]) -> Result<(u32, u32), LineFault>
+    ensures ok { IfOk result (λ numbers. said.two_numbers rest.now ≡ Some numbers) }
+    ensures bad { IsErrOf result fault.BadLine → said.two_numbers rest.now ≡ None }
+    ensures held { IsErrOf result fault.OutOfMemory → ⊥ }
+{
+    let (first, rest) = split_space(rest);
+    let first = number(first)?;
+    let Some(rest) = rest else {
+        return Err(LineFault::BadLine);
+    };
+    let second = number(rest)?;
+    Ok((first, second))
+}
+
 /// `ID AFTER`
 fn read_move(rest: &[u8]) -> Result<Command, LineFault>
     ensures ok { IfOk result (λ told. said.move_of rest.now ≡ Some told) }
     ensures bad { IsErrOf result fault.BadLine → said.move_of rest.now ≡ None }
     ensures held { IsErrOf result fault.OutOfMemory → ⊥ }
 {
-    let (id, rest) = split_space(rest);
-    let id = number(id)?;
-    let Some(rest) = rest else {
-        return Err(LineFault::BadLine);
-    };
-    let after = number(rest)?;
+    let (id, after) = two_numbers(rest)?;
     Ok(Command::Move { id, after })
+}
+
+/// `ID CURSOR`
+fn read_complete(rest: &[u8]) -> Result<Command, LineFault>
+    ensures ok { IfOk result (λ told. said.complete_of rest.now ≡ Some told) }
+    ensures bad { IsErrOf result fault.BadLine → said.complete_of rest.now ≡ None }
+    ensures held { IsErrOf result fault.OutOfMemory → ⊥ }
+{
+    let (id, cursor) = two_numbers(rest)?;
+    Ok(Command::Complete { id, cursor })
 }
 
 /// The command of this name, with what stands behind the space after the name.
@@ -176,6 +196,8 @@ fn read_command(alloc: Global, name: &[u8], rest: &[u8]) -> Result<Command, Line
         Ok(Command::Clear { id: number(rest)? })
     } else if name == b"eval".as_slice() {
         Ok(Command::Eval { id: number(rest)? })
+    } else if name == b"complete".as_slice() {
+        read_complete(rest)
     } else if name == b"stop".as_slice() {
         Ok(Command::Stop {
             name: copied(alloc, rest)?,

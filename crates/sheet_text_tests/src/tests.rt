@@ -7,6 +7,7 @@ use std::test::Fail;
 use tests_desk::exhausted;
 use worksheet::{Op, Refusal, Sheet};
 
+mod completions;
 mod hosted;
 
 fn text(alloc: Global, bytes: &[u8]) -> Result<Item, AllocError> {
@@ -266,7 +267,15 @@ fn lines_of_no_form_are_bad(rt: HostRuntime) -> Result<(), Fail> {
         "move 1 2 ",
         "clear -1",
         "eval 1 2",
-        "complete 1 1",
+        "complete",
+        "complete 1",
+        "complete 1 ",
+        "complete x 1",
+        "complete 1 x",
+        "complete 1  1",
+        "complete 1 1 ",
+        "complete 1 01",
+        "complete 1 4294967296",
         "stop",
     ] {
         assert!(rt; is_bad(alloc, line.as_bytes()), "{line}");

@@ -2,6 +2,7 @@
 use block_tree::{Block, Octets, OutOfMemory};
 use meta_format::write_block;
 use plugin_core::{Answered, Item, Life, Step};
+use scheme_text::{BadCompletion, Completions};
 use std::alloc::Global;
 use std::fmt::Write;
 use std::str;
@@ -59,6 +60,22 @@ fn spelling(alloc: Global, block: &Block) -> Result<Vec<u8>, OutOfMemory> {
     Ok(bytes)
 }
 
+// The field, and the root and the completions each in brackets, or `bad`.
+fn add_completed(
+    text: &mut String,
+    id: u32,
+    told: &Result<Completions, BadCompletion>,
+) -> Result<(), OutOfMemory> {
+    let Ok(told) = told else {
+        return writeln!(text, "completed {id} bad");
+    };
+    write!(text, "completed {id} [{}]", shown(told.root.as_slice()))?;
+    for text_of in told.rest.as_slice() {
+        write!(text, " [{}]", shown(text_of.as_slice()))?;
+    }
+    writeln!(text, "")
+}
+
 fn add_answered(alloc: Global, text: &mut String, answered: &Answered) -> Result<(), OutOfMemory> {
     match answered {
         Answered::Banner(output) => {
@@ -73,6 +90,7 @@ fn add_answered(alloc: Global, text: &mut String, answered: &Answered) -> Result
             let (prompt, output) = (shown(prompt.as_slice()), shown(output.as_slice()));
             writeln!(text, "line {id} [{prompt}] {output}")
         }
+        Answered::Complete { id, result } => add_completed(text, *id, result),
     }
 }
 

@@ -33,7 +33,7 @@ fn the_lost_lines_of_half_an_answer(rt: HostRuntime) -> Result<(), Fail> {
     for id in 1..=3u32 {
         match ended.lost.pop() {
             Some(Item::Line { id: lost, text: _ }) => assert_eq!(rt; lost, id),
-            None => return Err("a line is missing".into()),
+            _ => return Err("a line is missing".into()),
         }
     }
     assert!(rt; ended.lost.is_empty());

@@ -58,8 +58,13 @@ impl Given {
 
     /// The first life of session `a`, which gives this.
     pub fn of_a(self) -> Result<Scripted, Fail> {
+        self.of(b"a")
+    }
+
+    /// The first life of the session of this name, which gives this.
+    pub fn of(self, name: &[u8]) -> Result<Scripted, Fail> {
         let Given { alloc, receives } = self;
-        let Some(name) = Name::new(b"a") else {
+        let Some(name) = Name::new(name) else {
             return Err("a name".into());
         };
         let mut parts = Vec::new(alloc);

@@ -1,6 +1,6 @@
 -- What the store does for an event.
-use Rattle.std.specs.Prelude.{◌≡◌, ◌⊎◌, ◌+◌, ◌==◌, ℕ, List, [], ◌∷◌, ◌++◌, length, Bool, true, false, Option, Some, None, option_map}
-use Rattle.disk_model.specs.Disk.{DiskView, Image, InModel, Leaves, Rises}
+use Rattle.std.specs.Prelude.{◌≡◌, ◌⊎◌, ◌+◌, ◌==◌, ℕ, List, [], ◌∷◌, ◌++◌, length, true, false, Option, Some, None, option_map}
+use Rattle.disk_model.specs.Disk.{Image, InModel, Leaves, Rises}
 use Rattle.worksheet.specs.declared.op.Op.{Op}
 use Rattle.worksheet.specs.declared.op.Op.TheVariants as op
 use Rattle.worksheet.specs.declared.refusal.Refusal.{Refusal}
@@ -20,9 +20,10 @@ use Rattle.session_engine.specs.declared.outcome.Outcome.{Outcome}
 use Rattle.session_engine.specs.declared.reply.Reply.{Reply}
 use Rattle.session_engine.specs.declared.reply.Reply.TheVariants as reply
 use Rattle.session_engine.specs.declared.outcome.Effect.TheVariants as effect
-use Rattle.session_engine.specs.World.{World, Going, waiting_in, with_op, fits, fits_in, life_of}
+use Rattle.session_engine.specs.World.{World, Going, waiting_in, with_op, fits, fits_in, life_of, session_of_field, request_of_field}
+use Rattle.session_engine.specs.Refused.{command_refusals}
+use Rattle.session_engine.specs.declared.command.Command.TheVariants as command
 use Rattle.session_engine.specs.Does.{replies, refused}
-use Rattle.session_engine.specs.Host.{OnDisk}
 use Rattle.session_engine.specs.inside.Parts.{eval_refusals, asks, with_item}
 use Rattle.session_engine.specs.inside.Engines.{StandsAt}
 
@@ -78,6 +79,7 @@ Spares id (op.Answer other prompt output) = Unit {0}
 -- no waiting line is that of a field that the op takes away
 abbrev pub SparesItem : Op → Item → Type 0
 SparesItem o (item.Line id text) = Spares id o
+SparesItem o (item.Complete id text cursor) = Unit {0}
 
 abbrev pub SparesLife : Op → Going → Type 0
 SparesLife o l = AllByRecursion (SparesItem o) (waiting_in l)
@@ -107,3 +109,15 @@ abbrev pub Evaluated : {D : Type 0} → World → List ℕ → ℕ → Item → 
 Evaluated w name id line old new o =
     ((o ≡ asks w name line (life_of w name)) × StandsAt new (with_op (op.Clear id) (with_item w name line (life_of w name))))
     ⊎ ((o ≡ refused refusal.OutOfMemory) × StandsAt new w × (new.store.disk ≡ old.store.disk))
+
+-- What completions are asked with: the session of the field, and its input at the cursor. No refusal applies.
+pub record GivesRequest (w : World) (id cursor : ℕ) (name : List ℕ) (i : Item) : Type 0 where
+  pub none : first_of (command_refusals w (command.Complete id cursor)) ≡ None
+  pub session : name ≡ session_of_field w id
+  pub request : i ≡ request_of_field w id cursor
+
+-- why a Complete is refused
+abbrev pub RefusesComplete : World → ℕ → ℕ → Refusal → Type 0
+RefusesComplete w id cursor r =
+    (first_of (command_refusals w (command.Complete id cursor)) ≡ Some r)
+    ⊎ ((first_of (command_refusals w (command.Complete id cursor)) ≡ None) × (r ≡ refusal.OutOfMemory))

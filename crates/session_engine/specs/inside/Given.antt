@@ -1,5 +1,5 @@
 -- What events give, cut into the parts that laws are proved of.
-use Rattle.std.specs.Prelude.{◌≡◌, ◌⊎◌, ℕ, ◌+◌, List, [], ◌∷◌, ◌++◌, Bool, true, false, Option, Some, None}
+use Rattle.std.specs.Prelude.{◌≡◌, ◌⊎◌, ℕ, List, [], ◌∷◌, ◌++◌, Bool, true, false, Option, Some, None}
 use Rattle.meta_format.specs.Stream.{Outer}
 use Rattle.meta_format.specs.Faults.{Kind}
 use Rattle.worksheet.specs.declared.op.Op.TheVariants as op
@@ -18,7 +18,7 @@ use Rattle.session_engine.specs.declared.event.Event.{Event}
 use Rattle.session_engine.specs.declared.event.Event.TheVariants as event
 use Rattle.session_engine.specs.declared.outcome.Outcome.{Outcome}
 use Rattle.session_engine.specs.declared.reply.Reply.TheVariants as reply
-use Rattle.session_engine.specs.World.{World, Going, sheet_in, life_of, with_number, session_of_field, line_of_field, with_op, with_op_if}
+use Rattle.session_engine.specs.World.{World, Going, sheet_in, life_of, with_number, session_of_field, line_of_field, request_of_field, with_op, with_op_if}
 use Rattle.session_engine.specs.Refused.{command_refusals, command_takes_memory}
 use Rattle.session_engine.specs.Does.{replies, refused, ends, told_of, with_piece, op_by}
 use Rattle.session_engine.specs.inside.Parts.{asks, with_item, without_life, goes_on}
@@ -36,6 +36,7 @@ outcome_of w (command.Remove id) = replies reply.Done
 outcome_of w (command.Move id place) = replies reply.Done
 outcome_of w (command.Clear id) = replies reply.Done
 outcome_of w (command.Eval id) = asks w (session_of_field w id) (line_of_field w id) (life_of w (session_of_field w id))
+outcome_of w (command.Complete id cursor) = asks w (session_of_field w id) (request_of_field w id cursor) (life_of w (session_of_field w id))
 outcome_of w (command.Stop name) = stops (life_of w name)
 
 -- and where it leads
@@ -47,6 +48,7 @@ after w (command.Remove id) = with_op (op.Remove id) w
 after w (command.Move id place) = with_op (op.Move id place) w
 after w (command.Clear id) = with_op (op.Clear id) w
 after w (command.Eval id) = with_op (op.Clear id) (with_item w (session_of_field w id) (line_of_field w id) (life_of w (session_of_field w id)))
+after w (command.Complete id cursor) = with_item w (session_of_field w id) (request_of_field w id cursor) (life_of w (session_of_field w id))
 after w (command.Stop name) = without_life name w
 
 abbrev pub Commanded : World → Command → Option Refusal → Outcome → World → Type 0

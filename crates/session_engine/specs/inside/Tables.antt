@@ -1,14 +1,12 @@
 -- The lives that a host runs, before and behind a call on one of them.
-use Rattle.std.specs.Prelude.{◌≡◌, ◌⊎◌, ℕ, ◌==◌, List, [], ◌∷◌, ◌++◌, Bool, true, false, Option, Some, None, Result, IfOk, is_some, option_map, ◌+◌, if◌then◌else◌}
-use Rattle.std.specs.List.{list_any}
+use Rattle.std.specs.Prelude.{◌≡◌, ◌⊎◌, ℕ, ◌==◌, List, [], ◌∷◌, ◌++◌, Bool, false, Option, Some, None, Result, IfOk, ◌+◌}
 use Rattle.meta_format.specs.Stream.{Outer}
 use Rattle.plugin_core.specs.declared.step.Step.{Step}
 use Rattle.plugin_core.specs.declared.item.Item.{Item}
 use Rattle.plugin_core.specs.Past.{Event, accepted}
 use Rattle.plugin_core.specs.Kept.{LifeHasPast, Takes, Accepts}
 use Rattle.plugin_core.specs.Kept.{InterpreterView}
-use Rattle.plugin_core.specs.Items.{is_line_of}
-use Rattle.session_engine.specs.Named.{first_named, without_named, replace_named}
+use Rattle.session_engine.specs.Named.{without_named, replace_named}
 use Rattle.session_engine.specs.declared.table.Running.{Running}
 use Rattle.session_engine.specs.Host.{name_of, life_in, number_in}
 

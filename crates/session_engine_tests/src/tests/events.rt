@@ -14,6 +14,8 @@ pub const BANNER: &str = "\x02verbatim:\x05";
 pub enum Step<'a> {
     /// Session `a` begins, plain, with this word.
     Session(&'a str),
+    /// The same with an interpreter that answers requests of completions.
+    Tab(&'a str),
     /// A field of it is made behind this one, with this input.
     New(u32, &'a str),
     Set(u32, &'a str),
@@ -21,6 +23,7 @@ pub enum Step<'a> {
     Move(u32, u32),
     Clear(u32),
     Eval(u32),
+    Complete(u32, u32),
     /// The session of this name is stopped.
     Stop(&'a str),
     /// These bytes came from the child of this life.
@@ -33,12 +36,12 @@ fn octets(alloc: Global, text: &str) -> Result<Octets, OutOfMemory> {
     Octets::from_slice(alloc, text.as_bytes())
 }
 
-fn session(alloc: Global, word: &str) -> Result<Command, OutOfMemory> {
+fn session(alloc: Global, tab: bool, word: &str) -> Result<Command, OutOfMemory> {
     let mut words = Vec::new(alloc);
     words.push(octets(alloc, word)?)?;
     Ok(Command::Session {
         name: octets(alloc, "a")?,
-        tab: false,
+        tab,
         words: Sequence::from_vec(words),
     })
 }
@@ -78,7 +81,8 @@ fn child(life: u32, event: ChildEvent) -> Result<Event, Fail> {
 
 pub fn event(alloc: Global, step: &Step<'_>) -> Result<Event, Fail> {
     match step {
-        Step::Session(word) => Ok(Event::Command(session(alloc, word)?)),
+        Step::Session(word) => Ok(Event::Command(session(alloc, false, word)?)),
+        Step::Tab(word) => Ok(Event::Command(session(alloc, true, word)?)),
         Step::New(after, input) => Ok(Event::Command(new(alloc, *after, input)?)),
         Step::Set(id, input) => Ok(Event::Command(set(alloc, *id, input)?)),
         Step::Remove(id) => Ok(Event::Command(Command::Remove { id: *id })),
@@ -88,6 +92,10 @@ pub fn event(alloc: Global, step: &Step<'_>) -> Result<Event, Fail> {
         })),
         Step::Clear(id) => Ok(Event::Command(Command::Clear { id: *id })),
         Step::Eval(id) => Ok(Event::Command(Command::Eval { id: *id })),
+        Step::Complete(id, cursor) => Ok(Event::Command(Command::Complete {
+            id: *id,
+            cursor: *cursor,
+        })),
         Step::Stop(name) => Ok(Event::Command(stop(alloc, name)?)),
         Step::Piece(life, text) => child(*life, piece(alloc, text)?),
         Step::StartRefused(life) => child(*life, ChildEvent::StartRefused),

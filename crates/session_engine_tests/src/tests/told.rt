@@ -2,6 +2,7 @@
 use block_tree::{Block, Octets, OutOfMemory};
 use disk_model::Disk;
 use meta_format::write_block;
+use scheme_text::{BadCompletion, Completions};
 use session_engine::{ChildReply, Closed, Effect, Event, Host, Outcome, PlayFault, Reply};
 use std::alloc::Global;
 use std::fmt::Write;
@@ -15,11 +16,28 @@ fn shown(bytes: &[u8]) -> &str {
     }
 }
 
+// The field, and the root and the completions, or `bad`.
+fn add_completed(
+    text: &mut String,
+    id: u32,
+    told: &Result<Completions, BadCompletion>,
+) -> Result<(), OutOfMemory> {
+    write!(text, "completed {id}")?;
+    match told {
+        Ok(told) => {
+            write!(text, " {}", shown(told.root.as_slice()))?;
+            add_words(text, told.rest.as_slice())
+        }
+        Err(_) => writeln!(text, " bad"),
+    }
+}
+
 fn add_child(text: &mut String, told: &ChildReply) -> Result<(), OutOfMemory> {
     let name = shown(told.name.as_slice());
     match &told.closed {
         Some(Closed::Banner(_)) => writeln!(text, "banner {name}")?,
         Some(Closed::Line(id)) => writeln!(text, "answered {id}")?,
+        Some(Closed::Complete(id, told)) => add_completed(text, *id, told)?,
         None => {}
     }
     if let Some(input) = &told.default_input {

@@ -1,4 +1,4 @@
-use Rattle.std.proofs.Common.{◌≡◌, ap, sym, ◌∙◌, subst, Option, Some}
+use Rattle.std.proofs.Common.{ap, sym, ◌∙◌, subst, Option, Some}
 use Rattle.disk_model.specs.Disk.{LeavesOnly}
 use Rattle.plugin_core.specs.declared.step.Answered.{Answered}
 use Rattle.session_engine.specs.Does.{op_by}

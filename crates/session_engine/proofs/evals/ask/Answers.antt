@@ -1,19 +1,18 @@
-use Rattle.std.proofs.Common.{◌≡◌, ◌++◌, ◌∷◌, [], List, inl, inr, ap, sym, ◌∙◌, refl, Option, Some, None}
+use Rattle.std.proofs.Common.{◌≡◌, ◌++◌, ◌∷◌, [], List, inl, inr, ap, sym, ◌∙◌, refl, Some}
 use Rattle.std.proofs.lemmas.Result.{IfOk-at_ok}
-use Rattle.plugin_core.specs.Kept.{Accepts, LifeHasPast}
-use Rattle.plugin_core.specs.Past.{accepted}
+use Rattle.plugin_core.specs.Kept.{Accepts}
 use Rattle.session_engine.specs.declared.table.Running.{Running}
 use Rattle.session_engine.specs.Host.{name_of, life_in}
 use Rattle.session_engine.specs.inside.Tables.{with_life}
 use Rattle.session_engine.proofs.Tables.{placed, none}
 use Rattle.session_engine.proofs.evals.ask.Goals as goal
 
-pub accept-requires : goal.accept-requires
-accept-requires c =
+pub accept-requires-clause-goes_on : goal.accept-requires-clause-goes_on
+accept-requires-clause-goes_on c =
     let rs = c.args.lives.now.items in
     let p = placed name_of c.args.name rs c.in-Some.place (sym c.place_of.ensures.found ∙ c.in-Some.is) in
     let r = c.index_mut-running.result.now in
-    c.requires r (p.found r ∙ ap (λ (q : Running). Some q) (sym c.index_mut-running.ensures.value))
+    c.requires.going r (p.found r ∙ ap (λ (q : Running). Some q) (sym c.index_mut-running.ensures.value))
 
 pub returns-in-Ok-clause-ok : goal.returns-in-Ok-clause-ok
 returns-in-Ok-clause-ok c =

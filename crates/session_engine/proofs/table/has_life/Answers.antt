@@ -1,7 +1,7 @@
-use Rattle.std.proofs.Common.{◌≡◌, ap, sym, ◌∙◌, Option, Some, None}
+use Rattle.std.proofs.Common.{ap, sym, ◌∙◌, Option, Some}
 use Rattle.std.specs.Prelude.{◌==◌}
 use Rattle.session_engine.specs.declared.table.Running.{Running}
-use Rattle.session_engine.specs.Host.{name_of, life_in}
+use Rattle.session_engine.specs.Host.{name_of}
 use Rattle.session_engine.specs.inside.Tables.{has_number}
 use Rattle.session_engine.proofs.Tables.{placed, none}
 use Rattle.session_engine.proofs.table.has_life.Goals as goal

@@ -1,4 +1,4 @@
-use Rattle.std.proofs.Common.{◌≡◌, ap, sym, ◌∙◌, Bool}
+use Rattle.std.proofs.Common.{ap, sym, ◌∙◌, Bool}
 use Rattle.std.specs.Prelude.{if◌then◌else◌}
 use Rattle.session_engine.specs.Named.{without_named}
 use Rattle.session_engine.specs.Host.{name_of}

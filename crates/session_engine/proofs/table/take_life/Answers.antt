@@ -1,4 +1,4 @@
-use Rattle.std.proofs.Common.{◌≡◌, ap, sym, ◌∙◌, refl, Option, Some, None}
+use Rattle.std.proofs.Common.{ap, sym, ◌∙◌, refl, Some}
 use Rattle.session_engine.specs.declared.table.Running.{Running}
 use Rattle.session_engine.specs.Host.{name_of}
 use Rattle.session_engine.proofs.Tables.{placed, none}

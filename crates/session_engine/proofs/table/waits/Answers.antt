@@ -1,9 +1,7 @@
-use Rattle.std.proofs.Common.{◌≡◌, ◌<◌, ◌+◌, List, length, drop, ap, sym, ◌∙◌, subst, refl, arith, true, false, Bool, ℕ}
+use Rattle.std.proofs.Common.{◌≡◌, ◌<◌, ◌+◌, List, length, drop, ap, sym, ◌∙◌, subst, arith, Bool, ℕ}
 use Rattle.std.specs.Prelude.{◌||◌}
-use Rattle.std.specs.List.{list_any}
-use Rattle.plugin_core.specs.Items.{is_line_of}
 use Rattle.session_engine.specs.declared.table.Running.{Running}
-use Rattle.session_engine.specs.World.{Going, waits_in, waiting_in}
+use Rattle.session_engine.specs.World.{Going, waits_in}
 use Rattle.session_engine.specs.Host.{RunsAs}
 use Rattle.session_engine.proofs.Tables.{at_place, no_more}
 use Rattle.session_engine.proofs.table.waits.Goals as goal

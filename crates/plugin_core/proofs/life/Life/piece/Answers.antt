@@ -11,7 +11,7 @@ use Rattle.plugin_core.proofs.life.Life.piece.Goals.{in-Ok, in-Err}
 
 pub invariant_of-self : goal.invariant_of-self
 invariant_of-self c =
-    (c.self.invariant.0, λ going. let f = c.self.invariant.1 going in (f.0 ++ c.args.piece.now, f.1 ++ outers c.in-Ok.found.items, c.in-Ok.ensures.ok f.0 f.1 f.2), c.self.invariant.2)
+    (c.self.invariant.0, λ going. let f = c.self.invariant.1 going in (f.0 ++ c.args.piece.now, f.1 ++ outers c.in-Ok.found.items, c.in-Ok.ensures.ok f.0 f.1 f.2), c.self.invariant.2, c.self.invariant.3)
 
 pub returns-else-is_err-clause-ok : goal.returns-else-is_err-clause-ok
 returns-else-is_err-clause-ok c = λ past before now.

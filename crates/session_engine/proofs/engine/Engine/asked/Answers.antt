@@ -1,16 +1,16 @@
-use Rattle.std.proofs.Common.{◌≡◌, ◌+◌, ℕ, List, ⊎_elim, ap, sym, ◌∙◌, refl, subst, Option, Some, None}
+use Rattle.std.proofs.Common.{◌+◌, ℕ, List, ⊎_elim, ap, sym, ◌∙◌, subst}
 use Rattle.recovery.specs.Sheets.{StoreView}
 use Rattle.session_engine.specs.declared.table.Running.{Running}
-use Rattle.session_engine.specs.World.{World, Going, life_of}
-use Rattle.session_engine.specs.inside.Parts.{with_item, asks}
+use Rattle.session_engine.specs.World.{life_of}
+use Rattle.session_engine.specs.inside.Parts.{with_item}
 use Rattle.session_engine.specs.Host.{EngineStandsFor}
 use Rattle.session_engine.proofs.Tables.{found}
 use Rattle.session_engine.proofs.Asking.{joins, begins, goes_back}
 use Rattle.session_engine.specs.inside.Tables.{CanGoBack}
 use Rattle.session_engine.proofs.engine.Engine.asked.Goals as goal
 
-pub ask-requires : goal.ask-requires
-ask-requires g c = λ r is. (found c.args.name c.args.self.now.lives.items c.requires.0.lives r c.requires.1.lives_are is).runs.stands.goes_on
+pub ask-requires-clause-going : goal.ask-requires-clause-going
+ask-requires-clause-going g c = λ r is. (found c.args.name c.args.self.now.lives.items c.requires.works.0.lives r c.requires.works.1.lives_are is).runs.stands.goes_on
 
 pub returns-clause-ok : goal.returns-clause-ok
 returns-clause-ok g c = λ w h left has.
@@ -32,8 +32,8 @@ returns-clause-ok g c = λ w h left has.
 
 pub returns-clause-back : goal.returns-clause-back
 returns-clause-back g c =
-    let w = c.requires.0 in
-    let h = c.requires.1 in
+    let w = c.requires.works.0 in
+    let h = c.requires.works.1 in
     let rs = c.args.self.now.lives.items in
     let begun = c.args.self.now.begun in
     let back = goes_back c.args.self.now.store rs c.ask.new.lives.items begun w c.args.name c.args.item c.in_ok-number.number c.in_ok-number.sent c.in_ok-words.words h c.in_ok-number.ensures.ok (c.in_ok-words.ensures w h) in

@@ -1,8 +1,7 @@
-use Rattle.std.proofs.Common.{◌≡◌, ◌++◌, ◌∷◌, [], List, ℕ, inl, inr, ⊎_elim, ap, sym, ◌∙◌, refl, subst, true, Option, Some, None}
+use Rattle.std.proofs.Common.{◌≡◌, inl, inr, ⊎_elim, ap, ◌∙◌, refl, subst, Option, None}
 use Rattle.worksheet.specs.declared.refusal.Refusal.{Refusal}
 use Rattle.worksheet.specs.Contents.{Contents}
 use Rattle.worksheet.specs.Checks.{first_refusal}
-use Rattle.session_engine.specs.World.{World, fits_in}
 use Rattle.session_engine.specs.Does.{refused}
 use Rattle.session_engine.specs.inside.Commits.{Commits}
 use Rattle.session_engine.proofs.Standing.{committed, unchanged, fit_in}

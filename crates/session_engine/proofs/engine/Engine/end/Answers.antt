@@ -1,8 +1,8 @@
-use Rattle.std.proofs.Common.{◌≡◌, ℕ, List, ap, sym, ◌∙◌, refl, subst, arith, Bool, true, false, Option, Some, None}
+use Rattle.std.proofs.Common.{◌≡◌, ℕ, List, sym, ◌∙◌, refl, subst, Option, Some, None}
 use Rattle.session_engine.specs.declared.table.Running.{Running}
 use Rattle.session_engine.specs.declared.reply.Reply.TheVariants as reply
-use Rattle.session_engine.specs.World.{World, Going, life_of, with_number}
-use Rattle.session_engine.specs.Does.{Does, ends, ends_life, taken_out, tells, ChildDoes}
+use Rattle.session_engine.specs.World.{Going}
+use Rattle.session_engine.specs.Does.{ends, ends_life, tells, ChildDoes}
 use Rattle.session_engine.specs.Host.{EngineStandsFor}
 use Rattle.session_engine.specs.inside.Parts.{without_life}
 use Rattle.session_engine.proofs.Tables.{found}

@@ -1,12 +1,10 @@
-use Rattle.std.proofs.Common.{◌≡◌, ◌++◌, ◌∷◌, [], ℕ, List, inl, ap, sym, ◌∙◌, refl, subst, length, Option, Some, None}
-use Rattle.disk_model.specs.Disk.{DiskView, InModel, Leaves}
-use Rattle.worksheet.specs.declared.op.Op.{Op}
+use Rattle.std.proofs.Common.{◌≡◌, inl, sym, subst, None}
+use Rattle.disk_model.specs.Disk.{InModel, Leaves}
 use Rattle.worksheet.specs.declared.op.Op.TheVariants as op
 use Rattle.worksheet.specs.Contents.{Contents}
-use Rattle.worksheet.specs.Ops.{sheet_of}
 use Rattle.worksheet.specs.Checks.{first_refusal}
 use Rattle.recovery.specs.Sheets.{StoreView, IsSheetImage, IsReady}
-use Rattle.session_engine.specs.World.{World, life_of, fits_in}
+use Rattle.session_engine.specs.World.{life_of}
 use Rattle.session_engine.specs.inside.Parts.{with_item}
 use Rattle.session_engine.specs.inside.Commits.{Committed}
 use Rattle.session_engine.proofs.Standing.{committed}

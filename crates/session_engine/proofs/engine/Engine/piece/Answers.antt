@@ -1,22 +1,19 @@
-use Rattle.std.proofs.Common.{◌≡◌, inl, inr, List, ℕ, ap, sym, ◌∙◌, refl, subst, Bool, true, false, Option, Some, None}
+use Rattle.std.proofs.Common.{List, ap, sym, ◌∙◌, refl, subst, Bool, Option}
 use Rattle.std.specs.Prelude.{if◌then◌else◌, is_some}
 use Rattle.std.proofs.lemmas.Result.{IfOk-at_ok}
-use Rattle.disk_model.specs.inside.Moments.{weakens}
 use Rattle.worksheet.specs.Contents.{Contents}
 use Rattle.plugin_core.specs.Kept.{Takes}
 use Rattle.session_engine.specs.declared.table.Running.{Running}
-use Rattle.session_engine.specs.declared.outcome.Outcome.{Outcome}
 use Rattle.session_engine.specs.declared.reply.Closed.{Closed}
 use Rattle.session_engine.specs.declared.reply.Reply.TheVariants as reply
 use Rattle.session_engine.specs.Does.{ChildDoes, tells}
-use Rattle.session_engine.specs.declared.event.Event.TheVariants as event
 use Rattle.session_engine.specs.declared.event.ChildEvent.TheVariants as child
 use Rattle.session_engine.specs.Named.{without_named}
 use Rattle.session_engine.specs.Host.{name_of, number_in}
-use Rattle.session_engine.specs.World.{World, Going, life_of, with_number, sheet_in}
+use Rattle.session_engine.specs.World.{World, Going, sheet_in}
 use Rattle.session_engine.specs.Does.{told_with, op_by}
 use Rattle.session_engine.specs.Host.{EngineStandsFor}
-use Rattle.session_engine.specs.inside.Commits.{AllowedIf, IsEitherIf}
+use Rattle.session_engine.specs.inside.Commits.{AllowedIf}
 use Rattle.session_engine.proofs.Tables.{found, numbers_stay, numbers_are}
 use Rattle.session_engine.proofs.Fields.{allowed_step}
 use Rattle.session_engine.proofs.Standing.{no_life, the_life, with_number_there}

@@ -1,13 +1,12 @@
-use Rattle.std.proofs.Common.{◌≡◌, ◌≤◌, ℕ, List, length, ap, sym, ◌∙◌, refl, subst, arith, true, false, Option, Some, None}
-use Rattle.std.specs.Prelude.{nat_le, if◌then◌else◌}
+use Rattle.std.proofs.Common.{◌≡◌, length, ap, sym, ◌∙◌, refl, subst, arith, true, false, Option, Some, None}
+use Rattle.std.specs.Prelude.{nat_le}
 use Rattle.std.proofs.lemmas.Bool.Decides.{nat_tests}
-use Rattle.worksheet.specs.declared.refusal.Refusal.{Refusal}
 use Rattle.worksheet.specs.declared.refusal.Refusal.TheVariants as refusal
 use Rattle.worksheet.specs.Checks.{first_of}
 use Rattle.plugin_core.specs.Limits.{most_waiting}
 use Rattle.session_engine.specs.Limits.{most_lives}
 use Rattle.session_engine.specs.declared.table.Running.{Running}
-use Rattle.session_engine.specs.World.{World, Going, life_of, waiting_in}
+use Rattle.session_engine.specs.World.{Going, life_of, waiting_in}
 use Rattle.session_engine.specs.inside.Parts.{queue_refusals}
 use Rattle.session_engine.specs.Host.{name_of, life_in}
 use Rattle.session_engine.proofs.Tables.{placed, none, found, not_found}

@@ -1,9 +1,9 @@
-use Rattle.std.proofs.Common.{◌≡◌, inl, inr, ℕ, ap, sym, ◌∙◌, refl, length, Ok, Err}
+use Rattle.std.proofs.Common.{◌≡◌, inr, ℕ, ap, sym, ◌∙◌, refl, Ok, Err}
 use Rattle.worksheet.specs.declared.op.Op.TheVariants as op
 use Rattle.recovery.specs.declared.fault.PrepareFault.{PrepareFault}
 use Rattle.recovery.specs.declared.fault.PrepareFault.TheVariants as faults
-use Rattle.session_engine.specs.World.{World, fits_in}
-use Rattle.session_engine.proofs.Asking.{fit, unfit, fits_unless, refused_queue, refused_full, not_refused}
+use Rattle.session_engine.specs.World.{fits_in}
+use Rattle.session_engine.proofs.Asking.{unfit, fits_unless, refused_queue, refused_full, not_refused}
 use Rattle.session_engine.proofs.engine.Engine.ready.Goals as goal
 
 pub returns-in-Err-clause-err : goal.returns-in-Err-clause-err

@@ -1,4 +1,4 @@
-use Rattle.std.proofs.Common.{◌≡◌, inl, inr, ℕ, List, ap, sym, ◌∙◌, refl, subst, Bool, true, false, Option, Some, None}
+use Rattle.std.proofs.Common.{◌≡◌, ℕ, List, ap, sym, ◌∙◌, refl, subst, true, Some, None}
 use Rattle.worksheet.specs.Contents.{Contents, SheetView}
 use Rattle.worksheet.specs.Checks.{session_named}
 use Rattle.worksheet.specs.declared.refusal.Refusal.TheVariants as refusal
@@ -6,8 +6,8 @@ use Rattle.worksheet.proofs.Finds.{session_named-name}
 use Rattle.plugin_core.specs.declared.step.Reason.TheVariants as reason
 use Rattle.session_engine.specs.declared.table.Running.{Running}
 use Rattle.session_engine.specs.declared.reply.Reply.TheVariants as reply
-use Rattle.session_engine.specs.World.{World, Going, life_of, sheet_in}
-use Rattle.session_engine.specs.Does.{ends, ends_life, tells}
+use Rattle.session_engine.specs.World.{life_of, sheet_in}
+use Rattle.session_engine.specs.Does.{ends_life, tells}
 use Rattle.session_engine.specs.Host.{EngineStandsFor}
 use Rattle.session_engine.specs.inside.Parts.{without_life}
 use Rattle.session_engine.proofs.Tables.{found, not_found}

@@ -1,8 +1,8 @@
-use Rattle.std.proofs.Common.{◌≡◌, ℕ, List, ap, sym, ◌∙◌, refl, subst, Option, Some, None}
+use Rattle.std.proofs.Common.{◌≡◌, ℕ, List, ap, sym, ◌∙◌, Option, Some, None}
 use Rattle.worksheet.specs.declared.field.Session.{Session}
 use Rattle.worksheet.specs.Contents.{SheetView, Contents}
 use Rattle.worksheet.specs.Checks.{session_named}
-use Rattle.session_engine.specs.World.{World, Going, life_of, sheet_in}
+use Rattle.session_engine.specs.World.{Going, life_of, sheet_in}
 use Rattle.session_engine.specs.inside.Parts.{start_words}
 use Rattle.session_engine.specs.Does.{starting_words}
 use Rattle.session_engine.specs.Host.{name_of}

@@ -2,7 +2,7 @@ use Rattle.std.proofs.Common.{◌≡◌, ℕ, ap, sym, ◌∙◌, refl, subst, l
 use Rattle.std.specs.Prelude.{option_map}
 use Rattle.session_engine.specs.declared.host.LifeView.{LifeView}
 use Rattle.session_engine.specs.declared.table.Running.{Running}
-use Rattle.session_engine.specs.World.{World, Going, life_of, waiting_in}
+use Rattle.session_engine.specs.World.{Going, waiting_in}
 use Rattle.session_engine.specs.Host.{HostView, Lives}
 use Rattle.session_engine.specs.Host.{name_of, life_in, number_in}
 use Rattle.session_engine.proofs.Tables.{placed, none, found, not_found}

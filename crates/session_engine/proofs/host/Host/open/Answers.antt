@@ -1,4 +1,4 @@
-use Rattle.std.proofs.Common.{◌≡◌, ◌≤◌, List, [], refl, sym, subst, arith}
+use Rattle.std.proofs.Common.{◌≤◌, List, [], refl, sym, subst, arith}
 use Rattle.disk_model.specs.Disk.{Leaves}
 use Rattle.worksheet.specs.Contents.{Contents}
 use Rattle.recovery.specs.Sheets.{IsSheetImage}

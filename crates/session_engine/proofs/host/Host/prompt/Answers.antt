@@ -1,8 +1,8 @@
-use Rattle.std.proofs.Common.{◌≡◌, ℕ, List, ap, sym, ◌∙◌, refl, subst, Option, Some, None}
+use Rattle.std.proofs.Common.{◌≡◌, ℕ, List, ap, sym, ◌∙◌, subst, Option, Some, None}
 use Rattle.std.specs.Prelude.{option_map}
 use Rattle.plugin_core.specs.Items.{prompt_of}
 use Rattle.session_engine.specs.declared.table.Running.{Running}
-use Rattle.session_engine.specs.World.{World, Going}
+use Rattle.session_engine.specs.World.{Going}
 use Rattle.session_engine.specs.Host.{HostView, Lives, name_of, life_in}
 use Rattle.session_engine.proofs.Tables.{placed, none, found, not_found}
 use Rattle.session_engine.proofs.host.Host.prompt.Goals as goal

@@ -1,7 +1,5 @@
-use Rattle.std.proofs.Common.{◌≡◌, sym, subst, true, false}
+use Rattle.std.proofs.Common.{sym, subst, true}
 use Rattle.std.proofs.lemmas.Result.{IfErr-weaker}
-use Rattle.session_engine.specs.declared.outcome.HostFault.{HostFault}
-use Rattle.session_engine.specs.World.{World}
 use Rattle.session_engine.specs.Host.{HostView, EngineStandsFor}
 use Rattle.session_engine.specs.Faults.{CauseOf, Failed}
 use Rattle.session_engine.specs.inside.Engines.{FailedAt, view_of}

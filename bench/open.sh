@@ -1,0 +1,64 @@
+#!/usr/bin/env bash
+# Prints how long opening a worksheet takes (`tmhost show`) whose journal has so many MB (100 and 1,000 where none are given), against
+# `cat` of that file, and the peak memory of both. Every journal makes the same worksheet of 10 fields: what is longer about a longer
+# one are the inputs that were set and set again. The medians of RUNS runs (5 where it isn't set) of both in turn; the files lie in
+# FOLDER, or in the current one.
+set -euo pipefail
+root=$(dirname "$(dirname "$(readlink -f "${BASH_SOURCE[0]}")")")
+work=$(mktemp -d "$(readlink -f "${FOLDER:-.}")/open.XXXXXX")
+trap 'rm -rf "$work"' EXIT
+"$root/tmhost" blocks </dev/null
+[ $# -gt 0 ] || set -- 100 1000
+python3 - "$root/crates/tmhost/out/tmhost" "$work" "${RUNS:-5}" "$@" <<'PYTHON'
+import os, statistics, subprocess, sys, time
+
+program, work, runs = sys.argv[1], sys.argv[2], int(sys.argv[3])
+fields = 10
+
+def record(payload):
+    return b"\x52" + len(payload).to_bytes(4, "big") + payload
+
+def text(bytes):
+    return len(bytes).to_bytes(2, "big") + bytes
+
+# A session, its fields, and a Set of one field after the other, with the longest input that there is, up to this length.
+def journal(path, length):
+    with open(path, "wb") as out:
+        out.write(b"TMWSHEET\x01A" + record(b"\x01\x01a\x00\x01" + text(b"p")))
+        for after in range(fields):
+            out.write(record(b"\x02" + after.to_bytes(4, "big") + b"\x01a" + text(b"x")))
+        sets = [record(b"\x03" + (1 + i).to_bytes(4, "big") + text(b"y" * 4095)) for i in range(fields)]
+        i = 0
+        while out.tell() < length:
+            out.write(sets[i % fields])
+            i += 1
+        out.write(b"\x00")
+    open(path + ".alt", "wb").close()
+
+# Seconds, and the greatest resident memory in MiB.
+def measured(words):
+    begun = time.perf_counter()
+    child = subprocess.Popen(words, stdout=subprocess.PIPE)
+    told = child.stdout.read() if words[0] == program else None
+    if told is None:
+        while child.stdout.read(1 << 20):
+            pass
+    _, status, usage = os.wait4(child.pid, 0)
+    took = time.perf_counter() - begun
+    assert status == 0, f"{words[0]}: status {status}"
+    return took, usage.ru_maxrss / 1024, told
+
+for size in sys.argv[4:]:
+    path = f"{work}/sheet{size}"
+    journal(path, int(size) * 1_000_000)
+    want = b"".join(b"#%d a\n> %s\n?\n" % (1 + i, b"y" * 4095) for i in range(fields))
+    ours, theirs = [], []
+    for _ in range(runs):
+        ours.append(measured([program, "show", path]))
+        assert ours[-1][2] == want, "show prints another worksheet"
+        theirs.append(measured(["cat", path]))
+    show, cat = (statistics.median(run[0] for run in side) for side in (ours, theirs))
+    peak, other = (max(run[1] for run in side) for side in (ours, theirs))
+    print(f"{size} MB: show {show:.2f} s, cat {cat:.2f} s, ratio {show / cat:.1f}; peak memory {peak:.1f} MiB, of cat {other:.1f} MiB")
+    os.remove(path)
+PYTHON
