@@ -19,6 +19,7 @@ struct Tally {
     asked: u32,
     banners: u32,
     answers: u32,
+    completed: u32,
     nothing: u32,
     others: u32,
 }
@@ -29,6 +30,7 @@ const NONE: Tally = Tally {
     asked: 0,
     banners: 0,
     answers: 0,
+    completed: 0,
     nothing: 0,
     others: 0,
 };
@@ -47,7 +49,8 @@ impl Tally {
             Reply::Child(told) => match &told.closed {
                 Some(Closed::Banner(_)) => count(&mut self.banners),
                 Some(Closed::Line(_)) => count(&mut self.answers),
-                None => count(&mut self.others),
+                Some(Closed::Complete(_, Ok(_))) => count(&mut self.completed),
+                Some(Closed::Complete(_, Err(_))) | None => count(&mut self.others),
             },
             _ => count(&mut self.others),
         }
@@ -114,9 +117,12 @@ fn add_pieces(
     Ok(())
 }
 
-// What is done with a field once it is answered: an empty input, its place behind field 1, no output, and
+// What is done with a field once it is answered: its completions are asked for, with the cursor at the end of
+// its input, and there are none; then an empty input, its place behind field 1, no output, and
 // no field.
-fn add_end(alloc: Global, events: &mut Vec<Event>, id: u32) -> Result<(), Fail> {
+fn add_end(alloc: Global, events: &mut Vec<Event>, id: u32, len: u32) -> Result<(), Fail> {
+    events.push(Event::Command(Command::Complete { id, cursor: len }))?;
+    add_piece(alloc, events, b"\x02scheme:\"\"\x05".as_slice())?;
     events.push(Event::Command(Command::Set {
         id,
         input: Octets::from_vec(Vec::new(alloc)),
@@ -138,7 +144,7 @@ fn add_round(alloc: Global, events: &mut Vec<Event>, len: u32) -> Result<(), Fai
     }
     let bytes = answer(alloc, len)?;
     add_pieces(alloc, events, bytes.as_slice(), len as usize)?;
-    add_end(alloc, events, id)
+    add_end(alloc, events, id, len)
 }
 
 // The session and field 1.
@@ -212,15 +218,16 @@ fn swept_by_play(alloc: Global) -> Result<Tally, Fail> {
 }
 
 // All is accepted, and each answer closes: the session and four commands of each size are done, each field
-// is made and evaluated, and each piece but the last of its answer gives nothing. An answer of n bytes and
+// is made, evaluated and asked for completions, and each piece but the last of its answer gives nothing. An answer of n bytes and
 // 11 around it comes in 12 pieces where n is 1, in 7, 5, 4, 4, 3, 3, 3, 3 and 3 from 2 to 10, and then in
 // 2.
 const WANTED: Tally = Tally {
     done: 1 + 4 * LONGEST,
     fields: 1 + LONGEST,
-    asked: LONGEST,
+    asked: 2 * LONGEST,
     banners: 1,
     answers: LONGEST,
+    completed: LONGEST,
     nothing: 11 + 6 + 4 + 3 + 3 + 2 + 2 + 2 + 2 + 2 + (LONGEST - 10),
     others: 0,
 };
