@@ -1,7 +1,7 @@
 //! A crash at each moment, with each choice of what the pending writes left.
 use super::desk::{EVENTS, FILLS, Shown, behind, created, disk_of, event, fill, left, open, shows};
 use disk_model::{Choice, MemoryDisk};
-use session_engine::Event;
+use session_engine::{Event, Host};
 use std::alloc::Global;
 use std::test::Fail;
 
@@ -133,13 +133,22 @@ fn events(alloc: Global) -> Result<Vec<Event>, Fail> {
     Ok(events)
 }
 
+// Whether a host takes these events, five of them, as one list.
+fn plays_all(host: &mut Host<MemoryDisk>, events: Vec<Event>) -> bool {
+    match host.play(events) {
+        Ok(outcomes) => outcomes.len() == 5,
+        Err(_) => false,
+    }
+}
+
 // The disk of a host that was given the five events as one list.
 fn disk_of_play(alloc: Global) -> Result<MemoryDisk, Fail> {
+    let events = events(alloc)?;
     let mut host = open(alloc, created(alloc)?)?;
-    match host.play(events(alloc)?) {
-        Ok(outcomes) if outcomes.len() == 5 => Ok(host.close()),
-        _ => Err("no five outcomes".into()),
+    if !plays_all(&mut host, events) {
+        return Err("not all was played".into());
     }
+    Ok(host.close())
 }
 
 // Which worksheets the moments of an event's calls lie between. Each change is four calls.
