@@ -308,16 +308,18 @@ def merge(wanted, told, number):
 
 def scripts(rng, length, kinds, completes):
     """A script of random lines of all commands over several sessions. `kinds` has the words of each interpreter."""
-    names, made = ["a", "b", "c"], 0
+    names = ["a", "b", "c"]
     words = [words for words, kind in kinds.items() if kind in ("echo", "mortal")]
     lines = [f"session {name} {rng.choice(['plain', 'tab'])} {rng.choice(words)}" for name in names]
+    lines += [f"new 0 {name} first of {name}" for name in names]
+    made = len(names)
     for _ in range(length):
-        some = lambda: rng.randint(0 if rng.random() < 0.05 else 1, max(made, 1) + (rng.random() < 0.05))
+        some = lambda: rng.randint(0 if rng.random() < 0.05 else 1, made + (rng.random() < 0.05))
         after = rng.choice([0, some()])
         text = "".join(rng.choices("abcxyz 0123456789+-*/=()[]{}?#\\\"\t", k=rng.randint(0, 12))).replace("\t", "t")
         text += rng.choice(["", "é", "∑", "x" * rng.randint(1, 300)])
         kind = rng.random()
-        if kind < 0.25 or not made:
+        if kind < 0.25:
             made += 1
             lines.append(f"new {after} {rng.choice(names)} {text}")
         elif kind < 0.5:
