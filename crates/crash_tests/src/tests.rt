@@ -1,0 +1,5 @@
+//! The worked example, with what a crash or a failing disk may leave of it typed in.
+mod desk;
+mod failing;
+mod moments;
+mod turns;

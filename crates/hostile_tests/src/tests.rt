@@ -1,0 +1,10 @@
+//! Hostile use, with what is told typed in.
+mod broken;
+mod children;
+mod desk;
+mod edge;
+mod looks;
+mod memory;
+mod rows;
+mod stale;
+mod sweep;

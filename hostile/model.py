@@ -1,0 +1,338 @@
+"""What a script over a worksheet may tell and leave, by docs/SCRIPT.md: a model apart from the program's own text.
+
+A `Model` follows what a run of a script wrote, line by line, and then knows which worksheets may be on the disk: that
+behind all that was told, and those to which the line that was being done may have led.
+"""
+
+import itertools
+import random
+
+
+class Kind:
+    """An interpreter: its text for the shell, how many lines it answers before it ends in the middle of a block (None: all), the
+    prompt and the printed output of its answer to a line, behind so many, and what is told of a completion."""
+
+    def __init__(self, shell, most=None, answer=lambda count, given: ("> ", given), completed="bad"):
+        self.shell, self.most, self.answer, self.completed = shell, most, answer, completed
+
+
+BANNER = "printf '\\002verbatim:\\005'\n"
+
+KINDS = {
+    # Answers each line with the line itself.
+    "echo": Kind(BANNER + "while IFS= read -r l; do printf '\\002verbatim:%s\\005' \"$l\"; done\n"),
+    # The same of three lines, and then half a block.
+    "mortal": Kind(
+        BANNER + "for n in 1 2 3; do IFS= read -r l || exit; printf '\\002verbatim:%s\\005' \"$l\"; done\n"
+        "IFS= read -r l; printf '\\002verbatim:hal'\n",
+        most=3,
+    ),
+    # Its prompts stand in its blocks.
+    "prompts": Kind(
+        "printf '\\002verbatim:Hello\\002prompt#Input 1] \\005\\005'\nn=1\n"
+        "while IFS= read -r l; do n=$((n + 1)); printf '\\002verbatim:\\002latex:$%s$\\005\\002prompt#Input %s] \\005\\005' \"$l\" $n; done\n",
+        answer=lambda count, given: (f"Input {count + 1}] ", "{latex:$" + given + "$}"),
+    ),
+    # A second block behind the first answer, which is dropped.
+    "twice": Kind(
+        BANNER + "IFS= read -r l; printf '\\002verbatim:A\\005\\002verbatim:B\\005'\n"
+        "while IFS= read -r l; do printf '\\002verbatim:C\\005'; done\n",
+        answer=lambda count, given: ("> ", "C" if count else "A"),
+    ),
+    # It answers each line, and each request, with the same completions.
+    "completes": Kind(
+        BANNER + "while IFS= read -r l; do printf '\\002scheme:(tuple \"h\" \"ello\" \"i there\" \"ola\" \"opsakee\")\\005'; done\n",
+        completed='"h" "ello" "i there" "ola" "opsakee"',
+    ),
+}
+
+REFUSALS = {
+    1: "NoSession",
+    2: "NoField",
+    3: "InFlight",
+    4: "SessionExists",
+    5: "BadName",
+    6: "BadWords",
+    7: "BadInput",
+    8: "SamePlace",
+    12: "NoTab",
+    13: "BadCursor",
+    17: "OutOfMemory",
+}
+
+
+class Difference(Exception):
+    """The program told or left what the model doesn't allow."""
+
+
+def refused(number):
+    return f"refused {number} {REFUSALS[number]}"
+
+
+class Session:
+    def __init__(self, kind, tab):
+        self.kind, self.tab = KINDS[kind], tab
+        self.is_up = False  # whether a life goes on
+        self.has_banner = False
+        self.count = 0  # how many items this life has answered
+        self.waiting = []  # (field, input, whether it is a completion)
+
+
+class Model:
+    def __init__(self, kinds):
+        self.kinds = kinds  # the kind of an interpreter by the words that start it
+        self.sessions = {}
+        self.order, self.fields, self.next_id = [], {}, 1
+
+    # What is printed of a worksheet whose further answers are these.
+    def printed(self, more=()):
+        more = dict(more)
+        lines = []
+        for id in self.order:
+            session, given, answer = self.fields[id]
+            prompt, output = more.get(id, answer) or ("> ", "?")
+            lines += [f"#{id} {session}", prompt + given, output]
+        return "".join(line + "\n" for line in lines)
+
+    def in_flight(self, id):
+        return any((id, False) == (at, completes) for s in self.sessions.values() for at, _, completes in s.waiting)
+
+    # The first refusal of a command, or None.
+    def refusal(self, verb, words):
+        field = lambda word: int(word) in self.fields
+        if verb == "session":
+            name, flag, *rest = words
+            return 5 if not name.isalnum() else 4 if name in self.sessions else 6 if not any(rest) else None
+        if verb == "new":
+            after, name, text = words
+            return 1 if name not in self.sessions else 2 if after != "0" and not field(after) else self.bad_input(text)
+        if verb == "stop":
+            return None if words[0] in self.sessions else 1
+        if not field(words[0]):
+            return 2
+        if verb == "complete":
+            return self.bad_cursor(int(words[0]), int(words[1]))
+        if verb == "move":
+            return self.bad_place(int(words[0]), int(words[1]))
+        return 3 if self.in_flight(int(words[0])) else self.bad_input(words[1]) if verb == "set" else None
+
+    def bad_input(self, text):
+        return 7 if "\x10" in text or len(text.encode()) > 4095 else None
+
+    def bad_cursor(self, id, cursor):
+        session, given, _ = self.fields[id]
+        if not self.sessions[session].tab:
+            return 12
+        fronts = [len(given[:n].encode()) for n in range(len(given) + 1)]
+        return None if cursor in fronts else 13
+
+    def bad_place(self, id, after):
+        if after and after not in self.fields:
+            return 2
+        at = self.order.index(id)
+        return 8 if after == id or after == (self.order[at - 1] if at else 0) else None
+
+    # Puts a field directly behind another one, first for 0.
+    def put(self, id, after):
+        self.order.insert(self.order.index(after) + 1 if after else 0, id)
+
+    # Does a command that isn't refused, and gives what is told of it.
+    def do(self, verb, words):
+        if verb == "session":
+            self.sessions[words[0]] = Session(self.kinds[" ".join(words[2:])], words[1] == "tab")
+        elif verb == "new":
+            id, self.next_id = self.next_id, self.next_id + 1
+            self.fields[id] = [words[1], words[2], None]
+            self.put(id, int(words[0]))
+            return [f"field {id}"]
+        elif verb == "stop":
+            session, ended = self.sessions[words[0]], f"ended {words[0]} Stopped lost "
+            if session.is_up:
+                return [ended + str(self.end(session))]
+        else:
+            return self.change(verb, int(words[0]), words)
+        return ["ok"]
+
+    def change(self, verb, id, words):
+        field = self.fields[id]
+        if verb == "set":
+            field[1:] = [words[1], None]
+        elif verb == "clear":
+            field[2] = None
+        elif verb == "remove":
+            self.order.remove(id)
+            del self.fields[id]
+        elif verb == "move":
+            self.order.remove(id)
+            self.put(id, int(words[1]))
+        else:
+            self.ask(self.sessions[field[0]], id, verb == "complete")
+            return ["asked"]
+        return ["ok"]
+
+    def ask(self, session, id, completes):
+        if not session.is_up:
+            session.is_up, session.has_banner, session.count = True, False, 0
+        if not completes:
+            self.fields[id][2] = None
+        session.waiting.append((id, self.fields[id][1], completes))
+
+    # Ends a life, and gives how many items were lost.
+    def end(self, session):
+        lost = len(session.waiting)
+        session.is_up, session.waiting = False, []
+        return lost
+
+    # The items of a session that its interpreter answers in a wait.
+    def answered(self, session):
+        most = session.kind.most
+        return session.waiting if most is None else session.waiting[: most - session.count]
+
+    # The answers of these items, by their fields: of lines alone.
+    def answers(self, session, items):
+        items = enumerate(items, session.count)
+        return [(id, session.kind.answer(count, given)) for count, (id, given, completes) in items if not completes]
+
+    # What is told of a session in a wait, in order.
+    def told_in_wait(self, name, session):
+        told = [] if session.has_banner else [f"banner {name}"]
+        answered = self.answered(session)
+        completed = session.kind.completed
+        told += [f"completed {id} {completed}" if completes else f"answered {id}" for id, _, completes in answered]
+        rest = len(session.waiting) - len(answered)
+        return told + [f"ended {name} Ended lost {rest}"] * (rest > 0)
+
+    # Which worksheets a wait that told so much may have led to: of each session some of its first lines are answered.
+    def sheets_in_wait(self, told):
+        fronts = []
+        for session in self.sessions.values():
+            lines = self.answers(session, self.answered(session))
+            least = sum(f"answered {id}" in told for id, _ in lines)
+            fronts.append([lines[:n] for n in range(least, len(lines) + 1)])
+        return {self.printed(itertools.chain(*chosen)) for chosen in itertools.product(*fronts)}
+
+    def wait(self):
+        for session in self.sessions.values():
+            if not session.waiting:
+                continue
+            answered = self.answered(session)
+            for id, answer in self.answers(session, answered):
+                self.fields[id][2] = answer
+            session.has_banner, session.count = True, session.count + len(answered)
+            session.waiting = session.waiting[len(answered) :]
+            if session.waiting:
+                self.end(session)
+
+
+VERBS = {"session", "new", "set", "remove", "move", "clear", "eval", "complete", "stop"}
+
+
+def words_of(line):
+    """The verb and the words of a line that `scripts` makes."""
+    verb, _, rest = line.partition(" ")
+    parts = {"session": 2, "new": 2, "set": 1, "move": 1, "complete": 1}.get(verb, 0)
+    words = rest.split(" ", parts)
+    return verb, words + [""] * (parts + 1 - len(words)) if verb in ("new", "set") else words
+
+
+class Followed:
+    """How far a run came by what it wrote: the worksheets that may be on the disk, and whether it is at its end."""
+
+    def __init__(self, sheets, is_whole, refusals):
+        self.sheets, self.is_whole, self.refusals = sheets, is_whole, refusals
+
+
+def follow(script, output, kinds, memory=False):
+    """Follows a run of the script by the lines that it wrote. With `memory` a command may be refused for want of it, and a
+    start too."""
+    model, told, refusals = Model(kinds), list(output), 0
+    for number, line in enumerate(script, 1):
+        verb, words = words_of(line)
+        before = model.printed()
+        if line == "" or line.startswith("#"):
+            continue
+        if verb == "wait":
+            wanted = [model.told_in_wait(*item) for item in model.sessions.items() if item[1].waiting]
+            count = sum(map(len, wanted))
+            merge(wanted, told[:count], number)
+            if len(told) < count:
+                return Followed(model.sheets_in_wait(told), False, refusals)
+            model.wait()
+            del told[:count]
+            continue
+        if verb == "print":
+            wanted = before.splitlines()
+        elif verb not in VERBS:
+            wanted = [f"bad line {number}"]
+        else:
+            refusal = model.refusal(verb, words)
+            if memory and refusal is None and verb != "stop" and told[:1] == [refused(17)]:
+                refusals += 1
+                del told[0]
+                continue
+            wanted = [refused(refusal)] if refusal else model.do(verb, words)
+        if len(told) < len(wanted):
+            if told != wanted[: len(told)]:
+                raise Difference(f"line {number}, {line!r}: told {told}, wanted {wanted}")
+            return Followed({before, model.printed()}, False, refusals)
+        if told[: len(wanted)] != wanted:
+            raise Difference(f"line {number}, {line!r}: told {told[: len(wanted)]}, wanted {wanted}")
+        del told[: len(wanted)]
+        if memory and verb in ("eval", "complete"):
+            refusals += start_refused(model, words, told)
+    if told:
+        raise Difference(f"told behind the end: {told}")
+    return Followed({model.printed()}, True, refusals)
+
+
+# A start for which there was no memory ends its life at once.
+def start_refused(model, words, told):
+    name = model.fields[int(words[0])][0] if int(words[0]) in model.fields else None
+    if told[:1] != [f"ended {name} StartRefused lost 1"]:
+        return 0
+    model.end(model.sessions[name])
+    del told[0]
+    return 1
+
+
+# What was told of a wait so far must be the first of what is told of each session, merged in some way.
+def merge(wanted, told, number):
+    names = {line: n for n, lines in enumerate(wanted) for line in lines}
+    parts = [[] for _ in wanted]
+    for line in told:
+        if line in names:
+            parts[names[line]].append(line)
+    if sum(map(len, parts)) < len(told) or any(lines[: len(part)] != part for lines, part in zip(wanted, parts)):
+        raise Difference(f"line {number}, a wait: told {told}, wanted {wanted}")
+
+
+def scripts(rng, length, kinds, completes):
+    """A script of random lines of all commands over several sessions. `kinds` has the words of each interpreter."""
+    names = ["a", "b", "c"]
+    words = [words for words, kind in kinds.items() if kind in ("echo", "mortal")]
+    lines = [f"session {name} {rng.choice(['plain', 'tab'])} {rng.choice(words)}" for name in names]
+    lines += [f"new 0 {name} first of {name}" for name in names]
+    made = len(names)
+    for _ in range(length):
+        some = lambda: rng.randint(0 if rng.random() < 0.05 else 1, made + (rng.random() < 0.05))
+        after = rng.choice([0, some()])
+        text = "".join(rng.choices("abcxyz 0123456789+-*/=()[]{}?#\\\"\t", k=rng.randint(0, 12))).replace("\t", "t")
+        text += rng.choice(["", "é", "∑", "x" * rng.randint(1, 300)])
+        kind = rng.random()
+        if kind < 0.25:
+            made += 1
+            lines.append(f"new {after} {rng.choice(names)} {text}")
+        elif kind < 0.5:
+            lines.append(f"eval {some()}")
+        elif kind < 0.65:
+            lines.append("wait")
+        else:
+            lines.append(
+                rng.choice(
+                    [f"set {some()} {text}", f"clear {some()}", f"move {some()} {after}", f"stop {rng.choice(names)}"]
+                    + [f"remove {some()}", "# remark", "", "print", "no command", "stop nobody", f"set {some()} \x10"]
+                    + [f"complete {some()} {rng.randint(0, 3)}"] * completes
+                    + [f"session {rng.choice(names)} plain p"] * (rng.random() < 0.2)
+                )
+            )
+    return lines + ["wait", "print"]

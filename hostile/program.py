@@ -1,0 +1,61 @@
+"""The program under test, in a folder of its own that goes when it is left."""
+
+import os
+import shutil
+import subprocess
+import tempfile
+
+from model import KINDS, Difference
+
+ROOT = os.path.dirname(os.path.dirname(os.path.realpath(__file__)))
+
+
+class Program:
+    """`path` is the program: that of this repository, built where that is needed, or the one that TMHOST names. `kinds` has the
+    kind of each interpreter by the words that start it, and `completes` says whether the program knows completions."""
+
+    def __enter__(self):
+        self.path = os.environ.get("TMHOST")
+        if not self.path:
+            subprocess.run([f"{ROOT}/tmhost", "blocks"], stdin=subprocess.DEVNULL, check=True)
+            self.path = f"{ROOT}/crates/tmhost/out/tmhost"
+        self.folder = tempfile.mkdtemp(prefix="hostile.", dir=os.environ.get("FOLDER", "."))
+        self.kinds = {}
+        for kind, of in KINDS.items():
+            file = self.write(f"{kind}.sh", of.shell)
+            self.kinds[f"sh {file}"] = kind
+        sheet = self.create("completes")
+        told = self.run(sheet, b"complete 1 0\n").stdout
+        self.completes = told == b"refused 2 NoField\n"
+        self.remove(sheet)
+        return self
+
+    def __exit__(self, *_):
+        shutil.rmtree(self.folder)
+
+    def write(self, name, text):
+        file = f"{os.path.abspath(self.folder)}/{name}"
+        with open(file, "w") as it:
+            it.write(text)
+        return file
+
+    def create(self, name):
+        """A new worksheet."""
+        sheet = f"{self.folder}/{name}"
+        subprocess.run([self.path, "create", sheet], check=True)
+        return sheet
+
+    def run(self, sheet, script, **more):
+        return subprocess.run([self.path, "run", sheet], input=script, capture_output=True, **more)
+
+    def show(self, sheet):
+        """What is printed of a worksheet."""
+        shown = subprocess.run([self.path, "show", sheet], capture_output=True)
+        if shown.returncode or shown.stderr:
+            raise Difference(f"show ended with {shown.returncode} and {shown.stderr}")
+        return shown.stdout.decode()
+
+    def remove(self, sheet):
+        for file in (sheet, sheet + ".alt"):
+            if os.path.exists(file):
+                os.remove(file)
