@@ -1,5 +1,5 @@
 //! Completions by a script, with what is printed typed in.
-use super::desk::{BANNER, Given, are, created, ran};
+use super::desk::{BANNER, giving_as, writes};
 use std::test::Fail;
 
 const ANSWERS: &[&[u8]] = &[
@@ -19,28 +19,20 @@ const TEXT: &[u8] =
 
 #[test]
 fn a_request_and_its_answers(rt: HostRuntime) -> Result<(), Fail> {
-    let alloc = rt.alloc();
-    let mut given = Given::new(alloc);
-    for answer in ANSWERS {
-        given.piece(answer)?;
-    }
-    let (text, _disk) = ran(alloc, SCRIPT, created(alloc)?, &mut given.of(b"t")?)?;
-    assert!(rt; are(&text, TEXT));
+    let mut children = giving_as(rt.alloc(), b"t", ANSWERS)?;
+    assert!(rt; writes(rt.alloc(), SCRIPT, &mut children, TEXT));
     Ok(())
 }
 
+const REFUSED: &[u8] =
+    b"session a plain p\nsession t tab p\nnew 0 a h\nnew 0 t \xc3\xa9\ncomplete 1 1\ncomplete 3 0\ncomplete 2 1\ncomplete 2 3\ncomplete 2\ncomplete 2 2\n";
+
+const REFUSED_TEXT: &[u8] =
+    b"ok\nok\nfield 1\nfield 2\nrefused 12 NoTab\nrefused 2 NoField\nrefused 13 BadCursor\nrefused 13 BadCursor\nbad line 9\nasked\n";
+
 #[test]
 fn refused_requests(rt: HostRuntime) -> Result<(), Fail> {
-    let alloc = rt.alloc();
-    let script =
-        b"session a plain p\nsession t tab p\nnew 0 a h\nnew 0 t \xc3\xa9\ncomplete 1 1\ncomplete 3 0\ncomplete 2 1\ncomplete 2 3\ncomplete 2\ncomplete 2 2\n".as_slice();
-    let mut children = Given::new(alloc).of(b"t")?;
-    let (text, _disk) = ran(alloc, script, created(alloc)?, &mut children)?;
-    assert!(rt;
-        are(
-            &text,
-            b"ok\nok\nfield 1\nfield 2\nrefused 12 NoTab\nrefused 2 NoField\nrefused 13 BadCursor\nrefused 13 BadCursor\nbad line 9\nasked\n"
-        )
-    );
+    let mut children = giving_as(rt.alloc(), b"t", &[])?;
+    assert!(rt; writes(rt.alloc(), REFUSED, &mut children, REFUSED_TEXT));
     Ok(())
 }

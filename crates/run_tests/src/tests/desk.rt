@@ -80,13 +80,18 @@ impl Given {
     }
 }
 
-/// The first life of session `a`, which gives these pieces.
-pub fn giving(alloc: Global, pieces: &[&[u8]]) -> Result<Scripted, Fail> {
+/// The first life of the session of this name, which gives these pieces.
+pub fn giving_as(alloc: Global, name: &[u8], pieces: &[&[u8]]) -> Result<Scripted, Fail> {
     let mut given = Given::new(alloc);
     for piece in pieces {
         given.piece(piece)?;
     }
-    given.of_a()
+    given.of(name)
+}
+
+/// The first life of session `a`, which gives these pieces.
+pub fn giving(alloc: Global, pieces: &[&[u8]]) -> Result<Scripted, Fail> {
+    giving_as(alloc, b"a", pieces)
 }
 
 // What a script writes over these children on this disk, and the disk behind it.
