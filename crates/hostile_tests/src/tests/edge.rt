@@ -1,7 +1,7 @@
 //! Commands and waits while no memory is left.
 use super::children::{Given, Row};
 use super::desk::{are, opened, printed, told};
-use child_edge::{Children, EdgeCause, Scripted, serve, stop_all, wait};
+use child_edge::{Children, EdgeCause, EdgeFault, Scripted, serve, stop_all, wait};
 use disk_model::MemoryDisk;
 use session_engine::{Command, Host};
 use std::alloc::Global;
@@ -21,6 +21,15 @@ fn answering(alloc: Global) -> Result<Scripted, Fail> {
     row.children(alloc)
 }
 
+// The cause of a fault before which nothing was told.
+fn cause_of(fault: &EdgeFault) -> Option<EdgeCause> {
+    if fault.replies.is_empty() {
+        Some(fault.cause)
+    } else {
+        None
+    }
+}
+
 // Why a command that is served while no memory is left breaks off, where nothing was told.
 fn serve_without<C: Children>(
     alloc: Global,
@@ -30,8 +39,8 @@ fn serve_without<C: Children>(
 ) -> Result<Option<EdgeCause>, Fail> {
     let _held = exhausted(alloc)?;
     match serve(alloc, host, children, command) {
-        Err(fault) if fault.replies.is_empty() => Ok(Some(fault.cause)),
-        _ => Ok(None),
+        Ok(_) => Ok(None),
+        Err(fault) => Ok(cause_of(&fault)),
     }
 }
 
@@ -43,8 +52,8 @@ fn wait_without<C: Children>(
 ) -> Result<Option<EdgeCause>, Fail> {
     let _held = exhausted(alloc)?;
     match wait(alloc, host, children) {
-        Err(fault) if fault.replies.is_empty() => Ok(Some(fault.cause)),
-        _ => Ok(None),
+        Ok(_) => Ok(None),
+        Err(fault) => Ok(cause_of(&fault)),
     }
 }
 
