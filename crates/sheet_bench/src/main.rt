@@ -110,12 +110,7 @@ fn last(ids: &[u32]) -> u32 {
 }
 
 /// This change of the first fields, or of the last ones, last first.
-fn changes(
-    alloc: Global,
-    ids: &[u32],
-    change: Change,
-    is_first: bool,
-) -> Result<Vec<Op>, Failed> {
+fn changes(alloc: Global, ids: &[u32], change: Change, is_first: bool) -> Result<Vec<Op>, Failed> {
     let mut ops = Vec::new(alloc);
     for i in 0..(CALLS as usize) {
         let at = if is_first {
@@ -237,9 +232,7 @@ fn measure(rt: &HostRuntime, fields: u32) -> Result<(), Failed> {
         removed_last,
         removed_first,
     } = least;
-    println!(rt;
-        "{fields} {new} {set} {clear} {moved} {removed_last} {removed_first}"
-    )?;
+    println!(rt; "{fields} {new} {set} {clear} {moved} {removed_last} {removed_first}")?;
     Ok(())
 }
 
