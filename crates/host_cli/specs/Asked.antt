@@ -12,11 +12,11 @@ pub data TaskView : Type 0 where
   run : Text → TaskView
   show : Text → TaskView
 
-abbrev pub view_of : Task → TaskView
-view_of task.Blocks = blocks
-view_of (task.Create path) = create path.now
-view_of (task.Run path) = run path.now
-view_of (task.Show path) = show path.now
+abbrev pub task_view : Task → TaskView
+task_view task.Blocks = blocks
+task_view (task.Create path) = create path.now
+task_view (task.Run path) = run path.now
+task_view (task.Show path) = show path.now
 
 -- the one argument of a subcommand that has one
 abbrev pub path_rule : Rule

@@ -2,7 +2,7 @@
 ghost use Rattle.std.specs.Prelude.{◌≡◌, IfOk, Some, false, map, string_bytes};
 ghost use Rattle.clap.specs.Words.{FailsBy, app_of, fault_of, new_app, subcommand_rows_of};
 ghost use Rattle.clap.specs.declared.builder.command.Command.TheViews.{out-Command as fields_of};
-ghost use Rattle.host_cli.specs.Asked.{asked_by, by_path, by_subcommand, tmhost, view_of};
+ghost use Rattle.host_cli.specs.Asked.{asked_by, by_path, by_subcommand, tmhost, task_view};
 ghost use Rattle.host_cli.specs.Asked as asked;
 
 use clap::{Arg, ArgMatches, Command, Error};
@@ -111,7 +111,7 @@ fn tmhost_command<'a>(alloc: Global) -> Result<Command<'a>, AllocError>
 
 /// The task of a subcommand with a path.
 fn task_with_path<'a>(name: &str, path: &'a str) -> Task<'a>
-    ensures { view_of result ≡ by_path name.now (Some path.entry.now) }
+    ensures { task_view result ≡ by_path name.now (Some path.entry.now) }
 {
     match name {
         "create" => Task::Create(path),
@@ -123,7 +123,7 @@ fn task_with_path<'a>(name: &str, path: &'a str) -> Task<'a>
 
 /// The task of the matches.
 fn task_of<'a>(matches: &ArgMatches<'a>) -> Task<'a>
-    ensures { view_of result ≡ by_subcommand (subcommand_rows_of matches.now) }
+    ensures { task_view result ≡ by_subcommand (subcommand_rows_of matches.now) }
 {
     let Some((name, inner)) = matches.subcommand() else {
         return Task::Blocks;
@@ -140,7 +140,7 @@ fn task_of<'a>(matches: &ArgMatches<'a>) -> Task<'a>
 /// Fails exactly where `clap` refuses the words, or shows its help, with its kind of error; and
 /// where memory is refused.
 pub fn read_words<'a>(alloc: Global, words: &'a [String]) -> Result<Task<'a>, Error>
-    ensures task { IfOk result (λ task. view_of task
+    ensures task { IfOk result (λ task. task_view task
         ≡ asked_by (map string_bytes words.entry.now)) }
     ensures kinds { FailsBy (fault_of tmhost (map string_bytes words.entry.now)) result }
 {
