@@ -3,7 +3,8 @@ use super::children::{Given, Row};
 use super::desk::{are, opened, printed, told};
 use child_edge::{Children, EdgeCause, EdgeFault, Scripted, serve, stop_all, wait};
 use disk_model::MemoryDisk;
-use session_engine::{Command, Host};
+use session_engine::{Command, Event, Host};
+use sheet_text::{ScriptLine, read_line};
 use std::alloc::Global;
 use std::test::Fail;
 use tests_desk::exhausted;
@@ -57,17 +58,24 @@ fn wait_without<C: Children>(
     }
 }
 
+// A command that isn't served: no block is left behind that replies had.
+fn step(alloc: Global, host: &mut Host<MemoryDisk>, line: &str) -> Result<(), Fail> {
+    let Ok(ScriptLine::Command(command)) = read_line(alloc, line.as_bytes()) else {
+        return Err("no command".into());
+    };
+    match host.step(Event::Command(command)) {
+        Ok(_) => Ok(()),
+        Err(_) => Err("a fault".into()),
+    }
+}
+
 #[test]
 fn a_command_that_is_served_without_memory(rt: HostRuntime) -> Result<(), Fail> {
     let alloc = rt.alloc();
     let mut children = answering(alloc)?;
     let mut host = opened(alloc)?;
-    told(
-        alloc,
-        &mut host,
-        &mut children,
-        "session a plain p\nnew 0 a x",
-    )?;
+    step(alloc, &mut host, "session a plain p")?;
+    step(alloc, &mut host, "new 0 a x")?;
     let cause = serve_without(alloc, &mut host, &mut children, Command::Eval { id: 1 })?;
     assert!(rt; cause == Some(EdgeCause::OutOfMemory));
     let text = told(alloc, &mut host, &mut children, "eval 1\nwait")?;
