@@ -4,7 +4,7 @@ ghost use Rattle.child_edge.specs.Answers.{HasSize, longest_piece};
 
 use crate::children::{ChildFault, Children, ReceiveFault, Received};
 use block_tree::Octets;
-use bytes::{Bytes, BytesMut};
+use bytes::BytesMut;
 use std::alloc::{AllocError, Global};
 use std::io::{ErrorKind, Read, Write};
 use std::process::{Child, Command, OpenProcess, Stdio};
@@ -124,15 +124,14 @@ fn text(word: &Octets) -> io::Result<&str> {
     }
 }
 
-/// Room for a piece, all that it will ever take: a block that was shared is shared again without memory.
+/// Room for a piece, all that it will ever take: a byte in front of it is shared at once, and a block that
+/// has been shared is shared again without memory.
 fn room(alloc: Global) -> Result<BytesMut, AllocError>
     ensures { IfOk result (λ room. length room.items ≡ longest_piece) }
 {
-    let whole = Bytes::from_vec(Vec::from_elem(alloc, 0u8, LONGEST_PIECE)?)?;
-    match whole.try_into_mut() {
-        Ok(room) => Ok(room),
-        Err(_) => Err(AllocError),
-    }
+    let mut room = BytesMut::zeroed(alloc, LONGEST_PIECE + 1)?;
+    let _front = room.freeze_to(1)?;
+    Ok(room)
 }
 
 /// One read, tried again where it is interrupted.
