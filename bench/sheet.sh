@@ -7,10 +7,10 @@ set -euo pipefail
 root=$(dirname "$(dirname "$(readlink -f "${BASH_SOURCE[0]}")")")
 commit=${1:-dc6401f}
 work=$(mktemp -d)
-trap 'git -C "$root" worktree remove --force "$work/before" 2>/dev/null || true; rm -rf "$work"' EXIT
-git -C "$root" worktree add --quiet --detach "$work/before" "$commit"
-rm -rf "$work/before/crates/sheet_bench/src"
-cp -r "$root/crates/sheet_bench/src" "$work/before/crates/sheet_bench/src"
+trap 'rm -rf "$work"' EXIT
+mkdir "$work/before"
+git -C "$root" archive "$commit" | tar -x -C "$work/before"
+cp "$root/crates/sheet_bench/src/main.rt" "$work/before/crates/sheet_bench/src/main.rt"
 sed -i 's/^sheet_bench: .*/sheet_bench: block_tree worksheet/' "$work/before/crates.txt"
 for tree in "$work/before" "$root"; do
     (cd "$tree/crates/sheet_bench" && rt run </dev/null >"$work/log" 2>&1) || { tail -n 20 "$work/log" >&2; exit 1; }

@@ -1,10 +1,10 @@
 //! What an allowed op does.
-ghost use Rattle.std.specs.Prelude.{◌≡◌, ◌+◌, ◌∷◌, ◌++◌, [], ℕ, true, None, Some, is_some};
+ghost use Rattle.std.specs.Prelude.{◌≡◌, ◌+◌, ◌∷◌, ◌++◌, [], true, None, Some, is_some};
 ghost use Rattle.std.specs.Str.{is_utf8};
 ghost use Rattle.worksheet.specs.declared.op.Op.TheVariants as op;
 ghost use Rattle.worksheet.specs.Names.{is_name};
-ghost use Rattle.worksheet.specs.Checks.{field_in, first_refusal, numbers, room_for, session_named};
-ghost use Rattle.worksheet.specs.Edits.{AreApart, HasNumbersApart, contents_with, edited, fields_without, moved};
+ghost use Rattle.worksheet.specs.Checks.{first_refusal, room_for, session_named};
+ghost use Rattle.worksheet.specs.Edits.{HasNumbersApart, contents_with, edited};
 ghost use Rattle.worksheet.specs.inside.Entries.{AreFields, AreSessions, shown, reserved};
 ghost use Rattle.worksheet.specs.inside.SheetInside.{held_of};
 

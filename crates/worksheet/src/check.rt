@@ -1,7 +1,6 @@
 //! Whether a worksheet allows an op.
-ghost use Rattle.std.specs.Prelude.{◌≡◌, ◌==◌, ◌||◌, [], List, false, nat_le, is_some};
+ghost use Rattle.std.specs.Prelude.{◌≡◌, ◌==◌, ◌||◌, [], false, is_some};
 ghost use Rattle.std.specs.List.{list_all};
-ghost use Rattle.std.specs.Option.{option_copied};
 ghost use Rattle.std.specs.Result.{result_err};
 ghost use Rattle.worksheet.specs.Checks.{is_input as input_test, is_input_byte as input_byte_test, is_no_low_byte as low_byte_test, is_word as word_test, are_words as words_test, is_new_name as new_name_test, field_in, session_named as session_found, numbers, first_refusal};
 ghost use Rattle.std.specs.Str.{is_utf8 as utf8_test};

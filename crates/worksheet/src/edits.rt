@@ -1,5 +1,5 @@
 //! Changes of a map of fields.
-ghost use Rattle.std.specs.Prelude.{◌≡◌, ◌≢◌, ◌+◌, ◌<◌, ◌≤◌, ◌++◌, ◌∷◌, [], ℕ, Some, None, true, false, length, map, nat_eq, IsSome, OnOk, OnErr, ◌||◌, ◌==◌, is_some};
+ghost use Rattle.std.specs.Prelude.{◌≡◌, ◌+◌, ◌<◌, ◌++◌, ◌∷◌, [], Some, None, true, false, map, nat_eq, IsSome, OnOk, OnErr, ◌||◌, ◌==◌, is_some};
 ghost use Rattle.worksheet.specs.declared.field.Field.{Field};
 ghost use Rattle.worksheet.specs.Checks.{field_in, is_number, numbers};
 ghost use Rattle.worksheet.specs.Edits.{AreApart, AllBelow, at_field, fields_without, moved, placed_field, with_answer, with_input};

@@ -1,5 +1,5 @@
 //! Where fields stand in their map.
-ghost use Rattle.std.specs.Prelude.{◌≡◌, ◌≢◌, ◌+◌, ◌<◌, ◌≤◌, ℕ, true, length, IsSome, slice_index_or, ◌||◌, ◌==◌, is_some};
+ghost use Rattle.std.specs.Prelude.{◌≡◌, ◌≢◌, ◌+◌, ◌<◌, ◌≤◌, true, length, IsSome, slice_index_or, ◌||◌, ◌==◌, is_some};
 ghost use Rattle.std.specs.Option.{option_copied};
 ghost use Rattle.worksheet.specs.declared.field.Field.{Field};
 ghost use Rattle.worksheet.specs.Checks.{field_in, numbers, is_number, stands_behind as place_test};

@@ -1,5 +1,5 @@
 //! What stands under a number in a worksheet.
-ghost use Rattle.std.specs.Prelude.{◌≡◌, Option, None, Some, IfOk, IsSome};
+ghost use Rattle.std.specs.Prelude.{◌≡◌, Option, None, Some, IfOk};
 ghost use Rattle.std.specs.Option.{option_copied, option_map};
 ghost use Rattle.worksheet.specs.Edits.{with_answer, with_input};
 
