@@ -76,7 +76,6 @@ class Session:
         self.has_banner = False
         self.count = 0  # how many items this life has answered
         self.waiting = []  # (field, input, whether it is a completion)
-        self.read = None  # how many lines of a wait were told before a read failed; None: none failed
 
 
 class Model:
@@ -186,8 +185,6 @@ class Model:
 
     # The items of a session that its interpreter answers in a wait.
     def answered(self, session):
-        if session.read is not None:
-            return session.waiting[: max(session.read - (not session.has_banner), 0)]
         most = session.kind.most
         return session.waiting if most is None else session.waiting[: most - session.count]
 
@@ -203,8 +200,6 @@ class Model:
         completed = session.kind.completed
         told += [f"completed {id} {completed}" if completes else f"answered {id}" for id, _, completes in answered]
         rest = len(session.waiting) - len(answered)
-        if session.read is not None:
-            return told[: session.read] + [f"ended {name} ReadFault lost {rest}"]
         return told + [f"ended {name} Ended lost {rest}"] * (rest > 0)
 
     # Which worksheets a wait that told so much may have led to: of each session some of its first lines are answered.
@@ -227,7 +222,6 @@ class Model:
             session.waiting = session.waiting[len(answered) :]
             if session.waiting:
                 self.end(session)
-            session.read = None
 
 
 VERBS = {"session", "new", "set", "remove", "move", "clear", "eval", "complete", "stop"}
@@ -258,7 +252,6 @@ def follow(script, output, kinds, memory=False):
         if line == "" or line.startswith("#"):
             continue
         if verb == "wait":
-            refusals += unread(model, told) if memory else 0
             wanted = [model.told_in_wait(*item) for item in model.sessions.items() if item[1].waiting]
             count = sum(map(len, wanted))
             merge(wanted, told[:count], number)
@@ -300,19 +293,6 @@ def start_refused(model, words, told):
     model.end(model.sessions[name])
     del told[0]
     return 1
-
-
-# A piece for which there was no memory is a failed read, which ends its life.
-def unread(model, told):
-    waiting = [item for item in model.sessions.items() if item[1].waiting]
-    count = sum(len(model.told_in_wait(*item)) for item in waiting)
-    for name, session in waiting:
-        ends = [n for n, line in enumerate(told[:count]) if line.startswith(f"ended {name} ReadFault lost ")]
-        if ends:
-            wanted = model.told_in_wait(name, session)
-            session.read = sum(line in wanted for line in told[: ends[0]])
-            return 1
-    return 0
 
 
 # What was told of a wait so far must be the first of what is told of each session, merged in some way.
