@@ -64,3 +64,13 @@ ByCause cause.OutOfMemory broken short = short
 abbrev pub FailsClosed : {E : Type 0} → Result (Vec Reply E) EdgeFault → Type 0
 FailsClosed (Ok replies) = ⊥
 FailsClosed (Err fault) = (fault.replies.items ≡ []) × ByCause fault.cause (λ f. f ≡ faults.Closed) (Unit {0})
+
+-- On a closed host a life's part of a turn breaks off.
+abbrev pub BreaksClosed : {T : Type 0} → Result T EdgeCause → Type 0
+BreaksClosed (Ok x) = ⊥
+BreaksClosed (Err why) = ByCause why (λ f. f ≡ faults.Closed) (Unit {0})
+
+-- On a closed host nothing is told: no item waits, or the wait breaks off.
+abbrev pub TellsClosed : {E : Type 0} → Result (Vec Reply E) EdgeFault → Type 0
+TellsClosed (Ok replies) = replies.items ≡ []
+TellsClosed (Err fault) = (fault.replies.items ≡ []) × ByCause fault.cause (λ f. f ≡ faults.Closed) (Unit {0})

@@ -19,6 +19,9 @@ loop-seat-preserved g c = record {
         stands = p.stands;
         replied = told-join c.args.replies.now.items c.loop-seat.replies.items c.take.new.replies.items r.beats p.beats r.replied p.replied;
       };
+  still = λ e.
+      let s = c.loop-seat.invariant.still e in
+      absurd (c.in_default.ensures.closed (ap (λ h. h.closed) s.1 ∙ e));
 }
 
 pub returns-in-Err-clause-err : goal.returns-in-Err-clause-err

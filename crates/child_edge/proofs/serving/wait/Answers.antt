@@ -1,4 +1,4 @@
-use Rattle.std.proofs.Common.{◌++◌, [], refl, sym, ◌∙◌, arith, append-nil}
+use Rattle.std.proofs.Common.{rules, ◌<◌, length, ◌++◌, [], refl, sym, ap, ◌∙◌, arith, append-nil}
 use Rattle.child_edge.specs.Faithful.{at}
 use Rattle.child_edge.specs.Limits.{most_turns}
 use Rattle.child_edge.proofs.Waits.{Turns-more, told-join, by_cause}
@@ -60,6 +60,10 @@ loop-number-preserved g c = record {
         stands = p.stands;
         replied = told-join [] c.loop-number.replies.items c.turn.new.replies.items r.beats p.beats r.replied p.replied;
       };
+  still = λ e.
+      let s = c.loop-number.invariant.still e in
+      let some : 0 < length c.as_slice.result.now = search rules in
+      absurd (c.in-Ok-turn.ensures.closed (ap (λ h. h.closed) s.0 ∙ e) some);
 }
 
 pub returns-in-Err-clause-same : goal.returns-in-Err-clause-same

@@ -1,4 +1,4 @@
-use Rattle.std.proofs.Common.{[]}
+use Rattle.std.proofs.Common.{◌≡◌, [], true}
 use Rattle.disk_model.specs.Disk.{SameDisk}
 use Rattle.session_engine.specs.World.{World}
 use Rattle.session_engine.specs.Host.{IsHost}
@@ -11,4 +11,5 @@ abbrev pub invariant-loop-number : goal.invariant-loop-number
 invariant-loop-number g l = record {
   same : SameDisk l.fn.host.store.disk l.host.store.disk;
   runs : (w : World) → IsHost l.fn.host w → Ran (Turns g.C.Children.after most_turns l.number (at w l.fn.children)) [] l.host l.children l.replies.items;
+  still : l.fn.host.closed ≡ true → (l.host ≡ l.fn.host) × (l.replies.items ≡ []);
 }
