@@ -11,9 +11,9 @@ use Rattle.session_engine.specs.declared.event.ChildEvent.TheVariants as child
 use Rattle.session_engine.specs.declared.event.Event.TheVariants as event
 use Rattle.session_engine.specs.declared.outcome.Effect.TheVariants as effect
 use Rattle.session_engine.specs.declared.reply.Reply.TheVariants as reply
-use Rattle.session_engine.specs.World.{World, world_at_opening, life_of}
+use Rattle.session_engine.specs.World.{World, world_at_opening, life_of, request_of_field, waiting_in}
 use Rattle.session_engine.specs.Refused.{command_refusals}
-use Rattle.session_engine.specs.Does.{behind, does, ends_life, replies, MayDo}
+use Rattle.session_engine.specs.Does.{begun_with, behind, does, ends_life, replies, MayDo}
 
 -- session a with the word p, and its fields 1 (x) and 2 (y)
 
@@ -105,3 +105,39 @@ no_session = refl
 -- a session that isn't running is stopped already
 already_down : (does start (command.Stop a)).told ≡ replies reply.Done
 already_down = refl
+
+-- Completions: the session, but one whose interpreter answers requests, and field 1 with the character of the bytes 195 and 169.
+
+abbrev ops_with_tab : List Op
+ops_with_tab = op.Session a true (p ∷ []) ∷ op.New 0 a (195 ∷ 169 ∷ []) ∷ []
+
+abbrev with_tab : World
+with_tab = world_at_opening ops_with_tab 1000 40
+
+-- a plain session is refused before the cursor is looked at
+no_tab : first_of (command_refusals start (command.Complete 1 9)) ≡ Some refusal.NoTab
+no_tab = refl
+
+-- the cursor stands in front of the character or behind it
+inside_a_character : first_of (command_refusals with_tab (command.Complete 1 1)) ≡ Some refusal.BadCursor
+inside_a_character = refl
+
+past_the_end : first_of (command_refusals with_tab (command.Complete 1 3)) ≡ Some refusal.BadCursor
+past_the_end = refl
+
+at_the_end : first_of (command_refusals with_tab (command.Complete 1 2)) ≡ None
+at_the_end = refl
+
+-- a request begins a life like a line, gives no op, and leaves its field free
+asks_for_completions : (does with_tab (command.Complete 1 2)).told ≡ record { reply = reply.Asked 1; effect = Some (effect.Start a 1 (p ∷ [])) }
+asks_for_completions = refl
+
+no_op : (does with_tab (command.Complete 1 2)).op ≡ None
+no_op = refl
+
+still_free : first_of (command_refusals (behind with_tab (does with_tab (command.Complete 1 2))) (command.Remove 1)) ≡ None
+still_free = refl
+
+-- it keeps the field's input
+keeps_its_text : waiting_in (begun_with with_tab a (request_of_field with_tab 1 2)) ≡ item.Complete 1 (195 ∷ 169 ∷ []) 2 ∷ []
+keeps_its_text = refl
