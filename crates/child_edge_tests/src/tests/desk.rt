@@ -60,6 +60,7 @@ fn add_child(text: &mut String, child: &ChildReply) -> Result<(), OutOfMemory> {
     match &child.closed {
         Some(Closed::Banner(_)) => write!(text, "banner {name}, ")?,
         Some(Closed::Line(id)) => write!(text, "answered {id}, ")?,
+        Some(Closed::Complete(id, _)) => write!(text, "completed {id}, ")?,
         None => {}
     }
     if let Some(ended) = &child.ended {
