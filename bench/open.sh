@@ -10,7 +10,7 @@ trap 'rm -rf "$work"' EXIT
 "$root/tmhost" blocks </dev/null
 [ $# -gt 0 ] || set -- 100 1000
 python3 - "$root/crates/tmhost/out/tmhost" "$work" "${RUNS:-5}" "$@" <<'PYTHON'
-import os, statistics, subprocess, sys, time
+import fcntl, os, re, statistics, subprocess, sys, time
 
 program, work, runs = sys.argv[1], sys.argv[2], int(sys.argv[3])
 fields = 10
@@ -35,18 +35,24 @@ def journal(path, length):
         out.write(b"\x00")
     open(path + ".alt", "wb").close()
 
-# Seconds, and the greatest resident memory in MiB.
+# Seconds, the greatest resident memory in MiB, and the front of what was written. The pipe of `show` holds less than it writes, so that
+# it is there when its memory is looked at, which is behind the opening.
 def measured(words):
     begun = time.perf_counter()
-    child = subprocess.Popen(words, stdout=subprocess.PIPE)
-    told = child.stdout.read() if words[0] == program else None
-    if told is None:
-        while child.stdout.read(1 << 20):
-            pass
-    _, status, usage = os.wait4(child.pid, 0)
-    took = time.perf_counter() - begun
-    assert status == 0, f"{words[0]}: status {status}"
-    return took, usage.ru_maxrss / 1024, told
+    reads, writes = os.pipe()
+    if words[0] == program:
+        fcntl.fcntl(writes, fcntl.F_SETPIPE_SZ, 4096)
+    child = subprocess.Popen(words, stdout=writes)
+    os.close(writes)
+    with open(reads, "rb", buffering=0) as pipe:
+        told = pipe.read(1)
+        with open(f"/proc/{child.pid}/status") as status:
+            peak = int(re.search(r"VmHWM:\s+(\d+) kB", status.read()).group(1)) / 1024
+        while more := pipe.read(1 << 20):
+            if len(told) < 1 << 20:
+                told += more
+    assert child.wait() == 0, f"{words[0]}: status {child.returncode}"
+    return time.perf_counter() - begun, peak, told
 
 for size in sys.argv[4:]:
     path = f"{work}/sheet{size}"
