@@ -1,9 +1,10 @@
 -- What a run on a host leaves, where it came to its end and where it broke off.
-use Rattle.std.specs.Prelude.{◌≡◌, ℕ, List, [], ◌++◌, true, false, option_map, Result, Ok, Err}
+use Rattle.std.specs.Prelude.{◌≡◌, ◌⊎◌, ℕ, List, [], ◌++◌, Bool, true, false, option_map, Result, Ok, Err}
 use Rattle.std.specs.declared.vec.Vec.{Vec}
 use Rattle.disk_model.specs.Disk.{DiskView, InModel, Leaves, Rises}
 use Rattle.recovery.specs.Sheets.{IsSheetImage, IsEither}
 use Rattle.worksheet.specs.declared.op.Op.{Op}
+use Rattle.session_engine.specs.declared.event.ChildEvent.{ChildEvent}
 use Rattle.session_engine.specs.declared.event.Event.{Event}
 use Rattle.session_engine.specs.declared.reply.Reply.{Reply}
 use Rattle.session_engine.specs.declared.outcome.HostFault.{HostFault}
@@ -14,7 +15,8 @@ use Rattle.session_engine.specs.Faults.{MayGive, is_piece}
 use Rattle.child_edge.specs.declared.serving.EdgeFault.{EdgeFault}
 use Rattle.child_edge.specs.declared.serving.EdgeCause.{EdgeCause}
 use Rattle.child_edge.specs.declared.serving.EdgeCause.TheVariants as cause
-use Rattle.child_edge.specs.Faithful.{At, at, Beat}
+use Rattle.child_edge.specs.declared.waiting.Seat.{Seat}
+use Rattle.child_edge.specs.Faithful.{At, at, Beat, Hears, Relation}
 use Rattle.child_edge.specs.Told.{told}
 
 -- each image of the disk is one of the world's worksheet
@@ -60,17 +62,20 @@ abbrev pub ByCause : EdgeCause → (HostFault → Type 0) → Type 0 → Type 0
 ByCause (cause.Host f) broken short = broken f
 ByCause cause.OutOfMemory broken short = short
 
+-- the host's fault is that it is closed, or memory was refused
+abbrev pub IsClosed : EdgeCause → Type 0
+IsClosed why = ByCause why (λ f. f ≡ faults.Closed) (Unit {0})
+
 -- On a closed host no command is taken.
 abbrev pub FailsClosed : {E : Type 0} → Result (Vec Reply E) EdgeFault → Type 0
 FailsClosed (Ok replies) = ⊥
-FailsClosed (Err fault) = (fault.replies.items ≡ []) × ByCause fault.cause (λ f. f ≡ faults.Closed) (Unit {0})
+FailsClosed (Err fault) = (fault.replies.items ≡ []) × IsClosed fault.cause
 
--- On a closed host a life's part of a turn breaks off.
-abbrev pub BreaksClosed : {T : Type 0} → Result T EdgeCause → Type 0
-BreaksClosed (Ok x) = ⊥
-BreaksClosed (Err why) = ByCause why (λ f. f ≡ faults.Closed) (Unit {0})
+-- the children are as before, or one of them was heard
+abbrev pub HeardOne : {C : Type 0} → Relation C → Bool → C → C → Type 0
+HeardOne R listens c d = (d ≡ c) ⊎ ((seat : Seat) × (event : ChildEvent) × Hears R listens seat.name seat.life c event d)
 
 -- On a closed host nothing is told: no item waits, or the wait breaks off.
 abbrev pub TellsClosed : {E : Type 0} → Result (Vec Reply E) EdgeFault → Type 0
 TellsClosed (Ok replies) = replies.items ≡ []
-TellsClosed (Err fault) = (fault.replies.items ≡ []) × ByCause fault.cause (λ f. f ≡ faults.Closed) (Unit {0})
+TellsClosed (Err fault) = (fault.replies.items ≡ []) × IsClosed fault.cause

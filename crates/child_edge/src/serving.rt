@@ -1,9 +1,9 @@
 //! Commands and waits, each effect carried out.
-ghost use Rattle.std.specs.Prelude.{◌≡◌, ◌+◌, ◌++◌, ◌≤◌, ◌<◌, IfOk, IfErr, IsErrOf, OnOk, OnErr, Option, Some, None, [], true, length, vec_len, vec_capacity};
+ghost use Rattle.std.specs.Prelude.{◌≡◌, ◌+◌, ◌++◌, ◌≤◌, ◌<◌, IfOk, IfErr, IsErrOf, MatchResult, OnOk, OnErr, Option, Some, None, [], true, length, vec_len, vec_capacity};
 ghost use Rattle.disk_model.specs.Disk.{SameDisk};
 ghost use Rattle.session_engine.specs.World.{World};
 ghost use Rattle.session_engine.specs.Host.{IsHost, Took};
-ghost use Rattle.child_edge.specs.Edge.{BreaksClosed, BrokeOff, ByCause, FailsClosed, Ran, Stopped, TellsClosed};
+ghost use Rattle.child_edge.specs.Edge.{BrokeOff, ByCause, FailsClosed, HeardOne, IsClosed, Ran, Stopped, TellsClosed};
 ghost use Rattle.child_edge.specs.Limits.{most_turns};
 ghost use Rattle.child_edge.specs.Calls.{Answer};
 ghost use Rattle.child_edge.specs.Answers.{sent};
@@ -255,9 +255,11 @@ fn take<D: Disk, C: Children>(
         host.old.store.disk.faults host.new children.new replies.new.items)
         (IsHost host.new w × (children.new ≡ children.old)
         × (replies.new.items ≡ replies.old.items))) }
-    ensures closed { host.old.closed ≡ true → BreaksClosed result }
+    ensures closed { host.old.closed ≡ true → MatchResult result (λ done. ⊥) IsClosed }
     ensures still { host.old.closed ≡ true
         → (host.new ≡ host.old) × (replies.new.items ≡ replies.old.items) }
+    ensures heard { host.old.closed ≡ true
+        → HeardOne C.after listens children.old children.new }
 {
     if replies.reserve(MOST_EVENTS).is_err() {
         return Err(EdgeCause::OutOfMemory);
@@ -289,9 +291,12 @@ fn turn<D: Disk, C: Children>(
         host.old.store.disk.faults host.new children.new replies.new.items)
         (Ran (TurnSoFar C.after listens seats.now (at w children.old)) replies.old.items
         host.new children.new replies.new.items)) }
-    ensures closed { host.old.closed ≡ true → 0 < length seats.now → BreaksClosed result }
+    ensures closed { host.old.closed ≡ true
+        → 0 < length seats.now → MatchResult result (λ done. ⊥) IsClosed }
     ensures still { host.old.closed ≡ true
         → (host.new ≡ host.old) × (replies.new.items ≡ replies.old.items) }
+    ensures heard { host.old.closed ≡ true
+        → HeardOne C.after listens children.old children.new }
 {
     for seat in seats {
         if let Err(cause) = take(host, children, listens, *seat, replies) {
@@ -328,6 +333,7 @@ pub fn wait<D: Disk, C: Children>(
     // On a closed host nothing is told, and it stays as it is. One child may have been received from.
     ensures closed { host.old.closed ≡ true → TellsClosed result }
     ensures still { host.old.closed ≡ true → host.new ≡ host.old }
+    ensures heard { host.old.closed ≡ true → HeardOne C.after true children.old children.new }
 {
     let mut replies = Vec::new(alloc);
     for number in 0..TURNS + 1 {

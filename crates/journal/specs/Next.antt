@@ -11,9 +11,9 @@ use Rattle.journal.specs.declared.payloads.Next.{Next}
 use Rattle.journal.specs.declared.payloads.Next.TheVariants as next
 
 -- the disk that a begun opening leaves
-abbrev pub begun : {D : Type 0} → (D → DiskView) → Result OpeningView (OpenFault D) → DiskView
-begun view (Ok opening) = opening.disk
-begun view (Err fault) = view fault.disk
+abbrev pub disk_begun : {D : Type 0} → (D → DiskView) → Result OpeningView (OpenFault D) → DiskView
+disk_begun view (Ok opening) = opening.disk
+disk_begun view (Err fault) = view fault.disk
 
 -- an opening that has given none of these payloads, or a cause that isn't in the bytes
 abbrev pub BeginsPayloads : {D : Type 0} → List (List ℕ) → Result OpeningView (OpenFault D)

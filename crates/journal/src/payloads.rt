@@ -54,13 +54,13 @@ pub enum Next<D: Disk> {
 }
 
 impl<D: Disk> Opening<D> {
-    ghost use Rattle.journal.specs.Next.{begun, disk_behind, BeginsPayloads, GivesNext, StepsOn};
+    ghost use Rattle.journal.specs.Next.{disk_begun, disk_behind, BeginsPayloads, GivesNext, StepsOn};
 
     /// Begins to open a disk that a crash may have left: it makes area First durable, and walks over
     /// its gates by their length fields alone. It writes nothing. A disk that stands for no payloads
     /// is refused here (docs/FORMAT.md, "Opening").
     pub fn begin(alloc: Global, disk: D) -> Result<Opening<D>, OpenFault<D>>
-        ensures same { SameDisk (D.view disk) (begun D.view result) }
+        ensures same { SameDisk (D.view disk) (disk_begun D.view result) }
 
         // None of the payloads that the disk stands for is given yet.
         ensures found { InModel (D.view disk)
@@ -80,7 +80,7 @@ impl<D: Disk> Opening<D> {
 
         // It changes no byte, and at every moment each image is one that a crash could leave at the start.
         ensures looks { InModel (D.view disk)
-            (Looks (D.view disk).history (begun D.view result).history) }
+            (Looks (D.view disk).history (disk_begun D.view result).history) }
 
         // A failure of the disk is told as one, and nothing else is.
         ensures faulty { IfErr result
@@ -132,6 +132,7 @@ impl<D: Disk> Opening<D> {
             gate,
             end,
         } = self;
+        // A record has 6 bytes at least: its gate, four of its length, and a payload of one or more.
         if end - gate < 6 {
             return Ok(Next::End(Journal::ending_at(disk, end)));
         }

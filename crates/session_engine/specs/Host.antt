@@ -52,7 +52,7 @@ Lives (r ∷ rs) (l ∷ ls) = RunsAs r l × Lives rs ls
 Lives [] (l ∷ ls) = ⊥
 Lives (r ∷ rs) [] = ⊥
 
--- a line is that of a field that there is; that of a request of completions may be removed
+-- a line is that of a field that there is; the field of a request of completions may have been removed
 abbrev pub HasField : Contents → Item → Type 0
 HasField sheet (item.Line id text) = has_field sheet id ≡ true
 HasField sheet (item.Complete id text cursor) = Unit {0}

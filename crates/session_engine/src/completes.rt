@@ -1,6 +1,5 @@
 //! Requests of completions.
-ghost use Rattle.std.specs.Prelude.{◌≡◌, ◌↔◌, IfOk, IfErr, IsTrue, option_copied};
-ghost use Rattle.std.specs.Str.{IsCharBoundary};
+ghost use Rattle.std.specs.Prelude.{◌≡◌, IfOk, IfErr};
 ghost use Rattle.plugin_core.specs.Items.{IsAskable};
 ghost use Rattle.plugin_core.specs.declared.item.Item.TheVariants as item_of;
 
@@ -44,7 +43,8 @@ impl<D: Disk> Engine<D> {
         }
     }
 
-    /// The request of completions at a cursor of a field's input, and the session that is asked it; or why it is refused.
+    /// The request of completions at a cursor of a field's input, and the session that is asked it;
+    /// or why it is refused.
     fn completion(&self, id: u32, cursor: u32) -> Result<(Name, Item), Refusal>
         ensures ok { (w : World) → StandsAt self.now w
             → IfOk result (λ asked. GivesRequest w id cursor asked.0 asked.1) }

@@ -1,6 +1,7 @@
 -- Bytes as they are printed.
 use Rattle.std.specs.Prelude.{ℕ, ◌+◌, ◌/◌, ◌%◌, Bool, true, false, List, [], ◌∷◌, ◌++◌, cond, not, nat_lt, nat_eq, ◌||◌, ◌&&◌}
 use Rattle.std.specs.List.{flat_map}
+use Rattle.scheme_text.specs.Quoting.{is_marked}
 
 -- a hexadecimal digit, in lower case
 abbrev pub hex : ℕ → ℕ
@@ -26,9 +27,9 @@ on_line = flat_map (printed_byte false)
 abbrev pub on_lines : List ℕ → List ℕ
 on_lines = flat_map (printed_byte true)
 
--- a byte between quotes: a quote, 34, and a backslash, 92, stand behind a backslash, and every other byte as on a line
+-- a byte between quotes: a quote and a backslash stand behind a backslash, and every other byte as on a line
 abbrev pub byte_in_quotes : ℕ → List ℕ
-byte_in_quotes b = cond (nat_eq b 34 || nat_eq b 92) (92 ∷ b ∷ []) (printed_byte false b)
+byte_in_quotes b = cond (is_marked b) (92 ∷ b ∷ []) (printed_byte false b)
 
 -- bytes between quotes, on one line
 abbrev pub in_quotes : List ℕ → List ℕ

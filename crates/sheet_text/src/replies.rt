@@ -159,8 +159,8 @@ fn write_child<W: Write>(told: &ChildReply, out: &mut W) -> Result<(), WriteFaul
 
 /// Writes the lines of a reply: `ok`, `field ID`, `asked`, `refused N NAME` with the number and the
 /// name of the refusal, or what is told of a life, of which each line is written that there is:
-/// `banner NAME` or `answered ID` or `completed ID TEXTS`, `default NAME TEXT`, `ended NAME REASON lost N`. A reply that
-/// nothing came of has no line.
+/// `banner NAME` or `answered ID` or `completed ID TEXTS`, `default NAME TEXT`, `ended NAME REASON
+/// lost N`. A reply that nothing came of has no line.
 ///
 /// After a `WriteFault` a part of the text may have gone out.
 pub fn reply_text<W: Write>(reply: &Reply, out: &mut W) -> Result<(), WriteFault>

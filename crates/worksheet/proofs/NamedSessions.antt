@@ -8,7 +8,7 @@ use Rattle.worksheet.specs.declared.field.Session.{Session}
 use Rattle.worksheet.specs.Names.{is_name}
 use Rattle.worksheet.specs.Checks.{is_new_name, is_ready_name, session_named}
 use Rattle.worksheet.specs.Edits.{contents_with}
-use Rattle.worksheet.specs.inside.Entries.{AreNamed, AreSessions, name_room, shown, reserved}
+use Rattle.worksheet.specs.inside.Entries.{AreNamed, AreSessions, shown, reserved}
 use Rattle.worksheet.proofs.Lookup.{flat, is_reserved, lookup-shown, lookup-absent, none_from}
 
 abbrev pub name_in : Session → List ℕ
@@ -38,7 +38,7 @@ unnamed (s ∷ ss) name a n = go (bytes_eq s.name name) refl (unnamed ss name a.
 
 -- nothing is under a new name, where it isn't reserved
 pub name_absent : (es : List (List ℕ × Option Session)) (name : List ℕ) → AreSessions es → is_new_name (contents_with [] (shown es) 0) name ≡ true
-    → is_ready_name (name_room (reserved es)) name ≡ false → lookup (bytes_eq name) es ≡ None
+    → is_ready_name (reserved es) name ≡ false → lookup (bytes_eq name) es ≡ None
 name_absent es name a new h =
     lookup-absent name_in (bytes_eq name) (λ k. bytes_eq k name) (flips name) es a.fits (none_from (session_named (shown es) name) (free (is_name name) (is_some (session_named (shown es) name)) new)) (other (reserved es) h)
   where
@@ -47,7 +47,7 @@ name_absent es name a new h =
     free true false e = refl
     free false c e = cc
 
-    other : (o : Option (List ℕ)) → is_ready_name (name_room o) name ≡ false → is_reserved name_in (bytes_eq name) (λ k. bytes_eq k name) (flips name) o ≡ false
+    other : (o : Option (List ℕ)) → is_ready_name o name ≡ false → is_reserved name_in (bytes_eq name) (λ k. bytes_eq k name) (flips name) o ≡ false
     other None e = refl
     other (Some k) e = flips name k ∙ e
 

@@ -76,6 +76,7 @@ pub(crate) fn place_behind(fields: &IndexMap<u32, Slot>, after: u32) -> usize
     ensures behind { after ≢ 0 → (d : Field) → IsBehind after result d (shown fields.now.entries) }
     ensures within { result ≤ length (shown fields.now.entries) }
 {
+    // A map is no longer than `usize` counts: the place behind its last is one more at most.
     let _count = fields.len();
     if after == 0 {
         0

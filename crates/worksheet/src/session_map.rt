@@ -7,7 +7,7 @@ ghost use Rattle.worksheet.specs.declared.field.Session.{Session};
 ghost use Rattle.worksheet.specs.Names.{is_name};
 ghost use Rattle.worksheet.specs.Checks.{is_new_name, is_ready_name as ready_name_test, session_named};
 ghost use Rattle.worksheet.specs.Edits.{contents_with};
-ghost use Rattle.worksheet.specs.inside.Entries.{AreSessions, name_room, shown, reserved};
+ghost use Rattle.worksheet.specs.inside.Entries.{AreSessions, shown, reserved};
 
 use crate::field::Session;
 use crate::name::Name;
@@ -44,7 +44,7 @@ fn reserved_name(sessions: &IndexMap<Name, Option<Session>>) -> Option<&Name>
 /// Whether this name is held ready for a session.
 pub(crate) fn is_ready_name(sessions: &IndexMap<Name, Option<Session>>, name: &[u8]) -> bool
     requires { AreSessions sessions.now.entries }
-    ensures { result ≡ ready_name_test (name_room (reserved sessions.now.entries)) name.now }
+    ensures { result ≡ ready_name_test (reserved sessions.now.entries) name.now }
 {
     match reserved_name(sessions) {
         Some(ready) => ready.as_slice() == name,
@@ -83,7 +83,7 @@ pub(crate) fn reserve_name(
 ) -> Result<(), OutOfMemory>
     requires sessions { AreSessions sessions.old.entries }
     requires new { is_new_name (contents_with [] (shown sessions.old.entries) 0) name.now ≡ true }
-    requires absent { ready_name_test (name_room (reserved sessions.old.entries)) name.now ≡ false }
+    requires absent { ready_name_test (reserved sessions.old.entries) name.now ≡ false }
     ensures ok { OnOk result (reserved sessions.new.entries ≡ Some name.now) }
     ensures same { shown sessions.new.entries ≡ shown sessions.old.entries }
     ensures err { OnErr result (sessions.new.entries ≡ sessions.old.entries) }

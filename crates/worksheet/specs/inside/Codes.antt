@@ -1,12 +1,12 @@
 -- Worksheets as tuples, as the check wants it for a value that contracts see.
-use Rattle.std.specs.Prelude.{ℕ, ◌≡◌, Bool, List, Option, Some, None, refl}
+use Rattle.std.specs.Prelude.{ℕ, Bool, List, Option, refl}
 use Rattle.std.specs.Coded.{Coded, code_by, coded×, coded_ℕ, coded_bool, coded_list, coded_option}
 use Rattle.block_tree.specs.Tree.{Tree}
 use Rattle.block_tree.specs.inside.Code.{coded_tree}
 use Rattle.worksheet.specs.declared.field.Answer.{Answer}
 use Rattle.worksheet.specs.declared.field.Field.{Field}
 use Rattle.worksheet.specs.declared.field.Session.{Session}
-use Rattle.worksheet.specs.Contents.{Contents, SheetView, SessionRoom, ready_for_none, ready_for_name, ready_for_any}
+use Rattle.worksheet.specs.Contents.{Contents, SheetView}
 
 abbrev pub coded_bytes : Coded (List ℕ)
 coded_bytes = coded_list coded_ℕ
@@ -27,24 +27,6 @@ abbrev pub coded_contents : Coded Contents
 coded_contents = code_by (List Field × (List Session × ℕ)) (coded× (coded_list coded_field) (coded× (coded_list coded_session) coded_ℕ))
     (λ s. (s.fields, (s.sessions, s.next))) (λ p. record { fields = p.0; sessions = p.1.0; next = p.1.1 }) (λ _. refl)
 
-abbrev room_code : SessionRoom → Option (Option (List ℕ))
-room_code ready_for_none = None
-room_code ready_for_any = Some None
-room_code (ready_for_name name) = Some (Some name)
-
-abbrev room_of_code : Option (Option (List ℕ)) → SessionRoom
-room_of_code None = ready_for_none
-room_of_code (Some None) = ready_for_any
-room_of_code (Some (Some name)) = ready_for_name name
-
-pub room_back : (room : SessionRoom) → room_of_code (room_code room) ≡ room
-room_back ready_for_none = refl
-room_back ready_for_any = refl
-room_back (ready_for_name name) = refl
-
-abbrev pub coded_room : Coded SessionRoom
-coded_room = code_by (Option (Option (List ℕ))) (coded_option (coded_option coded_bytes)) room_code room_of_code room_back
-
 abbrev pub coded_held : Coded SheetView
-coded_held = code_by (Contents × (Option ℕ × SessionRoom)) (coded× coded_contents (coded× (coded_option coded_ℕ) coded_room))
+coded_held = code_by (Contents × (Option ℕ × Option (List ℕ))) (coded× coded_contents (coded× (coded_option coded_ℕ) (coded_option coded_bytes)))
     (λ h. (h.contents, (h.field_room, h.session_room))) (λ p. record { contents = p.0; field_room = p.1.0; session_room = p.1.1 }) (λ _. refl)

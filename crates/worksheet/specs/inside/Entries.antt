@@ -3,7 +3,6 @@
 use Rattle.std.specs.Prelude.{◌≡◌, ◌<◌, suc, true, length, get_or, ℕ, List, [], ◌∷◌, Option, Some, None}
 use Rattle.worksheet.specs.declared.field.Field.{Field}
 use Rattle.worksheet.specs.declared.field.Session.{Session}
-use Rattle.worksheet.specs.Contents.{SessionRoom, ready_for_none, ready_for_name}
 use Rattle.worksheet.specs.Names.{is_name}
 
 abbrev pub with_shown : {V : Type 0} → Option V → List V → List V
@@ -46,11 +45,6 @@ AreNamed (s ∷ ss) = (is_name s.name ≡ true) × AreNamed ss
 pub record AreSessions (entries : List (List ℕ × Option Session)) : Type 0 where
   pub fits : Fits (λ session. session.name) entries
   pub named : AreNamed (shown entries)
-
--- for which session there is room where this name is held ready
-abbrev pub name_room : Option (List ℕ) → SessionRoom
-name_room None = ready_for_none
-name_room (Some name) = ready_for_name name
 
 -- directly behind the field with a number
 abbrev pub IsBehind : ℕ → ℕ → Field → List Field → Type 0

@@ -2,7 +2,7 @@
 use Rattle.worksheet.specs.declared.sheet.Sheet.TheInside.{Inside}
 use Rattle.worksheet.specs.Contents.{Contents, SheetView}
 use Rattle.worksheet.specs.Edits.{HasNumbersApart, contents_with}
-use Rattle.worksheet.specs.inside.Entries.{AreFields, AreSessions, name_room, shown, reserved}
+use Rattle.worksheet.specs.inside.Entries.{AreFields, AreSessions, shown, reserved}
 
 abbrev pub contents_of : Inside → Contents
 contents_of sheet = contents_with (shown sheet.fields.entries) (shown sheet.sessions.entries) sheet.next
@@ -11,7 +11,7 @@ abbrev pub held_of : Inside → SheetView
 held_of sheet = record {
   contents = contents_of sheet;
   field_room = reserved sheet.fields.entries;
-  session_room = name_room (reserved sheet.sessions.entries);
+  session_room = reserved sheet.sessions.entries;
 }
 
 pub record IsSoundInside (sheet : Inside) : Type 0 where

@@ -11,5 +11,5 @@ invariant-loop-seat g l = record {
   same : SameDisk l.fn.host.store.disk l.host.store.disk;
   runs : (w : World) → IsHost l.fn.host w
       → Ran (FirstOf (Taken g.C.Children.after l.listens None) l.seats l.seat-index (at w l.fn.children)) l.fn.replies.items l.host l.children l.replies.items;
-  still : l.fn.host.closed ≡ true → (l.seat-index ≡ 0) × (l.host ≡ l.fn.host) × (l.replies.items ≡ l.fn.replies.items);
+  still : l.fn.host.closed ≡ true → (l.seat-index ≡ 0) × (l.host ≡ l.fn.host) × (l.replies.items ≡ l.fn.replies.items) × (l.children ≡ l.fn.children);
 }

@@ -1,4 +1,5 @@
-use Rattle.std.proofs.Common.{rules, ◌<◌, length, ◌++◌, [], refl, sym, ap, ◌∙◌, arith, append-nil}
+use Rattle.std.proofs.Common.{rules, ℕ, ◌<◌, nat_lt, length, ◌++◌, [], refl, sym, ap, ◌∙◌, subst, arith, append-nil}
+use Rattle.child_edge.specs.Edge.{HeardOne}
 use Rattle.child_edge.specs.Faithful.{at}
 use Rattle.child_edge.specs.Limits.{most_turns}
 use Rattle.child_edge.proofs.Waits.{Turns-more, told-join, by_cause}
@@ -63,8 +64,14 @@ loop-number-preserved g c = record {
   still = λ e.
       let s = c.loop-number.invariant.still e in
       let some : 0 < length c.as_slice.result.now = search rules in
-      absurd (c.in-Ok-turn.ensures.closed (ap (λ h. h.closed) s.0 ∙ e) some);
+      absurd (c.in-Ok-turn.ensures.closed (ap (λ h. h.closed) s.1 ∙ e) some);
 }
 
 pub returns-in-Err-clause-same : goal.returns-in-Err-clause-same
 returns-in-Err-clause-same g c = same-on c.args.host.now.store.disk c.loop-number.host.store.disk c.turn.new.host.store.disk c.loop-number.invariant.same c.in-Err.ensures.same
+
+pub returns-in-Err-clause-heard : goal.returns-in-Err-clause-heard
+returns-in-Err-clause-heard g c = λ e.
+    let s = c.loop-number.invariant.still e in
+    let h = c.in-Err.ensures.heard (ap (λ h. h.closed) s.1 ∙ e) in
+    rw (sym s.3) (subst (λ (k : ℕ). HeardOne g.C.Children.after (nat_lt k most_turns) c.loop-number.children c.turn.new.children) s.0 h)

@@ -11,5 +11,5 @@ abbrev pub invariant-loop-number : goal.invariant-loop-number
 invariant-loop-number g l = record {
   same : SameDisk l.fn.host.store.disk l.host.store.disk;
   runs : (w : World) → IsHost l.fn.host w → Ran (Turns g.C.Children.after most_turns l.number (at w l.fn.children)) [] l.host l.children l.replies.items;
-  still : l.fn.host.closed ≡ true → (l.host ≡ l.fn.host) × (l.replies.items ≡ []);
+  still : l.fn.host.closed ≡ true → (l.number ≡ 0) × (l.host ≡ l.fn.host) × (l.replies.items ≡ []) × (l.children ≡ l.fn.children);
 }
