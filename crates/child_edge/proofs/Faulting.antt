@@ -1,8 +1,8 @@
 -- What a fault of the host leaves.
-use Rattle.std.proofs.Common.{◌≡◌, ℕ, ◌≤◌, List, refl, ap, sym, ◌∙◌, subst, true, arith}
+use Rattle.std.proofs.Common.{◌≡◌, ℕ, ◌≤◌, refl, sym, ◌∙◌, subst, true, arith}
 use Rattle.std.specs.Prelude.{Result, Ok, Err, IfErr, OnErr}
 use Rattle.std.specs.Bool.{IsTrue}
-use Rattle.disk_model.specs.Disk.{DiskView, InModel, Leaves, Rises, SameDisk}
+use Rattle.disk_model.specs.Disk.{DiskView, SameDisk}
 use Rattle.disk_model.specs.inside.Moments.{at_end}
 use Rattle.recovery.specs.Sheets.{IsEither}
 use Rattle.session_engine.specs.declared.event.Event.{Event}

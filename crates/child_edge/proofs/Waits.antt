@@ -1,5 +1,5 @@
 -- A turn goes on by one life, and a wait by one turn.
-use Rattle.std.proofs.Common.{◌≡◌, ℕ, ◌+◌, ◌≤◌, ◌<◌, suc, Bool, true, List, [], ◌∷◌, ◌++◌, Option, Some, None, refl, ap, sym, ◌∙◌, append_assoc, append-nil, add-one, slice_get, get_or, length, nat_lt, arith}
+use Rattle.std.proofs.Common.{◌≡◌, ℕ, ◌+◌, Bool, List, ◌++◌, Some, refl, ap, sym, ◌∙◌, append_assoc, add-one, slice_get, nat_lt}
 use Rattle.session_engine.specs.declared.reply.Reply.{Reply}
 use Rattle.session_engine.specs.declared.outcome.HostFault.{HostFault}
 use Rattle.child_edge.specs.Seats.{waits}

@@ -1,5 +1,5 @@
 -- Children that answer by their parts.
-use Rattle.std.specs.Prelude.{◌≡◌, ℕ, ◌==◌, ◌&&◌, Bool, true, false, List, [], ◌∷◌, ◌⊎◌, drop, Option, Some, None, position, slice_get, slice_set}
+use Rattle.std.specs.Prelude.{◌≡◌, ℕ, ◌==◌, ◌&&◌, Bool, true, false, List, ◌⊎◌, drop, Option, Some, None, position, slice_get, slice_set}
 use Rattle.std.specs.Str.{bytes_eq}
 use Rattle.child_edge.specs.declared.scripted.Part.{Part}
 use Rattle.child_edge.specs.declared.scripted.Got.{Got}

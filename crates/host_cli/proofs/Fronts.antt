@@ -1,12 +1,12 @@
 -- A stream that is read piece by piece: what a front of it says.
 use Rattle.std.proofs.KnownBytes.{Appends-trans, Appends-nil}
-use Rattle.std.proofs.Common.{IfSome, None, Some, ◌≡◌, ℕ, suc, ◌+◌, ◌-◌, ◌<◌, ◌≤◌, true, false, List, [], ◌∷◌, ◌++◌, Option, length, take, drop, flat_map, refl, sym, ap, ◌∙◌, subst, arith, append_assoc, length-append, take-append-drop, inl, inr}
+use Rattle.std.proofs.Common.{IfSome, None, Some, ◌≡◌, ℕ, ◌+◌, ◌-◌, ◌<◌, ◌≤◌, false, List, [], ◌∷◌, ◌++◌, Option, length, take, drop, refl, sym, ap, ◌∙◌, subst, arith, append_assoc, length-append, take-append-drop, inl}
 use Rattle.std.proofs.Math.Seq.{take-add}
 use Rattle.std.proofs.lemmas.Grind.{flat_map-append}
 use Rattle.std.specs.Io.KnownBytes.{Appends}
 use Rattle.meta_format.specs.Limits.{Limits}
-use Rattle.meta_format.specs.Stream.{Outer, Stream, Chain, none}
-use Rattle.meta_format.specs.Faults.{Kind, FaultAt, FirstFault, IsSound}
+use Rattle.meta_format.specs.Stream.{Outer, none}
+use Rattle.meta_format.specs.Faults.{Kind, FaultAt, IsSound}
 use Rattle.meta_format.specs.Reader.{ReaderView, ReaderHasRead, Faults}
 use Rattle.host_cli.specs.Printed.{Printed, PrintsFront, outer_line, outer_lines, fault_line}
 use Rattle.host_cli.proofs.Lines.{faulty_printed}

@@ -1,5 +1,5 @@
 -- Lines of a script over a worksheet on a disk, one after another.
-use Rattle.std.proofs.Common.{◌≡◌, ◌+◌, ◌≤◌, ◌<◌, ◌⊎◌, inl, inr, ℕ, zero, suc, true, false, List, [], ◌∷◌, ◌++◌, Option, Some, None, refl, ap, sym, ◌∙◌, subst, append_assoc, append-nil, length, arith}
+use Rattle.std.proofs.Common.{◌≡◌, ◌+◌, ◌≤◌, ◌<◌, inl, inr, ℕ, true, List, [], ◌∷◌, ◌++◌, Option, Some, None, refl, ap, sym, ◌∙◌, subst, append_assoc, append-nil, length, arith}
 use Rattle.std.proofs.KnownBytes.{Appends-trans, Appends-nil}
 use Rattle.std.proofs.lemmas.Bool.{false≢true}
 use Rattle.std.specs.Prelude.{IfSome, IfErr, Result, Ok, Err}
@@ -14,7 +14,7 @@ use Rattle.session_engine.specs.World.{World, world_at_opening}
 use Rattle.session_engine.specs.Host.{HostView, EndsAt, IsHost}
 use Rattle.child_edge.specs.declared.serving.EdgeCause.{EdgeCause}
 use Rattle.child_edge.specs.declared.serving.EdgeCause.TheVariants as cause
-use Rattle.child_edge.specs.Faithful.{Relation, At, at, Beat}
+use Rattle.child_edge.specs.Faithful.{Relation, At, at}
 use Rattle.child_edge.specs.Edge.{Stopped}
 use Rattle.child_edge.specs.Seats.{running}
 use Rattle.child_edge.specs.Stops.{Stops}
@@ -22,10 +22,10 @@ use Rattle.child_edge.proofs.Faulting.{stopped_since}
 use Rattle.sheet_text.specs.Script.{line_of, wants_memory}
 use Rattle.sheet_text.specs.declared.script.ScriptLine.{ScriptLine}
 use Rattle.sheet_text.specs.declared.script.ScriptLine.TheVariants as line
-use Rattle.host_cli.specs.Lines.{LineDone, LinesDone, LineUpTo, LineSoFar, LineLed, whole, up_to, so_far, beats_text}
+use Rattle.host_cli.specs.Lines.{LineDone, LinesDone, LineSoFar, whole, up_to, so_far, beats_text}
 use Rattle.host_cli.specs.Input.{IsInputFault, max_input}
 use Rattle.host_cli.specs.Memory.{script_lines}
-use Rattle.host_cli.specs.Run.{OpenedOn, LinesBefore, LinesUpTo, LinesSoFar, LinesLed, RunDone, RunStopped, RunSoFar, RunLed, TellsRun}
+use Rattle.host_cli.specs.Run.{OpenedOn, LinesBefore, RunDone, RunStopped, RunSoFar, RunLed, TellsRun}
 use Rattle.host_cli.specs.inside.Taking.{LineTaken, LineFailed, LinesFailed, LinesStopped, StandsOrStopped, fault_of_cause}
 use Rattle.host_cli.specs.declared.fault.RunFault.{RunFault}
 use Rattle.host_cli.specs.declared.fault.RunFault.TheVariants as fault

@@ -3,7 +3,6 @@ use Rattle.std.specs.Prelude.{◌≡◌, ◌+◌, ℕ, true, List, [], ◌∷◌
 use Rattle.std.specs.Fmt.{decimal}
 use Rattle.bstr.specs.Text.{lines_of, without_terminator}
 use Rattle.worksheet.specs.declared.op.Op.{Op}
-use Rattle.worksheet.specs.declared.op.Op.TheVariants as op
 use Rattle.worksheet.specs.declared.refusal.Refusal.{Refusal}
 use Rattle.worksheet.specs.declared.refusal.Refusal.TheVariants as refusal
 use Rattle.worksheet.specs.Ops.{sheet_of}

@@ -1,15 +1,14 @@
 -- The run of a script over a worksheet on a disk and its interpreters, and what a fault of it leaves.
-use Rattle.std.specs.Prelude.{◌≡◌, ◌+◌, ◌<◌, ◌≤◌, ◌⊎◌, ℕ, List, ◌∷◌, ◌++◌, Option, IfSome, length}
+use Rattle.std.specs.Prelude.{◌≡◌, ◌<◌, ◌≤◌, ◌⊎◌, ℕ, List, ◌∷◌, ◌++◌, Option, IfSome, length}
 use Rattle.std.specs.Io.KnownBytes.{Appends}
 use Rattle.disk_model.specs.Disk.{DiskView, InModel, SameDisk, bytes_on}
-use Rattle.journal.specs.declared.opening.OpenCause.{OpenCause}
 use Rattle.worksheet.specs.declared.op.Op.{Op}
 use Rattle.worksheet.specs.Ops.{sheet_of}
 use Rattle.recovery.specs.Sheets.{IsSheetImage, TellsOfSheet}
 use Rattle.session_engine.specs.declared.event.Event.{Event}
 use Rattle.session_engine.specs.declared.outcome.HostFault.{HostFault}
 use Rattle.session_engine.specs.World.{World, world_at_opening}
-use Rattle.session_engine.specs.Host.{HostView, EndsAt, IsHost}
+use Rattle.session_engine.specs.Host.{HostView, EndsAt}
 use Rattle.child_edge.specs.Faithful.{Relation, At, at, Beat}
 use Rattle.child_edge.specs.Edge.{HoldsSheet, Stopped}
 use Rattle.child_edge.specs.Seats.{running}

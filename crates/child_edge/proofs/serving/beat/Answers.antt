@@ -1,4 +1,4 @@
-use Rattle.std.proofs.Common.{refl, ap}
+use Rattle.std.proofs.Common.{refl}
 use Rattle.session_engine.specs.Does.{behind}
 use Rattle.child_edge.proofs.serving.beat.Goals as goal
 

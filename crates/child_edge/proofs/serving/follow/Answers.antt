@@ -1,4 +1,4 @@
-use Rattle.std.proofs.Common.{◌≡◌, ◌+◌, ◌++◌, ◌≤◌, List, [], ◌∷◌, Some, None, refl, sym, ap, ◌∙◌, append-nil, arith}
+use Rattle.std.proofs.Common.{◌++◌, ◌≤◌, [], ◌∷◌, Some, refl, sym, ap, ◌∙◌, append-nil, arith}
 use Rattle.child_edge.specs.Faithful.{at, due_after}
 use Rattle.child_edge.proofs.Chains.{Follows-push, told-on}
 use Rattle.child_edge.proofs.Ranks.{rank, rank-none, rank-most, rank-on, rank-told}

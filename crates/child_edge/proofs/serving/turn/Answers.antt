@@ -2,7 +2,7 @@ use Rattle.std.proofs.Common.{◌≡◌, ◌++◌, Some, None, refl, sym, ap, �
 use Rattle.std.proofs.lemmas.Option.{slice_get-get_or}
 use Rattle.child_edge.specs.Faithful.{at, Taken}
 use Rattle.child_edge.proofs.Waits.{FirstOf-more, told-join, by_cause}
-use Rattle.child_edge.proofs.Faulting.{same-at, same-on, stopped_since}
+use Rattle.child_edge.proofs.Faulting.{same-on, stopped_since}
 use Rattle.child_edge.proofs.serving.turn.Goals as goal
 
 pub loop-seat-preserved : goal.loop-seat-preserved

@@ -1,8 +1,8 @@
-use Rattle.std.proofs.Common.{◌≡◌, ◌++◌, List, None, true}
+use Rattle.std.proofs.Common.{◌≡◌, None, true}
 use Rattle.disk_model.specs.Disk.{SameDisk}
 use Rattle.session_engine.specs.World.{World}
 use Rattle.session_engine.specs.Host.{IsHost}
-use Rattle.child_edge.specs.Faithful.{at, Beat, Taken, FirstOf}
+use Rattle.child_edge.specs.Faithful.{at, Taken, FirstOf}
 use Rattle.child_edge.specs.Edge.{Ran}
 use Rattle.child_edge.proofs.serving.turn.Given as goal
 

@@ -3,7 +3,7 @@ use Rattle.child_edge.specs.Edge.{HeardOne}
 use Rattle.child_edge.specs.Faithful.{at}
 use Rattle.child_edge.specs.Limits.{most_turns}
 use Rattle.child_edge.proofs.Waits.{Turns-more, told-join, by_cause}
-use Rattle.child_edge.proofs.Faulting.{same-at, same-on, stopped_since}
+use Rattle.child_edge.proofs.Faulting.{same-on, stopped_since}
 use Rattle.child_edge.proofs.serving.wait.Goals as goal
 
 pub returns-in_default-clause-err : goal.returns-in_default-clause-err

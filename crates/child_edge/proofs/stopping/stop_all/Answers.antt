@@ -1,4 +1,4 @@
-use Rattle.std.proofs.Common.{◌≡◌, List, [], ◌++◌, refl, ap, ◌∙◌, subst, option_map}
+use Rattle.std.proofs.Common.{[], ◌++◌, refl, ap, ◌∙◌, subst, option_map}
 use Rattle.session_engine.specs.World.{sheet_in}
 use Rattle.session_engine.specs.Host.{number_in}
 use Rattle.child_edge.specs.Seats.{numbered, lives_of}

@@ -1,4 +1,4 @@
-use Rattle.std.proofs.Common.{rules, ◌++◌, ◌+◌, ◌-◌, ◌≤◌, length, take, drop, sym, ◌∙◌, subst, arith}
+use Rattle.std.proofs.Common.{rules, ◌++◌, ◌-◌, take, drop, sym, ◌∙◌, subst, arith}
 use Rattle.std.proofs.lemmas.List.{take_all}
 use Rattle.std.specs.Io.KnownBytes.{Appends}
 use Rattle.std.proofs.KnownBytes.{Appends-trans}

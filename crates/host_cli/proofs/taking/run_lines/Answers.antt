@@ -1,4 +1,4 @@
-use Rattle.std.proofs.Common.{ap, sym, ◌∙◌, length, arith, refl}
+use Rattle.std.proofs.Common.{ap, length, arith}
 use Rattle.child_edge.specs.Faithful.{at}
 use Rattle.child_edge.proofs.Faulting.{same-at, same-on}
 use Rattle.host_cli.specs.Memory.{script_lines}

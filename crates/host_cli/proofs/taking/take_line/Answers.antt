@@ -1,4 +1,4 @@
-use Rattle.std.proofs.Common.{[], Some, ap, sym, ◌∙◌, refl, subst}
+use Rattle.std.proofs.Common.{[], Some, ap, sym, ◌∙◌, subst}
 use Rattle.std.specs.Prelude.{Err}
 use Rattle.sheet_text.specs.Script.{line_of}
 use Rattle.child_edge.specs.Faithful.{at}

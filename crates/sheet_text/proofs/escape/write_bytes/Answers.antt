@@ -1,5 +1,4 @@
-use Rattle.std.proofs.Common.{rules, ◌+◌, ◌-◌, take, drop, length, eqb, arith}
-use Rattle.std.proofs.lemmas.Bool.{eqb-true, eqb-false}
+use Rattle.std.proofs.Common.{rules, ◌-◌, take, drop, arith}
 use Rattle.std.specs.Io.KnownBytes.{Appends}
 use Rattle.sheet_text.specs.Escape.{printed_byte}
 use Rattle.sheet_text.proofs.Runs.{run_step, run_last, plain_byte}

@@ -1,4 +1,4 @@
-use Rattle.std.proofs.Common.{take, ℕ, List, ◌∷◌, flat_map}
+use Rattle.std.proofs.Common.{take}
 use Rattle.std.specs.Io.KnownBytes.{Appends}
 use Rattle.sheet_text.specs.Replies.{spaced_texts}
 use Rattle.sheet_text.proofs.replies.write_texts.Given as goal
