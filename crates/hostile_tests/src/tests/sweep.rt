@@ -117,9 +117,9 @@ fn add_pieces(
     Ok(())
 }
 
-// What is done with a field once it is answered: its completions are asked for, with the cursor at the end of
-// its input, and there are none; then an empty input, its place behind field 1, no output, and
-// no field.
+// What is done with a field once it is answered: its completions are asked for, with the cursor at the
+// end of its input, and there are none; then an empty input, its place behind field 1, no output, and no
+// field.
 fn add_end(alloc: Global, events: &mut Vec<Event>, id: u32, len: u32) -> Result<(), Fail> {
     events.push(Event::Command(Command::Complete { id, cursor: len }))?;
     add_piece(alloc, events, b"\x02scheme:\"\"\x05".as_slice())?;
@@ -217,10 +217,10 @@ fn swept_by_play(alloc: Global) -> Result<Tally, Fail> {
     }
 }
 
-// All is accepted, and each answer closes: the session and four commands of each size are done, each field
-// is made, evaluated and asked for completions, and each piece but the last of its answer gives nothing. An answer of n bytes and
-// 11 around it comes in 12 pieces where n is 1, in 7, 5, 4, 4, 3, 3, 3, 3 and 3 from 2 to 10, and then in
-// 2.
+// All is accepted, and each answer closes: the session and four commands of each size are done, each
+// field is made, evaluated and asked for completions, and each piece but the last of its answer gives
+// nothing. An answer of n bytes and 11 around it comes in 12 pieces where n is 1, in 7, 5, 4, 4, 3, 3, 3,
+// 3 and 3 from 2 to 10, and then in 2.
 const WANTED: Tally = Tally {
     done: 1 + 4 * LONGEST,
     fields: 1 + LONGEST,
