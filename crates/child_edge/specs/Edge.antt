@@ -1,5 +1,5 @@
 -- What a run on a host leaves, where it came to its end and where it broke off.
-use Rattle.std.specs.Prelude.{◌≡◌, ◌⊎◌, ℕ, List, [], ◌++◌, Bool, true, false, option_map, Result, Ok, Err}
+use Rattle.std.specs.Prelude.{◌≡◌, ℕ, List, [], ◌++◌, Bool, true, false, option_map, Result, Ok, Err}
 use Rattle.std.specs.declared.vec.Vec.{Vec}
 use Rattle.disk_model.specs.Disk.{DiskView, InModel, Leaves, Rises}
 use Rattle.recovery.specs.Sheets.{IsSheetImage, IsEither}
@@ -62,20 +62,20 @@ abbrev pub ByCause : EdgeCause → (HostFault → Type 0) → Type 0 → Type 0
 ByCause (cause.Host f) broken short = broken f
 ByCause cause.OutOfMemory broken short = short
 
--- the host's fault is that it is closed, or memory was refused
-abbrev pub IsClosed : EdgeCause → Type 0
-IsClosed why = ByCause why (λ f. f ≡ faults.Closed) (Unit {0})
+-- the host told that it is closed, or memory was refused
+abbrev pub ClosedOrNoMemory : EdgeCause → Type 0
+ClosedOrNoMemory why = ByCause why (λ f. f ≡ faults.Closed) (Unit {0})
 
 -- On a closed host no command is taken.
 abbrev pub FailsClosed : {E : Type 0} → Result (Vec Reply E) EdgeFault → Type 0
 FailsClosed (Ok replies) = ⊥
-FailsClosed (Err fault) = (fault.replies.items ≡ []) × IsClosed fault.cause
+FailsClosed (Err fault) = (fault.replies.items ≡ []) × ClosedOrNoMemory fault.cause
 
--- the children are as before, or one of them was heard
-abbrev pub HeardOne : {C : Type 0} → Relation C → Bool → C → C → Type 0
-HeardOne R listens c d = (d ≡ c) ⊎ ((seat : Seat) × (event : ChildEvent) × Hears R listens seat.name seat.life c event d)
+-- On a closed host one child was heard before the host told that it is closed, and none where memory was refused.
+abbrev pub HeardOne : {C : Type 0} → Relation C → Bool → C → C → EdgeCause → Type 0
+HeardOne R listens c d why = ByCause why (λ f. (seat : Seat) × (event : ChildEvent) × Hears R listens seat.name seat.life c event d) (d ≡ c)
 
 -- On a closed host nothing is told: no item waits, or the wait breaks off.
 abbrev pub TellsClosed : {E : Type 0} → Result (Vec Reply E) EdgeFault → Type 0
 TellsClosed (Ok replies) = replies.items ≡ []
-TellsClosed (Err fault) = (fault.replies.items ≡ []) × IsClosed fault.cause
+TellsClosed (Err fault) = (fault.replies.items ≡ []) × ClosedOrNoMemory fault.cause

@@ -3,7 +3,7 @@ ghost use Rattle.std.specs.Prelude.{◌≡◌, ◌+◌, ◌++◌, ◌≤◌, ◌
 ghost use Rattle.disk_model.specs.Disk.{SameDisk};
 ghost use Rattle.session_engine.specs.World.{World};
 ghost use Rattle.session_engine.specs.Host.{IsHost, Took};
-ghost use Rattle.child_edge.specs.Edge.{BrokeOff, ByCause, FailsClosed, HeardOne, IsClosed, Ran, Stopped, TellsClosed};
+ghost use Rattle.child_edge.specs.Edge.{BrokeOff, ByCause, ClosedOrNoMemory, FailsClosed, HeardOne, Ran, Stopped, TellsClosed};
 ghost use Rattle.child_edge.specs.Limits.{most_turns};
 ghost use Rattle.child_edge.specs.Calls.{Answer};
 ghost use Rattle.child_edge.specs.Answers.{sent};
@@ -255,11 +255,12 @@ fn take<D: Disk, C: Children>(
         host.old.store.disk.faults host.new children.new replies.new.items)
         (IsHost host.new w × (children.new ≡ children.old)
         × (replies.new.items ≡ replies.old.items))) }
-    ensures closed { host.old.closed ≡ true → MatchResult result (λ done. ⊥) IsClosed }
+    ensures closed { host.old.closed ≡ true → MatchResult result (λ done. ⊥) ClosedOrNoMemory }
     ensures still { host.old.closed ≡ true
         → (host.new ≡ host.old) × (replies.new.items ≡ replies.old.items) }
-    ensures heard { host.old.closed ≡ true
-        → HeardOne C.after listens children.old children.new }
+    ensures heard { host.old.closed ≡ true → MatchResult result
+        (λ done. children.new ≡ children.old)
+        (HeardOne C.after listens children.old children.new) }
 {
     if replies.reserve(MOST_EVENTS).is_err() {
         return Err(EdgeCause::OutOfMemory);
@@ -292,11 +293,12 @@ fn turn<D: Disk, C: Children>(
         (Ran (TurnSoFar C.after listens seats.now (at w children.old)) replies.old.items
         host.new children.new replies.new.items)) }
     ensures closed { host.old.closed ≡ true
-        → 0 < length seats.now → MatchResult result (λ done. ⊥) IsClosed }
+        → 0 < length seats.now → MatchResult result (λ done. ⊥) ClosedOrNoMemory }
     ensures still { host.old.closed ≡ true
         → (host.new ≡ host.old) × (replies.new.items ≡ replies.old.items) }
-    ensures heard { host.old.closed ≡ true
-        → HeardOne C.after listens children.old children.new }
+    ensures heard { host.old.closed ≡ true → MatchResult result
+        (λ done. children.new ≡ children.old)
+        (HeardOne C.after listens children.old children.new) }
 {
     for seat in seats {
         if let Err(cause) = take(host, children, listens, *seat, replies) {
@@ -330,10 +332,13 @@ pub fn wait<D: Disk, C: Children>(
         (Ran (WaitSoFar C.after most_turns (at w children.old)) []
         host.new children.new fault.replies.items)) }
 
-    // On a closed host nothing is told, and it stays as it is. One child may have been received from.
+    // On a closed host nothing is told, and it stays as it is. Where the host told that it is closed,
+    // one child was received from, and else none.
     ensures closed { host.old.closed ≡ true → TellsClosed result }
     ensures still { host.old.closed ≡ true → host.new ≡ host.old }
-    ensures heard { host.old.closed ≡ true → HeardOne C.after true children.old children.new }
+    ensures heard { host.old.closed ≡ true → MatchResult result
+        (λ replies. children.new ≡ children.old)
+        (λ fault. HeardOne C.after true children.old children.new fault.cause) }
 {
     let mut replies = Vec::new(alloc);
     for number in 0..TURNS + 1 {

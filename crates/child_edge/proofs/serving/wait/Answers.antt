@@ -74,4 +74,4 @@ pub returns-in-Err-clause-heard : goal.returns-in-Err-clause-heard
 returns-in-Err-clause-heard g c = λ e.
     let s = c.loop-number.invariant.still e in
     let h = c.in-Err.ensures.heard (ap (λ h. h.closed) s.1 ∙ e) in
-    rw (sym s.3) (subst (λ (k : ℕ). HeardOne g.C.Children.after (nat_lt k most_turns) c.loop-number.children c.turn.new.children) s.0 h)
+    rw (sym s.3) (subst (λ (k : ℕ). HeardOne g.C.Children.after (nat_lt k most_turns) c.loop-number.children c.turn.new.children c.in-Err.cause) s.0 h)
