@@ -65,7 +65,7 @@ fn main() -> io::Result<()> {
     let mut place = Place::Outside;
     let mut start = 0;
     for (at, &c) in input.iter().enumerate() {
-        if !matches!(place, Place::Outside) && at - start + 1 >= 1_048_576 && !(c == 5 && levels.len() == 1) {
+        if !matches!(place, Place::Outside) && at - start + 1 >= 16_777_216 && !(c == 5 && levels.len() == 1) {
             writeln!(out, "fault 3 TooLong {at}")?;
             std::process::exit(1);
         }

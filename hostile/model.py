@@ -148,7 +148,7 @@ class Model:
         elif verb == "stop":
             session, ended = self.sessions[words[0]], f"ended {words[0]} Stopped lost "
             if session.is_up:
-                return [ended + str(self.end(session))]
+                return [ended + str(self.end(session, "Stopped"))]
         else:
             return self.change(verb, int(words[0]), words)
         return ["ok"]
@@ -177,11 +177,17 @@ class Model:
             self.fields[id][2] = None
         session.waiting.append((id, self.fields[id][1], completes))
 
-    # Ends a life, and gives how many items were lost.
-    def end(self, session):
+    # Ends a life, and gives how many items were lost. The first, where it is a line, keeps the reason.
+    def end(self, session, reason):
         lost = len(session.waiting)
+        for id, shown in self.reasons(session.waiting, reason):
+            self.fields[id][2] = shown
         session.is_up, session.waiting = False, []
         return lost
+
+    # What the end of a life shows that leaves these items: of the first alone, and only of a line.
+    def reasons(self, items, reason):
+        return [(id, ("> ", f"? {reason}")) for id, _, completes in items[:1] if not completes]
 
     # The items of a session that its interpreter answers in a wait.
     def answered(self, session):
@@ -206,8 +212,10 @@ class Model:
     def sheets_in_wait(self, told):
         fronts = []
         for session in self.sessions.values():
-            lines = self.answers(session, self.answered(session))
+            answered = self.answered(session)
+            lines = self.answers(session, answered)
             least = sum(f"answered {id}" in told for id, _ in lines)
+            lines += self.reasons(session.waiting[len(answered) :], "Ended")
             fronts.append([lines[:n] for n in range(least, len(lines) + 1)])
         return {self.printed(itertools.chain(*chosen)) for chosen in itertools.product(*fronts)}
 
@@ -221,7 +229,7 @@ class Model:
             session.has_banner, session.count = True, session.count + len(answered)
             session.waiting = session.waiting[len(answered) :]
             if session.waiting:
-                self.end(session)
+                self.end(session, "Ended")
 
 
 VERBS = {"session", "new", "set", "remove", "move", "clear", "eval", "complete", "stop"}
@@ -266,7 +274,7 @@ def follow(script, output, kinds, memory=False):
             wanted = [f"bad line {number}"]
         else:
             refusal = model.refusal(verb, words)
-            if memory and refusal is None and verb != "stop" and told[:1] == [refused(17)]:
+            if memory and refusal is None and told[:1] == [refused(17)]:
                 refusals += 1
                 del told[0]
                 continue
@@ -290,7 +298,7 @@ def start_refused(model, words, told):
     name = model.fields[int(words[0])][0] if int(words[0]) in model.fields else None
     if told[:1] != [f"ended {name} StartRefused lost 1"]:
         return 0
-    model.end(model.sessions[name])
+    model.end(model.sessions[name], "StartRefused")
     del told[0]
     return 1
 

@@ -3,3 +3,4 @@ pub mod Marks
 pub mod Nodes
 pub mod Growing
 pub mod Reading
+pub mod ReasonCode

@@ -1,5 +1,5 @@
-//! Blocks: what an interpreter puts out, as trees of formats, channels and texts. And the small list
-//! types that the public data of all crates is made of.
+//! Blocks: what an interpreter puts out, as trees of formats, channels and texts. Why its life ended. And
+//! the small list types that the public data of all crates is made of.
 #![tactic(auto)]
 
 mod block;
@@ -10,6 +10,7 @@ mod laws;
 mod octets;
 mod output;
 mod queue;
+mod reason;
 mod sequence;
 mod shape;
 mod text;
@@ -21,6 +22,7 @@ pub use laws::{equal_blocks, equal_marks};
 pub use octets::Octets;
 pub use output::output_of;
 pub use queue::Queue;
+pub use reason::Reason;
 pub use sequence::Sequence;
 pub use shape::{MAX_DEPTH, MAX_TAG};
 pub use text::Text;

@@ -1,60 +1,50 @@
 -- What a run on a host leaves, where it came to its end and where it broke off.
 use Rattle.std.specs.Prelude.{◌≡◌, ℕ, List, [], ◌++◌, Bool, true, false, option_map, Result, Ok, Err}
 use Rattle.std.specs.declared.vec.Vec.{Vec}
-use Rattle.disk_model.specs.Disk.{DiskView, InModel, Leaves, Rises}
-use Rattle.recovery.specs.Sheets.{IsSheetImage, IsEither}
-use Rattle.worksheet.specs.declared.op.Op.{Op}
+use Rattle.disk_model.specs.Disk.{DiskView, SameDisk}
 use Rattle.session_engine.specs.declared.event.ChildEvent.{ChildEvent}
 use Rattle.session_engine.specs.declared.event.Event.{Event}
 use Rattle.session_engine.specs.declared.reply.Reply.{Reply}
 use Rattle.session_engine.specs.declared.outcome.HostFault.{HostFault}
 use Rattle.session_engine.specs.declared.outcome.HostFault.TheVariants as faults
-use Rattle.session_engine.specs.World.{World, fits, life_of, sheet_in}
+use Rattle.session_engine.specs.World.{World, life_of, sheet_in}
 use Rattle.session_engine.specs.Host.{HostView, IsHost, number_in}
-use Rattle.session_engine.specs.Faults.{MayGive, is_piece}
+use Rattle.session_engine.specs.Faults.{CauseOf}
 use Rattle.child_edge.specs.declared.serving.EdgeFault.{EdgeFault}
 use Rattle.child_edge.specs.declared.serving.EdgeCause.{EdgeCause}
 use Rattle.child_edge.specs.declared.serving.EdgeCause.TheVariants as cause
 use Rattle.child_edge.specs.declared.waiting.Seat.{Seat}
+use Rattle.child_edge.specs.Kept.{HoldsSheet}
 use Rattle.child_edge.specs.Faithful.{At, at, Beat, Hears, Relation}
 use Rattle.child_edge.specs.Told.{told}
 
--- each image of the disk is one of the world's worksheet
-abbrev pub HoldsSheet : World → DiskView → Type 0
-HoldsSheet w disk = InModel disk (Leaves (IsSheetImage (sheet_in w)) disk.history.now)
-
--- What a fault of an event is answered for, and which images it leaves. Where the disk failed, which had counted so many failures
--- before, the event may give an op, and each image is one of the worksheet without it or with it. Any other fault leaves the disk
--- as it was.
-abbrev pub LeftByFault : World → Event → ℕ → DiskView → HostFault → Type 0
-LeftByFault w e failures disk faults.Closed = ⊥
-LeftByFault w e failures disk faults.Disk =
-    Rises failures disk.faults × ((o : Op) × MayGive w e o × InModel disk (Leaves (IsEither w.ops o) disk.history.now))
-LeftByFault w e failures disk faults.OutOfMemory = HoldsSheet w disk × (is_piece w e ≡ true)
-LeftByFault w e failures disk faults.JournalFull = HoldsSheet w disk × (is_piece w e ≡ true) × ((o : Op) × MayGive w e o × (fits w o ≡ false))
-
--- This fault came with this event. The host is closed; its worksheet and each life's number are as before the event.
-pub record Stopped (failures : ℕ) (h : HostView) (w : World) (e : Event) (fault : HostFault) : Type 0 where
+-- This fault came with this event, on a disk that was so before it, and held the worksheet. The host is closed; its worksheet and
+-- each life's number are as before the event. Where the disk failed, the event may give an op, and each image at every moment of it
+-- was one of the worksheet without it or with it. Any other fault leaves the disk as it was.
+pub record Stopped (before : DiskView) (h : HostView) (w : World) (e : Event) (fault : HostFault) : Type 0 where
   pub closed : h.closed ≡ true
+  pub held : HoldsSheet w before
+  pub same : SameDisk before h.store.disk
   pub contents : h.store.sheet.contents ≡ sheet_in w
   pub numbers : (name : List ℕ) → number_in h.lives name ≡ option_map (λ l. l.number) (life_of w name)
-  pub left : LeftByFault w e failures h.store.disk fault
+  pub cause : CauseOf w e before h.store.disk fault
 
 -- A run of this form came about, and leads to where the host and the children are now. Its replies stand behind those before.
 pub record Ran {C : Type 0} (Form : List Beat → At C → Type 0) (before : List Reply) (h : HostView) (c : C) (replies : List Reply) : Type 0 where
   pub beats : List Beat
   pub leads : World
-  pub form : Form beats (at leads c)
+  pub form : Form beats (at leads c h.store.disk)
   pub stands : IsHost h leads
   pub replied : replies ≡ before ++ told beats
 
 -- A run of this form came about up to an event that was due, at which the host had this fault.
-pub record BrokeOff {C : Type 0} (Form : List Beat → Event → At C → Type 0) (before : List Reply) (failures : ℕ) (h : HostView) (c : C) (replies : List Reply) (fault : HostFault) : Type 0 where
+pub record BrokeOff {C : Type 0} (Form : List Beat → Event → At C → Type 0) (before : List Reply) (h : HostView) (c : C) (replies : List Reply) (fault : HostFault) : Type 0 where
   pub beats : List Beat
   pub leads : World
+  pub disk : DiskView
   pub failed : Event
-  pub form : Form beats failed (at leads c)
-  pub stopped : Stopped failures h leads failed fault
+  pub form : Form beats failed (at leads c disk)
+  pub stopped : Stopped disk h leads failed fault
   pub replied : replies ≡ before ++ told beats
 
 -- this where the host had a fault, and that where memory was refused

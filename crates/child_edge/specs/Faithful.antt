@@ -9,6 +9,8 @@ use Rattle.session_engine.specs.declared.outcome.Effect.TheVariants.{Start, Send
 use Rattle.session_engine.specs.declared.outcome.Outcome.{Outcome}
 use Rattle.session_engine.specs.World.{World}
 use Rattle.session_engine.specs.Does.{Gives}
+use Rattle.disk_model.specs.Disk.{DiskView}
+use Rattle.child_edge.specs.Kept.{Kept}
 use Rattle.child_edge.specs.declared.waiting.Seat.{Seat}
 use Rattle.child_edge.specs.Seats.{waits}
 use Rattle.child_edge.specs.Calls.{Call, start, send, receive, stop, Answer, done, fault, piece, end, no_memory}
@@ -17,13 +19,14 @@ use Rattle.child_edge.specs.Calls.{Call, start, send, receive, stop, Answer, don
 abbrev pub Relation : Type 0 → Type 1
 Relation C = C → Call → Answer → C → Type 0
 
--- Where a run stands: what its events led to, and the children.
+-- Where a run stands: what its events led to, the children, and the disk.
 pub record At (C : Type 0) : Type 0 where
   pub world : World
   pub children : C
+  pub disk : DiskView
 
-abbrev pub at : {C : Type 0} → World → C → At C
-at w c = record { world = w; children = c }
+abbrev pub at : {C : Type 0} → World → C → DiskView → At C
+at w c disk = record { world = w; children = c; disk = disk }
 
 -- One event of a run, what it told, and what the call that its effect is was answered.
 pub record Beat : Type 0 where
@@ -62,10 +65,11 @@ Carried R c (Some f) (Some a) d = R c (call_of f) a d
 Carried R c None (Some a) d = ⊥
 Carried R c (Some f) None d = ⊥
 
--- The event was taken, and its effect carried out.
+-- The event was taken, what it gives is on the disk, and its effect was carried out.
 pub record Beats {C : Type 0} (R : Relation C) (s : At C) (e : Event) (b : Beat) (t : At C) : Type 0 where
   pub event : b.event ≡ e
   pub steps : Gives s.world e b.outcome t.world
+  pub kept : Kept s.world steps.0 t.world s.disk t.disk
   pub carried : Carried R s.children b.outcome.effect b.answer t.children
 
 -- From where this event is due, if one is, these come, each due by the one before it, up to where that one is due.
@@ -116,7 +120,7 @@ Hears R false name life c event d = (event ≡ child.Stalled) × (d ≡ c)
 -- that, and what comes of it, up to where this event is due if one is
 abbrev pub Taken : {C : Type 0} → Relation C → Bool → Option Event → Seat → At C → List Beat → At C → Type 0
 Taken {C = C} R listens left seat s bs t =
-    (event : ChildEvent) × (mid : C) × Hears R listens seat.name seat.life s.children event mid × Follows R (at s.world mid) (Some (Child seat.name seat.life event)) bs left t
+    (event : ChildEvent) × (mid : C) × Hears R listens seat.name seat.life s.children event mid × Follows R (at s.world mid s.disk) (Some (Child seat.name seat.life event)) bs left t
 
 -- that up to where this event is due
 abbrev pub TakenUpTo : {C : Type 0} → Relation C → Bool → Seat → At C → List Beat → Event → At C → Type 0

@@ -3,8 +3,11 @@ pub mod Calls
 pub mod Answers
 pub mod Parts
 pub mod Seats
+pub mod Kept
 pub mod Faithful
 pub mod Broken
 pub mod Told
 pub mod Edge
+pub mod Moments
+pub mod Steps
 pub mod Stops

@@ -7,6 +7,7 @@ pub mod processes;
 pub mod scripted;
 pub mod serving;
 mod stopping;
+mod turns;
 mod waiting;
 
 pub use children::{ChildFault, Children, ReceiveFault, Received};
@@ -14,3 +15,4 @@ pub use processes::Processes;
 pub use scripted::{Got, Part, PieceBytes, Scripted};
 pub use serving::{EdgeCause, EdgeFault, TURNS, serve, wait};
 pub use stopping::stop_all;
+pub use turns::Waiting;

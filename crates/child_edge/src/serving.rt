@@ -4,16 +4,18 @@ ghost use Rattle.disk_model.specs.Disk.{SameDisk};
 ghost use Rattle.session_engine.specs.World.{World};
 ghost use Rattle.session_engine.specs.Host.{IsHost, Took};
 ghost use Rattle.child_edge.specs.Edge.{BrokeOff, ByCause, ClosedOrNoMemory, FailsClosed, HeardOne, Ran, Stopped, TellsClosed};
+ghost use Rattle.child_edge.specs.Moments.{BrokeFrom, RanFrom};
 ghost use Rattle.child_edge.specs.Limits.{most_turns};
 ghost use Rattle.child_edge.specs.Calls.{Answer};
 ghost use Rattle.child_edge.specs.Answers.{sent};
 ghost use Rattle.child_edge.specs.Faithful.{at, Beat, Beats, Carried, call_of, due_of, due_after, fault_of, Served, ServedUpTo, TakenUpTo};
-ghost use Rattle.child_edge.specs.Faithful.{Hears, Taken, OneTurn, Waited};
-ghost use Rattle.child_edge.specs.Broken.{TurnSoFar, TurnStopped, WaitSoFar, WaitStopped};
+ghost use Rattle.child_edge.specs.Faithful.{Hears, Taken, Waited};
+ghost use Rattle.child_edge.specs.Broken.{WaitSoFar, WaitStopped};
 ghost use Rattle.child_edge.specs.Told.{spoken};
 
 use crate::children::{ChildFault, Children, ReceiveFault, Received};
-use crate::waiting::{Seat, waiting};
+use crate::turns::Waiting;
+use crate::waiting::Seat;
 use disk_model::Disk;
 use session_engine::{ChildEvent, Command, Effect, Event, Host, HostFault, Outcome, Reply};
 use std::alloc::{AllocError, Global};
@@ -94,7 +96,7 @@ fn step<D: Disk>(host: &mut Host<D>, event: Event) -> Result<Outcome, HostFault>
     ensures same { SameDisk host.old.store.disk host.new.store.disk }
     ensures ok { (w : World) → IsHost host.old w → IfOk result (Took w event host.old host.new) }
     ensures err { (w : World) → IsHost host.old w
-        → IfErr result (Stopped host.old.store.disk.faults host.new w event) }
+        → IfErr result (Stopped host.old.store.disk host.new w event) }
     ensures closed { host.old.closed ≡ true → IsErrOf result HostFault.Closed }
     ensures still { host.old.closed ≡ true → host.new ≡ host.old }
 {
@@ -109,10 +111,10 @@ fn beat<D: Disk, C: Children>(
 ) -> Result<(Reply, Option<Event>), HostFault>
     ensures same { SameDisk host.old.store.disk host.new.store.disk }
     ensures ok { (w : World) → IsHost host.old w → IfOk result (λ r. (b : Beat) × (v : World)
-        × Beats C.after (at w children.old) event b (at v children.new) × IsHost host.new v
+        × Beats C.after (at w children.old host.old.store.disk) event b (at v children.new host.new.store.disk) × IsHost host.new v
         × (r.0 ≡ b.outcome.reply) × (r.1 ≡ due_after b)) }
     ensures err { (w : World) → IsHost host.old w
-        → IfErr result (Stopped host.old.store.disk.faults host.new w event) }
+        → IfErr result (Stopped host.old.store.disk host.new w event) }
     ensures err_children { OnErr result (children.new ≡ children.old) }
     ensures closed { host.old.closed ≡ true → IsErrOf result HostFault.Closed }
     ensures still { host.old.closed ≡ true → host.new ≡ host.old }
@@ -145,11 +147,11 @@ fn follow<D: Disk, C: Children>(
     requires { vec_len replies.old + MOST_EVENTS ≤ vec_capacity replies.old }
     ensures same { SameDisk host.old.store.disk host.new.store.disk }
     ensures ok { (w : World) → IsHost host.old w
-        → OnOk result (Ran (Served C.after (at w children.old) event) replies.old.items
+        → OnOk result (Ran (Served C.after (at w children.old host.old.store.disk) event) replies.old.items
         host.new children.new replies.new.items) }
     ensures err { (w : World) → IsHost host.old w
-        → IfErr result (BrokeOff (ServedUpTo C.after (at w children.old) event) replies.old.items
-        host.old.store.disk.faults host.new children.new replies.new.items) }
+        → IfErr result (BrokeOff (ServedUpTo C.after (at w children.old host.old.store.disk) event) replies.old.items
+        host.new children.new replies.new.items) }
     ensures closed { host.old.closed ≡ true → IsErrOf result HostFault.Closed }
     ensures still { host.old.closed ≡ true → (host.new ≡ host.old)
         × (children.new ≡ children.old) × (replies.new.items ≡ replies.old.items) }
@@ -174,7 +176,8 @@ fn follow<D: Disk, C: Children>(
 ///
 /// The run is faithful: each effect is one call on the children and each fault of such a call the
 /// next event, and nothing else happens (docs/EDGE.md, "A faithful run"). The replies are those of
-/// its events but `Nothing`: at most three.
+/// its events but `Nothing`: at most three. At every moment each image of the disk is one of the
+/// worksheet behind some of the first events; behind `Ok` it is the one behind all of them.
 ///
 /// `OutOfMemory`: the command was dropped before it was taken, and nothing happened. `Host`: the
 /// event that was due had this fault, and the host is closed; the replies are those before it, and
@@ -187,11 +190,12 @@ pub fn serve<D: Disk, C: Children>(
 ) -> Result<Vec<Reply>, EdgeFault>
     ensures same { SameDisk host.old.store.disk host.new.store.disk }
     ensures ok { (w : World) → IsHost host.old w → IfOk result (λ replies.
-        Ran (Served C.after (at w children.old) (Event.Command command)) []
-        host.new children.new replies.items) }
+        RanFrom (at w children.old host.old.store.disk)
+        (λ s. Served C.after s (Event.Command command)) host.new children.new replies.items) }
     ensures err { (w : World) → IsHost host.old w → IfErr result (λ fault. ByCause fault.cause
-        (BrokeOff (ServedUpTo C.after (at w children.old) (Event.Command command)) []
-        host.old.store.disk.faults host.new children.new fault.replies.items)
+        (BrokeFrom (at w children.old host.old.store.disk)
+        (λ s. ServedUpTo C.after s (Event.Command command)) host.new children.new
+        fault.replies.items)
         ((host.new ≡ host.old) × (children.new ≡ children.old) × (fault.replies.items ≡ []))) }
 
     // On a closed host nothing happens.
@@ -239,7 +243,7 @@ fn hear<C: Children>(
 }
 
 /// One life's part of a turn.
-fn take<D: Disk, C: Children>(
+pub(crate) fn take<D: Disk, C: Children>(
     host: &mut Host<D>,
     children: &mut C,
     listens: bool,
@@ -248,12 +252,12 @@ fn take<D: Disk, C: Children>(
 ) -> Result<(), EdgeCause>
     ensures same { SameDisk host.old.store.disk host.new.store.disk }
     ensures ok { (w : World) → IsHost host.old w
-        → OnOk result (Ran (Taken C.after listens None seat (at w children.old)) replies.old.items
+        → OnOk result (Ran (Taken C.after listens None seat (at w children.old host.old.store.disk)) replies.old.items
         host.new children.new replies.new.items) }
     ensures err { (w : World) → IsHost host.old w → IfErr result (λ cause. ByCause cause
-        (BrokeOff (TakenUpTo C.after listens seat (at w children.old)) replies.old.items
-        host.old.store.disk.faults host.new children.new replies.new.items)
-        (IsHost host.new w × (children.new ≡ children.old)
+        (BrokeOff (TakenUpTo C.after listens seat (at w children.old host.old.store.disk)) replies.old.items
+        host.new children.new replies.new.items)
+        ((host.new ≡ host.old) × (children.new ≡ children.old)
         × (replies.new.items ≡ replies.old.items))) }
     ensures closed { host.old.closed ≡ true → MatchResult result (λ done. ⊥) ClosedOrNoMemory }
     ensures still { host.old.closed ≡ true
@@ -275,46 +279,13 @@ fn take<D: Disk, C: Children>(
     }
 }
 
-/// A turn of these lives.
-fn turn<D: Disk, C: Children>(
-    host: &mut Host<D>,
-    children: &mut C,
-    listens: bool,
-    seats: &[Seat],
-    replies: &mut Vec<Reply>,
-) -> Result<(), EdgeCause>
-    ensures same { SameDisk host.old.store.disk host.new.store.disk }
-    ensures ok { (w : World) → IsHost host.old w
-        → OnOk result (Ran (OneTurn C.after listens seats.now (at w children.old)) replies.old.items
-        host.new children.new replies.new.items) }
-    ensures err { (w : World) → IsHost host.old w → IfErr result (λ cause. ByCause cause
-        (BrokeOff (TurnStopped C.after listens seats.now (at w children.old)) replies.old.items
-        host.old.store.disk.faults host.new children.new replies.new.items)
-        (Ran (TurnSoFar C.after listens seats.now (at w children.old)) replies.old.items
-        host.new children.new replies.new.items)) }
-    ensures closed { host.old.closed ≡ true
-        → 0 < length seats.now → MatchResult result (λ done. ⊥) ClosedOrNoMemory }
-    ensures still { host.old.closed ≡ true
-        → (host.new ≡ host.old) × (replies.new.items ≡ replies.old.items) }
-    ensures heard { host.old.closed ≡ true → MatchResult result
-        (λ done. children.new ≡ children.old)
-        (HeardOne C.after listens children.old children.new) }
-{
-    for seat in seats {
-        if let Err(cause) = take(host, children, listens, *seat, replies) {
-            return Err(cause);
-        }
-    }
-    Ok(())
-}
-
 /// Waits until no item waits for an answer.
 ///
 /// A turn is one receive from the child of each life in which an item waits, in the order in which
 /// their sessions were made; what it gives is taken at once, with its effect and all that comes of
 /// that, before the next child is received from. After `TURNS` turns each life in which an item
 /// still waits is told that it stalled. The count begins anew with each call. The run is faithful, as
-/// that of `serve`, and the replies are those of its events but `Nothing`.
+/// that of `serve`, at every moment too, and the replies are those of its events but `Nothing`.
 ///
 /// `OutOfMemory`: memory is taken before a child is received from, so no byte that a child wrote is
 /// lost, and `wait` can be called again. `Host`: as for `serve`.
@@ -325,11 +296,12 @@ pub fn wait<D: Disk, C: Children>(
 ) -> Result<Vec<Reply>, EdgeFault>
     ensures same { SameDisk host.old.store.disk host.new.store.disk }
     ensures ok { (w : World) → IsHost host.old w → IfOk result (λ replies.
-        Ran (Waited C.after most_turns (at w children.old)) [] host.new children.new replies.items) }
+        RanFrom (at w children.old host.old.store.disk) (Waited C.after most_turns)
+        host.new children.new replies.items) }
     ensures err { (w : World) → IsHost host.old w → IfErr result (λ fault. ByCause fault.cause
-        (BrokeOff (WaitStopped C.after most_turns (at w children.old)) []
-        host.old.store.disk.faults host.new children.new fault.replies.items)
-        (Ran (WaitSoFar C.after most_turns (at w children.old)) []
+        (BrokeFrom (at w children.old host.old.store.disk) (WaitStopped C.after most_turns)
+        host.new children.new fault.replies.items)
+        (RanFrom (at w children.old host.old.store.disk) (WaitSoFar C.after most_turns)
         host.new children.new fault.replies.items)) }
 
     // On a closed host nothing is told, and it stays as it is. Where the host told that it is closed,
@@ -341,21 +313,17 @@ pub fn wait<D: Disk, C: Children>(
         (λ fault. HeardOne C.after true children.old children.new fault.cause) }
 {
     let mut replies = Vec::new(alloc);
-    for number in 0..TURNS + 1 {
-        let Ok(seats) = waiting(alloc, host) else {
-            return Err(EdgeFault {
-                replies,
-                cause: EdgeCause::OutOfMemory,
-            });
-        };
-        if seats.is_empty() {
-            return Ok(replies);
-        }
-        let listens = number < TURNS;
-        match turn(host, children, listens, seats.as_slice(), &mut replies) {
-            Ok(()) => {}
+    let Ok(mut wait) = Waiting::begin(alloc, host) else {
+        return Err(EdgeFault {
+            replies,
+            cause: EdgeCause::OutOfMemory,
+        });
+    };
+    loop {
+        match wait.next(alloc, host, children, &mut replies) {
+            Ok(true) => {}
+            Ok(false) => return Ok(replies),
             Err(cause) => return Err(EdgeFault { replies, cause }),
         }
     }
-    Ok(replies)
 }

@@ -1,5 +1,6 @@
 //! The end of all lives.
-ghost use Rattle.std.specs.Prelude.{◌≡◌, ℕ, option_map};
+ghost use Rattle.std.specs.Prelude.{◌≡◌, option_map};
+ghost use Rattle.disk_model.specs.Disk.{DiskView};
 ghost use Rattle.session_engine.specs.World.{World};
 ghost use Rattle.session_engine.specs.Host.{IsHost};
 ghost use Rattle.session_engine.specs.declared.event.Event.{Event};
@@ -28,8 +29,8 @@ fn stop_life<C: Children>(children: &mut C, name: Name, view: Option<LifeView>)
 pub fn stop_all<D: Disk, C: Children>(host: &Host<D>, children: &mut C)
     ensures working { (w : World) → IsHost host.now w
         → Stops C.after (running w) children.old children.new }
-    ensures stopped { (w : World) (e : Event) (failures : ℕ) (fault : HostFault)
-        → Stopped failures host.now w e fault
+    ensures stopped { (w : World) (e : Event) (before : DiskView) (fault : HostFault)
+        → Stopped before host.now w e fault
         → Stops C.after (running w) children.old children.new }
 {
     for session in host.sheet().sessions() {

@@ -2,4 +2,5 @@
 mod desk;
 mod failing;
 mod moments;
+mod reasons;
 mod turns;

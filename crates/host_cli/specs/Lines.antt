@@ -23,22 +23,20 @@ replies_text replies = flat_map reply_text replies
 abbrev pub beats_text : List Beat → List ℕ
 beats_text beats = replies_text (told beats)
 
--- The line with this number was done: what is written of it, and where the run stands behind it.
-abbrev pub LineDone : {C : Type 0} → Relation C → ℕ → Option ScriptLine → At C → List ℕ → At C → Type 0
-LineDone R number None s text t = (text ≡ bad_line number) × (t ≡ s)
-LineDone R number (Some line.Skip) s text t = (text ≡ []) × (t ≡ s)
-LineDone R number (Some (line.Command c)) s text t =
-    (beats : List Beat) × Served R s (event.Command c) beats t × (text ≡ beats_text beats)
-LineDone R number (Some line.Wait) s text t =
-    (beats : List Beat) × Waited R most_turns s beats t × (text ≡ beats_text beats)
-LineDone R number (Some line.Print) s text t = (text ≡ sheet_text (sheet_in s.world)) × (t ≡ s)
+-- The line with this number was done: the beats that came of it, what is written of it, and where the run stands behind it.
+abbrev pub LineDone : {C : Type 0} → Relation C → ℕ → Option ScriptLine → At C → List Beat → List ℕ → At C → Type 0
+LineDone R number None s beats text t = (beats ≡ []) × (text ≡ bad_line number) × (t ≡ s)
+LineDone R number (Some line.Skip) s beats text t = (beats ≡ []) × (text ≡ []) × (t ≡ s)
+LineDone R number (Some (line.Command c)) s beats text t = Served R s (event.Command c) beats t × (text ≡ beats_text beats)
+LineDone R number (Some line.Wait) s beats text t = Waited R most_turns s beats t × (text ≡ beats_text beats)
+LineDone R number (Some line.Print) s beats text t = (beats ≡ []) × (text ≡ sheet_text (sheet_in s.world)) × (t ≡ s)
 
 -- The lines from this number on were done, one after another.
-abbrev pub LinesDone : {C : Type 0} → Relation C → ℕ → List (List ℕ) → At C → List ℕ → At C → Type 0
-LinesDone R number [] s text t = (text ≡ []) × (t ≡ s)
-LinesDone {C = C} R number (line ∷ lines) s text t =
-    (mid : At C) × (first : List ℕ) × (rest : List ℕ) × LineDone R number (line_of line) s first mid
-    × LinesDone R (number + 1) lines mid rest t × (text ≡ first ++ rest)
+abbrev pub LinesDone : {C : Type 0} → Relation C → ℕ → List (List ℕ) → At C → List Beat → List ℕ → At C → Type 0
+LinesDone R number [] s beats text t = (beats ≡ []) × (text ≡ []) × (t ≡ s)
+LinesDone {C = C} R number (line ∷ lines) s beats text t =
+    (mid : At C) × (before : List Beat) × (behind : List Beat) × (first : List ℕ) × (rest : List ℕ) × LineDone R number (line_of line) s before first mid
+    × LinesDone R (number + 1) lines mid behind rest t × (beats ≡ before ++ behind) × (text ≡ first ++ rest)
 
 -- The line came up to this event, at which the host had a fault: these beats of it came before.
 abbrev pub LineUpTo : {C : Type 0} → Relation C → Option ScriptLine → At C → List Beat → Event → At C → Type 0
@@ -58,6 +56,6 @@ LineSoFar R (Some line.Print) s beats t = ⊥
 
 -- The line, or a part of it, led from here to there.
 pub data LineLed {C : Type 0} (R : Relation C) (l : Option ScriptLine) (s t : At C) : Type 0 where
-  whole : (number : ℕ) (text : List ℕ) → LineDone R number l s text t → LineLed R l s t
+  whole : (number : ℕ) (beats : List Beat) (text : List ℕ) → LineDone R number l s beats text t → LineLed R l s t
   up_to : (beats : List Beat) (e : Event) → LineUpTo R l s beats e t → LineLed R l s t
   so_far : (beats : List Beat) → LineSoFar R l s beats t → LineLed R l s t

@@ -4,7 +4,7 @@ ghost use Rattle.std.specs.Io.KnownBytes.{Appends};
 ghost use Rattle.disk_model.specs.Disk.{SameDisk};
 ghost use Rattle.session_engine.specs.World.{World};
 ghost use Rattle.session_engine.specs.Host.{IsHost};
-ghost use Rattle.child_edge.specs.Faithful.{At, at};
+ghost use Rattle.child_edge.specs.Faithful.{At, at, Beat};
 ghost use Rattle.child_edge.specs.Seats.{running};
 ghost use Rattle.child_edge.specs.Stops.{Stops};
 ghost use Rattle.host_cli.specs.Input.{max_input};
@@ -31,12 +31,13 @@ fn run_on_host<D: Disk, C: Children, W: Write>(
 ) -> Result<(), RunFault>
     requires { length (script_lines script.now) < 2 ^ 32 }
     ensures same { SameDisk host.old.store.disk host.new.store.disk }
-    ensures ok { (w : World) → IsHost host.old w → OnOk result ((text : List ℕ) × (t : At C)
-        × LinesDone C.after 1 (script_lines script.now) (at w children.old) text t
+    ensures ok { (w : World) → IsHost host.old w → OnOk result ((beats : List Beat) × (text : List ℕ) × (t : At C)
+        × LinesDone C.after 1 (script_lines script.now) (at w children.old host.old.store.disk) beats text t
         × Stops C.after (running t.world) t.children children.new
-        × IsHost host.new t.world × Appends (W.contents writer.old) (W.contents writer.new) text) }
+        × IsHost host.new t.world × (t.disk ≡ host.new.store.disk)
+        × Appends (W.contents writer.old) (W.contents writer.new) text) }
     ensures err { (w : World) → IsHost host.old w → IfErr result (LinesStopped C.after
-        (script_lines script.now) (at w children.old) host.old.store.disk.faults host.new
+        (script_lines script.now) (at w children.old host.old.store.disk) host.new
         children.new (W.contents writer.old) (W.contents writer.new)) }
 {
     let done = run_lines(alloc, host, children, script, writer);

@@ -4,7 +4,7 @@ ghost use Rattle.std.specs.Io.KnownBytes.{Appends};
 ghost use Rattle.disk_model.specs.Disk.{SameDisk};
 ghost use Rattle.session_engine.specs.World.{World};
 ghost use Rattle.session_engine.specs.Host.{IsHost};
-ghost use Rattle.child_edge.specs.Faithful.{at};
+ghost use Rattle.child_edge.specs.Faithful.{at, Beat};
 ghost use Rattle.sheet_text.specs.Script.{line_of};
 ghost use Rattle.sheet_text.specs.declared.script.ScriptLine.TheVariants as said;
 ghost use Rattle.host_cli.specs.Memory.{script_lines};
@@ -53,8 +53,8 @@ fn take_command<D: Disk, C: Children>(
 ) -> LineEnd
     ensures same { SameDisk host.old.store.disk host.new.store.disk }
     ensures taken { (number : ℕ) (w : World) → IsHost host.old w
-        → LineTaken C.after number (Some (said.Command command)) (at w children.old)
-        host.old.store.disk.faults host.new children.new
+        → LineTaken C.after number (Some (said.Command command)) (at w children.old host.old.store.disk)
+        host.new children.new
         (told_text number host.new.store.sheet.contents result.told) result.broke }
 {
     match serve(alloc, host, children, command) {
@@ -67,8 +67,8 @@ fn take_command<D: Disk, C: Children>(
 fn take_wait<D: Disk, C: Children>(alloc: Global, host: &mut Host<D>, children: &mut C) -> LineEnd
     ensures same { SameDisk host.old.store.disk host.new.store.disk }
     ensures taken { (number : ℕ) (w : World) → IsHost host.old w
-        → LineTaken C.after number (Some said.Wait) (at w children.old)
-        host.old.store.disk.faults host.new children.new
+        → LineTaken C.after number (Some said.Wait) (at w children.old host.old.store.disk)
+        host.new children.new
         (told_text number host.new.store.sheet.contents result.told) result.broke }
 {
     match wait(alloc, host, children) {
@@ -86,8 +86,8 @@ fn take_line<D: Disk, C: Children>(
 ) -> LineEnd
     ensures same { SameDisk host.old.store.disk host.new.store.disk }
     ensures taken { (number : ℕ) (w : World) → IsHost host.old w
-        → LineTaken C.after number (line_of line.now) (at w children.old)
-        host.old.store.disk.faults host.new children.new
+        → LineTaken C.after number (line_of line.now) (at w children.old host.old.store.disk)
+        host.new children.new
         (told_text number host.new.store.sheet.contents result.told) result.broke }
 {
     match read_line(alloc, line) {
@@ -164,11 +164,11 @@ fn run_line<D: Disk, C: Children, W: Write>(
     writer: &mut W,
 ) -> Result<(), RunFault>
     ensures same { SameDisk host.old.store.disk host.new.store.disk }
-    ensures ok { (w : World) → IsHost host.old w → OnOk result ((text : List ℕ) × (t : World)
-        × LineDone C.after number (line_of line.now) (at w children.old) text (at t children.new)
+    ensures ok { (w : World) → IsHost host.old w → OnOk result ((beats : List Beat) × (text : List ℕ) × (t : World)
+        × LineDone C.after number (line_of line.now) (at w children.old host.old.store.disk) beats text (at t children.new host.new.store.disk)
         × IsHost host.new t × Appends (W.contents writer.old) (W.contents writer.new) text) }
     ensures err { (w : World) → IsHost host.old w → IfErr result (LineFailed C.after
-        (line_of line.now) (at w children.old) host.old.store.disk.faults host.new children.new
+        (line_of line.now) (at w children.old host.old.store.disk) host.new children.new
         (W.contents writer.old) (W.contents writer.new)) }
 {
     let LineEnd { told, broke } = take_line(alloc, host, children, line);
@@ -191,11 +191,11 @@ pub(crate) fn run_lines<D: Disk, C: Children, W: Write>(
 ) -> Result<(), RunFault>
     requires { length (script_lines script.now) < 2 ^ 32 }
     ensures same { SameDisk host.old.store.disk host.new.store.disk }
-    ensures ok { (w : World) → IsHost host.old w → OnOk result ((text : List ℕ) × (t : World)
-        × LinesDone C.after 1 (script_lines script.now) (at w children.old) text (at t children.new)
+    ensures ok { (w : World) → IsHost host.old w → OnOk result ((beats : List Beat) × (text : List ℕ) × (t : World)
+        × LinesDone C.after 1 (script_lines script.now) (at w children.old host.old.store.disk) beats text (at t children.new host.new.store.disk)
         × IsHost host.new t × Appends (W.contents writer.old) (W.contents writer.new) text) }
     ensures err { (w : World) → IsHost host.old w → IfErr result (LinesFailed C.after
-        (script_lines script.now) (at w children.old) host.old.store.disk.faults host.new
+        (script_lines script.now) (at w children.old host.old.store.disk) host.new
         children.new (W.contents writer.old) (W.contents writer.new)) }
 {
     let mut lines = script.lines();

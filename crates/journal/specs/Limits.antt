@@ -3,4 +3,4 @@ use Rattle.std.specs.Prelude.{ℕ}
 
 -- the most bytes of a payload
 abbrev pub max_payload : ℕ
-max_payload = 2097152
+max_payload = 33554432

@@ -8,7 +8,7 @@ use std::alloc::Global;
 use std::marker::Model;
 
 /// The greatest length of a payload, in bytes.
-pub const MAX_PAYLOAD: u64 = 2_097_152;
+pub const MAX_PAYLOAD: u64 = 33_554_432;
 
 /// A payload, ready to be appended without memory. Contracts see the payload.
 #[derive(Drop)]
@@ -29,7 +29,7 @@ impl Model for Frame {
 }
 
 impl Frame {
-    /// Makes the bytes that an append of this payload of 1 to 2,097,152 bytes writes
+    /// Makes the bytes that an append of this payload of 1 to 33,554,432 bytes writes
     /// (docs/FORMAT.md, "Append").
     pub fn new(alloc: Global, payload: &[u8]) -> Result<Frame, OutOfMemory>
         requires { IsPayload max_payload payload.now }

@@ -114,7 +114,7 @@ impl<D: Disk> Journal<D> {
         Journal { disk, end }
     }
 
-    /// Whether a payload of so many bytes fits behind the end: it has at most 2,097,152 bytes, and
+    /// Whether a payload of so many bytes fits behind the end: it has at most 33,554,432 bytes, and
     /// the end, 5 bytes, the payload and the next gate are together at most the disk's room. It
     /// takes no memory.
     pub fn fits(&self, payload_len: u64) -> bool

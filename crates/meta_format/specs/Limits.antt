@@ -13,7 +13,7 @@ pub record Limits : Type 0 where
   pub stream : ℕ
 
 abbrev pub limits : Limits
-limits = record { tag = max_tag; levels = max_depth; block = 1048576; stream = 2 ^ 62 }
+limits = record { tag = max_tag; levels = max_depth; block = 16777216; stream = 2 ^ 62 }
 
 -- There is room for one level, and for more than one byte.
 pub record IsRoomy (most : Limits) : Type 0 where

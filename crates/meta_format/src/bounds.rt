@@ -9,7 +9,7 @@ pub struct Bounds {
 
 /// The limits of a stream that an interpreter writes.
 pub const BOUNDS: Bounds = Bounds {
-    block: 1_048_576,
+    block: 16_777_216,
     stream: 1 << 62,
 };
 

@@ -23,7 +23,7 @@ pub enum FeedFault {
     BadTag { offset: u64, found: Vec<Found> },
     /// A 2 that would open a block of depth 33.
     TooDeep { offset: u64, found: Vec<Found> },
-    /// The 1,048,576th byte of an outer block that does not close it, or the byte at offset 2^62.
+    /// The 16,777,216th byte of an outer block that does not close it, or the byte at offset 2^62.
     TooLong { offset: u64, found: Vec<Found> },
     /// Memory was refused. No clause can tell when that is: it stands for a growth that was really refused.
     OutOfMemory,
@@ -33,7 +33,7 @@ pub enum FeedFault {
 
 /// Reads the blocks of a stream that comes in pieces, which may be cut anywhere. Each byte is looked at
 /// once. Noise and closed outer blocks are not kept, and after a fault nothing is: the bytes of the tags
-/// and texts that a reader holds are never more than 1,048,576 (that is in the type's invariant).
+/// and texts that a reader holds are never more than 16,777,216 (that is in the type's invariant).
 ///
 /// A reader stands for the bytes that were fed so far, and for the blocks that were given: that is the
 /// relation `ReaderHasRead`, which `new` begins and `feed` carries on.

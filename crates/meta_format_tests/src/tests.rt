@@ -178,16 +178,16 @@ fn greatest_depth(rt: HostRuntime) -> Result<(), Fail> {
 fn longest_block(rt: HostRuntime) -> Result<(), Fail> {
     let alloc = rt.alloc();
     let mut stream = times(alloc, b"\x02verbatim:", 1)?;
-    stream.append(&mut times(alloc, b"x", 1_048_565)?)?;
+    stream.append(&mut times(alloc, b"x", 16_777_205)?)?;
     let mut longer = stream.as_slice().to_vec(alloc)?;
     stream.push(5)?;
     longer.extend_from_slice(b"x\x05")?;
-    for size in [2_000_000, 65_536, 4_099, 1] {
+    for size in [20_000_000, 65_536, 4_099, 1] {
         let block = stream.as_slice();
         let got = read(alloc, block, size)?;
-        expect(&rt, alloc, got, &[(0, 1_048_576, block)], End::Whole)?;
+        expect(&rt, alloc, got, &[(0, 16_777_216, block)], End::Whole)?;
         let got = read(alloc, longer.as_slice(), size)?;
-        expect(&rt, alloc, got, &[], End::TooLong(1_048_575))?;
+        expect(&rt, alloc, got, &[], End::TooLong(16_777_215))?;
     }
     Ok(())
 }

@@ -7,7 +7,7 @@ use Rattle.meta_format.specs.Stream.{Outer}
 use Rattle.plugin_core.specs.declared.item.Item.{Item}
 use Rattle.plugin_core.specs.declared.item.Item.TheVariants as item
 use Rattle.plugin_core.specs.declared.step.Answered.TheVariants as answered
-use Rattle.plugin_core.specs.declared.step.Reason.TheVariants as reason
+use Rattle.block_tree.specs.declared.reason.Reason.TheVariants as reason
 use Rattle.meta_format.specs.Faults.{bad_tag}
 use Rattle.plugin_core.specs.Past.{Event, accepted, received}
 use Rattle.plugin_core.specs.Answers.{answers_of}

@@ -1,5 +1,5 @@
 -- The items of a life: which wait, which are asked, and what is sent for them. (docs/PROTOCOL.md, one life.)
-use Rattle.std.specs.Prelude.{ℕ, nat_eq, Bool, false, List, [], ◌∷◌, ◌++◌, length, take, drop, Option, Some, option_map, slice_get}
+use Rattle.std.specs.Prelude.{ℕ, nat_eq, Bool, false, List, [], ◌∷◌, ◌++◌, length, take, drop, Option, Some, None, option_map, slice_get}
 use Rattle.std.specs.Str.{IsCharBoundary}
 use Rattle.block_tree.specs.Tree.{Tree}
 use Rattle.block_tree.specs.Output.{output}
@@ -53,6 +53,12 @@ answer_behind (banner ∷ answers) items prompt b = option_map (λ i. answer_to 
 abbrev pub is_line_of : ℕ → Item → Bool
 is_line_of id (item.Line other text) = nat_eq other id
 is_line_of id (item.Complete other text cursor) = false
+
+-- the field of the first of these items, where that is a line
+abbrev pub first_line_of : List Item → Option ℕ
+first_line_of [] = None
+first_line_of (item.Line id text ∷ items) = Some id
+first_line_of (item.Complete id text cursor ∷ items) = None
 
 -- An item that may be accepted: the cursor of a request of completions stands in front of a character of its text, or at the end.
 abbrev pub IsAskable : Item → Type 0

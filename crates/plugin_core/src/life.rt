@@ -3,7 +3,7 @@ ghost use Rattle.std.specs.Prelude.{◌≡◌, ◌≤◌, ◌↔◌, ◌∷◌, 
 ghost use Rattle.std.specs.List.{list_any};
 ghost use Rattle.meta_format.specs.Stream.{Outer};
 ghost use Rattle.plugin_core.specs.Past.{Event, accepted, received};
-ghost use Rattle.plugin_core.specs.Items.{waiting_of, prompt_of, is_line_of, IsAskable};
+ghost use Rattle.plugin_core.specs.Items.{waiting_of, prompt_of, first_line_of, is_line_of, IsAskable};
 ghost use Rattle.plugin_core.specs.Limits.{prompt_limit, most_waiting};
 
 use crate::item::bytes_for;
@@ -179,6 +179,16 @@ impl Life {
         has_line(&self.waiting, id)
     }
 
+    /// The field of the first item without an answer, where that is a line. No memory is taken.
+    ///
+    /// Of a life that is over nothing is claimed but that the call returns.
+    pub fn first_line(&self) -> Option<u32>
+        ensures { (past : List Event) (blocks : List Outer) → LifeHasPast self.now past blocks
+            → result ≡ first_line_of (waiting_of past blocks) }
+    {
+        first_line_in(&self.waiting)
+    }
+
     /// The prompt that an item asked now would have: that of the latest answer that has one, cut to its
     /// first 1,024 bytes, or `> ` where none has.
     ///
@@ -203,6 +213,21 @@ impl Life {
         ensures { result ≡ self.now.over }
     {
         self.over
+    }
+}
+
+/// The field of the first of these items, where that is a line.
+fn first_line_in(items: &VecDeque<Item>) -> Option<u32>
+    ensures { result ≡ first_line_of items.now.items }
+{
+    match items.front() {
+        Some(Item::Line { id, text: _ }) => Some(*id),
+        Some(Item::Complete {
+            id: _,
+            text: _,
+            cursor: _,
+        }) => None,
+        None => None,
     }
 }
 

@@ -5,28 +5,7 @@ use crate::Item;
 use block_tree::{Block, Octets, Queue};
 use scheme_text::{BadCompletion, Completions};
 
-/// Why a life ended.
-#[derive(Clone, Copy, Debug, PartialEq, Eq)]
-pub enum Reason {
-    /// The interpreter could not be started.
-    StartRefused,
-    /// Its output came to an end.
-    Ended,
-    /// Its output could not be read.
-    ReadFault,
-    /// A line could not be sent to it.
-    SendFault,
-    /// It gave no answer for too long.
-    Stalled,
-    /// A bad tag in its output.
-    BadTag,
-    /// Blocks too deep in one another in its output.
-    TooDeep,
-    /// A block or an output that is too long.
-    TooLong,
-    /// It was told to stop.
-    Stopped,
-}
+pub use block_tree::Reason;
 
 /// What an outer block answers.
 #[derive(Drop)]

@@ -1,6 +1,9 @@
 -- An op is read again from its payload.
 use Rattle.std.proofs.Common.{◌≡◌, ℕ, ◌<◌, ◌≤◌, ◌-◌, ◌^◌, ◌==◌, if◌then◌else◌, Bool, true, false, List, [], ◌∷◌, ◌++◌, length, drop, get_or, take, Option, Some, None, Result, Ok, Err, refl, sym, ap, ◌∙◌, subst, append-nil, arith}
 use Rattle.std.specs.List.{flat_map}
+use Rattle.block_tree.specs.declared.reason.Reason.{Reason}
+use Rattle.block_tree.specs.declared.reason.Reason.TheVariants as reason
+use Rattle.block_tree.specs.Reasons.{reason_number}
 use Rattle.std.proofs.lemmas.List.{take_all}
 use Rattle.block_tree.specs.Tree.{Tree}
 use Rattle.meta_format.specs.Limits.{limits}
@@ -13,7 +16,7 @@ use Rattle.worksheet.specs.declared.op.Op.TheVariants as op
 use Rattle.recovery.specs.declared.reading.DecodeFault.{DecodeFault}
 use Rattle.recovery.specs.declared.reading.DecodeFault.TheVariants as faults
 use Rattle.recovery.specs.Code.{kind_of, parts_of, code_of, number, short, long, flag, HasCode, IsTyped, IsPayloadOf}
-use Rattle.recovery.specs.inside.Reading.{ReadsOrFails, Fails, FindsOp, session_at, new_at, set_at, remove_at, move_at, clear_at, asked_at}
+use Rattle.recovery.specs.inside.Reading.{ReadsOrFails, Fails, FindsOp, session_at, new_at, set_at, remove_at, move_at, clear_at, lost_at, reason_with, asked_at}
 use Rattle.recovery.proofs.Fields.{number_again, short_again, long_again, words_again}
 
 -- reading the parts of an op of this kind gives the op
@@ -28,10 +31,21 @@ flag_again true = refl
 abbrev pub parts_at : ℕ → List ℕ → Option Op
 parts_at kind =
     if kind == 1 then session_at else if kind == 2 then new_at else if kind == 3 then set_at
-    else if kind == 4 then remove_at else if kind == 5 then move_at else clear_at
+    else if kind == 4 then remove_at else if kind == 5 then move_at else if kind == 6 then clear_at else lost_at
 
-read_again : (o : Op) → IsTyped o → HasCode o → kind_of o < 7 → parts_at (kind_of o) (parts_of o) ≡ Some o
-unfolding session_at new_at set_at remove_at move_at clear_at
+reason_again : (r : Reason) → reason_with (reason_number r) ≡ Some r
+reason_again reason.StartRefused = refl
+reason_again reason.Ended = refl
+reason_again reason.ReadFault = refl
+reason_again reason.SendFault = refl
+reason_again reason.Stalled = refl
+reason_again reason.BadTag = refl
+reason_again reason.TooDeep = refl
+reason_again reason.TooLong = refl
+reason_again reason.Stopped = refl
+
+read_again : (o : Op) → IsTyped o → HasCode o → (kind_of o == 7) ≡ false → parts_at (kind_of o) (parts_of o) ≡ Some o
+unfolding session_at new_at set_at remove_at move_at clear_at lost_at
 read_again (op.Session name tab words) typed fits small =
     rw (short_again name (flag tab ∷ length words ∷ flat_map long words), words_again words fits.2, flag_again tab) refl
 read_again (op.New after session input) typed fits small =
@@ -43,29 +57,33 @@ read_again (op.Set id input) typed fits small =
 read_again (op.Remove id) typed fits small = rw (number_again id [] typed) refl
 read_again (op.Move id after) typed fits small = rw (number_again id (number after) typed.0, number_again after [] typed.1) refl
 read_again (op.Clear id) typed fits small = rw (number_again id [] typed) refl
-read_again (op.Answer id prompt output) typed fits small = absurd (omega (arith, small))
+read_again (op.Answer id prompt output) typed fits small = absurd cc
+read_again (op.Lost id reason) typed fits small = rw (number_again id (reason_number reason ∷ []) typed, reason_again reason) refl
 
-reads : (kind : ℕ) → kind < 7 → IsReader kind (parts_at kind)
-reads kind small o k typed fits =
-    subst (λ (n : ℕ). parts_at n (parts_of o) ≡ Some o) k (read_again o typed fits (subst (λ (n : ℕ). n < 7) (sym k) small))
+reads : (kind : ℕ) → (kind == 7) ≡ false → IsReader kind (parts_at kind)
+reads kind other o k typed fits =
+    subst (λ (n : ℕ). parts_at n (parts_of o) ≡ Some o) k (read_again o typed fits (subst (λ (n : ℕ). (n == 7) ≡ false) (sym k) other))
 
 pub session_again : IsReader 1 session_at
-session_again = reads 1 (omega arith)
+session_again = reads 1 refl
 
 pub new_again : IsReader 2 new_at
-new_again = reads 2 (omega arith)
+new_again = reads 2 refl
 
 pub set_again : IsReader 3 set_at
-set_again = reads 3 (omega arith)
+set_again = reads 3 refl
 
 pub remove_again : IsReader 4 remove_at
-remove_again = reads 4 (omega arith)
+remove_again = reads 4 refl
 
 pub move_again : IsReader 5 move_at
-move_again = reads 5 (omega arith)
+move_again = reads 5 refl
 
 pub clear_again : IsReader 6 clear_at
-clear_again = reads 6 (omega arith)
+clear_again = reads 6 refl
+
+pub lost_again : IsReader 8 lost_at
+lost_again = reads 8 refl
 
 pub asked_again : (id : ℕ) (prompt rest : List ℕ) → id < 2 ^ 32 → length prompt < 2 ^ 16 → asked_at (number id ++ (long prompt ++ rest)) ≡ Some ((id, prompt), rest)
 unfolding asked_at
@@ -107,6 +125,7 @@ no_answer bytes none (op.Set id input) payload = let no : 7 ∷ bytes ≡ code_o
 no_answer bytes none (op.Remove id) payload = let no : 7 ∷ bytes ≡ code_of (op.Remove id) = payload.is in absurd cc
 no_answer bytes none (op.Move id after) payload = let no : 7 ∷ bytes ≡ code_of (op.Move id after) = payload.is in absurd cc
 no_answer bytes none (op.Clear id) payload = let no : 7 ∷ bytes ≡ code_of (op.Clear id) = payload.is in absurd cc
+no_answer bytes none (op.Lost id reason) payload = let no : 7 ∷ bytes ≡ code_of (op.Lost id reason) = payload.is in absurd cc
 
 abbrev pub just : {A : Type 0} → A → Option A
 just x = Some x
@@ -144,6 +163,7 @@ answer_in bytes rest prompt id read (op.Set n input) payload = let no : 7 ∷ by
 answer_in bytes rest prompt id read (op.Remove n) payload = let no : 7 ∷ bytes ≡ code_of (op.Remove n) = payload.is in absurd cc
 answer_in bytes rest prompt id read (op.Move n after) payload = let no : 7 ∷ bytes ≡ code_of (op.Move n after) = payload.is in absurd cc
 answer_in bytes rest prompt id read (op.Clear n) payload = let no : 7 ∷ bytes ≡ code_of (op.Clear n) = payload.is in absurd cc
+answer_in bytes rest prompt id read (op.Lost n reason) payload = let no : 7 ∷ bytes ≡ code_of (op.Lost n reason) = payload.is in absurd cc
 
 -- the block that was read is the answer's
 pub same_answer : (o : Op) (id : ℕ) (prompt rest : List ℕ) (output : Tree) → IsAnswerOf o id prompt rest → Spells limits output rest → op.Answer id prompt output ≡ o

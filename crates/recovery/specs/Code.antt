@@ -1,8 +1,9 @@
 -- The payload of an op (docs/FORMAT.md, "Payloads").
-use Rattle.std.specs.Prelude.{◌≡◌, ℕ, ◌<◌, ◌^◌, Bool, true, false, List, ◌∷◌, ◌++◌, length}
+use Rattle.std.specs.Prelude.{◌≡◌, ℕ, ◌<◌, ◌^◌, Bool, true, false, List, [], ◌∷◌, ◌++◌, length}
 use Rattle.std.specs.Int.{to_be_bytes, w16, w32}
 use Rattle.std.specs.List.{flat_map, AllByRecursion}
 use Rattle.block_tree.specs.Shape.{is_block}
+use Rattle.block_tree.specs.Reasons.{reason_number}
 use Rattle.meta_format.specs.Canonical.{canonical}
 use Rattle.worksheet.specs.declared.op.Op.{Op}
 use Rattle.worksheet.specs.declared.op.Op.TheVariants as op
@@ -16,6 +17,7 @@ kind_of (op.Remove id) = 4
 kind_of (op.Move id after) = 5
 kind_of (op.Clear id) = 6
 kind_of (op.Answer id prompt output) = 7
+kind_of (op.Lost id reason) = 8
 
 -- a number, in four bytes
 abbrev pub number : ℕ → List ℕ
@@ -42,6 +44,7 @@ parts_of (op.Remove id) = number id
 parts_of (op.Move id after) = number id ++ number after
 parts_of (op.Clear id) = number id
 parts_of (op.Answer id prompt output) = number id ++ (long prompt ++ canonical output)
+parts_of (op.Lost id reason) = number id ++ reason_number reason ∷ []
 
 -- the payload of an op
 abbrev pub code_of : Op → List ℕ
@@ -68,6 +71,7 @@ HasCode (op.Remove id) = Unit {0}
 HasCode (op.Move id after) = Unit {0}
 HasCode (op.Clear id) = Unit {0}
 HasCode (op.Answer id prompt output) = IsLong prompt
+HasCode (op.Lost id reason) = Unit {0}
 
 -- a number of four bytes
 abbrev pub IsNumber : ℕ → Type 0
@@ -83,6 +87,7 @@ IsTyped (op.Remove id) = IsNumber id
 IsTyped (op.Move id after) = IsNumber id × IsNumber after
 IsTyped (op.Clear id) = IsNumber id
 IsTyped (op.Answer id prompt output) = IsNumber id × (is_block output ≡ true)
+IsTyped (op.Lost id reason) = IsNumber id
 
 -- these bytes are the payload of the op
 pub record IsPayloadOf (o : Op) (bytes : List ℕ) : Type 0 where

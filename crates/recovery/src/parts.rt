@@ -2,10 +2,10 @@
 ghost use Rattle.std.specs.Prelude.{◌≡◌, length, IfSome, IfOk};
 ghost use Rattle.std.specs.List.{AllByRecursion};
 ghost use Rattle.recovery.specs.Code.{IsShort, IsLong};
-ghost use Rattle.recovery.specs.inside.Reading.{ReadsPart, ReadsOrFails, front_at, number_at, short_at, long_at, words_at};
+ghost use Rattle.recovery.specs.inside.Reading.{ReadsPart, ReadsOrFails, front_at, number_at, short_at, long_at, reason_at, reason_with, words_at};
 
 use crate::DecodeFault;
-use block_tree::{Octets, Sequence};
+use block_tree::{Octets, Reason, Sequence};
 use std::alloc::Global;
 
 fn front_of(len: usize, bytes: &[u8]) -> Option<(&[u8], &[u8])>
@@ -48,6 +48,34 @@ pub(crate) fn long_of(bytes: &[u8]) -> Option<(&[u8], &[u8])>
     let (len, rest) = front_of(2, bytes)?;
     let len = u16::from_be_bytes([len[0], len[1]]);
     front_of(usize::from(len), rest)
+}
+
+/// The reason with this number.
+fn reason_with(number: u8) -> Option<Reason>
+    ensures { result ≡ reason_with number }
+{
+    match number {
+        1 => Some(Reason::StartRefused),
+        2 => Some(Reason::Ended),
+        3 => Some(Reason::ReadFault),
+        4 => Some(Reason::SendFault),
+        5 => Some(Reason::Stalled),
+        6 => Some(Reason::BadTag),
+        7 => Some(Reason::TooDeep),
+        8 => Some(Reason::TooLong),
+        9 => Some(Reason::Stopped),
+        _ => None,
+    }
+}
+
+/// The reason with the first of these bytes for its number.
+pub(crate) fn reason_of(bytes: &[u8]) -> Option<Reason>
+    ensures { ReadsPart (λ reason. reason) result (reason_at bytes.now) }
+{
+    let [number, ..] = bytes else {
+        return None;
+    };
+    reason_with(*number)
 }
 
 /// So many words, each behind a length of two bytes.

@@ -90,5 +90,6 @@ pub fn code_len(op: &Op) -> u64
             prompt,
             output,
         } => with_node(7 + prompt.as_slice().len() as u64, output.node()),
+        Op::Lost { id: _, reason: _ } => 6,
     }
 }

@@ -101,7 +101,7 @@ impl<D: Disk> Store<D> {
         }
     }
 
-    /// Whether the payload of an op fits on the disk: it has at most 2,097,152 bytes, and 6 more fit
+    /// Whether the payload of an op fits on the disk: it has at most 33,554,432 bytes, and 6 more fit
     /// with it behind the end. It takes no memory, and is false once the store is closed.
     ///
     /// Each length in the payload must fit its field, as `encode` asks. Of an op that `check` allows

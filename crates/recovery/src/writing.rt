@@ -2,10 +2,11 @@
 ghost use Rattle.std.specs.Prelude.{◌≡◌, ◌++◌, true, OnOk, IfOk};
 ghost use Rattle.std.specs.List.{flat_map, AllByRecursion};
 ghost use Rattle.block_tree.specs.Shape.{is_block};
+ghost use Rattle.block_tree.specs.Reasons.{reason_number};
 ghost use Rattle.meta_format.specs.Canonical.{canonical};
 ghost use Rattle.recovery.specs.Code.{code_of, short, long, HasCode, IsShort, IsLong, IsTyped};
 
-use block_tree::{Block, Octets, OutOfMemory};
+use block_tree::{Block, Octets, OutOfMemory, Reason};
 use meta_format::write_block;
 use std::alloc::Global;
 use worksheet::Op;
@@ -45,6 +46,22 @@ fn put_block(block: &Block, out: &mut Vec<u8>) -> Result<(), OutOfMemory>
 {
     let _node = block.node();
     write_block(block, out)
+}
+
+fn number_of(reason: Reason) -> u8
+    ensures { result ≡ reason_number reason }
+{
+    match reason {
+        Reason::StartRefused => 1,
+        Reason::Ended => 2,
+        Reason::ReadFault => 3,
+        Reason::SendFault => 4,
+        Reason::Stalled => 5,
+        Reason::BadTag => 6,
+        Reason::TooDeep => 7,
+        Reason::TooLong => 8,
+        Reason::Stopped => 9,
+    }
 }
 
 fn put_op(op: &Op, out: &mut Vec<u8>) -> Result<(), OutOfMemory>
@@ -93,6 +110,12 @@ fn put_op(op: &Op, out: &mut Vec<u8>) -> Result<(), OutOfMemory>
             out.extend_from_slice(&id.to_be_bytes())?;
             put_long(prompt.as_slice(), out)?;
             put_block(output, out)
+        }
+        Op::Lost { id, reason } => {
+            out.push(8)?;
+            out.extend_from_slice(&id.to_be_bytes())?;
+            out.push(number_of(*reason))?;
+            Ok(())
         }
     }
 }

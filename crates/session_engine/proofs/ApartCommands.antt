@@ -1,8 +1,8 @@
 -- One command in two worlds that are alike for a session.
 use Rattle.std.proofs.Common.{◌≡◌, ⊎_elim, ◌+◌, ℕ, List, [], ◌∷◌, ◌++◌, length, drop, refl, ap, sym, ◌∙◌, subst, Bool, true, false, Option, Some, None}
-use Rattle.std.specs.Prelude.{if◌then◌else◌}
 use Rattle.std.specs.Str.{bytes_eq}
 use Rattle.std.proofs.lemmas.List.{append-nil}
+use Rattle.block_tree.specs.declared.reason.Reason.TheVariants as reason
 use Rattle.worksheet.specs.declared.op.Op.{Op}
 use Rattle.worksheet.specs.declared.op.Op.TheVariants as op
 use Rattle.worksheet.specs.declared.refusal.Refusal.{Refusal}
@@ -19,16 +19,17 @@ use Rattle.session_engine.specs.declared.event.Event.TheVariants as event
 use Rattle.session_engine.specs.declared.outcome.Outcome.{Outcome}
 use Rattle.session_engine.specs.declared.outcome.Effect.TheVariants as effect
 use Rattle.session_engine.specs.declared.reply.Reply.TheVariants as reply
-use Rattle.session_engine.specs.Named.{first_named, without_named, replace_named}
-use Rattle.session_engine.specs.World.{World, Going, life_of, with_op, session_of_field, line_of_field, request_of_field}
+use Rattle.session_engine.specs.Named.{without_named, replace_named}
+use Rattle.session_engine.specs.World.{World, Going, kept_at_end, life_of, with_op, with_op_if, session_of_field, line_of_field, request_of_field}
 use Rattle.session_engine.specs.Does.{replies, refused, joined_by, begun_with, starting_words}
 use Rattle.session_engine.specs.inside.Given.{Commanded, stops, outcome_of, after, GivesByParts}
 use Rattle.session_engine.specs.inside.Parts.{without_life, with_item, asks}
 use Rattle.session_engine.specs.Refused.{command_refusals}
-use Rattle.session_engine.specs.Apart.{AreAlike, named, commanded, concerns, begins, number_if, is_refusal, added}
+use Rattle.session_engine.specs.Apart.{AreAlike, named, commanded, concerns, begins, number_if, is_refusal, added, but_reasons}
 use Rattle.session_engine.proofs.ApartLives.{same_name, is_itself, replaced_other, without_other, named-push, first_has}
-use Rattle.session_engine.proofs.ApartOps.{next_alike, sessions_alike, session_of_alike, input_of_alike}
-use Rattle.session_engine.proofs.ApartSteps.{alike_back, alike_on, life_alike, push_alike, own_gone, own_put, nothing_added, one_added}
+use Rattle.session_engine.proofs.Losing.{if_stopped, op_if_lives}
+use Rattle.session_engine.proofs.ApartOps.{commanded-push, next_alike, sessions_alike, session_of_alike, input_of_alike}
+use Rattle.session_engine.proofs.ApartSteps.{alike_back, alike_on, life_alike, push_alike, own_gone, own_put, none_told, reason_told, nothing_added, one_added}
 
 -- An accepted command leads to worlds that are alike, and says the same where it concerns the session.
 pub record Same (n : List ℕ) (w x : World) (e : Event) (o p : Outcome) (v u : World) : Type 0 where
@@ -110,33 +111,54 @@ asks_alike n w x m j i k a s t e =
     (subst (λ (q : Item). AskAlike n w x m m i q) t (record { alike = g.0; about = refl; says = g.1 }))
 
 eval_adds : (id : ℕ) (m j : List ℕ) (i k : Item) (w x : World) → added w (with_op (op.Clear id) (itemed w m i)) ≡ added x (with_op (op.Clear id) (itemed x j k))
-eval_adds id m j i k w x = ap (λ (os : List Op). drop (length w.ops) (os ++ op.Clear id ∷ [])) (item_ops m i (life_of w m) w) ∙ one_added w x (op.Clear id)
-    ∙ sym (ap (λ (os : List Op). drop (length x.ops) (os ++ op.Clear id ∷ [])) (item_ops j k (life_of x j) x))
+eval_adds id m j i k w x = ap (λ (os : List Op). but_reasons (drop (length w.ops) (os ++ op.Clear id ∷ []))) (item_ops m i (life_of w m) w) ∙ one_added w x (op.Clear id)
+    ∙ sym (ap (λ (os : List Op). but_reasons (drop (length x.ops) (os ++ op.Clear id ∷ []))) (item_ops j k (life_of x j) x))
 
 -- A Stop.
 
-without_none : (m : List ℕ) (ls : List Going) → first_named (λ l. l.name) m ls ≡ None → without_named (λ l. l.name) m ls ≡ ls
-without_none m [] h = refl
-without_none m (l ∷ ls) h = go (bytes_eq l.name m) h (without_none m ls)
-  where
-    go : (b : Bool) → (if b then Some l else first_named (λ l. l.name) m ls) ≡ None → (first_named (λ l. l.name) m ls ≡ None → without_named (λ l. l.name) m ls ≡ ls)
-        → (if b then ls else l ∷ without_named (λ l. l.name) m ls) ≡ l ∷ ls
-    go true h ih = cc
-    go false h ih = ap (λ (k : List Going). l ∷ k) (ih h)
+-- where a Stop leads
+abbrev halted : List ℕ → World → World
+halted m w = with_op_if (kept_at_end w reason.Stopped (life_of w m)) (without_life m w)
 
-stopped : (n m : List ℕ) (w x : World) → AreAlike n w x → Same n w x (event.Command (command.Stop m)) (stops (life_of w m)) (stops (life_of x m)) (without_life m w) (without_life m x)
+-- a Stop gives no op that was commanded, and tells of none
+record Halts (m : List ℕ) (w : World) : Type 0 where
+  ops : commanded (halted m w).ops ≡ commanded w.ops
+  lives : (halted m w).lives ≡ without_named (λ l. l.name) m w.lives
+  adds : added w (halted m w) ≡ []
+
+halts : (m : List ℕ) (w : World) → Halts m w
+halts m w = record {
+  ops = if_stopped (λ p. commanded (with_op_if p (without_life m w)).ops ≡ commanded w.ops) w reason.Stopped (life_of w m) refl (λ l id e f. commanded-push w.ops (op.Lost id reason.Stopped) ∙ append-nil (commanded w.ops));
+  lives = op_if_lives (kept_at_end w reason.Stopped (life_of w m)) (without_life m w);
+  adds = if_stopped (λ p. added w (with_op_if p (without_life m w)) ≡ []) w reason.Stopped (life_of w m) (none_told w (without_life m w) refl) (λ l id e f. reason_told w (without_life m w) id reason.Stopped refl);
+}
+
+stopped : (n m : List ℕ) (w x : World) → AreAlike n w x → Same n w x (event.Command (command.Stop m)) (stops (life_of w m)) (stops (life_of x m)) (halted m w) (halted m x)
 stopped n m w x a = go (bytes_eq m n) refl
   where
-    go : (b : Bool) → bytes_eq m n ≡ b → Same n w x (event.Command (command.Stop m)) (stops (life_of w m)) (stops (life_of x m)) (without_life m w) (without_life m x)
+    here : Halts m w
+    here = halts m w
+
+    there : Halts m x
+    there = halts m x
+
+    alike : named n (without_named (λ l. l.name) m w.lives) ≡ named n (without_named (λ l. l.name) m x.lives) → AreAlike n (halted m w) (halted m x)
+    alike same = record { ops = here.ops ∙ a.ops ∙ sym there.ops; lives = ap (named n) here.lives ∙ same ∙ sym (ap (named n) there.lives) }
+
+    go : (b : Bool) → bytes_eq m n ≡ b → Same n w x (event.Command (command.Stop m)) (stops (life_of w m)) (stops (life_of x m)) (halted m w) (halted m x)
     go true h =
         let s : n ≡ m = sym (same_name m n h) in
-        subst (λ (j : List ℕ). Same n w x (event.Command (command.Stop j)) (stops (life_of w j)) (stops (life_of x j)) (without_life j w) (without_life j x)) s
-        (record { alike = record { ops = a.ops; lives = own_gone n w x a }; about = refl; says = λ t. ap stops (life_alike n w x a); adds = nothing_added w x w.ops x.ops refl refl })
+        record {
+          alike = alike (subst (λ (j : List ℕ). named n (without_named (λ l. l.name) j w.lives) ≡ named n (without_named (λ l. l.name) j x.lives)) s (own_gone n w x a));
+          about = refl;
+          says = λ t. ap stops (subst (λ (j : List ℕ). life_of w j ≡ life_of x j) s (life_alike n w x a));
+          adds = here.adds ∙ sym there.adds;
+        }
     go false h = record {
-      alike = record { ops = a.ops; lives = without_other n m w.lives h ∙ a.lives ∙ sym (without_other n m x.lives h) };
+      alike = alike (without_other n m w.lives h ∙ a.lives ∙ sym (without_other n m x.lives h));
       about = refl;
       says = λ t. cc;
-      adds = nothing_added w x w.ops x.ops refl refl;
+      adds = here.adds ∙ sym there.adds;
     }
 
 accepted_same : (n : List ℕ) (w x : World) (c : Command) → AreAlike n w x → begins n w (event.Command c) ≡ begins n x (event.Command c)

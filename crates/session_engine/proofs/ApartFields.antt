@@ -6,6 +6,7 @@ use Rattle.std.specs.List.{find}
 use Rattle.std.proofs.lemmas.Bool.Decides.{nat_tests}
 use Rattle.std.proofs.lemmas.List.{append-nil}
 use Rattle.block_tree.specs.Tree.{Tree}
+use Rattle.block_tree.specs.declared.reason.Reason.{Reason}
 use Rattle.worksheet.specs.declared.op.Op.{Op}
 use Rattle.worksheet.specs.declared.op.Op.TheVariants as op
 use Rattle.worksheet.specs.declared.field.Field.{Field}
@@ -21,7 +22,7 @@ use Rattle.session_engine.specs.World.{by_field}
 use Rattle.session_engine.specs.Apart.{commanded, is_commanded, seen_by}
 use Rattle.session_engine.proofs.ApartOps.{commanded-push, next_alike, session_alike}
 
--- The same ops but answers, and the same answers of this session's fields.
+-- The same ops but answers and reasons, and the same answers of this session's fields.
 pub record Seen (name : List ℕ) (a b : List Op) : Type 0 where
   pub ops : commanded a ≡ commanded b
   pub answers : (id : ℕ) → (field_of a id).session ≡ name → (field_of a id).answer ≡ (field_of b id).answer
@@ -43,6 +44,7 @@ changed_alike name (op.Remove id) f g s h = s h
 changed_alike name (op.Move id after) f g s h = s h
 changed_alike name (op.Clear id) f g s h = refl
 changed_alike name (op.Answer id prompt output) f g s h = refl
+changed_alike name (op.Lost id reason) f g s h = refl
 
 -- an op that both have
 seen_push : (name : List ℕ) (a b : List Op) (o : Op) → Seen name a b → Seen name (a ++ o ∷ []) (b ++ o ∷ [])
@@ -82,19 +84,35 @@ seen_past name other a b id prompt output owner apart s = record {
         absurd (apart (sym owner ∙ ap (λ (k : ℕ). (field_of a k).session) same ∙ h))
     go j false e h = s.answers j h
 
+-- a reason of a field that shows no answer, on the left alone
+pub seen_lost : (name : List ℕ) (a b : List Op) (id : ℕ) (why : Reason) → (field_of a id).answer ≡ None → Seen name a b → Seen name (a ++ op.Lost id why ∷ []) b
+seen_lost name a b id why none s = record {
+  ops = commanded-push a (op.Lost id why) ∙ append-nil (commanded a) ∙ s.ops;
+  answers = λ j h.
+      ap (λ (f : Field). f.answer) (field_of-push a (op.Lost id why) j)
+      ∙ go j (id == j) refl (sym (ap (λ (f : Field). f.session) (field_of-push a (op.Lost id why) j)) ∙ h);
+}
+  where
+    go : (j : ℕ) (c : Bool) → (id == j) ≡ c → (if c then changed (op.Lost id why) (field_of a j) else field_of a j).session ≡ name
+        → (if c then changed (op.Lost id why) (field_of a j) else field_of a j).answer ≡ (field_of b j).answer
+    go j true e h =
+        let same : id ≡ j = grind (arith, nat_tests, e) in
+        sym (ap (λ (k : ℕ). (field_of a k).answer) (sym same) ∙ none) ∙ s.answers j h
+    go j false e h = s.answers j h
+
 pub same_field : (name : List ℕ) (f g : Field) → f.id ≡ g.id → f.session ≡ g.session → f.input ≡ g.input → (f.session ≡ name → f.answer ≡ g.answer) → (c : Bool) → bytes_eq f.session name ≡ c → (c ≡ true → f.session ≡ name) → seen_by name f ≡ seen_by name g
 same_field name f g i s t a true e own =
     let d : bytes_eq g.session name ≡ true = ap (λ (m : List ℕ). bytes_eq m name) (sym s) ∙ e in
     let b : f.answer ≡ g.answer = a (own refl) in
-    rw (e, d) (ap (λ (k : ℕ). record { id = k; session = f.session; input = f.input; answer = f.answer }) i
-    ∙ ap (λ (k : List ℕ). record { id = g.id; session = k; input = f.input; answer = f.answer }) s
-    ∙ ap (λ (k : List ℕ). record { id = g.id; session = g.session; input = k; answer = f.answer }) t
-    ∙ ap (λ (k : Option Answer). record { id = g.id; session = g.session; input = g.input; answer = k }) b)
+    rw (e, d) (ap (λ (k : ℕ). record { id = k; session = f.session; input = f.input; answer = f.answer; lost = None }) i
+    ∙ ap (λ (k : List ℕ). record { id = g.id; session = k; input = f.input; answer = f.answer; lost = None }) s
+    ∙ ap (λ (k : List ℕ). record { id = g.id; session = g.session; input = k; answer = f.answer; lost = None }) t
+    ∙ ap (λ (k : Option Answer). record { id = g.id; session = g.session; input = g.input; answer = k; lost = None }) b)
 same_field name f g i s t a false e own =
     let d : bytes_eq g.session name ≡ false = ap (λ (m : List ℕ). bytes_eq m name) (sym s) ∙ e in
-    rw (e, d) (ap (λ (k : ℕ). record { id = k; session = f.session; input = f.input; answer = None }) i
-    ∙ ap (λ (k : List ℕ). record { id = g.id; session = k; input = f.input; answer = None }) s
-    ∙ ap (λ (k : List ℕ). record { id = g.id; session = g.session; input = k; answer = None }) t)
+    rw (e, d) (ap (λ (k : ℕ). record { id = k; session = f.session; input = f.input; answer = None; lost = None }) i
+    ∙ ap (λ (k : List ℕ). record { id = g.id; session = k; input = f.input; answer = None; lost = None }) s
+    ∙ ap (λ (k : List ℕ). record { id = g.id; session = g.session; input = k; answer = None; lost = None }) t)
 
 -- Whose a field is.
 
@@ -114,6 +132,7 @@ next_grows os o id h = subst (λ (n : ℕ). id < n) (sym (next_from-push 1 os o)
     go (op.Move j after) = h
     go (op.Clear j) = h
     go (op.Answer j prompt output) = h
+    go (op.Lost j reason) = h
 
 owner_still : (os : List Op) (o : Op) (id : ℕ) → id < next_of os → (field_of (os ++ o ∷ []) id).session ≡ (field_of os id).session
 owner_still os o id h = ap (λ (f : Field). f.session) (field_of-push os o id) ∙ go o (is_about id (next_of os) o) refl
@@ -127,6 +146,7 @@ owner_still os o id h = ap (λ (f : Field). f.session) (field_of-push os o id) �
     go (op.Move j after) true e = refl
     go (op.Clear j) true e = refl
     go (op.Answer j prompt output) true e = refl
+    go (op.Lost j reason) true e = refl
 
 pub owned_still : (os : List Op) (o : Op) (name : List ℕ) (i : Item) → HasOwner os name i → HasOwner (os ++ o ∷ []) name i
 owned_still os o name (item.Line id text) h = (next_grows os o id h.0, owner_still os o id h.0 ∙ h.1)
@@ -184,6 +204,7 @@ below_push os o m below = subst (λ (n : ℕ). AllBelow n (order_of (os ++ o ∷
     go (op.Move j after) m = below_placed (next_of os) after j (without j (order_of os)) (below_without (next_of os) j (order_of os) below) m
     go (op.Clear j) m = below
     go (op.Answer j prompt output) m = below
+    go (op.Lost j reason) m = below
 
 pub below_of : (os : List Op) (bound : ℕ) (ids : List ℕ) → AllBelow bound (numbers (map (field_of os) ids)) → AllBelow bound ids
 below_of os bound [] h = tt

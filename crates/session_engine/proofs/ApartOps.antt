@@ -3,6 +3,7 @@ use Rattle.std.proofs.Common.{◌≡◌, ◌+◌, ℕ, List, [], ◌∷◌, ◌+
 use Rattle.std.specs.Prelude.{if◌then◌else◌, ◌==◌, cond, unwrap_or}
 use Rattle.std.specs.List.{find}
 use Rattle.block_tree.specs.Tree.{Tree}
+use Rattle.block_tree.specs.declared.reason.Reason.{Reason}
 use Rattle.worksheet.specs.declared.op.Op.{Op}
 use Rattle.worksheet.specs.declared.op.Op.TheVariants as op
 use Rattle.worksheet.specs.declared.field.Field.{Field}
@@ -29,6 +30,7 @@ next_is next (op.Remove id ∷ os) = next_is next os
 next_is next (op.Move id after ∷ os) = next_is next os
 next_is next (op.Clear id ∷ os) = next_is next os
 next_is next (op.Answer id prompt output ∷ os) = next_is next os
+next_is next (op.Lost id reason ∷ os) = next_is next os
 
 order_is : (next : ℕ) (ids : List ℕ) (os : List Op) → order_from next ids os ≡ order_from next ids (commanded os)
 order_is next ids [] = refl
@@ -39,6 +41,7 @@ order_is next ids (op.Remove id ∷ os) = order_is next (without id ids) os
 order_is next ids (op.Move id after ∷ os) = order_is next (placed after id (without id ids)) os
 order_is next ids (op.Clear id ∷ os) = order_is next ids os
 order_is next ids (op.Answer id prompt output ∷ os) = order_is next ids os
+order_is next ids (op.Lost id reason ∷ os) = order_is next ids os
 
 sessions_are : (os : List Op) → sessions_of os ≡ sessions_of (commanded os)
 sessions_are [] = refl
@@ -49,8 +52,9 @@ sessions_are (op.Remove id ∷ os) = sessions_are os
 sessions_are (op.Move id after ∷ os) = sessions_are os
 sessions_are (op.Clear id ∷ os) = sessions_are os
 sessions_are (op.Answer id prompt output ∷ os) = sessions_are os
+sessions_are (op.Lost id reason ∷ os) = sessions_are os
 
-module _ (by : Op → Option (List ℕ)) (never : (id : ℕ) (prompt : List ℕ) (output : Tree) → by (op.Answer id prompt output) ≡ None) where
+module _ (by : Op → Option (List ℕ)) (never : (id : ℕ) (prompt : List ℕ) (output : Tree) → by (op.Answer id prompt output) ≡ None) (nor : (id : ℕ) (reason : Reason) → by (op.Lost id reason) ≡ None) where
   with_it : (b : Bool) (o : Op) (xs ys : List Op) → ((g : List ℕ) → last_given by g xs ≡ last_given by g ys)
       → (g : List ℕ) → last_given by g (if b then o ∷ xs else xs) ≡ last_given by g (if b then o ∷ ys else ys)
   with_it true o xs ys h g = h (unwrap_or (by o) g)
@@ -71,15 +75,16 @@ module _ (by : Op → Option (List ℕ)) (never : (id : ℕ) (prompt : List ℕ)
   given_alike id next (op.Clear j ∷ os) g = with_it (j == id) (op.Clear j) (about_from id next os) (about_from id next (commanded os)) (given_alike id next os) g
   given_alike id next (op.Answer j prompt output ∷ os) g =
       past_it (j == id) (op.Answer j prompt output) (about_from id next os) (never j prompt output) g ∙ given_alike id next os g
+  given_alike id next (op.Lost j reason ∷ os) g = past_it (j == id) (op.Lost j reason) (about_from id next os) (nor j reason) g ∙ given_alike id next os g
 
   pub last_alike : (id : ℕ) (os us : List Op) → commanded os ≡ commanded us → last_given by [] (about id os) ≡ last_given by [] (about id us)
   last_alike id os us h = given_alike id 1 os [] ∙ ap (λ (xs : List Op). last_given by [] (about_from id 1 xs)) h ∙ sym (given_alike id 1 us [])
 
 pub session_alike : (os us : List Op) (id : ℕ) → commanded os ≡ commanded us → (field_of os id).session ≡ (field_of us id).session
-session_alike os us id h = last_alike session_by (λ j p b. refl) id os us h
+session_alike os us id h = last_alike session_by (λ j p b. refl) (λ j r. refl) id os us h
 
 pub input_alike : (os us : List Op) (id : ℕ) → commanded os ≡ commanded us → (field_of os id).input ≡ (field_of us id).input
-input_alike os us id h = last_alike input_by (λ j p b. refl) id os us h
+input_alike os us id h = last_alike input_by (λ j p b. refl) (λ j r. refl) id os us h
 
 found_alike : (g : Field → List ℕ) (os us : List Op) (id : ℕ) (ids : List ℕ) → ((j : ℕ) → g (field_of os j) ≡ g (field_of us j))
     → by_field (find (λ f. f.id == id) (map (field_of os) ids)) [] g ≡ by_field (find (λ f. f.id == id) (map (field_of us) ids)) [] g

@@ -7,6 +7,8 @@ use Rattle.std.proofs.lemmas.List.{append-nil}
 use Rattle.block_tree.specs.Output.{output}
 use Rattle.meta_format.specs.Stream.{Outer}
 use Rattle.meta_format.specs.Faults.{Kind}
+use Rattle.block_tree.specs.declared.reason.Reason.{Reason}
+use Rattle.block_tree.specs.declared.reason.Reason.TheVariants as reason
 use Rattle.worksheet.specs.declared.op.Op.{Op}
 use Rattle.worksheet.specs.declared.op.Op.TheVariants as op
 use Rattle.worksheet.specs.declared.refusal.Refusal.{Refusal}
@@ -34,7 +36,7 @@ use Rattle.session_engine.specs.declared.event.ChildEvent.TheVariants as child
 use Rattle.session_engine.specs.declared.event.Event.TheVariants as event
 use Rattle.session_engine.specs.declared.outcome.Outcome.{Outcome}
 use Rattle.session_engine.specs.Named.{without_named, replace_named}
-use Rattle.session_engine.specs.World.{World, Going, life_of, with_number, with_op, with_op_if, session_of_field, line_of_field, sheet_in, request_of_field}
+use Rattle.session_engine.specs.World.{World, Going, kept_at_end, life_of, with_number, with_op, with_op_if, session_of_field, line_of_field, sheet_in, request_of_field}
 use Rattle.session_engine.specs.Does.{with_piece, op_by, joined_by, begun_with}
 use Rattle.session_engine.specs.inside.Given.{Commanded, Childed, after, GivesByParts}
 use Rattle.session_engine.specs.inside.Parts.{with_life, without_life, with_item, goes_on}
@@ -42,6 +44,7 @@ use Rattle.session_engine.specs.Refused.{command_refusals}
 use Rattle.session_engine.specs.Apart.{IsOpened}
 use Rattle.session_engine.proofs.Standing.{all_at}
 use Rattle.session_engine.proofs.ApartLives.{first_has}
+use Rattle.session_engine.proofs.Losing.{if_stopped, if_pieced}
 use Rattle.session_engine.proofs.ApartFields.{HasOwner, MovesOne, owned_still, found_owner, below_push, below_of}
 
 -- a life's items are lines of its session's fields
@@ -130,7 +133,8 @@ accepted_owned w (command.Eval id) h none =
     owned_op (with_item w (session_of_field w id) (line_of_field w id) (life_of w (session_of_field w id))) (op.Clear id) tt
     (owned_item w (session_of_field w id) (line_of_field w id) (life_of w (session_of_field w id)) refl (t.0, sym t.1) h)
 accepted_owned w (command.Complete id cursor) h none = owned_item w (session_of_field w id) (request_of_field w id cursor) (life_of w (session_of_field w id)) refl tt h
-accepted_owned w (command.Stop m) h none = owned_without w m h
+accepted_owned w (command.Stop m) h none =
+    if_stopped (λ p. Owned (with_op_if p (without_life m w))) w reason.Stopped (life_of w m) (owned_without w m h) (λ l id e f. owned_op (without_life m w) (op.Lost id reason.Stopped) tt (owned_without w m h))
 
 -- What an event adds to the ops, and whether it is an answer of another session.
 pub record Grown (w v : World) : Type 0 where
@@ -157,7 +161,8 @@ accepted_ops w (command.Move id place) = (op.Move id place ∷ [], refl)
 accepted_ops w (command.Clear id) = (op.Clear id ∷ [], refl)
 accepted_ops w (command.Eval id) = (op.Clear id ∷ [], ap (λ (os : List Op). os ++ op.Clear id ∷ []) (item_ops (session_of_field w id) (line_of_field w id) (life_of w (session_of_field w id)) w))
 accepted_ops w (command.Complete id cursor) = ([], item_ops (session_of_field w id) (request_of_field w id cursor) (life_of w (session_of_field w id)) w ∙ sym (append-nil w.ops))
-accepted_ops w (command.Stop m) = ([], sym (append-nil w.ops))
+accepted_ops w (command.Stop m) =
+    if_stopped (λ p. (more : List Op) × ((with_op_if p (without_life m w)).ops ≡ w.ops ++ more)) w reason.Stopped (life_of w m) ([], sym (append-nil w.ops)) (λ l id e f. (op.Lost id reason.Stopped ∷ [], refl))
 
 pub command_grows : (w : World) (c : Command) (o : Outcome) (v : World) → Owned w → GivesByParts w (event.Command c) o v → Grown w v
 command_grows w c o v h g = go (first_of (command_refusals w c)) refl g
@@ -199,17 +204,39 @@ step_owned os l piece blocks fault own = go (closed_in l.past l.blocks (received
     go None = tt
     go (Some b) = answer_owned os l b own
 
--- An event of a child: what becomes of its life, and then the answer's op, of a field of its session.
+-- an op of a child's event: the answer to a field of this session, or a reason
+abbrev pub OpOwned : List Op → List ℕ → Option Op → Type 0
+OpOwned os name None = Unit {0}
+OpOwned os name (Some (op.Session other tab words)) = ⊥
+OpOwned os name (Some (op.New after session input)) = ⊥
+OpOwned os name (Some (op.Set id input)) = ⊥
+OpOwned os name (Some (op.Remove id)) = ⊥
+OpOwned os name (Some (op.Move id after)) = ⊥
+OpOwned os name (Some (op.Clear id)) = ⊥
+OpOwned os name (Some (op.Answer id prompt output)) = (field_of os id).session ≡ name
+OpOwned os name (Some (op.Lost id why)) = Unit {0}
+
+-- An event of a child: what becomes of its life, and then its op, if it gives one.
 pub record OfChild (m : List ℕ) (w v : World) : Type 0 where
   pub on : World
   pub kept : on.ops ≡ w.ops
   pub owned : Owned on
-  pub answer : Option Answered
-  pub mine : AnswerOwned w.ops m answer
-  pub is : v ≡ with_op_if (op_by answer) on
+  pub given : Option Op
+  pub mine : OpOwned w.ops m given
+  pub is : v ≡ with_op_if given on
 
 plain : (m : List ℕ) (w v z : World) → v ≡ z → z.ops ≡ w.ops → Owned z → OfChild m w v
-plain m w v z e k h = record { on = z; kept = k; owned = h; answer = None; mine = tt; is = e }
+plain m w v z e k h = record { on = z; kept = k; owned = h; given = None; mine = tt; is = e }
+
+ended : (w : World) (l : Going) (why : Reason) (v : World) → Owned w → v ≡ with_op_if (kept_at_end w why (Some l)) (without_life l.name w) → OfChild l.name w v
+ended w l why v h is = record {
+  on = without_life l.name w;
+  kept = refl;
+  owned = owned_without w l.name h;
+  given = kept_at_end w why (Some l);
+  mine = if_stopped (OpOwned w.ops l.name) w why (Some l) tt (λ m id e f. tt);
+  is = is;
+}
 
 on_owned : (w : World) (l : Going) (piece : List ℕ) (blocks : List Outer) (e : Option Ended) → OwnsItems w.ops l → Owned w → Owned (goes_on (with_piece l piece blocks) e w)
 on_owned w l piece blocks None own h = owned_with w (with_piece l piece blocks) (subst (λ (is : List Item). AllByRecursion (HasOwner w.ops l.name) is) (sym (items_of-received l.past piece)) own) h
@@ -220,21 +247,22 @@ ops_kept l None w = refl
 ops_kept l (Some e) w = refl
 
 life_grows : (w : World) (l : Going) (c : ChildEvent) (o : Outcome) (v : World) → OwnsItems w.ops l → Owned w → Childed w (Some l) c o v → OfChild l.name w v
-life_grows w l child.StartRefused o v own h g = plain l.name w v (without_life l.name w) g.1 refl (owned_without w l.name h)
+life_grows w l child.StartRefused o v own h g = ended w l reason.StartRefused v h g.1
 life_grows w l (child.Piece piece) o v own h g =
     let s : Step = step_of l.past l.blocks piece g.0 g.1 in
     record {
       on = goes_on (with_piece l piece g.0) s.ended w;
       kept = ops_kept (with_piece l piece g.0) s.ended w;
       owned = on_owned w l piece g.0 s.ended own h;
-      answer = s.answered;
-      mine = step_owned w.ops l piece g.0 g.1 own;
+      given = op_by w.room w.end s.answered s.ended;
+      mine = if_pieced (OpOwned w.ops l.name) w.room w.end s.answered s.ended tt
+          (λ id prompt out e. subst (AnswerOwned w.ops l.name) e (step_owned w.ops l piece g.0 g.1 own)) (λ x id e f none. tt);
       is = g.2.2;
     }
-life_grows w l child.End o v own h g = plain l.name w v (without_life l.name w) g.1 refl (owned_without w l.name h)
-life_grows w l child.ReadFault o v own h g = plain l.name w v (without_life l.name w) g.1 refl (owned_without w l.name h)
-life_grows w l child.SendFault o v own h g = plain l.name w v (without_life l.name w) g.1 refl (owned_without w l.name h)
-life_grows w l child.Stalled o v own h g = plain l.name w v (without_life l.name w) g.1 refl (owned_without w l.name h)
+life_grows w l child.End o v own h g = ended w l reason.Ended v h g.1
+life_grows w l child.ReadFault o v own h g = ended w l reason.ReadFault v h g.1
+life_grows w l child.SendFault o v own h g = ended w l reason.SendFault v h g.1
+life_grows w l child.Stalled o v own h g = ended w l reason.Stalled v h g.1
 life_grows w l child.StopFault o v own h g = plain l.name w v w g.1 refl h
 
 none_grows : (m : List ℕ) (w : World) (c : ChildEvent) (o : Outcome) (v : World) → Owned w → Childed w None c o v → OfChild m w v
@@ -258,14 +286,18 @@ child_grows m w number c o v h g = go (life_of w m) refl g
         here false s g = none_grows m w c o v h g
 
 pub child_grown : (m : List ℕ) (w v : World) → OfChild m w v → Grown w v
-child_grown m w v g = grown_to w v (with_op_if (op_by g.answer) g.on) g.is (go g.answer)
+child_grown m w v g = grown_to w v (with_op_if g.given g.on) g.is (go g.given g.mine)
   where
-    go : (a : Option Answered) → Grown w (with_op_if (op_by a) g.on)
-    go None = record { owned = g.owned; more = []; ops = g.kept ∙ sym (append-nil w.ops) }
-    go (Some (answered.Banner b)) = record { owned = g.owned; more = []; ops = g.kept ∙ sym (append-nil w.ops) }
-    go (Some (answered.Complete id result)) = record { owned = g.owned; more = []; ops = g.kept ∙ sym (append-nil w.ops) }
-    go (Some (answered.Line id prompt output)) = record {
-      owned = owned_op g.on (op.Answer id prompt output) tt g.owned;
-      more = op.Answer id prompt output ∷ [];
-      ops = ap (λ (os : List Op). os ++ op.Answer id prompt output ∷ []) g.kept;
-    }
+    one : (o : Op) → MovesOne g.on.ops o → Grown w (with_op o g.on)
+    one o moves = record { owned = owned_op g.on o moves g.owned; more = o ∷ []; ops = ap (λ (os : List Op). os ++ o ∷ []) g.kept }
+
+    go : (o : Option Op) → OpOwned w.ops m o → Grown w (with_op_if o g.on)
+    go None mine = record { owned = g.owned; more = []; ops = g.kept ∙ sym (append-nil w.ops) }
+    go (Some (op.Session other tab words)) mine = absurd mine
+    go (Some (op.New after session input)) mine = absurd mine
+    go (Some (op.Set id input)) mine = absurd mine
+    go (Some (op.Remove id)) mine = absurd mine
+    go (Some (op.Move id after)) mine = absurd mine
+    go (Some (op.Clear id)) mine = absurd mine
+    go (Some (op.Answer id prompt output)) mine = one (op.Answer id prompt output) tt
+    go (Some (op.Lost id why)) mine = one (op.Lost id why) tt

@@ -7,8 +7,8 @@ use Rattle.worksheet.specs.Checks.{first_of}
 use Rattle.plugin_core.specs.declared.item.Item.{Item}
 use Rattle.plugin_core.specs.declared.step.Step.{Step}
 use Rattle.plugin_core.specs.declared.step.Ended.{Ended}
-use Rattle.plugin_core.specs.declared.step.Reason.{Reason}
-use Rattle.plugin_core.specs.declared.step.Reason.TheVariants as reason
+use Rattle.block_tree.specs.declared.reason.Reason.{Reason}
+use Rattle.block_tree.specs.declared.reason.Reason.TheVariants as reason
 use Rattle.plugin_core.specs.Past.{accepted}
 use Rattle.plugin_core.specs.Steps.{step_of, sent_by}
 use Rattle.session_engine.proofs.ByParts.{by_parts}

@@ -8,8 +8,8 @@ use Rattle.worksheet.specs.declared.refusal.Refusal.TheVariants as refusal
 use Rattle.worksheet.specs.Checks.{first_of}
 use Rattle.plugin_core.specs.declared.step.Ended.{Ended}
 use Rattle.plugin_core.specs.declared.step.Step.{Step}
-use Rattle.plugin_core.specs.declared.step.Reason.{Reason}
-use Rattle.plugin_core.specs.declared.step.Reason.TheVariants as reason
+use Rattle.block_tree.specs.declared.reason.Reason.{Reason}
+use Rattle.block_tree.specs.declared.reason.Reason.TheVariants as reason
 use Rattle.plugin_core.specs.Steps.{step_of}
 use Rattle.session_engine.specs.declared.command.Command.{Command}
 use Rattle.session_engine.specs.declared.command.Command.TheVariants as command
@@ -19,7 +19,7 @@ use Rattle.session_engine.specs.declared.event.Event.{Event}
 use Rattle.session_engine.specs.declared.event.Event.TheVariants as event
 use Rattle.session_engine.specs.declared.outcome.Outcome.{Outcome}
 use Rattle.session_engine.specs.declared.reply.Reply.TheVariants as reply
-use Rattle.session_engine.specs.World.{World, Going, life_of, with_number, with_op, with_op_if, session_of_field, line_of_field, request_of_field}
+use Rattle.session_engine.specs.World.{World, Going, kept_at_end, life_of, with_number, with_op, with_op_if, session_of_field, line_of_field, request_of_field}
 use Rattle.session_engine.specs.Refused.{command_refusals}
 use Rattle.session_engine.specs.Does.{Does, does, behind, ends_life, steps, tells, op_by, with_piece, CommandDoes, ChildDoes, MayDo, Gives}
 use Rattle.session_engine.specs.inside.Parts.{without_life, goes_on}
@@ -35,9 +35,9 @@ stopped_told w None = refl
 stopped_told w (Some l) = refl
 
 -- the life of a name has that name
-stopped_leads : (w : World) (name : List ℕ) (l : Option Going) → life_of w name ≡ l → behind w (ends_life w reason.Stopped true l reply.Done) ≡ without_life name w
+stopped_leads : (w : World) (name : List ℕ) (l : Option Going) → life_of w name ≡ l → behind w (ends_life w reason.Stopped true l reply.Done) ≡ with_op_if (kept_at_end w reason.Stopped l) (without_life name w)
 stopped_leads w name None is = sym (without_none_here w name is)
-stopped_leads w name (Some l) is = ap (λ (n : List ℕ). without_life n w) (first_has_name (λ (g : Going). g.name) name w.lives l is)
+stopped_leads w name (Some l) is = ap (λ (n : List ℕ). with_op_if (kept_at_end w reason.Stopped (Some l)) (without_life n w)) (first_has_name (λ (g : Going). g.name) name w.lives l is)
 
 same_outcome : (w : World) (c : Command) → (does w c).told ≡ outcome_of w c
 same_outcome w (command.Session name tab words) = refl
@@ -61,10 +61,10 @@ same_after w (command.Eval id) = asked_leads w (line_of_field w id) (Some (op.Cl
 same_after w (command.Complete id cursor) = asked_leads w (request_of_field w id cursor) None (session_of_field w id) (life_of w (session_of_field w id))
 same_after w (command.Stop name) = stopped_leads w name (life_of w name) refl
 
-stepped : (w : World) (l : Going) (piece : List ℕ) (blocks : List Outer) (s : Step) → behind w (steps w l piece blocks s) ≡ with_op_if (op_by s.answered) (goes_on (with_piece l piece blocks) s.ended w)
+stepped : (w : World) (l : Going) (piece : List ℕ) (blocks : List Outer) (s : Step) → behind w (steps w l piece blocks s) ≡ with_op_if (op_by w.room w.end s.answered s.ended) (goes_on (with_piece l piece blocks) s.ended w)
 stepped w l piece blocks s = go s.ended refl
   where
-    go : (e : Option Ended) → s.ended ≡ e → behind w (steps w l piece blocks s) ≡ with_op_if (op_by s.answered) (goes_on (with_piece l piece blocks) s.ended w)
+    go : (e : Option Ended) → s.ended ≡ e → behind w (steps w l piece blocks s) ≡ with_op_if (op_by w.room w.end s.answered s.ended) (goes_on (with_piece l piece blocks) s.ended w)
     go None is = rw is refl
     go (Some e) is = rw is refl
 

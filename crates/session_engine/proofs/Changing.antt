@@ -35,7 +35,7 @@ use Rattle.session_engine.specs.inside.Commits.{Spares, SparesItem, SparesLife}
 pub record IsOp (w : World) (c : Command) (o : Op) : Type 0 where
   pub refusals_are : command_refusals w c ≡ op_refusals w o
   pub does_is : does w c ≡ changes w o
-  pub takes : command_takes_memory c ≡ true
+  pub takes : command_takes_memory w c ≡ true
 
 pub as_op : (w : World) (c : Command) (o : Op) → op_of c ≡ Some o → IsOp w c o
 as_op w (command.Session name tab words) o e = let is : op.Session name tab words ≡ o = cc in subst (λ (o : Op). IsOp w (command.Session name tab words) o) is (record { refusals_are = refl; does_is = refl; takes = refl })
@@ -85,6 +85,7 @@ allowed_by w (op.Remove id) h = (none_second (refusal.InFlight, in_flight w id) 
 allowed_by w (op.Move id place) h = h
 allowed_by w (op.Clear id) h = (none_second (refusal.InFlight, in_flight w id) (sheet_refusals (sheet_in w) (op.Clear id)) h).1
 allowed_by w (op.Answer id prompt output) h = h
+allowed_by w (op.Lost id why) h = h
 
 -- no line of a field that goes waits
 
@@ -126,6 +127,7 @@ spares w (op.Remove other) h = spared_in other w.lives (none_second (refusal.InF
 spares w (op.Move other place) h = all_lives (op.Move other place) w.lives (no_matter (op.Move other place) (λ id. tt))
 spares w (op.Clear other) h = all_lives (op.Clear other) w.lives (no_matter (op.Clear other) (λ id. tt))
 spares w (op.Answer other prompt output) h = all_lives (op.Answer other prompt output) w.lives (no_matter (op.Answer other prompt output) (λ id. tt))
+spares w (op.Lost other why) h = all_lives (op.Lost other why) w.lives (no_matter (op.Lost other why) (λ id. tt))
 
 module _ (w : World) (c : Command) (o : Op) (is : op_of c ≡ Some o) where
   pub gives_refusal : (r : Refusal) → first_of (checks w o) ≡ Some r → MayDo w (event.Command c) (tells w (reply.Refused r))

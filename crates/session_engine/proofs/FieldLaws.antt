@@ -52,6 +52,7 @@ KeepsInput id (op.Remove other) = (other == id) ≡ false
 KeepsInput id (op.Move other after) = Unit {0}
 KeepsInput id (op.Clear other) = Unit {0}
 KeepsInput id (op.Answer other prompt output) = Unit {0}
+KeepsInput id (op.Lost other why) = Unit {0}
 
 spares : (id : ℕ) (o : Op) → KeepsInput id o → Spares id o
 spares id (op.Session name tab words) h = tt
@@ -61,6 +62,7 @@ spares id (op.Remove other) h = h
 spares id (op.Move other after) h = tt
 spares id (op.Clear other) h = tt
 spares id (op.Answer other prompt output) h = tt
+spares id (op.Lost other why) h = tt
 
 same_input : (id next : ℕ) (o : Op) (f : Field) → KeepsInput id o → (next == id) ≡ false → is_about id next o ≡ true → (changed o f).input ≡ f.input
 same_input id next (op.Session name tab words) f h n a = refl
@@ -70,6 +72,7 @@ same_input id next (op.Remove other) f h n a = refl
 same_input id next (op.Move other after) f h n a = refl
 same_input id next (op.Clear other) f h n a = refl
 same_input id next (op.Answer other prompt output) f h n a = refl
+same_input id next (op.Lost other why) f h n a = refl
 
 input_still : (os : List Op) (o : Op) (id : ℕ) → KeepsInput id o → (next_of os == id) ≡ false → (field_of (os ++ o ∷ []) id).input ≡ (field_of os id).input
 input_still os o id h n = ap (λ (f : Field). f.input) (field_of-push os o id) ∙ go (is_about id (next_of os) o) refl
@@ -108,7 +111,7 @@ pub record AnsweredBy (os : List Op) (o : Op) (g : Field) : Type 0 where
   pub is : o ≡ op.Answer g.id prompt output
   pub before : Field
   pub found : field_in (sheet_of os).fields g.id ≡ Some before
-  pub now : g ≡ record before { answer = Some (record { prompt = prompt; output = output }) }
+  pub now : g ≡ record before { answer = Some (record { prompt = prompt; output = output }); lost = None }
 
 -- what an op may have done to a field that has an answer
 abbrev pub ByOp : List Op → Op → Field → Type 0
@@ -142,6 +145,7 @@ module _ (os : List Op) (g : Field) (answer : Answer) (allowed : Allowed os) (sh
   by_cases (op.Remove other) true a e is = absurd (let no : false ≡ true = e in cc)
   by_cases (op.Move other after) true a e is = here e is (op.Move other after)
   by_cases (op.Clear other) true a e is = absurd (unanswered (changed (op.Clear other) (field_of os g.id)) refl is)
+  by_cases (op.Lost other why) true a e is = absurd (unanswered (changed (op.Lost other why) (field_of os g.id)) refl is)
   by_cases (op.Answer other prompt output) true a e is =
       let same : other ≡ g.id = grind (arith, nat_tests, a) in
       inr (record {

@@ -4,6 +4,7 @@ use Rattle.std.specs.Prelude.{if◌then◌else◌, is_some, nat_lt, slice_get, o
 use Rattle.std.specs.List.{AllByRecursion}
 use Rattle.std.proofs.lemmas.Bool.Decides.{nat_tests}
 use Rattle.std.proofs.lemmas.List.{append-nil, drop-drop}
+use Rattle.block_tree.specs.declared.reason.Reason.{Reason}
 use Rattle.worksheet.specs.declared.op.Op.{Op}
 use Rattle.worksheet.specs.declared.op.Op.TheVariants as op
 use Rattle.worksheet.specs.declared.field.Field.{Field}
@@ -28,9 +29,8 @@ use Rattle.plugin_core.proofs.Pasts.{items_of-received}
 use Rattle.plugin_core.specs.declared.item.Item.{Item}
 use Rattle.plugin_core.specs.declared.item.Item.TheVariants as item
 use Rattle.session_engine.specs.World.{Going, waiting_in}
-use Rattle.session_engine.specs.Does.{op_by}
 use Rattle.session_engine.specs.Host.{HasField, HaveFields}
-use Rattle.session_engine.specs.inside.Commits.{AllowedIf, Spares, SparesItem, SparesLife}
+use Rattle.session_engine.specs.inside.Commits.{AllowedIf, answer_op, Spares, SparesItem, SparesLife}
 
 exists_more : (id next : ℕ) (os : List Op) (o : Op) → Spares id o → is_about id next o ≡ true → is_making (last_of makes_or_ends os) ≡ true → is_making (last_of makes_or_ends (os ++ o ∷ [])) ≡ true
 exists_more id next os (op.Session name tab words) s a h = rw (last_of-push makes_or_ends os (op.Session name tab words)) h
@@ -40,6 +40,7 @@ exists_more id next os (op.Remove other) s a h = absurd (let no : true ≡ false
 exists_more id next os (op.Move other after) s a h = rw (last_of-push makes_or_ends os (op.Move other after)) h
 exists_more id next os (op.Clear other) s a h = rw (last_of-push makes_or_ends os (op.Clear other)) h
 exists_more id next os (op.Answer other prompt output) s a h = rw (last_of-push makes_or_ends os (op.Answer other prompt output)) h
+exists_more id next os (op.Lost other why) s a h = rw (last_of-push makes_or_ends os (op.Lost other why)) h
 
 exists_still : (os : List Op) (o : Op) (id : ℕ) → Spares id o → exists os id ≡ true → exists (os ++ o ∷ []) id ≡ true
 exists_still os o id s h = subst (λ (l : List Op). is_making (last_of makes_or_ends l) ≡ true) (sym (about_from-push id 1 os o)) (go (is_about id (next_of os) o) refl)
@@ -79,6 +80,16 @@ pub spared : (id : ℕ) (prompt : List ℕ) (out : Tree) (ls : List Going) → A
 spared id prompt out [] = tt
 spared id prompt out (l ∷ ls) = (spared_items id prompt out (waiting_in l), spared id prompt out ls)
 
+-- nor does a reason
+lost_items : (id : ℕ) (why : Reason) (items : List Item) → AllByRecursion (SparesItem (op.Lost id why)) items
+lost_items id why [] = tt
+lost_items id why (item.Line other text ∷ items) = (tt, lost_items id why items)
+lost_items id why (item.Complete other text cursor ∷ items) = (tt, lost_items id why items)
+
+pub spared_lost : (id : ℕ) (why : Reason) (ls : List Going) → AllByRecursion (SparesLife (op.Lost id why)) ls
+spared_lost id why [] = tt
+spared_lost id why (l ∷ ls) = (lost_items id why (waiting_in l), spared_lost id why ls)
+
 all_drop : {A : Type 0} (P : A → Type 0) (n : ℕ) (xs : List A) → AllByRecursion P xs → AllByRecursion P (drop n xs)
 all_drop P zero xs all = all
 all_drop P (suc n) [] all = tt
@@ -108,10 +119,10 @@ first_dropped P zero (x ∷ items) i h all = let e : x ≡ i = cc in subst P e a
 first_dropped P (suc n) (x ∷ items) i h all = first_dropped P n items i h all
 
 -- what answers the first waiting item is allowed
-pub allowed_answer : ShortPrompts → (sheet : Contents) (past : List Event) (before : List Outer) (b : Outer) → AllByRecursion (HasField sheet) (waiting_of past before) → AllowedIf sheet (op_by (answered_with past before b))
+pub allowed_answer : ShortPrompts → (sheet : Contents) (past : List Event) (before : List Outer) (b : Outer) → AllByRecursion (HasField sheet) (waiting_of past before) → AllowedIf sheet (answer_op (answered_with past before b))
 allowed_answer short sheet past before b all = go (answers_of past before) (items_of past) (prompt_of past before) (short past before) all
   where
-    line : (o : Option Item) (prompt : List ℕ) → length prompt ≤ prompt_limit → ((i : Item) → o ≡ Some i → HasField sheet i) → AllowedIf sheet (op_by (option_map (λ i. answer_to i prompt (output b.block)) o))
+    line : (o : Option Item) (prompt : List ℕ) → length prompt ≤ prompt_limit → ((i : Item) → o ≡ Some i → HasField sheet i) → AllowedIf sheet (answer_op (option_map (λ i. answer_to i prompt (output b.block)) o))
     line None prompt le has = tt
     line (Some (item.Line id text)) prompt le has =
         let f : has_field sheet id ≡ true = has (item.Line id text) refl in
@@ -119,15 +130,15 @@ allowed_answer short sheet past before b all = go (answers_of past before) (item
         rw (f, k) refl
     line (Some (item.Complete id text cursor)) prompt le has = tt
 
-    go : (answers : List Outer) (items : List Item) (prompt : List ℕ) → length prompt ≤ prompt_limit → AllByRecursion (HasField sheet) (unanswered answers items) → AllowedIf sheet (op_by (answer_behind answers items prompt b.block))
+    go : (answers : List Outer) (items : List Item) (prompt : List ℕ) → length prompt ≤ prompt_limit → AllByRecursion (HasField sheet) (unanswered answers items) → AllowedIf sheet (answer_op (answer_behind answers items prompt b.block))
     go [] items prompt le all = tt
     go (a ∷ answers) items prompt le all = line (slice_get items (length answers)) prompt le (λ i e. first_dropped (HasField sheet) (length answers) items i e all)
 
 -- so is what a step answers
-pub allowed_step : ShortPrompts → (sheet : Contents) (l : Going) (piece : List ℕ) (step : Step) (life : InterpreterView) → HaveFields sheet l → Takes l.past l.blocks piece step life → AllowedIf sheet (op_by step.answered)
+pub allowed_step : ShortPrompts → (sheet : Contents) (l : Going) (piece : List ℕ) (step : Step) (life : InterpreterView) → HaveFields sheet l → Takes l.past l.blocks piece step life → AllowedIf sheet (answer_op step.answered)
 allowed_step short sheet l piece step life fields takes =
-    subst (λ (s : Step). AllowedIf sheet (op_by s.answered)) (sym takes.gives) (go (closed_in l.past l.blocks (received piece) takes.after))
+    subst (λ (s : Step). AllowedIf sheet (answer_op s.answered)) (sym takes.gives) (go (closed_in l.past l.blocks (received piece) takes.after))
   where
-    go : (o : Option Outer) → AllowedIf sheet (op_by (option_and_then (answered_with l.past l.blocks) o))
+    go : (o : Option Outer) → AllowedIf sheet (answer_op (option_and_then (answered_with l.past l.blocks) o))
     go None = tt
     go (Some b) = allowed_answer short sheet l.past l.blocks b fields

@@ -1,6 +1,8 @@
 -- Hosts one after another.
-use Rattle.std.proofs.Common.{◌≡◌, ◌⊎◌, inl, inr, ⊎_elim, ℕ, List, [], ◌∷◌, ◌++◌, refl, ap, sym, ◌∙◌, subst, Some, None, append-nil}
-use Rattle.disk_model.specs.Disk.{Image}
+use Rattle.std.proofs.Common.{◌≡◌, ◌⊎◌, inl, inr, ⊎_elim, ℕ, List, [], ◌∷◌, ◌++◌, refl, ap, sym, ◌∙◌, subst, Some, None, append-nil, append_assoc}
+use Rattle.std.specs.Bool.{IsTrue}
+use Rattle.disk_model.specs.Disk.{DiskView, Image, InModel, IsImage, Leaves}
+use Rattle.disk_model.specs.inside.Moments.{at_end}
 use Rattle.worksheet.specs.declared.op.Op.{Op}
 use Rattle.worksheet.specs.declared.op.Op.TheVariants as op
 use Rattle.worksheet.specs.declared.field.Field.{Field}
@@ -8,16 +10,21 @@ use Rattle.worksheet.specs.declared.field.Answer.{Answer}
 use Rattle.worksheet.specs.Contents.{Contents}
 use Rattle.worksheet.specs.Ops.{sheet_of}
 use Rattle.worksheet.specs.Checks.{Allowed, field_in}
-use Rattle.recovery.specs.Sheets.{IsSheetImage}
+use Rattle.recovery.specs.Sheets.{IsEither, IsSheetImage}
 use Rattle.recovery.specs.Laws.{OneSheet}
 use Rattle.session_engine.specs.declared.command.Command.TheVariants as command
 use Rattle.session_engine.specs.declared.event.Event.{Event}
 use Rattle.session_engine.specs.declared.event.Event.TheVariants as event
+use Rattle.session_engine.specs.declared.outcome.HostFault.{HostFault}
+use Rattle.session_engine.specs.declared.outcome.HostFault.TheVariants as faults
 use Rattle.session_engine.specs.declared.outcome.Outcome.{Outcome}
 use Rattle.session_engine.specs.World.{World, world_at_opening, sheet_in}
-use Rattle.session_engine.specs.Does.{Runs}
+use Rattle.session_engine.specs.Does.{Does, MayDo, Runs, behind}
+use Rattle.session_engine.specs.Host.{EndsAt, HostView}
+use Rattle.session_engine.specs.Crash.{HasPlayed, StoppedAt}
 use Rattle.session_engine.specs.Turns.{Has, Stays, Answered, HostTurn, Turned, EachTurned, WentOn, StaysThrough, AnsweredByOne, LivesInTurn, EvaluatedAnew, PlaysAreTurns}
 use Rattle.session_engine.proofs.FieldLaws.{cleared}
+use Rattle.session_engine.proofs.Playing.{run_on, behind_ops}
 use Rattle.session_engine.proofs.Living.{Sound}
 use Rattle.session_engine.proofs.Showing.{stepped}
 use Rattle.session_engine.proofs.Same.{by_ops, runs}
@@ -124,6 +131,67 @@ evaluated_anew found room end es os w allowed run id o mid given clears later to
     (λ answered. answered)
     (shown mid later told v after more f a some has)
 
+-- What a play that stopped at a fault leaves.
+module _ (room end : ℕ) (before : Image) (found : List Op) (allowed : Allowed found) (opens : IsSheetImage (sheet_of found) before) (ends : EndsAt before end) (events : List Event) (told : List Outcome) where
+  abbrev first : World
+  first = world_at_opening found room end
+
+  abbrev IsTurn : Image → Type 0
+  IsTurn i = (kept : List Op) × Turned room before found (record { events = events; told = told }) i kept
+
+  -- the worksheet behind the events with an outcome
+  without_it : (rest : List Event) (host : HostView) (p : HasPlayed first events rest told host) (i : Image) → IsSheetImage (sheet_in p.leads) i → IsTurn i
+  without_it rest host p i image = (
+    p.leads.ops,
+    record {
+      allowed = allowed;
+      opens = opens;
+      end = end;
+      ends = ends;
+      taken = p.done;
+      lost = rest;
+      split = p.split;
+      untold = [];
+      leads = p.leads;
+      run = subst (λ (os : List Outcome). Runs first p.done os p.leads) (sym (append-nil told)) p.runs;
+      ops = refl;
+      leaves = image;
+    },
+  )
+
+  -- and the op of the one behind them
+  with_it : (e : Event) (rest : List Event) (host : HostView) (p : HasPlayed first events (e ∷ rest) told host) (d : Does) (q : Op) (i : Image) → MayDo p.leads e d → d.op ≡ Some q
+      → IsSheetImage (sheet_of (p.leads.ops ++ q ∷ [])) i → IsTurn i
+  with_it e rest host p d q i may gives image = (
+    (behind p.leads d).ops,
+    record {
+      allowed = allowed;
+      opens = opens;
+      end = end;
+      ends = ends;
+      taken = p.done ++ e ∷ [];
+      lost = rest;
+      split = p.split ∙ sym (append_assoc p.done (e ∷ []) rest);
+      untold = d.told ∷ [];
+      leads = behind p.leads d;
+      run = run_on first p.done told p.leads e d d.told p.runs may refl;
+      ops = refl;
+      leaves = subst (λ (ops : List Op). IsSheetImage (sheet_of ops) i) (sym (behind_ops p.leads d q gives)) image;
+    },
+  )
+
+  stopped_turn : (old new : HostView) (fault : HostFault) → StoppedAt first events old new told fault → InModel old.store.disk (Leaves IsTurn new.store.disk.history.now)
+  stopped_turn old new faults.Closed s = absurd s.failed.cause
+  stopped_turn old new faults.Disk s = λ model i image.
+      let q = s.failed.cause.1.0 in
+      let give = s.failed.cause.1.1 in
+      ⊎_elim (without_it (s.at ∷ s.dropped) s.before s.played i) (with_it s.at s.dropped s.before s.played give.does q i give.may give.gives)
+      (at_end (IsEither s.played.leads.ops q) s.before.store.disk.history new.store.disk.history (s.failed.cause.1.2 (subst IsTrue (sym s.same.keeps_model) model)) i image)
+  stopped_turn old new faults.OutOfMemory s = λ model i image. without_it (s.at ∷ s.dropped) s.before s.played i
+      (s.played.stands.stands.images (subst IsTrue (sym s.same.keeps_model) model) i (subst (λ (d : DiskView). IsImage d.history.now i) s.failed.cause.0 image))
+  stopped_turn old new faults.JournalFull s = λ model i image. without_it (s.at ∷ s.dropped) s.before s.played i
+      (s.played.stands.stands.images (subst IsTrue (sym s.same.keeps_model) model) i (subst (λ (d : DiskView). IsImage d.history.now i) s.failed.cause.0 image))
+
 pub plays_are_turns : PlaysAreTurns
 plays_are_turns room end before found allowed opens ends events told after = (
   λ left. (
@@ -160,4 +228,5 @@ plays_are_turns room end before found allowed opens ends events told after = (
       leaves = image;
     },
   ),
+  λ old new fault stopped. stopped_turn room end before found allowed opens ends events told old new fault stopped,
 )

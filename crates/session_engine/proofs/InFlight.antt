@@ -7,6 +7,8 @@ use Rattle.block_tree.specs.Tree.{Tree}
 use Rattle.block_tree.specs.Output.{output}
 use Rattle.meta_format.specs.Stream.{Outer}
 use Rattle.meta_format.specs.Faults.{Kind}
+use Rattle.block_tree.specs.declared.reason.Reason.{Reason}
+use Rattle.block_tree.specs.declared.reason.Reason.TheVariants as reason
 use Rattle.worksheet.specs.declared.op.Op.{Op}
 use Rattle.worksheet.specs.declared.op.Op.TheVariants as op
 use Rattle.worksheet.specs.declared.refusal.Refusal.{Refusal}
@@ -21,12 +23,11 @@ use Rattle.plugin_core.specs.declared.step.Ended.{Ended}
 use Rattle.plugin_core.specs.declared.step.Step.{Step}
 use Rattle.plugin_core.specs.declared.step.Answered.{Answered}
 use Rattle.plugin_core.specs.declared.step.Answered.TheVariants as answered
-use Rattle.plugin_core.specs.declared.step.Reason.{Reason}
 use Rattle.plugin_core.specs.Past.{received, stream_of, items_of}
 use Rattle.plugin_core.specs.Past.{Event as LifeEvent}
 use Rattle.plugin_core.specs.Answers.{answers_of}
-use Rattle.plugin_core.specs.Items.{answer_behind, answer_to, is_line_of, next_behind, prompt_of, unanswered, waiting_of}
-use Rattle.plugin_core.specs.Steps.{Reads, answered_with, step_of}
+use Rattle.plugin_core.specs.Items.{answer_behind, answer_to, first_line_of, is_line_of, next_behind, prompt_of, unanswered, waiting_of}
+use Rattle.plugin_core.specs.Steps.{Reads, answered_with, ended_by, step_of}
 use Rattle.plugin_core.specs.Steps.{closed_by as closed_in}
 use Rattle.plugin_core.proofs.Pasts.{items_of-received}
 use Rattle.plugin_core.proofs.OneMore.{waiting_of-accepted}
@@ -38,13 +39,15 @@ use Rattle.session_engine.specs.declared.event.ChildEvent.TheVariants as child
 use Rattle.session_engine.specs.declared.event.Event.{Event}
 use Rattle.session_engine.specs.declared.event.Event.TheVariants as event
 use Rattle.session_engine.specs.declared.outcome.Outcome.{Outcome}
-use Rattle.session_engine.specs.World.{World, Going, world_at_opening, life_of, line_of_field, request_of_field, session_of_field, waiting_in, waits_in, with_number, with_op, with_op_if}
+use Rattle.session_engine.specs.World.{World, Going, world_at_opening, kept_at_end, life_of, line_of_field, request_of_field, session_of_field, waiting_in, waits_in, with_number, with_op, with_op_if}
 use Rattle.session_engine.specs.Refused.{command_refusals}
 use Rattle.session_engine.specs.Does.{Gives, Runs, begun_with, joined_by, op_by, with_piece}
 use Rattle.session_engine.specs.inside.Parts.{goes_on, with_item, without_life}
 use Rattle.session_engine.specs.inside.Given.{Childed, Commanded, Ended_by, GivesByParts, Pieced, after}
 use Rattle.session_engine.specs.Laws.{NothingIsShownInFlight, WaitsForField, lines_among, lines_waiting}
+use Rattle.session_engine.specs.inside.Commits.{kept_for}
 use Rattle.session_engine.proofs.ByParts.{by_parts}
+use Rattle.session_engine.proofs.Losing.{if_lost, if_stopped}
 use Rattle.session_engine.proofs.Stopping.{without_none_here}
 use Rattle.session_engine.proofs.ApartFields.{HasOwner}
 use Rattle.session_engine.proofs.ApartOwners.{Owned, OwnsItems, opened_owned, command_grows, child_grows, child_grown}
@@ -70,11 +73,11 @@ none_among id (i ∷ items) h = go (is_line_of id i) h (none_among id items)
     go true h rest = cc
     go false h rest = let more = rest h in omega (arith, more)
 
-abbrev one_of : ℕ → ℕ → ℕ
+abbrev pub one_of : ℕ → ℕ → ℕ
 one_of other id = if nat_eq other id then 1 else 0
 
 -- how many lines of a field an answer is of
-abbrev answers_one : ℕ → Option Answered → ℕ
+abbrev pub answers_one : ℕ → Option Answered → ℕ
 answers_one id None = 0
 answers_one id (Some (answered.Banner b)) = 0
 answers_one id (Some (answered.Line other prompt out)) = one_of other id
@@ -104,7 +107,7 @@ module _ (id : ℕ) (past : List LifeEvent) (before after : List Outer) (piece :
   last_is [] (Some b) = refl
   last_is (x ∷ xs) o = last_is xs o
 
-  behind_piece : Reads (stream_of past) before None → Reads (stream_of (past ++ received piece ∷ [])) after fault
+  pub behind_piece : Reads (stream_of past) before None → Reads (stream_of (past ++ received piece ∷ [])) after fault
       → lines_among id (waiting_of (past ++ received piece ∷ []) after) + answers_one id (step_of past before piece after fault).answered ≡ lines_among id (waiting_of past before)
   behind_piece old new =
       let a = one_answer past piece before after fault old new in
@@ -117,13 +120,16 @@ module _ (id : ℕ) (past : List LifeEvent) (before after : List Outer) (piece :
       let t = left_waiting id (answers_of past before) a.closed (items_of past) (prompt_of past before) in
       omega (arith, w, s, t)
 
--- A field in flight shows no answer, and one of its lines waits.
+-- A field in flight shows no answer and no reason, and one of its lines waits.
 
-abbrev lines_of : ℕ → Going → ℕ
+abbrev pub lines_of : ℕ → Going → ℕ
 lines_of id l = lines_among id (waiting_in l)
 
-abbrev IsQuiet : ℕ → World → Type 0
-IsQuiet id w = (total (lines_of id) w.lives ≡ 0) ⊎ ((total (lines_of id) w.lives ≡ 1) × ((field_of w.ops id).answer ≡ None))
+abbrev pub Bare : Field → Type 0
+Bare f = (f.answer ≡ None) × (f.lost ≡ None)
+
+abbrev pub IsQuiet : ℕ → World → Type 0
+IsQuiet id w = (total (lines_of id) w.lives ≡ 0) ⊎ ((total (lines_of id) w.lives ≡ 1) × Bare (field_of w.ops id))
 
 none_waits : (id : ℕ) (ls : List Going) → waits_in ls id ≡ false → total (lines_of id) ls ≡ 0
 none_waits id [] h = refl
@@ -133,7 +139,7 @@ none_waits id (l ∷ ls) h = go (list_any (λ i. is_line_of id i) (waiting_in l)
     go true e h rest = cc
     go false e h rest = let one = none_among id (waiting_in l) e in let more = rest h in omega (arith, one, more)
 
--- an op that gives this field no answer
+-- an op that gives this field no answer and no reason
 abbrev GivesNone : ℕ → Op → Type 0
 GivesNone id (op.Session name tab words) = Unit {0}
 GivesNone id (op.New after session input) = Unit {0}
@@ -142,28 +148,36 @@ GivesNone id (op.Remove other) = Unit {0}
 GivesNone id (op.Move other after) = Unit {0}
 GivesNone id (op.Clear other) = Unit {0}
 GivesNone id (op.Answer other prompt output) = (other == id) ≡ false
+GivesNone id (op.Lost other why) = (other == id) ≡ false
 
-still_none : (os : List Op) (o : Op) (id : ℕ) → GivesNone id o → (field_of os id).answer ≡ None → (field_of (os ++ o ∷ []) id).answer ≡ None
-still_none os o id h none = ap (λ (f : Field). f.answer) (field_of-push os o id) ∙ go o (is_about id (next_of os) o) refl h
+still_none : (os : List Op) (o : Op) (id : ℕ) → GivesNone id o → Bare (field_of os id) → Bare (field_of (os ++ o ∷ []) id)
+still_none os o id h none = subst Bare (sym (field_of-push os o id)) (go o (is_about id (next_of os) o) refl h)
   where
-    go : (p : Op) (b : Bool) → is_about id (next_of os) p ≡ b → GivesNone id p → (if b then changed p (field_of os id) else field_of os id).answer ≡ None
+    go : (p : Op) (b : Bool) → is_about id (next_of os) p ≡ b → GivesNone id p → Bare (if b then changed p (field_of os id) else field_of os id)
     go p false e h = none
     go (op.Session name tab words) true e h = none
-    go (op.New after session input) true e h = refl
-    go (op.Set other input) true e h = refl
+    go (op.New after session input) true e h = (refl, refl)
+    go (op.Set other input) true e h = (refl, refl)
     go (op.Remove other) true e h = none
     go (op.Move other after) true e h = none
-    go (op.Clear other) true e h = refl
+    go (op.Clear other) true e h = (refl, refl)
     go (op.Answer other prompt output) true e h = absurd (let no : true ≡ false = sym e ∙ h in cc)
+    go (op.Lost other why) true e h = absurd (let no : true ≡ false = sym e ∙ h in cc)
 
-cleared_none : (os : List Op) (id : ℕ) → (field_of (os ++ op.Clear id ∷ []) id).answer ≡ None
+cleared_none : (os : List Op) (id : ℕ) → Bare (field_of (os ++ op.Clear id ∷ []) id)
 cleared_none os id =
     let here : (id == id) ≡ true = grind (arith, nat_tests) in
-    ap (λ (f : Field). f.answer) (field_of-push os (op.Clear id) id) ∙ ap (λ (b : Bool). (if b then changed (op.Clear id) (field_of os id) else field_of os id).answer) here
+    subst Bare (sym (field_of-push os (op.Clear id) id)) (subst (λ (b : Bool). Bare (if b then changed (op.Clear id) (field_of os id) else field_of os id)) (sym here) (refl, refl))
+
+-- the first line is one of the lines
+first_one : (id : ℕ) (items : List Item) (other : ℕ) → first_line_of items ≡ Some other → one_of other id ≤ lines_among id items
+first_one id [] other h = cc
+first_one id (item.Line a text ∷ items) other h = let same : a ≡ other = cc in subst (λ (n : ℕ). one_of n id ≤ one_of a id + lines_among id items) same (omega arith)
+first_one id (item.Complete a text cursor ∷ items) other h = cc
 
 module _ (id : ℕ) where
   -- no line more, and no answer
-  fewer : (w v : World) → total (lines_of id) v.lives ≤ total (lines_of id) w.lives → ((field_of w.ops id).answer ≡ None → (field_of v.ops id).answer ≡ None) → IsQuiet id w → IsQuiet id v
+  fewer : (w v : World) → total (lines_of id) v.lives ≤ total (lines_of id) w.lives → (Bare (field_of w.ops id) → Bare (field_of v.ops id)) → IsQuiet id w → IsQuiet id v
   fewer w v le keeps (inl nil) = inl (omega (arith, le, nil))
   fewer w v le keeps (inr one) = go (total (lines_of id) v.lives == 0) refl
     where
@@ -186,6 +200,26 @@ module _ (id : ℕ) where
       go : (o : Option Going) → life_of w name ≡ o → IsQuiet id (without_life name w)
       go None e = same w (without_life name w) (without_none_here w name e) h
       go (Some l) e = fewer w (without_life name w) (let t = total-out (lines_of id) name l w.lives e in omega (arith, t)) (λ none. none) h
+
+  -- no answer of a line
+  not_answered : (w u : World) → u.ops ≡ w.ops → total (lines_of id) u.lives ≤ total (lines_of id) w.lives → IsQuiet id w → IsQuiet id u
+  not_answered w u ops le h = fewer w u le (λ none. subst (λ (os : List Op). Bare (field_of os id)) (sym ops) none) h
+
+  -- a reason of a line that waits no more
+  lost_one : (w u : World) (other : ℕ) (why : Reason) → u.ops ≡ w.ops → total (lines_of id) u.lives + one_of other id ≤ total (lines_of id) w.lives → IsQuiet id w → IsQuiet id (with_op (op.Lost other why) u)
+  lost_one w u other why ops le h = go (nat_eq other id) refl le
+    where
+      go : (b : Bool) → nat_eq other id ≡ b → total (lines_of id) u.lives + (if b then 1 else 0) ≤ total (lines_of id) w.lives → IsQuiet id (with_op (op.Lost other why) u)
+      go true e le = inl (⊎_elim (λ nil. absurd (omega (arith, nil, le))) (λ one. let some = one.0 in omega (arith, some, le)) h)
+      go false e le =
+          fewer w (with_op (op.Lost other why) u) (omega (arith, le))
+          (λ none. subst (λ (os : List Op). Bare (field_of (os ++ op.Lost other why ∷ []) id)) (sym ops) (still_none w.ops (op.Lost other why) id e none)) h
+
+  -- the same of the first of items that wait no more, where it is kept
+  with_lost : (w u : World) (room end : ℕ) (why : Reason) (items : List Item) → u.ops ≡ w.ops → total (lines_of id) u.lives + lines_among id items ≤ total (lines_of id) w.lives
+      → IsQuiet id w → IsQuiet id (with_op_if (kept_for room end why (first_line_of items)) u)
+  with_lost w u room end why items ops le h = if_lost (λ p. IsQuiet id (with_op_if p u)) room end why (first_line_of items) (not_answered w u ops (omega (arith, le)) h)
+      (λ other e. lost_one w u other why ops (let one = first_one id items other e in omega (arith, one, le)) h)
 
   -- a line more
   line_more : (w : World) (name : List ℕ) (i : Item) (o : Option Going) → life_of w name ≡ o → Sound w
@@ -219,14 +253,14 @@ module _ (id : ℕ) where
           let one : one_of other id ≡ 1 = rw e refl in
           inr (
             omega (arith, more, nil, one),
-            subst (λ (n : ℕ). (field_of (after w (command.Eval other)).ops n).answer ≡ None) is
+            subst (λ (n : ℕ). Bare (field_of (after w (command.Eval other)).ops n)) is
                 (cleared_none (with_item w (session_of_field w other) (line_of_field w other) (life_of w (session_of_field w other))).ops other),
           )
       go false e =
           let none : one_of other id ≡ 0 = rw e refl in
           let ops = item_ops w (session_of_field w other) (line_of_field w other) (life_of w (session_of_field w other)) in
           fewer w (after w (command.Eval other)) (omega (arith, more, none))
-          (λ quiet. subst (λ (os : List Op). (field_of (os ++ op.Clear other ∷ []) id).answer ≡ None) (sym ops) (still_none w.ops (op.Clear other) id tt quiet)) h
+          (λ quiet. subst (λ (os : List Op). Bare (field_of (os ++ op.Clear other ∷ []) id)) (sym ops) (still_none w.ops (op.Clear other) id tt quiet)) h
 
   -- no line more, and the same ops
   completed : (w : World) (other cursor : ℕ) → Sound w → IsQuiet id w → IsQuiet id (after w (command.Complete other cursor))
@@ -235,7 +269,7 @@ module _ (id : ℕ) where
       let i = request_of_field w other cursor in
       let more = line_more w name i (life_of w name) refl s in
       let ops = item_ops w name i (life_of w name) in
-      fewer w (after w (command.Complete other cursor)) (omega (arith, more)) (λ quiet. subst (λ (os : List Op). (field_of os id).answer ≡ None) (sym ops) quiet) h
+      fewer w (after w (command.Complete other cursor)) (omega (arith, more)) (λ quiet. subst (λ (os : List Op). Bare (field_of os id)) (sym ops) quiet) h
 
   accepted_so : (w : World) (c : Command) → Sound w → first_of (command_refusals w c) ≡ None → IsQuiet id w → IsQuiet id (after w c)
   accepted_so w (command.Session name tab words) s first h = with_one w (op.Session name tab words) tt h
@@ -246,7 +280,12 @@ module _ (id : ℕ) where
   accepted_so w (command.Clear other) s first h = with_one w (op.Clear other) tt h
   accepted_so w (command.Eval other) s first h = evaluated w other s first h
   accepted_so w (command.Complete other cursor) s first h = completed w other cursor s h
-  accepted_so w (command.Stop name) s first h = stopped w name h
+  accepted_so w (command.Stop name) s first h =
+      if_stopped (λ p. IsQuiet id (with_op_if p (without_life name w))) w reason.Stopped (life_of w name) (stopped w name h)
+      (
+        λ l other e f. lost_one w (without_life name w) other reason.Stopped refl
+            (let t = total-out (lines_of id) name l w.lives e in let one = first_one id (waiting_in l) other f in omega (arith, t, one)) h
+      )
 
   commanded_so : (w : World) (c : Command) (o : Outcome) (v : World) (r : Option Refusal) → first_of (command_refusals w c) ≡ r → Sound w → Commanded w c r o v → IsQuiet id w → IsQuiet id v
   commanded_so w c o v (Some r) first s done h = same w v done.1 h
@@ -256,7 +295,10 @@ module _ (id : ℕ) where
   ended_so : (w : World) (x : Option Going) (why : Reason) (killed : Bool) (o : Outcome) (v : World) → ((l : Going) → x ≡ Some l → life_of w l.name ≡ Some l) → Ended_by w x why killed o v
       → IsQuiet id w → IsQuiet id v
   ended_so w None why killed o v own done h = same w v done.1 h
-  ended_so w (Some l) why killed o v own done h = same (without_life l.name w) v done.1 (gone w l (own l refl) h)
+  ended_so w (Some l) why killed o v own done h = same (with_op_if (kept_at_end w why (Some l)) (without_life l.name w)) v done.1
+      (
+        with_lost w (without_life l.name w) w.room w.end why (waiting_in l) refl (let t = total-out (lines_of id) l.name l w.lives (own l refl) in omega (arith, t)) h
+      )
 
   -- a piece takes the line that it answers out of those that wait
   on_piece : (w : World) (l m : Going) (e : Option Ended) (one : ℕ) → m.name ≡ l.name → life_of w l.name ≡ Some l → lines_of id m + one ≡ lines_of id l
@@ -272,17 +314,30 @@ module _ (id : ℕ) where
   piece_ops m None w = refl
   piece_ops m (Some e) w = refl
 
-  answered_so : (w u : World) (a : Option Answered) → u.ops ≡ w.ops → total (lines_of id) u.lives + answers_one id a ≤ total (lines_of id) w.lives → IsQuiet id w → IsQuiet id (with_op_if (op_by a) u)
-  answered_so w u None ops le h = fewer w u (omega (arith, le)) (λ none. subst (λ (os : List Op). (field_of os id).answer ≡ None) (sym ops) none) h
-  answered_so w u (Some (answered.Banner b)) ops le h = fewer w u (omega (arith, le)) (λ none. subst (λ (os : List Op). (field_of os id).answer ≡ None) (sym ops) none) h
-  answered_so w u (Some (answered.Line other prompt out)) ops le h = go (nat_eq other id) refl le
+  -- and where it ends the life, all that waits
+  more_lost : (w : World) (l m : Going) (fault : Option Kind) (one : ℕ) → m.name ≡ l.name → life_of w l.name ≡ Some l → lines_of id m + one ≡ lines_of id l
+      → (x : Ended) → option_map (ended_by m.past m.blocks) fault ≡ Some x
+      → total (lines_of id) (goes_on m (option_map (ended_by m.past m.blocks) fault) w).lives + lines_among id x.lost + one ≤ total (lines_of id) w.lives
+  more_lost w l m None one name own less x e = cc
+  more_lost w l m (Some kind) one name own less x e =
+      let is : ended_by m.past m.blocks kind ≡ x = cc in
+      let t = total-out (lines_of id) m.name l w.lives (subst (λ (n : List ℕ). life_of w n ≡ Some l) (sym name) own) in
+      subst (λ (y : Ended). total (lines_of id) (goes_on m (Some (ended_by m.past m.blocks kind)) w).lives + lines_among id y.lost + one ≤ total (lines_of id) w.lives) is (omega (arith, t, less))
+
+  answered_so : (w u : World) (room end : ℕ) (a : Option Answered) (e : Option Ended) → u.ops ≡ w.ops → total (lines_of id) u.lives + answers_one id a ≤ total (lines_of id) w.lives
+      → ((x : Ended) → e ≡ Some x → total (lines_of id) u.lives + lines_among id x.lost + answers_one id a ≤ total (lines_of id) w.lives) → IsQuiet id w → IsQuiet id (with_op_if (op_by room end a e) u)
+  answered_so w u room end None None ops le more h = not_answered w u ops (omega (arith, le)) h
+  answered_so w u room end None (Some x) ops le more h = with_lost w u room end x.reason x.lost ops (let m = more x refl in omega (arith, m)) h
+  answered_so w u room end (Some (answered.Banner b)) None ops le more h = not_answered w u ops (omega (arith, le)) h
+  answered_so w u room end (Some (answered.Banner b)) (Some x) ops le more h = with_lost w u room end x.reason x.lost ops (let m = more x refl in omega (arith, m)) h
+  answered_so w u room end (Some (answered.Line other prompt out)) x ops le more h = go (nat_eq other id) refl le
     where
       go : (b : Bool) → nat_eq other id ≡ b → total (lines_of id) u.lives + (if b then 1 else 0) ≤ total (lines_of id) w.lives → IsQuiet id (with_op (op.Answer other prompt out) u)
       go true e le = inl (⊎_elim (λ nil. absurd (omega (arith, nil, le))) (λ one. let some = one.0 in omega (arith, some, le)) h)
       go false e le =
           fewer w (with_op (op.Answer other prompt out) u) (omega (arith, le))
-          (λ none. subst (λ (os : List Op). (field_of (os ++ op.Answer other prompt out ∷ []) id).answer ≡ None) (sym ops) (still_none w.ops (op.Answer other prompt out) id e none)) h
-  answered_so w u (Some (answered.Complete other result)) ops le h = fewer w u (omega (arith, le)) (λ none. subst (λ (os : List Op). (field_of os id).answer ≡ None) (sym ops) none) h
+          (λ none. subst (λ (os : List Op). Bare (field_of (os ++ op.Answer other prompt out ∷ []) id)) (sym ops) (still_none w.ops (op.Answer other prompt out) id e none)) h
+  answered_so w u room end (Some (answered.Complete other result)) x ops le more h = not_answered w u ops (omega (arith, le)) h
 
   pieced_so : (w : World) (x : Option Going) (piece : List ℕ) (o : Outcome) (v : World) → Sound w → ((l : Going) → x ≡ Some l → life_of w l.name ≡ Some l) → Pieced w x piece o v → IsQuiet id w → IsQuiet id v
   pieced_so w None piece o v s own done h = same w v done.1 h
@@ -290,8 +345,9 @@ module _ (id : ℕ) where
       let t : Step = step_of l.past l.blocks piece done.0 done.1 in
       let m : Going = with_piece l piece done.0 in
       let less = behind_piece id l.past l.blocks done.0 piece done.1 (the_life l.name l w s (own l refl)).reads done.2.0 in
-      same (with_op_if (op_by t.answered) (goes_on m t.ended w)) v done.2.2
-      (answered_so w (goes_on m t.ended w) t.answered (piece_ops m t.ended w) (on_piece w l m t.ended (answers_one id t.answered) refl (own l refl) less) h)
+      same (with_op_if (op_by w.room w.end t.answered t.ended) (goes_on m t.ended w)) v done.2.2
+      (answered_so w (goes_on m t.ended w) w.room w.end t.answered t.ended (piece_ops m t.ended w) (on_piece w l m t.ended (answers_one id t.answered) refl (own l refl) less)
+      (more_lost w l m done.1 (answers_one id t.answered) refl (own l refl) less) h)
 
   childed_so : (w : World) (x : Option Going) (e : ChildEvent) (o : Outcome) (v : World) → Sound w → ((l : Going) → x ≡ Some l → life_of w l.name ≡ Some l) → Childed w x e o v → IsQuiet id w → IsQuiet id v
   childed_so w x child.StartRefused o v s own done h = ended_so w x _ _ o v own done h
@@ -309,16 +365,16 @@ module _ (id : ℕ) where
 
 -- Along a run.
 
-record Waits (w : World) : Type 0 where
-  sound_so : Sound w
-  owned : Owned w
-  quiet : (id : ℕ) → IsQuiet id w
+pub record Waits (w : World) : Type 0 where
+  pub sound_so : Sound w
+  pub owned : Owned w
+  pub quiet : (id : ℕ) → IsQuiet id w
 
 owned_step : (w : World) (e : Event) (o : Outcome) (v : World) → Owned w → GivesByParts w e o v → Owned v
 owned_step w (event.Command c) o v h g = (command_grows w c o v h g).owned
 owned_step w (event.Child m number c) o v h g = (child_grown m w v (child_grows m w number c o v h g)).owned
 
-waits_step : (w : World) (e : Event) (o : Outcome) (v : World) → Waits w → Gives w e o v → Waits v
+pub waits_step : (w : World) (e : Event) (o : Outcome) (v : World) → Waits w → Gives w e o v → Waits v
 waits_step w e o v h g = record {
   sound_so = (stepped w e o v h.sound_so g).sound;
   owned = owned_step w e o v h.owned (by_parts w e o v g);
@@ -343,19 +399,22 @@ all_waiting P [] items all = all
 all_waiting P (a ∷ answers) items all = all_drop P (length answers) items all
 
 module _ (os : List Op) (allowed : Allowed os) where
-  items_wait : (name : List ℕ) (items : List Item) → ((id : ℕ) → 0 < lines_among id items → (field_of os id).answer ≡ None) → AllByRecursion (HasLine os) items → AllByRecursion (HasOwner os name) items
+  items_wait : (name : List ℕ) (items : List Item) → ((id : ℕ) → 0 < lines_among id items → Bare (field_of os id)) → AllByRecursion (HasLine os) items → AllByRecursion (HasOwner os name) items
       → AllByRecursion (WaitsForField (sheet_of os) name) items
   items_wait name [] quiet has own = tt
   items_wait name (item.Line id text ∷ items) quiet has own =
       let line : HasInput os id text = has.0 in
       let is : field_of os id ≡ line.field = (is_there os id line.field allowed line.found).is in
       let here : one_of id id ≡ 1 = (let e : nat_eq id id ≡ true = grind (arith, nat_tests) in rw e refl) in (
-        (line.field, line.found, ap (λ (f : Field). f.session) (sym is) ∙ own.0.1, line.input, ap (λ (f : Field). f.answer) (sym is) ∙ quiet id (omega (arith, here))),
+        (
+          line.field, line.found, ap (λ (f : Field). f.session) (sym is) ∙ own.0.1, line.input,
+          ap (λ (f : Field). f.answer) (sym is) ∙ (quiet id (omega (arith, here))).0, ap (λ (f : Field). f.lost) (sym is) ∙ (quiet id (omega (arith, here))).1,
+        ),
         items_wait name items (λ other lt. quiet other (omega (arith, lt))) has.1 own.1,
       )
   items_wait name (item.Complete id text cursor ∷ items) quiet has own = (tt, items_wait name items (λ other lt. quiet other (omega (arith, lt))) has.1 own.1)
 
-  lives_wait : (ls : List Going) → ((id : ℕ) → 0 < total (lines_of id) ls → (field_of os id).answer ≡ None) → AllByRecursion (SoundLife os) ls → AllByRecursion (OwnsItems os) ls
+  lives_wait : (ls : List Going) → ((id : ℕ) → 0 < total (lines_of id) ls → Bare (field_of os id)) → AllByRecursion (SoundLife os) ls → AllByRecursion (OwnsItems os) ls
       → AllByRecursion (λ l. AllByRecursion (WaitsForField (sheet_of os) l.name) (waiting_in l)) ls
   lives_wait [] quiet lives own = tt
   lives_wait (l ∷ ls) quiet lives own = (

@@ -20,6 +20,8 @@ pub mod ApartSilent
 pub mod Growing
 pub mod FieldLaws
 pub mod Living
+pub mod Losing
+pub mod Losses
 pub mod Showing
 pub mod Same
 pub mod Going
@@ -29,3 +31,4 @@ pub mod OneThing
 pub mod Totals
 pub mod Numbers
 pub mod InFlight
+pub mod ApartAdds

@@ -159,3 +159,4 @@ checked w (op.Remove id) h = other_lives id (op.Remove id) (λ other e. e) w.liv
 checked w (op.Move id place) h = every_line (op.Move id place) w (λ id. tt)
 checked w (op.Clear id) h = every_line (op.Clear id) w (λ id. tt)
 checked w (op.Answer id prompt output) h = every_line (op.Answer id prompt output) w (λ id. tt)
+checked w (op.Lost id why) h = every_line (op.Lost id why) w (λ id. tt)

@@ -10,8 +10,8 @@ use Rattle.worksheet.specs.declared.refusal.Refusal.{Refusal}
 use Rattle.worksheet.specs.Checks.{first_of}
 use Rattle.plugin_core.specs.declared.step.Ended.{Ended}
 use Rattle.plugin_core.specs.declared.step.Step.{Step}
-use Rattle.plugin_core.specs.declared.step.Reason.{Reason}
-use Rattle.plugin_core.specs.declared.step.Reason.TheVariants as reason
+use Rattle.block_tree.specs.declared.reason.Reason.{Reason}
+use Rattle.block_tree.specs.declared.reason.Reason.TheVariants as reason
 use Rattle.plugin_core.specs.Past.{accepted}
 use Rattle.plugin_core.specs.Steps.{sent_by, step_of}
 use Rattle.session_engine.specs.declared.command.Command.{Command}

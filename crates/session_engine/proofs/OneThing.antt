@@ -20,7 +20,7 @@ use Rattle.session_engine.specs.declared.event.Event.{Event}
 use Rattle.session_engine.specs.declared.event.Event.TheVariants as event
 use Rattle.session_engine.specs.declared.outcome.Outcome.{Outcome}
 use Rattle.session_engine.specs.declared.reply.Reply.TheVariants as reply
-use Rattle.plugin_core.specs.declared.step.Reason.TheVariants as reason
+use Rattle.block_tree.specs.declared.reason.Reason.TheVariants as reason
 use Rattle.session_engine.specs.World.{World, Going, life_of, session_of_field, with_number, line_of_field, request_of_field}
 use Rattle.session_engine.specs.Refused.{command_refusals, command_takes_memory}
 use Rattle.session_engine.specs.Does.{Does, MayDo, ChildDoes, CommandDoes, Gives, Runs, behind, does, ends_life, asks_item, steps, tells}
@@ -78,13 +78,13 @@ module _ (one : OneReading) (w : World) where
   one_of_child l child.StopFault d f a b = a ∙ sym b
 
   one_of_command : (c : Command) (r : Option Refusal) (d f : Does) → CommandDoes w c r d → CommandDoes w c r f
-      → (d ≡ f) ⊎ ((command_takes_memory c ≡ true) × ((d ≡ lacks_memory w) ⊎ (f ≡ lacks_memory w)))
+      → (d ≡ f) ⊎ ((command_takes_memory w c ≡ true) × ((d ≡ lacks_memory w) ⊎ (f ≡ lacks_memory w)))
   one_of_command c (Some r) d f a b = inl (a ∙ sym b)
   one_of_command c None d f (inl a) (inl b) = inl (a ∙ sym b)
   one_of_command c None d f (inr a) b = inr (a.0, inl a.1)
   one_of_command c None d f (inl a) (inr b) = inr (b.0, inr b.1)
 
-  one_does : (e : Event) (d f : Does) → MayDo w e d → MayDo w e f → (d ≡ f) ⊎ ((may_want e ≡ true) × ((d ≡ lacks_memory w) ⊎ (f ≡ lacks_memory w)))
+  one_does : (e : Event) (d f : Does) → MayDo w e d → MayDo w e f → (d ≡ f) ⊎ ((may_want w e ≡ true) × ((d ≡ lacks_memory w) ⊎ (f ≡ lacks_memory w)))
   one_does (event.Command c) d f a b = one_of_command c (first_of (command_refusals w c)) d f a b
   one_does (event.Child name number e) d f a b = inl (one_of_child (with_number number (life_of w name)) e d f a b)
 

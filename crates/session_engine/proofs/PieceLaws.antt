@@ -1,19 +1,21 @@
 -- What a piece gives, against the definitions.
 use Rattle.std.proofs.Common.{◌≡◌, ℕ, List, [], ◌∷◌, ◌++◌, refl, ap, sym, ◌∙◌, subst, arith, true, false, Option, Some, None}
 use Rattle.std.specs.Prelude.{if◌then◌else◌, ◌==◌, is_some, option_map}
+use Rattle.std.specs.List.{AllByRecursion}
 use Rattle.std.specs.Str.{bytes_eq}
 use Rattle.std.proofs.lemmas.Slice.Eq.{bytes_eq-Decides}
 use Rattle.std.proofs.lemmas.Bool.Decides.{nat_tests}
 use Rattle.disk_model.specs.Disk.{SameDisk, LeavesOnly, InModel}
 use Rattle.worksheet.specs.declared.op.Op.{Op}
+use Rattle.worksheet.specs.declared.op.Op.TheVariants as op
+use Rattle.worksheet.specs.Checks.{first_refusal}
 use Rattle.worksheet.specs.Ops.{sheet_of}
 use Rattle.meta_format.specs.Faults.{Kind}
 use Rattle.recovery.specs.Sheets.{StoreView}
 use Rattle.plugin_core.specs.declared.step.Step.{Step}
 use Rattle.plugin_core.specs.declared.step.Ended.{Ended}
-use Rattle.plugin_core.specs.declared.step.Answered.{Answered}
-use Rattle.plugin_core.specs.declared.step.Answered.TheVariants as answered
 use Rattle.plugin_core.specs.Past.{received}
+use Rattle.plugin_core.specs.Items.{waiting_of}
 use Rattle.plugin_core.specs.Steps.{ended_by}
 use Rattle.plugin_core.specs.Steps.{closed_by as closed_in}
 use Rattle.plugin_core.specs.Kept.{InterpreterView, Takes, GoesOn}
@@ -30,14 +32,15 @@ use Rattle.session_engine.specs.declared.event.ChildEvent.TheVariants as child
 use Rattle.session_engine.specs.Named.{without_named, replace_named}
 use Rattle.session_engine.specs.Host.{name_of}
 use Rattle.session_engine.specs.inside.Tables.{with_life as running_with}
-use Rattle.session_engine.specs.World.{World, Going, life_of, with_number, with_op_if, sheet_in, fits}
+use Rattle.session_engine.specs.World.{World, Going, life_of, with_number, with_op, with_op_if, sheet_in, fits}
 use Rattle.session_engine.specs.Does.{with_piece, op_by, closed_told, told_with}
 use Rattle.session_engine.specs.inside.Parts.{goes_on}
 use Rattle.session_engine.specs.Host.{HasField, HaveFields, EngineStandsFor}
-use Rattle.session_engine.specs.inside.Commits.{AllowedIf, CommittedIf, IsEitherIf, NotKept}
+use Rattle.session_engine.specs.inside.Commits.{AllowedIf, Committed, CommittedIf, IsEitherIf, LosesField, NotKept, SparesLife}
 use Rattle.session_engine.proofs.Tables.{Found, without_replaced}
-use Rattle.session_engine.proofs.Fields.{waiting_still, allowed_step, spared}
-use Rattle.session_engine.proofs.Standing.{all_at, put, gone, committed, fit_in}
+use Rattle.session_engine.proofs.Fields.{waiting_still, allowed_step, spared, spared_lost}
+use Rattle.session_engine.proofs.Losing.{first_has, if_pieced, pieced_allowed}
+use Rattle.session_engine.proofs.Standing.{all_at, put, gone, committed, fit_in, unchanged}
 
 -- the op of an answer goes behind the ops, whatever becomes of the life
 ops_of : (l : Going) (e : Option Ended) (w : World) → (goes_on l e w).ops ≡ w.ops
@@ -50,8 +53,16 @@ ops_with o a l e w is = ap (λ (x : Option Op). (with_op_if x (goes_on l e w)).o
 module _ (store : StoreView) (rs : List Running) (begun : ℕ) (w : World) (name : List ℕ) (number : ℕ) (piece : List ℕ) (r : Running) (life : InterpreterView) (step : Step)
     (h : EngineStandsFor store rs begun w) (f : Found rs w.lives name r) (numbered : r.life.number ≡ number) (same : life.number ≡ r.life.number)
     (takes : Takes f.life.past f.life.blocks piece step life) where
+  -- the op that the piece gives
+  abbrev pub given : Option Op
+  given = op_by w.room w.end step.answered step.ended
+
+  -- the same by what the store says
+  pub given_is : op_by store.disk.room store.end step.answered step.ended ≡ given
+  given_is = ap (λ (k : ℕ). op_by k store.end step.answered step.ended) h.room ∙ ap (λ (k : ℕ). op_by w.room k step.answered step.ended) h.end
+
   abbrev pub lead : World
-  lead = with_op_if (op_by step.answered) (goes_on (with_piece f.life piece takes.after) step.ended w)
+  lead = with_op_if given (goes_on (with_piece f.life piece takes.after) step.ended w)
 
   abbrev pub outcome : Outcome
   outcome = told_with name number (closed_told step.answered) step.default_input step.send step.ended
@@ -77,7 +88,7 @@ module _ (store : StoreView) (rs : List Running) (begun : ℕ) (w : World) (name
   pub leads : lead ≡ behind w did
   leads = go step.ended
     where
-      go : (e : Option Ended) → with_op_if (op_by step.answered) (goes_on (with_piece f.life piece takes.after) e w) ≡ with_op_if (op_by step.answered) (record w { begun = w.begun; lives = lives_behind (with_piece f.life piece takes.after) e w.lives })
+      go : (e : Option Ended) → with_op_if given (goes_on (with_piece f.life piece takes.after) e w) ≡ with_op_if given (record w { begun = w.begun; lives = lives_behind (with_piece f.life piece takes.after) e w.lives })
       go None = refl
       go (Some e) = refl
 
@@ -102,57 +113,68 @@ module _ (store : StoreView) (rs : List Running) (begun : ℕ) (w : World) (name
           subst (λ (l : List Running). EngineStandsFor store l begun (goes_on (with_piece f.life piece takes.after) (Some (ended_by (f.life.past ++ received piece ∷ []) takes.after kind)) w)) (sym (without_replaced name_of name (running_with r life) rs e))
           (subst (λ (n : List ℕ). EngineStandsFor store (without_named name_of name rs) begun (Rattle.session_engine.specs.inside.Parts.without_life n w)) (sym f.named) (gone store rs begun w name r h f))
 
-  pub stands : ShortPrompts → (new : StoreView) → CommittedIf store w.ops (op_by step.answered) new → SameDisk store.disk new.disk → EngineStandsFor new (settled step.ended) begun lead
-  stands short new done disk = go step.answered done (allowed_step short (sheet_in w) f.life piece step life fields takes)
+  -- the line that is lost is that of a field
+  pub loses : LosesField (sheet_in w) step.ended
+  loses = subst (λ (x : Step). LosesField (sheet_in w) x.ended) (sym takes.gives) (go takes.fault)
     where
-      go : (a : Option Answered) → CommittedIf store w.ops (op_by a) new → AllowedIf (sheet_in w) (op_by a) → EngineStandsFor new (settled step.ended) begun (with_op_if (op_by a) (goes_on (with_piece f.life piece takes.after) step.ended w))
-      go None done allowed = subst (λ (s : StoreView). EngineStandsFor s (settled step.ended) begun (goes_on (with_piece f.life piece takes.after) step.ended w)) (sym done) lives_stand
-      go (Some (answered.Banner b)) done allowed = subst (λ (s : StoreView). EngineStandsFor s (settled step.ended) begun (goes_on (with_piece f.life piece takes.after) step.ended w)) (sym done) lives_stand
-      go (Some (answered.Complete id result)) done allowed = subst (λ (s : StoreView). EngineStandsFor s (settled step.ended) begun (goes_on (with_piece f.life piece takes.after) step.ended w)) (sym done) lives_stand
-      go (Some (answered.Line id prompt out)) done allowed =
-          let v = goes_on (with_piece f.life piece takes.after) step.ended w in
-          let os = ops_of (with_piece f.life piece takes.after) step.ended w in
-          committed store new (settled step.ended) begun v (Rattle.worksheet.specs.declared.op.Op.TheVariants.Answer id prompt out) lives_stand
-          (subst (λ (l : List Op). Rattle.session_engine.specs.inside.Commits.Committed store l (Rattle.worksheet.specs.declared.op.Op.TheVariants.Answer id prompt out) new) (sym os) done) disk
-          (subst (λ (l : List Op). Rattle.worksheet.specs.Checks.first_refusal (sheet_of l) (Rattle.worksheet.specs.declared.op.Op.TheVariants.Answer id prompt out) ≡ None) (sym os) allowed)
-          (spared id prompt out v.lives)
+      go : (fault : Option Kind) → LosesField (sheet_in w) (option_map (ended_by (f.life.past ++ received piece ∷ []) takes.after) fault)
+      go None = tt
+      go (Some kind) = first_has (sheet_in w) (waiting_of (f.life.past ++ received piece ∷ []) takes.after)
+          (waiting_still (HasField (sheet_in w)) f.life.past f.life.blocks takes.after piece (closed_in f.life.past f.life.blocks (received piece) takes.after) takes.answers fields)
 
-  -- the images of the disk while what the piece answers is kept
-  pub on_disk : (new : StoreView) → CommittedIf store w.ops (op_by step.answered) new → InModel store.disk (LeavesOnly (IsEitherIf w.ops (op_by step.answered)) store.disk.history new.disk.history) → OnDisk w.ops (op_by step.answered) store.disk new.disk
-  on_disk new done moments = go (op_by step.answered) done moments
+  pub stands : ShortPrompts → (new : StoreView) → CommittedIf store w.ops given new → SameDisk store.disk new.disk → EngineStandsFor new (settled step.ended) begun lead
+  stands short new done disk = go done (pieced_allowed (sheet_in w) w.room w.end step.answered step.ended (allowed_step short (sheet_in w) f.life piece step life fields takes) loses)
+    where
+      v : World
+      v = goes_on (with_piece f.life piece takes.after) step.ended w
+
+      os : v.ops ≡ w.ops
+      os = ops_of (with_piece f.life piece takes.after) step.ended w
+
+      one : (o : Op) → AllByRecursion (SparesLife o) v.lives → CommittedIf store w.ops (Some o) new → AllowedIf (sheet_in w) (Some o) → EngineStandsFor new (settled step.ended) begun (with_op o v)
+      one o spares done allowed = committed store new (settled step.ended) begun v o lives_stand (subst (λ (l : List Op). Committed store l o new) (sym os) done) disk
+          (subst (λ (l : List Op). first_refusal (sheet_of l) o ≡ None) (sym os) allowed) spares
+
+      go : CommittedIf store w.ops given new → AllowedIf (sheet_in w) given → EngineStandsFor new (settled step.ended) begun (with_op_if given v)
+      go = if_pieced (λ p. CommittedIf store w.ops p new → AllowedIf (sheet_in w) p → EngineStandsFor new (settled step.ended) begun (with_op_if p v)) w.room w.end step.answered step.ended
+          (λ done allowed. unchanged store new (settled step.ended) begun v lives_stand done)
+          (λ id prompt out e. one (op.Answer id prompt out) (spared id prompt out v.lives))
+          (λ x id e first none. one (op.Lost id x.reason) (spared_lost id x.reason v.lives))
+
+  -- the images of the disk while what the piece gives is kept
+  pub on_disk : (new : StoreView) → CommittedIf store w.ops given new → InModel store.disk (LeavesOnly (IsEitherIf w.ops given) store.disk.history new.disk.history) → OnDisk w.ops given store.disk new.disk
+  on_disk new done moments = go given done moments
     where
       go : (a : Option Op) → CommittedIf store w.ops a new → InModel store.disk (LeavesOnly (IsEitherIf w.ops a) store.disk.history new.disk.history) → OnDisk w.ops a store.disk new.disk
-      go None done moments = ap (λ (s : StoreView). s.disk) done
+      go None done moments = done.disk
       go (Some o) done moments = moments
 
-  pub contents : (new : StoreView) (fault : HostFault) → NotKept store (op_by step.answered) new fault → new.sheet.contents ≡ sheet_in w
-  contents new faults.Closed n = absurd n
-  contents new faults.Disk n = go (op_by step.answered) n ∙ h.contents
+  pub contents : (new : StoreView) (fault : HostFault) → NotKept store given new fault → new.sheet.contents ≡ sheet_in w
+  contents new fault n = go given fault n ∙ h.contents
     where
-      go : (a : Option Op) → NotKept store a new faults.Disk → new.sheet.contents ≡ store.sheet.contents
-      go None n = absurd n
-      go (Some o) n = n.0
-  contents new faults.OutOfMemory n = n.contents ∙ h.contents
-  contents new faults.JournalFull n = go (op_by step.answered) n ∙ h.contents
-    where
-      go : (a : Option Op) → NotKept store a new faults.JournalFull → new.sheet.contents ≡ store.sheet.contents
-      go None n = absurd n
-      go (Some o) n = n.0.contents
+      go : (a : Option Op) (fault : HostFault) → NotKept store a new fault → new.sheet.contents ≡ store.sheet.contents
+      go None faults.Closed n = absurd n
+      go None faults.Disk n = absurd n
+      go None faults.OutOfMemory n = absurd n
+      go None faults.JournalFull n = absurd n
+      go (Some o) faults.Closed n = absurd n
+      go (Some o) faults.Disk n = n.0
+      go (Some o) faults.OutOfMemory n = n.contents
+      go (Some o) faults.JournalFull n = n.0.contents
 
-  pub cause : (new : StoreView) (fault : HostFault) → NotKept store (op_by step.answered) new fault → InModel store.disk (LeavesOnly (IsEitherIf w.ops (op_by step.answered)) store.disk.history new.disk.history)
+  pub cause : (new : StoreView) (fault : HostFault) → NotKept store given new fault → InModel store.disk (LeavesOnly (IsEitherIf w.ops given) store.disk.history new.disk.history)
       → CauseOf w (event.Child name number (child.Piece piece)) store.disk new.disk fault
-  cause new faults.Closed n moments = n
-  cause new faults.Disk n moments = go (op_by step.answered) refl n moments
+  cause new fault n moments = go given refl fault n moments
     where
-      go : (a : Option Op) → op_by step.answered ≡ a → NotKept store a new faults.Disk → InModel store.disk (LeavesOnly (IsEitherIf w.ops a) store.disk.history new.disk.history)
-          → CauseOf w (event.Child name number (child.Piece piece)) store.disk new.disk faults.Disk
-      go None e n moments = absurd n
-      go (Some o) e n moments = (n.1, (o, record { does = did; may = may; gives = e }, moments))
-  cause new faults.OutOfMemory n moments = (n.disk, fed)
-  cause new faults.JournalFull n moments = go (op_by step.answered) refl n
-    where
-      go : (a : Option Op) → op_by step.answered ≡ a → NotKept store a new faults.JournalFull → CauseOf w (event.Child name number (child.Piece piece)) store.disk new.disk faults.JournalFull
-      go None e n = absurd n
-      go (Some o) e n =
+      go : (a : Option Op) → given ≡ a → (fault : HostFault) → NotKept store a new fault → InModel store.disk (LeavesOnly (IsEitherIf w.ops a) store.disk.history new.disk.history)
+          → CauseOf w (event.Child name number (child.Piece piece)) store.disk new.disk fault
+      go None e faults.Closed n moments = absurd n
+      go None e faults.Disk n moments = absurd n
+      go None e faults.OutOfMemory n moments = absurd n
+      go None e faults.JournalFull n moments = absurd n
+      go (Some o) e faults.Closed n moments = absurd n
+      go (Some o) e faults.Disk n moments = (n.1, (o, record { does = did; may = may; gives = e }, moments))
+      go (Some o) e faults.OutOfMemory n moments = (n.disk, fed)
+      go (Some o) e faults.JournalFull n moments =
           let no : fits w o ≡ false = fit_in store rs begun w o h ∙ n.1 in
           (n.0.disk, fed, (o, record { does = did; may = may; gives = e }, no))

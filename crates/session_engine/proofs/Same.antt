@@ -14,8 +14,8 @@ use Rattle.worksheet.proofs.NextLaws.{same_next}
 use Rattle.plugin_core.specs.declared.item.Item.{Item}
 use Rattle.plugin_core.specs.declared.item.Item.TheVariants as item
 use Rattle.plugin_core.specs.declared.step.Ended.{Ended}
-use Rattle.plugin_core.specs.declared.step.Reason.{Reason}
-use Rattle.plugin_core.specs.declared.step.Reason.TheVariants as reason
+use Rattle.block_tree.specs.declared.reason.Reason.{Reason}
+use Rattle.block_tree.specs.declared.reason.Reason.TheVariants as reason
 use Rattle.plugin_core.specs.Steps.{step_of}
 use Rattle.session_engine.specs.declared.command.Command.{Command}
 use Rattle.session_engine.specs.declared.command.Command.TheVariants as command
@@ -27,15 +27,16 @@ use Rattle.session_engine.specs.declared.outcome.Outcome.{Outcome}
 use Rattle.session_engine.specs.declared.reply.Reply.TheVariants as reply
 use Rattle.session_engine.specs.Commands.{op_of}
 use Rattle.session_engine.specs.inside.Commits.{AllowedIf}
-use Rattle.session_engine.specs.World.{World, Going, sheet_in, life_of, session_of_field, line_of_field, by_field, in_flight, with_number, with_op, with_op_if, request_of_field}
-use Rattle.session_engine.specs.inside.Parts.{with_item, goes_on, second, checks, op_refusals, queue_refusals, asks}
+use Rattle.session_engine.specs.World.{World, Going, kept_at_end, sheet_in, life_of, session_of_field, line_of_field, by_field, in_flight, with_number, with_op, with_op_if, request_of_field}
+use Rattle.session_engine.specs.inside.Parts.{with_item, without_life, goes_on, second, checks, op_refusals, queue_refusals, asks}
 use Rattle.session_engine.specs.Does.{op_by, with_piece, starting_words, replies, Runs}
 use Rattle.session_engine.specs.Refused.{full, command_refusals, takes_tab, is_cursor}
 use Rattle.session_engine.specs.inside.Given.{outcome_of, after, Commanded, Ended_by, Pieced, GivesByParts}
 use Rattle.session_engine.proofs.ByParts.{by_parts, by_rows, op_after}
 use Rattle.session_engine.proofs.Changing.{as_op, allowed_by}
-use Rattle.session_engine.proofs.Living.{Sound, the_life}
-use Rattle.session_engine.proofs.Showing.{first_part, clear_allowed, ops_item, answer_allowed, numbered, stepped}
+use Rattle.session_engine.proofs.Living.{Sound, SoundLife, the_life}
+use Rattle.session_engine.proofs.Losing.{pieced_allowed}
+use Rattle.session_engine.proofs.Showing.{first_part, clear_allowed, ops_item, answer_allowed, end_allowed, loses_field, numbered, stepped}
 
 -- the same world, come about by other ops
 abbrev pub by_ops : List Op → World → World
@@ -60,6 +61,7 @@ module _ (w : World) (b : List Op) (same : sheet_of w.ops ≡ sheet_of b) where
   checks_same (op.Move id place) = ap (λ (s : Contents). sheet_refusals s (op.Move id place)) same
   checks_same (op.Clear id) = ap (λ (s : Contents). second (refusal.InFlight, in_flight w id) (sheet_refusals s (op.Clear id))) same
   checks_same (op.Answer id prompt output) = ap (λ (s : Contents). sheet_refusals s (op.Answer id prompt output)) same
+  checks_same (op.Lost id why) = ap (λ (s : Contents). sheet_refusals s (op.Lost id why)) same
 
   session_same : (id : ℕ) → session_of_field w id ≡ session_of_field (by_ops b w) id
   session_same id = ap (λ (s : Contents). by_field (field_in s.fields id) [] (λ f. f.session)) same
@@ -113,6 +115,25 @@ module _ (w : World) (b : List Op) (same : sheet_of w.ops ≡ sheet_of b) where
 item_same : (w : World) (b : List Op) (name : List ℕ) (i : Item) (l : Option Going) → with_item (by_ops b w) name i l ≡ by_ops b (with_item w name i l)
 item_same w b name i None = refl
 item_same w b name i (Some l) = refl
+
+-- an op or none
+
+abbrev with_if : List Op → Option Op → List Op
+with_if b None = b
+with_if b (Some o) = b ++ o ∷ []
+
+if_same : (b : List Op) (p : Option Op) (u : World) → with_op_if p (by_ops b u) ≡ by_ops (with_if b p) (with_op_if p u)
+if_same b None u = refl
+if_same b (Some o) u = refl
+
+module _ (w : World) (b : List Op) (h : Sound w) (allowed : Allowed b) (same : sheet_of w.ops ≡ sheet_of b) where
+  sheet_if : (p : Option Op) (u : World) → u.ops ≡ w.ops → AllowedIf (sheet_in w) p → sheet_of (with_op_if p u).ops ≡ sheet_of (with_if b p)
+  sheet_if None u e next = ap sheet_of e ∙ same
+  sheet_if (Some o) u e next = ap (λ (os : List Op). sheet_of (os ++ o ∷ [])) e ∙ same_next w.ops b o h.allowed same next
+
+  allowed_if : (p : Option Op) → AllowedIf (sheet_in w) p → Allowed (with_if b p)
+  allowed_if None next = allowed
+  allowed_if (Some o) next = allowed_goes_on b o allowed (subst (λ (s : Contents). first_refusal s o ≡ None) same next)
 
 -- where an accepted command leads
 record LeadsOn (w : World) (b : List Op) (c : Command) : Type 0 where
@@ -174,7 +195,11 @@ module _ (w : World) (b : List Op) (h : Sound w) (allowed : Allowed b) (same : s
   leads_on (command.Clear id) first = by_op (command.Clear id) (op.Clear id) refl first
   leads_on (command.Eval id) first = by_eval id first
   leads_on (command.Complete id cursor) first = by_complete id cursor
-  leads_on (command.Stop name) first = record { ops = b; is = refl; same = same; allowed = allowed }
+  leads_on (command.Stop name) first =
+      let p = kept_at_end w reason.Stopped (life_of w name) in
+      let u = without_life name w in
+      let next = end_allowed w reason.Stopped (life_of w name) (λ l e. the_life name l w h e) in
+      record { ops = with_if b p; is = if_same b p u; same = sheet_if w b h allowed same p u refl next; allowed = allowed_if w b h allowed same p next }
 
   nothing : (e : Event) (o : Outcome) (v : World) → v ≡ w → GivesByParts (by_ops b w) e o (by_ops b w) → Follows w b e o v
   nothing e o v is gives = record {
@@ -205,14 +230,6 @@ module _ (w : World) (b : List Op) (h : Sound w) (allowed : Allowed b) (same : s
 
 -- Events of children.
 
-abbrev with_if : List Op → Option Op → List Op
-with_if b None = b
-with_if b (Some o) = b ++ o ∷ []
-
-if_same : (b : List Op) (p : Option Op) (u : World) → with_op_if p (by_ops b u) ≡ by_ops (with_if b p) (with_op_if p u)
-if_same b None u = refl
-if_same b (Some o) u = refl
-
 goes_same : (b : List Op) (l : Going) (e : Option Ended) (w : World) → goes_on l e (by_ops b w) ≡ by_ops b (goes_on l e w)
 goes_same b l None w = refl
 goes_same b l (Some e) w = refl
@@ -222,22 +239,20 @@ goes_ops l None w = refl
 goes_ops l (Some e) w = refl
 
 module _ (w : World) (b : List Op) (h : Sound w) (allowed : Allowed b) (same : sheet_of w.ops ≡ sheet_of b) where
-  sheet_if : (p : Option Op) (u : World) → u.ops ≡ w.ops → AllowedIf (sheet_in w) p → sheet_of (with_op_if p u).ops ≡ sheet_of (with_if b p)
-  sheet_if None u e next = ap sheet_of e ∙ same
-  sheet_if (Some o) u e next = ap (λ (os : List Op). sheet_of (os ++ o ∷ [])) e ∙ same_next w.ops b o h.allowed same next
-
-  allowed_if : (p : Option Op) → AllowedIf (sheet_in w) p → Allowed (with_if b p)
-  allowed_if None next = allowed
-  allowed_if (Some o) next = allowed_goes_on b o allowed (subst (λ (s : Contents). first_refusal s o ≡ None) same next)
-
-  ended : (e : Event) (y : Option Going) (why : Reason) (killed : Bool) (o : Outcome) (v : World) → ((u : World) → Ended_by (by_ops b w) y why killed o u → GivesByParts (by_ops b w) e o u) → Ended_by w y why killed o v → Follows w b e o v
-  ended e None why killed o v gives given = nothing w b h allowed same e o v given.1 (gives (by_ops b w) (given.0, refl))
-  ended e (Some l) why killed o v gives given = record {
-    ops = b;
-    gives = gives (by_ops b v) (given.0, ap (by_ops b) given.1);
-    same = ap (λ (u : World). sheet_of u.ops) given.1 ∙ same;
-    allowed = allowed;
-  }
+  ended : (e : Event) (y : Option Going) (why : Reason) (killed : Bool) (o : Outcome) (v : World) → ((l : Going) → y ≡ Some l → SoundLife w.ops l) → ((u : World) → Ended_by (by_ops b w) y why killed o u → GivesByParts (by_ops b w) e o u)
+      → Ended_by w y why killed o v → Follows w b e o v
+  ended e None why killed o v life gives given = nothing w b h allowed same e o v given.1 (gives (by_ops b w) (given.0, refl))
+  ended e (Some l) why killed o v life gives given =
+      let p = kept_at_end w why (Some l) in
+      let u = without_life l.name w in
+      let c = with_if b p in
+      let next = end_allowed w why (Some l) life in
+      record {
+        ops = c;
+        gives = gives (by_ops c v) (given.0, ap (by_ops c) given.1 ∙ sym (if_same b p u));
+        same = ap (λ (u : World). sheet_of u.ops) given.1 ∙ sheet_if w b h allowed same p u refl next;
+        allowed = allowed_if w b h allowed same p next;
+      }
 
   piece_same : (name : List ℕ) (number : ℕ) (y : Option Going) (piece : List ℕ) (o : Outcome) (v : World) → with_number number (life_of w name) ≡ y → Pieced w y piece o v
       → Follows w b (event.Child name number (child.Piece piece)) o v
@@ -246,27 +261,28 @@ module _ (w : World) (b : List Op) (h : Sound w) (allowed : Allowed b) (same : s
       (subst (λ (z : Option Going). Pieced (by_ops b w) z piece o (by_ops b w)) (sym is) (given.0, refl))
   piece_same name number (Some l) piece o v is given =
       let s = step_of l.past l.blocks piece given.0 given.1 in
-      let p = op_by s.answered in
+      let p = op_by w.room w.end s.answered s.ended in
       let m = with_piece l piece given.0 in
       let u = goes_on m s.ended w in
-      let next = answer_allowed w l piece given.0 given.1 (the_life name l w h (numbered number (life_of w name) l is)) in
+      let life = the_life name l w h (numbered number (life_of w name) l is) in
+      let next = pieced_allowed (sheet_in w) w.room w.end s.answered s.ended (answer_allowed w l piece given.0 given.1 life) (loses_field w l piece given.0 given.1 life given.2.0) in
       let c = with_if b p in
       let leads : by_ops c v ≡ with_op_if p (goes_on m s.ended (by_ops b w)) = ap (by_ops c) given.2.2 ∙ sym (if_same b p u) ∙ sym (ap (with_op_if p) (goes_same b m s.ended w)) in
       record {
         ops = c;
         gives = subst (λ (z : Option Going). Pieced (by_ops b w) z piece o (by_ops c v)) (sym is) (given.0, given.1, (given.2.0, given.2.1, leads));
-        same = ap (λ (t : World). sheet_of t.ops) given.2.2 ∙ sheet_if p u (goes_ops m s.ended w) next;
-        allowed = allowed_if p next;
+        same = ap (λ (t : World). sheet_of t.ops) given.2.2 ∙ sheet_if w b h allowed same p u (goes_ops m s.ended w) next;
+        allowed = allowed_if w b h allowed same p next;
       }
 
   pub follows : (e : Event) (o : Outcome) (v : World) → GivesByParts w e o v → Follows w b e o v
   follows (event.Command c) o v given = commanded w b h allowed same c o v (first_of (command_refusals w c)) refl given
-  follows (event.Child name number child.StartRefused) o v given = ended (event.Child name number child.StartRefused) (with_number number (life_of w name)) reason.StartRefused false o v (λ u g. g) given
+  follows (event.Child name number child.StartRefused) o v given = ended (event.Child name number child.StartRefused) (with_number number (life_of w name)) reason.StartRefused false o v (λ l is. the_life name l w h (numbered number (life_of w name) l is)) (λ u g. g) given
   follows (event.Child name number (child.Piece piece)) o v given = piece_same name number (with_number number (life_of w name)) piece o v refl given
-  follows (event.Child name number child.End) o v given = ended (event.Child name number child.End) (with_number number (life_of w name)) reason.Ended true o v (λ u g. g) given
-  follows (event.Child name number child.ReadFault) o v given = ended (event.Child name number child.ReadFault) (with_number number (life_of w name)) reason.ReadFault true o v (λ u g. g) given
-  follows (event.Child name number child.SendFault) o v given = ended (event.Child name number child.SendFault) (with_number number (life_of w name)) reason.SendFault true o v (λ u g. g) given
-  follows (event.Child name number child.Stalled) o v given = ended (event.Child name number child.Stalled) (with_number number (life_of w name)) reason.Stalled true o v (λ u g. g) given
+  follows (event.Child name number child.End) o v given = ended (event.Child name number child.End) (with_number number (life_of w name)) reason.Ended true o v (λ l is. the_life name l w h (numbered number (life_of w name) l is)) (λ u g. g) given
+  follows (event.Child name number child.ReadFault) o v given = ended (event.Child name number child.ReadFault) (with_number number (life_of w name)) reason.ReadFault true o v (λ l is. the_life name l w h (numbered number (life_of w name) l is)) (λ u g. g) given
+  follows (event.Child name number child.SendFault) o v given = ended (event.Child name number child.SendFault) (with_number number (life_of w name)) reason.SendFault true o v (λ l is. the_life name l w h (numbered number (life_of w name) l is)) (λ u g. g) given
+  follows (event.Child name number child.Stalled) o v given = ended (event.Child name number child.Stalled) (with_number number (life_of w name)) reason.Stalled true o v (λ l is. the_life name l w h (numbered number (life_of w name) l is)) (λ u g. g) given
   follows (event.Child name number child.StopFault) o v given = nothing w b h allowed same (event.Child name number child.StopFault) o v given.1 (given.0, refl)
 
 -- events one behind another

@@ -17,34 +17,38 @@ use Rattle.worksheet.proofs.Finds.{none_applies, true_from_not}
 use Rattle.plugin_core.specs.declared.item.Item.{Item}
 use Rattle.plugin_core.specs.declared.item.Item.TheVariants as item
 use Rattle.plugin_core.specs.declared.step.Answered.{Answered}
+use Rattle.plugin_core.specs.declared.step.Ended.{Ended}
 use Rattle.plugin_core.specs.declared.step.Answered.TheVariants as answered
-use Rattle.plugin_core.specs.declared.step.Reason.{Reason}
-use Rattle.plugin_core.specs.declared.step.Reason.TheVariants as reason
+use Rattle.block_tree.specs.declared.reason.Reason.{Reason}
+use Rattle.block_tree.specs.declared.reason.Reason.TheVariants as reason
 use Rattle.plugin_core.specs.Past.{received, stream_of, items_of}
 use Rattle.plugin_core.specs.Past.{Event as LifeEvent}
 use Rattle.plugin_core.specs.Answers.{answers_of}
-use Rattle.plugin_core.specs.Items.{unanswered, waiting_of, prompt_of, answer_behind, answer_to}
+use Rattle.plugin_core.specs.Items.{first_line_of, unanswered, waiting_of, prompt_of, answer_behind, answer_to}
 use Rattle.plugin_core.specs.Steps.{Reads, answered_with, step_of}
 use Rattle.plugin_core.specs.Steps.{closed_by as closed_in}
 use Rattle.plugin_core.proofs.ByAskPoints.{reads_lie, by_events}
 use Rattle.plugin_core.proofs.Prompts.{short_prompts}
 use Rattle.session_engine.specs.declared.command.Command.{Command}
 use Rattle.session_engine.specs.declared.command.Command.TheVariants as command
+use Rattle.session_engine.specs.declared.event.ChildEvent.{ChildEvent}
 use Rattle.session_engine.specs.declared.event.ChildEvent.TheVariants as child
 use Rattle.session_engine.specs.declared.event.Event.{Event}
 use Rattle.session_engine.specs.declared.event.Event.TheVariants as event
 use Rattle.session_engine.specs.declared.outcome.Outcome.{Outcome}
 use Rattle.session_engine.specs.Commands.{op_of}
 use Rattle.session_engine.specs.Host.{HasField}
-use Rattle.session_engine.specs.World.{World, Going, sheet_in, waiting_in, life_of, session_of_field, line_of_field, with_number, with_op, with_op_if, request_of_field}
+use Rattle.session_engine.specs.World.{World, Going, kept_at_end, sheet_in, waiting_in, life_of, session_of_field, line_of_field, with_number, with_op, with_op_if, request_of_field}
 use Rattle.session_engine.specs.inside.Parts.{with_life, without_life, with_item, goes_on, checks}
 use Rattle.session_engine.specs.Does.{op_by, with_piece}
 use Rattle.session_engine.specs.Refused.{full, command_refusals}
 use Rattle.session_engine.specs.inside.Given.{after, Commanded, Ended_by, Pieced, GivesByParts}
-use Rattle.session_engine.specs.inside.Commits.{AllowedIf}
+use Rattle.session_engine.specs.inside.Commits.{AllowedIf, HasFieldIf, LosesField, answer_op, kept_for}
 use Rattle.session_engine.specs.Does.{Gives}
 use Rattle.session_engine.proofs.ByParts.{by_parts, op_after}
-use Rattle.session_engine.proofs.Fields.{allowed_answer}
+use Rattle.session_engine.proofs.Fields.{allowed_answer, waiting_still}
+use Rattle.session_engine.proofs.Growing.{one_answer}
+use Rattle.session_engine.proofs.Losing.{first_has, if_lost, kept_allowed, line_allowed}
 use Rattle.session_engine.proofs.Changing.{as_op, first_before, allowed_by}
 use Rattle.session_engine.proofs.Asking.{line_is}
 use Rattle.session_engine.specs.Turns.{Has, ClosesAnswer}
@@ -86,6 +90,12 @@ record IsClosing (os : List Op) (past : List LifeEvent) (before after : List Out
   prompt_is : prompt ≡ prompt_of past before
   out_is : out ≡ output block.block
   waits : HasInput os id text
+  first : waiting_of past before ≡ item.Line id text ∷ drop (suc line) (items_of past)
+
+drop_at : (n : ℕ) (items : List Item) (i : Item) → slice_get items n ≡ Some i → drop n items ≡ i ∷ drop (suc n) items
+drop_at n [] i h = cc
+drop_at zero (x ∷ items) i h = let e : x ≡ i = cc in ap (λ (y : Item). y ∷ items) e
+drop_at (suc n) (x ∷ items) i h = drop_at n items i h
 
 first_dropped : (P : Item → Type 0) (n : ℕ) (items : List Item) (i : Item) → slice_get items n ≡ Some i → AllByRecursion P (drop n items) → P i
 first_dropped P n [] i h all = cc
@@ -108,6 +118,7 @@ module _ (os : List Op) (past : List LifeEvent) (before after : List Outer) (pie
         answers = f;
         prompt_is = cc;
         out_is = cc;
+        first = ap (λ (l : List Outer). unanswered l (items_of past)) e ∙ drop_at (length ys) (items_of past) (item.Line id text) here;
         waits = first_dropped (HasLine os) (length ys) (items_of past) (item.Line id text) here (subst (λ (l : List Outer). AllByRecursion (HasLine os) (unanswered l (items_of past))) e all);
       }
   by_item a ys b (Some (item.Complete other text cursor)) e f g h = cc
@@ -130,12 +141,41 @@ has_fields os [] all = tt
 has_fields os (item.Line id text ∷ items) all = (ap (λ (f : Option Field). is_some f) all.0.found, has_fields os items all.1)
 has_fields os (item.Complete id text cursor ∷ items) all = (tt, has_fields os items all.1)
 
-pub answer_allowed : (w : World) (l : Going) (piece : List ℕ) (after : List Outer) (fault : Option Kind) → SoundLife w.ops l → AllowedIf (sheet_in w) (op_by (step_of l.past l.blocks piece after fault).answered)
+pub answer_allowed : (w : World) (l : Going) (piece : List ℕ) (after : List Outer) (fault : Option Kind) → SoundLife w.ops l → AllowedIf (sheet_in w) (answer_op (step_of l.past l.blocks piece after fault).answered)
 answer_allowed w l piece after fault h = go (closed_in l.past l.blocks (received piece) after)
   where
-    go : (o : Option Outer) → AllowedIf (sheet_in w) (op_by (option_and_then (answered_with l.past l.blocks) o))
+    go : (o : Option Outer) → AllowedIf (sheet_in w) (answer_op (option_and_then (answered_with l.past l.blocks) o))
     go None = tt
     go (Some b) = allowed_answer short_prompts (sheet_in w) l.past l.blocks b (has_fields w.ops (waiting_in l) h.lines)
+
+-- and so is the line that is lost at an end
+pub has_first : (w : World) (l : Going) → SoundLife w.ops l → HasFieldIf (sheet_in w) (first_line_of (waiting_in l))
+has_first w l h = first_has (sheet_in w) (waiting_in l) (has_fields w.ops (waiting_in l) h.lines)
+
+pub end_allowed : (w : World) (why : Reason) (k : Option Going) → ((l : Going) → k ≡ Some l → SoundLife w.ops l) → AllowedIf (sheet_in w) (kept_at_end w why k)
+end_allowed w why None h = tt
+end_allowed w why (Some l) h = kept_allowed (sheet_in w) w.room w.end why (first_line_of (waiting_in l)) (has_first w l (h l refl))
+
+pub loses_field : (w : World) (l : Going) (piece : List ℕ) (blocks : List Outer) (fault : Option Kind) → SoundLife w.ops l → Reads (stream_of (l.past ++ received piece ∷ [])) blocks fault
+    → LosesField (sheet_in w) (step_of l.past l.blocks piece blocks fault).ended
+loses_field w l piece blocks None h reads = tt
+loses_field w l piece blocks (Some kind) h reads =
+    let one = one_answer l.past piece l.blocks blocks (Some kind) h.reads reads in
+    let left = waiting_of (l.past ++ received piece ∷ []) blocks in
+    first_has (sheet_in w) left (has_fields w.ops left (waiting_still (HasLine w.ops) l.past l.blocks blocks piece one.closed one.answers h.lines))
+
+-- a line that is lost shows no answer
+lost_step : (w : World) (e : Event) (u : World) (room end : ℕ) (why : Reason) (line : Option ℕ) → Sound w → Sound u → u.ops ≡ w.ops → HasFieldIf (sheet_in w) line → Stepped w e (with_op_if (kept_for room end why line) u)
+lost_step w e u room end why line h sound same has = if_lost (λ p. Stepped w e (with_op_if p u)) room end why line
+    (record { sound = sound; shown = λ f a some there. inl (subst (λ (os : List Op). Has (sheet_of os) f) same there) })
+    (λ id is.
+    let o : Op = op.Lost id why in
+    let next : first_refusal (sheet_in w) o ≡ None = line_allowed (sheet_in w) line id why has is in
+    record {
+      sound = committed o u sound (subst (λ (os : List Op). first_refusal (sheet_of os) o ≡ None) (sym same) next) (every_line o u (λ n. tt));
+      shown = λ f a some there. ⊎_elim (λ before. inl before) (λ by. absurd (let no : op.Lost id why ≡ op.Answer f.id by.prompt by.output = by.is in cc))
+          (by_op w.ops f a h.allowed some o next (subst (λ (os : List Op). Has (sheet_of (os ++ o ∷ [])) f) same there));
+    })
 
 pub numbered : (number : ℕ) (o : Option Going) (l : Going) → with_number number o ≡ Some l → o ≡ Some l
 numbered number None l h = cc
@@ -172,18 +212,25 @@ module _ (w : World) (name : List ℕ) (number : ℕ) (l : Going) (piece : List 
         reads = reads;
         line = c.line;
         asked = c.asked ∙ ap (λ (n : ℕ). Some (item.Line n c.text)) number_is ∙ ap (λ (s : List ℕ). Some (item.Line f.id s)) text_is;
+        waits = c.first ∙ ap (λ (n : ℕ). item.Line n c.text ∷ drop (suc c.line) (items_of l.past)) number_is ∙ ap (λ (s : List ℕ). item.Line f.id s ∷ drop (suc c.line) (items_of l.past)) text_is;
         block = c.block;
         answers = by_events (l.past ++ received piece ∷ []) blocks (reads_lie (stream_of (l.past ++ received piece ∷ [])) blocks fault reads) (suc c.line) c.block c.answers;
         shows = ap (λ (g : Field). g.answer) by.now ∙ ap (λ (s : List ℕ). Some (record { prompt = s; output = by.output })) p ∙ ap (λ (b : Tree). Some (record { prompt = prompt_of l.past l.blocks; output = b })) t;
       }
 
-  with_answer : (u : World) → u.ops ≡ w.ops → Sound u → (x : Option Answered) → (step_of l.past l.blocks piece blocks fault).answered ≡ x → Stepped w (event.Child name number (child.Piece piece)) (with_op_if (op_by x) u)
-  with_answer u e sound None a = record { sound = sound; shown = λ f answer some has. inl (subst (λ (os : List Op). Has (sheet_of os) f) e has) }
-  with_answer u e sound (Some (answered.Banner b)) a = record { sound = sound; shown = λ f answer some has. inl (subst (λ (os : List Op). Has (sheet_of os) f) e has) }
-  with_answer u e sound (Some (answered.Complete id result)) a = record { sound = sound; shown = λ f answer some has. inl (subst (λ (os : List Op). Has (sheet_of os) f) e has) }
-  with_answer u e sound (Some (answered.Line id prompt out)) a =
+  without_op : (u : World) → u.ops ≡ w.ops → Sound u → Stepped w (event.Child name number (child.Piece piece)) u
+  without_op u e sound = record { sound = sound; shown = λ f answer some has. inl (subst (λ (os : List Op). Has (sheet_of os) f) e has) }
+
+  with_answer : (u : World) → u.ops ≡ w.ops → Sound u → (x : Option Answered) (y : Option Ended) → (step_of l.past l.blocks piece blocks fault).answered ≡ x → LosesField (sheet_in w) y
+      → Stepped w (event.Child name number (child.Piece piece)) (with_op_if (op_by w.room w.end x y) u)
+  with_answer u e sound None None a has = without_op u e sound
+  with_answer u e sound None (Some y) a has = lost_step w (event.Child name number (child.Piece piece)) u w.room w.end y.reason (first_line_of y.lost) h sound e has
+  with_answer u e sound (Some (answered.Banner b)) None a has = without_op u e sound
+  with_answer u e sound (Some (answered.Banner b)) (Some y) a has = lost_step w (event.Child name number (child.Piece piece)) u w.room w.end y.reason (first_line_of y.lost) h sound e has
+  with_answer u e sound (Some (answered.Complete id result)) y a has = without_op u e sound
+  with_answer u e sound (Some (answered.Line id prompt out)) y a has =
       let o : Op = op.Answer id prompt out in
-      let next : first_refusal (sheet_in w) o ≡ None = subst (λ (x : Option Answered). AllowedIf (sheet_in w) (op_by x)) a (answer_allowed w l piece blocks fault life) in
+      let next : first_refusal (sheet_in w) o ≡ None = subst (λ (x : Option Answered). AllowedIf (sheet_in w) (answer_op x)) a (answer_allowed w l piece blocks fault life) in
       record {
         sound = committed o u sound (subst (λ (os : List Op). first_refusal (sheet_of os) o ≡ None) (sym e) next) (every_line o u (λ n. tt));
         shown = λ f answer some has. ⊎_elim (λ same. inl same) (λ by. inr (closes id prompt out (closing w.ops l.past l.blocks blocks piece id prompt out life.lines a) f by))
@@ -192,13 +239,14 @@ module _ (w : World) (name : List ℕ) (number : ℕ) (l : Going) (piece : List 
 
 module _ (w : World) (name : List ℕ) (number : ℕ) (l : Going) (piece : List ℕ) (blocks : List Outer) (h : Sound w) (is : with_number number (life_of w name) ≡ Some l) where
   with_piece_step : (fault : Option Kind) → Reads (stream_of (l.past ++ received piece ∷ [])) blocks fault
-      → Stepped w (event.Child name number (child.Piece piece)) (with_op_if (op_by (step_of l.past l.blocks piece blocks fault).answered) (goes_on (with_piece l piece blocks) (step_of l.past l.blocks piece blocks fault).ended w))
+      → Stepped w (event.Child name number (child.Piece piece)) (with_op_if (op_by w.room w.end (step_of l.past l.blocks piece blocks fault).answered (step_of l.past l.blocks piece blocks fault).ended) (goes_on (with_piece l piece blocks) (step_of l.past l.blocks piece blocks fault).ended w))
   with_piece_step None reads =
       with_answer w name number l piece blocks None h is reads (with_life (with_piece l piece blocks) w) refl
       (put (with_piece l piece blocks) w h (pieced w.ops l piece blocks (the_life name l w h (numbered number (life_of w name) l is)) reads))
-      (step_of l.past l.blocks piece blocks None).answered refl
+      (step_of l.past l.blocks piece blocks None).answered (step_of l.past l.blocks piece blocks None).ended refl tt
   with_piece_step (Some kind) reads =
-      with_answer w name number l piece blocks (Some kind) h is reads (without_life l.name w) refl (gone l.name w h) (step_of l.past l.blocks piece blocks (Some kind)).answered refl
+      with_answer w name number l piece blocks (Some kind) h is reads (without_life l.name w) refl (gone l.name w h) (step_of l.past l.blocks piece blocks (Some kind)).answered (step_of l.past l.blocks piece blocks (Some kind)).ended refl
+      (loses_field w l piece blocks (Some kind) (the_life name l w h (numbered number (life_of w name) l is)) reads)
 
 -- Commands.
 
@@ -278,13 +326,20 @@ accepted w (command.Move id place) h first = as_done w (command.Move id place) (
 accepted w (command.Clear id) h first = as_done w (command.Clear id) (op.Clear id) refl h first
 accepted w (command.Eval id) h first = as_evaluated w id h first
 accepted w (command.Complete id cursor) h first = as_completed w id cursor h
-accepted w (command.Stop name) h first = record { sound = gone name w h; shown = λ f a some has. inl has }
+accepted w (command.Stop name) h first = go (life_of w name) refl
+  where
+    go : (k : Option Going) → life_of w name ≡ k → Stepped w (event.Command (command.Stop name)) (with_op_if (kept_at_end w reason.Stopped k) (without_life name w))
+    go None e = record { sound = gone name w h; shown = λ f a some has. inl has }
+    go (Some l) e = lost_step w (event.Command (command.Stop name)) (without_life name w) w.room w.end reason.Stopped (first_line_of (waiting_in l)) h (gone name w h) refl (has_first w l (the_life name l w h e))
 
 -- Events of children.
 
-end : (w : World) (e : Event) (x : Option Going) (why : Reason) (killed : Bool) (o : Outcome) (v : World) → Sound w → Ended_by w x why killed o v → Stepped w e v
-end w e None why killed o v h given = stays w e v h given.1
-end w e (Some l) why killed o v h given = subst (λ (x : World). Stepped w e x) (sym given.1) (record { sound = gone l.name w h; shown = λ f a some has. inl has })
+end : (w : World) (name : List ℕ) (number : ℕ) (c : ChildEvent) (x : Option Going) (why : Reason) (killed : Bool) (o : Outcome) (v : World) → with_number number (life_of w name) ≡ x → Sound w → Ended_by w x why killed o v
+    → Stepped w (event.Child name number c) v
+end w name number c None why killed o v is h given = stays w (event.Child name number c) v h given.1
+end w name number c (Some l) why killed o v is h given =
+    subst (λ (x : World). Stepped w (event.Child name number c) x) (sym given.1)
+    (lost_step w (event.Child name number c) (without_life l.name w) w.room w.end why (first_line_of (waiting_in l)) h (gone l.name w h) refl (has_first w l (the_life name l w h (numbered number (life_of w name) l is))))
 
 piece_of : (w : World) (name : List ℕ) (number : ℕ) (x : Option Going) (piece : List ℕ) (o : Outcome) (v : World) → with_number number (life_of w name) ≡ x → Sound w → Pieced w x piece o v
     → Stepped w (event.Child name number (child.Piece piece)) v
@@ -301,12 +356,12 @@ stepped_by_parts w (event.Command c) o v h given = go (first_of (command_refusal
     go None first done = ⊎_elim
         (λ yes. subst (λ (x : World). Stepped w (event.Command c) x) (sym yes.1) (accepted w c h first))
         (λ no. stays w (event.Command c) v h no.2) done
-stepped_by_parts w (event.Child name number child.StartRefused) o v h given = end w (event.Child name number child.StartRefused) (with_number number (life_of w name)) reason.StartRefused false o v h given
+stepped_by_parts w (event.Child name number child.StartRefused) o v h given = end w name number child.StartRefused (with_number number (life_of w name)) reason.StartRefused false o v refl h given
 stepped_by_parts w (event.Child name number (child.Piece piece)) o v h given = piece_of w name number (with_number number (life_of w name)) piece o v refl h given
-stepped_by_parts w (event.Child name number child.End) o v h given = end w (event.Child name number child.End) (with_number number (life_of w name)) reason.Ended true o v h given
-stepped_by_parts w (event.Child name number child.ReadFault) o v h given = end w (event.Child name number child.ReadFault) (with_number number (life_of w name)) reason.ReadFault true o v h given
-stepped_by_parts w (event.Child name number child.SendFault) o v h given = end w (event.Child name number child.SendFault) (with_number number (life_of w name)) reason.SendFault true o v h given
-stepped_by_parts w (event.Child name number child.Stalled) o v h given = end w (event.Child name number child.Stalled) (with_number number (life_of w name)) reason.Stalled true o v h given
+stepped_by_parts w (event.Child name number child.End) o v h given = end w name number child.End (with_number number (life_of w name)) reason.Ended true o v refl h given
+stepped_by_parts w (event.Child name number child.ReadFault) o v h given = end w name number child.ReadFault (with_number number (life_of w name)) reason.ReadFault true o v refl h given
+stepped_by_parts w (event.Child name number child.SendFault) o v h given = end w name number child.SendFault (with_number number (life_of w name)) reason.SendFault true o v refl h given
+stepped_by_parts w (event.Child name number child.Stalled) o v h given = end w name number child.Stalled (with_number number (life_of w name)) reason.Stalled true o v refl h given
 stepped_by_parts w (event.Child name number child.StopFault) o v h given = stays w (event.Child name number child.StopFault) v h given.1
 
 pub stepped : (w : World) (e : Event) (o : Outcome) (v : World) → Sound w → Gives w e o v → Stepped w e v

@@ -85,22 +85,37 @@ pub record Told : Type 0 where
   pub outcome : Option Outcome
   pub ops : List Op
 
--- the ops between two worlds of a history
+-- an op that isn't the reason of a lost line
+abbrev pub is_no_reason : Op → Bool
+is_no_reason (op.Session name tab words) = true
+is_no_reason (op.New after session input) = true
+is_no_reason (op.Set id input) = true
+is_no_reason (op.Remove id) = true
+is_no_reason (op.Move id after) = true
+is_no_reason (op.Clear id) = true
+is_no_reason (op.Answer id prompt output) = true
+is_no_reason (op.Lost id reason) = false
+
+abbrev pub but_reasons : List Op → List Op
+but_reasons [] = []
+but_reasons (o ∷ os) = if is_no_reason o then o ∷ but_reasons os else but_reasons os
+
+-- the ops between two worlds of a history, but reasons
 abbrev pub added : World → World → List Op
-added w v = drop (length w.ops) v.ops
+added w v = but_reasons (drop (length w.ops) v.ops)
 
 abbrev pub told_to : List ℕ → World → Event → Outcome → World → Told
 told_to name w e o v = record { event = e; outcome = if concerns name w e then Some o else None; ops = added w v }
 
 -- What a history tells of its commands and of this session's child events, one by one. The ops of the child events are the
--- session's answers.
+-- session's answers. Nothing is said of reasons: whether a field keeps one hangs on the room of the journal.
 abbrev pub session_tells : List ℕ → (w : World) (es : List Event) (os : List Outcome) (v : World) → Runs w es os v → List Told
 session_tells name w [] [] v run = []
 session_tells name w (e ∷ es) (o ∷ os) v run = if is_kept name e then told_to name w e o run.0 ∷ session_tells name run.0 es os v run.2 else session_tells name run.0 es os v run.2
 session_tells name w [] (o ∷ os) v run = []
 session_tells name w (e ∷ es) [] v run = []
 
--- an op that isn't an answer
+-- an op that is neither an answer nor a reason
 abbrev pub is_commanded : Op → Bool
 is_commanded (op.Session name tab words) = true
 is_commanded (op.New after session input) = true
@@ -109,6 +124,7 @@ is_commanded (op.Remove id) = true
 is_commanded (op.Move id after) = true
 is_commanded (op.Clear id) = true
 is_commanded (op.Answer id prompt output) = false
+is_commanded (op.Lost id reason) = false
 
 abbrev pub commanded : List Op → List Op
 commanded [] = []
@@ -119,7 +135,7 @@ abbrev pub named : List ℕ → List Going → List Going
 named name [] = []
 named name (l ∷ ls) = if bytes_eq l.name name then l ∷ named name ls else named name ls
 
--- Two worlds are alike for a session: they have the same ops but answers, and the same life of the session. The lives of others,
+-- Two worlds are alike for a session: they have the same ops but answers and reasons, and the same life of the session. The lives of others,
 -- the numbers given out, and the room of the journal and its end are left out.
 pub record AreAlike (name : List ℕ) (w x : World) : Type 0 where
   pub ops : commanded w.ops ≡ commanded x.ops
@@ -133,11 +149,11 @@ SessionsAreApart = (name : List ℕ) (w x : World) (es fs : List Event) (os ps :
     → kept name es ≡ kept name fs → life_numbers name w es os v run ≡ life_numbers name x fs ps u other
     → (session_tells name w es os v run ≡ session_tells name x fs ps u other) × AreAlike name v u
 
--- a field as a session sees it: without an answer where it is another session's
+-- a field as a session sees it: without a reason, and without an answer where it is another session's
 abbrev pub seen_by : List ℕ → Field → Field
-seen_by name f = if bytes_eq f.session name then f else record f { answer = None }
+seen_by name f = if bytes_eq f.session name then record f { lost = None } else record f { answer = None; lost = None }
 
--- Two worksheets look alike to a session: they are the same but for answers of other sessions' fields.
+-- Two worksheets look alike to a session: they are the same but for reasons, and for answers of other sessions' fields.
 pub record LookAlike (name : List ℕ) (a b : Contents) : Type 0 where
   pub fields : map (seen_by name) a.fields ≡ map (seen_by name) b.fields
   pub sessions : a.sessions ≡ b.sessions

@@ -1,7 +1,7 @@
 -- What a play of events promises at its end, and what a crash leaves at every moment of it. (docs/HOST.md, "A crash".)
 use Rattle.std.specs.Prelude.{◌≡◌, List, [], ◌∷◌, ◌++◌, true, Result, Ok, Err}
 use Rattle.std.specs.declared.vec.Vec.{Vec}
-use Rattle.disk_model.specs.Disk.{DiskView, Image, InModel, LeavesOnly}
+use Rattle.disk_model.specs.Disk.{DiskView, Image, InModel, LeavesOnly, SameDisk}
 use Rattle.recovery.specs.Sheets.{IsSheetImage}
 use Rattle.session_engine.specs.declared.event.Event.{Event}
 use Rattle.session_engine.specs.declared.outcome.Outcome.{Outcome}
@@ -50,6 +50,8 @@ pub record StoppedAt (w : World) (events : List Event) (old new : HostView) (tol
   pub at : Event
   pub dropped : List Event
   pub before : HostView
+  -- the same disk, as it was behind them
+  pub same : SameDisk old.store.disk before.store.disk
   pub played : HasPlayed w events (at ∷ dropped) told before
   pub failed : Failed played.leads at before new fault
   pub closed : new.closed ≡ true

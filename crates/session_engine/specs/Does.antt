@@ -13,8 +13,8 @@ use Rattle.plugin_core.specs.declared.step.Step.{Step}
 use Rattle.plugin_core.specs.declared.step.Ended.{Ended}
 use Rattle.plugin_core.specs.declared.step.Answered.{Answered}
 use Rattle.plugin_core.specs.declared.step.Answered.TheVariants as answered
-use Rattle.plugin_core.specs.declared.step.Reason.{Reason}
-use Rattle.plugin_core.specs.declared.step.Reason.TheVariants as reason
+use Rattle.block_tree.specs.declared.reason.Reason.{Reason}
+use Rattle.block_tree.specs.declared.reason.Reason.TheVariants as reason
 use Rattle.plugin_core.specs.Past.{accepted, received, stream_of}
 use Rattle.plugin_core.specs.Steps.{Reads, sent_by, step_of}
 use Rattle.session_engine.specs.Named.{without_named, replace_named}
@@ -32,7 +32,7 @@ use Rattle.session_engine.specs.declared.reply.Closed.{Closed}
 use Rattle.session_engine.specs.declared.reply.Closed.TheVariants as closed
 use Rattle.session_engine.specs.declared.reply.Reply.{Reply}
 use Rattle.session_engine.specs.declared.reply.Reply.TheVariants as reply
-use Rattle.session_engine.specs.World.{World, Going, life_of, with_number, with_op_if, session_of_field, line_of_field, request_of_field, sheet_in, waiting_in}
+use Rattle.session_engine.specs.World.{World, Going, life_of, with_number, with_op_if, kept_in, kept_at_end, session_of_field, line_of_field, request_of_field, sheet_in, waiting_in}
 use Rattle.session_engine.specs.Refused.{command_refusals, command_takes_memory}
 
 -- What an event does: what is told, the op that it gives if any, how many lives have begun behind it, and the lives that go on.
@@ -73,12 +73,18 @@ closed_told (Some (answered.Banner b)) = Some (closed.Banner b)
 closed_told (Some (answered.Line id prompt output)) = Some (closed.Line id)
 closed_told (Some (answered.Complete id result)) = Some (closed.Complete id result)
 
--- the op that it gives
-abbrev pub op_by : Option Answered → Option Op
-op_by None = None
-op_by (Some (answered.Banner b)) = None
-op_by (Some (answered.Line id prompt output)) = Some (op.Answer id prompt output)
-op_by (Some (answered.Complete id result)) = None
+-- the op of the end that a piece brings
+abbrev pub op_of_end : ℕ → ℕ → Option Ended → Option Op
+op_of_end room end None = None
+op_of_end room end (Some e) = kept_in room end e.reason e.lost
+
+-- The op that a piece gives, by the answer that it closes and by the end that it brings: that of the answer to a line; where no item
+-- was answered, that of the end.
+abbrev pub op_by : ℕ → ℕ → Option Answered → Option Ended → Option Op
+op_by room end None e = op_of_end room end e
+op_by room end (Some (answered.Banner b)) e = op_of_end room end e
+op_by room end (Some (answered.Line id prompt output)) e = Some (op.Answer id prompt output)
+op_by room end (Some (answered.Complete id result)) e = None
 
 abbrev pub sends_or_kills : List ℕ → ℕ → Option (List ℕ) → Option Ended → Option Effect
 sends_or_kills name number send None = option_map (λ bytes. effect.Send name number bytes) send
@@ -158,11 +164,11 @@ asks_item w i given name (Some l) = record {
 -- a life ends from outside; where none goes on, only this is told
 abbrev pub ends_life : World → Reason → Bool → Option Going → Reply → Does
 ends_life w why killed None else_told = tells w else_told
-ends_life w why killed (Some l) else_told = record { told = ends l why killed; op = None; begun = w.begun; lives = taken_out l.name w.lives }
+ends_life w why killed (Some l) else_told = record { told = ends l why killed; op = kept_at_end w why (Some l); begun = w.begun; lives = taken_out l.name w.lives }
 
 -- a piece of a life gives this step of it, where these are the blocks of its stream with the piece
 abbrev pub steps : World → Going → List ℕ → List Outer → Step → Does
-steps w l piece blocks s = record { told = told_of l s; op = op_by s.answered; begun = w.begun; lives = lives_behind (with_piece l piece blocks) s.ended w.lives }
+steps w l piece blocks s = record { told = told_of l s; op = op_by w.room w.end s.answered s.ended; begun = w.begun; lives = lives_behind (with_piece l piece blocks) s.ended w.lives }
 
 -- what an accepted command does
 abbrev pub does : World → Command → Does
@@ -195,7 +201,7 @@ ChildDoes w l child.StopFault d = d ≡ tells w reply.Nothing
 -- A command where this is the first refusal that applies: it is refused so; or it is accepted, or refused for want of memory.
 abbrev pub CommandDoes : World → Command → Option Refusal → Does → Type 0
 CommandDoes w c (Some r) d = d ≡ tells w (reply.Refused r)
-CommandDoes w c None d = (d ≡ does w c) ⊎ ((command_takes_memory c ≡ true) × (d ≡ tells w (reply.Refused refusal.OutOfMemory)))
+CommandDoes w c None d = (d ≡ does w c) ⊎ ((command_takes_memory w c ≡ true) × (d ≡ tells w (reply.Refused refusal.OutOfMemory)))
 
 -- what an event may do
 abbrev pub MayDo : World → Event → Does → Type 0

@@ -1,5 +1,6 @@
 -- Which events can have which fault, and what it leaves. (docs/HOST.md, "Faults".)
 use Rattle.std.specs.Prelude.{◌≡◌, ℕ, List, Bool, true, false, Some, is_some, option_map}
+use Rattle.block_tree.specs.declared.reason.Reason.TheVariants as reason
 use Rattle.disk_model.specs.Disk.{DiskView, Rises}
 use Rattle.worksheet.specs.declared.op.Op.{Op}
 use Rattle.session_engine.specs.declared.event.ChildEvent.TheVariants as child
@@ -7,11 +8,11 @@ use Rattle.session_engine.specs.declared.event.Event.{Event}
 use Rattle.session_engine.specs.declared.event.Event.TheVariants as event
 use Rattle.session_engine.specs.declared.outcome.HostFault.{HostFault}
 use Rattle.session_engine.specs.declared.outcome.HostFault.TheVariants as faults
-use Rattle.session_engine.specs.World.{World, sheet_in, life_of, with_number, fits}
+use Rattle.session_engine.specs.World.{World, sheet_in, life_of, with_number, fits, kept_at_end}
 use Rattle.session_engine.specs.Does.{Does, MayDo}
 use Rattle.session_engine.specs.Host.{HostView, OnDisk, number_in}
 
--- A piece of a life that goes on: it takes memory, and it can't be refused.
+-- A piece of a life that goes on. It takes memory, and it can't be refused.
 abbrev pub is_piece : World → Event → Bool
 is_piece w (event.Command c) = false
 is_piece w (event.Child name number child.StartRefused) = false
@@ -22,18 +23,29 @@ is_piece w (event.Child name number child.SendFault) = false
 is_piece w (event.Child name number child.Stalled) = false
 is_piece w (event.Child name number child.StopFault) = false
 
+-- The end of a life at which a line keeps its reason takes memory too; no other event of a child does.
+abbrev pub wants_memory : World → Event → Bool
+wants_memory w (event.Command c) = false
+wants_memory w (event.Child name number child.StartRefused) = is_some (kept_at_end w reason.StartRefused (with_number number (life_of w name)))
+wants_memory w (event.Child name number (child.Piece piece)) = is_piece w (event.Child name number (child.Piece piece))
+wants_memory w (event.Child name number child.End) = is_some (kept_at_end w reason.Ended (with_number number (life_of w name)))
+wants_memory w (event.Child name number child.ReadFault) = is_some (kept_at_end w reason.ReadFault (with_number number (life_of w name)))
+wants_memory w (event.Child name number child.SendFault) = is_some (kept_at_end w reason.SendFault (with_number number (life_of w name)))
+wants_memory w (event.Child name number child.Stalled) = is_some (kept_at_end w reason.Stalled (with_number number (life_of w name)))
+wants_memory w (event.Child name number child.StopFault) = false
+
 -- the event may do this, which gives this op
 pub record MayGive (w : World) (e : Event) (o : Op) : Type 0 where
   pub does : Does
   pub may : MayDo w e does
   pub gives : does.op ≡ Some o
 
--- What a fault is answered for, and what it leaves of the disk. Where an event has no cause here, it is answered Ok: so is a
--- Stop, each event of a child but a piece, and a piece of a life that doesn't go on.
+-- What a fault is answered for, and what it leaves of the disk. Where an event has no cause here, it is answered Ok: so is a Stop,
+-- and each event of a child but a piece, where it gives no op; and a piece of a life that doesn't go on.
 abbrev pub CauseOf : World → Event → DiskView → DiskView → HostFault → Type 0
 CauseOf w e old new faults.Closed = ⊥
 CauseOf w e old new faults.Disk = Rises old.faults new.faults × ((o : Op) × MayGive w e o × OnDisk w.ops (Some o) old new)
-CauseOf w e old new faults.OutOfMemory = (new ≡ old) × (is_piece w e ≡ true)
+CauseOf w e old new faults.OutOfMemory = (new ≡ old) × (wants_memory w e ≡ true)
 CauseOf w e old new faults.JournalFull = (new ≡ old) × (is_piece w e ≡ true) × ((o : Op) × MayGive w e o × (fits w o ≡ false))
 
 -- An event that was not taken leaves the worksheet, and each life's number, as they were.

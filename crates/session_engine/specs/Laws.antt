@@ -32,14 +32,14 @@ abbrev pub lacks_memory : World → Does
 lacks_memory w = tells w (reply.Refused refusal.OutOfMemory)
 
 -- an event that may be refused so
-abbrev pub may_want : Event → Bool
-may_want (event.Command c) = command_takes_memory c
-may_want (event.Child name number e) = false
+abbrev pub may_want : World → Event → Bool
+may_want w (event.Command c) = command_takes_memory w c
+may_want w (event.Child name number e) = false
 
 -- What an event does in a world is settled, but that a command may be refused for want of memory.
 abbrev pub AnEventDoesOneThing : Type 0
 AnEventDoesOneThing = (w : World) (e : Event) (d f : Does) → MayDo w e d → MayDo w e f
-    → (d ≡ f) ⊎ ((may_want e ≡ true) × ((d ≡ lacks_memory w) ⊎ (f ≡ lacks_memory w)))
+    → (d ≡ f) ⊎ ((may_want w e ≡ true) × ((d ≡ lacks_memory w) ⊎ (f ≡ lacks_memory w)))
 
 -- What was told settles where events have led.
 abbrev pub OutcomesLeadToOneWorld : Type 0
@@ -91,9 +91,9 @@ NothingOfAnEndedLife = (ops : List Op) (room end : ℕ) (es : List Event) (os : 
 -- Fields in flight.
 
 -- A line of this session waits for a field: the worksheet has it, it is this session's, its input is the line's text, and it
--- shows no answer. Of a request of completions nothing is said.
+-- shows no answer and no reason. Of a request of completions nothing is said.
 abbrev pub WaitsForField : Contents → List ℕ → Item → Type 0
-WaitsForField sheet name (item.Line id text) = (f : Field) × (field_in sheet.fields id ≡ Some f) × (f.session ≡ name) × (f.input ≡ text) × (f.answer ≡ None)
+WaitsForField sheet name (item.Line id text) = (f : Field) × (field_in sheet.fields id ≡ Some f) × (f.session ≡ name) × (f.input ≡ text) × (f.answer ≡ None) × (f.lost ≡ None)
 WaitsForField sheet name (item.Complete id text cursor) = Unit {0}
 
 -- how many of these items are lines of this field
@@ -106,8 +106,8 @@ abbrev pub lines_waiting : ℕ → List Going → ℕ
 lines_waiting id [] = 0
 lines_waiting id (l ∷ ls) = lines_among id (waiting_in l) + lines_waiting id ls
 
--- No field in flight shows an answer: each line that waits is the input, as it is now, of a field of its session without an
--- answer, and no field has two lines that wait.
+-- No field in flight shows an answer or a reason: each line that waits is the input, as it is now, of a field of its session
+-- without either, and no field has two lines that wait.
 abbrev pub NothingIsShownInFlight : Type 0
 NothingIsShownInFlight = (ops : List Op) (room end : ℕ) (es : List Event) (os : List Outcome) (v : World) → Allowed ops → Runs (world_at_opening ops room end) es os v
     → AllByRecursion (λ l. AllByRecursion (WaitsForField (sheet_in v) l.name) (waiting_in l)) v.lives × ((id : ℕ) → lines_waiting id v.lives ≤ 1)

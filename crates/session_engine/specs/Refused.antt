@@ -1,6 +1,7 @@
 -- Which commands are refused, and why: for each command its refusals in their order, each beside whether it applies. The first
 -- that applies is answered. (docs/HOST.md, "Refusals".)
-use Rattle.std.specs.Prelude.{ℕ, ◌==◌, ◌||◌, ◌&&◌, not, Bool, true, false, List, [], ◌∷◌, length, drop, nat_le, nat_lt, Option, Some, None}
+use Rattle.std.specs.Prelude.{ℕ, ◌==◌, ◌||◌, ◌&&◌, not, Bool, true, false, List, [], ◌∷◌, length, drop, nat_le, nat_lt, Option, Some, None, is_some}
+use Rattle.block_tree.specs.declared.reason.Reason.TheVariants as reason
 use Rattle.worksheet.specs.Limits.{most_sessions, most_fields, last_number}
 use Rattle.worksheet.specs.Names.{is_name}
 use Rattle.worksheet.specs.Checks.{has_session, has_field, has_place, is_input, are_words, stands_behind, numbers, session_named}
@@ -13,7 +14,7 @@ use Rattle.plugin_core.specs.Limits.{most_waiting}
 use Rattle.session_engine.specs.Limits.{most_lives}
 use Rattle.session_engine.specs.declared.command.Command.{Command}
 use Rattle.session_engine.specs.declared.command.Command.TheVariants as command
-use Rattle.session_engine.specs.World.{World, Going, sheet_in, in_flight, fits, life_of, session_of_field, input_of, waiting_in}
+use Rattle.session_engine.specs.World.{World, Going, sheet_in, in_flight, fits, kept_at_end, life_of, session_of_field, input_of, waiting_in}
 
 abbrev pub no_session : World → List ℕ → Refusal × Bool
 no_session w name = (refusal.NoSession, not (has_session (sheet_in w) name))
@@ -129,14 +130,14 @@ command_refusals w (command.Complete id cursor) =
     ∷ []
 command_refusals w (command.Stop name) = no_session w name ∷ []
 
--- Behind these stands want of memory: all commands but a Stop take memory.
-abbrev pub command_takes_memory : Command → Bool
-command_takes_memory (command.Session name tab words) = true
-command_takes_memory (command.New after session input) = true
-command_takes_memory (command.Set id input) = true
-command_takes_memory (command.Remove id) = true
-command_takes_memory (command.Move id after) = true
-command_takes_memory (command.Clear id) = true
-command_takes_memory (command.Eval id) = true
-command_takes_memory (command.Complete id cursor) = true
-command_takes_memory (command.Stop name) = false
+-- Behind these stands want of memory: all commands take memory, a Stop where a line keeps its reason.
+abbrev pub command_takes_memory : World → Command → Bool
+command_takes_memory w (command.Session name tab words) = true
+command_takes_memory w (command.New after session input) = true
+command_takes_memory w (command.Set id input) = true
+command_takes_memory w (command.Remove id) = true
+command_takes_memory w (command.Move id after) = true
+command_takes_memory w (command.Clear id) = true
+command_takes_memory w (command.Eval id) = true
+command_takes_memory w (command.Complete id cursor) = true
+command_takes_memory w (command.Stop name) = is_some (kept_at_end w reason.Stopped (life_of w name))

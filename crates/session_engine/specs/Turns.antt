@@ -1,9 +1,9 @@
 -- Hosts one after another on one disk, each from its opening to a crash, and what their worksheets show. (docs/HOST.md.)
-use Rattle.std.specs.Prelude.{◌≡◌, ◌⊎◌, ℕ, suc, List, [], ◌∷◌, ◌++◌, Option, Some, slice_get, Result, IfOk, IfErr}
+use Rattle.std.specs.Prelude.{◌≡◌, ◌⊎◌, ℕ, suc, List, [], ◌∷◌, ◌++◌, Option, Some, drop, slice_get, Result, IfOk, IfErr}
 use Rattle.block_tree.specs.Output.{output}
 use Rattle.meta_format.specs.Stream.{Outer}
 use Rattle.meta_format.specs.Faults.{Kind}
-use Rattle.disk_model.specs.Disk.{DiskView, Image, InModel, LeavesOnly}
+use Rattle.disk_model.specs.Disk.{DiskView, Image, InModel, Leaves, LeavesOnly}
 use Rattle.worksheet.specs.declared.op.Op.{Op}
 use Rattle.worksheet.specs.declared.op.Op.TheVariants as op
 use Rattle.worksheet.specs.declared.field.Field.{Field}
@@ -25,9 +25,9 @@ use Rattle.session_engine.specs.declared.event.Event.{Event}
 use Rattle.session_engine.specs.declared.event.Event.TheVariants as event
 use Rattle.session_engine.specs.declared.outcome.HostFault.{HostFault}
 use Rattle.session_engine.specs.declared.outcome.Outcome.{Outcome}
-use Rattle.session_engine.specs.World.{World, Going, world_at_opening, sheet_in, life_of, with_number}
+use Rattle.session_engine.specs.World.{World, Going, world_at_opening, sheet_in, life_of, waiting_in, with_number}
 use Rattle.session_engine.specs.Does.{Gives, Runs}
-use Rattle.session_engine.specs.Crash.{LeftAmong, HasPlayed}
+use Rattle.session_engine.specs.Crash.{LeftAmong, HasPlayed, StoppedAt}
 
 -- What a field shows.
 
@@ -51,6 +51,8 @@ pub record ClosesAnswer (w : World) (e : Event) (f : Field) : Type 0 where
   -- the place of the line among the life's, counted from 0, and the block
   pub line : ℕ
   pub asked : slice_get (items_of life.past) line ≡ Some (item.Line f.id f.input)
+  -- it is the first that waits: no block has answered it before
+  pub waits : waiting_in life ≡ item.Line f.id f.input ∷ drop (suc line) (items_of life.past)
   pub block : Outer
   pub answers : IsAnswer (life.past ++ received piece ∷ []) blocks (suc line) block
   pub shows : f.answer ≡ Some (record { prompt = prompt_of life.past life.blocks; output = output block.block })
@@ -95,13 +97,15 @@ pub record Turned (room : ℕ) (before : Image) (found : List Op) (turn : HostTu
   pub leaves : IsSheetImage (sheet_of kept) after
 
 -- A play is such a turn of a host that was just opened: a crash inside it as one that told nothing, a crash behind it as one that
--- told all its outcomes.
+-- told all its outcomes, also where it stopped at a fault.
 abbrev pub PlaysAreTurns : Type 0
 PlaysAreTurns = (room end : ℕ) (before : Image) (found : List Op) → Allowed found → IsSheetImage (sheet_of found) before → EndsAt before end
     → (events : List Event) (told : List Outcome) (after : Image)
     → (LeftAmong (world_at_opening found room end) events told after → (kept : List Op) × Turned room before found (record { events = events; told = [] }) after kept)
     × ((rest : List Event) (host : HostView) (played : HasPlayed (world_at_opening found room end) events rest told host) → IsSheetImage (sheet_in played.leads) after
     → (kept : List Op) × Turned room before found (record { events = events; told = told }) after kept)
+    × ((old new : HostView) (fault : HostFault) (stopped : StoppedAt (world_at_opening found room end) events old new told fault)
+    → InModel old.store.disk (Leaves (λ left. (kept : List Op) × Turned room before found (record { events = events; told = told }) left kept) new.store.disk.history.now))
 
 -- Each image that a crash leaves of a disk, at every moment from this state of it to that one, makes
 -- such a turn.

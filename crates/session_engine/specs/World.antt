@@ -1,8 +1,10 @@
 -- Where a list of events leads a host that was opened on a worksheet. (docs/HOST.md, "The world".)
-use Rattle.std.specs.Prelude.{ℕ, ◌+◌, ◌==◌, ◌&&◌, nat_le, List, [], ◌∷◌, ◌++◌, length, Bool, Option, Some, None, if◌then◌else◌}
+use Rattle.std.specs.Prelude.{ℕ, ◌+◌, ◌==◌, ◌&&◌, nat_le, List, [], ◌∷◌, ◌++◌, length, Bool, Option, Some, None, option_and_then, if◌then◌else◌}
 use Rattle.std.specs.List.{list_any}
+use Rattle.block_tree.specs.declared.reason.Reason.{Reason}
 use Rattle.meta_format.specs.Stream.{Outer}
 use Rattle.worksheet.specs.declared.op.Op.{Op}
+use Rattle.worksheet.specs.declared.op.Op.TheVariants as op
 use Rattle.worksheet.specs.declared.field.Field.{Field}
 use Rattle.worksheet.specs.Contents.{Contents}
 use Rattle.worksheet.specs.Ops.{sheet_of}
@@ -12,7 +14,7 @@ use Rattle.recovery.specs.Code.{code_of}
 use Rattle.plugin_core.specs.declared.item.Item.{Item}
 use Rattle.plugin_core.specs.declared.item.Item.TheVariants as item
 use Rattle.plugin_core.specs.Past.{Event as LifeEvent}
-use Rattle.plugin_core.specs.Items.{waiting_of, is_line_of}
+use Rattle.plugin_core.specs.Items.{waiting_of, first_line_of, is_line_of}
 use Rattle.session_engine.specs.Named.{first_named}
 
 -- A life that goes on: the name of its session, its number, all that has happened to it, and the outer blocks of its stream.
@@ -85,6 +87,20 @@ fits_in room end o = nat_le (length (code_of o)) max_payload && nat_le (end + 5 
 
 abbrev pub fits : World → Op → Bool
 fits w o = fits_in w.room w.end o
+
+-- the op, where it fits there
+abbrev pub if_fits : ℕ → ℕ → Op → Option Op
+if_fits room end o = if fits_in room end o then Some o else None
+
+-- The op of the end of a life which leaves these items without an answer: where the first of them is a line, its field keeps the
+-- reason, if there is room for that. The others keep none.
+abbrev pub kept_in : ℕ → ℕ → Reason → List Item → Option Op
+kept_in room end why items = option_and_then (λ id. if_fits room end (op.Lost id why)) (first_line_of items)
+
+-- the same of a life that goes on and ends now
+abbrev pub kept_at_end : World → Reason → Option Going → Option Op
+kept_at_end w why None = None
+kept_at_end w why (Some l) = kept_in w.room w.end why (waiting_in l)
 
 -- an op more: it is in the worksheet, and its payload behind the journal's end
 abbrev pub with_op : Op → World → World

@@ -47,7 +47,7 @@ impl<D: Disk> Engine<D> {
             send,
             ended,
         } = step;
-        match keep(&mut self.store, answered) {
+        match keep(&mut self.store, answered, &ended) {
             Ok(closed) => {
                 settle(&mut self.lives, name, ended.is_some());
                 Ok(told(name, number, closed, default_input, send, ended))

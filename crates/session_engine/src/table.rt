@@ -4,7 +4,9 @@ ghost use Rattle.session_engine.specs.Named.{place_from, without_named};
 ghost use Rattle.session_engine.specs.Host.{name_of, life_in};
 ghost use Rattle.session_engine.specs.inside.Tables.{has_number, TakesOut, FeedsIf, GoesOnAt};
 ghost use Rattle.session_engine.specs.Host.{Lives};
+ghost use Rattle.session_engine.specs.Named.{first_named};
 ghost use Rattle.session_engine.specs.World.{Going, waits_in};
+ghost use Rattle.session_engine.specs.inside.Tables.{line_in};
 
 use block_tree::OutOfMemory;
 use plugin_core::{Life, Step};
@@ -77,6 +79,17 @@ pub(crate) fn settle(lives: &mut Vec<Running>, name: Name, over: bool)
 {
     if over {
         let _ = take_life(lives, name);
+    }
+}
+
+/// The field of the first item that waits in the life of this session, where that is a line.
+pub(crate) fn first_line(lives: &Vec<Running>, name: Name) -> Option<u32>
+    ensures { (ls : List Going) → Lives lives.now.items ls
+        → result ≡ line_in (first_named (λ l. l.name) name ls) }
+{
+    match place_of(lives, name) {
+        Some(place) => lives[place].life.first_line(),
+        None => None,
     }
 }
 

@@ -2,6 +2,7 @@
 ghost use Rattle.std.specs.Prelude.{◌≡◌, IfOk, IfErr};
 ghost use Rattle.disk_model.specs.Disk.{SameDisk};
 
+use crate::commits::LoseFault;
 use crate::ends::ended;
 use crate::engine::{Engine, nothing, refused};
 use crate::table::take_life;
@@ -44,7 +45,7 @@ impl<D: Disk> Engine<D> {
         match command {
             Command::Eval { id } => self.eval(id),
             Command::Complete { id, cursor } => Ok(self.complete(id, cursor)),
-            Command::Stop { name } => Ok(self.stop(name)),
+            Command::Stop { name } => self.stop(name),
             other => match other.into_op() {
                 Some(op) => self.alter(op),
                 None => unreachable!(),
@@ -53,22 +54,28 @@ impl<D: Disk> Engine<D> {
     }
 
     /// The interpreter of a session is stopped.
-    fn stop(&mut self, name: Octets) -> Outcome
+    fn stop(&mut self, name: Octets) -> Result<Outcome, HostFault>
         requires { Works self.old }
+        ensures same { SameDisk self.old.store.disk self.new.store.disk }
         ensures took { (w : World) → StandsAt self.old w
-            → TookAt w (event_of.Command (command_of.Stop name)) self.old self.new result }
-        ensures store { self.new.store ≡ self.old.store }
+            → IfOk result (TookAt w (event_of.Command (command_of.Stop name)) self.old self.new) }
+        ensures failed { (w : World) → StandsAt self.old w
+            → IfErr result (FailedAt w (event_of.Command (command_of.Stop name)) self.old self.new) }
     {
         let name = match self.store.sheet().session(name.as_slice()) {
             Some(session) => session.name,
-            None => return refused(Refusal::NoSession),
+            None => return Ok(refused(Refusal::NoSession)),
         };
-        match take_life(&mut self.lives, name) {
-            Some(running) => ended(running, Reason::Stopped, true),
-            None => Outcome {
-                reply: Reply::Done,
-                effect: None,
+        match self.lose(name, Reason::Stopped) {
+            Ok(()) => match take_life(&mut self.lives, name) {
+                Some(running) => Ok(ended(running, Reason::Stopped, true)),
+                None => Ok(Outcome {
+                    reply: Reply::Done,
+                    effect: None,
+                }),
             },
+            Err(LoseFault::OutOfMemory) => Ok(refused(Refusal::OutOfMemory)),
+            Err(LoseFault::Disk) => Err(HostFault::Disk),
         }
     }
 
@@ -81,12 +88,12 @@ impl<D: Disk> Engine<D> {
             → IfErr result (FailedAt w (event_of.Child name life event) self.old self.new) }
     {
         match event {
-            ChildEvent::StartRefused => Ok(self.end(name, life, Reason::StartRefused, false)),
+            ChildEvent::StartRefused => self.end(name, life, Reason::StartRefused, false),
             ChildEvent::Piece(piece) => self.piece(name, life, piece.as_slice()),
-            ChildEvent::End => Ok(self.end(name, life, Reason::Ended, true)),
-            ChildEvent::ReadFault => Ok(self.end(name, life, Reason::ReadFault, true)),
-            ChildEvent::SendFault => Ok(self.end(name, life, Reason::SendFault, true)),
-            ChildEvent::Stalled => Ok(self.end(name, life, Reason::Stalled, true)),
+            ChildEvent::End => self.end(name, life, Reason::Ended, true),
+            ChildEvent::ReadFault => self.end(name, life, Reason::ReadFault, true),
+            ChildEvent::SendFault => self.end(name, life, Reason::SendFault, true),
+            ChildEvent::Stalled => self.end(name, life, Reason::Stalled, true),
             ChildEvent::StopFault => Ok(nothing()),
         }
     }

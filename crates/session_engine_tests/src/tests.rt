@@ -6,4 +6,5 @@ mod disks;
 mod events;
 mod fields;
 mod lives;
+mod lost;
 mod told;

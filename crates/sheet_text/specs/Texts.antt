@@ -2,6 +2,7 @@
 use Rattle.std.specs.Prelude.{ℕ, ◌==◌, Bool, false, List, [], ◌∷◌, ◌++◌, Option, Some, None, codes, if◌then◌else◌}
 use Rattle.std.specs.Fmt.{decimal}
 use Rattle.std.specs.List.{flat_map, last_or}
+use Rattle.block_tree.specs.declared.reason.Reason.{Reason}
 use Rattle.worksheet.specs.Contents.{Contents}
 use Rattle.worksheet.specs.Refusals.{refusal_number, refusal_name}
 use Rattle.worksheet.specs.declared.field.Answer.{Answer}
@@ -11,7 +12,7 @@ use Rattle.session_engine.specs.declared.reply.Reply.{Reply}
 use Rattle.session_engine.specs.declared.reply.Reply.TheVariants as reply
 use Rattle.sheet_text.specs.Escape.{on_line}
 use Rattle.sheet_text.specs.Blocks.{block_text}
-use Rattle.sheet_text.specs.Replies.{child_text}
+use Rattle.sheet_text.specs.Replies.{child_text, reason_name}
 
 -- 'refused', the number and the name
 abbrev pub refused_line : Refusal → List ℕ
@@ -51,13 +52,18 @@ ends_line text = is_line_feed (last_or None text)
 abbrev pub in_lines : List ℕ → List ℕ
 in_lines text = if ends_line text then text else text ++ 10 ∷ []
 
--- the output, or `?` where there is none
-abbrev pub output_lines : Option Answer → List ℕ
-output_lines None = codes "?\n"
-output_lines (Some answer) = in_lines (block_text answer.output)
+-- where there is no answer, `?`, and behind it the reason if there is one
+abbrev pub no_answer_line : Option Reason → List ℕ
+no_answer_line None = codes "?\n"
+no_answer_line (Some reason) = codes "? " ++ reason_name reason ++ 10 ∷ []
+
+-- the output, or that there is none
+abbrev pub output_lines : Option Answer → Option Reason → List ℕ
+output_lines None lost = no_answer_line lost
+output_lines (Some answer) lost = in_lines (block_text answer.output)
 
 abbrev pub field_text : Field → List ℕ
-field_text field = number_line field ++ input_line field ++ output_lines field.answer
+field_text field = number_line field ++ input_line field ++ output_lines field.answer field.lost
 
 -- the fields in order
 abbrev pub sheet_text : Contents → List ℕ

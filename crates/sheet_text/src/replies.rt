@@ -14,7 +14,7 @@ use session_engine::{ChildReply, Closed, Reply};
 use std::io::Write;
 use worksheet::Name;
 
-fn reason_name(reason: Reason) -> &'static str
+pub(crate) fn reason_name(reason: Reason) -> &'static str
     ensures { result.now ≡ child.reason_name reason }
 {
     match reason {

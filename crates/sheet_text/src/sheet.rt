@@ -9,6 +9,8 @@ use crate::blocks::block_text;
 use crate::ends::ends_line;
 use crate::escape::write_line;
 use crate::fault::WriteFault;
+use crate::replies::reason_name;
+use block_tree::Reason;
 use std::io::Write;
 use worksheet::{Answer, Field, Sheet};
 
@@ -49,14 +51,30 @@ fn write_input<W: Write>(field: &Field, out: &mut W) -> Result<(), WriteFault>
     Ok(())
 }
 
-/// Writes an output in whole lines, or `?` where there is none.
+/// Writes `?`, and the reason why there is no answer, if there is one.
 #[tactic(auto, using(crate::proofs::Appending::steps))]
-fn write_output<W: Write>(answer: &Option<Answer>, out: &mut W) -> Result<(), WriteFault>
+fn write_no_answer<W: Write>(lost: Option<Reason>, out: &mut W) -> Result<(), WriteFault>
     ensures { OnOk result
-        (Appends (W.contents out.old) (W.contents out.new) (printed.output_lines answer.now)) }
+        (Appends (W.contents out.old) (W.contents out.new) (printed.no_answer_line lost)) }
+{
+    match lost {
+        None => out.write_all(b"?\n").map_err(|_| WriteFault),
+        Some(reason) => writeln!(out, "? {}", reason_name(reason)).map_err(|_| WriteFault),
+    }
+}
+
+/// Writes an output in whole lines, or that there is none.
+#[tactic(auto, using(crate::proofs::Appending::steps))]
+fn write_output<W: Write>(
+    answer: &Option<Answer>,
+    lost: Option<Reason>,
+    out: &mut W,
+) -> Result<(), WriteFault>
+    ensures { OnOk result
+        (Appends (W.contents out.old) (W.contents out.new) (printed.output_lines answer.now lost)) }
 {
     let Some(answer) = answer else {
-        return out.write_all(b"?\n").map_err(|_| WriteFault);
+        return write_no_answer(lost, out);
     };
     block_text(&answer.output, out)?;
     if !ends_line(&answer.output) {
@@ -72,13 +90,13 @@ fn write_field<W: Write>(field: &Field, out: &mut W) -> Result<(), WriteFault>
 {
     write_number(field, out)?;
     write_input(field, out)?;
-    write_output(&field.answer, out)?;
+    write_output(&field.answer, field.lost, out)?;
     Ok(())
 }
 
 /// Writes a worksheet: for each field in order `#`, its number and its session; its prompt and its
-/// input; and its output, or `?` where it has none. An output that is `?` looks the same;
-/// `Sheet::field` tells them apart. An empty worksheet has no line.
+/// input; and its output, or `?` where it has none, with the reason behind it if it has one. An output
+/// that is `?`, or `? ` and a reason's name, looks the same; `Sheet::field` tells them apart. An empty worksheet has no line.
 ///
 /// After a `WriteFault` a part of the text may have gone out.
 #[tactic(auto, using(crate::proofs::Fields::field_steps))]

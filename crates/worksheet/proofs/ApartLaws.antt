@@ -11,7 +11,7 @@ use Rattle.worksheet.specs.declared.field.Field.{Field}
 use Rattle.worksheet.specs.declared.field.Session.{Session}
 use Rattle.worksheet.specs.Contents.{Contents}
 use Rattle.worksheet.specs.Ops.{sheet_of, sessions_of, put_behind}
-use Rattle.worksheet.specs.Edits.{edited, at_field, with_input, with_answer, placed_field, fields_without, moved}
+use Rattle.worksheet.specs.Edits.{edited, at_field, with_input, with_outcome, placed_field, fields_without, moved}
 use Rattle.worksheet.specs.Checks.{Allowed, AllowedFrom, first_refusal, refusals, session_named, has_session, field_in}
 use Rattle.worksheet.specs.Laws.{AreNamedApart, BelongToSessions}
 use Rattle.worksheet.proofs.Finds.{none_applies, true_from_not}
@@ -71,6 +71,7 @@ apart_one os (op.Remove id) apart next = subst AreNamedApart (sym (append-nil (s
 apart_one os (op.Move id after) apart next = subst AreNamedApart (sym (append-nil (sessions_of os))) apart
 apart_one os (op.Clear id) apart next = subst AreNamedApart (sym (append-nil (sessions_of os))) apart
 apart_one os (op.Answer id prompt output) apart next = subst AreNamedApart (sym (append-nil (sessions_of os))) apart
+apart_one os (op.Lost id reason) apart next = subst AreNamedApart (sym (append-nil (sessions_of os))) apart
 
 apart_from : (before os : List Op) → AreNamedApart (sessions_of before) → AllowedFrom before os → AreNamedApart (sessions_of (before ++ os))
 apart_from before [] apart allowed = subst (λ (os : List Op). AreNamedApart (sessions_of os)) (sym (append-nil before)) apart
@@ -146,13 +147,14 @@ all_moved P id after fs (Some x) e all = all_placed P after x (fields_without id
 pub belong_one : (sheet : Contents) (o : Op) → first_refusal sheet o ≡ None → BelongToSessions sheet → BelongToSessions (edited sheet o)
 belong_one sheet (op.Session name tab words) next all = all_found_push sheet.sessions (record { name = name; tab = tab; words = words }) sheet.fields all
 belong_one sheet (op.New after session input) next all =
-    all_placed (Belongs sheet.sessions) after (record { id = sheet.next; session = session; input = input; answer = None }) sheet.fields
+    all_placed (Belongs sheet.sessions) after (record { id = sheet.next; session = session; input = input; answer = None; lost = None }) sheet.fields
     (true_from_not (has_session sheet session) (none_applies (refusals sheet (op.New after session input)) next).0) all
 belong_one sheet (op.Set id input) next all = all_changed (Belongs sheet.sessions) id (with_input input) (λ f p. p) sheet.fields all
 belong_one sheet (op.Remove id) next all = all_kept (Belongs sheet.sessions) (λ field. not (field.id == id)) sheet.fields all
 belong_one sheet (op.Move id after) next all = all_moved (Belongs sheet.sessions) id after sheet.fields (field_in sheet.fields id) refl all
-belong_one sheet (op.Clear id) next all = all_changed (Belongs sheet.sessions) id (with_answer None) (λ f p. p) sheet.fields all
-belong_one sheet (op.Answer id prompt output) next all = all_changed (Belongs sheet.sessions) id (with_answer (Some (record { prompt = prompt; output = output }))) (λ f p. p) sheet.fields all
+belong_one sheet (op.Clear id) next all = all_changed (Belongs sheet.sessions) id (with_outcome None None) (λ f p. p) sheet.fields all
+belong_one sheet (op.Answer id prompt output) next all = all_changed (Belongs sheet.sessions) id (with_outcome (Some (record { prompt = prompt; output = output })) None) (λ f p. p) sheet.fields all
+belong_one sheet (op.Lost id reason) next all = all_changed (Belongs sheet.sessions) id (with_outcome None (Some reason)) (λ f p. p) sheet.fields all
 
 belong_from : (before os : List Op) → Allowed before → BelongToSessions (sheet_of before) → AllowedFrom before os → BelongToSessions (sheet_of (before ++ os))
 belong_from before [] front all allowed = subst (λ (os : List Op). BelongToSessions (sheet_of os)) (sym (append-nil before)) all

@@ -25,6 +25,7 @@ next_from-news count (op.Remove id ∷ os) = rw add-zero (next_from-news count o
 next_from-news count (op.Move id after ∷ os) = rw add-zero (next_from-news count os)
 next_from-news count (op.Clear id ∷ os) = rw add-zero (next_from-news count os)
 next_from-news count (op.Answer id prompt output ∷ os) = rw add-zero (next_from-news count os)
+next_from-news count (op.Lost id reason ∷ os) = rw add-zero (next_from-news count os)
 
 pub next_of-count : (os : List Op) → next_of os ≡ count_by is_new os + 1
 next_of-count os = next_from-news 0 os
@@ -160,6 +161,9 @@ lists-after os (op.Clear other) allowed known id =
     lists-same os o (order_from-push 1 [] os o) (λ n. exists-push os o n ∙ either (other == n) (exists os n)) known id
 lists-after os (op.Answer other prompt output) allowed known id =
     let o = op.Answer other prompt output in
+    lists-same os o (order_from-push 1 [] os o) (λ n. exists-push os o n ∙ either (other == n) (exists os n)) known id
+lists-after os (op.Lost other reason) allowed known id =
+    let o = op.Lost other reason in
     lists-same os o (order_from-push 1 [] os o) (λ n. exists-push os o n ∙ either (other == n) (exists os n)) known id
 
 lists-all : (before os : List Op) → AllowedFrom before os → ListsWhatExists before → ListsWhatExists (before ++ os)

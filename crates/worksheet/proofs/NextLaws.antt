@@ -40,6 +40,7 @@ named_one sheet (op.Remove id) allowed = tt
 named_one sheet (op.Move id after) allowed = tt
 named_one sheet (op.Clear id) allowed = tt
 named_one sheet (op.Answer id prompt output) allowed = tt
+named_one sheet (op.Lost id reason) allowed = tt
 
 all_named : (before os : List Op) → AllByRecursion IsNamed (sessions_of before) → AllowedFrom before os → AllByRecursion IsNamed (sessions_of (before ++ os))
 all_named before [] names allowed = subst (λ (os : List Op). AllByRecursion IsNamed (sessions_of os)) (sym (append-nil before)) names

@@ -3,13 +3,14 @@ use Rattle.std.proofs.Common.{◌≡◌, ℕ, List, [], ◌∷◌, ◌++◌, ref
 use Rattle.std.specs.Prelude.{filter, unwrap_or, if◌then◌else◌}
 use Rattle.std.specs.List.{last_or}
 use Rattle.std.proofs.lemmas.List.{append-nil}
+use Rattle.block_tree.specs.declared.reason.Reason.{Reason}
 use Rattle.worksheet.specs.declared.op.Op.{Op}
 use Rattle.worksheet.specs.declared.op.Op.TheVariants as op
 use Rattle.worksheet.specs.declared.field.Answer.{Answer}
 use Rattle.worksheet.specs.declared.field.Field.{Field}
 use Rattle.worksheet.specs.declared.field.Session.{Session}
-use Rattle.worksheet.specs.Ops.{next_after, next_from, next_of, is_about, about_from, about, last_of, session_by, input_by, answer_by, last_given, field_by, field_of, order_after, order_from, sessions_of}
-use Rattle.worksheet.specs.Edits.{with_input, with_answer}
+use Rattle.worksheet.specs.Ops.{next_after, next_from, next_of, is_about, about_from, about, last_of, session_by, input_by, answer_by, reason_by, last_given, field_by, field_of, order_after, order_from, sessions_of}
+use Rattle.worksheet.specs.Edits.{with_input, with_outcome}
 
 -- The lists, with one op more.
 
@@ -41,6 +42,7 @@ sessions_of-push (op.Remove id ∷ os) o = sessions_of-push os o
 sessions_of-push (op.Move id place ∷ os) o = sessions_of-push os o
 sessions_of-push (op.Clear id ∷ os) o = sessions_of-push os o
 sessions_of-push (op.Answer id prompt output ∷ os) o = sessions_of-push os o
+sessions_of-push (op.Lost id reason ∷ os) o = sessions_of-push os o
 
 -- the last of a kind is the op behind, where that is of the kind
 last_or-push : (test : Op → Bool) (first : Option Op) (os : List Op) (o : Op)
@@ -65,38 +67,40 @@ last_of-push test os o = last_or-push test None os o
 
 -- A field, with one op more.
 
-abbrev field_with : ℕ → List ℕ → List ℕ → Option Answer → Field
-field_with id session input answer = record { id = id; session = session; input = input; answer = answer }
+abbrev field_with : ℕ → List ℕ → List ℕ → Option Answer → Option Reason → Field
+field_with id session input answer lost = record { id = id; session = session; input = input; answer = answer; lost = lost }
 
 -- what an op does to the field that it is about
 abbrev pub changed : Op → Field → Field
 changed (op.Session name tab words) f = f
-changed (op.New after session input) f = record f { session = session; input = input; answer = None }
+changed (op.New after session input) f = record f { session = session; input = input; answer = None; lost = None }
 changed (op.Set id input) f = with_input input f
 changed (op.Remove id) f = f
 changed (op.Move id after) f = f
-changed (op.Clear id) f = with_answer None f
-changed (op.Answer id prompt output) f = with_answer (Some (record { prompt = prompt; output = output })) f
+changed (op.Clear id) f = with_outcome None None f
+changed (op.Answer id prompt output) f = with_outcome (Some (record { prompt = prompt; output = output })) None f
+changed (op.Lost id reason) f = with_outcome None (Some reason) f
 
 last_given-push : {A : Type 0} (by : Op → Option A) (given : A) (os : List Op) (o : Op) → last_given by given (os ++ o ∷ []) ≡ unwrap_or (by o) (last_given by given os)
 last_given-push by given [] o = refl
 last_given-push by given (p ∷ os) o = last_given-push by (unwrap_or (by p) given) os o
 
--- a field of this session, input and answer, with an op more about it
-given-push : (o : Op) (id : ℕ) (session input : List ℕ) (answer : Option Answer)
-    → field_with id (unwrap_or (session_by o) session) (unwrap_or (input_by o) input) (unwrap_or (answer_by o) answer) ≡ changed o (field_with id session input answer)
-given-push (op.Session name tab words) id session input answer = refl
-given-push (op.New after of text) id session input answer = refl
-given-push (op.Set other text) id session input answer = refl
-given-push (op.Remove other) id session input answer = refl
-given-push (op.Move other after) id session input answer = refl
-given-push (op.Clear other) id session input answer = refl
-given-push (op.Answer other prompt output) id session input answer = refl
+-- a field of this session, input, answer and reason, with an op more about it
+given-push : (o : Op) (id : ℕ) (session input : List ℕ) (answer : Option Answer) (lost : Option Reason)
+    → field_with id (unwrap_or (session_by o) session) (unwrap_or (input_by o) input) (unwrap_or (answer_by o) answer) (unwrap_or (reason_by o) lost) ≡ changed o (field_with id session input answer lost)
+given-push (op.Session name tab words) id session input answer lost = refl
+given-push (op.New after of text) id session input answer lost = refl
+given-push (op.Set other text) id session input answer lost = refl
+given-push (op.Remove other) id session input answer lost = refl
+given-push (op.Move other after) id session input answer lost = refl
+given-push (op.Clear other) id session input answer lost = refl
+given-push (op.Answer other prompt output) id session input answer lost = refl
+given-push (op.Lost other reason) id session input answer lost = refl
 
 field_by-push : (id : ℕ) (os : List Op) (o : Op) → field_by id (os ++ o ∷ []) ≡ changed o (field_by id os)
 field_by-push id os o =
-    rw (last_given-push session_by [] os o, last_given-push input_by [] os o, last_given-push answer_by None os o)
-    (given-push o id (last_given session_by [] os) (last_given input_by [] os) (last_given answer_by None os))
+    rw (last_given-push session_by [] os o, last_given-push input_by [] os o, last_given-push answer_by None os o, last_given-push reason_by None os o)
+    (given-push o id (last_given session_by [] os) (last_given input_by [] os) (last_given answer_by None os) (last_given reason_by None os))
 
 pub field_of-push : (os : List Op) (o : Op) (id : ℕ) → field_of (os ++ o ∷ []) id ≡ (if is_about id (next_of os) o then changed o (field_of os id) else field_of os id)
 field_of-push os o id = ap (λ (qs : List Op). field_by id qs) (about_from-push id 1 os o) ∙ go (is_about id (next_of os) o)

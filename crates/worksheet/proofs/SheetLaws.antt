@@ -9,7 +9,7 @@ use Rattle.worksheet.specs.declared.field.Field.{Field}
 use Rattle.worksheet.specs.declared.field.Session.{Session}
 use Rattle.worksheet.specs.Ops.{next_after, next_of, field_of, put_behind, placed, without, order_of, sessions_of, sheet_of}
 use Rattle.worksheet.specs.Checks.{numbers, field_in, first_refusal, refusals}
-use Rattle.worksheet.specs.Edits.{AllBelow, HasNumbersApart, contents_with, at_field, with_input, with_answer, fields_without, placed_field, moved, edited}
+use Rattle.worksheet.specs.Edits.{AllBelow, HasNumbersApart, contents_with, at_field, with_input, with_outcome, fields_without, placed_field, moved, edited}
 use Rattle.worksheet.proofs.Finds.{none_applies, true_from_not}
 use Rattle.worksheet.proofs.OneMore.{next_from-push, order_from-push, sessions_of-push, field_of-push}
 
@@ -84,7 +84,7 @@ below_next os after session input (j ∷ ids) below =
     rw (field_of-push os (op.New after session input) j, other) (ap (λ (fs : List Field). field_of os j ∷ fs) (below_next os after session input ids below.1))
 
 made : (os : List Op) (after : ℕ) (session input : List ℕ)
-    → field_of (os ++ op.New after session input ∷ []) (next_of os) ≡ record { id = next_of os; session = session; input = input; answer = None }
+    → field_of (os ++ op.New after session input ∷ []) (next_of os) ≡ record { id = next_of os; session = session; input = input; answer = None; lost = None }
 made os after session input =
     let itself : (next_of os == next_of os) ≡ true = grind (arith, nat_tests) in
     rw (field_of-push os (op.New after session input) (next_of os), itself) refl
@@ -114,7 +114,7 @@ sheet_of-push os (op.New after session input) sound allowed =
     (ordered os o _ _ (order_from-push 1 [] os o)
     (map-placed (os ++ o ∷ []) after (next_of os) (order_of os)
     ∙ ap (λ (f : Field). placed_field after f (map (field_of (os ++ o ∷ [])) (order_of os))) (made os after session input)
-    ∙ ap (λ (fs : List Field). placed_field after (record { id = next_of os; session = session; input = input; answer = None }) fs) below))
+    ∙ ap (λ (fs : List Field). placed_field after (record { id = next_of os; session = session; input = input; answer = None; lost = None }) fs) below))
     (append-nil (sessions_of os)) refl
 sheet_of-push os (op.Set id input) sound allowed =
     let o = op.Set id input in
@@ -140,10 +140,15 @@ sheet_of-push os (op.Move id after) sound allowed =
 sheet_of-push os (op.Clear id) sound allowed =
     let o = op.Clear id in
     sheet_of-fields os o _ _ _
-    (ordered os o _ _ (order_from-push 1 [] os o) (changed_at os o id (with_answer None) (field_of-push os o) (order_of os)))
+    (ordered os o _ _ (order_from-push 1 [] os o) (changed_at os o id (with_outcome None None) (field_of-push os o) (order_of os)))
     (append-nil (sessions_of os)) refl
 sheet_of-push os (op.Answer id prompt output) sound allowed =
     let o = op.Answer id prompt output in
     sheet_of-fields os o _ _ _
-    (ordered os o _ _ (order_from-push 1 [] os o) (changed_at os o id (with_answer (Some (record { prompt = prompt; output = output }))) (field_of-push os o) (order_of os)))
+    (ordered os o _ _ (order_from-push 1 [] os o) (changed_at os o id (with_outcome (Some (record { prompt = prompt; output = output })) None) (field_of-push os o) (order_of os)))
+    (append-nil (sessions_of os)) refl
+sheet_of-push os (op.Lost id reason) sound allowed =
+    let o = op.Lost id reason in
+    sheet_of-fields os o _ _ _
+    (ordered os o _ _ (order_from-push 1 [] os o) (changed_at os o id (with_outcome None (Some reason)) (field_of-push os o) (order_of os)))
     (append-nil (sessions_of os)) refl

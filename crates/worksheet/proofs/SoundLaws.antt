@@ -8,7 +8,7 @@ use Rattle.worksheet.specs.declared.field.Field.{Field}
 use Rattle.worksheet.specs.Contents.{Contents}
 use Rattle.worksheet.specs.Ops.{put_behind}
 use Rattle.worksheet.specs.Checks.{numbers, field_in}
-use Rattle.worksheet.specs.Edits.{Lacks, AreApart, AllBelow, HasNumbersApart, at_field, with_input, with_answer, fields_without, placed_field, moved, edited}
+use Rattle.worksheet.specs.Edits.{Lacks, AreApart, AllBelow, HasNumbersApart, at_field, with_input, with_outcome, fields_without, placed_field, moved, edited}
 use Rattle.worksheet.proofs.Finds.{field_in-id}
 
 -- what is below a number isn't it
@@ -134,11 +134,12 @@ moved_sound sheet id after (Some f) is s = record {
 pub IsSound-edited : (sheet : Contents) (o : Op) → HasNumbersApart sheet → HasNumbersApart (edited sheet o)
 IsSound-edited sheet (op.Session name tab words) s = record { apart = s.apart; below = s.below }
 IsSound-edited sheet (op.New after session input) s = record {
-  apart = AreApart-placed after (record { id = sheet.next; session = session; input = input; answer = None }) sheet.fields s.apart (Lacks-AllBelow sheet.next (numbers sheet.fields) s.below);
-  below = AllBelow-placed (sheet.next + 1) after (record { id = sheet.next; session = session; input = input; answer = None }) sheet.fields (AllBelow-more sheet.next (numbers sheet.fields) s.below) (omega arith);
+  apart = AreApart-placed after (record { id = sheet.next; session = session; input = input; answer = None; lost = None }) sheet.fields s.apart (Lacks-AllBelow sheet.next (numbers sheet.fields) s.below);
+  below = AllBelow-placed (sheet.next + 1) after (record { id = sheet.next; session = session; input = input; answer = None; lost = None }) sheet.fields (AllBelow-more sheet.next (numbers sheet.fields) s.below) (omega arith);
 }
 IsSound-edited sheet (op.Set id input) s = changed_sound sheet id (with_input input) (λ f. refl) s
 IsSound-edited sheet (op.Remove id) s = record { apart = AreApart-without id sheet.fields s.apart; below = AllBelow-without sheet.next id sheet.fields s.below }
 IsSound-edited sheet (op.Move id after) s = moved_sound sheet id after (field_in sheet.fields id) refl s
-IsSound-edited sheet (op.Clear id) s = changed_sound sheet id (with_answer None) (λ f. refl) s
-IsSound-edited sheet (op.Answer id prompt output) s = changed_sound sheet id (with_answer (Some (record { prompt = prompt; output = output }))) (λ f. refl) s
+IsSound-edited sheet (op.Clear id) s = changed_sound sheet id (with_outcome None None) (λ f. refl) s
+IsSound-edited sheet (op.Answer id prompt output) s = changed_sound sheet id (with_outcome (Some (record { prompt = prompt; output = output })) None) (λ f. refl) s
+IsSound-edited sheet (op.Lost id reason) s = changed_sound sheet id (with_outcome None (Some reason)) (λ f. refl) s

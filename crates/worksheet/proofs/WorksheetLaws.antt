@@ -12,7 +12,7 @@ use Rattle.worksheet.specs.Limits.{last_number, longest_prompt, most_fields, mos
 use Rattle.worksheet.specs.Names.{is_name}
 use Rattle.worksheet.specs.Contents.{Contents}
 use Rattle.worksheet.specs.Ops.{next_from, next_of, next_after, put_behind, sheet_of}
-use Rattle.worksheet.specs.Edits.{edited, at_field, with_input, with_answer, placed_field, fields_without, moved}
+use Rattle.worksheet.specs.Edits.{edited, at_field, with_input, with_outcome, placed_field, fields_without, moved}
 use Rattle.worksheet.specs.Checks.{Allowed, AllowedFrom, are_words, field_in, first_refusal, is_input, refusals, session_named}
 use Rattle.worksheet.specs.Laws.{AreNamedApart, IsField, IsSession, IsWorksheet}
 use Rattle.worksheet.proofs.Finds.{none_applies, true_from_not}
@@ -35,6 +35,7 @@ rises next (op.Remove id ∷ os) = rises next os
 rises next (op.Move id after ∷ os) = rises next os
 rises next (op.Clear id ∷ os) = rises next os
 rises next (op.Answer id prompt output ∷ os) = rises next os
+rises next (op.Lost id reason ∷ os) = rises next os
 
 pub numbers_rise : (os more : List Op) → Allowed (os ++ more) → next_of os ≤ next_of (os ++ more)
 numbers_rise os more allowed = rw (next_from-append 1 os more) (rises (next_of os) more)
@@ -94,30 +95,32 @@ few_fields_one sheet (op.Session name tab words) next few = few
 few_fields_one sheet (op.New after session input) next few =
     let passed = none_applies (refusals sheet (op.New after session input)) next in
     let room = one_more most_fields (length sheet.fields) passed.1.1.1.0 in
-    omega (arith, room, length-placed_field after (record { id = sheet.next; session = session; input = input; answer = None }) sheet.fields)
+    omega (arith, room, length-placed_field after (record { id = sheet.next; session = session; input = input; answer = None; lost = None }) sheet.fields)
 few_fields_one sheet (op.Set id input) next few = rw (length-map sheet.fields (at_field id (with_input input))) few
 few_fields_one sheet (op.Remove id) next few = omega (arith, few, length-fields_without id sheet.fields)
 few_fields_one sheet (op.Move id after) next few = omega (arith, few, length-moved id after sheet.fields (field_in sheet.fields id) refl)
-few_fields_one sheet (op.Clear id) next few = rw (length-map sheet.fields (at_field id (with_answer None))) few
-few_fields_one sheet (op.Answer id prompt output) next few = rw (length-map sheet.fields (at_field id (with_answer (Some (record { prompt = prompt; output = output }))))) few
+few_fields_one sheet (op.Clear id) next few = rw (length-map sheet.fields (at_field id (with_outcome None None))) few
+few_fields_one sheet (op.Answer id prompt output) next few = rw (length-map sheet.fields (at_field id (with_outcome (Some (record { prompt = prompt; output = output })) None))) few
+few_fields_one sheet (op.Lost id reason) next few = rw (length-map sheet.fields (at_field id (with_outcome None (Some reason)))) few
 
 fields_one : (sheet : Contents) (o : Op) → first_refusal sheet o ≡ None → IsWorksheet sheet → AllByRecursion IsField (edited sheet o).fields
 fields_one sheet (op.Session name tab words) next w = w.fields
 fields_one sheet (op.New after session input) next w =
     let passed = none_applies (refusals sheet (op.New after session input)) next in
-    all_placed IsField after (record { id = sheet.next; session = session; input = input; answer = None }) sheet.fields
-    (record { numbered = w.from_one; input = true_from_not (is_input input) passed.1.1.0; prompt = tt }) w.fields
+    all_placed IsField after (record { id = sheet.next; session = session; input = input; answer = None; lost = None }) sheet.fields
+    (record { numbered = w.from_one; input = true_from_not (is_input input) passed.1.1.0; prompt = tt; outcome = tt }) w.fields
 fields_one sheet (op.Set id input) next w =
     let right = true_from_not (is_input input) (none_applies (refusals sheet (op.Set id input)) next).1.0 in
-    all_changed IsField id (with_input input) (λ f p. record { numbered = p.numbered; input = right; prompt = tt }) sheet.fields w.fields
+    all_changed IsField id (with_input input) (λ f p. record { numbered = p.numbered; input = right; prompt = tt; outcome = tt }) sheet.fields w.fields
 fields_one sheet (op.Remove id) next w = all_kept IsField (λ field. not (field.id == id)) sheet.fields w.fields
 fields_one sheet (op.Move id after) next w = all_moved IsField id after sheet.fields (field_in sheet.fields id) refl w.fields
-fields_one sheet (op.Clear id) next w = all_changed IsField id (with_answer None) (λ f p. record { numbered = p.numbered; input = p.input; prompt = tt }) sheet.fields w.fields
+fields_one sheet (op.Clear id) next w = all_changed IsField id (with_outcome None None) (λ f p. record { numbered = p.numbered; input = p.input; prompt = tt; outcome = tt }) sheet.fields w.fields
 fields_one sheet (op.Answer id prompt output) next w =
     let long : nat_lt longest_prompt (length prompt) ≡ false = (none_applies (refusals sheet (op.Answer id prompt output)) next).1.0 in
     let short : length prompt ≤ longest_prompt = grind (arith, nat_tests) in
-    all_changed IsField id (with_answer (Some (record { prompt = prompt; output = output })))
-    (λ f p. record { numbered = p.numbered; input = p.input; prompt = short }) sheet.fields w.fields
+    all_changed IsField id (with_outcome (Some (record { prompt = prompt; output = output })) None)
+    (λ f p. record { numbered = p.numbered; input = p.input; prompt = short; outcome = refl }) sheet.fields w.fields
+fields_one sheet (op.Lost id reason) next w = all_changed IsField id (with_outcome None (Some reason)) (λ f p. record { numbered = p.numbered; input = p.input; prompt = tt; outcome = tt }) sheet.fields w.fields
 
 all_push : (P : Session → Type 0) (ss : List Session) (s : Session) → AllByRecursion P ss → P s → AllByRecursion P (ss ++ s ∷ [])
 all_push P [] s all p = (p, tt)
@@ -157,6 +160,7 @@ edits_keep_worksheets sheet (op.Remove id) w next = keeps sheet (op.Remove id) n
 edits_keep_worksheets sheet (op.Move id after) w next = keeps sheet (op.Move id after) next w w.sessions w.few_sessions w.names w.from_one w.to_last
 edits_keep_worksheets sheet (op.Clear id) w next = keeps sheet (op.Clear id) next w w.sessions w.few_sessions w.names w.from_one w.to_last
 edits_keep_worksheets sheet (op.Answer id prompt output) w next = keeps sheet (op.Answer id prompt output) next w w.sessions w.few_sessions w.names w.from_one w.to_last
+edits_keep_worksheets sheet (op.Lost id reason) w next = keeps sheet (op.Lost id reason) next w w.sessions w.few_sessions w.names w.from_one w.to_last
 
 -- All ops.
 

@@ -8,7 +8,7 @@ ghost use Rattle.worksheet.specs.Edits.{HasNumbersApart, contents_with, edited};
 ghost use Rattle.worksheet.specs.inside.Entries.{AreFields, AreSessions, shown, reserved};
 ghost use Rattle.worksheet.specs.inside.SheetInside.{held_of};
 
-use crate::edits::{move_field, put_field, remove_field, set_answer, set_input};
+use crate::edits::{move_field, put_field, remove_field, set_input, set_outcome};
 use crate::field::{Answer, Field, Session};
 use crate::name::Name;
 use crate::op::Op;
@@ -52,10 +52,11 @@ pub(crate) fn carry_out(
         Op::Set { id, input } => set_input(fields, id, text_of(input)),
         Op::Remove { id } => remove_field(fields, id),
         Op::Move { id, after } => move_field(fields, id, after),
-        Op::Clear { id } => set_answer(fields, id, None),
+        Op::Clear { id } => set_outcome(fields, id, None, None),
         Op::Answer { id, prompt, output } => {
-            set_answer(fields, id, Some(Answer { prompt, output }))
+            set_outcome(fields, id, Some(Answer { prompt, output }), None)
         }
+        Op::Lost { id, reason } => set_outcome(fields, id, None, Some(reason)),
     }
 }
 
@@ -79,7 +80,7 @@ fn add_session(
     put_session(sessions, Session { name, tab, words });
 }
 
-/// A field of this session without an answer.
+/// A field of this session without an answer or a reason.
 fn new_field(
     sessions: &IndexMap<Name, Option<Session>>,
     id: u32,
@@ -89,13 +90,14 @@ fn new_field(
     requires sessions { AreSessions sessions.now.entries }
     requires there { is_some (session_named (shown sessions.now.entries) session) ≡ true }
     requires text { is_utf8 input ≡ true }
-    ensures { result ≡ record { id = id; session = session; input = input; answer = None } }
+    ensures { result ≡ record { id = id; session = session; input = input; answer = None; lost = None } }
 {
     Field {
         id,
         session: name_with(sessions, session.as_slice()),
         input: text_of(input),
         answer: None,
+        lost: None,
     }
 }
 

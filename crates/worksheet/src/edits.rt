@@ -2,14 +2,14 @@
 ghost use Rattle.std.specs.Prelude.{◌≡◌, ◌+◌, ◌<◌, ◌++◌, ◌∷◌, [], Some, None, true, false, map, nat_eq, IsSome, OnOk, OnErr, ◌||◌, ◌==◌, is_some};
 ghost use Rattle.worksheet.specs.declared.field.Field.{Field};
 ghost use Rattle.worksheet.specs.Checks.{field_in, is_number, numbers};
-ghost use Rattle.worksheet.specs.Edits.{AreApart, AllBelow, at_field, fields_without, moved, placed_field, with_answer, with_input};
+ghost use Rattle.worksheet.specs.Edits.{AreApart, AllBelow, at_field, fields_without, moved, placed_field, with_input, with_outcome};
 ghost use Rattle.worksheet.specs.inside.Entries.{AreFields, shown, reserved};
 ghost use Rattle.indexmap.specs.IndexMap.{get};
 
 use crate::field::{Answer, Field};
 use crate::places::{count_fields, place_behind, place_of, reserved_number};
 use crate::slot::Slot;
-use block_tree::{OutOfMemory, Text};
+use block_tree::{OutOfMemory, Reason, Text};
 use indexmap::IndexMap;
 
 /// Puts a number that has no entry behind the others, without a field.
@@ -90,7 +90,7 @@ pub(crate) fn move_field(fields: &mut IndexMap<u32, Slot>, id: u32, after: u32)
     fields.move_index(from, to);
 }
 
-/// Gives the field with this number another input, and takes its answer away.
+/// Gives the field with this number another input, and takes its answer or reason away.
 pub(crate) fn set_input(fields: &mut IndexMap<u32, Slot>, id: u32, input: Text)
     requires fields { AreFields fields.old.entries }
     requires apart { AreApart (numbers (shown fields.old.entries)) }
@@ -103,15 +103,20 @@ pub(crate) fn set_input(fields: &mut IndexMap<u32, Slot>, id: u32, input: Text)
     fields[at].set_input(input);
 }
 
-/// Gives the field with this number another answer, or none.
-pub(crate) fn set_answer(fields: &mut IndexMap<u32, Slot>, id: u32, answer: Option<Answer>)
+/// Gives the field with this number an answer, or the reason why there is none, or none of both.
+pub(crate) fn set_outcome(
+    fields: &mut IndexMap<u32, Slot>,
+    id: u32,
+    answer: Option<Answer>,
+    lost: Option<Reason>,
+)
     requires fields { AreFields fields.old.entries }
     requires apart { AreApart (numbers (shown fields.old.entries)) }
     requires there { IsSome (field_in (shown fields.old.entries) id) }
     ensures made { shown fields.new.entries
-        ≡ map (at_field id (with_answer answer)) (shown fields.old.entries) }
+        ≡ map (at_field id (with_outcome answer lost)) (shown fields.old.entries) }
     ensures fields { AreFields fields.new.entries }
 {
     let at = place_of(fields, id);
-    fields[at].set_answer(answer);
+    fields[at].set_outcome(answer, lost);
 }

@@ -86,7 +86,8 @@ impl Sheet {
             | Op::Remove { .. }
             | Op::Move { .. }
             | Op::Clear { .. }
-            | Op::Answer { .. } => true,
+            | Op::Answer { .. }
+            | Op::Lost { .. } => true,
         }
     }
 
@@ -109,7 +110,8 @@ impl Sheet {
             | Op::Remove { .. }
             | Op::Move { .. }
             | Op::Clear { .. }
-            | Op::Answer { .. } => Ok(()),
+            | Op::Answer { .. }
+            | Op::Lost { .. } => Ok(()),
         }
     }
 

@@ -1,10 +1,10 @@
 //! What stands under a number in a worksheet.
 ghost use Rattle.std.specs.Prelude.{◌≡◌, Option, None, Some, IfOk};
 ghost use Rattle.std.specs.Option.{option_copied, option_map};
-ghost use Rattle.worksheet.specs.Edits.{with_answer, with_input};
+ghost use Rattle.worksheet.specs.Edits.{with_input, with_outcome};
 
 use crate::field::{Answer, Field};
-use block_tree::{OutOfMemory, Text};
+use block_tree::{OutOfMemory, Reason, Text};
 use std::alloc::Global;
 use std::marker::Model;
 
@@ -54,22 +54,24 @@ impl Slot {
         *self.held = Some(field);
     }
 
-    /// Gives its field another input, and takes its answer away.
+    /// Gives its field another input, and takes its answer or reason away.
     pub(crate) fn set_input(&mut self, input: Text)
         ensures { self.new ≡ option_map (with_input input) self.old }
     {
         if let Some(field) = &mut *self.held {
             field.input = input;
             field.answer = None;
+            field.lost = None;
         }
     }
 
-    /// Gives its field another answer, or none.
-    pub(crate) fn set_answer(&mut self, answer: Option<Answer>)
-        ensures { self.new ≡ option_map (with_answer answer) self.old }
+    /// Gives its field an answer, or the reason why there is none, or none of both.
+    pub(crate) fn set_outcome(&mut self, answer: Option<Answer>, lost: Option<Reason>)
+        ensures { self.new ≡ option_map (with_outcome answer lost) self.old }
     {
         if let Some(field) = &mut *self.held {
             field.answer = answer;
+            field.lost = lost;
         }
     }
 }

@@ -12,16 +12,20 @@ use worksheet::Name;
 pub const EVENTS: u32 = 5;
 
 /// What came of the first child of session `a`.
-pub fn piece(alloc: Global, bytes: &[u8]) -> Result<Event, Fail> {
+pub fn child(event: ChildEvent) -> Result<Event, Fail> {
     let Some(name) = Name::new(b"a") else {
         return Err("no name".into());
     };
-    let bytes = Bytes::copy_from_slice(alloc, bytes)?;
     Ok(Event::Child {
         name,
         life: 1,
-        event: ChildEvent::Piece(bytes),
+        event,
     })
+}
+
+pub fn piece(alloc: Global, bytes: &[u8]) -> Result<Event, Fail> {
+    let bytes = Bytes::copy_from_slice(alloc, bytes)?;
+    child(ChildEvent::Piece(bytes))
 }
 
 /// The command of a line.
@@ -153,6 +157,8 @@ pub enum Shown {
     Field,
     /// The field with the whole answer.
     Answer,
+    /// The field, whose line was lost as its interpreter ended.
+    Reason,
     /// It is a worksheet of another example.
     Other,
 }
@@ -177,6 +183,8 @@ pub fn shows<D: Disk>(alloc: Global, host: &Host<D>) -> Result<Shown, Fail> {
         Ok(Shown::Answer)
     } else if text == b"#1 a\n> x\n?\n".as_slice() {
         Ok(Shown::Field)
+    } else if text == b"#1 a\n> x\n? Ended\n".as_slice() {
+        Ok(Shown::Reason)
     } else if !text.is_empty() {
         Ok(Shown::Other)
     } else if has_session {

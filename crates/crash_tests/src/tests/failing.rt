@@ -72,7 +72,7 @@ fn missing(shown: Shown) -> u32 {
         Shown::Empty => 0,
         Shown::Session => 1,
         Shown::Field => 2,
-        Shown::Answer | Shown::Other => EVENTS,
+        Shown::Answer | Shown::Reason | Shown::Other => EVENTS,
     }
 }
 

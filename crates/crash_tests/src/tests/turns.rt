@@ -60,7 +60,7 @@ fn found(shown: Shown) -> Result<u32, Fail> {
         Shown::Session => Ok(1),
         Shown::Field => Ok(2),
         Shown::Answer => Ok(EVENTS),
-        Shown::Other => Err("another worksheet".into()),
+        Shown::Reason | Shown::Other => Err("another worksheet".into()),
     }
 }
 

@@ -120,11 +120,11 @@ fn long(alloc: Global, count: usize) -> Result<Vec<u8>, AllocError> {
 #[test]
 fn the_longest_block_and_one_byte_more(rt: HostRuntime) -> Result<(), Fail> {
     let alloc = rt.alloc();
-    let longest = long(alloc, 1_048_565)?;
-    let front = b"0 1048576 {verbatim:xxx";
+    let longest = long(alloc, 16_777_205)?;
+    let front = b"0 16777216 {verbatim:xxx";
     assert!(rt; prints_between(alloc, longest.as_slice(), front, b"xxx}\n"));
-    let longer = long(alloc, 1_048_566)?;
-    let text = b"fault 3 TooLong 1048575\n";
+    let longer = long(alloc, 16_777_206)?;
+    let text = b"fault 3 TooLong 16777215\n";
     assert!(rt; prints(alloc, longer.as_slice(), text, false));
     Ok(())
 }

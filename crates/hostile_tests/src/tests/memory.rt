@@ -69,7 +69,7 @@ fn told_without(alloc: Global, host: &mut Host<MemoryDisk>, event: Event) -> Res
     }
 }
 
-// The events that take no memory, and what is told of them.
+// Ends of a life and stale events, and what is told of them where a life ends with these lost.
 fn ending(alloc: Global, number: u32) -> Result<(Event, &'static str), Fail> {
     match number {
         0 => Ok((line(alloc, "stop a")?, "ended a Stopped lost 2\n")),
@@ -94,12 +94,45 @@ fn ending(alloc: Global, number: u32) -> Result<(Event, &'static str), Fail> {
     }
 }
 
+// A host with a request and a line that wait in the first life of session `a`.
+fn asked_request(alloc: Global) -> Result<Host<MemoryDisk>, Fail> {
+    let mut host = opened(alloc)?;
+    let script = "session a tab p\nnew 0 a x\ncomplete 1 1\neval 1";
+    for text in script.lines() {
+        take(&mut host, line(alloc, text)?)?;
+    }
+    Ok(host)
+}
+
+// Where a request waits first, an end gives no op.
 #[test]
 fn ends_take_no_memory(rt: HostRuntime) -> Result<(), Fail> {
     let alloc = rt.alloc();
     for number in 0..10u32 {
-        let mut host = asked_twice(alloc)?;
+        let mut host = asked_request(alloc)?;
         let (event, want) = ending(alloc, number)?;
+        let text = told_without(alloc, &mut host, event)?;
+        assert!(rt; are(&text, want), "event {number}");
+    }
+    Ok(())
+}
+
+// Where a line waits first, its field keeps the reason, and that takes memory.
+fn wants(number: u32) -> Option<&'static str> {
+    match number {
+        0 => Some("refused 17 OutOfMemory\n"),
+        1..=5 => Some("no memory\n"),
+        _ => None,
+    }
+}
+
+#[test]
+fn reasons_take_memory(rt: HostRuntime) -> Result<(), Fail> {
+    let alloc = rt.alloc();
+    for number in 0..10u32 {
+        let mut host = asked_twice(alloc)?;
+        let (event, told) = ending(alloc, number)?;
+        let want = wants(number).unwrap_or(told);
         let text = told_without(alloc, &mut host, event)?;
         assert!(rt; are(&text, want), "event {number}");
     }

@@ -69,7 +69,8 @@ fn row(number: u32) -> (Row<'static>, &'static str) {
     }
 }
 
-// Whether this is told of an evaluation in a session with these words, and the field has no answer then.
+// Whether this is told of an evaluation in a session with these words, and the field has no answer then
+// but a reason.
 fn tells<C: Children>(
     alloc: Global,
     children: &mut C,
@@ -79,7 +80,7 @@ fn tells<C: Children>(
     let mut host = opened(alloc)?;
     let made = told(alloc, &mut host, children, session)?;
     let text = told(alloc, &mut host, children, "eval 1\nwait")?;
-    let is_open = are(&printed(alloc, &host)?, "#1 a\n> x\n?\n");
+    let is_open = printed(alloc, &host)?.as_slice().starts_with(b"#1 a\n> x\n? ".as_slice());
     Ok(are(&made, "ok\nfield 1\n") && are(&text, want) && is_open)
 }
 

@@ -81,10 +81,10 @@ fn disk_of(alloc: Global, lens: &[u32]) -> Result<MemoryDisk, Fail> {
         byte = byte.wrapping_add(1);
         push_record(&mut area, *len, byte)?;
     }
-    if area.len() > 3_000_000 {
+    if area.len() > 40_000_000 {
         return Err("too long".into());
     }
-    match MemoryDisk::holding(alloc, 3_000_000, area) {
+    match MemoryDisk::holding(alloc, 40_000_000, area) {
         Ok(disk) => Ok(disk),
         Err(_) => Err("holding".into()),
     }
@@ -110,10 +110,31 @@ fn told(alloc: Global, disk: MemoryDisk) -> Result<(Vec<(u64, usize)>, u64), Fai
 #[test]
 fn the_longest_payload_is_read_in_parts(rt: HostRuntime) -> Result<(), Fail> {
     let alloc = rt.alloc();
-    let (payloads, longest) = told(alloc, disk_of(alloc, &[2_097_152])?)?;
-    assert_eq!(rt; payloads.as_slice(), [(10, 2_097_152)].as_slice());
+    let (payloads, longest) = told(alloc, disk_of(alloc, &[33_554_432])?)?;
+    assert_eq!(rt; payloads.as_slice(), [(10, 33_554_432)].as_slice());
     assert_eq!(rt; longest, 65_536);
     Ok(())
+}
+
+#[test]
+fn a_payload_beyond_two_mebibytes(rt: HostRuntime) -> Result<(), Fail> {
+    let alloc = rt.alloc();
+    let (payloads, _) = told(alloc, disk_of(alloc, &[0x0020_0001])?)?;
+    assert_eq!(rt; payloads.as_slice(), [(10, 2_097_153)].as_slice());
+    Ok(())
+}
+
+// One byte more than a payload may have.
+#[test]
+fn a_payload_that_is_too_long_is_damage(rt: HostRuntime) -> Result<(), Fail> {
+    let alloc = rt.alloc();
+    match Journal::open(alloc, disk_of(alloc, &[0x0200_0001])?) {
+        Ok(_) => Err("opens".into()),
+        Err(fault) => {
+            assert_eq!(rt; fault.cause, OpenCause::Damaged(10));
+            Ok(())
+        }
+    }
 }
 
 // The first window has the bytes below 65,536: the second record begins at each place around that.

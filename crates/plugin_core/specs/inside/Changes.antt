@@ -7,8 +7,8 @@ use Rattle.meta_format.specs.Found.{outers}
 use Rattle.meta_format.specs.declared.reader.FeedFault.{FeedFault}
 use Rattle.meta_format.specs.declared.reader.FeedFault.TheVariants as fault
 use Rattle.plugin_core.specs.declared.item.Item.{Item}
-use Rattle.plugin_core.specs.declared.step.Reason.{Reason}
-use Rattle.plugin_core.specs.declared.step.Reason.TheVariants as reason
+use Rattle.block_tree.specs.declared.reason.Reason.{Reason}
+use Rattle.block_tree.specs.declared.reason.Reason.TheVariants as reason
 use Rattle.plugin_core.specs.declared.step.Answered.{Answered}
 use Rattle.plugin_core.specs.declared.step.Answered.TheVariants as answered
 use Rattle.plugin_core.specs.declared.step.Step.{Step}

@@ -30,10 +30,10 @@ fn long_prompts(rt: HostRuntime) -> Result<(), Fail> {
     Ok(())
 }
 
-// The first 1,048,575 bytes of an outer block.
+// The first 16,777,215 bytes of an outer block.
 fn long_block(alloc: Global) -> Result<Vec<u8>, Fail> {
     let mut stream = Vec::from_slice(alloc, b"\x02verbatim:")?;
-    for _ in 0..1_048_565u32 {
+    for _ in 0..16_777_205u32 {
         stream.push(b'a')?;
     }
     Ok(stream)
@@ -56,7 +56,7 @@ fn the_longest_answer(rt: HostRuntime) -> Result<(), Fail> {
     let (text, over) = told_last(alloc, stream.as_slice(), b"\x05")?;
     assert!(rt; text.as_str().starts_with("line 1 [> ] \x02verbatim:aa"));
     assert!(rt; text.as_str().ends_with("aa\x05\nsend y\n"));
-    assert_eq!(rt; text.len(), 1_048_589 + 7);
+    assert_eq!(rt; text.len(), 16_777_229 + 7);
     assert!(rt; !over);
     Ok(())
 }

@@ -1,6 +1,8 @@
 -- The parts of a payload, read from left to right. No public clause speaks of it.
 use Rattle.std.specs.Prelude.{◌≡◌, ℕ, zero, suc, ◌==◌, List, [], ◌∷◌, length, take, drop, Option, Some, None, Result, Ok, Err, nat_lt, if◌then◌else◌}
 use Rattle.std.specs.Int.{w16, w32, from_be_bytes}
+use Rattle.block_tree.specs.declared.reason.Reason.{Reason}
+use Rattle.block_tree.specs.declared.reason.Reason.TheVariants as reason
 use Rattle.worksheet.specs.declared.op.Op.{Op}
 use Rattle.worksheet.specs.declared.op.Op.TheVariants as op
 use Rattle.recovery.specs.declared.reading.DecodeFault.{DecodeFault}
@@ -90,6 +92,25 @@ unfoldable pub clear_at : List ℕ → Option Op
 clear_at bytes = do
   id ← number_at bytes
   Some (op.Clear id.0)
+
+-- the reason with this number
+abbrev pub reason_with : ℕ → Option Reason
+reason_with n =
+    if n == 1 then Some reason.StartRefused else if n == 2 then Some reason.Ended else if n == 3 then Some reason.ReadFault
+    else if n == 4 then Some reason.SendFault else if n == 5 then Some reason.Stalled else if n == 6 then Some reason.BadTag
+    else if n == 7 then Some reason.TooDeep else if n == 8 then Some reason.TooLong else if n == 9 then Some reason.Stopped
+    else None
+
+-- that with the first byte
+abbrev pub reason_at : List ℕ → Option Reason
+reason_at [] = None
+reason_at (n ∷ rest) = reason_with n
+
+unfoldable pub lost_at : List ℕ → Option Op
+lost_at bytes = do
+  id ← number_at bytes
+  reason ← reason_at id.1
+  Some (op.Lost id.0 reason)
 
 -- of an answer: the number and the prompt, and the bytes of the output
 unfoldable pub asked_at : List ℕ → Option ((ℕ × List ℕ) × List ℕ)

@@ -1,5 +1,6 @@
 //! Payloads of ops.
 use super::desk::{answer, octets};
+use block_tree::Reason;
 use meta_format::read_block;
 use recovery::{DecodeFault, code_len, decode, encode};
 use std::alloc::Global;
@@ -82,6 +83,8 @@ fn the_lengths_of_payloads(rt: HostRuntime) -> Result<(), Fail> {
     assert_eq!(rt; code_len(&Op::Remove { id: 1 }), 5);
     assert_eq!(rt; code_len(&Op::Move { id: 1, after: 2 }), 9);
     assert_eq!(rt; code_len(&Op::Clear { id: 1 }), 5);
+    let reason = Reason::Ended;
+    assert_eq!(rt; code_len(&Op::Lost { id: 1, reason }), 6);
     assert_eq!(rt; set_len(alloc)?, 8);
     assert_eq!(rt; new_len(alloc)?, 10);
     assert_eq!(rt; answer_len(alloc, b"\x02verbatim:A\x05")?, 21);
@@ -90,10 +93,44 @@ fn the_lengths_of_payloads(rt: HostRuntime) -> Result<(), Fail> {
     Ok(())
 }
 
+// The reason with this number, where there is one.
+fn reason_read(alloc: Global, number: u8) -> Result<Option<Reason>, Fail> {
+    match decode(alloc, &[8, 0, 0, 0, 1, number]) {
+        Ok(Op::Lost { id: 1, reason }) => Ok(Some(reason)),
+        Ok(_) => Err("another op".into()),
+        Err(DecodeFault::Unreadable) => Ok(None),
+        Err(DecodeFault::OutOfMemory) => Err("memory".into()),
+    }
+}
+
+#[test]
+fn the_reasons_of_lost_lines(rt: HostRuntime) -> Result<(), Fail> {
+    let alloc = rt.alloc();
+    let reasons = [
+        Reason::StartRefused,
+        Reason::Ended,
+        Reason::ReadFault,
+        Reason::SendFault,
+        Reason::Stalled,
+        Reason::BadTag,
+        Reason::TooDeep,
+        Reason::TooLong,
+        Reason::Stopped,
+    ];
+    for number in 1..10u8 {
+        let want = reasons[usize::from(number) - 1];
+        assert!(rt; reason_read(alloc, number)? == Some(want), "{number}");
+    }
+    assert!(rt; reason_read(alloc, 0)?.is_none() && reason_read(alloc, 10)?.is_none());
+    assert!(rt; is_unreadable(alloc, b"\x08\x00\x00\x00\x01")?);
+    assert!(rt; is_unreadable(alloc, b"\x08\x00\x00\x00\x01\x02\x00")?);
+    Ok(())
+}
+
 #[test]
 fn an_unknown_first_byte_or_flag_is_unreadable(rt: HostRuntime) -> Result<(), Fail> {
     let alloc = rt.alloc();
-    for kind in [0u8, 8, 255] {
+    for kind in [0u8, 9, 255] {
         assert!(rt; is_unreadable(alloc, &[kind, 0, 0, 0, 1])?);
     }
     assert!(rt; !is_unreadable(alloc, b"\x01\x01a\x01\x01\x00\x02sh")?);

@@ -104,7 +104,7 @@ fn programs_that_are_no_interpreters(rt: HostRuntime) -> Result<(), Fail> {
     let script =
         "session a plain /nonexistent/p\nsession b plain true\nnew 0 a x\nnew 1 b y\neval 1\neval 2\nwait\nprint\n";
     let text =
-        b"ok\nok\nfield 1\nfield 2\nasked\nended a StartRefused lost 1\nasked\nended b Ended lost 1\n#1 a\n> x\n?\n#2 b\n> y\n?\n";
+        b"ok\nok\nfield 1\nfield 2\nasked\nended a StartRefused lost 1\nasked\nended b Ended lost 1\n#1 a\n> x\n? StartRefused\n#2 b\n> y\n? Ended\n";
     assert!(rt; writes(&rt, "none.sheet", script, text));
     remove(&rt, &["none.sheet", "none.sheet.alt"])?;
     Ok(())

@@ -1,13 +1,14 @@
 -- What the store does for an event.
-use Rattle.std.specs.Prelude.{◌≡◌, ◌⊎◌, ◌+◌, ◌==◌, ℕ, List, [], ◌∷◌, ◌++◌, length, true, false, Option, Some, None, option_map}
-use Rattle.disk_model.specs.Disk.{Image, InModel, Leaves, Rises}
+use Rattle.std.specs.Prelude.{◌≡◌, ◌⊎◌, ◌+◌, ◌==◌, ℕ, List, [], ◌∷◌, ◌++◌, length, true, false, Option, Some, None, option_map, option_and_then}
+use Rattle.disk_model.specs.Disk.{DiskView, Image, InModel, Leaves, Rises}
 use Rattle.worksheet.specs.declared.op.Op.{Op}
 use Rattle.worksheet.specs.declared.op.Op.TheVariants as op
 use Rattle.worksheet.specs.declared.refusal.Refusal.{Refusal}
 use Rattle.worksheet.specs.declared.refusal.Refusal.TheVariants as refusal
 use Rattle.worksheet.specs.Contents.{Contents}
 use Rattle.worksheet.specs.Ops.{sheet_of}
-use Rattle.worksheet.specs.Checks.{first_of, first_refusal}
+use Rattle.worksheet.specs.Checks.{first_of, first_refusal, has_field}
+use Rattle.block_tree.specs.declared.reason.Reason.{Reason}
 use Rattle.recovery.specs.Code.{code_of}
 use Rattle.recovery.specs.Sheets.{StoreView, IsSheetImage, IsEither, SameStore}
 use Rattle.session_engine.specs.declared.outcome.HostFault.{HostFault}
@@ -15,17 +16,24 @@ use Rattle.session_engine.specs.declared.outcome.HostFault.TheVariants as faults
 use Rattle.std.specs.List.{AllByRecursion}
 use Rattle.plugin_core.specs.declared.item.Item.{Item}
 use Rattle.plugin_core.specs.declared.item.Item.TheVariants as item
+use Rattle.plugin_core.specs.declared.step.Answered.{Answered}
+use Rattle.plugin_core.specs.declared.step.Answered.TheVariants as answered
+use Rattle.plugin_core.specs.declared.step.Ended.{Ended}
+use Rattle.plugin_core.specs.Items.{first_line_of}
 use Rattle.session_engine.specs.declared.engine.Engine.{Engine}
 use Rattle.session_engine.specs.declared.outcome.Outcome.{Outcome}
 use Rattle.session_engine.specs.declared.reply.Reply.{Reply}
 use Rattle.session_engine.specs.declared.reply.Reply.TheVariants as reply
 use Rattle.session_engine.specs.declared.outcome.Effect.TheVariants as effect
-use Rattle.session_engine.specs.World.{World, Going, waiting_in, with_op, fits, fits_in, life_of, session_of_field, request_of_field}
+use Rattle.session_engine.specs.World.{World, Going, waiting_in, with_op, with_op_if, fits, fits_in, if_fits, kept_at_end, life_of, sheet_in, session_of_field, request_of_field}
 use Rattle.session_engine.specs.Refused.{command_refusals}
 use Rattle.session_engine.specs.declared.command.Command.TheVariants as command
 use Rattle.session_engine.specs.Does.{replies, refused}
 use Rattle.session_engine.specs.inside.Parts.{eval_refusals, asks, with_item}
 use Rattle.session_engine.specs.inside.Engines.{StandsAt}
+use Rattle.session_engine.specs.declared.commits.LoseFault.{LoseFault}
+use Rattle.session_engine.specs.declared.commits.LoseFault.TheVariants as loses
+use Rattle.session_engine.specs.Host.{OnDisk}
 
 -- the op is on the disk and in the worksheet, behind these
 pub record Committed (old : StoreView) (ops : List Op) (o : Op) (new : StoreView) : Type 0 where
@@ -51,7 +59,7 @@ AllowedIf sheet None = Unit {0}
 AllowedIf sheet (Some o) = first_refusal sheet o ≡ None
 
 abbrev pub CommittedIf : StoreView → List Op → Option Op → StoreView → Type 0
-CommittedIf old ops None new = new ≡ old
+CommittedIf old ops None new = SameStore old new
 CommittedIf old ops (Some o) new = Committed old ops o new
 
 abbrev pub IsEitherIf : List Op → Option Op → Image → Type 0
@@ -61,10 +69,56 @@ IsEitherIf ops (Some o) i = IsEither ops o i
 abbrev pub NotKept : StoreView → Option Op → StoreView → HostFault → Type 0
 NotKept old None new faults.Disk = ⊥
 NotKept old (Some o) new faults.Disk = (new.sheet.contents ≡ old.sheet.contents) × Rises old.disk.faults new.disk.faults
-NotKept old o new faults.OutOfMemory = SameStore old new
+NotKept old None new faults.OutOfMemory = ⊥
+NotKept old (Some o) new faults.OutOfMemory = SameStore old new
 NotKept old None new faults.JournalFull = ⊥
 NotKept old (Some o) new faults.JournalFull = SameStore old new × (fits_in old.disk.room old.end o ≡ false)
 NotKept old o new faults.Closed = ⊥
+
+-- Lines that are lost.
+
+-- the op of a line that is lost, if one is, where it fits
+abbrev pub kept_for : ℕ → ℕ → Reason → Option ℕ → Option Op
+kept_for room end why line = option_and_then (λ id. if_fits room end (op.Lost id why)) line
+
+-- the line is that of a field that there is
+abbrev pub HasFieldIf : Contents → Option ℕ → Type 0
+HasFieldIf sheet None = Unit {0}
+HasFieldIf sheet (Some id) = has_field sheet id ≡ true
+
+-- so is the first one that an end leaves
+abbrev pub LosesField : Contents → Option Ended → Type 0
+LosesField sheet None = Unit {0}
+LosesField sheet (Some e) = HasFieldIf sheet (first_line_of e.lost)
+
+abbrev pub NotLost : StoreView → Option Op → StoreView → LoseFault → Type 0
+NotLost old None new fault = ⊥
+NotLost old (Some o) new loses.OutOfMemory = SameStore old new
+NotLost old (Some o) new loses.Disk = (new.sheet.contents ≡ old.sheet.contents) × Rises old.disk.faults new.disk.faults
+
+-- the op of the answer to a line
+abbrev pub answer_op : Option Answered → Option Op
+answer_op None = None
+answer_op (Some (answered.Banner b)) = None
+answer_op (Some (answered.Line id prompt output)) = Some (op.Answer id prompt output)
+answer_op (Some (answered.Complete id result)) = None
+
+-- what becomes of a host that loses the first line of a life: its reason is kept, if there is room
+pub record Loses {D : Type 0} (w : World) (name : List ℕ) (why : Reason) (old new : Engine D) : Type 0 where
+  pub stands : StandsAt new (with_op_if (kept_at_end w why (life_of w name)) w)
+  pub disk : OnDisk w.ops (kept_at_end w why (life_of w name)) old.store.disk new.store.disk
+
+-- or of one that can't keep it
+abbrev pub CauseOfLoss : List Op → Op → DiskView → DiskView → LoseFault → Type 0
+CauseOfLoss ops o old new loses.OutOfMemory = new ≡ old
+CauseOfLoss ops o old new loses.Disk = Rises old.faults new.faults × OnDisk ops (Some o) old new
+
+pub record FailsToLose {D : Type 0} (w : World) (name : List ℕ) (why : Reason) (old new : Engine D) (fault : LoseFault) : Type 0 where
+  pub lost : Op
+  pub is : kept_at_end w why (life_of w name) ≡ Some lost
+  pub contents : new.store.sheet.contents ≡ sheet_in w
+  pub cause : CauseOfLoss w.ops lost old.store.disk new.store.disk fault
+  pub still : fault ≡ loses.OutOfMemory → StandsAt new w
 
 -- an op that takes no field away, or another one
 abbrev pub Spares : ℕ → Op → Type 0
@@ -75,6 +129,7 @@ Spares id (op.Remove other) = (other == id) ≡ false
 Spares id (op.Move other after) = Unit {0}
 Spares id (op.Clear other) = Unit {0}
 Spares id (op.Answer other prompt output) = Unit {0}
+Spares id (op.Lost other reason) = Unit {0}
 
 -- no waiting line is that of a field that the op takes away
 abbrev pub SparesItem : Op → Item → Type 0

@@ -6,8 +6,8 @@ use Rattle.worksheet.specs.declared.op.Op.TheVariants as op
 use Rattle.worksheet.specs.declared.refusal.Refusal.{Refusal}
 use Rattle.worksheet.specs.declared.refusal.Refusal.TheVariants as refusal
 use Rattle.worksheet.specs.Checks.{first_of}
-use Rattle.plugin_core.specs.declared.step.Reason.{Reason}
-use Rattle.plugin_core.specs.declared.step.Reason.TheVariants as reason
+use Rattle.block_tree.specs.declared.reason.Reason.{Reason}
+use Rattle.block_tree.specs.declared.reason.Reason.TheVariants as reason
 use Rattle.plugin_core.specs.Past.{received, stream_of}
 use Rattle.plugin_core.specs.Steps.{Reads, step_of}
 use Rattle.session_engine.specs.declared.command.Command.{Command}
@@ -18,7 +18,7 @@ use Rattle.session_engine.specs.declared.event.Event.{Event}
 use Rattle.session_engine.specs.declared.event.Event.TheVariants as event
 use Rattle.session_engine.specs.declared.outcome.Outcome.{Outcome}
 use Rattle.session_engine.specs.declared.reply.Reply.TheVariants as reply
-use Rattle.session_engine.specs.World.{World, Going, sheet_in, life_of, with_number, session_of_field, line_of_field, request_of_field, with_op, with_op_if}
+use Rattle.session_engine.specs.World.{World, Going, sheet_in, life_of, with_number, session_of_field, line_of_field, request_of_field, with_op, with_op_if, kept_at_end}
 use Rattle.session_engine.specs.Refused.{command_refusals, command_takes_memory}
 use Rattle.session_engine.specs.Does.{replies, refused, ends, told_of, with_piece, op_by}
 use Rattle.session_engine.specs.inside.Parts.{asks, with_item, without_life, goes_on}
@@ -49,18 +49,18 @@ after w (command.Move id place) = with_op (op.Move id place) w
 after w (command.Clear id) = with_op (op.Clear id) w
 after w (command.Eval id) = with_op (op.Clear id) (with_item w (session_of_field w id) (line_of_field w id) (life_of w (session_of_field w id)))
 after w (command.Complete id cursor) = with_item w (session_of_field w id) (request_of_field w id cursor) (life_of w (session_of_field w id))
-after w (command.Stop name) = without_life name w
+after w (command.Stop name) = with_op_if (kept_at_end w reason.Stopped (life_of w name)) (without_life name w)
 
 abbrev pub Commanded : World → Command → Option Refusal → Outcome → World → Type 0
 Commanded w c (Some r) o v = (o ≡ refused r) × (v ≡ w)
-Commanded w c None o v = ((o ≡ outcome_of w c) × (v ≡ after w c)) ⊎ ((command_takes_memory c ≡ true) × (o ≡ refused refusal.OutOfMemory) × (v ≡ w))
+Commanded w c None o v = ((o ≡ outcome_of w c) × (v ≡ after w c)) ⊎ ((command_takes_memory w c ≡ true) × (o ≡ refused refusal.OutOfMemory) × (v ≡ w))
 
 -- a piece of a life, where these are the blocks of the stream with it, and this the fault that it brings
 abbrev pub IsPieced : World → Going → List ℕ → List Outer → Option Kind → Outcome → World → Type 0
 IsPieced w l piece blocks fault o v =
     Reads (stream_of (l.past ++ received piece ∷ [])) blocks fault
     × (o ≡ told_of l (step_of l.past l.blocks piece blocks fault))
-    × (v ≡ with_op_if (op_by (step_of l.past l.blocks piece blocks fault).answered) (goes_on (with_piece l piece blocks) (step_of l.past l.blocks piece blocks fault).ended w))
+    × (v ≡ with_op_if (op_by w.room w.end (step_of l.past l.blocks piece blocks fault).answered (step_of l.past l.blocks piece blocks fault).ended) (goes_on (with_piece l piece blocks) (step_of l.past l.blocks piece blocks fault).ended w))
 
 -- nothing comes of it
 abbrev pub Ignored : World → Outcome → World → Type 0
@@ -72,7 +72,7 @@ Pieced w (Some l) piece o v = (blocks : List Outer) × (fault : Option Kind) × 
 
 abbrev pub Ended_by : World → Option Going → Reason → Bool → Outcome → World → Type 0
 Ended_by w None why killed o v = Ignored w o v
-Ended_by w (Some l) why killed o v = (o ≡ ends l why killed) × (v ≡ without_life l.name w)
+Ended_by w (Some l) why killed o v = (o ≡ ends l why killed) × (v ≡ with_op_if (kept_at_end w why (Some l)) (without_life l.name w))
 
 -- an event of the child of a life, where it goes on
 abbrev pub Childed : World → Option Going → ChildEvent → Outcome → World → Type 0

@@ -8,8 +8,8 @@ use Rattle.worksheet.specs.Checks.{session_named}
 use Rattle.worksheet.specs.Checks.{refusals as sheet_refusals}
 use Rattle.plugin_core.specs.declared.item.Item.{Item}
 use Rattle.plugin_core.specs.declared.step.Ended.{Ended}
-use Rattle.plugin_core.specs.declared.step.Reason.{Reason}
-use Rattle.plugin_core.specs.declared.step.Reason.TheVariants as reason
+use Rattle.block_tree.specs.declared.reason.Reason.{Reason}
+use Rattle.block_tree.specs.declared.reason.Reason.TheVariants as reason
 use Rattle.plugin_core.specs.Past.{accepted}
 use Rattle.plugin_core.specs.Steps.{sent_by}
 use Rattle.session_engine.specs.declared.event.ChildEvent.{ChildEvent}
@@ -36,6 +36,7 @@ checks w (op.Remove id) = second (refusal.InFlight, in_flight w id) (sheet_refus
 checks w (op.Move id after) = sheet_refusals (sheet_in w) (op.Move id after)
 checks w (op.Clear id) = second (refusal.InFlight, in_flight w id) (sheet_refusals (sheet_in w) (op.Clear id))
 checks w (op.Answer id prompt output) = sheet_refusals (sheet_in w) (op.Answer id prompt output)
+checks w (op.Lost id reason) = sheet_refusals (sheet_in w) (op.Lost id reason)
 
 abbrev pub op_refusals : World → Op → List (Refusal × Bool)
 op_refusals w o = checks w o ++ full w o ∷ []

@@ -9,10 +9,17 @@ use Rattle.plugin_core.specs.Kept.{InterpreterView}
 use Rattle.session_engine.specs.Named.{without_named, replace_named}
 use Rattle.session_engine.specs.declared.table.Running.{Running}
 use Rattle.session_engine.specs.Host.{name_of, life_in, number_in}
+use Rattle.session_engine.specs.World.{Going, waiting_in}
+use Rattle.plugin_core.specs.Items.{first_line_of}
 
 abbrev pub has_number : ℕ → Option Running → Bool
 has_number number None = false
 has_number number (Some r) = r.life.number == number
+
+-- the field of the first item that waits in this life, where that is a line
+abbrev pub line_in : Option Going → Option ℕ
+line_in None = None
+line_in (Some l) = first_line_of (waiting_in l)
 
 -- the life of this session is taken out, if there is one
 abbrev pub TakesOut : List ℕ → List Running → List Running → Option Running → Type 0

@@ -132,7 +132,7 @@ fn half_an_answer_and_the_end(rt: HostRuntime) -> Result<(), Fail> {
             (Step::End(1), "ended a Ended lost 3\nkill a 1\n"),
         ],
     )?;
-    shows_no_life(alloc, host, "1 x ?\n2 y ?\n3 z ?\n")
+    shows_no_life(alloc, host, "1 x ? Ended\n2 y ?\n3 z ?\n")
 }
 
 #[test]
@@ -233,7 +233,7 @@ fn a_stopped_session(rt: HostRuntime) -> Result<(), Fail> {
             (Step::Stop("a"), "ok\n"),
             (Step::Stop("b"), "refused 1 NoSession\n"),
         ],
-        "1 x ?\n2 y ?\n",
+        "1 x ? Stopped\n2 y ?\n",
     )
 }
 

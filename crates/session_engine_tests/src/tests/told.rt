@@ -164,7 +164,10 @@ fn spelling(alloc: Global, block: &Block) -> Result<Vec<u8>, OutOfMemory> {
 fn add_field(alloc: Global, text: &mut String, field: &Field) -> Result<(), OutOfMemory> {
     let (id, input) = (field.id, field.input.as_str());
     let Some(answer) = &field.answer else {
-        return writeln!(text, "{id} {input} ?");
+        return match field.lost {
+            Some(reason) => writeln!(text, "{id} {input} ? {reason:?}"),
+            None => writeln!(text, "{id} {input} ?"),
+        };
     };
     let output = spelling(alloc, &answer.output)?;
     let (prompt, output) = (shown(answer.prompt.as_slice()), shown(output.as_slice()));
@@ -183,7 +186,7 @@ fn add_fields<D: Disk>(
 }
 
 /// The fields in order: the number, the prompt and the input, and the output in its canonical spelling
-/// or `?`.
+/// or `?`, with the reason if there is one.
 pub fn fields<D: Disk>(alloc: Global, host: &Host<D>) -> Result<String, OutOfMemory> {
     let mut text = String::new(alloc);
     add_fields(alloc, &mut text, host)?;

@@ -132,6 +132,6 @@ fn an_end_loses_the_lines_that_wait(rt: HostRuntime) {
     ];
     let text =
         b"ok\nfield 1\nfield 2\nfield 3\nasked\nasked\nasked\nbanner a\nended a Ended lost 3\n";
-    let sheet = b"#1 a\n> x\n?\n#2 a\n> y\n?\n#3 a\n> z\n?\n";
+    let sheet = b"#1 a\n> x\n? Ended\n#2 a\n> y\n?\n#3 a\n> z\n?\n";
     assert!(rt; plays(rt.alloc(), &all, (text, sheet)));
 }

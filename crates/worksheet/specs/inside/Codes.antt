@@ -3,6 +3,8 @@ use Rattle.std.specs.Prelude.{ℕ, Bool, List, Option, refl}
 use Rattle.std.specs.Coded.{Coded, code_by, coded×, coded_ℕ, coded_bool, coded_list, coded_option}
 use Rattle.block_tree.specs.Tree.{Tree}
 use Rattle.block_tree.specs.inside.Code.{coded_tree}
+use Rattle.block_tree.specs.inside.ReasonCode.{coded_reason}
+use Rattle.block_tree.specs.declared.reason.Reason.{Reason}
 use Rattle.worksheet.specs.declared.field.Answer.{Answer}
 use Rattle.worksheet.specs.declared.field.Field.{Field}
 use Rattle.worksheet.specs.declared.field.Session.{Session}
@@ -16,8 +18,8 @@ coded_answer = code_by (List ℕ × Tree) (coded× coded_bytes coded_tree)
     (λ a. (a.prompt, a.output)) (λ p. record { prompt = p.0; output = p.1 }) (λ _. refl)
 
 abbrev pub coded_field : Coded Field
-coded_field = code_by (ℕ × (List ℕ × (List ℕ × Option Answer))) (coded× coded_ℕ (coded× coded_bytes (coded× coded_bytes (coded_option coded_answer))))
-    (λ f. (f.id, (f.session, (f.input, f.answer)))) (λ p. record { id = p.0; session = p.1.0; input = p.1.1.0; answer = p.1.1.1 }) (λ _. refl)
+coded_field = code_by (ℕ × (List ℕ × (List ℕ × (Option Answer × Option Reason)))) (coded× coded_ℕ (coded× coded_bytes (coded× coded_bytes (coded× (coded_option coded_answer) (coded_option coded_reason)))))
+    (λ f. (f.id, (f.session, (f.input, (f.answer, f.lost))))) (λ p. record { id = p.0; session = p.1.0; input = p.1.1.0; answer = p.1.1.1.0; lost = p.1.1.1.1 }) (λ _. refl)
 
 abbrev pub coded_session : Coded Session
 coded_session = code_by (List ℕ × (Bool × List (List ℕ))) (coded× coded_bytes (coded× coded_bool (coded_list coded_bytes)))

@@ -1,5 +1,5 @@
 //! Ops in short, and the steps of a test with what has to come of each.
-use block_tree::{Block, Item, Node, Octets, OutOfMemory, Sequence, Tag};
+use block_tree::{Block, Item, Node, Octets, OutOfMemory, Reason, Sequence, Tag};
 use std::alloc::Global;
 use std::test::Fail;
 use tests_desk::exhausted;
@@ -18,6 +18,8 @@ pub enum Given<'a> {
     Move(u32, u32),
     /// An answer to this field with this prompt.
     Answer(u32, &'a str),
+    /// This field's line is lost for this reason.
+    Lost(u32, Reason),
 }
 
 /// What is looked at.
@@ -31,8 +33,10 @@ pub enum Seen<'a> {
     /// The session of this name has so many words; none where there is no such session.
     Words(&'a str, Option<usize>),
     NoField(u32),
-    /// Field 1 is one of session a with this input and no answer.
+    /// Field 1 is one of session a with this input, no answer and no reason.
     Open(&'a str),
+    /// Field 1 has no answer, and this reason.
+    Lost(Reason),
     /// Field 1 is answered by verbatim:A under this prompt.
     Answered(&'a str),
     /// Whether there is room for an op.
@@ -128,6 +132,10 @@ fn op(alloc: Global, given: &Given<'_>) -> Result<Op, Fail> {
             after: *after,
         }),
         Given::Answer(id, prompt) => answer(alloc, *id, prompt),
+        Given::Lost(id, reason) => Ok(Op::Lost {
+            id: *id,
+            reason: *reason,
+        }),
     }
 }
 
@@ -240,8 +248,16 @@ fn is_open(sheet: &Sheet, input: &str) -> bool {
         Some(field) => {
             field.input.as_str() == input
                 && field.answer.is_none()
+                && field.lost.is_none()
                 && field.session.as_slice() == b"a".as_slice()
         }
+        None => false,
+    }
+}
+
+fn is_lost(sheet: &Sheet, reason: Reason) -> bool {
+    match sheet.field(1) {
+        Some(field) => field.answer.is_none() && field.lost == Some(reason),
         None => false,
     }
 }
@@ -279,6 +295,7 @@ fn sees(alloc: Global, sheet: &Sheet, seen: &Seen<'_>) -> Result<bool, Fail> {
         Seen::Words(name, count) => Ok(words_of(sheet, name) == *count),
         Seen::NoField(id) => Ok(sheet.field(*id).is_none()),
         Seen::Open(input) => Ok(is_open(sheet, input)),
+        Seen::Lost(reason) => Ok(is_lost(sheet, *reason)),
         Seen::Answered(prompt) => has_answer(alloc, sheet, prompt),
         Seen::Room(given, want) => Ok(sheet.has_room(&op(alloc, given)?) == *want),
         Seen::Prompt(count, want) => Ok(refusal_of_prompt(alloc, sheet, *count)? == *want),

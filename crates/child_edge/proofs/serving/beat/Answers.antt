@@ -8,7 +8,12 @@ returns-clause-ok g c = λ w h.
     let k = c.carry_out-due.ensures in (
       record { event = c.args.event; outcome = c.in_ok-reply.field-0; answer = k.0 },
       behind w s.did,
-      record { event = refl; steps = (s.did, s.may, s.told, refl); carried = k.1 },
+      record {
+        event = refl;
+        steps = (s.did, s.may, s.told, refl);
+        kept = record { same = c.in_ok-reply.ensures.same; moments = s.disk; holds = s.stands.stands.images };
+        carried = k.1;
+      },
       s.stands,
       refl,
       k.2,

@@ -2,7 +2,7 @@ use Rattle.std.proofs.Common.{◌++◌, ◌≤◌, [], ◌∷◌, Some, refl, sy
 use Rattle.child_edge.specs.Faithful.{at, due_after}
 use Rattle.child_edge.proofs.Chains.{Follows-push, told-on}
 use Rattle.child_edge.proofs.Ranks.{rank, rank-none, rank-most, rank-on, rank-told}
-use Rattle.child_edge.proofs.Faulting.{same-at, same-on, stopped_since}
+use Rattle.child_edge.proofs.Faulting.{same-at, same-on}
 use Rattle.child_edge.proofs.serving.follow.Goals as goal
 
 pub loop-init : goal.loop-init
@@ -26,9 +26,10 @@ returns-in-Err-clause-err g c = λ w h.
     record {
       beats = r.0;
       leads = r.1;
+      disk = c.loop.host.store.disk;
       failed = c.in-Some.event;
       form = rw c.in-Err.ensures.err_children due;
-      stopped = stopped_since c.in-Err.fault r.1 c.in-Some.event c.args.host.now.store.disk.faults c.loop.host.store.disk.faults c.beat.new.host c.loop.invariant.same.later s;
+      stopped = s;
       replied = r.4;
     }
 
@@ -46,7 +47,7 @@ loop-preserved g c = record {
       let less = rank-told r.1 c.in-Some.event b.2.steps.0 b.0.outcome b.0.answer b.2.steps.1 b.2.steps.2 in (
         r.0 ++ b.0 ∷ [],
         b.1,
-        rw b.5 (Follows-push g.C.Children.after (at w c.args.children.now) (Some c.args.event) r.0 c.in-Some.event (at r.1 c.loop.children) b.0 (at b.1 c.beat.new.children) due b.2),
+        rw b.5 (Follows-push g.C.Children.after (at w c.args.children.now c.args.host.now.store.disk) (Some c.args.event) r.0 c.in-Some.event (at r.1 c.loop.children c.loop.host.store.disk) b.0 (at b.1 c.beat.new.children c.beat.new.host.store.disk) due b.2),
         b.3,
         told-on c.args.replies.now.items c.loop.replies.items c.tell.new.replies.items r.0 b.0 c.in-Ok.reply r.4 c.tell.ensures.items b.4,
         rank-on c.loop.due c.in-Ok.next (due_after b.0) c.in-Some.event c.loop.counter c.in-Some.is b.5 less r.5,

@@ -11,7 +11,7 @@ abbrev pub invariant-loop : goal.invariant-loop
 invariant-loop g l = record {
   room : vec_len l.replies + 3 ≤ vec_capacity l.replies + l.counter;
   same : SameDisk l.fn.host.store.disk l.host.store.disk;
-  runs : (w : World) → IsHost l.fn.host w → (bs : List Beat) × (v : World) × Follows g.C.Children.after (at w l.fn.children) (Some l.fn.event) bs l.due (at v l.children)
+  runs : (w : World) → IsHost l.fn.host w → (bs : List Beat) × (v : World) × Follows g.C.Children.after (at w l.fn.children l.fn.host.store.disk) (Some l.fn.event) bs l.due (at v l.children l.host.store.disk)
       × IsHost l.host v × (l.replies.items ≡ l.fn.replies.items ++ told bs) × (rank l.due + l.counter ≤ 3);
   still : l.fn.host.closed ≡ true → (l.counter ≡ 0) × (l.due ≡ Some l.fn.event) × (l.host ≡ l.fn.host) × (l.children ≡ l.fn.children) × (l.replies.items ≡ l.fn.replies.items);
 }

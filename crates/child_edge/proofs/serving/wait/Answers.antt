@@ -1,77 +1,105 @@
-use Rattle.std.proofs.Common.{rules, ℕ, ◌<◌, nat_lt, length, ◌++◌, [], refl, sym, ap, ◌∙◌, subst, arith, append-nil}
-use Rattle.child_edge.specs.Edge.{HeardOne}
-use Rattle.child_edge.specs.Faithful.{at}
+use Rattle.std.proofs.Common.{◌≡◌, true, false, ◌++◌, [], refl, sym, ap, ◌∙◌, subst, arith}
+use Rattle.session_engine.specs.Host.{IsHost}
+use Rattle.child_edge.specs.Faithful.{at, Waited}
+use Rattle.child_edge.specs.Broken.{WaitSoFar}
 use Rattle.child_edge.specs.Limits.{most_turns}
-use Rattle.child_edge.proofs.Waits.{Turns-more, told-join, by_cause}
-use Rattle.child_edge.proofs.Faulting.{same-on, stopped_since}
+use Rattle.child_edge.specs.Steps.{Stepped}
+use Rattle.child_edge.proofs.Waits.{told-join, by_cause}
+use Rattle.child_edge.proofs.Stepping.{came_begun, came_so_far}
+use Rattle.child_edge.proofs.Timeline.{waited_from, so_far_from, waited_broke}
+use Rattle.child_edge.proofs.Faulting.{same-at, same-on}
 use Rattle.child_edge.proofs.serving.wait.Goals as goal
 
 pub returns-in_default-clause-err : goal.returns-in_default-clause-err
 returns-in_default-clause-err g c = λ w h.
-    let r = c.loop-number.invariant.runs w h in
+    so_far_from g.C.Children.after most_turns (at w c.args.children.now c.args.host.now.store.disk) c.args.host.now c.args.children.now c.new-replies.result.items h.stands.images (record {
+      beats = [];
+      leads = w;
+      form = record {
+        whole = 0;
+        fits = omega arith;
+        mid = at w c.args.children.now c.args.host.now.store.disk;
+        before = [];
+        last = [];
+        turns = (refl, refl);
+        part = record { whole = 0; fits = omega arith; are_done = (refl, refl) };
+        beats = refl;
+      };
+      stands = h;
+      replied = c.new-replies.ensures.items;
+    })
+
+pub loop-replies-init : goal.loop-replies-init
+loop-replies-init g c = record {
+  same = same-at c.args.host.now.store.disk;
+  runs = λ w h. record {
+    beats = [];
+    leads = w;
+    form = came_begun g.C.Children.after c.in-Ok.wait w c.args.children.now c.args.host.now.store.disk (c.in-Ok.ensures.begun w h);
+    stands = h;
+    replied = c.new-replies.ensures.items;
+  };
+  still = λ e. (c.in-Ok.ensures.whole, refl, c.new-replies.ensures.items, refl);
+}
+
+pub loop-replies-preserved : goal.loop-replies-preserved
+loop-replies-preserved g c =
+    let yes : c.in-Ok-true.field-0 ≡ true = c.in-Ok-true.field-0-test in
     record {
+      same = same-on c.args.host.now.store.disk c.loop-replies.host.store.disk c.next.new.host.store.disk c.loop-replies.invariant.same c.in-Ok-true.ensures.same;
+      runs = λ w h.
+          let r = c.loop-replies.invariant.runs w h in
+          let p = subst
+          (Stepped g.C.Children.after c.next.new.self (at w c.args.children.now c.args.host.now.store.disk) r.beats r.leads c.loop-replies.host c.next.new.host c.loop-replies.children c.next.new.children c.loop-replies.replies.items c.next.new.replies.items)
+          yes (c.in-Ok-true.ensures.ok (at w c.args.children.now c.args.host.now.store.disk) r.beats r.leads r.stands r.form) in
+          record {
+            beats = r.beats ++ p.beats;
+            leads = p.leads;
+            form = p.form;
+            stands = p.stands;
+            replied = told-join [] c.loop-replies.replies.items c.next.new.replies.items r.beats p.beats r.replied p.replied;
+          };
+      still = λ e.
+          let s = c.loop-replies.invariant.still e in
+          let no : c.in-Ok-true.field-0 ≡ false = c.in-Ok-true.ensures.closed (ap (λ h. h.closed) s.1 ∙ e) in
+          let both : true ≡ false = sym yes ∙ no in cc;
+    }
+
+pub returns-in-Ok-false-clause-ok : goal.returns-in-Ok-false-clause-ok
+returns-in-Ok-false-clause-ok g c = λ w h.
+    let no : c.in-Ok-false.field-0 ≡ false = c.in-Ok-false.field-0-test in
+    let r = c.loop-replies.invariant.runs w h in
+    let q = subst
+    (Stepped g.C.Children.after c.next.new.self (at w c.args.children.now c.args.host.now.store.disk) r.beats r.leads c.loop-replies.host c.next.new.host c.loop-replies.children c.next.new.children c.loop-replies.replies.items c.next.new.replies.items)
+    no (c.in-Ok-false.ensures.ok (at w c.args.children.now c.args.host.now.store.disk) r.beats r.leads r.stands r.form) in
+    waited_from g.C.Children.after most_turns (at w c.args.children.now c.args.host.now.store.disk) c.next.new.host c.next.new.children c.next.new.replies.items h.stands.images (record {
       beats = r.beats;
       leads = r.leads;
-      form = record {
-        whole = c.loop-number.number;
-        fits = omega arith;
-        mid = at r.leads c.loop-number.children;
-        before = r.beats;
-        last = [];
-        turns = r.form;
-        part = record { whole = 0; fits = omega arith; are_done = (refl, refl) };
-        beats = sym (append-nil r.beats);
-      };
-      stands = r.stands;
-      replied = r.replied;
-    }
+      form = subst (λ x. Waited g.C.Children.after most_turns (at w c.args.children.now c.args.host.now.store.disk) r.beats (at r.leads x c.next.new.host.store.disk)) (sym q.2)
+          (subst (λ x. Waited g.C.Children.after most_turns (at w c.args.children.now c.args.host.now.store.disk) r.beats (at r.leads c.loop-replies.children x.store.disk)) (sym q.1) q.0);
+      stands = subst (λ x. IsHost x r.leads) (sym q.1) r.stands;
+      replied = q.3 ∙ r.replied;
+    })
 
 pub returns-in-Err-clause-err : goal.returns-in-Err-clause-err
 returns-in-Err-clause-err g c = λ w h.
-    let r = c.loop-number.invariant.runs w h in
-    let seats = c.as_slice.ensures.value ∙ c.in-Ok.ensures r.leads r.stands in
-    by_cause c.in-Err.cause _ _ _ _ (c.in-Err.ensures.err r.leads r.stands)
-    (λ f p. record {
+    let r = c.loop-replies.invariant.runs w h in
+    by_cause c.in-Err.cause _ _ _ _ (c.in-Err.ensures.err (at w c.args.children.now c.args.host.now.store.disk) r.beats r.leads r.stands r.form)
+    (λ f p. waited_broke g.C.Children.after most_turns (at w c.args.children.now c.args.host.now.store.disk) c.next.new.host c.next.new.children c.next.new.replies.items f h.stands.images (record {
       beats = r.beats ++ p.beats;
       leads = p.leads;
+      disk = p.disk;
       failed = p.failed;
-      form = record { whole = c.loop-number.number; fits = omega arith; mid = at r.leads c.loop-number.children; before = r.beats; last = p.beats; turns = r.form; part = rw seats at p.form; beats = refl };
-      stopped = stopped_since f p.leads p.failed c.args.host.now.store.disk.faults c.loop-number.host.store.disk.faults c.turn.new.host c.loop-number.invariant.same.later p.stopped;
-      replied = told-join [] c.loop-number.replies.items c.turn.new.replies.items r.beats p.beats r.replied p.replied;
-    })
-    (λ q. record {
-      beats = r.beats ++ q.beats;
-      leads = q.leads;
-      form = record { whole = c.loop-number.number; fits = omega arith; mid = at r.leads c.loop-number.children; before = r.beats; last = q.beats; turns = r.form; part = rw seats at q.form; beats = refl };
-      stands = q.stands;
-      replied = told-join [] c.loop-number.replies.items c.turn.new.replies.items r.beats q.beats r.replied q.replied;
-    })
-
-pub loop-number-preserved : goal.loop-number-preserved
-loop-number-preserved g c = record {
-  same = same-on c.args.host.now.store.disk c.loop-number.host.store.disk c.turn.new.host.store.disk c.loop-number.invariant.same c.in-Ok-turn.ensures.same;
-  runs = λ w h.
-      let r = c.loop-number.invariant.runs w h in
-      let seats = c.as_slice.ensures.value ∙ c.in-Ok.ensures r.leads r.stands in
-      let p = c.in-Ok-turn.ensures.ok r.leads r.stands in
-      record {
-        beats = r.beats ++ p.beats;
-        leads = p.leads;
-        form = Turns-more g.C.Children.after most_turns c.loop-number.number (at w c.args.children.now) r.beats (at r.leads c.loop-number.children) _ p.beats (at p.leads c.turn.new.children) r.form refl (rw seats at p.form);
-        stands = p.stands;
-        replied = told-join [] c.loop-number.replies.items c.turn.new.replies.items r.beats p.beats r.replied p.replied;
-      };
-  still = λ e.
-      let s = c.loop-number.invariant.still e in
-      let some : 0 < length c.as_slice.result.now = search rules in
-      absurd (c.in-Ok-turn.ensures.closed (ap (λ h. h.closed) s.1 ∙ e) some);
-}
-
-pub returns-in-Err-clause-same : goal.returns-in-Err-clause-same
-returns-in-Err-clause-same g c = same-on c.args.host.now.store.disk c.loop-number.host.store.disk c.turn.new.host.store.disk c.loop-number.invariant.same c.in-Err.ensures.same
-
-pub returns-in-Err-clause-heard : goal.returns-in-Err-clause-heard
-returns-in-Err-clause-heard g c = λ e.
-    let s = c.loop-number.invariant.still e in
-    let h = c.in-Err.ensures.heard (ap (λ h. h.closed) s.1 ∙ e) in
-    rw (sym s.3) (subst (λ (k : ℕ). HeardOne g.C.Children.after (nat_lt k most_turns) c.loop-number.children c.turn.new.children c.in-Err.cause) s.0 h)
+      form = p.form;
+      stopped = p.stopped;
+      replied = told-join [] c.loop-replies.replies.items c.next.new.replies.items r.beats p.beats r.replied p.replied;
+    }))
+    (λ q. so_far_from g.C.Children.after most_turns (at w c.args.children.now c.args.host.now.store.disk) c.next.new.host c.next.new.children c.next.new.replies.items h.stands.images (record {
+      beats = r.beats;
+      leads = r.leads;
+      form = subst (λ x. WaitSoFar g.C.Children.after most_turns (at w c.args.children.now c.args.host.now.store.disk) r.beats (at r.leads x c.next.new.host.store.disk)) (sym q.2)
+          (subst (λ x. WaitSoFar g.C.Children.after most_turns (at w c.args.children.now c.args.host.now.store.disk) r.beats (at r.leads c.loop-replies.children x.store.disk)) (sym q.1)
+          (came_so_far g.C.Children.after c.next.new.self (at w c.args.children.now c.args.host.now.store.disk) r.beats (at r.leads c.loop-replies.children c.loop-replies.host.store.disk) q.0));
+      stands = subst (λ x. IsHost x r.leads) (sym q.1) r.stands;
+      replied = q.3 ∙ r.replied;
+    }))

@@ -25,17 +25,17 @@ returns-in-Ok-run_on_host-clause-ran g c =
     let disk = g.D.Disk.view c.args.disk in
     let start = world_at_opening o.0 disk.room c.in-Ok-open.host.store.end in
     let p = c.in-Ok-run_on_host.ensures.ok start o.1 in
-    done_run g.C.Children.after (g.R.Read.remaining c.args.reader.now) disk c.args.children.now c.run_on_host.new.children (g.W.Write.contents c.args.writer.now) (g.W.Write.contents c.run_on_host.new.writer)
-    (g.D.Disk.view c.close.result) c.as_slice.result.now start p.0 p.1 c.run_on_host.new.host (IfSome_then (g.R.Read.remaining c.args.reader.now) c.in-Ok.ensures.whole (λ bytes e. c.as_slice.ensures.value ∙ e))
-    (opened_on disk c.in-Ok-open.host o.0 o.1 c.in-Ok-open.ensures.found c.in-Ok-open.ensures.ends) p.2 p.3 p.4 p.5 c.close.ensures
+    done_run g.C.Children.after (g.R.Read.remaining c.args.reader.now) disk c.in-Ok-open.host.store.disk c.args.children.now c.run_on_host.new.children (g.W.Write.contents c.args.writer.now) (g.W.Write.contents c.run_on_host.new.writer)
+    (g.D.Disk.view c.close.result) c.as_slice.result.now start p.0 p.1 p.2 c.run_on_host.new.host (IfSome_then (g.R.Read.remaining c.args.reader.now) c.in-Ok.ensures.whole (λ bytes e. c.as_slice.ensures.value ∙ e))
+    (opened_on disk c.in-Ok-open.host o.0 o.1 c.in-Ok-open.ensures.found c.in-Ok-open.ensures.ends c.in-Ok-open.ensures.looks) o.1.stands.images p.3 p.4 p.5 p.6 p.7 c.close.ensures
 
 pub returns-clause-fault : goal.returns-clause-fault
 returns-clause-fault g c =
     let o = c.in-Ok-open.ensures.opens in
     let disk = g.D.Disk.view c.args.disk in
     let start = world_at_opening o.0 disk.room c.in-Ok-open.host.store.end in
-    broken_run g.C.Children.after (g.R.Read.remaining c.args.reader.now) disk c.args.children.now c.run_on_host.new.children (g.W.Write.contents c.args.writer.now) (g.W.Write.contents c.run_on_host.new.writer) _
-    c.in-Err-run_on_host.fault c.as_slice.result.now start c.in-Ok-open.host.store.disk.faults c.run_on_host.new.host (IfSome_then (g.R.Read.remaining c.args.reader.now) c.in-Ok.ensures.whole (λ bytes e. c.as_slice.ensures.value ∙ e))
-    (subst (λ xs. length xs ≤ max_input) (sym c.as_slice.ensures.value) c.in-Ok.ensures.short) (opened_on disk c.in-Ok-open.host o.0 o.1 c.in-Ok-open.ensures.found c.in-Ok-open.ensures.ends) c.in-Ok-open.ensures.same.later
+    broken_run g.C.Children.after (g.R.Read.remaining c.args.reader.now) disk c.in-Ok-open.host.store.disk c.args.children.now c.run_on_host.new.children (g.W.Write.contents c.args.writer.now) (g.W.Write.contents c.run_on_host.new.writer) _
+    c.in-Err-run_on_host.fault c.as_slice.result.now start c.run_on_host.new.host (IfSome_then (g.R.Read.remaining c.args.reader.now) c.in-Ok.ensures.whole (λ bytes e. c.as_slice.ensures.value ∙ e))
+    (subst (λ xs. length xs ≤ max_input) (sym c.as_slice.ensures.value) c.in-Ok.ensures.short) (opened_on disk c.in-Ok-open.host o.0 o.1 c.in-Ok-open.ensures.found c.in-Ok-open.ensures.ends c.in-Ok-open.ensures.looks) o.1.stands.images
     (same-on disk c.in-Ok-open.host.store.disk c.run_on_host.new.host.store.disk c.in-Ok-open.ensures.same c.in-Err-run_on_host.ensures.same)
     (c.in-Err-run_on_host.ensures.err start o.1)

@@ -23,19 +23,19 @@ loop-line-preserved g c =
       runs = λ w h.
           let so = c.loop-line.invariant.runs w h in
           let ran = c.in_default-run_line.ensures.ok so.leads so.stands in
-          one_done g.C.Children.after (script_lines c.args.script.now) c.loop-line.number c.loop-line.lines c.in-Some.line.now c.next.new.self (at w c.args.children.now) c.loop-line.host c.loop-line.children
-          (g.W.Write.contents c.args.writer.now) (g.W.Write.contents c.loop-line.writer) c.run_line.new.host c.run_line.new.children (g.W.Write.contents c.run_line.new.writer) ran.0 ran.1
-          c.in-Some.ensures.steps so ran.2 ran.3 ran.4;
+          one_done g.C.Children.after (script_lines c.args.script.now) c.loop-line.number c.loop-line.lines c.in-Some.line.now c.next.new.self (at w c.args.children.now c.args.host.now.store.disk) c.loop-line.host c.loop-line.children
+          (g.W.Write.contents c.args.writer.now) (g.W.Write.contents c.loop-line.writer) c.run_line.new.host c.run_line.new.children (g.W.Write.contents c.run_line.new.writer) ran.0 ran.1 ran.2
+          c.in-Some.ensures.steps so ran.3 ran.4 ran.5;
     }
 
 pub returns-clause-ok : goal.returns-clause-ok
 returns-clause-ok g c = λ w h.
-    all_done g.C.Children.after (script_lines c.args.script.now) c.loop-line.number c.loop-line.lines (at w c.args.children.now) c.loop-line.host c.loop-line.children
+    all_done g.C.Children.after (script_lines c.args.script.now) c.loop-line.number c.loop-line.lines (at w c.args.children.now c.args.host.now.store.disk) c.loop-line.host c.loop-line.children
     (g.W.Write.contents c.args.writer.now) (g.W.Write.contents c.loop-line.writer) c.in_default.ensures.steps.0 (c.loop-line.invariant.runs w h)
 
 pub returns-in-Err-clause-err : goal.returns-in-Err-clause-err
 returns-in-Err-clause-err g c = λ w h.
     let so = c.loop-line.invariant.runs w h in
-    lines_failed g.C.Children.after (script_lines c.args.script.now) c.loop-line.number c.loop-line.lines c.in-Some.line.now c.next.new.self (at w c.args.children.now) c.loop-line.host c.loop-line.children
-    (g.W.Write.contents c.args.writer.now) (g.W.Write.contents c.loop-line.writer) c.args.host.now.store.disk.faults c.loop-line.host.store.disk.faults c.run_line.new.host c.run_line.new.children
-    (g.W.Write.contents c.run_line.new.writer) c.in-Err.fault c.in-Some.ensures.steps c.loop-line.invariant.same.later so (c.in-Err.ensures.err so.leads so.stands)
+    lines_failed g.C.Children.after (script_lines c.args.script.now) c.loop-line.number c.loop-line.lines c.in-Some.line.now c.next.new.self (at w c.args.children.now c.args.host.now.store.disk) c.loop-line.host c.loop-line.children
+    (g.W.Write.contents c.args.writer.now) (g.W.Write.contents c.loop-line.writer) c.run_line.new.host c.run_line.new.children
+    (g.W.Write.contents c.run_line.new.writer) c.in-Err.fault c.in-Some.ensures.steps so (c.in-Err.ensures.err so.leads so.stands)

@@ -7,10 +7,10 @@ use Rattle.session_engine.proofs.commits.keep.Goals as goal
 
 pub returns-in-Ok-None-clause-moments : goal.returns-in-Ok-None-clause-moments
 returns-in-Ok-None-clause-moments g c = λ model ops is.
-    subst (λ (a : Option Answered). LeavesOnly (IsEitherIf ops (op_by a)) c.args.store.now.disk.history c.commit.new.store.disk.history)
+    subst (λ (a : Option Answered). LeavesOnly (IsEitherIf ops (op_by c.args.store.now.disk.room c.args.store.now.end a c.args.ended.now)) c.args.store.now.disk.history c.commit.new.store.disk.history)
     (sym (c.in-Some-Line.is ∙ ap (λ (a : Answered). Some a) c.in-Some-Line.field-0-is)) (c.commit.ensures.moments model ops is)
 
-pub returns-in-Err-clause-moments : goal.returns-in-Err-clause-moments
-returns-in-Err-clause-moments g c = λ model ops is.
-    subst (λ (a : Option Answered). LeavesOnly (IsEitherIf ops (op_by a)) c.args.store.now.disk.history c.commit.new.store.disk.history)
+pub returns-in-Some-Line-clause-moments : goal.returns-in-Some-Line-clause-moments
+returns-in-Some-Line-clause-moments g c = λ model ops is.
+    subst (λ (a : Option Answered). LeavesOnly (IsEitherIf ops (op_by c.args.store.now.disk.room c.args.store.now.end a c.args.ended.now)) c.args.store.now.disk.history c.commit.new.store.disk.history)
     (sym (c.in-Some-Line.is ∙ ap (λ (a : Answered). Some a) c.in-Some-Line.field-0-is)) (c.commit.ensures.moments model ops is)

@@ -64,6 +64,7 @@ returns-in-Err-clause-halts g c = λ w h.
       at = e;
       dropped = rest;
       before = at.self;
+      same = inv.same;
       played = p;
       failed = failed;
       closed = c.in-Err.ensures.closes;

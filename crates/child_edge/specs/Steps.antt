@@ -1,0 +1,37 @@
+-- A wait that is taken life by life. (docs/EDGE.md, "A faithful run".)
+use Rattle.std.specs.Prelude.{◌≡◌, ℕ, ◌≤◌, ◌+◌, ◌-◌, ◌*◌, ◌^◌, Bool, true, false, List, ◌++◌, None, length, nat_lt}
+use Rattle.session_engine.specs.declared.reply.Reply.{Reply}
+use Rattle.session_engine.specs.World.{World}
+use Rattle.session_engine.specs.Host.{HostView}
+use Rattle.child_edge.specs.declared.turns.Waiting.{Waiting}
+use Rattle.child_edge.specs.Limits.{most_turns}
+use Rattle.child_edge.specs.Seats.{waits}
+use Rattle.child_edge.specs.Faithful.{Relation, At, at, Beat, FirstOf, Taken, Turns, Waited}
+use Rattle.child_edge.specs.Edge.{Ran}
+
+-- The wait has not taken a life yet.
+pub record IsBegun (wait : Waiting) (w : World) : Type 0 where
+  pub whole : wait.whole ≡ 0
+  pub place : wait.place ≡ 0
+  pub seats : wait.seats.items ≡ waits w
+
+-- The wait came so far, from here to there: whole turns, and the first lives of the turn that it is in.
+pub record Came {C : Type 0} (R : Relation C) (wait : Waiting) (s : At C) (bs : List Beat) (t : At C) : Type 0 where
+  pub mid : At C
+  pub before : List Beat
+  pub last : List Beat
+  pub fits : wait.whole ≤ most_turns
+  pub place : wait.place ≤ length wait.seats.items
+  pub seats : wait.seats.items ≡ waits mid.world
+  pub turns : Turns R most_turns wait.whole s before mid
+  pub part : FirstOf (Taken R (nat_lt wait.whole most_turns) None) wait.seats.items wait.place mid last t
+  pub beats : bs ≡ before ++ last
+
+-- How many lives a wait may still take, and more: each step makes it less.
+abbrev pub left_of : Waiting → ℕ
+left_of wait = (most_turns - wait.whole) * 2 ^ 64 + (length wait.seats.items - wait.place)
+
+-- What a step of it leaves. One life was taken, and what came of it is told; or the wait was over, and nothing is changed.
+abbrev pub Stepped : {C : Type 0} → Relation C → Waiting → At C → List Beat → World → HostView → HostView → C → C → List Reply → List Reply → Bool → Type 0
+Stepped R wait s bs w h g c d before replies true = Ran (λ cs t. Came R wait s (bs ++ cs) t) before g d replies
+Stepped R wait s bs w h g c d before replies false = Waited R most_turns s bs (at w c h.store.disk) × (g ≡ h) × (d ≡ c) × (replies ≡ before)

@@ -1,0 +1,11 @@
+use Rattle.std.proofs.Common.{sym, subst, Option}
+use Rattle.disk_model.specs.Disk.{LeavesOnly}
+use Rattle.worksheet.specs.declared.op.Op.{Op}
+use Rattle.session_engine.specs.inside.Commits.{IsEitherIf}
+use Rattle.session_engine.proofs.Losing.{kept_fits}
+use Rattle.session_engine.proofs.commits.lose.Goals as goal
+
+pub returns-in-Err-clause-moments : goal.returns-in-Err-clause-moments
+returns-in-Err-clause-moments g c = λ model ops is.
+    subst (λ (p : Option Op). LeavesOnly (IsEitherIf ops p) c.args.store.now.disk.history c.commit.new.store.disk.history)
+    (sym (kept_fits c.args.store.now.disk.room c.args.store.now.end c.args.reason c.args.line c.in-Some.id c.in-Some.is c.in-Err.ensures.fits)) (c.commit.ensures.moments model ops is)
