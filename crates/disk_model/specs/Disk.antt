@@ -70,6 +70,11 @@ abbrev pub area_of : Area → Image → List ℕ
 area_of First i = i.first
 area_of Second i = i.second
 
+-- the one that an area isn't
+abbrev pub other_area : Area → Area
+other_area First = Second
+other_area Second = First
+
 -- these bytes with others put over them at an offset
 abbrev pub overwritten : List ℕ → ℕ → List ℕ → List ℕ
 overwritten old at bytes = take at old ++ bytes ++ drop (at + length bytes) old

@@ -43,6 +43,7 @@ takes_when_refused held (op.Move id after) h = absurd (h refl)
 takes_when_refused held (op.Clear id) h = absurd (h refl)
 takes_when_refused held (op.Answer id prompt output) h = absurd (h refl)
 takes_when_refused held (op.Lost id reason) h = absurd (h refl)
+takes_when_refused held (op.Ids number) h = absurd (h refl)
 
 pub op_unkept : (ops : List Op) (o : Op) (s t : Contents) (answer : Reply) → takes_memory o ≡ true → s ≡ sheet_of ops → None ≡ first_refusal s o → answer ≡ reply.Refused refusal.OutOfMemory → t ≡ s → OpDone ops o answer t
 op_unkept ops o s t answer grows h e is k =

@@ -15,7 +15,7 @@ records-append : (a b : List (List ℕ)) → records (a ++ b) ≡ records a ++ r
 records-append [] b = refl
 records-append (p ∷ a) b = ap (λ (l : List ℕ). record_of p ++ l) (records-append a b) ∙ sym (append_assoc (record_of p) (records a) (records b))
 
-end-append : (a b : List (List ℕ)) → end_of (a ++ b) ≡ end_of a + length (records b)
+pub end-append : (a b : List (List ℕ)) → end_of (a ++ b) ≡ end_of a + length (records b)
 end-append a b = omega (arith, ap length (records-append a b), length-append (records a) (records b))
 
 next_is_payload : (limit : ℕ) (given others : List (List ℕ)) (payload : List ℕ) → ArePayloads limit (given ++ payload ∷ others) → IsPayload limit payload
@@ -33,7 +33,7 @@ none_left o given (p ∷ others) has near =
       has.keeps.end_is,
       end-append given (p ∷ others),
       length-append (record_of p) (records others),
-      (next_is_payload max_payload given others p has.keeps.stands.lays.each).0,
+      (next_is_payload max_payload given others p has.keeps.stands.stands.lays.each).0,
     ))
 
 pub all_given : (o : OpeningView) (given left : List (List ℕ)) → HasGiven o given left → left ≡ [] → Keeps o.disk.history o.end given
@@ -55,7 +55,7 @@ pub record NextLeft (o : OpeningView) (left : List (List ℕ)) : Type 0 where
 pub next_left : (o : OpeningView) (given left : List (List ℕ)) → HasGiven o given left → 6 ≤ o.end - o.gate → NextLeft o left
 next_left o given [] has far = absurd (omega (arith, far, has.gate_is, has.keeps.end_is, ap end_of (append-nil given)))
 next_left o given (p ∷ others) has far =
-    let s = has.keeps.stands in
+    let s = has.keeps.stands.stands in
     let rest = records others ++ s.lays.gate ∷ s.lays.more in
     let head = header s.header_is.selector in
     let behind : records (given ++ p ∷ others) ++ s.lays.gate ∷ s.lays.more ≡ records given ++ (record_of p ++ rest) =

@@ -1,4 +1,5 @@
 pub mod Bytes
+pub mod Actives
 pub mod Givens
 pub mod Loads
 pub mod Readings
@@ -7,3 +8,4 @@ pub mod Unique
 pub mod Walks
 pub mod Windows
 pub mod Creating
+pub mod Anew

@@ -1,84 +1,155 @@
 -- What a crash leaves at each step of `add`.
-use Rattle.std.proofs.Common.{◌≡◌, inl, inr, ⊎_elim, ℕ, ◌+◌, List, [], ◌∷◌, ◌++◌, length, drop, take, refl, sym, ◌∙◌, ap, subst, arith, Result, Ok, length-append}
-use Rattle.disk_model.specs.Disk.{Image, History, IsImage, Torn, LeavesOnly, Writes, Syncs, content_of, overwritten}
-use Rattle.disk_model.specs.declared.disk.Area.TheVariants.{First}
+use Rattle.std.proofs.Common.{◌≡◌, inl, inr, ⊎_elim, ℕ, ◌+◌, ◌≤◌, List, [], ◌∷◌, ◌++◌, length, drop, refl, sym, ◌∙◌, ap, subst, arith, Result, Ok, length-append}
+use Rattle.disk_model.specs.Disk.{Image, History, IsImage, Torn, LeavesOnly, Writes, Syncs, area_of, content_of, other_area, overwritten}
+use Rattle.disk_model.specs.declared.disk.Area.{Area}
 use Rattle.disk_model.specs.inside.Moments.{started, goes_on, weakens, at_end, stays}
-use Rattle.journal.specs.Area.{StandsFor, body_of, closed_gate, first_gate, header, IsPayload, open_gate, records}
+use Rattle.journal.specs.Area.{StandsFor, body_of, closed_gate, first_gate, header, IsPayload, open_gate}
 use Rattle.journal.specs.Limits.{max_payload}
-use Rattle.journal.specs.Kept.{Keeps, BeforeOrAfter}
+use Rattle.journal.specs.Kept.{Keeps, BeforeOrAfter, OtherUntouched, active_area}
+use Rattle.journal.specs.inside.Standing.{at_active}
+use Rattle.journal.proofs.Actives.{Works, at_other, changed, first_of_both, kept, stands_there, works_as, works_on}
 use Rattle.journal.proofs.Bytes.{Laid, torn_behind, staged, after_stage, torn_gate, after_gate, end-push}
 
-module _ (h0 : History) (end : ℕ) (payloads : List (List ℕ)) (keeps : Keeps h0 end payloads) (payload : List ℕ) (is_payload : IsPayload max_payload payload) (bytes : List ℕ) (are : bytes ≡ body_of payload ++ closed_gate ∷ []) where
-  abbrev limit : ℕ
+module _ (h0 : History) (end : ℕ) (payloads : List (List ℕ)) (keeps : Keeps h0 end payloads) (payload : List ℕ) (is_payload : IsPayload max_payload payload) (bytes : List ℕ) (are : bytes ≡ body_of payload ++ closed_gate ∷ []) (area : Area) (named : active_area (content_of h0) ≡ area) where
+  abbrev pub limit : ℕ
   limit = max_payload
 
-  abbrev laid : Laid limit keeps.stands.header_is.selector (content_of h0).first payloads
+  abbrev pub old : Image
+  old = content_of h0
+
+  pub standing : StandsFor limit (area_of area old) payloads
+  standing = subst (λ (l : List ℕ). StandsFor limit l payloads) (at_active area old named) keeps.stands.stands
+
+  abbrev pub selector : ℕ
+  selector = standing.header_is.selector
+
+  pub laid : Laid limit selector (area_of area old) payloads
   laid = record {
-    gate = keeps.stands.lays.gate;
-    rest = keeps.stands.lays.more;
-    is = keeps.stands.header_is.is ∙ ap (λ (l : List ℕ). header keeps.stands.header_is.selector ++ l) keeps.stands.lays.is;
-    closed = keeps.stands.lays.closed;
-    each = keeps.stands.lays.each;
+    gate = standing.lays.gate;
+    rest = standing.lays.more;
+    is = standing.header_is.is ∙ ap (λ (l : List ℕ). header selector ++ l) standing.lays.is;
+    closed = standing.lays.closed;
+    each = standing.lays.each;
   }
 
-  -- the same selector, and other payloads
-  stands : (bytes : List ℕ) (others : List (List ℕ)) → Laid limit keeps.stands.header_is.selector bytes others → StandsFor limit bytes others
-  stands bytes others lays = record {
-    rest = records others ++ lays.gate ∷ lays.rest;
-    header_is = record { selector = keeps.stands.header_is.selector; is = lays.is; selects = keeps.stands.header_is.selects };
-    lays = record { gate = lays.gate; more = lays.rest; is = refl; closed = lays.closed; each = lays.each };
-  }
+  behind : first_gate ≤ end
+  behind = omega (arith, keeps.end_is)
+
+  -- what a crash leaves before the first call
+  before : (i : Image) → IsImage h0.now i → Works area old i × (area_of area i ≡ area_of area old)
+  before i image =
+      let works = works_as area old i named keeps.stands.headed (keeps.first i image) in
+      (works, sym (at_active area i works.named) ∙ keeps.durable i image ∙ at_active area old named)
+
+  untouched : (c d : Image) → IsImage h0.now d → Works area old c → Works area old d → area_of (other_area area) c ≡ area_of (other_area area) d → OtherUntouched h0.now c
+  untouched c d image one two same = (d, image, at_other area c one.named ∙ same ∙ sym (at_other area d two.named))
 
   abbrev pub P : Image → Type 0
   P = BeforeOrAfter h0.now payloads payload
 
-  pub begun : LeavesOnly P h0 h0
-  begun = started P h0 (λ c image. (inl (subst (λ (l : List ℕ). StandsFor limit l payloads) (sym (keeps.durable c image)) keeps.stands), (c, image, refl)))
+  pub record Q (i : Image) : Type 0 where
+    pub either : P i
+    pub works : Works area old i
 
-  pub staging : {T E : Type 0} (r : Result T E) (h1 : History) → Writes First (end + 1) bytes r h0 h1 → LeavesOnly P h0 h1
-  staging r h1 w = weakens _ P h0 h1 (λ c reaches.
-      let torn = subst (λ (l : List ℕ). Torn (end + 1) (length bytes) l c.first) (keeps.durable reaches.0 reaches.1) reaches.2.0 in
-      (inl (stands c.first payloads (torn_behind limit keeps.stands.header_is.selector (content_of h0).first payloads laid end keeps.end_is (length bytes) c.first torn)), (reaches.0, reaches.1, reaches.2.1))) w.moments
+  pub begun : LeavesOnly Q h0 h0
+  begun = started Q h0 (λ c image.
+      let here = before c image in
+      record {
+        either = (inl (stands_there area old c selector payloads here.0 (subst (λ (l : List ℕ). Laid limit selector l payloads) (sym here.1) laid)), (c, image, refl));
+        works = here.0;
+      })
+
+  pub known : (h : History) → LeavesOnly Q h0 h → LeavesOnly P h0 h
+  known h run = weakens Q P h0 h (λ i q. q.either) run
+
+  pub staging : {T E : Type 0} (r : Result T E) (h1 : History) → Writes area (end + 1) bytes r h0 h1 → LeavesOnly Q h0 h1
+  staging r h1 w = weakens _ Q h0 h1 (λ c reaches.
+      let d = reaches.0 in
+      let here = before d reaches.1 in
+      let torn = subst (λ (l : List ℕ). Torn (end + 1) (length bytes) l (area_of area c)) here.1 (changed area (Torn (end + 1) (length bytes)) d c reaches.2) in
+      let works = works_on area old d c (end + 1) (length bytes) (omega (arith, behind)) here.0 reaches.2 in
+      record {
+        either = (
+          inl (stands_there area old c selector payloads works (torn_behind limit selector (area_of area old) payloads laid end keeps.end_is (length bytes) (area_of area c) torn)),
+          untouched c d reaches.1 works here.0 (kept area (Torn (end + 1) (length bytes)) d c reaches.2),
+        );
+        works = works;
+      }) w.moments
+
+  abbrev pub stage : List ℕ → List ℕ
+  stage rest = staged limit selector (area_of area old) payloads laid end keeps.end_is payload is_payload rest
 
   -- the gate's write, once the record is on the disk
-  pub opening : {T E : Type 0} (r : Result T E) (h2 h3 : History) (rest : List ℕ) → LeavesOnly P h0 h2
-      → ((c : Image) → IsImage h2.now c → c.first ≡ staged limit keeps.stands.header_is.selector (content_of h0).first payloads laid end keeps.end_is payload is_payload rest)
-      → Writes First end (open_gate ∷ []) r h2 h3 → LeavesOnly P h0 h3
-  opening r h2 h3 rest run durable w = goes_on P h0 h2 h3 run (weakens _ P h2 h3 (λ c reaches.
-      let torn = subst (λ (l : List ℕ). Torn end 1 l c.first) (durable reaches.0 reaches.1) reaches.2.0 in
-      let second = (at_end P h0 h2 run reaches.0 reaches.1).1 in
-      (⊎_elim (λ before. inl (stands c.first payloads before)) (λ after. inr (stands c.first (payloads ++ payload ∷ []) after)) (torn_gate limit keeps.stands.header_is.selector (content_of h0).first payloads laid end keeps.end_is payload is_payload rest c.first torn), (second.0, second.1, reaches.2.1 ∙ second.2))) w.moments)
+  pub opening : {T E : Type 0} (r : Result T E) (h2 h3 : History) (rest : List ℕ) → LeavesOnly Q h0 h2
+      → ((c : Image) → IsImage h2.now c → area_of area c ≡ stage rest)
+      → Writes area end (open_gate ∷ []) r h2 h3 → LeavesOnly Q h0 h3
+  opening r h2 h3 rest run durable w = goes_on Q h0 h2 h3 run (weakens _ Q h2 h3 (λ c reaches.
+      let d = reaches.0 in
+      let here = at_end Q h0 h2 run d reaches.1 in
+      let torn = subst (λ (l : List ℕ). Torn end 1 l (area_of area c)) (durable d reaches.1) (changed area (Torn end 1) d c reaches.2) in
+      let works = works_on area old d c end 1 behind here.works reaches.2 in
+      let second = here.either.1 in
+      let same = kept area (Torn end 1) d c reaches.2 in
+      record {
+        either = (
+          ⊎_elim
+              (λ before. inl (stands_there area old c selector payloads works before))
+              (λ after. inr (stands_there area old c selector (payloads ++ payload ∷ []) works after))
+              (torn_gate limit selector (area_of area old) payloads laid end keeps.end_is payload is_payload rest (area_of area c) torn),
+          (second.0, second.1, at_other area c works.named ∙ same ∙ sym (at_other area d here.works.named) ∙ second.2),
+        );
+        works = works;
+      }) w.moments)
 
   -- the bytes that the record pushes no further than they were
-  abbrev rest : List ℕ
-  rest = drop (end + 1 + length bytes) (content_of h0).first
+  abbrev pub rest : List ℕ
+  rest = drop (end + 1 + length bytes) (area_of area old)
 
-  first_of : (a b : Image) → a ≡ b → a.first ≡ b.first
-  first_of a b same = ap (λ (i : Image). i.first) same
+  at : (a b : Image) → a ≡ b → area_of area a ≡ area_of area b
+  at a b same = ap (λ (i : Image). area_of area i) same
 
   module _ {T E : Type 0} (u : T) where
     abbrev pub good : Result T E
     good = Ok u
 
-    module _ (h1 h2 : History) (w1 : Writes First (end + 1) bytes good h0 h1) where
-      pub after2 : (r : Result T E) → Syncs First r h1 h2 → LeavesOnly P h0 h2
-      after2 r s1 = stays P h0 h1 h2 (staging good h1 w1) s1.moments
+    module _ (h1 h2 : History) (w1 : Writes area (end + 1) bytes good h0 h1) where
+      pub after2 : (r : Result T E) → Syncs area r h1 h2 → LeavesOnly Q h0 h2
+      after2 r s1 = stays Q h0 h1 h2 (staging good h1 w1) s1.moments
 
-      module _ (s1 : Syncs First good h1 h2) where
-        is_staged : (content_of h2).first ≡ staged limit keeps.stands.header_is.selector (content_of h0).first payloads laid end keeps.end_is payload is_payload rest
-        is_staged = first_of _ _ s1.content ∙ after_stage limit keeps.stands.header_is.selector (content_of h0).first payloads laid end keeps.end_is payload is_payload bytes _ are w1.written.0
+      module _ (s1 : Syncs area good h1 h2) where
+        is_staged : area_of area (content_of h2) ≡ stage rest
+        is_staged = at _ _ s1.content
+            ∙ after_stage limit selector (area_of area old) payloads laid end keeps.end_is payload is_payload bytes _ are (changed area (λ before after. after ≡ overwritten before (end + 1) bytes) _ _ w1.written)
 
-        pub after3 : (r : Result T E) (h3 : History) → Writes First end (open_gate ∷ []) r h2 h3 → LeavesOnly P h0 h3
-        after3 r h3 w2 = opening r h2 h3 rest (after2 good s1) (λ i image. s1.durable i image ∙ sym (first_of _ _ s1.content) ∙ is_staged) w2
+        pub after3 : (r : Result T E) (h3 : History) → Writes area end (open_gate ∷ []) r h2 h3 → LeavesOnly Q h0 h3
+        after3 r h3 w2 = opening r h2 h3 rest (after2 good s1) (λ i image. s1.durable i image ∙ sym (at _ _ s1.content) ∙ is_staged) w2
 
-        pub after4 : (r q : Result T E) (h3 h4 : History) → Writes First end (open_gate ∷ []) r h2 h3 → Syncs First q h3 h4 → LeavesOnly P h0 h4
-        after4 r q h3 h4 w2 s2 = stays P h0 h3 h4 (after3 r h3 w2) s2.moments
+        pub after4 : (r q : Result T E) (h3 h4 : History) → Writes area end (open_gate ∷ []) r h2 h3 → Syncs area q h3 h4 → LeavesOnly Q h0 h4
+        after4 r q h3 h4 w2 s2 = stays Q h0 h3 h4 (after3 r h3 w2) s2.moments
 
-        pub added : (h3 h4 : History) → Writes First end (open_gate ∷ []) good h2 h3 → Syncs First good h3 h4 → Keeps h4 (end + length bytes) (payloads ++ payload ∷ [])
-        added h3 h4 w2 s2 = record {
-          stands = subst (λ (l : List ℕ). StandsFor limit l (payloads ++ payload ∷ [])) (sym (first_of _ _ s2.content))
-              (stands _ _ (after_gate limit keeps.stands.header_is.selector (content_of h0).first payloads laid end keeps.end_is payload is_payload rest _ (w2.written.0 ∙ ap (λ (l : List ℕ). overwritten l end (open_gate ∷ [])) is_staged)));
-          end_is = omega (arith, keeps.end_is, end-push payloads payload, ap length are, length-append (body_of payload) (closed_gate ∷ []));
-          durable = λ i image. s2.durable i image ∙ sym (first_of _ _ s2.content);
-          header = λ i image. ap (λ (l : List ℕ). take first_gate l) (s2.durable i image ∙ sym (first_of _ _ s2.content));
-        }
+        module _ (h3 h4 : History) (w2 : Writes area end (open_gate ∷ []) good h2 h3) (s2 : Syncs area good h3 h4) where
+          at_last : Works area old (content_of h4)
+          at_last =
+              let one = works_on area old old (content_of h1) (end + 1) (length bytes) (omega (arith, behind)) (works_as area old old named keeps.stands.headed refl) w1.touched in
+              let two = subst (λ (i : Image). Works area old i) (sym s1.content) one in
+              let three = works_on area old (content_of h2) (content_of h3) end 1 behind two w2.touched in
+              subst (λ (i : Image). Works area old i) (sym s2.content) three
+
+          there : (i : Image) → IsImage h4.now i → area_of area i ≡ area_of area (content_of h4)
+          there i image = s2.durable i image ∙ sym (at _ _ s2.content)
+
+          is_added : Laid limit selector (area_of area (content_of h4)) (payloads ++ payload ∷ [])
+          is_added = after_gate limit selector (area_of area old) payloads laid end keeps.end_is payload is_payload rest _
+              (at _ _ s2.content ∙ changed area (λ before after. after ≡ overwritten before end (open_gate ∷ [])) _ _ w2.written ∙ ap (λ (l : List ℕ). overwritten l end (open_gate ∷ [])) is_staged)
+
+          pub added : Keeps h4 (end + length bytes) (payloads ++ payload ∷ [])
+          added = record {
+            stands = stands_there area old (content_of h4) selector (payloads ++ payload ∷ []) at_last is_added;
+            end_is = omega (arith, keeps.end_is, end-push payloads payload, ap length are, length-append (body_of payload) (closed_gate ∷ []));
+            durable = λ i image.
+                let works = (at_end Q h0 h4 (after4 good good h3 h4 w2 s2) i image).works in
+                at_active area i works.named ∙ there i image ∙ sym (at_active area (content_of h4) at_last.named);
+            first = λ i image.
+                let works = (at_end Q h0 h4 (after4 good good h3 h4 w2 s2) i image).works in
+                first_of_both area old i (content_of h4) works.first at_last.first (there i image);
+          }

@@ -3,9 +3,8 @@ use Rattle.std.proofs.Common.{◌≡◌, ◌≢◌, ℕ, ◌+◌, ◌-◌, ◌<�
 use Rattle.std.specs.Int.{to_be_bytes, from_be_bytes, w32}
 use Rattle.std.proofs.lemmas.List.{drop_at, length-take-le, take-append-le}
 use Rattle.std.proofs.lemmas.Nat.{from_be_bytes-to_be_bytes_4}
-use Rattle.disk_model.specs.declared.disk.Area.TheVariants.{First}
-use Rattle.journal.specs.Area.{HeaderOf, header, records, record_of, IsPayload, StandsFor, end_of, first_gate, open_gate}
-use Rattle.journal.specs.Damage.{HasHeader, IsBroken, IsDamaged, Walked}
+use Rattle.journal.specs.Area.{HasHeader, HeaderOf, header, records, record_of, IsPayload, StandsFor, end_of, first_gate, open_gate}
+use Rattle.journal.specs.Damage.{IsBroken, IsDamaged, Walked}
 use Rattle.journal.specs.Limits.{max_payload}
 use Rattle.journal.specs.inside.Reads.{Begins}
 use Rattle.journal.specs.inside.Walk.{IsStep}
@@ -56,7 +55,6 @@ reached_on area gate n more r here least most inside =
           selector = r.walked.header_is.selector;
           is = r.walked.header_is.is ∙ ap (λ (l : List ℕ). header r.walked.header_is.selector ++ (records r.payloads ++ l)) laid
               ∙ ap (λ (l : List ℕ). header r.walked.header_is.selector ++ l) (sym (append_assoc (records r.payloads) (record_of payload) (drop n more)) ∙ ap (λ (l : List ℕ). l ++ drop n more) (sym (records-push r.payloads payload)));
-          selects = r.walked.header_is.selects;
         };
         each = ArePayloads-push max_payload r.payloads payload r.walked.each (omega (arith, size, least), omega (arith, size, most));
         some = omega (arith, length-drop n more, inside);
@@ -106,15 +104,15 @@ header_shown front area begins enough has =
     let same : take 10 front ≡ header s =
     sym (take-append-le 10 front begins.0 (omega arith)) ∙ ap (λ (l : List ℕ). take 10 l) (sym begins.1 ∙ has.1.is) in (
       drop 10 front,
-      record { selector = s; is = sym (take-append-drop 10 front) ∙ ap (λ (l : List ℕ). l ++ drop 10 front) same; selects = has.1.selects },
+      record { selector = s; is = sym (take-append-drop 10 front) ∙ ap (λ (l : List ℕ). l ++ drop 10 front) same },
       omega (arith, length-drop 10 front),
     )
 
 -- and what shows a header has it
-pub header_there : (front area rest : List ℕ) → Begins front area → HeaderOf First front rest → 0 < length rest → HasHeader area
+pub header_there : (front area rest : List ℕ) → Begins front area → HeaderOf front rest → 0 < length rest → HasHeader area
 header_there front area rest begins is some = (
   rest ++ begins.0,
-  record { selector = is.selector; is = begins.1 ∙ ap (λ (l : List ℕ). l ++ begins.0) is.is ∙ append_assoc (header is.selector) rest begins.0; selects = is.selects },
+  record { selector = is.selector; is = begins.1 ∙ ap (λ (l : List ℕ). l ++ begins.0) is.is ∙ append_assoc (header is.selector) rest begins.0 },
   omega (arith, length-append rest begins.0),
 )
 

@@ -1,5 +1,5 @@
--- The bytes of a journal's area (docs/FORMAT.md, "The journal").
-use Rattle.std.specs.Prelude.{◌≡◌, ◌≢◌, ℕ, ◌+◌, ◌≤◌, List, [], ◌∷◌, ◌++◌, length}
+-- The bytes of a journal's areas (docs/FORMAT.md, "The journal").
+use Rattle.std.specs.Prelude.{◌≡◌, ◌≢◌, ◌==◌, ℕ, ◌+◌, ◌<◌, ◌≤◌, List, [], ◌∷◌, ◌++◌, length, if◌then◌else◌}
 use Rattle.std.specs.Int.{to_be_bytes, w32}
 use Rattle.disk_model.specs.Disk.{overwritten}
 use Rattle.disk_model.specs.declared.disk.Area.{Area}
@@ -18,9 +18,12 @@ names_second = 66
 
 -- the area that a selector names as the active one: Second where it is `B`, and First at any other
 -- byte
-abbrev pub Selects : Area → ℕ → Type 0
-Selects First selector = selector ≢ names_second
-Selects Second selector = selector ≡ names_second
+abbrev pub named_by : ℕ → Area
+named_by selector = if selector == names_second then Second else First
+
+-- the selector's offset in area First
+abbrev pub selector_at : ℕ
+selector_at = 9
 
 -- a gate is open where it is `R`, and closed at any other byte; closed it is written as 0
 abbrev pub open_gate : ℕ
@@ -58,11 +61,14 @@ first_gate = 10
 abbrev pub end_of : List (List ℕ) → ℕ
 end_of payloads = first_gate + length (records payloads)
 
--- area First begins with a header that names this area as the active one, and this is its rest
-pub record HeaderOf (active : Area) (first rest : List ℕ) : Type 0 where
+-- an area begins with a header, whatever its selector, and this is its rest
+pub record HeaderOf (bytes rest : List ℕ) : Type 0 where
   pub selector : ℕ
-  pub is : first ≡ header selector ++ rest
-  pub selects : Selects active selector
+  pub is : bytes ≡ header selector ++ rest
+
+-- a header, and at least one byte behind it
+abbrev pub HasHeader : List ℕ → Type 0
+HasHeader bytes = (rest : List ℕ) × HeaderOf bytes rest × (0 < length rest)
 
 -- behind a header: the records of these payloads, a closed gate, and then anything
 pub record Lays (limit : ℕ) (rest : List ℕ) (payloads : List (List ℕ)) : Type 0 where
@@ -72,10 +78,10 @@ pub record Lays (limit : ℕ) (rest : List ℕ) (payloads : List (List ℕ)) : T
   pub closed : gate ≢ open_gate
   pub each : ArePayloads limit payloads
 
--- area First stands for these payloads: its header names it, and it lays them out
+-- an area stands for these payloads: behind its header it lays them out
 pub record StandsFor (limit : ℕ) (bytes : List ℕ) (payloads : List (List ℕ)) : Type 0 where
   pub rest : List ℕ
-  pub header_is : HeaderOf First bytes rest
+  pub header_is : HeaderOf bytes rest
   pub lays : Lays limit rest payloads
 
 -- an area behind whose closed gate a payload was added: its record, with the gate open, and the

@@ -1,7 +1,6 @@
 -- The damage of an area (docs/FORMAT.md, "Opening").
 use Rattle.std.specs.Prelude.{◌≡◌, ◌⊎◌, ℕ, ◌<◌, ◌≤◌, List, [], ◌∷◌, ◌++◌, length}
 use Rattle.std.specs.Int.{from_be_bytes, w32}
-use Rattle.disk_model.specs.declared.disk.Area.TheVariants.{First}
 use Rattle.journal.specs.Area.{HeaderOf, records, ArePayloads, end_of, open_gate}
 
 -- the bytes behind an open gate are no record and a next gate: the length field, the payload or the
@@ -12,10 +11,10 @@ IsBroken limit (b0 ∷ b1 ∷ b2 ∷ b3 ∷ more) =
     (n ≡ 0) ⊎ ((limit < n) ⊎ (length more ≤ n))
 IsBroken limit short = Unit {0}
 
--- a header of area First, the records of these payloads, and a rest that begins with a gate
+-- a header, the records of these payloads, and a rest that begins with a gate
 pub record Walked (limit : ℕ) (bytes : List ℕ) (payloads : List (List ℕ))
     (rest : List ℕ) : Type 0 where
-  pub header_is : HeaderOf First bytes (records payloads ++ rest)
+  pub header_is : HeaderOf bytes (records payloads ++ rest)
   pub each : ArePayloads limit payloads
   pub some : 0 < length rest
 
@@ -24,7 +23,3 @@ abbrev pub IsDamaged : ℕ → List ℕ → ℕ → Type 0
 IsDamaged limit bytes gate = (payloads : List (List ℕ)) × (more : List ℕ)
     × Walked limit bytes payloads (open_gate ∷ more) × (gate ≡ end_of payloads)
     × IsBroken limit more
-
--- a header of area First, and at least one byte behind it
-abbrev pub HasHeader : List ℕ → Type 0
-HasHeader bytes = (rest : List ℕ) × HeaderOf First bytes rest × (0 < length rest)

@@ -1,31 +1,34 @@
 -- What a journal keeps on its disk.
-use Rattle.std.specs.Prelude.{◌≡◌, ◌⊎◌, ℕ, ◌+◌, ◌≤◌, List, [], ◌∷◌, ◌++◌, take}
-use Rattle.disk_model.specs.Disk.{Image, DiskState, DiskView, History, IsImage, content_of}
-use Rattle.journal.specs.Area.{StandsFor, end_of, first_gate}
+use Rattle.std.specs.Prelude.{◌≡◌, ◌⊎◌, ℕ, ◌+◌, ◌≤◌, List, [], ◌∷◌, ◌++◌, get_or}
+use Rattle.disk_model.specs.Disk.{Image, DiskState, DiskView, History, IsImage, area_of, content_of, other_area}
+use Rattle.disk_model.specs.declared.disk.Area.{Area}
+use Rattle.journal.specs.Area.{HasHeader, StandsFor, end_of, named_by, selector_at}
 use Rattle.journal.specs.Limits.{max_payload}
 
--- the active area, in which the journal is, and the other one
+-- the active area, in which the journal is: the one that the selector in area First names
+abbrev pub active_area : Image → Area
+active_area i = named_by (get_or i.first selector_at 0)
+
 abbrev pub active_of : Image → List ℕ
-active_of i = i.first
+active_of i = area_of (active_area i) i
 
+-- the area that isn't active
 abbrev pub other_of : Image → List ℕ
-other_of i = i.second
+other_of i = area_of (other_area (active_area i)) i
 
--- the header, which is that of area First, whichever area is active
-abbrev pub header_of : Image → List ℕ
-header_of i = take first_gate i.first
+-- the image stands for these payloads: area First has a header, and a byte behind it, and the active area
+-- lays them out
+pub record ImageStandsFor (i : Image) (payloads : List (List ℕ)) : Type 0 where
+  pub headed : HasHeader i.first
+  pub stands : StandsFor max_payload (active_of i) payloads
 
--- the image stands for these payloads
-abbrev pub ImageStandsFor : Image → List (List ℕ) → Type 0
-ImageStandsFor i payloads = StandsFor max_payload (active_of i) payloads
-
--- the disk stands for these payloads; they and the header that names their area are durable; the
--- closed gate behind them is at `end`
+-- the disk stands for these payloads; they are durable, and so is area First, whose header names their
+-- area; the closed gate behind them is at `end`
 pub record Keeps (h : History) (end : ℕ) (payloads : List (List ℕ)) : Type 0 where
   pub stands : ImageStandsFor (content_of h) payloads
   pub end_is : end ≡ end_of payloads
   pub durable : (i : Image) → IsImage h.now i → active_of i ≡ active_of (content_of h)
-  pub header : (i : Image) → IsImage h.now i → header_of i ≡ header_of (content_of h)
+  pub first : (i : Image) → IsImage h.now i → i.first ≡ (content_of h).first
 
 -- the area that isn't active is that of an image of this state
 abbrev pub OtherUntouched : DiskState → Image → Type 0
@@ -45,3 +48,11 @@ pub record JournalView : Type 0 where
 -- a payload of n bytes, its record and the next gate fit behind the end
 abbrev pub Fits : ℕ → ℕ → ℕ → Type 0
 Fits room end n = (n ≤ max_payload) × (end + 5 + n + 1 ≤ room)
+
+-- the image stands for the payloads from before, or for these
+abbrev pub EitherStands : List (List ℕ) → List (List ℕ) → Image → Type 0
+EitherStands before payloads i = ImageStandsFor i before ⊎ ImageStandsFor i payloads
+
+-- these payloads fit in an area: the header, their records, and the gate behind them
+abbrev pub FitsAnew : ℕ → List (List ℕ) → Type 0
+FitsAnew room payloads = end_of payloads + 1 ≤ room

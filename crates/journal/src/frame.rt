@@ -43,7 +43,8 @@ impl Frame {
 
     /// The payload's length in bytes.
     pub fn payload_len(&self) -> u64
-        ensures { result ≡ length self.now }
+        ensures len { result ≡ length self.now }
+        ensures payload { IsPayload max_payload self.now }
     {
         self.bytes.len() as u64 - 5
     }

@@ -1,14 +1,16 @@
 // A journal on a disk that it owns.
 ghost use Rattle.std.specs.Prelude.{◌≡◌, ◌<◌, ◌≤◌, ◌+◌, ◌++◌, ◌∷◌, ◌↔◌, [], List, ℕ, length, IfOk, IfErr, IsTrue, MatchResult};
-ghost use Rattle.disk_model.specs.Disk.{InModel, LeavesOnly, Looks, SameDisk, Rises, bytes_on, max_room};
+ghost use Rattle.disk_model.specs.Disk.{InModel, LeavesOnly, Looks, SameDisk, Rises, bytes_on, max_room, other_area};
 ghost use Rattle.journal.specs.Payloads.{payloads_in, AreGates};
 ghost use Rattle.journal.specs.Open.{Tells};
-ghost use Rattle.journal.specs.Kept.{BeforeOrAfter, Fits, Keeps, ImageStandsFor, active_of, other_of};
-ghost use Rattle.journal.specs.Area.{added_at, first_gate};
+ghost use Rattle.journal.specs.Kept.{BeforeOrAfter, EitherStands, Fits, FitsAnew, Keeps, ImageStandsFor, active_area, active_of, other_of};
+ghost use Rattle.journal.specs.Area.{added_at, end_of, first_gate};
+ghost use Rattle.journal.specs.inside.Active.{HasEnd};
 
 use crate::append::add;
+use crate::rewrite::{end_of_frames, other, write_anew};
 use crate::{Frame, MAX_PAYLOAD, Next, OpenCause, Opening, Payload};
-use disk_model::{Disk, DiskFault};
+use disk_model::{Area, Disk, DiskFault};
 use std::alloc::Global;
 use std::marker::Model;
 
@@ -19,20 +21,23 @@ use std::marker::Model;
 #[derive(Drop)]
 pub struct Journal<D: Disk> {
     disk: D,
+    active: Area,
     end: u64,
 }
 
 impl<D: Disk> Model for Journal<D> {
-    ghost use Rattle.std.specs.Prelude.{◌<◌, ◌≤◌, length};
+    ghost use Rattle.std.specs.Prelude.{◌≤◌};
     ghost use Rattle.disk_model.specs.Disk.{InModel, max_room, bytes_on};
-    ghost use Rattle.journal.specs.Kept.{JournalView, active_of};
+    ghost use Rattle.journal.specs.Area.{first_gate};
+    ghost use Rattle.journal.specs.Kept.{JournalView};
+    ghost use Rattle.journal.specs.inside.Active.{HasEnd};
 
     ghost Value = { JournalView };
 
     ghost view = { λ j. record { disk = D.view j.disk; end = j.end } };
 
-    ghost invariant = { λ j. (j.end ≤ max_room)
-        × InModel (D.view j.disk) (j.end < length (active_of (bytes_on (D.view j.disk)))) };
+    ghost invariant = { λ j. (first_gate ≤ j.end) × (j.end ≤ max_room)
+        × InModel (D.view j.disk) (HasEnd j.active j.end (bytes_on (D.view j.disk))) };
 }
 
 /// An opening that was refused, and the disk.
@@ -106,12 +111,13 @@ impl<D: Disk> Journal<D> {
     }
 
     // The journal of this disk, whose closed gate is there.
-    pub(crate) fn ending_at(disk: D, end: u64) -> Journal<D>
+    pub(crate) fn ending_at(disk: D, active: Area, end: u64) -> Journal<D>
+        requires behind { first_gate ≤ end }
         requires small { end ≤ max_room }
-        requires inside { InModel (D.view disk) (end < length (active_of (bytes_on (D.view disk)))) }
+        requires inside { InModel (D.view disk) (HasEnd active end (bytes_on (D.view disk))) }
         ensures { result ≡ record { disk = D.view disk; end = end } }
     {
-        Journal { disk, end }
+        Journal { disk, active, end }
     }
 
     /// Whether a payload of so many bytes fits behind the end: it has at most 33,554,432 bytes, and
@@ -161,14 +167,71 @@ impl<D: Disk> Journal<D> {
         if !self.fits(frame.payload_len()) {
             return Err(AppendFault::JournalFull(self));
         }
-        let Journal { mut disk, end } = self;
+        let Journal {
+            mut disk,
+            active,
+            end,
+        } = self;
         let bytes = frame.bytes();
-        if let Err(DiskFault) = add(&mut disk, end, bytes) {
+        if let Err(DiskFault) = add(&mut disk, active, end, bytes) {
             return Err(AppendFault::Disk(disk));
         }
         Ok(Journal {
             disk,
+            active,
             end: end + bytes.len() as u64,
+        })
+    }
+
+    /// Writes these payloads in place of the journal's own. They are laid into the area that isn't active;
+    /// once they are durable there, that area becomes the active one, and that is durable at `Ok`. It
+    /// takes no memory (docs/FORMAT.md, "Rewrite").
+    ///
+    /// Payloads for which an area has no room are refused with `JournalFull`; a call on the disk that
+    /// fails, with `Disk`.
+    pub fn rewrite(self, frames: &[Frame]) -> Result<Journal<D>, AppendFault<D>>
+        ensures same { SameDisk self.disk (disk_after D.view result) }
+
+        ensures ok { InModel self.disk
+            ((payloads : List (List ℕ)) → Keeps self.disk.history self.end payloads
+            → IfOk result (λ journal. Keeps journal.disk.history journal.end frames.now)) }
+
+        // A crash at any moment of the call leaves the payloads from before it, or these.
+        ensures any_moment { InModel self.disk
+            ((payloads : List (List ℕ)) → Keeps self.disk.history self.end payloads
+            → LeavesOnly (EitherStands payloads frames.now) self.disk.history
+            (disk_after D.view result).history) }
+
+        // The area that wasn't active is it then.
+        ensures turned { InModel self.disk
+            (IfOk result (λ journal. active_area (bytes_on journal.disk)
+            ≡ other_area (active_area (bytes_on self.disk)))) }
+
+        ensures ends { IfOk result (λ journal. journal.end ≡ end_of frames.now) }
+
+        ensures unchanged { HandsBack result self }
+        ensures full { IsFull result ↔ (FitsAnew self.disk.room frames.now → ⊥) }
+        ensures faulty { IsFaulty result
+            → Rises self.disk.faults (disk_after D.view result).faults }
+        ensures steady { (IsFaulty result → ⊥)
+            → (disk_after D.view result).faults ≡ self.disk.faults }
+    {
+        let Some(end) = end_of_frames(self.disk.room(), frames) else {
+            return Err(AppendFault::JournalFull(self));
+        };
+        let Journal {
+            mut disk,
+            active,
+            end: _,
+        } = self;
+        let area = other(active);
+        if let Err(DiskFault) = write_anew(&mut disk, area, frames) {
+            return Err(AppendFault::Disk(disk));
+        }
+        Ok(Journal {
+            disk,
+            active: area,
+            end,
         })
     }
 
@@ -176,7 +239,7 @@ impl<D: Disk> Journal<D> {
     pub fn into_disk(self) -> D
         ensures { D.view result ≡ self.disk }
     {
-        let Journal { disk, end: _ } = self;
+        let Journal { disk, .. } = self;
         disk
     }
 }

@@ -10,6 +10,7 @@ mod journal;
 pub mod laws;
 mod opening;
 mod payloads;
+mod rewrite;
 mod walk;
 mod window;
 

@@ -1,15 +1,17 @@
 // Making a journal's disk, and reading it.
-ghost use Rattle.std.specs.Prelude.{◌≡◌, ◌≤◌, ◌<◌, [], List, ℕ, IfOk, IfErr, OnErr, OnOk, IsErrOf, MatchResult};
-ghost use Rattle.disk_model.specs.Disk.{ChangesArea, InModel, LeavesOnly, Looks, Reaches, SameDisk, Rises, Torn, bytes_on};
-ghost use Rattle.journal.specs.Area.{created, first_gate};
-ghost use Rattle.journal.specs.Kept.{ImageStandsFor, Keeps, active_of};
+ghost use Rattle.std.specs.Prelude.{◌≡◌, ◌≤◌, ◌<◌, [], List, ℕ, get_or, IfOk, IfErr, OnErr, OnOk, IsErrOf, MatchResult};
+ghost use Rattle.disk_model.specs.Disk.{ChangesArea, InModel, Leaves, LeavesOnly, Looks, Reaches, SameDisk, Rises, Torn, area_of, bytes_on};
+ghost use Rattle.journal.specs.Area.{HasHeader, created, first_gate, selector_at};
+ghost use Rattle.journal.specs.Kept.{ImageStandsFor, Keeps};
+ghost use Rattle.journal.specs.inside.Active.{IsActive};
 ghost use Rattle.journal.specs.inside.Reads.{Fails, Reads};
-ghost use Rattle.journal.specs.inside.Window.{Shows};
+ghost use Rattle.journal.specs.inside.Walk.{LacksHeader};
+ghost use Rattle.journal.specs.inside.Window.{IsOnActive, Shows};
 ghost use Rattle.journal.specs.Open.{AreEmpty, Tells};
 ghost use Rattle.journal.specs.declared.opening.CreateCause.TheVariants.{Disk as CreateDisk};
 ghost use Rattle.journal.specs.declared.opening.OpenCause.TheVariants.{Disk as OpenDisk, OutOfMemory};
 
-use crate::walk::end_of_walk;
+use crate::walk::{NAMES_SECOND, selector_of, walk_gates};
 use crate::window::Window;
 use disk_model::{Area, Disk, DiskFault};
 use std::alloc::{AllocError, AllocFailed, Global};
@@ -46,7 +48,8 @@ pub enum OpenCause {
     /// Behind the open gate at this offset stands no record, or a payload that the layer above
     /// can't take. The records before it are whole.
     Damaged(u64),
-    /// Area First has fewer than 11 bytes or no header of this version, or another area is active.
+    /// Area First, or Second where the selector in First names it, has fewer than 11 bytes or no header
+    /// of this version.
     NotASheet,
     /// The disk failed.
     Disk,
@@ -162,27 +165,78 @@ fn lay<D: Disk>(disk: &mut D) -> Result<(), CreateCause>
     Ok(())
 }
 
-// A window on area First once it is durable, and the offset of the closed gate there.
+// A window on an area once it is durable, and the selector of its header.
+fn durable<D: Disk>(alloc: Global, disk: &mut D, area: Area) -> Result<(Window, u8), OpenCause>
+    ensures reads { Reads (Fails result) (D.view disk.old) (D.view disk.new) }
+    ensures area { IfOk result (λ found. found.0.area ≡ area) }
+    ensures some { IfOk result (λ found. first_gate < found.0.limit) }
+    ensures header { InModel (D.view disk.old)
+        (IfOk result (λ found. HasHeader (area_of area (bytes_on (D.view disk.old)))
+        × (get_or (area_of area (bytes_on (D.view disk.old))) selector_at 0 ≡ found.1))) }
+    ensures shows { InModel (D.view disk.old)
+        (IfOk result (λ found. Shows found.0 (area_of area (bytes_on (D.view disk.old))))) }
+    ensures durable { InModel (D.view disk.old)
+        (OnOk result (Leaves (λ i. area_of area i ≡ area_of area (bytes_on (D.view disk.old)))
+        (D.view disk.new).history.now)) }
+    ensures fault { InModel (D.view disk.old)
+        (IfErr result (LacksHeader (area_of area (bytes_on (D.view disk.old))))) }
+{
+    if let Err(DiskFault) = disk.sync(area) {
+        return Err(OpenCause::Disk);
+    }
+    let len = match disk.len(area) {
+        Ok(len) => len,
+        Err(DiskFault) => return Err(OpenCause::Disk),
+    };
+    let mut window = Window::new(alloc, area, len);
+    match selector_of(&mut window, disk) {
+        Ok(selector) => Ok((window, selector)),
+        Err(cause) => Err(cause),
+    }
+}
+
+// A window on the active area, once that and area First are durable.
+fn on_active<D: Disk>(alloc: Global, disk: &mut D) -> Result<Window, OpenCause>
+    ensures reads { Reads (Fails result) (D.view disk.old) (D.view disk.new) }
+    ensures some { IfOk result (λ window. first_gate < window.limit) }
+    ensures found { InModel (D.view disk.old)
+        (IfOk result (λ window. IsOnActive window (bytes_on (D.view disk.old))
+        (D.view disk.new).history.now)) }
+    ensures fault { InModel (D.view disk.old) (IfErr result (Tells (bytes_on (D.view disk.old)))) }
+{
+    let (first, selector) = match durable(alloc, disk, Area::First) {
+        Ok(found) => found,
+        Err(cause) => return Err(cause),
+    };
+    if selector != NAMES_SECOND {
+        return Ok(first);
+    }
+    match durable(alloc, disk, Area::Second) {
+        Ok((second, _)) => Ok(second),
+        Err(cause) => Err(cause),
+    }
+}
+
+// A window on the active area, and the offset of the closed gate there. That area and area First are
+// durable.
 pub(crate) fn survey<D: Disk>(alloc: Global, disk: &mut D) -> Result<(Window, u64), OpenCause>
     ensures reads { Reads (Fails result) (D.view disk.old) (D.view disk.new) }
     ensures end { InModel (D.view disk.old)
         (IfOk result (λ found. (payloads : List (List ℕ))
         × ImageStandsFor (bytes_on (D.view disk.old)) payloads
         × Keeps (D.view disk.new).history found.1 payloads)) }
+    ensures active { InModel (D.view disk.old)
+        (IfOk result (λ found. IsActive found.0.area (bytes_on (D.view disk.old)))) }
     ensures shows { InModel (D.view disk.old)
-        (IfOk result (λ found. Shows found.0 (active_of (bytes_on (D.view disk.old))))) }
+        (IfOk result (λ found. Shows found.0 (area_of found.0.area (bytes_on (D.view disk.old))))) }
     ensures inside { IfOk result (λ found. (first_gate ≤ found.1) × (found.1 < found.0.limit)) }
     ensures fault { InModel (D.view disk.old) (IfErr result (Tells (bytes_on (D.view disk.old)))) }
 {
-    if let Err(DiskFault) = disk.sync(Area::First) {
-        return Err(OpenCause::Disk);
-    }
-    let len = match disk.len(Area::First) {
-        Ok(len) => len,
-        Err(DiskFault) => return Err(OpenCause::Disk),
+    let mut window = match on_active(alloc, disk) {
+        Ok(window) => window,
+        Err(cause) => return Err(cause),
     };
-    let mut window = Window::new(alloc, len);
-    match end_of_walk(&mut window, disk) {
+    match walk_gates(&mut window, disk) {
         Ok(end) => Ok((window, end)),
         Err(cause) => Err(cause),
     }

@@ -31,8 +31,9 @@ pub struct Opening<D: Disk> {
 
 impl<D: Disk> Model for Opening<D> {
     ghost use Rattle.std.specs.Prelude.{◌<◌, ◌≤◌};
-    ghost use Rattle.disk_model.specs.Disk.{InModel, bytes_on};
-    ghost use Rattle.journal.specs.Kept.{active_of};
+    ghost use Rattle.disk_model.specs.Disk.{InModel, area_of, bytes_on};
+    ghost use Rattle.journal.specs.Area.{first_gate};
+    ghost use Rattle.journal.specs.inside.Active.{IsActive};
     ghost use Rattle.journal.specs.Opening.{OpeningView};
     ghost use Rattle.journal.specs.inside.Window.{Shows};
 
@@ -40,8 +41,10 @@ impl<D: Disk> Model for Opening<D> {
 
     ghost view = { λ o. record { disk = D.view o.disk; gate = o.gate; end = o.end } };
 
-    ghost invariant = { λ o. (o.gate ≤ o.end) × (o.end < o.window.limit)
-        × InModel (D.view o.disk) (Shows o.window (active_of (bytes_on (D.view o.disk)))) };
+    ghost invariant = { λ o. (first_gate ≤ o.gate) × (o.gate ≤ o.end) × (o.end < o.window.limit)
+        × InModel (D.view o.disk)
+        (IsActive o.window.area (bytes_on (D.view o.disk))
+        × Shows o.window (area_of o.window.area (bytes_on (D.view o.disk)))) };
 }
 
 /// What comes next in an opening.
@@ -56,8 +59,8 @@ pub enum Next<D: Disk> {
 impl<D: Disk> Opening<D> {
     ghost use Rattle.journal.specs.Next.{disk_begun, disk_behind, BeginsPayloads, GivesNext, StepsOn};
 
-    /// Begins to open a disk that a crash may have left: it makes area First durable, and walks over
-    /// its gates by their length fields alone. It writes nothing. A disk that stands for no payloads
+    /// Begins to open a disk that a crash may have left: it makes area First and the active one
+    /// durable, and walks over the gates by their length fields alone. It writes nothing. A disk that stands for no payloads
     /// is refused here (docs/FORMAT.md, "Opening").
     pub fn begin(alloc: Global, disk: D) -> Result<Opening<D>, OpenFault<D>>
         ensures same { SameDisk (D.view disk) (disk_begun D.view result) }
@@ -134,7 +137,7 @@ impl<D: Disk> Opening<D> {
         } = self;
         // A record has 6 bytes at least: its gate, four of its length, and a payload of one or more.
         if end - gate < 6 {
-            return Ok(Next::End(Journal::ending_at(disk, end)));
+            return Ok(Next::End(Journal::ending_at(disk, window.area, end)));
         }
         match payload_at(&mut window, &mut disk, gate, end) {
             Ok(bytes) => {

@@ -1,14 +1,11 @@
-// The walk over the gates of area First, by their length fields alone.
-ghost use Rattle.std.specs.Prelude.{◌≡◌, ◌<◌, ◌≤◌, ◌+◌, ◌++◌, List, ℕ, length, min, drop, IfOk, IfErr, IfSome, IfNone, OnOk};
-ghost use Rattle.disk_model.specs.Disk.{InModel, bytes_on};
-ghost use Rattle.disk_model.specs.declared.disk.Area.TheVariants.{First};
+// The walk over the gates of an area, by their length fields alone.
+ghost use Rattle.std.specs.Prelude.{◌≡◌, ◌<◌, ◌≤◌, ◌+◌, ◌++◌, List, ℕ, get_or, length, min, drop, IfOk, IfErr, IfSome, IfNone, OnOk};
+ghost use Rattle.disk_model.specs.Disk.{InModel, area_of, bytes_on};
 ghost use Rattle.journal.specs.Limits.{max_payload};
-ghost use Rattle.journal.specs.Area.{HeaderOf, IsPayload, end_of, first_gate, record_of};
-ghost use Rattle.journal.specs.Damage.{HasHeader};
-ghost use Rattle.journal.specs.Kept.{ImageStandsFor, active_of};
-ghost use Rattle.journal.specs.Open.{IsPassing, Tells};
+ghost use Rattle.journal.specs.Area.{HasHeader, IsPayload, StandsFor, end_of, first_gate, header, record_of, selector_at};
+ghost use Rattle.journal.specs.Open.{IsPassing};
 ghost use Rattle.journal.specs.inside.Reads.{Begins, Fails, Reads};
-ghost use Rattle.journal.specs.inside.Walk.{IsLength, IsStep};
+ghost use Rattle.journal.specs.inside.Walk.{IsLength, IsStep, LacksHeader, TellsOf};
 ghost use Rattle.journal.specs.inside.Window.{Shows};
 
 use crate::window::Window;
@@ -20,7 +17,7 @@ use disk_model::Disk;
 pub(crate) const OPEN_GATE: u8 = b'R';
 
 /// The selector that names area Second as the active one; at any other byte First is.
-const NAMES_SECOND: u8 = b'B';
+pub(crate) const NAMES_SECOND: u8 = b'B';
 
 /// A payload that an opening found.
 #[derive(Drop, Debug)]
@@ -62,10 +59,10 @@ fn step_at(front: &[u8], left: u64) -> Step
     Step::Record(len)
 }
 
-// What stands behind a header of area First.
-fn behind_header(bytes: &[u8]) -> Option<&[u8]>
+// The selector of a header, and what stands behind it.
+fn behind_header(bytes: &[u8]) -> Option<(u8, &[u8])>
     ensures some { IfSome result
-        (λ rest. HeaderOf First bytes.now rest.now × (0 < length rest.now)) }
+        (λ found. (bytes.now ≡ header found.0 ++ found.1.now) × (0 < length found.1.now)) }
     ensures none { IfNone result (HasHeader bytes.now → ⊥) }
 {
     if bytes.len() < 11 {
@@ -73,27 +70,30 @@ fn behind_header(bytes: &[u8]) -> Option<&[u8]>
     }
     let (front, rest) = bytes.split_at(10);
     let (magic, selector) = front.split_at(9);
-    if magic != b"TMWSHEET\x01".as_slice() || selector[0] == NAMES_SECOND {
+    if magic != b"TMWSHEET\x01".as_slice() {
         return None;
     }
-    Some(rest)
+    Some((selector[0], rest))
 }
 
-// The offset of the closed gate behind the records of area First, which begins with a header.
-fn walk_gates<D: Disk>(window: &mut Window, disk: &mut D) -> Result<u64, OpenCause>
-    requires header { InModel (D.view disk.old) (HasHeader (active_of (bytes_on (D.view disk.old)))) }
+/// The offset of the closed gate behind the records of the window's area, which begins with a header.
+pub(crate) fn walk_gates<D: Disk>(window: &mut Window, disk: &mut D) -> Result<u64, OpenCause>
+    requires header { InModel (D.view disk.old) (HasHeader (area_of window.old.area (bytes_on (D.view disk.old)))) }
     requires some { first_gate < window.old.limit }
     requires shows { InModel (D.view disk.old)
-        (Shows window.old (active_of (bytes_on (D.view disk.old)))) }
+        (Shows window.old (area_of window.old.area (bytes_on (D.view disk.old)))) }
     ensures reads { Reads (Fails result) (D.view disk.old) (D.view disk.new) }
+    ensures area { window.new.area ≡ window.old.area }
     ensures limit { window.new.limit ≡ window.old.limit }
     ensures shows { InModel (D.view disk.old)
-        (OnOk result (Shows window.new (active_of (bytes_on (D.view disk.old))))) }
+        (OnOk result (Shows window.new (area_of window.old.area (bytes_on (D.view disk.old))))) }
     ensures end { InModel (D.view disk.old)
         (IfOk result (λ end. (payloads : List (List ℕ))
-        × ImageStandsFor (bytes_on (D.view disk.old)) payloads × (end ≡ end_of payloads))) }
+        × StandsFor max_payload (area_of window.old.area (bytes_on (D.view disk.old))) payloads
+        × (end ≡ end_of payloads))) }
     ensures inside { IfOk result (λ end. (first_gate ≤ end) × (end < window.new.limit)) }
-    ensures fault { InModel (D.view disk.old) (IfErr result (Tells (bytes_on (D.view disk.old)))) }
+    ensures fault { InModel (D.view disk.old)
+        (IfErr result (TellsOf (area_of window.old.area (bytes_on (D.view disk.old))))) }
 {
     let mut gate = 10;
     loop {
@@ -109,27 +109,30 @@ fn walk_gates<D: Disk>(window: &mut Window, disk: &mut D) -> Result<u64, OpenCau
     }
 }
 
-/// The offset of the closed gate behind the records that area First has behind its header.
-pub(crate) fn end_of_walk<D: Disk>(window: &mut Window, disk: &mut D) -> Result<u64, OpenCause>
+/// The selector of the header with which the window's area begins.
+pub(crate) fn selector_of<D: Disk>(window: &mut Window, disk: &mut D) -> Result<u8, OpenCause>
     requires shows { InModel (D.view disk.old)
-        (Shows window.old (active_of (bytes_on (D.view disk.old)))) }
+        (Shows window.old (area_of window.old.area (bytes_on (D.view disk.old)))) }
     ensures reads { Reads (Fails result) (D.view disk.old) (D.view disk.new) }
+    ensures area { window.new.area ≡ window.old.area }
     ensures limit { window.new.limit ≡ window.old.limit }
     ensures shows { InModel (D.view disk.old)
-        (OnOk result (Shows window.new (active_of (bytes_on (D.view disk.old))))) }
-    ensures end { InModel (D.view disk.old)
-        (IfOk result (λ end. (payloads : List (List ℕ))
-        × ImageStandsFor (bytes_on (D.view disk.old)) payloads × (end ≡ end_of payloads))) }
-    ensures inside { IfOk result (λ end. (first_gate ≤ end) × (end < window.new.limit)) }
-    ensures fault { InModel (D.view disk.old) (IfErr result (Tells (bytes_on (D.view disk.old)))) }
+        (OnOk result (Shows window.new (area_of window.old.area (bytes_on (D.view disk.old))))) }
+    ensures some { OnOk result (first_gate < window.new.limit) }
+    ensures header { InModel (D.view disk.old)
+        (IfOk result (λ selector. HasHeader (area_of window.old.area (bytes_on (D.view disk.old)))
+        × (get_or (area_of window.old.area (bytes_on (D.view disk.old))) selector_at 0
+        ≡ selector))) }
+    ensures fault { InModel (D.view disk.old)
+        (IfErr result (LacksHeader (area_of window.old.area (bytes_on (D.view disk.old))))) }
 {
     if let Err(cause) = window.fill(disk, 0, window.limit.min(11)) {
         return Err(cause);
     }
-    let Some(_) = behind_header(window.behind(0)) else {
-        return Err(OpenCause::NotASheet);
-    };
-    walk_gates(window, disk)
+    match behind_header(window.behind(0)) {
+        Some((selector, _)) => Ok(selector),
+        None => Err(OpenCause::NotASheet),
+    }
 }
 
 // The length of the payload behind a gate, of at most so many bytes, from the bytes there and how
@@ -159,18 +162,19 @@ pub(crate) fn payload_at<D: Disk>(
     requires some { gate + 6 ≤ end }
     requires inside { end < window.old.limit }
     requires shows { InModel (D.view disk.old)
-        (Shows window.old (active_of (bytes_on (D.view disk.old)))) }
+        (Shows window.old (area_of window.old.area (bytes_on (D.view disk.old)))) }
     ensures reads { Reads (Fails result) (D.view disk.old) (D.view disk.new) }
+    ensures area { window.new.area ≡ window.old.area }
     ensures limit { window.new.limit ≡ window.old.limit }
     ensures shows { InModel (D.view disk.old)
-        (OnOk result (Shows window.new (active_of (bytes_on (D.view disk.old))))) }
+        (OnOk result (Shows window.new (area_of window.old.area (bytes_on (D.view disk.old))))) }
     ensures cause { IfErr result IsPassing }
     ensures payload { IfOk result (λ bytes. IsPayload max_payload bytes.items) }
     ensures inside { IfOk result (λ bytes. gate + 5 + length bytes.items ≤ end) }
     ensures bytes { InModel (D.view disk.old)
         ((payload rest : List ℕ) → IsPayload max_payload payload → 0 < length rest
         → gate + 5 + length payload ≤ end
-        → drop gate (active_of (bytes_on (D.view disk.old))) ≡ record_of payload ++ rest
+        → drop gate (area_of window.old.area (bytes_on (D.view disk.old))) ≡ record_of payload ++ rest
         → IfOk result (λ bytes. bytes.items ≡ payload)) }
 {
     let left = window.limit - gate;

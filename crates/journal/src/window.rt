@@ -1,7 +1,6 @@
-// Reads of area First through a window of at most 65,536 bytes.
+// Reads of an area through a window of at most 65,536 bytes.
 ghost use Rattle.std.specs.Prelude.{◌≡◌, ◌+◌, ◌-◌, ◌≤◌, List, ℕ, length, take, drop, IfErr, IfOk, OnOk, vec_len};
-ghost use Rattle.disk_model.specs.Disk.{InModel, bytes_on, max_room};
-ghost use Rattle.journal.specs.Kept.{active_of};
+ghost use Rattle.disk_model.specs.Disk.{InModel, area_of, bytes_on, max_room};
 ghost use Rattle.journal.specs.Open.{IsPassing};
 ghost use Rattle.journal.specs.inside.Reads.{Begins, Fails, Reads, longest_read};
 
@@ -12,10 +11,11 @@ use std::alloc::{AllocError, Global};
 // The most bytes that are read at once.
 const LONGEST_READ: u64 = 65_536;
 
-/// Some bytes of area First, from `start` on. None at `limit` or behind it is read.
+/// Some bytes of an area, from `start` on. None at `limit` or behind it is read.
 #[derive(Drop)]
 pub(crate) struct Window {
     alloc: Global,
+    pub(crate) area: Area,
     pub(crate) limit: u64,
     start: u64,
     bytes: Vec<u8>,
@@ -23,22 +23,28 @@ pub(crate) struct Window {
     ghost inside: { start + vec_len bytes ≤ limit },
 }
 
-// So many bytes of area First, in one read.
-fn read_part<D: Disk>(alloc: Global, disk: &mut D, at: u64, len: u64) -> Result<Vec<u8>, OpenCause>
+// So many bytes of an area, in one read.
+fn read_part<D: Disk>(
+    alloc: Global,
+    disk: &mut D,
+    area: Area,
+    at: u64,
+    len: u64,
+) -> Result<Vec<u8>, OpenCause>
     requires short { len ≤ longest_read }
     requires inside { InModel (D.view disk.old)
-        (at + len ≤ length (active_of (bytes_on (D.view disk.old)))) }
+        (at + len ≤ length (area_of area (bytes_on (D.view disk.old)))) }
     ensures reads { Reads (Fails result) (D.view disk.old) (D.view disk.new) }
     ensures cause { IfErr result IsPassing }
     ensures len { IfOk result (λ bytes. vec_len bytes ≡ len) }
     ensures bytes { InModel (D.view disk.old)
         (IfOk result (λ bytes. Begins bytes.items
-        (drop at (active_of (bytes_on (D.view disk.old)))))) }
+        (drop at (area_of area (bytes_on (D.view disk.old)))))) }
 {
     let Ok(mut bytes) = vec![in alloc; 0u8; len as usize] else {
         return Err(OpenCause::OutOfMemory);
     };
-    match disk.read(Area::First, at, &mut bytes) {
+    match disk.read(area, at, &mut bytes) {
         Ok(()) => Ok(bytes),
         Err(DiskFault) => Err(OpenCause::Disk),
     }
@@ -58,14 +64,16 @@ fn front_of(bytes: &[u8], most: u64) -> &[u8]
 impl Window {
     ghost use Rattle.journal.specs.inside.Window.{Shows};
 
-    /// A window on an area of this length, which shows nothing yet.
-    pub(crate) fn new(alloc: Global, limit: u64) -> Window
+    /// A window on an area, which has this length. It shows nothing yet.
+    pub(crate) fn new(alloc: Global, area: Area, limit: u64) -> Window
         requires { limit ≤ max_room }
+        ensures area { result.area ≡ area }
         ensures limit { result.limit ≡ limit }
         ensures shows { (area : List ℕ) → limit ≡ length area → Shows result area }
     {
         Window {
             alloc,
+            area,
             limit,
             start: 0,
             bytes: Vec::new(alloc),
@@ -82,23 +90,25 @@ impl Window {
         requires inside { at + need ≤ self.old.limit }
         requires short { need ≤ longest_read }
         requires shows { InModel (D.view disk.old)
-            (Shows self.old (active_of (bytes_on (D.view disk.old)))) }
+            (Shows self.old (area_of self.old.area (bytes_on (D.view disk.old)))) }
         ensures reads { Reads (Fails result) (D.view disk.old) (D.view disk.new) }
         ensures cause { IfErr result IsPassing }
+        ensures area { self.new.area ≡ self.old.area }
         ensures limit { self.new.limit ≡ self.old.limit }
         ensures from { OnOk result (self.new.start ≤ at) }
         ensures to { OnOk result (at + need ≤ self.new.start + vec_len self.new.bytes) }
         ensures shows { InModel (D.view disk.old)
-            (OnOk result (Shows self.new (active_of (bytes_on (D.view disk.old))))) }
+            (OnOk result (Shows self.new (area_of self.old.area (bytes_on (D.view disk.old))))) }
     {
         if self.start <= at && at + need <= self.start + self.bytes.len() as u64 {
             return Ok(());
         }
         let len = (self.limit - at).min(LONGEST_READ);
-        match read_part(self.alloc, disk, at, len) {
+        match read_part(self.alloc, disk, self.area, at, len) {
             Ok(bytes) => {
                 *self = Window {
                     alloc: self.alloc,
+                    area: self.area,
                     limit: self.limit,
                     start: at,
                     bytes,
@@ -120,7 +130,7 @@ impl Window {
         behind
     }
 
-    /// So many bytes of area First from `at` on, read in parts.
+    /// So many bytes of the area from `at` on, read in parts.
     pub(crate) fn copy<D: Disk>(
         &mut self,
         disk: &mut D,
@@ -129,16 +139,17 @@ impl Window {
     ) -> Result<Vec<u8>, OpenCause>
         requires inside { at + len ≤ self.old.limit }
         requires shows { InModel (D.view disk.old)
-            (Shows self.old (active_of (bytes_on (D.view disk.old)))) }
+            (Shows self.old (area_of self.old.area (bytes_on (D.view disk.old)))) }
         ensures reads { Reads (Fails result) (D.view disk.old) (D.view disk.new) }
         ensures cause { IfErr result IsPassing }
+        ensures area { self.new.area ≡ self.old.area }
         ensures limit { self.new.limit ≡ self.old.limit }
         ensures shows { InModel (D.view disk.old)
-            (OnOk result (Shows self.new (active_of (bytes_on (D.view disk.old))))) }
+            (OnOk result (Shows self.new (area_of self.old.area (bytes_on (D.view disk.old))))) }
         ensures len { IfOk result (λ bytes. vec_len bytes ≡ len) }
         ensures bytes { InModel (D.view disk.old)
             (IfOk result (λ bytes. Begins bytes.items
-            (drop at (active_of (bytes_on (D.view disk.old)))))) }
+            (drop at (area_of self.old.area (bytes_on (D.view disk.old)))))) }
     {
         let Ok(mut bytes) = Vec::with_capacity(self.alloc, len as usize) else {
             return Err(OpenCause::OutOfMemory);

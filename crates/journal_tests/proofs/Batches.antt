@@ -5,14 +5,13 @@ use Rattle.disk_model.specs.Disk.{Image, History, InModel, LeavesOnly, SameDisk}
 use Rattle.disk_model.specs.inside.Moments.{started, weakens, goes_on}
 use Rattle.journal.specs.Kept.{BeforeOrAfter, JournalView, Keeps, ImageStandsFor}
 use Rattle.journal_tests.specs.Batch.{Appended, SomeFirst}
-use Rattle.journal.specs.Area.{StandsFor}
-use Rattle.journal.specs.Limits.{max_payload}
+use Rattle.journal.specs.inside.Standing.{keeps_images}
 
 pub none_yet : (old : JournalView) (more : List (List ℕ)) → Appended old old more 0
 none_yet old more = record {
   same = record { room = refl; keeps_model = refl; later = omega arith };
   kept = λ model payloads keeps. subst (λ (l : List (List ℕ)). Keeps old.disk.history old.end l) (sym (append-nil payloads)) keeps;
-  moments = λ model payloads keeps. started (SomeFirst payloads more) old.disk.history (λ i image. (0, omega arith, subst (λ (l : List (List ℕ)). ImageStandsFor i l) (sym (append-nil payloads)) (subst (λ (bytes : List ℕ). StandsFor max_payload bytes payloads) (sym (keeps.durable i image)) keeps.stands)));
+  moments = λ model payloads keeps. started (SomeFirst payloads more) old.disk.history (λ i image. (0, omega arith, subst (λ (l : List (List ℕ)). ImageStandsFor i l) (sym (append-nil payloads)) (keeps_images old.disk.history old.end payloads keeps i image)));
 }
 
 module _ (old mid : JournalView) (more : List (List ℕ)) (n : ℕ) (so_far : Appended old mid more n) (payload : List ℕ) (next : take (n + 1) more ≡ take n more ++ payload ∷ []) (lt : n < length more) where

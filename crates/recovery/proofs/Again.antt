@@ -16,7 +16,7 @@ use Rattle.worksheet.specs.declared.op.Op.TheVariants as op
 use Rattle.recovery.specs.declared.reading.DecodeFault.{DecodeFault}
 use Rattle.recovery.specs.declared.reading.DecodeFault.TheVariants as faults
 use Rattle.recovery.specs.Code.{kind_of, parts_of, code_of, number, short, long, flag, HasCode, IsTyped, IsPayloadOf}
-use Rattle.recovery.specs.inside.Reading.{ReadsOrFails, Fails, FindsOp, session_at, new_at, set_at, remove_at, move_at, clear_at, lost_at, reason_with, asked_at}
+use Rattle.recovery.specs.inside.Reading.{ReadsOrFails, Fails, FindsOp, session_at, new_at, set_at, remove_at, move_at, clear_at, lost_at, reason_with, asked_at, ids_at}
 use Rattle.recovery.proofs.Fields.{number_again, short_again, long_again, words_again}
 
 -- reading the parts of an op of this kind gives the op
@@ -31,7 +31,8 @@ flag_again true = refl
 abbrev pub parts_at : ℕ → List ℕ → Option Op
 parts_at kind =
     if kind == 1 then session_at else if kind == 2 then new_at else if kind == 3 then set_at
-    else if kind == 4 then remove_at else if kind == 5 then move_at else if kind == 6 then clear_at else lost_at
+    else if kind == 4 then remove_at else if kind == 5 then move_at else if kind == 6 then clear_at else if kind == 8 then lost_at
+    else ids_at
 
 reason_again : (r : Reason) → reason_with (reason_number r) ≡ Some r
 reason_again reason.StartRefused = refl
@@ -45,20 +46,21 @@ reason_again reason.TooLong = refl
 reason_again reason.Stopped = refl
 
 read_again : (o : Op) → IsTyped o → HasCode o → (kind_of o == 7) ≡ false → parts_at (kind_of o) (parts_of o) ≡ Some o
-unfolding session_at new_at set_at remove_at move_at clear_at lost_at
-read_again (op.Session name tab words) typed fits small =
+unfolding session_at new_at set_at remove_at move_at clear_at lost_at ids_at
+read_again (op.Session name tab words) typed fits other =
     rw (short_again name (flag tab ∷ length words ∷ flat_map long words), words_again words fits.2, flag_again tab) refl
-read_again (op.New after session input) typed fits small =
+read_again (op.New after session input) typed fits other =
     let alone : long input ++ [] ≡ long input = append-nil (long input) in
     rw (number_again after (short session ++ long input) typed, short_again session (long input), ← alone, long_again input [] fits.1) refl
-read_again (op.Set id input) typed fits small =
+read_again (op.Set id input) typed fits other =
     let alone : long input ++ [] ≡ long input = append-nil (long input) in
     rw (number_again id (long input) typed, ← alone, long_again input [] fits) refl
-read_again (op.Remove id) typed fits small = rw (number_again id [] typed) refl
-read_again (op.Move id after) typed fits small = rw (number_again id (number after) typed.0, number_again after [] typed.1) refl
-read_again (op.Clear id) typed fits small = rw (number_again id [] typed) refl
-read_again (op.Answer id prompt output) typed fits small = absurd cc
-read_again (op.Lost id reason) typed fits small = rw (number_again id (reason_number reason ∷ []) typed, reason_again reason) refl
+read_again (op.Remove id) typed fits other = rw (number_again id [] typed) refl
+read_again (op.Move id after) typed fits other = rw (number_again id (number after) typed.0, number_again after [] typed.1) refl
+read_again (op.Clear id) typed fits other = rw (number_again id [] typed) refl
+read_again (op.Answer id prompt output) typed fits other = cc
+read_again (op.Lost id reason) typed fits other = rw (number_again id (reason_number reason ∷ []) typed, reason_again reason) refl
+read_again (op.Ids next) typed fits other = rw (number_again next [] typed) refl
 
 reads : (kind : ℕ) → (kind == 7) ≡ false → IsReader kind (parts_at kind)
 reads kind other o k typed fits =
@@ -84,6 +86,9 @@ clear_again = reads 6 refl
 
 pub lost_again : IsReader 8 lost_at
 lost_again = reads 8 refl
+
+pub ids_again : IsReader 9 ids_at
+ids_again = reads 9 refl
 
 pub asked_again : (id : ℕ) (prompt rest : List ℕ) → id < 2 ^ 32 → length prompt < 2 ^ 16 → asked_at (number id ++ (long prompt ++ rest)) ≡ Some ((id, prompt), rest)
 unfolding asked_at
@@ -126,6 +131,7 @@ no_answer bytes none (op.Remove id) payload = let no : 7 ∷ bytes ≡ code_of (
 no_answer bytes none (op.Move id after) payload = let no : 7 ∷ bytes ≡ code_of (op.Move id after) = payload.is in absurd cc
 no_answer bytes none (op.Clear id) payload = let no : 7 ∷ bytes ≡ code_of (op.Clear id) = payload.is in absurd cc
 no_answer bytes none (op.Lost id reason) payload = let no : 7 ∷ bytes ≡ code_of (op.Lost id reason) = payload.is in absurd cc
+no_answer bytes none (op.Ids next) payload = let no : 7 ∷ bytes ≡ code_of (op.Ids next) = payload.is in absurd cc
 
 abbrev pub just : {A : Type 0} → A → Option A
 just x = Some x
@@ -164,6 +170,7 @@ answer_in bytes rest prompt id read (op.Remove n) payload = let no : 7 ∷ bytes
 answer_in bytes rest prompt id read (op.Move n after) payload = let no : 7 ∷ bytes ≡ code_of (op.Move n after) = payload.is in absurd cc
 answer_in bytes rest prompt id read (op.Clear n) payload = let no : 7 ∷ bytes ≡ code_of (op.Clear n) = payload.is in absurd cc
 answer_in bytes rest prompt id read (op.Lost n reason) payload = let no : 7 ∷ bytes ≡ code_of (op.Lost n reason) = payload.is in absurd cc
+answer_in bytes rest prompt id read (op.Ids n) payload = let no : 7 ∷ bytes ≡ code_of (op.Ids n) = payload.is in absurd cc
 
 -- the block that was read is the answer's
 pub same_answer : (o : Op) (id : ℕ) (prompt rest : List ℕ) (output : Tree) → IsAnswerOf o id prompt rest → Spells limits output rest → op.Answer id prompt output ≡ o

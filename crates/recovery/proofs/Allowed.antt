@@ -85,6 +85,7 @@ code_of_allowed sheet (op.Answer id prompt output) names allowed =
     let none = none_applies (refusals sheet (op.Answer id prompt output)) allowed in
     omega (arith, not_more (length prompt) longest_prompt none.1.0)
 code_of_allowed sheet (op.Lost id reason) names allowed = tt
+code_of_allowed sheet (op.Ids next) names allowed = tt
 
 pub allowed_have_code : AllowedHaveCode
 allowed_have_code os o allowed next = code_of_allowed (sheet_of os) o (sessions_have_names os allowed) next

@@ -12,7 +12,7 @@ use Rattle.worksheet.specs.Ops.{sheet_of}
 use Rattle.worksheet.specs.Checks.{Allowed, AllowedFrom, first_refusal}
 use Rattle.worksheet.proofs.Existence.{allowed_goes_on}
 use Rattle.journal.specs.Kept.{Fits, ImageStandsFor, BeforeOrAfter, OtherUntouched, active_of}
-use Rattle.journal.specs.Area.{StandsFor}
+use Rattle.journal.specs.inside.Standing.{keeps_images}
 use Rattle.journal.specs.Limits.{max_payload}
 use Rattle.journal.specs.declared.opening.OpenCause.{OpenCause}
 use Rattle.journal.specs.declared.opening.OpenCause.TheVariants as causes
@@ -59,7 +59,7 @@ made_in view (Some base) sheet holds = holds.made
 pub all_images : {D : Type 0} (view : D → DiskView) (base : Base D) (sheet : Contents) → KeepsSheet base sheet → Leaves (IsSheetImage sheet) (disk_of view base).history.now
 all_images view (Open journal) sheet kept i image = record {
   ops = kept.ops;
-  stands = subst (λ (l : List ℕ). StandsFor max_payload l (codes_of kept.ops)) (sym (kept.keeps.durable i image)) kept.keeps.stands;
+  stands = keeps_images journal.disk.history journal.end (codes_of kept.ops) kept.keeps i image;
   makes = kept.makes;
 }
 all_images view (Closed disk) sheet kept i image = absurd kept.keeps
@@ -134,13 +134,13 @@ same_ops_from before (x ∷ a) (y ∷ b) allowed p q ta tb same =
     ap (λ (z : Op). z ∷ a) first ∙ ap (λ (l : List Op). y ∷ l) (same_ops_from (before ++ x ∷ []) a b (allowed_goes_on before x allowed p.0) p.1 behind ta.1 tb.1 parts.1)
 
 pub one_list_of_ops : OneList → OneListOfOps
-one_list_of_ops lists a b s t i p q stands other = same_ops_from [] a b tt p.allowed q.allowed p.typed q.typed (lists max_payload (omega arith) (active_of i) (codes_of a) (codes_of b) stands other)
+one_list_of_ops lists a b s t i p q stands other = same_ops_from [] a b tt p.allowed q.allowed p.typed q.typed (lists max_payload (omega arith) (active_of i) (codes_of a) (codes_of b) stands.stands other.stands)
 
 pub same_sheet : (a b : List Op) (s t : Contents) → Makes a s → Makes b t → codes_of a ≡ codes_of b → s ≡ t
 same_sheet a b s t p q same = p.is ∙ ap sheet_of (same_ops_from [] a b tt p.allowed q.allowed p.typed q.typed same) ∙ sym q.is
 
 pub one_sheet : OneList → OneSheet
-one_sheet lists s t i p q = same_sheet p.ops q.ops s t p.makes q.makes (lists max_payload (omega arith) (active_of i) (codes_of p.ops) (codes_of q.ops) p.stands q.stands)
+one_sheet lists s t i p q = same_sheet p.ops q.ops s t p.makes q.makes (lists max_payload (omega arith) (active_of i) (codes_of p.ops) (codes_of q.ops) p.stands.stands q.stands.stands)
 
 -- no payload of allowed ops is refused
 taken_from : (before ops taken : List Op) (payload : List ℕ) (more : List (List ℕ)) → Allowed before → AllowedFrom before ops → AllowedFrom before taken → AllByRecursion IsTyped ops → AllByRecursion IsTyped taken

@@ -6,9 +6,8 @@ use Rattle.worksheet.specs.declared.op.Op.{Op}
 use Rattle.worksheet.specs.Contents.{Contents, SheetView}
 use Rattle.worksheet.specs.Ops.{sheet_of}
 use Rattle.worksheet.specs.Checks.{first_refusal}
-use Rattle.journal.specs.Area.{StandsFor}
+use Rattle.journal.specs.inside.Standing.{keeps_images}
 use Rattle.journal.specs.Kept.{Fits, ImageStandsFor, JournalView, Keeps, BeforeOrAfter}
-use Rattle.journal.specs.Limits.{max_payload}
 use Rattle.recovery.specs.Code.{IsPayloadOf}
 use Rattle.recovery.specs.Sheets.{StoreView, codes_of, Makes, HasPlace, IsSheetImage, IsStore, KeepsOps, SameStore, StandsWithOrWithout}
 use Rattle.recovery.specs.declared.base.Base.{Base}
@@ -24,7 +23,7 @@ inside : {D : Type 0} (view : D → DiskView) (base : Base D) (payloads : List (
 inside view (Open journal) payloads opened keeps = keeps
 inside view (Closed disk) payloads opened keeps = absurd cc
 
-outside : {D : Type 0} (view : D → DiskView) (base : Base D) (payloads : List (List ℕ)) → KeepsIn base payloads → Keeps (disk_of view base).history (end_in base) payloads
+pub outside : {D : Type 0} (view : D → DiskView) (base : Base D) (payloads : List (List ℕ)) → KeepsIn base payloads → Keeps (disk_of view base).history (end_in base) payloads
 outside view (Open journal) payloads keeps = keeps
 outside view (Closed disk) payloads keeps = absurd keeps
 
@@ -77,7 +76,7 @@ pub stays_kept : (old new : StoreView) (o : Op) (ops : List Op) → SameStore ol
 stays_kept old new o ops same kept =
     subst (λ (d : DiskView). LeavesOnly (StandsWithOrWithout ops o) old.disk.history d.history) (sym same.disk)
     (started (StandsWithOrWithout ops o) old.disk.history
-    (λ i image. inl (subst (λ (l : List ℕ). StandsFor max_payload l (codes_of ops)) (sym (kept.keeps.durable i image)) kept.keeps.stands)))
+    (λ i image. inl (keeps_images old.disk.history old.end (codes_of ops) kept.keeps i image)))
 
 module _ {D : Type 0} (view : D → DiskView) (base : Base D) (sheet : SheetView) (o : Op) (payload : List ℕ) (own : IsPayloadOf o payload) where
   codes_more : (ops : List Op) → codes_of ops ++ payload ∷ [] ≡ codes_of (ops ++ o ∷ [])

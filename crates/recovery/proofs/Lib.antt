@@ -9,3 +9,5 @@ pub mod Images
 pub mod Kept
 pub mod Commits
 pub mod Refusals
+pub mod Renewing
+pub mod Gathering

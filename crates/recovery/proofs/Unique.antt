@@ -7,8 +7,8 @@ use Rattle.worksheet.specs.declared.op.Op.{Op}
 use Rattle.worksheet.specs.declared.op.Op.TheVariants as op
 use Rattle.recovery.specs.Code.{kind_of, parts_of, IsPayloadOf}
 use Rattle.recovery.specs.Laws.{OneOp}
-use Rattle.recovery.specs.inside.Reading.{session_at, new_at, set_at, remove_at, move_at, clear_at, lost_at}
-use Rattle.recovery.proofs.Again.{IsReader, some_is, session_again, new_again, set_again, remove_again, move_again, clear_again, lost_again, asked_again, answer_in, same_answer}
+use Rattle.recovery.specs.inside.Reading.{session_at, new_at, set_at, remove_at, move_at, clear_at, lost_at, ids_at}
+use Rattle.recovery.proofs.Again.{IsReader, some_is, session_again, new_again, set_again, remove_again, move_again, clear_again, lost_again, asked_again, answer_in, same_answer, ids_again}
 
 tail_is : (x y : ℕ) (xs ys : List ℕ) → x ∷ xs ≡ y ∷ ys → (x ≡ y) × (xs ≡ ys)
 tail_is x y xs ys e = (cc, cc)
@@ -26,6 +26,7 @@ one_op (op.Remove id) b payload p q = by_reader 4 remove_at remove_again (op.Rem
 one_op (op.Move id after) b payload p q = by_reader 5 move_at move_again (op.Move id after) b refl payload p q
 one_op (op.Clear id) b payload p q = by_reader 6 clear_at clear_again (op.Clear id) b refl payload p q
 one_op (op.Lost id reason) b payload p q = by_reader 8 lost_at lost_again (op.Lost id reason) b refl payload p q
+one_op (op.Ids next) b payload p q = by_reader 9 ids_at ids_again (op.Ids next) b refl payload p q
 one_op (op.Answer id prompt output) b payload p q =
     let parts = parts_of (op.Answer id prompt output) in
     let whole : IsPayloadOf b (7 ∷ parts) = record { typed = q.typed; fits = q.fits; is = sym p.is ∙ q.is } in

@@ -18,6 +18,7 @@ kind_of (op.Move id after) = 5
 kind_of (op.Clear id) = 6
 kind_of (op.Answer id prompt output) = 7
 kind_of (op.Lost id reason) = 8
+kind_of (op.Ids next) = 9
 
 -- a number, in four bytes
 abbrev pub number : ℕ → List ℕ
@@ -45,6 +46,7 @@ parts_of (op.Move id after) = number id ++ number after
 parts_of (op.Clear id) = number id
 parts_of (op.Answer id prompt output) = number id ++ (long prompt ++ canonical output)
 parts_of (op.Lost id reason) = number id ++ reason_number reason ∷ []
+parts_of (op.Ids next) = number next
 
 -- the payload of an op
 abbrev pub code_of : Op → List ℕ
@@ -72,6 +74,7 @@ HasCode (op.Move id after) = Unit {0}
 HasCode (op.Clear id) = Unit {0}
 HasCode (op.Answer id prompt output) = IsLong prompt
 HasCode (op.Lost id reason) = Unit {0}
+HasCode (op.Ids next) = Unit {0}
 
 -- a number of four bytes
 abbrev pub IsNumber : ℕ → Type 0
@@ -88,6 +91,7 @@ IsTyped (op.Move id after) = IsNumber id × IsNumber after
 IsTyped (op.Clear id) = IsNumber id
 IsTyped (op.Answer id prompt output) = IsNumber id × (is_block output ≡ true)
 IsTyped (op.Lost id reason) = IsNumber id
+IsTyped (op.Ids next) = IsNumber next
 
 -- these bytes are the payload of the op
 pub record IsPayloadOf (o : Op) (bytes : List ℕ) : Type 0 where

@@ -2,3 +2,4 @@ pub mod Reading
 pub mod Codes
 pub mod Taken
 pub mod Base
+pub mod Gathered

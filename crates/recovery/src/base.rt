@@ -1,8 +1,9 @@
 // What a store stands on.
 ghost use Rattle.std.specs.Prelude.{◌≡◌, ◌+◌, ◌++◌, ◌∷◌, ◌↔◌, [], List, ℕ, length, false, true, OnOk, OnErr, IsTrue};
 ghost use Rattle.disk_model.specs.Disk.{InModel, LeavesOnly, SameDisk, Rises, bytes_on};
-ghost use Rattle.journal.specs.Kept.{BeforeOrAfter, Fits, other_of};
+ghost use Rattle.journal.specs.Kept.{BeforeOrAfter, EitherStands, Fits, other_of};
 
+use crate::fault::CheckpointFault;
 use disk_model::{Disk, DiskFault};
 use journal::{AppendFault, Frame, Journal};
 
@@ -14,7 +15,7 @@ pub(crate) enum Base<D: Disk> {
 }
 
 impl<D: Disk> Base<D> {
-    ghost use Rattle.recovery.specs.inside.Base.{disk_of, end_in, is_closed, HasPlaceIn, KeepsIn};
+    ghost use Rattle.recovery.specs.inside.Base.{disk_of, end_in, is_closed, AnewAnswers, HasPlaceIn, KeepsIn};
 
     /// Adds a payload for which there is a place. A failure of the disk closes it.
     pub(crate) fn with(self, frame: &Frame) -> (Base<D>, Result<(), DiskFault>)
@@ -45,6 +46,29 @@ impl<D: Disk> Base<D> {
                 Ok(journal) => (Base::Open(journal), Ok(())),
                 Err(AppendFault::Disk(disk)) => (Base::Closed(disk), Err(DiskFault)),
                 Err(AppendFault::JournalFull(_)) => unreachable!(),
+            },
+            Base::Closed(_) => unreachable!(),
+        }
+    }
+
+    /// Writes these payloads in place of its own. A failure of the disk closes it.
+    pub(crate) fn anew(self, frames: &[Frame]) -> (Base<D>, Result<(), CheckpointFault>)
+        requires { is_closed self ≡ false }
+
+        ensures same { SameDisk (disk_of D.view self) (disk_of D.view result.0) }
+        ensures answers { AnewAnswers D.view self result.0 frames.now result.1 }
+        ensures any_moment { InModel (disk_of D.view self)
+            ((payloads : List (List ℕ)) → KeepsIn self payloads
+            → LeavesOnly (EitherStands payloads frames.now) (disk_of D.view self).history
+            (disk_of D.view result.0).history) }
+    {
+        match self {
+            Base::Open(journal) => match journal.rewrite(frames) {
+                Ok(journal) => (Base::Open(journal), Ok(())),
+                Err(AppendFault::Disk(disk)) => (Base::Closed(disk), Err(CheckpointFault::Disk)),
+                Err(AppendFault::JournalFull(journal)) => {
+                    (Base::Open(journal), Err(CheckpointFault::Full))
+                }
             },
             Base::Closed(_) => unreachable!(),
         }

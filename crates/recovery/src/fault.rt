@@ -1,8 +1,9 @@
 //! Why an op isn't committed.
 ghost use Rattle.std.specs.Prelude.{◌≡◌};
 ghost use Rattle.recovery.specs.declared.fault.PrepareFault.TheVariants.{OutOfMemory};
+ghost use Rattle.recovery.specs.declared.fault.CheckpointFault.TheVariants.{OutOfMemory as CheckpointMemory};
 
-use std::alloc::AllocError;
+use std::alloc::{AllocError, AllocFailed};
 use worksheet::Op;
 
 /// Why no record was prepared. The first that applies is answered; nothing has changed.
@@ -35,4 +36,33 @@ pub enum CommitFault {
     Disk,
     /// The disk has failed before. Nothing has changed.
     Closed,
+}
+
+/// Why a checkpoint wasn't made. But for `Disk` nothing has changed.
+#[derive(Clone, Copy, Debug, PartialEq, Eq)]
+pub enum CheckpointFault {
+    /// The records that make the worksheet anew don't fit in an area.
+    Full,
+    /// A growth was refused.
+    OutOfMemory,
+    /// The disk failed. It stands for the same worksheet, and the store is closed.
+    Disk,
+    /// The disk has failed before.
+    Closed,
+}
+
+impl From<AllocError> for CheckpointFault {
+    ghost from_gives = { λ _ e. e ≡ CheckpointMemory };
+
+    fn from(_: AllocError) -> Self {
+        CheckpointFault::OutOfMemory
+    }
+}
+
+impl<T: Drop> From<AllocFailed<T>> for CheckpointFault {
+    ghost from_gives = { λ _ e. e ≡ CheckpointMemory };
+
+    fn from(_: AllocFailed<T>) -> Self {
+        CheckpointFault::OutOfMemory
+    }
 }

@@ -8,11 +8,12 @@ mod laws;
 mod opening;
 mod parts;
 mod reading;
+mod rewriting;
 mod size;
 mod store;
 mod writing;
 
-pub use fault::{CommitFault, PrepareFault};
+pub use fault::{CheckpointFault, CommitFault, PrepareFault};
 pub use laws::{
     allowed_have_code, one_list_of_ops, one_op, one_refusal, one_sheet, received_answers_fit,
     sheet_image_opens,

@@ -3,7 +3,7 @@ ghost use Rattle.std.specs.Prelude.{◌≡◌, ◌∷◌, IfOk, IsErrOf};
 ghost use Rattle.worksheet.specs.declared.op.Op.{Op};
 ghost use Rattle.recovery.specs.declared.reading.DecodeFault.TheVariants.{OutOfMemory};
 ghost use Rattle.recovery.specs.Code.{HasCode, IsLong, IsPayloadOf};
-ghost use Rattle.recovery.specs.inside.Reading.{ReadsOrFails, FindsOp, session_at, new_at, set_at, remove_at, move_at, clear_at, lost_at, asked_at};
+ghost use Rattle.recovery.specs.inside.Reading.{ReadsOrFails, FindsOp, session_at, new_at, set_at, remove_at, move_at, clear_at, lost_at, asked_at, ids_at};
 
 use crate::parts::{long_of, number_of, reason_of, short_of, words_of};
 use crate::writing::encode;
@@ -119,6 +119,15 @@ fn lost_of(bytes: &[u8]) -> Result<Op, DecodeFault>
     Ok(Op::Lost { id, reason })
 }
 
+#[tactic(auto, unfolding(crate::specs::inside::Reading::ids_at))]
+fn ids_of(bytes: &[u8]) -> Result<Op, DecodeFault>
+    ensures read { ReadsOrFails (λ op. op) result (ids_at bytes.now) }
+    ensures fits { IfOk result HasCode }
+{
+    let (next, _) = number_of(bytes).ok_or(DecodeFault::Unreadable)?;
+    Ok(Op::Ids { next })
+}
+
 #[tactic(auto, unfolding(crate::specs::inside::Reading::asked_at))]
 fn asked_of(bytes: &[u8]) -> Result<(u32, &[u8], &[u8]), DecodeFault>
     ensures read { ReadsOrFails (λ x. ((x.0, x.1.now), x.2.now)) result (asked_at bytes.now) }
@@ -159,6 +168,7 @@ fn op_of(alloc: Global, bytes: &[u8]) -> Result<Op, DecodeFault>
         6 => clear_of(rest),
         7 => answer_of(alloc, rest),
         8 => lost_of(rest),
+        9 => ids_of(rest),
         _ => Err(DecodeFault::Unreadable),
     }
 }

@@ -83,7 +83,7 @@ pub fn code_len(op: &Op) -> u64
             input,
         } => { 8 + session.as_slice().len() as u64 + input.as_slice().len() as u64 }
         Op::Set { id: _, input } => 7 + input.as_slice().len() as u64,
-        Op::Remove { id: _ } | Op::Clear { id: _ } => 5,
+        Op::Remove { id: _ } | Op::Clear { id: _ } | Op::Ids { next: _ } => 5,
         Op::Move { id: _, after: _ } => 9,
         Op::Answer {
             id: _,

@@ -6,12 +6,15 @@ ghost use Rattle.worksheet.specs.Contents.{Contents};
 ghost use Rattle.worksheet.specs.Ops.{sheet_of};
 ghost use Rattle.worksheet.specs.Checks.{first_refusal, room_for};
 ghost use Rattle.journal.specs.Kept.{Fits, OtherUntouched, other_of};
-ghost use Rattle.recovery.specs.Code.{code_of, HasCode, IsPayloadOf};
-ghost use Rattle.recovery.specs.Sheets.{IsSheetImage, IsEither, KeepsOps, Makes, StandsWithOrWithout, TellsOfSheet, HasPlace, IsReady, IsStore, SameStore};
+ghost use Rattle.std.specs.List.{AllByRecursion};
+ghost use Rattle.worksheet.specs.Rewrite.{rewrite_of};
+ghost use Rattle.recovery.specs.Code.{code_of, HasCode, IsPayloadOf, IsTyped};
+ghost use Rattle.recovery.specs.Sheets.{codes_of, IsSheetImage, IsEither, KeepsOps, Makes, StandsWithOrWithout, TellsOfSheet, HasPlace, IsReady, IsStore, SameStore};
 
 use crate::base::Base;
-use crate::fault::{CommitFault, PrepareFault};
+use crate::fault::{CheckpointFault, CommitFault, PrepareFault};
 use crate::opening::take_all;
+use crate::rewriting::frames_of;
 use crate::size::code_len;
 use crate::writing::encode;
 use disk_model::{Disk, DiskFault};
@@ -50,6 +53,7 @@ impl<D: Disk> Model for Store<D> {
 impl<D: Disk> Store<D> {
     ghost use Rattle.recovery.specs.Opened.{disk_left, GivesSheet};
     ghost use Rattle.recovery.specs.Committed.{Commits, DoesNotFit, LeftBy};
+    ghost use Rattle.recovery.specs.Checkpointed.{CheckpointAnswers};
 
     /// Opens a disk that a crash may have left, and gives the worksheet that it stands for. It writes
     /// nothing. A disk that stands for none is refused with its first damage: that of the gates
@@ -246,6 +250,58 @@ impl<D: Disk> Store<D> {
             Ok(()) => Ok(()),
             Err(DiskFault) => Err(CommitFault::Disk),
         }
+    }
+
+    /// Writes the worksheet anew, in place of the ops that have made it: those of fields that are gone, of
+    /// answers that were taken away and of inputs that were changed take no room any more. It changes
+    /// neither the worksheet nor the number of its next new field. (docs/FORMAT.md, "Checkpoint".)
+    ///
+    /// `Full` and `OutOfMemory` change nothing and touch no disk. After `Disk` the store is closed.
+    pub fn checkpoint(&mut self) -> Result<(), CheckpointFault>
+        ensures store { IsStore self.old }
+        ensures same { SameDisk self.old.disk self.new.disk }
+        ensures sheet { self.new.sheet ≡ self.old.sheet }
+
+        // All that it does, by its answer.
+        ensures answers { CheckpointAnswers self.old self.new result }
+
+        // A crash at any moment of the call leaves the same worksheet.
+        ensures any_moment { InModel self.old.disk
+            (self.old.closed ≡ false → LeavesOnly (IsSheetImage self.old.sheet.contents)
+            self.old.disk.history self.new.disk.history) }
+    {
+        let Some(base) = &self.base else {
+            unreachable!();
+        };
+        if base.is_closed() {
+            return Err(CheckpointFault::Closed);
+        }
+        let frames = match frames_of(self.alloc, &self.sheet) {
+            Ok(frames) => frames,
+            Err(fault) => return Err(fault),
+        };
+        self.renew(&frames)
+    }
+
+    /// Writes these records, which make the worksheet anew, in place of the journal's own.
+    fn renew(&mut self, frames: &[Frame]) -> Result<(), CheckpointFault>
+        requires open { self.old.closed ≡ false }
+        requires frames { frames.now ≡ codes_of (rewrite_of self.old.sheet.contents) }
+        requires typed { AllByRecursion IsTyped (rewrite_of self.old.sheet.contents) }
+
+        ensures store { IsStore self.old }
+        ensures same { SameDisk self.old.disk self.new.disk }
+        ensures sheet { self.new.sheet ≡ self.old.sheet }
+        ensures answers { CheckpointAnswers self.old self.new result }
+
+        // A crash at any moment of the call leaves the same worksheet.
+        ensures any_moment { InModel self.old.disk
+            (LeavesOnly (IsSheetImage self.old.sheet.contents) self.old.disk.history
+            self.new.disk.history) }
+    {
+        let (renewed, result) = self.base.take().unwrap().anew(frames);
+        self.base = Some(renewed);
+        result
     }
 
     /// The worksheet.

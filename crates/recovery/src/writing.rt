@@ -117,6 +117,10 @@ fn put_op(op: &Op, out: &mut Vec<u8>) -> Result<(), OutOfMemory>
             out.push(number_of(*reason))?;
             Ok(())
         }
+        Op::Ids { next } => {
+            out.push(9)?;
+            out.extend_from_slice(&next.to_be_bytes())
+        }
     }
 }
 

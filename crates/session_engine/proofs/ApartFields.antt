@@ -1,5 +1,5 @@
 -- Fields, and whose they are, behind one op more.
-use Rattle.std.proofs.Common.{◌≡◌, ◌<◌, ◌+◌, ℕ, List, [], ◌∷◌, ◌++◌, map, refl, ap, sym, ◌∙◌, subst, arith, append_assoc, Bool, true, false, Option, Some, None}
+use Rattle.std.proofs.Common.{◌≡◌, ◌<◌, ◌≤◌, ◌+◌, ℕ, List, [], ◌∷◌, ◌++◌, map, refl, ap, sym, ◌∙◌, subst, arith, append_assoc, Bool, true, false, Option, Some, None}
 use Rattle.std.specs.Prelude.{if◌then◌else◌, ◌==◌, not, cond, is_some}
 use Rattle.std.specs.Str.{bytes_eq}
 use Rattle.std.specs.List.{find}
@@ -45,6 +45,7 @@ changed_alike name (op.Move id after) f g s h = s h
 changed_alike name (op.Clear id) f g s h = refl
 changed_alike name (op.Answer id prompt output) f g s h = refl
 changed_alike name (op.Lost id reason) f g s h = refl
+changed_alike name (op.Ids number) f g s h = s h
 
 -- an op that both have
 seen_push : (name : List ℕ) (a b : List Op) (o : Op) → Seen name a b → Seen name (a ++ o ∷ []) (b ++ o ∷ [])
@@ -121,18 +122,31 @@ abbrev pub HasOwner : List Op → List ℕ → Item → Type 0
 HasOwner os name (item.Line id text) = (id < next_of os) × ((field_of os id).session ≡ name)
 HasOwner os name (item.Complete id text cursor) = Unit {0}
 
-next_grows : (os : List Op) (o : Op) (id : ℕ) → id < next_of os → id < next_of (os ++ o ∷ [])
-next_grows os o id h = subst (λ (n : ℕ). id < n) (sym (next_from-push 1 os o)) (go o)
+-- an op that moves no field that there isn't, and takes no number back
+abbrev pub MovesOne : List Op → Op → Type 0
+MovesOne os (op.Session name tab words) = Unit {0}
+MovesOne os (op.New after session input) = Unit {0}
+MovesOne os (op.Set id input) = Unit {0}
+MovesOne os (op.Remove id) = Unit {0}
+MovesOne os (op.Move id after) = id < next_of os
+MovesOne os (op.Clear id) = Unit {0}
+MovesOne os (op.Answer id prompt output) = Unit {0}
+MovesOne os (op.Lost id reason) = Unit {0}
+MovesOne os (op.Ids number) = next_of os ≤ number
+
+next_grows : (os : List Op) (o : Op) (id : ℕ) → MovesOne os o → id < next_of os → id < next_of (os ++ o ∷ [])
+next_grows os o id m h = subst (λ (n : ℕ). id < n) (sym (next_from-push 1 os o)) (go o m)
   where
-    go : (p : Op) → id < next_after (next_of os) p
-    go (op.Session name tab words) = h
-    go (op.New after session input) = omega (arith, h)
-    go (op.Set j input) = h
-    go (op.Remove j) = h
-    go (op.Move j after) = h
-    go (op.Clear j) = h
-    go (op.Answer j prompt output) = h
-    go (op.Lost j reason) = h
+    go : (p : Op) → MovesOne os p → id < next_after (next_of os) p
+    go (op.Session name tab words) m = h
+    go (op.New after session input) m = omega (arith, h)
+    go (op.Set j input) m = h
+    go (op.Remove j) m = h
+    go (op.Move j after) m = h
+    go (op.Clear j) m = h
+    go (op.Answer j prompt output) m = h
+    go (op.Lost j reason) m = h
+    go (op.Ids number) m = omega (arith, h, m)
 
 owner_still : (os : List Op) (o : Op) (id : ℕ) → id < next_of os → (field_of (os ++ o ∷ []) id).session ≡ (field_of os id).session
 owner_still os o id h = ap (λ (f : Field). f.session) (field_of-push os o id) ∙ go o (is_about id (next_of os) o) refl
@@ -147,10 +161,11 @@ owner_still os o id h = ap (λ (f : Field). f.session) (field_of-push os o id) �
     go (op.Clear j) true e = refl
     go (op.Answer j prompt output) true e = refl
     go (op.Lost j reason) true e = refl
+    go (op.Ids number) true e = refl
 
-pub owned_still : (os : List Op) (o : Op) (name : List ℕ) (i : Item) → HasOwner os name i → HasOwner (os ++ o ∷ []) name i
-owned_still os o name (item.Line id text) h = (next_grows os o id h.0, owner_still os o id h.0 ∙ h.1)
-owned_still os o name (item.Complete id text cursor) h = tt
+pub owned_still : (os : List Op) (o : Op) (name : List ℕ) (i : Item) → MovesOne os o → HasOwner os name i → HasOwner (os ++ o ∷ []) name i
+owned_still os o name (item.Line id text) m h = (next_grows os o id m h.0, owner_still os o id h.0 ∙ h.1)
+owned_still os o name (item.Complete id text cursor) m h = tt
 
 -- A field that there is, among these.
 pub found_owner : (os : List Op) (bound id : ℕ) (ids : List ℕ) → AllBelow bound ids → is_some (find (λ f. f.id == id) (map (field_of os) ids)) ≡ true
@@ -187,10 +202,9 @@ below_without bound x (j ∷ ids) below = go (not (j == x)) (below_without bound
     go true rest = (below.0, rest)
     go false rest = rest
 
--- an op that moves no field that there isn't
-abbrev pub MovesOne : List Op → Op → Type 0
-MovesOne os (op.Move id after) = id < next_of os
-MovesOne os _ = Unit {0}
+below_rising : (bound more : ℕ) (ids : List ℕ) → bound ≤ more → AllBelow bound ids → AllBelow more ids
+below_rising bound more [] le below = tt
+below_rising bound more (j ∷ ids) le below = (omega (arith, le, below.0), below_rising bound more ids le below.1)
 
 pub below_push : (os : List Op) (o : Op) → MovesOne os o → AllBelow (next_of os) (order_of os) → AllBelow (next_of (os ++ o ∷ [])) (order_of (os ++ o ∷ []))
 below_push os o m below = subst (λ (n : ℕ). AllBelow n (order_of (os ++ o ∷ []))) (sym (next_from-push 1 os o))
@@ -205,6 +219,7 @@ below_push os o m below = subst (λ (n : ℕ). AllBelow n (order_of (os ++ o ∷
     go (op.Clear j) m = below
     go (op.Answer j prompt output) m = below
     go (op.Lost j reason) m = below
+    go (op.Ids number) m = below_rising (next_of os) number (order_of os) m below
 
 pub below_of : (os : List Op) (bound : ℕ) (ids : List ℕ) → AllBelow bound (numbers (map (field_of os) ids)) → AllBelow bound ids
 below_of os bound [] h = tt

@@ -31,6 +31,7 @@ next_is next (op.Move id after ∷ os) = next_is next os
 next_is next (op.Clear id ∷ os) = next_is next os
 next_is next (op.Answer id prompt output ∷ os) = next_is next os
 next_is next (op.Lost id reason ∷ os) = next_is next os
+next_is next (op.Ids number ∷ os) = next_is number os
 
 order_is : (next : ℕ) (ids : List ℕ) (os : List Op) → order_from next ids os ≡ order_from next ids (commanded os)
 order_is next ids [] = refl
@@ -42,6 +43,7 @@ order_is next ids (op.Move id after ∷ os) = order_is next (placed after id (wi
 order_is next ids (op.Clear id ∷ os) = order_is next ids os
 order_is next ids (op.Answer id prompt output ∷ os) = order_is next ids os
 order_is next ids (op.Lost id reason ∷ os) = order_is next ids os
+order_is next ids (op.Ids number ∷ os) = order_is number ids os
 
 sessions_are : (os : List Op) → sessions_of os ≡ sessions_of (commanded os)
 sessions_are [] = refl
@@ -53,6 +55,7 @@ sessions_are (op.Move id after ∷ os) = sessions_are os
 sessions_are (op.Clear id ∷ os) = sessions_are os
 sessions_are (op.Answer id prompt output ∷ os) = sessions_are os
 sessions_are (op.Lost id reason ∷ os) = sessions_are os
+sessions_are (op.Ids number ∷ os) = sessions_are os
 
 module _ (by : Op → Option (List ℕ)) (never : (id : ℕ) (prompt : List ℕ) (output : Tree) → by (op.Answer id prompt output) ≡ None) (nor : (id : ℕ) (reason : Reason) → by (op.Lost id reason) ≡ None) where
   with_it : (b : Bool) (o : Op) (xs ys : List Op) → ((g : List ℕ) → last_given by g xs ≡ last_given by g ys)
@@ -76,6 +79,7 @@ module _ (by : Op → Option (List ℕ)) (never : (id : ℕ) (prompt : List ℕ)
   given_alike id next (op.Answer j prompt output ∷ os) g =
       past_it (j == id) (op.Answer j prompt output) (about_from id next os) (never j prompt output) g ∙ given_alike id next os g
   given_alike id next (op.Lost j reason ∷ os) g = past_it (j == id) (op.Lost j reason) (about_from id next os) (nor j reason) g ∙ given_alike id next os g
+  given_alike id next (op.Ids number ∷ os) g = given_alike id number os g
 
   pub last_alike : (id : ℕ) (os us : List Op) → commanded os ≡ commanded us → last_given by [] (about id os) ≡ last_given by [] (about id us)
   last_alike id os us h = given_alike id 1 os [] ∙ ap (λ (xs : List Op). last_given by [] (about_from id 1 xs)) h ∙ sym (given_alike id 1 us [])

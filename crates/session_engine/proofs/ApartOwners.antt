@@ -88,7 +88,7 @@ all_replaced P m y (l ∷ ls) all one = go (bytes_eq l.name m) (all_replaced P m
 owned_op : (w : World) (o : Op) → MovesOne w.ops o → Owned w → Owned (with_op o w)
 owned_op w o m h = record {
   below = below_push w.ops o m h.below;
-  lives = all_mapped (OwnsItems w.ops) (OwnsItems (w.ops ++ o ∷ [])) (λ l all. all_mapped (HasOwner w.ops l.name) (HasOwner (w.ops ++ o ∷ []) l.name) (λ i own. owned_still w.ops o l.name i own) (items_of l.past) all) w.lives h.lives;
+  lives = all_mapped (OwnsItems w.ops) (OwnsItems (w.ops ++ o ∷ [])) (λ l all. all_mapped (HasOwner w.ops l.name) (HasOwner (w.ops ++ o ∷ []) l.name) (λ i own. owned_still w.ops o l.name i m own) (items_of l.past) all) w.lives h.lives;
 }
 
 owned_without : (w : World) (m : List ℕ) → Owned w → Owned (without_life m w)
@@ -215,6 +215,7 @@ OpOwned os name (Some (op.Move id after)) = ⊥
 OpOwned os name (Some (op.Clear id)) = ⊥
 OpOwned os name (Some (op.Answer id prompt output)) = (field_of os id).session ≡ name
 OpOwned os name (Some (op.Lost id why)) = Unit {0}
+OpOwned os name (Some (op.Ids number)) = ⊥
 
 -- An event of a child: what becomes of its life, and then its op, if it gives one.
 pub record OfChild (m : List ℕ) (w v : World) : Type 0 where
@@ -301,3 +302,4 @@ child_grown m w v g = grown_to w v (with_op_if g.given g.on) g.is (go g.given g.
     go (Some (op.Clear id)) mine = absurd mine
     go (Some (op.Answer id prompt output)) mine = one (op.Answer id prompt output) tt
     go (Some (op.Lost id why)) mine = one (op.Lost id why) tt
+    go (Some (op.Ids number)) mine = absurd mine

@@ -63,6 +63,7 @@ unseen n w (event.Child m number c) o v b k h g s =
     go z kept (Some (op.Move id after)) mine none = absurd mine
     go z kept (Some (op.Clear id)) mine none = absurd mine
     go z kept (Some (op.Answer id prompt output)) mine none = subst (λ (os : List Op). Seen n (os ++ op.Answer id prompt output ∷ []) b) (sym kept) (seen_past n m w.ops b id prompt output mine apart s)
+    go z kept (Some (op.Ids number)) mine none = absurd mine
     go z kept (Some (op.Lost id why)) mine none =
         subst (λ (os : List Op). Seen n (os ++ op.Lost id why ∷ []) b) (sym kept) (seen_lost n w.ops b id why (none id why (ap (λ (os : List Op). os ++ op.Lost id why ∷ []) kept)) s)
 

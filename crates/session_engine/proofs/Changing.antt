@@ -86,6 +86,7 @@ allowed_by w (op.Move id place) h = h
 allowed_by w (op.Clear id) h = (none_second (refusal.InFlight, in_flight w id) (sheet_refusals (sheet_in w) (op.Clear id)) h).1
 allowed_by w (op.Answer id prompt output) h = h
 allowed_by w (op.Lost id why) h = h
+allowed_by w (op.Ids number) h = h
 
 -- no line of a field that goes waits
 
@@ -128,6 +129,7 @@ spares w (op.Move other place) h = all_lives (op.Move other place) w.lives (no_m
 spares w (op.Clear other) h = all_lives (op.Clear other) w.lives (no_matter (op.Clear other) (λ id. tt))
 spares w (op.Answer other prompt output) h = all_lives (op.Answer other prompt output) w.lives (no_matter (op.Answer other prompt output) (λ id. tt))
 spares w (op.Lost other why) h = all_lives (op.Lost other why) w.lives (no_matter (op.Lost other why) (λ id. tt))
+spares w (op.Ids number) h = all_lives (op.Ids number) w.lives (no_matter (op.Ids number) (λ id. tt))
 
 module _ (w : World) (c : Command) (o : Op) (is : op_of c ≡ Some o) where
   pub gives_refusal : (r : Refusal) → first_of (checks w o) ≡ Some r → MayDo w (event.Command c) (tells w (reply.Refused r))

@@ -53,6 +53,7 @@ KeepsInput id (op.Move other after) = Unit {0}
 KeepsInput id (op.Clear other) = Unit {0}
 KeepsInput id (op.Answer other prompt output) = Unit {0}
 KeepsInput id (op.Lost other why) = Unit {0}
+KeepsInput id (op.Ids number) = Unit {0}
 
 spares : (id : ℕ) (o : Op) → KeepsInput id o → Spares id o
 spares id (op.Session name tab words) h = tt
@@ -63,6 +64,7 @@ spares id (op.Move other after) h = tt
 spares id (op.Clear other) h = tt
 spares id (op.Answer other prompt output) h = tt
 spares id (op.Lost other why) h = tt
+spares id (op.Ids number) h = tt
 
 same_input : (id next : ℕ) (o : Op) (f : Field) → KeepsInput id o → (next == id) ≡ false → is_about id next o ≡ true → (changed o f).input ≡ f.input
 same_input id next (op.Session name tab words) f h n a = refl
@@ -73,6 +75,7 @@ same_input id next (op.Move other after) f h n a = refl
 same_input id next (op.Clear other) f h n a = refl
 same_input id next (op.Answer other prompt output) f h n a = refl
 same_input id next (op.Lost other why) f h n a = refl
+same_input id next (op.Ids number) f h n a = refl
 
 input_still : (os : List Op) (o : Op) (id : ℕ) → KeepsInput id o → (next_of os == id) ≡ false → (field_of (os ++ o ∷ []) id).input ≡ (field_of os id).input
 input_still os o id h n = ap (λ (f : Field). f.input) (field_of-push os o id) ∙ go (is_about id (next_of os) o) refl
@@ -146,6 +149,7 @@ module _ (os : List Op) (g : Field) (answer : Answer) (allowed : Allowed os) (sh
   by_cases (op.Move other after) true a e is = here e is (op.Move other after)
   by_cases (op.Clear other) true a e is = absurd (unanswered (changed (op.Clear other) (field_of os g.id)) refl is)
   by_cases (op.Lost other why) true a e is = absurd (unanswered (changed (op.Lost other why) (field_of os g.id)) refl is)
+  by_cases (op.Ids number) true a e is = here e is (op.Ids number)
   by_cases (op.Answer other prompt output) true a e is =
       let same : other ≡ g.id = grind (arith, nat_tests, a) in
       inr (record {

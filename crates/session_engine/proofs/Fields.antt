@@ -41,6 +41,7 @@ exists_more id next os (op.Move other after) s a h = rw (last_of-push makes_or_e
 exists_more id next os (op.Clear other) s a h = rw (last_of-push makes_or_ends os (op.Clear other)) h
 exists_more id next os (op.Answer other prompt output) s a h = rw (last_of-push makes_or_ends os (op.Answer other prompt output)) h
 exists_more id next os (op.Lost other why) s a h = rw (last_of-push makes_or_ends os (op.Lost other why)) h
+exists_more id next os (op.Ids number) s a h = rw (last_of-push makes_or_ends os (op.Ids number)) h
 
 exists_still : (os : List Op) (o : Op) (id : ℕ) → Spares id o → exists os id ≡ true → exists (os ++ o ∷ []) id ≡ true
 exists_still os o id s h = subst (λ (l : List Op). is_making (last_of makes_or_ends l) ≡ true) (sym (about_from-push id 1 os o)) (go (is_about id (next_of os) o) refl)

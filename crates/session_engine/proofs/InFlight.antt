@@ -149,6 +149,7 @@ GivesNone id (op.Move other after) = Unit {0}
 GivesNone id (op.Clear other) = Unit {0}
 GivesNone id (op.Answer other prompt output) = (other == id) ≡ false
 GivesNone id (op.Lost other why) = (other == id) ≡ false
+GivesNone id (op.Ids number) = Unit {0}
 
 still_none : (os : List Op) (o : Op) (id : ℕ) → GivesNone id o → Bare (field_of os id) → Bare (field_of (os ++ o ∷ []) id)
 still_none os o id h none = subst Bare (sym (field_of-push os o id)) (go o (is_about id (next_of os) o) refl h)
@@ -163,6 +164,7 @@ still_none os o id h none = subst Bare (sym (field_of-push os o id)) (go o (is_a
     go (op.Clear other) true e h = (refl, refl)
     go (op.Answer other prompt output) true e h = absurd (let no : true ≡ false = sym e ∙ h in cc)
     go (op.Lost other why) true e h = absurd (let no : true ≡ false = sym e ∙ h in cc)
+    go (op.Ids number) true e h = none
 
 cleared_none : (os : List Op) (id : ℕ) → Bare (field_of (os ++ op.Clear id ∷ []) id)
 cleared_none os id =

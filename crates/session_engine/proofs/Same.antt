@@ -62,6 +62,7 @@ module _ (w : World) (b : List Op) (same : sheet_of w.ops ≡ sheet_of b) where
   checks_same (op.Clear id) = ap (λ (s : Contents). second (refusal.InFlight, in_flight w id) (sheet_refusals s (op.Clear id))) same
   checks_same (op.Answer id prompt output) = ap (λ (s : Contents). sheet_refusals s (op.Answer id prompt output)) same
   checks_same (op.Lost id why) = ap (λ (s : Contents). sheet_refusals s (op.Lost id why)) same
+  checks_same (op.Ids number) = ap (λ (s : Contents). sheet_refusals s (op.Ids number)) same
 
   session_same : (id : ℕ) → session_of_field w id ≡ session_of_field (by_ops b w) id
   session_same id = ap (λ (s : Contents). by_field (field_in s.fields id) [] (λ f. f.session)) same

@@ -95,6 +95,7 @@ is_no_reason (op.Move id after) = true
 is_no_reason (op.Clear id) = true
 is_no_reason (op.Answer id prompt output) = true
 is_no_reason (op.Lost id reason) = false
+is_no_reason (op.Ids number) = true
 
 abbrev pub but_reasons : List Op → List Op
 but_reasons [] = []
@@ -125,6 +126,7 @@ is_commanded (op.Move id after) = true
 is_commanded (op.Clear id) = true
 is_commanded (op.Answer id prompt output) = false
 is_commanded (op.Lost id reason) = false
+is_commanded (op.Ids number) = true
 
 abbrev pub commanded : List Op → List Op
 commanded [] = []

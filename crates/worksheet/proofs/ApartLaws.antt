@@ -33,14 +33,14 @@ allowed_front os more allowed = front_from [] os more allowed
 -- Names.
 
 -- what is not found is not the first, and not behind it
-not_first : (s : Session) (ss : List Session) (name : List ℕ) → session_named (s ∷ ss) name ≡ None → (bytes_eq s.name name ≡ false) × (session_named ss name ≡ None)
+pub not_first : (s : Session) (ss : List Session) (name : List ℕ) → session_named (s ∷ ss) name ≡ None → (bytes_eq s.name name ≡ false) × (session_named ss name ≡ None)
 not_first s ss name h = go (bytes_eq s.name name) refl h
   where
     go : (b : Bool) → bytes_eq s.name name ≡ b → (if b then Some s else session_named ss name) ≡ None → (bytes_eq s.name name ≡ false) × (session_named ss name ≡ None)
     go true e h = let no : Some s ≡ None = h in cc
     go false e h = (e, h)
 
-turned : (a b : List ℕ) → bytes_eq a b ≡ false → bytes_eq b a ≡ false
+pub turned : (a b : List ℕ) → bytes_eq a b ≡ false → bytes_eq b a ≡ false
 turned a b h = go (bytes_eq b a) refl
   where
     go : (c : Bool) → bytes_eq b a ≡ c → bytes_eq b a ≡ false
@@ -72,6 +72,7 @@ apart_one os (op.Move id after) apart next = subst AreNamedApart (sym (append-ni
 apart_one os (op.Clear id) apart next = subst AreNamedApart (sym (append-nil (sessions_of os))) apart
 apart_one os (op.Answer id prompt output) apart next = subst AreNamedApart (sym (append-nil (sessions_of os))) apart
 apart_one os (op.Lost id reason) apart next = subst AreNamedApart (sym (append-nil (sessions_of os))) apart
+apart_one os (op.Ids number) apart next = subst AreNamedApart (sym (append-nil (sessions_of os))) apart
 
 apart_from : (before os : List Op) → AreNamedApart (sessions_of before) → AllowedFrom before os → AreNamedApart (sessions_of (before ++ os))
 apart_from before [] apart allowed = subst (λ (os : List Op). AreNamedApart (sessions_of os)) (sym (append-nil before)) apart
@@ -132,7 +133,7 @@ all_changed P id change keeps (f ∷ fs) all = (go (f.id == id), all_changed P i
     go true = keeps f all.0
     go false = all.0
 
-found_in : (P : Field → Type 0) (fs : List Field) (id : ℕ) (x : Field) → AllByRecursion P fs → field_in fs id ≡ Some x → P x
+pub found_in : (P : Field → Type 0) (fs : List Field) (id : ℕ) (x : Field) → AllByRecursion P fs → field_in fs id ≡ Some x → P x
 found_in P [] id x all e = let no : None ≡ Some x = e in cc
 found_in P (f ∷ fs) id x all e = go (f.id == id) e (found_in P fs id x all.1)
   where
@@ -155,6 +156,7 @@ belong_one sheet (op.Move id after) next all = all_moved (Belongs sheet.sessions
 belong_one sheet (op.Clear id) next all = all_changed (Belongs sheet.sessions) id (with_outcome None None) (λ f p. p) sheet.fields all
 belong_one sheet (op.Answer id prompt output) next all = all_changed (Belongs sheet.sessions) id (with_outcome (Some (record { prompt = prompt; output = output })) None) (λ f p. p) sheet.fields all
 belong_one sheet (op.Lost id reason) next all = all_changed (Belongs sheet.sessions) id (with_outcome None (Some reason)) (λ f p. p) sheet.fields all
+belong_one sheet (op.Ids number) next all = all
 
 belong_from : (before os : List Op) → Allowed before → BelongToSessions (sheet_of before) → AllowedFrom before os → BelongToSessions (sheet_of (before ++ os))
 belong_from before [] front all allowed = subst (λ (os : List Op). BelongToSessions (sheet_of os)) (sym (append-nil before)) all

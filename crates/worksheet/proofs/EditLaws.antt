@@ -11,7 +11,7 @@ abbrev is_at : ℕ → Field → Bool
 is_at id field = field.id == id
 
 -- the fields without a number aren't changed
-at_others : (id : ℕ) (change : Field → Field) (fs : List Field) → Lacks id (numbers fs) → map (at_field id change) fs ≡ fs
+pub at_others : (id : ℕ) (change : Field → Field) (fs : List Field) → Lacks id (numbers fs) → map (at_field id change) fs ≡ fs
 at_others id change [] a = refl
 at_others id change (f ∷ fs) a = rw a.0 (ap (λ (gs : List Field). f ∷ gs) (at_others id change fs a.1))
 

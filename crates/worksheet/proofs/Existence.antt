@@ -6,9 +6,9 @@ use Rattle.std.proofs.lemmas.Bool.Decides.{nat_tests}
 use Rattle.std.proofs.lemmas.List.{append-nil}
 use Rattle.worksheet.specs.declared.op.Op.{Op}
 use Rattle.worksheet.specs.declared.op.Op.TheVariants as op
-use Rattle.worksheet.specs.Ops.{next_from, next_of, is_about, about, last_of, makes_or_ends, is_making, exists, field_of, put_behind, placed, without, order_of, sheet_of}
+use Rattle.worksheet.specs.Ops.{next_after, next_from, next_of, is_about, about, last_of, makes_or_ends, is_making, exists, field_of, put_behind, placed, without, order_of, sheet_of}
 use Rattle.worksheet.specs.Checks.{Allowed, AllowedFrom, field_in, first_refusal, refusals}
-use Rattle.worksheet.specs.Laws.{is_new}
+use Rattle.worksheet.specs.Laws.{HasNoIds, is_new}
 use Rattle.worksheet.proofs.Finds.{none_applies, true_from_not}
 use Rattle.worksheet.proofs.OneMore.{order_from-push, about_from-push, last_of-push}
 
@@ -16,19 +16,28 @@ use Rattle.worksheet.proofs.OneMore.{order_from-push, about_from-push, last_of-p
 abbrev news_from : ℕ → List Op → ℕ
 news_from count os = fold (λ n o. n + (if is_new o then 1 else 0)) count os
 
-next_from-news : (count : ℕ) (os : List Op) → next_from (count + 1) os ≡ news_from count os + 1
-next_from-news count [] = refl
-next_from-news count (op.Session name tab words ∷ os) = rw add-zero (next_from-news count os)
-next_from-news count (op.New after session input ∷ os) = next_from-news (count + 1) os
-next_from-news count (op.Set id input ∷ os) = rw add-zero (next_from-news count os)
-next_from-news count (op.Remove id ∷ os) = rw add-zero (next_from-news count os)
-next_from-news count (op.Move id after ∷ os) = rw add-zero (next_from-news count os)
-next_from-news count (op.Clear id ∷ os) = rw add-zero (next_from-news count os)
-next_from-news count (op.Answer id prompt output ∷ os) = rw add-zero (next_from-news count os)
-next_from-news count (op.Lost id reason ∷ os) = rw add-zero (next_from-news count os)
+-- where no Ids is among them, the next number is the first one with the count of New
+next_from-news : (first count next : ℕ) (os : List Op) → next ≡ count + first → HasNoIds os → next_from next os ≡ news_from count os + first
+next_from-news first count next [] is none = is
+next_from-news first count next (op.Session name tab words ∷ os) is none = rw add-zero (next_from-news first count next os is none)
+next_from-news first count next (op.New after session input ∷ os) is none = next_from-news first (count + 1) (next + 1) os (omega (arith, is)) none
+next_from-news first count next (op.Set id input ∷ os) is none = rw add-zero (next_from-news first count next os is none)
+next_from-news first count next (op.Remove id ∷ os) is none = rw add-zero (next_from-news first count next os is none)
+next_from-news first count next (op.Move id after ∷ os) is none = rw add-zero (next_from-news first count next os is none)
+next_from-news first count next (op.Clear id ∷ os) is none = rw add-zero (next_from-news first count next os is none)
+next_from-news first count next (op.Answer id prompt output ∷ os) is none = rw add-zero (next_from-news first count next os is none)
+next_from-news first count next (op.Lost id reason ∷ os) is none = rw add-zero (next_from-news first count next os is none)
+next_from-news first count next (op.Ids number ∷ os) is none = absurd none
 
-pub next_of-count : (os : List Op) → next_of os ≡ count_by is_new os + 1
-next_of-count os = next_from-news 0 os
+pub next_of-count : (os : List Op) → HasNoIds os → next_of os ≡ count_by is_new os + 1
+next_of-count os none = next_from-news 1 0 1 os (omega arith) none
+
+next_from-append : (next : ℕ) (os more : List Op) → next_from next (os ++ more) ≡ next_from (next_from next os) more
+next_from-append next [] more = refl
+next_from-append next (o ∷ os) more = next_from-append (next_after next o) os more
+
+pub next_of-ids : (before os : List Op) (number : ℕ) → HasNoIds os → next_of (before ++ op.Ids number ∷ os) ≡ count_by is_new os + number
+next_of-ids before os number none = next_from-append 1 before (op.Ids number ∷ os) ∙ next_from-news number 0 number os (omega arith) none
 
 -- whether a number is listed
 abbrev pub lists : List ℕ → ℕ → Bool
@@ -165,6 +174,8 @@ lists-after os (op.Answer other prompt output) allowed known id =
 lists-after os (op.Lost other reason) allowed known id =
     let o = op.Lost other reason in
     lists-same os o (order_from-push 1 [] os o) (λ n. exists-push os o n ∙ either (other == n) (exists os n)) known id
+lists-after os (op.Ids number) allowed known id =
+    lists-same os (op.Ids number) (order_from-push 1 [] os (op.Ids number)) (exists-push os (op.Ids number)) known id
 
 lists-all : (before os : List Op) → AllowedFrom before os → ListsWhatExists before → ListsWhatExists (before ++ os)
 lists-all before [] allowed known = subst ListsWhatExists (sym (append-nil before)) known

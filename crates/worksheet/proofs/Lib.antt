@@ -14,3 +14,4 @@ pub mod Existence
 pub mod NextLaws
 pub mod ApartLaws
 pub mod WorksheetLaws
+pub mod Rewriting

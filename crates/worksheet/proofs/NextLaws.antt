@@ -41,6 +41,7 @@ named_one sheet (op.Move id after) allowed = tt
 named_one sheet (op.Clear id) allowed = tt
 named_one sheet (op.Answer id prompt output) allowed = tt
 named_one sheet (op.Lost id reason) allowed = tt
+named_one sheet (op.Ids number) allowed = tt
 
 all_named : (before os : List Op) → AllByRecursion IsNamed (sessions_of before) → AllowedFrom before os → AllByRecursion IsNamed (sessions_of (before ++ os))
 all_named before [] names allowed = subst (λ (os : List Op). AllByRecursion IsNamed (sessions_of os)) (sym (append-nil before)) names
@@ -52,7 +53,7 @@ all_named before (o ∷ os) names allowed =
 all_sound : (before os : List Op) → HasNumbersApart (sheet_of before) → AllowedFrom before os → HasNumbersApart (sheet_of (before ++ os))
 all_sound before [] sound allowed = subst (λ (os : List Op). HasNumbersApart (sheet_of os)) (sym (append-nil before)) sound
 all_sound before (o ∷ os) sound allowed =
-    let more : HasNumbersApart (sheet_of (before ++ o ∷ [])) = subst (λ (s : Contents). HasNumbersApart s) (sym (sheet_of-push before o sound allowed.0)) (IsSound-edited (sheet_of before) o sound) in
+    let more : HasNumbersApart (sheet_of (before ++ o ∷ [])) = subst (λ (s : Contents). HasNumbersApart s) (sym (sheet_of-push before o sound allowed.0)) (IsSound-edited (sheet_of before) o allowed.0 sound) in
     subst (λ (qs : List Op). HasNumbersApart (sheet_of qs)) (append_assoc before (o ∷ []) os) (all_sound (before ++ o ∷ []) os more allowed.1)
 
 pub sound_of : (os : List Op) → Allowed os → HasNumbersApart (sheet_of os)

@@ -43,6 +43,7 @@ sessions_of-push (op.Move id place ∷ os) o = sessions_of-push os o
 sessions_of-push (op.Clear id ∷ os) o = sessions_of-push os o
 sessions_of-push (op.Answer id prompt output ∷ os) o = sessions_of-push os o
 sessions_of-push (op.Lost id reason ∷ os) o = sessions_of-push os o
+sessions_of-push (op.Ids number ∷ os) o = sessions_of-push os o
 
 -- the last of a kind is the op behind, where that is of the kind
 last_or-push : (test : Op → Bool) (first : Option Op) (os : List Op) (o : Op)
@@ -80,6 +81,7 @@ changed (op.Move id after) f = f
 changed (op.Clear id) f = with_outcome None None f
 changed (op.Answer id prompt output) f = with_outcome (Some (record { prompt = prompt; output = output })) None f
 changed (op.Lost id reason) f = with_outcome None (Some reason) f
+changed (op.Ids number) f = f
 
 last_given-push : {A : Type 0} (by : Op → Option A) (given : A) (os : List Op) (o : Op) → last_given by given (os ++ o ∷ []) ≡ unwrap_or (by o) (last_given by given os)
 last_given-push by given [] o = refl
@@ -96,6 +98,7 @@ given-push (op.Move other after) id session input answer lost = refl
 given-push (op.Clear other) id session input answer lost = refl
 given-push (op.Answer other prompt output) id session input answer lost = refl
 given-push (op.Lost other reason) id session input answer lost = refl
+given-push (op.Ids number) id session input answer lost = refl
 
 field_by-push : (id : ℕ) (os : List Op) (o : Op) → field_by id (os ++ o ∷ []) ≡ changed o (field_by id os)
 field_by-push id os o =

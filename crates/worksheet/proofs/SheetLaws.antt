@@ -152,3 +152,6 @@ sheet_of-push os (op.Lost id reason) sound allowed =
     sheet_of-fields os o _ _ _
     (ordered os o _ _ (order_from-push 1 [] os o) (changed_at os o id (with_outcome None (Some reason)) (field_of-push os o) (order_of os)))
     (append-nil (sessions_of os)) refl
+sheet_of-push os (op.Ids number) sound allowed = sheet_of-fields os (op.Ids number) _ _ _
+    (ordered os (op.Ids number) _ _ (order_from-push 1 [] os (op.Ids number)) (unchanged os (op.Ids number) (field_of-push os (op.Ids number)) (order_of os)))
+    (append-nil (sessions_of os)) refl

@@ -1,15 +1,16 @@
 -- An op that is allowed keeps the numbers apart, and below the next one.
-use Rattle.std.proofs.Common.{◌≡◌, ℕ, ◌+◌, ◌<◌, List, [], ◌∷◌, map, refl, sym, subst, arith, Bool, true, false, Option, Some, None}
-use Rattle.std.specs.Prelude.{◌==◌, not, if◌then◌else◌}
+use Rattle.std.proofs.Common.{◌≡◌, ℕ, ◌+◌, ◌<◌, ◌≤◌, List, [], ◌∷◌, map, refl, sym, subst, arith, Bool, true, false, Option, Some, None}
+use Rattle.std.specs.Prelude.{◌==◌, ◌||◌, nat_lt, not, if◌then◌else◌}
 use Rattle.std.proofs.lemmas.Bool.Decides.{nat_tests}
 use Rattle.worksheet.specs.declared.op.Op.{Op}
 use Rattle.worksheet.specs.declared.op.Op.TheVariants as op
 use Rattle.worksheet.specs.declared.field.Field.{Field}
 use Rattle.worksheet.specs.Contents.{Contents}
 use Rattle.worksheet.specs.Ops.{put_behind}
-use Rattle.worksheet.specs.Checks.{numbers, field_in}
+use Rattle.worksheet.specs.Checks.{numbers, field_in, first_refusal, refusals}
 use Rattle.worksheet.specs.Edits.{Lacks, AreApart, AllBelow, HasNumbersApart, at_field, with_input, with_outcome, fields_without, placed_field, moved, edited}
-use Rattle.worksheet.proofs.Finds.{field_in-id}
+use Rattle.worksheet.proofs.Finds.{field_in-id, none_applies}
+use Rattle.worksheet.specs.Limits.{last_number}
 
 -- what is below a number isn't it
 pub Lacks-AllBelow : (n : ℕ) (ns : List ℕ) → AllBelow n ns → Lacks n ns
@@ -131,15 +132,30 @@ moved_sound sheet id after (Some f) is s = record {
   below = AllBelow-placed sheet.next after f (fields_without id sheet.fields) (AllBelow-without sheet.next id sheet.fields s.below) (below-found sheet.next sheet.fields id f s.below is);
 }
 
-pub IsSound-edited : (sheet : Contents) (o : Op) → HasNumbersApart sheet → HasNumbersApart (edited sheet o)
-IsSound-edited sheet (op.Session name tab words) s = record { apart = s.apart; below = s.below }
-IsSound-edited sheet (op.New after session input) s = record {
+-- the next number, where it rises
+pub no_less : (next number : ℕ) (more : Bool) → (nat_lt number next || more) ≡ false → next ≤ number
+no_less next number more h = go (nat_lt number next) refl h
+  where
+    go : (b : Bool) → nat_lt number next ≡ b → (b || more) ≡ false → next ≤ number
+    go true e h = cc
+    go false e h = grind (arith, nat_tests)
+
+AllBelow-rising : (n m : ℕ) (ns : List ℕ) → n ≤ m → AllBelow n ns → AllBelow m ns
+AllBelow-rising n m [] le b = tt
+AllBelow-rising n m (k ∷ ns) le b = (omega (arith, le, b.0), AllBelow-rising n m ns le b.1)
+
+pub IsSound-edited : (sheet : Contents) (o : Op) → first_refusal sheet o ≡ None → HasNumbersApart sheet → HasNumbersApart (edited sheet o)
+IsSound-edited sheet (op.Session name tab words) allowed s = record { apart = s.apart; below = s.below }
+IsSound-edited sheet (op.New after session input) allowed s = record {
   apart = AreApart-placed after (record { id = sheet.next; session = session; input = input; answer = None; lost = None }) sheet.fields s.apart (Lacks-AllBelow sheet.next (numbers sheet.fields) s.below);
   below = AllBelow-placed (sheet.next + 1) after (record { id = sheet.next; session = session; input = input; answer = None; lost = None }) sheet.fields (AllBelow-more sheet.next (numbers sheet.fields) s.below) (omega arith);
 }
-IsSound-edited sheet (op.Set id input) s = changed_sound sheet id (with_input input) (λ f. refl) s
-IsSound-edited sheet (op.Remove id) s = record { apart = AreApart-without id sheet.fields s.apart; below = AllBelow-without sheet.next id sheet.fields s.below }
-IsSound-edited sheet (op.Move id after) s = moved_sound sheet id after (field_in sheet.fields id) refl s
-IsSound-edited sheet (op.Clear id) s = changed_sound sheet id (with_outcome None None) (λ f. refl) s
-IsSound-edited sheet (op.Answer id prompt output) s = changed_sound sheet id (with_outcome (Some (record { prompt = prompt; output = output })) None) (λ f. refl) s
-IsSound-edited sheet (op.Lost id reason) s = changed_sound sheet id (with_outcome None (Some reason)) (λ f. refl) s
+IsSound-edited sheet (op.Set id input) allowed s = changed_sound sheet id (with_input input) (λ f. refl) s
+IsSound-edited sheet (op.Remove id) allowed s = record { apart = AreApart-without id sheet.fields s.apart; below = AllBelow-without sheet.next id sheet.fields s.below }
+IsSound-edited sheet (op.Move id after) allowed s = moved_sound sheet id after (field_in sheet.fields id) refl s
+IsSound-edited sheet (op.Clear id) allowed s = changed_sound sheet id (with_outcome None None) (λ f. refl) s
+IsSound-edited sheet (op.Answer id prompt output) allowed s = changed_sound sheet id (with_outcome (Some (record { prompt = prompt; output = output })) None) (λ f. refl) s
+IsSound-edited sheet (op.Lost id reason) allowed s = changed_sound sheet id (with_outcome None (Some reason)) (λ f. refl) s
+IsSound-edited sheet (op.Ids number) allowed s =
+    let passed : (nat_lt number sheet.next || nat_lt (last_number + 1) number) ≡ false = (none_applies (refusals sheet (op.Ids number)) allowed).0 in
+    record { apart = s.apart; below = AllBelow-rising sheet.next number (numbers sheet.fields) (no_less sheet.next number (nat_lt (last_number + 1) number) passed) s.below }

@@ -1,5 +1,5 @@
 -- A worksheet of allowed ops is one, and its numbers rise.
-use Rattle.std.proofs.Common.{◌≡◌, ℕ, ◌+◌, ◌<◌, ◌≤◌, ◌==◌, Bool, true, false, List, [], ◌∷◌, ◌++◌, length, Option, Some, None, refl, sym, subst, append_assoc, append-nil, arith, length-append}
+use Rattle.std.proofs.Common.{◌≡◌, ℕ, ◌+◌, ◌<◌, ◌≤◌, ◌==◌, ◌||◌, Bool, true, false, List, [], ◌∷◌, ◌++◌, length, Option, Some, None, refl, sym, subst, append_assoc, append-nil, arith, length-append}
 use Rattle.std.specs.Prelude.{not, nat_le, nat_lt, if◌then◌else◌}
 use Rattle.std.specs.List.{AllByRecursion}
 use Rattle.std.proofs.lemmas.Bool.Decides.{nat_tests}
@@ -11,39 +11,53 @@ use Rattle.worksheet.specs.declared.field.Session.{Session}
 use Rattle.worksheet.specs.Limits.{last_number, longest_prompt, most_fields, most_sessions}
 use Rattle.worksheet.specs.Names.{is_name}
 use Rattle.worksheet.specs.Contents.{Contents}
-use Rattle.worksheet.specs.Ops.{next_from, next_of, next_after, put_behind, sheet_of}
+use Rattle.worksheet.specs.Ops.{next_of, next_after, put_behind, sheet_of}
 use Rattle.worksheet.specs.Edits.{edited, at_field, with_input, with_outcome, placed_field, fields_without, moved}
 use Rattle.worksheet.specs.Checks.{Allowed, AllowedFrom, are_words, field_in, first_refusal, is_input, refusals, session_named}
 use Rattle.worksheet.specs.Laws.{AreNamedApart, IsField, IsSession, IsWorksheet}
 use Rattle.worksheet.proofs.Finds.{none_applies, true_from_not}
-use Rattle.worksheet.proofs.SoundLaws.{IsSound-edited}
+use Rattle.worksheet.proofs.SoundLaws.{IsSound-edited, no_less}
+use Rattle.worksheet.proofs.OneMore.{next_from-push}
 use Rattle.worksheet.proofs.Existence.{allowed_goes_on}
 use Rattle.worksheet.proofs.ApartLaws.{all_placed, all_kept, all_changed, all_moved, apart_push, belong_one, none_of, sheet_after}
 
 -- Numbers.
 
-next_from-append : (next : ℕ) (os more : List Op) → next_from next (os ++ more) ≡ next_from (next_from next os) more
-next_from-append next [] more = refl
-next_from-append next (o ∷ os) more = next_from-append (next_after next o) os more
+rises_one : (sheet : Contents) (o : Op) → first_refusal sheet o ≡ None → sheet.next ≤ next_after sheet.next o
+rises_one sheet (op.Session name tab words) allowed = omega arith
+rises_one sheet (op.New after session input) allowed = omega arith
+rises_one sheet (op.Set id input) allowed = omega arith
+rises_one sheet (op.Remove id) allowed = omega arith
+rises_one sheet (op.Move id after) allowed = omega arith
+rises_one sheet (op.Clear id) allowed = omega arith
+rises_one sheet (op.Answer id prompt output) allowed = omega arith
+rises_one sheet (op.Lost id reason) allowed = omega arith
+rises_one sheet (op.Ids number) allowed =
+    let passed : (nat_lt number sheet.next || nat_lt (last_number + 1) number) ≡ false = (none_applies (refusals sheet (op.Ids number)) allowed).0 in
+    no_less sheet.next number (nat_lt (last_number + 1) number) passed
 
-rises : (next : ℕ) (os : List Op) → next ≤ next_from next os
-rises next [] = omega arith
-rises next (op.Session name tab words ∷ os) = rises next os
-rises next (op.New after session input ∷ os) = omega (arith, rises (next + 1) os)
-rises next (op.Set id input ∷ os) = rises next os
-rises next (op.Remove id ∷ os) = rises next os
-rises next (op.Move id after ∷ os) = rises next os
-rises next (op.Clear id ∷ os) = rises next os
-rises next (op.Answer id prompt output ∷ os) = rises next os
-rises next (op.Lost id reason ∷ os) = rises next os
+rises : (before os : List Op) → AllowedFrom before os → next_of before ≤ next_of (before ++ os)
+rises before [] allowed = rw (append-nil before) (omega arith)
+rises before (o ∷ os) allowed =
+    let one : next_of before ≤ next_of (before ++ o ∷ []) = rw (next_from-push 1 before o) (rises_one (sheet_of before) o allowed.0) in
+    let more : next_of (before ++ o ∷ []) ≤ next_of (before ++ o ∷ os) = subst (λ (qs : List Op). next_of (before ++ o ∷ []) ≤ next_of qs) (append_assoc before (o ∷ []) os) (rises (before ++ o ∷ []) os allowed.1) in
+    omega (arith, one, more)
+
+back_from : (before os more : List Op) → AllowedFrom before (os ++ more) → AllowedFrom (before ++ os) more
+back_from before [] more allowed = subst (λ (qs : List Op). AllowedFrom qs more) (sym (append-nil before)) allowed
+back_from before (o ∷ os) more allowed = subst (λ (qs : List Op). AllowedFrom qs more) (append_assoc before (o ∷ []) os) (back_from (before ++ o ∷ []) os more allowed.1)
 
 pub numbers_rise : (os more : List Op) → Allowed (os ++ more) → next_of os ≤ next_of (os ++ more)
-numbers_rise os more allowed = rw (next_from-append 1 os more) (rises (next_of os) more)
+numbers_rise os more allowed = rises os more (back_from [] os more allowed)
 
 pub no_number_twice : (os more : List Op) (after : ℕ) (session input : List ℕ) → Allowed (os ++ op.New after session input ∷ more)
     → next_of os < next_of (os ++ op.New after session input ∷ more)
 no_number_twice os more after session input allowed =
-    rw (next_from-append 1 os (op.New after session input ∷ more)) (omega (arith, rises (next_of os + 1) more))
+    let o = op.New after session input in
+    let here = back_from [] os (o ∷ more) allowed in
+    let behind : next_of (os ++ o ∷ []) ≤ next_of (os ++ o ∷ more) = subst (λ (qs : List Op). next_of (os ++ o ∷ []) ≤ next_of qs) (append_assoc os (o ∷ []) more) (rises (os ++ o ∷ []) more here.1) in
+    let one : next_of (os ++ o ∷ []) ≡ next_of os + 1 = next_from-push 1 os o in
+    omega (arith, behind, one)
 
 -- How many fields.
 
@@ -102,6 +116,7 @@ few_fields_one sheet (op.Move id after) next few = omega (arith, few, length-mov
 few_fields_one sheet (op.Clear id) next few = rw (length-map sheet.fields (at_field id (with_outcome None None))) few
 few_fields_one sheet (op.Answer id prompt output) next few = rw (length-map sheet.fields (at_field id (with_outcome (Some (record { prompt = prompt; output = output })) None))) few
 few_fields_one sheet (op.Lost id reason) next few = rw (length-map sheet.fields (at_field id (with_outcome None (Some reason)))) few
+few_fields_one sheet (op.Ids number) next few = few
 
 fields_one : (sheet : Contents) (o : Op) → first_refusal sheet o ≡ None → IsWorksheet sheet → AllByRecursion IsField (edited sheet o).fields
 fields_one sheet (op.Session name tab words) next w = w.fields
@@ -121,6 +136,7 @@ fields_one sheet (op.Answer id prompt output) next w =
     all_changed IsField id (with_outcome (Some (record { prompt = prompt; output = output })) None)
     (λ f p. record { numbered = p.numbered; input = p.input; prompt = short; outcome = refl }) sheet.fields w.fields
 fields_one sheet (op.Lost id reason) next w = all_changed IsField id (with_outcome None (Some reason)) (λ f p. record { numbered = p.numbered; input = p.input; prompt = tt; outcome = tt }) sheet.fields w.fields
+fields_one sheet (op.Ids number) next w = w.fields
 
 all_push : (P : Session → Type 0) (ss : List Session) (s : Session) → AllByRecursion P ss → P s → AllByRecursion P (ss ++ s ∷ [])
 all_push P [] s all p = (p, tt)
@@ -136,10 +152,14 @@ keeps sheet o next w sessions few_sessions names from_one to_last = record {
   few_sessions = few_sessions;
   from_one = from_one;
   to_last = to_last;
-  numbers = IsSound-edited sheet o w.numbers;
+  numbers = IsSound-edited sheet o next w.numbers;
   names = names;
   belongs = belong_one sheet o next w.belongs;
 }
+
+no_more : (number : ℕ) (less : Bool) → (less || nat_lt (last_number + 1) number) ≡ false → number ≤ last_number + 1
+no_more number true h = cc
+no_more number false h = let low : nat_lt (last_number + 1) number ≡ false = h in grind (arith, nat_tests)
 
 pub edits_keep_worksheets : (sheet : Contents) (o : Op) → IsWorksheet sheet → first_refusal sheet o ≡ None → IsWorksheet (edited sheet o)
 edits_keep_worksheets sheet (op.Session name tab words) w next =
@@ -161,6 +181,10 @@ edits_keep_worksheets sheet (op.Move id after) w next = keeps sheet (op.Move id 
 edits_keep_worksheets sheet (op.Clear id) w next = keeps sheet (op.Clear id) next w w.sessions w.few_sessions w.names w.from_one w.to_last
 edits_keep_worksheets sheet (op.Answer id prompt output) w next = keeps sheet (op.Answer id prompt output) next w w.sessions w.few_sessions w.names w.from_one w.to_last
 edits_keep_worksheets sheet (op.Lost id reason) w next = keeps sheet (op.Lost id reason) next w w.sessions w.few_sessions w.names w.from_one w.to_last
+edits_keep_worksheets sheet (op.Ids number) w next =
+    let passed : (nat_lt number sheet.next || nat_lt (last_number + 1) number) ≡ false = (none_applies (refusals sheet (op.Ids number)) next).0 in
+    let low = no_less sheet.next number (nat_lt (last_number + 1) number) passed in
+    keeps sheet (op.Ids number) next w w.sessions w.few_sessions w.names (omega (arith, low, w.from_one)) (no_more number (nat_lt number sheet.next) passed)
 
 -- All ops.
 

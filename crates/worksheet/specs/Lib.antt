@@ -5,5 +5,6 @@ pub mod Contents
 pub mod Ops
 pub mod Checks
 pub mod Edits
+pub mod Rewrite
 pub mod Laws
 pub mod inside

@@ -57,6 +57,7 @@ pub(crate) fn carry_out(
             set_outcome(fields, id, Some(Answer { prompt, output }), None)
         }
         Op::Lost { id, reason } => set_outcome(fields, id, None, Some(reason)),
+        Op::Ids { next: number } => *next = number,
     }
 }
 

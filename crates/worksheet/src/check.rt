@@ -138,6 +138,7 @@ pub(crate) fn check_op(
             prompt,
             output: _,
         } => check_answer(fields, *id, prompt.as_slice()),
+        Op::Ids { next: number } => check_ids(next, *number),
     }
 }
 
@@ -246,6 +247,16 @@ fn check_answer(fields: &IndexMap<u32, Slot>, id: u32, prompt: &[u8]) -> Result<
         Err(Refusal::NoField)
     } else if prompt.len() > LONGEST_PROMPT {
         Err(Refusal::BadInput)
+    } else {
+        Ok(())
+    }
+}
+
+fn check_ids(next: u32, number: u32) -> Result<(), Refusal>
+    ensures { result_err result ≡ first_refusal (contents_with [] [] next) (op.Ids number) }
+{
+    if number < next || number > LAST_NUMBER + 1 {
+        Err(Refusal::IdsSpent)
     } else {
         Ok(())
     }

@@ -87,7 +87,8 @@ impl Sheet {
             | Op::Move { .. }
             | Op::Clear { .. }
             | Op::Answer { .. }
-            | Op::Lost { .. } => true,
+            | Op::Lost { .. }
+            | Op::Ids { .. } => true,
         }
     }
 
@@ -111,7 +112,8 @@ impl Sheet {
             | Op::Move { .. }
             | Op::Clear { .. }
             | Op::Answer { .. }
-            | Op::Lost { .. } => Ok(()),
+            | Op::Lost { .. }
+            | Op::Ids { .. } => Ok(()),
         }
     }
 

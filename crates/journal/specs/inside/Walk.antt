@@ -1,9 +1,11 @@
 -- A walk over the gates of an area. No public clause speaks of it.
 use Rattle.std.specs.Prelude.{◌≡◌, ◌≢◌, ℕ, ◌+◌, ◌<◌, ◌≤◌, List, ◌∷◌, ◌++◌, length}
 use Rattle.std.specs.Int.{to_be_bytes, w32}
-use Rattle.journal.specs.Area.{open_gate}
-use Rattle.journal.specs.Damage.{IsBroken}
+use Rattle.journal.specs.Area.{HasHeader, open_gate}
+use Rattle.journal.specs.Damage.{IsBroken, IsDamaged}
 use Rattle.journal.specs.Limits.{max_payload}
+use Rattle.journal.specs.declared.opening.OpenCause.{OpenCause}
+use Rattle.journal.specs.declared.opening.OpenCause.TheVariants as causes
 use Rattle.journal.specs.declared.walk.Step.{Step}
 use Rattle.journal.specs.declared.walk.Step.TheVariants.{End, Broken, Record}
 
@@ -20,3 +22,17 @@ IsStep limit rest (Record n) = (more : List ℕ)
 abbrev pub IsLength : ℕ → Step → Type 0
 IsLength left (Record n) = (1 ≤ n) × (n ≤ max_payload) × (5 + n < left)
 IsLength left step = Unit {0}
+
+-- what a cause says of one area
+abbrev pub TellsOf : List ℕ → OpenCause → Type 0
+TellsOf bytes (causes.Damaged gate) = IsDamaged max_payload bytes gate
+TellsOf bytes causes.NotASheet = HasHeader bytes → ⊥
+TellsOf bytes causes.Disk = Unit {0}
+TellsOf bytes causes.OutOfMemory = Unit {0}
+
+-- and where only its header was read
+abbrev pub LacksHeader : List ℕ → OpenCause → Type 0
+LacksHeader bytes (causes.Damaged gate) = ⊥
+LacksHeader bytes causes.NotASheet = HasHeader bytes → ⊥
+LacksHeader bytes causes.Disk = Unit {0}
+LacksHeader bytes causes.OutOfMemory = Unit {0}

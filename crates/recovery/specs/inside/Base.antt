@@ -1,10 +1,13 @@
 -- What a store stands on: a journal, or a disk that has failed. No public clause speaks of it.
-use Rattle.std.specs.Prelude.{◌≡◌, ℕ, Bool, true, false, List, [], Option, Some, None}
-use Rattle.disk_model.specs.Disk.{DiskView, InModel}
+use Rattle.std.specs.Prelude.{◌≡◌, ℕ, Bool, true, false, List, [], Option, Some, None, Result, Ok, Err}
+use Rattle.disk_model.specs.Disk.{DiskView, InModel, Rises}
+use Rattle.journal.specs.Area.{end_of}
 use Rattle.worksheet.specs.declared.op.Op.{Op}
 use Rattle.worksheet.specs.Contents.{Contents, SheetView}
-use Rattle.journal.specs.Kept.{Fits, Keeps}
+use Rattle.journal.specs.Kept.{Fits, FitsAnew, Keeps}
 use Rattle.recovery.specs.Sheets.{StoreView, codes_of, Makes}
+use Rattle.recovery.specs.declared.fault.CheckpointFault.{CheckpointFault}
+use Rattle.recovery.specs.declared.fault.CheckpointFault.TheVariants as faults
 use Rattle.recovery.specs.declared.base.Base.{Base}
 use Rattle.recovery.specs.declared.base.Base.TheVariants.{Open, Closed}
 
@@ -81,3 +84,12 @@ store_on view base sheet = record {
 abbrev pub IsStoreOf : {D : Type 0} → (D → DiskView) → Option (Base D) → Contents → Type 0
 IsStoreOf view None sheet = ⊥
 IsStoreOf view (Some base) sheet = IsBaseOf view base sheet
+
+-- what each answer to payloads that are to be written in place of a base's own says
+abbrev pub AnewAnswers : {D : Type 0} → (D → DiskView) → Base D → Base D → List (List ℕ) → Result Unit CheckpointFault → Type 0
+AnewAnswers view old new payloads (Ok u) = (is_closed new ≡ false) × (end_in new ≡ end_of payloads) × ((disk_of view new).faults ≡ (disk_of view old).faults)
+    × InModel (disk_of view old) ((before : List (List ℕ)) → KeepsIn old before → KeepsIn new payloads)
+AnewAnswers view old new payloads (Err faults.Full) = (FitsAnew (disk_of view old).room payloads → ⊥) × (new ≡ old)
+AnewAnswers view old new payloads (Err faults.OutOfMemory) = ⊥
+AnewAnswers view old new payloads (Err faults.Disk) = (is_closed new ≡ true) × Rises (disk_of view old).faults (disk_of view new).faults
+AnewAnswers view old new payloads (Err faults.Closed) = ⊥

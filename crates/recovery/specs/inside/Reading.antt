@@ -112,6 +112,11 @@ lost_at bytes = do
   reason ← reason_at id.1
   Some (op.Lost id.0 reason)
 
+unfoldable pub ids_at : List ℕ → Option Op
+ids_at bytes = do
+  next ← number_at bytes
+  Some (op.Ids next.0)
+
 -- of an answer: the number and the prompt, and the bytes of the output
 unfoldable pub asked_at : List ℕ → Option ((ℕ × List ℕ) × List ℕ)
 asked_at bytes = do

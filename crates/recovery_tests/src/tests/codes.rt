@@ -130,7 +130,7 @@ fn the_reasons_of_lost_lines(rt: HostRuntime) -> Result<(), Fail> {
 #[test]
 fn an_unknown_first_byte_or_flag_is_unreadable(rt: HostRuntime) -> Result<(), Fail> {
     let alloc = rt.alloc();
-    for kind in [0u8, 9, 255] {
+    for kind in [0u8, 10, 255] {
         assert!(rt; is_unreadable(alloc, &[kind, 0, 0, 0, 1])?);
     }
     assert!(rt; !is_unreadable(alloc, b"\x01\x01a\x01\x01\x00\x02sh")?);

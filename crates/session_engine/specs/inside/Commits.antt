@@ -130,6 +130,7 @@ Spares id (op.Move other after) = Unit {0}
 Spares id (op.Clear other) = Unit {0}
 Spares id (op.Answer other prompt output) = Unit {0}
 Spares id (op.Lost other reason) = Unit {0}
+Spares id (op.Ids number) = Unit {0}
 
 -- no waiting line is that of a field that the op takes away
 abbrev pub SparesItem : Op → Item → Type 0

@@ -37,6 +37,7 @@ checks w (op.Move id after) = sheet_refusals (sheet_in w) (op.Move id after)
 checks w (op.Clear id) = second (refusal.InFlight, in_flight w id) (sheet_refusals (sheet_in w) (op.Clear id))
 checks w (op.Answer id prompt output) = sheet_refusals (sheet_in w) (op.Answer id prompt output)
 checks w (op.Lost id reason) = sheet_refusals (sheet_in w) (op.Lost id reason)
+checks w (op.Ids number) = sheet_refusals (sheet_in w) (op.Ids number)
 
 abbrev pub op_refusals : World → Op → List (Refusal × Bool)
 op_refusals w o = checks w o ++ full w o ∷ []

@@ -1,7 +1,6 @@
 use Rattle.std.proofs.Common.{◌≡◌, ◌<◌, ◌≤◌, ◌-◌}
-use Rattle.disk_model.specs.Disk.{InModel, bytes_on}
+use Rattle.disk_model.specs.Disk.{InModel, area_of, bytes_on}
 use Rattle.journal.specs.Area.{first_gate}
-use Rattle.journal.specs.Kept.{active_of}
 use Rattle.journal.specs.inside.Reads.{Reads}
 use Rattle.journal.specs.inside.Window.{Shows}
 use Rattle.journal.proofs.Walks.{Reached}
@@ -13,10 +12,11 @@ invariant-loop-cause g l =
     record {
       from : first_gate ≤ l.gate;
       inside : l.gate < l.window.limit;
+      area : l.window.area ≡ l.fn.window.area;
       limit : l.window.limit ≡ l.fn.window.limit;
       reads : Reads ⊥ old (g.D.Disk.view l.disk);
-      shows : InModel old (Shows l.window (active_of (bytes_on old)));
-      reached : InModel old (Reached (active_of (bytes_on old)) l.gate);
+      shows : InModel old (Shows l.window (area_of l.fn.window.area (bytes_on old)));
+      reached : InModel old (Reached (area_of l.fn.window.area (bytes_on old)) l.gate);
     }
 
 abbrev pub decreases-loop-cause : goal.decreases-loop-cause

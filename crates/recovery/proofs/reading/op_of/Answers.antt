@@ -1,5 +1,5 @@
-use Rattle.recovery.specs.inside.Reading.{session_at, new_at, set_at, remove_at, move_at, clear_at, lost_at}
-use Rattle.recovery.proofs.Again.{found_by, behind_first, first_and_rest, session_again, new_again, set_again, remove_again, move_again, clear_again, lost_again}
+use Rattle.recovery.specs.inside.Reading.{session_at, new_at, set_at, remove_at, move_at, clear_at, lost_at, ids_at}
+use Rattle.recovery.proofs.Again.{found_by, behind_first, first_and_rest, session_again, new_again, set_again, remove_again, move_again, clear_again, lost_again, ids_again}
 use Rattle.recovery.proofs.reading.op_of.Goals as goal
 
 pub returns-in-1-clause-read : goal.returns-in-1-clause-read
@@ -22,3 +22,5 @@ returns-in-6-clause-read c = found_by 6 clear_at clear_again c.args.bytes.now (b
 
 pub returns-in-8-clause-read : goal.returns-in-8-clause-read
 returns-in-8-clause-read c = found_by 8 lost_at lost_again c.args.bytes.now (behind_first c.args.bytes.now) (first_and_rest c.args.bytes.now 8 c.in-len1-up.len_at_least c.in-8.is) _ c.lost_of.ensures.read
+pub returns-in-9-clause-read : goal.returns-in-9-clause-read
+returns-in-9-clause-read c = found_by 9 ids_at ids_again c.args.bytes.now (behind_first c.args.bytes.now) (first_and_rest c.args.bytes.now 9 c.in-len1-up.len_at_least c.in-9.is) _ c.ids_of.ensures.read

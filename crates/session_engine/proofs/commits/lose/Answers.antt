@@ -1,7 +1,9 @@
 use Rattle.std.proofs.Common.{sym, subst, Option}
 use Rattle.disk_model.specs.Disk.{LeavesOnly}
 use Rattle.worksheet.specs.declared.op.Op.{Op}
-use Rattle.session_engine.specs.inside.Commits.{IsEitherIf}
+use Rattle.worksheet.specs.declared.op.Op.TheVariants as op
+use Rattle.worksheet.specs.declared.refusal.Refusal.{Refusal}
+use Rattle.session_engine.specs.inside.Commits.{Commits, Committed, IsEitherIf}
 use Rattle.session_engine.proofs.Losing.{kept_fits}
 use Rattle.session_engine.proofs.commits.lose.Goals as goal
 
@@ -9,3 +11,10 @@ pub returns-in-Err-clause-moments : goal.returns-in-Err-clause-moments
 returns-in-Err-clause-moments g c = λ model ops is.
     subst (λ (p : Option Op). LeavesOnly (IsEitherIf ops p) c.args.store.now.disk.history c.commit.new.store.disk.history)
     (sym (kept_fits c.args.store.now.disk.room c.args.store.now.end c.args.reason c.args.line c.in-Some.id c.in-Some.is c.in-Err.ensures.fits)) (c.commit.ensures.moments model ops is)
+
+pub returns-in-Ok-None-clause-moments : goal.returns-in-Ok-None-clause-moments
+returns-in-Ok-None-clause-moments g c = λ model ops is.
+    let done : Committed c.args.store.now ops (op.Lost c.in-Some.id c.args.reason) c.commit.new.store =
+    subst (λ (r : Option Refusal). Commits c.args.store.now ops (op.Lost c.in-Some.id c.args.reason) c.commit.new.store r) c.in-Ok-None.field-0-is (c.in-Ok-None.ensures.ok ops is) in
+    subst (λ (p : Option Op). LeavesOnly (IsEitherIf ops p) c.args.store.now.disk.history c.commit.new.store.disk.history)
+    (sym (kept_fits c.args.store.now.disk.room c.args.store.now.end c.args.reason c.args.line c.in-Some.id c.in-Some.is done.fits)) (c.commit.ensures.moments model ops is)

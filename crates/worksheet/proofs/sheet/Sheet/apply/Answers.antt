@@ -9,11 +9,14 @@ use Rattle.worksheet.proofs.SheetLaws.{sheet_of-push}
 use Rattle.worksheet.proofs.sheet.Sheet.apply.Goals as goal
 
 pub invariant_of-self : goal.invariant_of-self
-invariant_of-self c = record {
-  sound = subst (λ (s : Contents). HasNumbersApart s) (sym c.carry_out.ensures.edited) (IsSound-edited (contents_of c.self.inside) c.args.op c.self.invariant.sound);
-  fields = c.carry_out.ensures.fields;
-  sessions = c.carry_out.ensures.sessions;
-}
+invariant_of-self c =
+    let here : contents_of c.self.inside ≡ c.args.self.now.contents = ap (λ (held : SheetView). held.contents) c.self.view_is ∙ c.make_room.ensures.same in
+    let allowed = subst (λ (s : Contents). first_refusal s c.args.op ≡ None) (sym here) c.requires in
+    record {
+      sound = subst (λ (s : Contents). HasNumbersApart s) (sym c.carry_out.ensures.edited) (IsSound-edited (contents_of c.self.inside) c.args.op allowed c.self.invariant.sound);
+      fields = c.carry_out.ensures.fields;
+      sessions = c.carry_out.ensures.sessions;
+    }
 
 pub returns-clause-ok : goal.returns-clause-ok
 returns-clause-ok c = λ ops h.

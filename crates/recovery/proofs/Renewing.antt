@@ -1,0 +1,122 @@
+-- A store whose worksheet is written anew.
+use Rattle.std.proofs.Common.{◌≡◌, ◌≤◌, ⊎_elim, ℕ, true, false, List, [], ◌∷◌, ◌++◌, Some, Result, Ok, Err, refl, sym, ap, ◌∙◌, subst, IsTrue, arith}
+use Rattle.std.specs.List.{AllByRecursion}
+use Rattle.disk_model.specs.Disk.{DiskView, InModel, LeavesOnly, SameDisk}
+use Rattle.disk_model.specs.inside.Moments.{started, weakens}
+use Rattle.worksheet.specs.declared.op.Op.{Op}
+use Rattle.worksheet.specs.Contents.{Contents, SheetView}
+use Rattle.worksheet.specs.Checks.{Allowed, AllowedFrom}
+use Rattle.worksheet.proofs.Existence.{allowed_goes_on}
+use Rattle.worksheet.specs.Laws.{IsWorksheet}
+use Rattle.worksheet.specs.Rewrite.{rewrite_of}
+use Rattle.worksheet.proofs.Rewriting.{rewrite_makes_the_same}
+use Rattle.worksheet.proofs.WorksheetLaws.{ops_make_worksheets}
+use Rattle.journal.specs.Area.{ArePayloads, end_of}
+use Rattle.journal.specs.Limits.{max_payload}
+use Rattle.journal.specs.Kept.{EitherStands, FitsAnew, ImageStandsFor}
+use Rattle.recovery.specs.Code.{HasCode, IsTyped}
+use Rattle.recovery.specs.Sheets.{StoreView, codes_of, IsSheetImage, IsStore, Makes, SameStore}
+use Rattle.recovery.specs.Checkpointed.{CheckpointAnswers}
+use Rattle.recovery.specs.declared.fault.CheckpointFault.{CheckpointFault}
+use Rattle.recovery.specs.declared.fault.CheckpointFault.TheVariants as faults
+use Rattle.recovery.specs.declared.base.Base.{Base}
+use Rattle.recovery.specs.inside.Base.{disk_of, is_closed, AnewAnswers, KeepsIn, KeepsSheet, IsBaseOf, store_on}
+use Rattle.recovery.proofs.Allowed.{allowed_have_code}
+use Rattle.recovery.proofs.Kept.{outside}
+
+-- the ops that make a worksheet anew make it
+pub makes_anew : (ops : List Op) (sheet : Contents) → Makes ops sheet → AllByRecursion IsTyped (rewrite_of sheet) → Makes (rewrite_of sheet) sheet
+makes_anew ops sheet makes typed =
+    let is : IsWorksheet sheet = subst IsWorksheet (sym makes.is) (ops_make_worksheets ops makes.allowed) in
+    let law = rewrite_makes_the_same sheet is in
+    record { typed = typed; allowed = law.0; is = sym law.1 }
+
+same_disk : (v : DiskView) → SameDisk v v
+same_disk v = record { room = refl; keeps_model = refl; later = omega arith }
+
+module _ {D : Type 0} (view : D → DiskView) (base new : Base D) (sheet : SheetView) (payloads : List (List ℕ))
+    (holds : IsBaseOf view base sheet.contents) (opened : is_closed base ≡ false)
+    (are : payloads ≡ codes_of (rewrite_of sheet.contents)) (typed : AllByRecursion IsTyped (rewrite_of sheet.contents)) (same : SameDisk (disk_of view base) (disk_of view new)) where
+  anew : Makes (rewrite_of sheet.contents) sheet.contents
+  anew = makes_anew holds.made.0 sheet.contents holds.made.1 typed
+
+  keeps_anew : InModel (disk_of view base) ((before : List (List ℕ)) → KeepsIn base before → KeepsIn new payloads) → IsTrue (disk_of view base).keeps_model → KeepsSheet new sheet.contents
+  keeps_anew ok model =
+      let kept = holds.kept opened model in
+      record {
+        ops = rewrite_of sheet.contents;
+        keeps = subst (λ (l : List (List ℕ)). KeepsIn new l) are (ok model (codes_of kept.ops) kept.keeps);
+        makes = anew;
+      }
+
+  -- the base is still that of the worksheet
+  pub still_base : (result : Result Unit CheckpointFault) → AnewAnswers view base new payloads result → IsBaseOf view new sheet.contents
+  still_base (Ok u) answers = record {
+    made = holds.made;
+    kept = λ _ model. keeps_anew answers.3 (subst IsTrue same.keeps_model model);
+  }
+  still_base (Err faults.Full) answers = subst (λ (b : Base D). IsBaseOf view b sheet.contents) (sym answers.1) holds
+  still_base (Err faults.OutOfMemory) answers = absurd answers
+  still_base (Err faults.Disk) answers = record {
+    made = holds.made;
+    kept = λ is_open. absurd (let no : true ≡ false = sym answers.0 ∙ is_open in cc);
+  }
+  still_base (Err faults.Closed) answers = absurd answers
+
+  pub answered : (result : Result Unit CheckpointFault) → AnewAnswers view base new payloads result → CheckpointAnswers (store_on view (Some base) sheet) (store_on view (Some new) sheet) result
+  unfolding keeps_anew
+  answered (Ok u) answers = (
+    opened,
+    answers.0,
+    answers.1 ∙ ap end_of are,
+    answers.2,
+    λ model.
+        let kept = keeps_anew answers.3 model in
+        record { still_open = answers.0; keeps = outside view new (codes_of (rewrite_of sheet.contents)) kept.keeps; makes = anew },
+  )
+  answered (Err faults.Full) answers = (
+    opened,
+    λ fits. answers.0 (subst (λ (l : List (List ℕ)). FitsAnew (disk_of view base).room l) (sym are) fits.1),
+    subst (λ (b : Base D). SameStore (store_on view (Some base) sheet) (store_on view (Some b) sheet)) (sym answers.1)
+        (record { disk = refl; end = refl; contents = refl; closed = refl }),
+  )
+  answered (Err faults.OutOfMemory) answers = absurd answers
+  answered (Err faults.Disk) answers = (opened, answers.0, answers.1)
+  answered (Err faults.Closed) answers = absurd answers
+
+  -- at every moment each image is one of the worksheet
+  pub same_sheet_moments : InModel (disk_of view base) ((before : List (List ℕ)) → KeepsIn base before → LeavesOnly (EitherStands before payloads) (disk_of view base).history (disk_of view new).history)
+      → InModel (disk_of view base) (LeavesOnly (IsSheetImage sheet.contents) (disk_of view base).history (disk_of view new).history)
+  same_sheet_moments each model =
+      let kept = holds.kept opened model in
+      weakens (EitherStands (codes_of kept.ops) payloads) (IsSheetImage sheet.contents) (disk_of view base).history (disk_of view new).history
+      (λ i either. ⊎_elim
+      (λ before. record { ops = kept.ops; stands = before; makes = kept.makes })
+      (λ after. record { ops = rewrite_of sheet.contents; stands = subst (λ (l : List (List ℕ)). ImageStandsFor i l) are after; makes = anew }) either)
+      (each model (codes_of kept.ops) kept.keeps)
+
+-- Before the first write.
+
+-- the ops that make a worksheet anew have payloads
+all_have_code : (before os : List Op) → Allowed before → AllowedFrom before os → AllByRecursion HasCode os
+all_have_code before [] front allowed = tt
+all_have_code before (o ∷ os) front allowed = (allowed_have_code before o front allowed.0, all_have_code (before ++ o ∷ []) os (allowed_goes_on before o front allowed.0) allowed.1)
+
+pub code_anew : (ops : List Op) (sheet : Contents) → Makes ops sheet → AllByRecursion HasCode (rewrite_of sheet)
+code_anew ops sheet makes =
+    all_have_code [] (rewrite_of sheet) tt (rewrite_makes_the_same sheet (subst IsWorksheet (sym makes.is) (ops_make_worksheets ops makes.allowed))).0
+
+pub next_some : (ops : List Op) (sheet : Contents) → Makes ops sheet → 1 ≤ sheet.next
+next_some ops sheet makes = (subst IsWorksheet (sym makes.is) (ops_make_worksheets ops makes.allowed)).from_one
+
+-- a refusal before it
+pub refused_before : (store : StoreView) (fault : CheckpointFault) → store.closed ≡ false
+    → (fault ≡ faults.Full → ArePayloads max_payload (codes_of (rewrite_of store.sheet.contents)) → ⊥) → (fault ≡ faults.Disk → ⊥) → (fault ≡ faults.Closed → ⊥) → CheckpointAnswers store store (Err fault)
+refused_before store faults.Full opened full disk closed = (opened, λ fits. full refl fits.0, record { disk = refl; end = refl; contents = refl; closed = refl })
+refused_before store faults.OutOfMemory opened full disk closed = (opened, record { disk = refl; end = refl; contents = refl; closed = refl })
+refused_before store faults.Disk opened full disk closed = absurd (disk refl)
+refused_before store faults.Closed opened full disk closed = absurd (closed refl)
+
+-- where nothing has changed each image is still one of the sheet
+pub stays_same : (store : StoreView) → IsStore store → store.closed ≡ false → InModel store.disk (LeavesOnly (IsSheetImage store.sheet.contents) store.disk.history store.disk.history)
+stays_same store is opened model = started (IsSheetImage store.sheet.contents) store.disk.history (is.images model opened)

@@ -1,0 +1,20 @@
+use Rattle.std.proofs.Common.{subst}
+use Rattle.recovery.specs.Sheets.{IsStore}
+use Rattle.recovery.proofs.Images.{made_in}
+use Rattle.recovery.proofs.Kept.{is_store}
+use Rattle.recovery.proofs.Renewing.{code_anew, next_some, stays_same}
+use Rattle.recovery.proofs.store.Store.checkpoint.Goals as goal
+
+pub frames_of-requires-clause-some : goal.frames_of-requires-clause-some
+frames_of-requires-clause-some g c =
+    let made = made_in g.D.Disk.view c.self.inside.base c.self.inside.sheet.contents c.self.invariant in
+    next_some made.0 c.self.inside.sheet.contents made.1
+
+pub frames_of-requires-clause-code : goal.frames_of-requires-clause-code
+frames_of-requires-clause-code g c =
+    let made = made_in g.D.Disk.view c.self.inside.base c.self.inside.sheet.contents c.self.invariant in
+    code_anew made.0 c.self.inside.sheet.contents made.1
+
+pub returns-in-Err-clause-any_moment : goal.returns-in-Err-clause-any_moment
+returns-in-Err-clause-any_moment g c = λ model opened.
+    stays_same c.args.self.now (subst IsStore c.self.view_is (is_store g.D.Disk.view c.self.inside.base c.self.inside.sheet c.self.invariant)) opened model

@@ -1,0 +1,24 @@
+-- What a checkpoint does.
+use Rattle.std.specs.Prelude.{◌≡◌, ℕ, true, false, Result, Ok, Err}
+use Rattle.disk_model.specs.Disk.{InModel, Rises}
+use Rattle.journal.specs.Area.{ArePayloads, end_of}
+use Rattle.journal.specs.Kept.{FitsAnew}
+use Rattle.journal.specs.Limits.{max_payload}
+use Rattle.worksheet.specs.Contents.{Contents}
+use Rattle.worksheet.specs.Rewrite.{rewrite_of}
+use Rattle.recovery.specs.Sheets.{StoreView, SameStore, KeepsOps, codes_of}
+use Rattle.recovery.specs.declared.fault.CheckpointFault.{CheckpointFault}
+use Rattle.recovery.specs.declared.fault.CheckpointFault.TheVariants as faults
+
+-- the ops that make a worksheet anew have payloads for which an area has room
+abbrev pub HasRoomAnew : ℕ → Contents → Type 0
+HasRoomAnew room sheet = ArePayloads max_payload (codes_of (rewrite_of sheet)) × FitsAnew room (codes_of (rewrite_of sheet))
+
+-- what each answer to a checkpoint says of the store before and after it: the worksheet is the same in each case
+abbrev pub CheckpointAnswers : StoreView → StoreView → Result Unit CheckpointFault → Type 0
+CheckpointAnswers old new (Ok u) = (old.closed ≡ false) × (new.closed ≡ false) × (new.end ≡ end_of (codes_of (rewrite_of old.sheet.contents)))
+    × (new.disk.faults ≡ old.disk.faults) × InModel old.disk (KeepsOps new (rewrite_of old.sheet.contents))
+CheckpointAnswers old new (Err faults.Full) = (old.closed ≡ false) × (HasRoomAnew old.disk.room old.sheet.contents → ⊥) × SameStore old new
+CheckpointAnswers old new (Err faults.OutOfMemory) = (old.closed ≡ false) × SameStore old new
+CheckpointAnswers old new (Err faults.Disk) = (old.closed ≡ false) × (new.closed ≡ true) × Rises old.disk.faults new.disk.faults
+CheckpointAnswers old new (Err faults.Closed) = (old.closed ≡ true) × SameStore old new
