@@ -10,15 +10,20 @@ from model import KINDS, Difference
 ROOT = os.path.dirname(os.path.dirname(os.path.realpath(__file__)))
 
 
+def built():
+    """The path of the program: that of this repository, built where that is needed, or the one that TMHOST names."""
+    named = os.environ.get("TMHOST")
+    if not named:
+        subprocess.run([f"{ROOT}/tmhost", "blocks"], stdin=subprocess.DEVNULL, stdout=subprocess.DEVNULL, check=True)
+    return named or f"{ROOT}/crates/tmhost/out/tmhost"
+
+
 class Program:
-    """`path` is the program: that of this repository, built where that is needed, or the one that TMHOST names. `kinds` has the
-    kind of each interpreter by the words that start it, and `completes` says whether the program knows completions."""
+    """`path` is that of the program. `kinds` has the kind of each interpreter by the words that start it, and `completes` says whether
+    the program knows completions."""
 
     def __enter__(self):
-        self.path = os.environ.get("TMHOST")
-        if not self.path:
-            subprocess.run([f"{ROOT}/tmhost", "blocks"], stdin=subprocess.DEVNULL, check=True)
-            self.path = f"{ROOT}/crates/tmhost/out/tmhost"
+        self.path = built()
         self.folder = tempfile.mkdtemp(prefix="hostile.", dir=os.environ.get("FOLDER", "."))
         self.kinds = {}
         for kind, of in KINDS.items():
