@@ -5,4 +5,5 @@ mod desk;
 mod memory;
 mod openings;
 mod records;
+mod rewrites;
 mod windows;

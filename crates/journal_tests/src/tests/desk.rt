@@ -74,7 +74,7 @@ pub fn frame(alloc: Global, payload: &[u8]) -> Result<Frame, AllocError> {
     Frame::new(alloc, payload)
 }
 
-/// What became of an append, with the journal or its disk.
+/// What became of an append or a rewrite, with the journal or its disk.
 #[derive(Drop)]
 pub enum Appended<D: Disk> {
     Done(Journal<D>),
@@ -84,6 +84,14 @@ pub enum Appended<D: Disk> {
 
 pub fn append<D: Disk>(journal: Journal<D>, frame: &Frame) -> Appended<D> {
     match journal.append(frame) {
+        Ok(journal) => Appended::Done(journal),
+        Err(AppendFault::JournalFull(journal)) => Appended::Full(journal),
+        Err(AppendFault::Disk(disk)) => Appended::Failed(disk),
+    }
+}
+
+pub fn rewrite<D: Disk>(journal: Journal<D>, frames: &[Frame]) -> Appended<D> {
+    match journal.rewrite(frames) {
         Ok(journal) => Appended::Done(journal),
         Err(AppendFault::JournalFull(journal)) => Appended::Full(journal),
         Err(AppendFault::Disk(disk)) => Appended::Failed(disk),

@@ -1,7 +1,7 @@
 //! Calls while no memory is left.
 ghost use Rattle.std.specs.Prelude.{◌≤◌};
 
-use super::desk::{Appended, SESSION, append, cause_of, created, empty, frame, has};
+use super::desk::{Appended, SESSION, append, cause_of, created, empty, frame, has, rewrite};
 use disk_model::{Area, Disk, DiskFault, MemoryDisk};
 use journal::{CreateCause, Frame, Journal, OpenCause, Opening, create};
 use std::alloc::Global;
@@ -44,13 +44,61 @@ fn without_memory_the_disk_fails_and_nothing_breaks(rt: HostRuntime) -> Result<(
     Ok(())
 }
 
-// A disk of an array, whose calls take no memory. Nothing is claimed of its bytes.
+// An area of 64 bytes at most.
+#[derive(Drop)]
+struct ArrayArea {
+    bytes: [u8; 64],
+    len: usize,
+    ghost fits: { len ≤ 64 },
+}
+
+impl ArrayArea {
+    fn new() -> ArrayArea {
+        ArrayArea {
+            bytes: [0; 64],
+            len: 0,
+        }
+    }
+
+    fn read(&self, offset: u64, buffer: &mut [u8]) -> bool {
+        let at = offset as usize;
+        if at > 64 || buffer.len() > 64 - at {
+            return false;
+        }
+        buffer.copy_from_slice(&self.bytes[at..at + buffer.len()]);
+        true
+    }
+
+    fn write(&mut self, offset: u64, bytes: &[u8]) -> bool {
+        let at = offset as usize;
+        if at > 64 || bytes.len() > 64 - at {
+            return false;
+        }
+        let end = at + bytes.len();
+        self.bytes[at..end].copy_from_slice(bytes);
+        if self.len < end {
+            self.len = end;
+        }
+        true
+    }
+}
+
+// A disk of two arrays, whose calls take no memory. Nothing is claimed of its bytes.
 #[derive(Drop)]
 struct ArrayDisk {
-    first: [u8; 64],
-    len: usize,
+    first: ArrayArea,
+    second: ArrayArea,
     faults: u64,
-    ghost fits: { len ≤ 64 },
+}
+
+impl ArrayDisk {
+    fn new() -> ArrayDisk {
+        ArrayDisk {
+            first: ArrayArea::new(),
+            second: ArrayArea::new(),
+            faults: 0,
+        }
+    }
 }
 
 impl Disk for ArrayDisk {
@@ -77,33 +125,33 @@ impl Disk for ArrayDisk {
     fn len(&mut self, area: Area) -> Result<u64, DiskFault> {
         let _faults = self.faults;
         match area {
-            Area::First => Ok(self.len as u64),
-            Area::Second => Ok(0),
+            Area::First => Ok(self.first.len as u64),
+            Area::Second => Ok(self.second.len as u64),
         }
     }
 
-    fn read(&mut self, _area: Area, offset: u64, buffer: &mut [u8]) -> Result<(), DiskFault> {
+    fn read(&mut self, area: Area, offset: u64, buffer: &mut [u8]) -> Result<(), DiskFault> {
         let _faults = self.faults;
-        let at = offset as usize;
-        if at > 64 || buffer.len() > 64 - at {
+        let done = match area {
+            Area::First => self.first.read(offset, buffer),
+            Area::Second => self.second.read(offset, buffer),
+        };
+        if !done {
             self.faults = self.faults.saturating_add(1);
             return Err(DiskFault);
         }
-        buffer.copy_from_slice(&self.first[at..at + buffer.len()]);
         Ok(())
     }
 
-    fn write_at(&mut self, _area: Area, offset: u64, bytes: &[u8]) -> Result<(), DiskFault> {
+    fn write_at(&mut self, area: Area, offset: u64, bytes: &[u8]) -> Result<(), DiskFault> {
         let _faults = self.faults;
-        let at = offset as usize;
-        if at > 64 || bytes.len() > 64 - at {
+        let done = match area {
+            Area::First => self.first.write(offset, bytes),
+            Area::Second => self.second.write(offset, bytes),
+        };
+        if !done {
             self.faults = self.faults.saturating_add(1);
             return Err(DiskFault);
-        }
-        let end = at + bytes.len();
-        self.first[at..end].copy_from_slice(bytes);
-        if self.len < end {
-            self.len = end;
         }
         Ok(())
     }
@@ -116,11 +164,7 @@ impl Disk for ArrayDisk {
 
 // An empty disk that was made while no memory was left.
 fn created_without_memory(alloc: Global) -> Result<ArrayDisk, Fail> {
-    let disk = ArrayDisk {
-        first: [0; 64],
-        len: 0,
-        faults: 0,
-    };
+    let disk = ArrayDisk::new();
     let _held = exhausted(alloc)?;
     match create(disk) {
         Ok(disk) => Ok(disk),
@@ -148,6 +192,31 @@ fn array_with_session(alloc: Global) -> Result<ArrayDisk, Fail> {
         Appended::Done(journal) => Ok(journal.into_disk()),
         _ => Err("append".into()),
     }
+}
+
+// Rewrites the journal while no memory is left.
+fn rewritten<D: Disk>(
+    alloc: Global,
+    journal: Journal<D>,
+    frames: &[Frame],
+) -> Result<Journal<D>, Fail> {
+    let _held = exhausted(alloc)?;
+    match rewrite(journal, frames) {
+        Appended::Done(journal) => Ok(journal),
+        _ => Err("rewrite".into()),
+    }
+}
+
+#[test]
+fn a_rewrite_takes_no_memory(rt: HostRuntime) -> Result<(), Fail> {
+    let alloc = rt.alloc();
+    let frame = frame(alloc, &SESSION)?;
+    let mut journal = empty(alloc, created_without_memory(alloc)?)?;
+    for _ in 0..2 {
+        journal = rewritten(alloc, journal, std::slice::from_ref(&frame))?;
+    }
+    assert!(rt; has(alloc, journal.into_disk(), &[(10, &SESSION)])?);
+    Ok(())
 }
 
 // Whether an opening is refused for want of memory where none is left as it begins.
