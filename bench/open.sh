@@ -1,6 +1,6 @@
 #!/usr/bin/env bash
 # Prints how long opening a worksheet takes (`tmhost show`) whose journal has so many MB (100 and 1,000 where none are given), against
-# `cat` of that file, and the peak memory of both. Every journal makes the same worksheet of 10 fields: what is longer about a longer
+# `cat` of that file, and the peak memory of both, resident and asked for. Every journal makes the same worksheet of 10 fields: what is longer about a longer
 # one are the inputs that were set and set again. The medians of RUNS runs (5 where it isn't set) of both in turn; the files lie in
 # FOLDER, or in the current one.
 set -euo pipefail
@@ -35,7 +35,7 @@ def journal(path, length):
         out.write(b"\x00")
     open(path + ".alt", "wb").close()
 
-# Seconds, the greatest resident memory in MiB, and the front of what was written. The pipe of `show` holds less than it writes, so that
+# Seconds, the greatest resident memory and address space in MiB, and the front of what was written. The pipe of `show` holds less than it writes, so that
 # it is there when its memory is looked at, which is behind the opening.
 def measured(words):
     begun = time.perf_counter()
@@ -47,12 +47,12 @@ def measured(words):
     with open(reads, "rb", buffering=0) as pipe:
         told = pipe.read(1)
         with open(f"/proc/{child.pid}/status") as status:
-            peak = int(re.search(r"VmHWM:\s+(\d+) kB", status.read()).group(1)) / 1024
+            peak = [int(kib) / 1024 for kib in re.findall(r"(?:VmPeak|VmHWM):\s+(\d+) kB", status.read())]
         while more := pipe.read(1 << 20):
             if len(told) < 1 << 20:
                 told += more
     assert child.wait() == 0, f"{words[0]}: status {child.returncode}"
-    return time.perf_counter() - begun, peak, told
+    return time.perf_counter() - begun, peak[1], told, peak[0]
 
 for size in sys.argv[4:]:
     path = f"{work}/sheet{size}"
@@ -65,6 +65,7 @@ for size in sys.argv[4:]:
         theirs.append(measured(["cat", path]))
     show, cat = (statistics.median(run[0] for run in side) for side in (ours, theirs))
     peak, other = (max(run[1] for run in side) for side in (ours, theirs))
-    print(f"{size} MB: show {show:.2f} s, cat {cat:.2f} s, ratio {show / cat:.1f}; peak memory {peak:.1f} MiB, of cat {other:.1f} MiB")
+    asked = max(run[3] for run in ours)
+    print(f"{size} MB: show {show:.2f} s, cat {cat:.2f} s, ratio {show / cat:.1f}; peak memory {peak:.1f} MiB, of cat {other:.1f} MiB; addresses {asked:.1f} MiB")
     os.remove(path)
 PYTHON
