@@ -1,7 +1,10 @@
 use Rattle.std.proofs.Common.{◌≡◌, ◌+◌, [], ◌∷◌, ◌++◌, take, arith}
 use Rattle.std.proofs.lemmas.Grind.{common_steps}
-use Rattle.journal_tests.proofs.Batches.{run_on, appended_on}
+use Rattle.journal_tests.proofs.Batches.{none_yet, run_on, appended_on}
 use Rattle.journal_tests.proofs.tests.batches.append_all.Goals as goal
+
+pub loop-frame-init : goal.loop-frame-init
+loop-frame-init g c = none_yet _ _
 
 pub returns-in-Err-clause-any_moment : goal.returns-in-Err-clause-any_moment
 returns-in-Err-clause-any_moment g c =

@@ -1,0 +1,148 @@
+# Steps of the program as its users take them, over real files, streams and interpreters. Its first word is the program's path. What
+# is printed here is compared with the file stdout beside this folder. A line `-- WORDS` names the step, and one `status N` its status
+# where that isn't 0.
+tmhost=$1
+
+step() {
+    printf -- '-- %s\n' "$*"
+}
+
+# Runs the program with these words; what it says on standard error follows what it printed.
+run() {
+    "$tmhost" "$@" 2>errors
+    status=$?
+    cat errors
+    [ $status = 0 ] || echo "status $status"
+}
+
+# The same, where the text of a refusal is clap's own.
+refused() {
+    "$tmhost" "$@" >text 2>errors
+    echo "status $?, $([ -s text ] && echo a text || echo no text), $([ -s errors ] && echo errors || echo no errors)"
+}
+
+# The names of the worksheet's files, and their lengths.
+files() {
+    for file in "$@"; do
+        if [ -e "$file" ]; then echo "$file $(wc -c <"$file")"; else echo "$file is missing"; fi
+    done
+}
+
+# An interpreter that answers each line with it.
+cat >echo.sh <<'END'
+printf '\002verbatim:\005'
+while IFS= read -r l; do printf '\002verbatim:%s\005' "$l"; done
+END
+
+# The same, which kills its host at the line `kill`.
+cat >kills.sh <<'END'
+printf '\002verbatim:\005'
+while IFS= read -r l; do
+    if [ "$l" = kill ]; then kill -9 $PPID; exit; fi
+    printf '\002verbatim:%s\005' "$l"
+done
+END
+
+step blocks
+printf 'noise\002verbatim:Hi there!\005\n' | run
+printf '\002verbatim:x' | run blocks
+printf 'ab\002verb\002' | run blocks
+
+step create
+run create sheet
+files sheet sheet.alt
+run create sheet
+run create missing/sheet
+ln -s nowhere link
+run create link
+mkdir folder
+run create folder
+files nowhere link.alt folder.alt
+
+step an empty worksheet
+run show sheet
+files sheet sheet.alt
+
+step run
+cat >script <<'END'
+session a plain sh echo.sh
+session b plain sh echo.sh
+new 0 a one
+new 1 b two
+foo
+remove 7
+eval 1
+eval 2
+wait
+print
+END
+run run sheet <script
+step show
+run show sheet
+step a worksheet goes on
+printf 'new 2 a three\neval 3\nwait\n' | run run sheet
+run show sheet
+
+step a kill behind the first answer
+run create killed
+printf 'session a plain sh kills.sh\nnew 0 a first\nnew 1 a kill\neval 1\nwait\neval 2\nwait\nprint\n' >script
+"$tmhost" run killed <script >text 2>/dev/null
+cat text
+run show killed
+
+step an interpreter that ends
+run create ended
+printf 'session a plain true\nnew 0 a x\neval 1\nwait\n' | run run ended
+run show ended
+
+step what is no worksheet
+run run missing </dev/null
+files missing missing.alt
+echo hello >hello.txt
+run show hello.txt
+run run hello.txt </dev/null
+printf 'TMWSHEET\001AR\000\000\000\011abc' >cut
+run show cut
+run show folder
+run show ''
+
+step a second file that is missing
+rm killed.alt
+run show killed
+files killed.alt
+
+step words
+refused create
+refused create one two
+refused run
+refused show
+refused paint sheet
+refused --version
+refused --help
+refused run --help
+refused --  run
+
+step a full device
+"$tmhost" show sheet >/dev/full 2>errors
+echo "status $?"
+cat errors
+"$tmhost" --help >/dev/full 2>errors
+echo "status $?"
+cat errors
+printf 'new 0 a four\n' | "$tmhost" run sheet >/dev/full 2>errors
+echo "status $?"
+cat errors
+
+step closed streams
+"$tmhost" run sheet <&- 2>errors
+echo "status $?"
+cat errors
+printf 'new 0 a five\nnew 0 a six\n' | "$tmhost" run sheet 2>errors >&-
+echo "status $?"
+cat errors
+"$tmhost" show sheet 2>&- >text
+echo "status $?"
+"$tmhost" show hello.txt 2>&-
+echo "status $?"
+run show sheet
+files sheet.alt
