@@ -2,15 +2,17 @@
 use Rattle.std.proofs.Common.{◌≡◌, ◌+◌, ◌≤◌, ◌<◌, inl, inr, ℕ, true, List, [], ◌∷◌, ◌++◌, Option, Some, None, refl, ap, sym, ◌∙◌, subst, append_assoc, append-nil, length, arith}
 use Rattle.std.proofs.KnownBytes.{Appends-trans, Appends-nil}
 use Rattle.std.proofs.lemmas.Bool.{false≢true}
-use Rattle.std.specs.Prelude.{IfSome, IfErr, Result, Ok, Err}
+use Rattle.std.specs.Prelude.{IfSome, IfErr, OnOk, Result, Ok, Err, min}
 use Rattle.std.specs.Io.KnownBytes.{Appends}
 use Rattle.std.proofs.lemmas.Option.{IfSome_then}
-use Rattle.disk_model.specs.Disk.{DiskView, InModel, Looks, SameDisk, bytes_on}
+use Rattle.std.proofs.Math.Nat.{le-min, min-le_left, min-le_right}
+use Rattle.disk_model.specs.Disk.{DiskView, InModel, Looks, Rises, SameDisk, bytes_on, max_faults}
 use Rattle.worksheet.specs.declared.op.Op.{Op}
 use Rattle.recovery.specs.Sheets.{IsSheetImage}
 use Rattle.session_engine.specs.declared.event.Event.{Event}
 use Rattle.session_engine.specs.declared.event.Event.TheVariants as event
 use Rattle.session_engine.specs.declared.outcome.HostFault.{HostFault}
+use Rattle.session_engine.specs.declared.outcome.HostFault.TheVariants as hosts
 use Rattle.session_engine.specs.World.{World, world_at_opening}
 use Rattle.session_engine.specs.Host.{HostView, EndsAt, IsHost}
 use Rattle.child_edge.specs.declared.serving.EdgeCause.{EdgeCause}
@@ -24,6 +26,7 @@ use Rattle.session_engine.specs.declared.reply.Reply.{Reply}
 use Rattle.child_edge.specs.Edge.{ByCause, Stopped}
 use Rattle.child_edge.specs.Seats.{running}
 use Rattle.child_edge.specs.Stops.{Stops}
+use Rattle.child_edge.proofs.Faulting.{same-at, same-on}
 use Rattle.child_edge.proofs.Timeline.{Goes, goes_on_by, follows-goes, turns-goes, so-far-goes, stopped-goes, goes_leaves, goes_up_to}
 use Rattle.sheet_text.specs.Script.{line_of, wants_memory}
 use Rattle.sheet_text.specs.declared.script.ScriptLine.{ScriptLine}
@@ -248,6 +251,40 @@ lines-so-far-goes : {C : Type 0} (R : Relation C) (lines : List (List ℕ)) (s :
 lines-so-far-goes R lines s beats text t p =
     subst (λ (bs : List Beat). Goes s.world s.disk bs t.world t.disk) (sym p.took)
     (goes_on_by s.world s.disk p.earlier p.mid.world p.mid.disk p.beats t.world t.disk (lines-goes R 1 p.before.done s p.earlier p.first p.mid p.before.ran) (part-goes R (line_of p.line) p.mid p.beats t p.broke))
+
+-- A disk that failed at the end of a timeline has failed since its beginning.
+
+goes_same : (w : World) (d : DiskView) (bs : List Beat) (v : World) (f : DiskView) → Goes w d bs v f → SameDisk d f
+goes_same w d [] v f p = subst (SameDisk d) (sym p.1) (same-at d)
+goes_same w d (b ∷ bs) v f p = same-on d p.1 f p.3.same (goes_same p.0 p.1 bs v f p.4)
+
+min_since : (most a b c : ℕ) → a ≤ b → min (b + 1) most ≤ c → min (a + 1) most ≤ c
+min_since most a b c later rises =
+    let first = min-le_left (a + 1) most in
+    let both : min (a + 1) most ≤ min (b + 1) most = le-min (omega (arith, first, later)) (min-le_right (a + 1) most) in
+    omega (arith, both, rises)
+
+pub failed_since : {C : Type 0} (R : Relation C) (lines : List (List ℕ)) (disk now : DiskView) (start : World) (c d : C) (h : HostView) (a b : Option (List ℕ)) (f : RunFault)
+    → SameDisk disk now → LinesStopped R lines (at start c now) h d a b f → f ≡ fault.Host hosts.Disk → Rises disk.faults h.store.disk.faults
+failed_since R lines disk now start c d h a b f same p e =
+    let q = subst (λ x. LinesStopped R lines (at start c now) h d a b x) e p in
+    let goes = goes_same start now q.0 q.3.world q.3.disk (lines-up-to-goes R lines (at start c now) q.0 q.1 q.2 q.3 q.4) in
+    min_since max_faults disk.faults q.3.disk.faults h.store.disk.faults (omega (arith, same.later, goes.later)) q.5.cause.0
+
+-- What is known of a result, where it is known which it is.
+
+pub on_ok_is : {T E P : Type 0} (r : Result T E) (x : T) → r ≡ Ok x → OnOk r P → P
+on_ok_is {P = P} r x is p = subst (λ s. OnOk s P) is p
+
+pub if_err_is : {T E : Type 0} (r : Result T E) (P : E → Type 0) (e : E) → r ≡ Err e → IfErr r P → P e
+if_err_is r P e is p = subst (λ s. IfErr s P) is p
+
+abbrev error_or : {T E : Type 0} → E → Result T E → E
+error_or other (Ok x) = other
+error_or other (Err e) = e
+
+pub err_same : {T E : Type 0} (r : Result T E) (e d : E) → r ≡ Err e → r ≡ Err d → e ≡ d
+err_same r e d is also = ap (error_or e) (sym is ∙ also)
 
 -- The run.
 

@@ -1,11 +1,11 @@
 -- How a program ends: its exit status, and what it says on which stream.
-use Rattle.std.specs.Prelude.{◌≡◌, ◌<◌, ◌≤◌, ◌⊎◌, ℕ, Bool, true, false, List, Option, Result, Ok, Err, IfOk, IfSome, IsErrOf, length}
+use Rattle.std.specs.Prelude.{◌≡◌, ◌<◌, ◌≤◌, ◌⊎◌, ℕ, Bool, true, false, List, Option, Result, Ok, Err, IfOk, IfErr, IfSome, IsErrOf, length}
 use Rattle.std.specs.Io.KnownBytes.{Appends}
 use Rattle.meta_format.specs.Limits.{limits}
 use Rattle.clap.specs.declared.error.kind.ErrorKind.{ErrorKind}
 use Rattle.clap.specs.declared.error.kind.ErrorKind.TheVariants as kind
 use Rattle.host_cli.specs.Faults.{fault_text}
-use Rattle.host_cli.specs.Input.{max_input}
+use Rattle.host_cli.specs.Input.{IsStreamFault, max_input}
 use Rattle.host_cli.specs.Printed.{Printed, PrintsFront}
 use Rattle.host_cli.specs.declared.fault.RunFault.{RunFault}
 use Rattle.host_cli.specs.declared.fault.RunFault.TheVariants as fault
@@ -36,6 +36,7 @@ pub record BlocksAnswer {W : Type 0} (stream : Option (List ℕ)) (contents : W 
   pub short : IfOk answer (λ whole. IfSome stream (λ bytes. length bytes ≤ max_input))
   pub output_short : IsErrOf answer fault.Output → IfSome stream (λ bytes. length bytes ≤ max_input)
   pub too_long : IsErrOf answer fault.InputTooLong → IfSome stream (λ bytes. max_input < length bytes)
+  pub faults : IfErr answer IsStreamFault
   pub nothing_at_input : IsErrOf answer fault.Input → new ≡ old
   pub nothing_at_too_long : IsErrOf answer fault.InputTooLong → new ≡ old
   pub front_at_memory : IsErrOf answer fault.OutOfMemory → IfSome stream (λ bytes. PrintsFront limits bytes (contents old) (contents new))

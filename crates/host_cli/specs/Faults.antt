@@ -1,7 +1,7 @@
 -- The line that tells a fault, and what a fault tells of a disk.
 use Rattle.std.specs.Prelude.{ℕ, List, [], ◌∷◌, ◌++◌, codes}
 use Rattle.std.specs.Fmt.{decimal}
-use Rattle.disk_model.specs.Disk.{DiskView, InModel, bytes_on}
+use Rattle.disk_model.specs.Disk.{DiskView, InModel, Rises, SameDisk, bytes_on}
 use Rattle.journal.specs.declared.opening.CreateCause.{CreateCause}
 use Rattle.journal.specs.declared.opening.CreateCause.TheVariants as creates
 use Rattle.journal.specs.declared.opening.OpenCause.{OpenCause}
@@ -45,3 +45,7 @@ TellsShow disk nothing fault.OutOfMemory = ⊥
 TellsShow disk nothing fault.Input = ⊥
 TellsShow disk nothing fault.InputTooLong = ⊥
 TellsShow disk nothing (fault.Host why) = ⊥
+
+-- The disk later, with a failure of a call counted since, or with a count at its greatest.
+abbrev pub FailedSince : {D : Type 0} → (D → DiskView) → D → Type 0
+FailedSince {D = D} view disk = (later : D) × SameDisk (view disk) (view later) × Rises (view disk).faults (view later).faults

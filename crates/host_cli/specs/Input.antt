@@ -15,3 +15,12 @@ IsInputFault fault.Output = ⊥
 IsInputFault fault.OutOfMemory = Unit {0}
 IsInputFault (fault.Host why) = ⊥
 IsInputFault (fault.Open why) = ⊥
+
+-- a fault of a program that has only its input, its output and memory
+abbrev pub IsStreamFault : RunFault → Type 0
+IsStreamFault fault.Input = Unit {0}
+IsStreamFault fault.InputTooLong = Unit {0}
+IsStreamFault fault.Output = Unit {0}
+IsStreamFault fault.OutOfMemory = Unit {0}
+IsStreamFault (fault.Host why) = ⊥
+IsStreamFault (fault.Open why) = ⊥

@@ -8,4 +8,5 @@ pub mod Files
 pub mod Lines
 pub mod Run
 pub mod Programs
+pub mod Tasks
 pub mod inside

@@ -1,6 +1,6 @@
 -- How the programs over a worksheet's files end: what becomes of the disk, what is written on which
 -- stream, and the exit status.
-use Rattle.std.specs.Prelude.{◌≡◌, ◌≤◌, ℕ, Bool, true, List, [], Option, Some, None, Result, Err, IfOk, IfErr, IfSome, length}
+use Rattle.std.specs.Prelude.{◌≡◌, ◌≤◌, ℕ, Bool, true, List, [], Option, Some, None, Result, Err, IfOk, IfErr, IfSome, IsErrOf, length}
 use Rattle.std.specs.Io.KnownBytes.{Appends}
 use Rattle.disk_model.specs.Disk.{DiskView, InModel, Leaves, Looks, Rises, SameDisk, bytes_on}
 use Rattle.worksheet.specs.Contents.{Contents}
@@ -9,11 +9,13 @@ use Rattle.journal.specs.Open.{AreEmpty}
 use Rattle.journal.specs.declared.opening.CreateCause.{CreateCause}
 use Rattle.journal.specs.declared.opening.CreateCause.TheVariants as creates
 use Rattle.journal.specs.declared.opening.OpenCause.{OpenCause}
+use Rattle.journal.specs.declared.opening.OpenCause.TheVariants as opens
 use Rattle.recovery.specs.Sheets.{IsSheetImage}
+use Rattle.session_engine.specs.declared.outcome.HostFault.TheVariants as hosts
 use Rattle.sheet_text.specs.Texts.{sheet_text}
 use Rattle.child_edge.specs.Faithful.{Relation}
 use Rattle.host_cli.specs.Ending.{ProgramAnswer}
-use Rattle.host_cli.specs.Faults.{TellsShow, create_fault_text}
+use Rattle.host_cli.specs.Faults.{FailedSince, TellsShow, create_fault_text}
 use Rattle.host_cli.specs.Input.{max_input}
 use Rattle.host_cli.specs.Run.{RunDone, TellsRun}
 use Rattle.host_cli.specs.declared.fault.RunFault.TheVariants as fault
@@ -55,6 +57,8 @@ pub record ShowAnswer {D W : Type 0} (view : D → DiskView) (contents : W → O
       → IfOk answer (λ whole. Appends (contents old) (contents new) (sheet_text sheet))))
   pub found : IfOk files (λ disk. InModel (view disk)
       (IfOk answer (λ whole. (sheet : Contents) × IsSheetImage sheet (bytes_on (view disk)))))
+  -- that the disk failed is told only where it did
+  pub failed : IfOk files (λ disk. IsErrOf answer (fault.Open opens.Disk) → FailedSince view disk)
   pub fault : IfOk files (λ disk. IfErr answer (TellsShow (view disk) (new ≡ old)))
 
 -- What `run` answers on a disk, and what it has written and done then: its clauses. The script is the
@@ -66,4 +70,7 @@ pub record RunAnswer {D C : Type 0} (view : D → DiskView) (R : Relation C)
   pub ran : IfOk answer (λ whole. (whole ≡ true) × ((back : D) × SameDisk (view disk) (view back)
       × IfSome stream (λ script. RunDone R script (view disk) c d a b (view back))))
   pub short : IfOk answer (λ whole. IfSome stream (λ script. length script ≤ max_input))
+  -- that the disk failed, at the opening or later, is told only where it did
+  pub unopened : IsErrOf answer (fault.Open opens.Disk) → FailedSince view disk
+  pub failed : IsErrOf answer (fault.Host hosts.Disk) → FailedSince view disk
   pub fault : IfErr answer (TellsRun R stream (view disk) c d a b nothing)

@@ -4,7 +4,7 @@ ghost use Rattle.std.specs.Io.KnownBytes.{Appends};
 ghost use Rattle.meta_format.specs.Limits.{limits};
 ghost use Rattle.meta_format.specs.Found.{outer_of, outers};
 ghost use Rattle.host_cli.specs.Printed.{Printed, PrintsFront, named_fault_line, outer_line, outer_lines, unfinished_line};
-ghost use Rattle.host_cli.specs.Input.{max_input};
+ghost use Rattle.host_cli.specs.Input.{IsStreamFault, max_input};
 
 use crate::{RunFault, read_input};
 use meta_format::{FeedFault, Found, Reader};
@@ -84,6 +84,7 @@ fn write_stream<W: Write>(alloc: Global, stream: &[u8], out: &mut W) -> Result<b
         × Appends (W.contents out.old) (W.contents out.new) text) }
     ensures not_input { IsErrOf result RunFault.Input → ⊥ }
     ensures not_too_long { IsErrOf result RunFault.InputTooLong → ⊥ }
+    ensures faults { IfErr result IsStreamFault }
     ensures front_at_memory { IsErrOf result RunFault.OutOfMemory
         → PrintsFront limits stream.now (W.contents out.old) (W.contents out.new) }
 {
@@ -146,6 +147,8 @@ pub fn blocks<R: Read, W: Write>(
     ensures too_long { IsErrOf result RunFault.InputTooLong
         → IfSome (R.remaining reader.old) (λ stream. max_input < length stream) }
 
+    // A stream gives no fault of a host or of a disk.
+    ensures faults { IfErr result IsStreamFault }
     ensures nothing_at_input { IsErrOf result RunFault.Input → writer.new ≡ writer.old }
     ensures nothing_at_too_long { IsErrOf result RunFault.InputTooLong → writer.new ≡ writer.old }
     // Of blocks that were written before memory was refused it is known which they are.

@@ -6,7 +6,7 @@ ghost use Rattle.host_cli.specs.Files.{file_view};
 use disk_model::{Area, Disk, DiskFault, MAX_ROOM};
 use journal::{CreateCause, OpenCause};
 use std::alloc::Global;
-use std::fs::{File, OpenOptions};
+use std::fs::{OpenFile, OpenOptions};
 use std::io::ErrorKind;
 use std::os::unix::fs::FileExt;
 use std::rt::Files;
@@ -18,9 +18,9 @@ use std::{fs, io};
 /// Of what a real file holds nothing is claimed. It counts its failures, as each disk does. A file
 /// that is longer than the room is a failure of the disk.
 #[derive(Drop)]
-pub struct FileDisk {
-    first: File,
-    second: File,
+pub struct FileDisk<F: OpenFile + FileExt + Drop> {
+    first: F,
+    second: F,
     failures: u64,
 }
 
@@ -41,7 +41,7 @@ fn folder_of(path: &str) -> &str {
 }
 
 /// The length of a file, where it isn't longer than the room.
-fn file_len(file: &File) -> io::Result<u64>
+fn file_len<F: OpenFile>(file: &F) -> io::Result<u64>
     ensures { IfOk result (λ len. len ≤ max_room) }
 {
     let len = file.metadata()?.len();
@@ -52,12 +52,12 @@ fn file_len(file: &File) -> io::Result<u64>
 }
 
 /// Opens a file that is there, to read and to write.
-fn open_file<R: Files<File = File>>(rt: &R, path: &str) -> io::Result<File> {
+fn open_file<R: Files>(rt: &R, path: &str) -> io::Result<R::File> {
     OpenOptions::new().read(true).write(true).open(rt, path)
 }
 
 /// Opens a file. A missing one is made, and its name is brought onto the disk.
-fn open_or_make_file<R: Files<File = File>>(rt: &R, path: &str) -> io::Result<File> {
+fn open_or_make_file<R: Files>(rt: &R, path: &str) -> io::Result<R::File> {
     match open_file(rt, path) {
         Err(error) if error.kind() == ErrorKind::NotFound => {
             let file = OpenOptions::new()
@@ -73,7 +73,7 @@ fn open_or_make_file<R: Files<File = File>>(rt: &R, path: &str) -> io::Result<Fi
 }
 
 /// Makes a file. One that is there is refused.
-fn make_file<R: Files<File = File>>(rt: &R, path: &str) -> Result<File, CreateCause> {
+fn make_file<R: Files>(rt: &R, path: &str) -> Result<R::File, CreateCause> {
     let made = OpenOptions::new()
         .read(true)
         .write(true)
@@ -87,12 +87,12 @@ fn make_file<R: Files<File = File>>(rt: &R, path: &str) -> Result<File, CreateCa
 }
 
 /// Brings the names of a folder's files onto the disk.
-fn sync_folder<R: Files<File = File>>(rt: &R, folder: &str) -> io::Result<()> {
+fn sync_folder<R: Files>(rt: &R, folder: &str) -> io::Result<()> {
     OpenOptions::new().read(true).open(rt, folder)?.sync_all()
 }
 
 /// Whether something has this name, a link that leads nowhere too.
-fn is_there<R: Files<File = File>>(rt: &R, path: &str) -> io::Result<bool> {
+fn is_there<R: Files>(rt: &R, path: &str) -> io::Result<bool> {
     match fs::symlink_metadata(rt, path) {
         Ok(_) => Ok(true),
         Err(error) if error.kind() == ErrorKind::NotFound => Ok(false),
@@ -101,7 +101,7 @@ fn is_there<R: Files<File = File>>(rt: &R, path: &str) -> io::Result<bool> {
 }
 
 /// Looks for both files before one is made: one that is there is told first.
-fn look_for<R: Files<File = File>>(rt: &R, first: &str, second: &str) -> Result<(), CreateCause> {
+fn look_for<R: Files>(rt: &R, first: &str, second: &str) -> Result<(), CreateCause> {
     match (is_there(rt, first), is_there(rt, second)) {
         (Ok(true), _) | (_, Ok(true)) => Err(CreateCause::NotEmpty),
         (Ok(false), Ok(false)) => Ok(()),
@@ -109,16 +109,16 @@ fn look_for<R: Files<File = File>>(rt: &R, first: &str, second: &str) -> Result<
     }
 }
 
-impl FileDisk {
+impl<F: OpenFile + FileExt + Drop> FileDisk<F> {
     /// Makes both files, empty, first the one at `path`. They and their names are durable once it
     /// answers. `NotEmpty` where either exists, a folder and a link that leads nowhere included,
     /// and nothing was made. `Disk` where a file can't be made, an empty path and want of memory
     /// for a path included; a file that was made stays.
-    pub fn create<R: Files<File = File>>(
+    pub fn create<R: Files<File = F>>(
         rt: &R,
         alloc: Global,
         path: &str,
-    ) -> Result<FileDisk, CreateCause> {
+    ) -> Result<FileDisk<F>, CreateCause> {
         let Ok(alt) = second_path(alloc, path) else {
             return Err(CreateCause::Disk);
         };
@@ -141,11 +141,11 @@ impl FileDisk {
     /// Opens both files, first the one at `path`; a missing second one is made. `Disk` where one
     /// can't be opened or made: a missing file at `path`, a folder, an empty path, a file that may
     /// not be read and written, and want of memory for a path.
-    pub fn open<R: Files<File = File>>(
+    pub fn open<R: Files<File = F>>(
         rt: &R,
         alloc: Global,
         path: &str,
-    ) -> Result<FileDisk, OpenCause>
+    ) -> Result<FileDisk<F>, OpenCause>
         ensures { IfErr result (λ why. why ≡ OpenCause.Disk) }
     {
         let Ok(alt) = second_path(alloc, path) else {
@@ -165,7 +165,7 @@ impl FileDisk {
     }
 
     /// The file of an area.
-    fn file(&self, area: Area) -> &File {
+    fn file(&self, area: Area) -> &F {
         match area {
             Area::First => &self.first,
             Area::Second => &self.second,
@@ -188,7 +188,7 @@ impl FileDisk {
     }
 }
 
-impl Disk for FileDisk {
+impl<F: OpenFile + FileExt + Drop> Disk for FileDisk<F> {
     ghost use Rattle.std.proofs.Math.Nat.{le_refl};
     ghost use Rattle.disk_model.specs.Disk.{unclaimed};
 

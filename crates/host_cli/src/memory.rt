@@ -8,7 +8,7 @@ ghost use Rattle.sheet_text.specs.Texts as printed;
 ghost use Rattle.sheet_text.specs.declared.script.ScriptLine.TheVariants as said;
 ghost use Rattle.host_cli.specs.Memory.{LineRan, LinesRan, OpRan, ScriptRan, bad_line, script_lines};
 ghost use Rattle.session_engine.specs.Commands.{reply_to as reply_of};
-ghost use Rattle.host_cli.specs.Input.{max_input};
+ghost use Rattle.host_cli.specs.Input.{IsStreamFault, max_input};
 
 use crate::{RunFault, read_input};
 use bstr::ByteSlice;
@@ -167,6 +167,8 @@ pub fn run_memory<R: Read, W: Write>(
     ensures too_long { IsErrOf result RunFault.InputTooLong
         → IfSome (R.remaining reader.old) (λ script. max_input < length script) }
 
+    // A script over memory gives no fault of a host or of a disk.
+    ensures faults { IfErr result IsStreamFault }
     ensures nothing_at_input { IsErrOf result RunFault.Input → writer.new ≡ writer.old }
     ensures nothing_at_too_long { IsErrOf result RunFault.InputTooLong → writer.new ≡ writer.old }
     ensures nothing_at_memory { IsErrOf result RunFault.OutOfMemory → writer.new ≡ writer.old }

@@ -1,11 +1,13 @@
 //! A worksheet in print.
-ghost use Rattle.std.specs.Prelude.{◌≡◌, IfErr, OnOk};
+ghost use Rattle.std.specs.Prelude.{◌≡◌, IfErr, IsErrOf, OnOk};
 ghost use Rattle.std.specs.Io.KnownBytes.{Appends};
 ghost use Rattle.disk_model.specs.Disk.{InModel, bytes_on};
 ghost use Rattle.worksheet.specs.Contents.{Contents};
 ghost use Rattle.recovery.specs.Sheets.{IsSheetImage};
 ghost use Rattle.sheet_text.specs.Texts as printed;
-ghost use Rattle.host_cli.specs.Faults.{TellsShow};
+ghost use Rattle.host_cli.specs.Faults.{FailedSince, TellsShow};
+ghost use Rattle.host_cli.specs.declared.fault.RunFault.TheVariants as told;
+ghost use Rattle.journal.specs.declared.opening.OpenCause.TheVariants as opens;
 
 use crate::RunFault;
 use disk_model::Disk;
@@ -38,6 +40,9 @@ pub fn show<D: Disk, W: Write>(alloc: Global, disk: D, writer: &mut W) -> Result
     ensures found { InModel (D.view disk) (OnOk result ((sheet : Contents)
         × IsSheetImage sheet (bytes_on (D.view disk)))) }
     ensures fault { IfErr result (TellsShow (D.view disk) (writer.new ≡ writer.old)) }
+
+    // That the disk failed is told only where it did.
+    ensures failed { IsErrOf result (told.Open opens.Disk) → FailedSince D.view disk }
 {
     let store = match Store::open(alloc, disk) {
         Ok(store) => store,

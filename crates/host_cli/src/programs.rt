@@ -107,6 +107,26 @@ fn run_on<R: Read, W: Write, D: Disk, C: Children>(
     }
 }
 
+/// Runs a script over a disk, and tells its fault.
+fn end_run<R: Read, W: Write, E: Write, D: Disk, C: Children>(
+    alloc: Global,
+    input: &mut R,
+    output: &mut W,
+    errors: &mut E,
+    disk: D,
+    children: &mut C,
+) -> Ending
+    ensures { (answer : ProgramAnswer)
+        × RunAnswer D.view C.after (R.remaining input.old) disk children.old children.new
+        (W.contents output.old) (W.contents output.new)
+        ((output.new ≡ output.old) × (children.new ≡ children.old)) answer
+        × (result.status ≡ status_of answer)
+        × TellsFault E.contents errors.old errors.new result.told answer }
+{
+    let answer = run_on(alloc, input, output, disk, children);
+    end_program(answer, errors)
+}
+
 /// The whole program `run` on its files, or on why they weren't opened: the script comes from `input`,
 /// which is read only where there are files, and what its lines give goes to `output`, each line flushed.
 /// The line of a fault goes to `errors`.
@@ -130,9 +150,8 @@ pub fn run_script<R: Read, W: Write, E: Write, D: Disk, C: Children>(
         × (result.status ≡ status_of answer)
         × TellsFault E.contents errors.old errors.new result.told answer) }
 {
-    let answer = match files {
-        Ok(disk) => run_on(alloc, input, output, disk, children),
-        Err(why) => Err(RunFault::Open(why)),
-    };
-    end_program(answer, errors)
+    match files {
+        Ok(disk) => end_run(alloc, input, output, errors, disk, children),
+        Err(why) => end_program(Err(RunFault::Open(why)), errors),
+    }
 }

@@ -1,5 +1,5 @@
 //! A script over a worksheet on a disk, with interpreters.
-ghost use Rattle.std.specs.Prelude.{◌≡◌, ◌<◌, ◌≤◌, ◌^◌, ℕ, List, IfErr, IfOk, IfSome, OnOk, length};
+ghost use Rattle.std.specs.Prelude.{◌≡◌, ◌<◌, ◌≤◌, ◌^◌, ℕ, List, IfErr, IfOk, IfSome, IsErrOf, OnOk, length};
 ghost use Rattle.std.specs.Io.KnownBytes.{Appends};
 ghost use Rattle.disk_model.specs.Disk.{SameDisk};
 ghost use Rattle.session_engine.specs.World.{World};
@@ -7,11 +7,15 @@ ghost use Rattle.session_engine.specs.Host.{IsHost};
 ghost use Rattle.child_edge.specs.Faithful.{At, at, Beat};
 ghost use Rattle.child_edge.specs.Seats.{running};
 ghost use Rattle.child_edge.specs.Stops.{Stops};
+ghost use Rattle.host_cli.specs.Faults.{FailedSince};
 ghost use Rattle.host_cli.specs.Input.{max_input};
 ghost use Rattle.host_cli.specs.Memory.{script_lines};
 ghost use Rattle.host_cli.specs.Lines.{LinesDone};
 ghost use Rattle.host_cli.specs.Run.{RunDone, TellsRun};
 ghost use Rattle.host_cli.specs.inside.Taking.{LinesStopped};
+ghost use Rattle.host_cli.specs.declared.fault.RunFault.TheVariants as told;
+ghost use Rattle.journal.specs.declared.opening.OpenCause.TheVariants as opens;
+ghost use Rattle.session_engine.specs.declared.outcome.HostFault.TheVariants as hosts;
 
 use crate::taking::run_lines;
 use crate::{RunFault, read_input};
@@ -77,6 +81,10 @@ pub fn run<R: Read, W: Write, D: Disk, C: Children>(
     ensures fault { IfErr result (TellsRun C.after (R.remaining reader.old) (D.view disk)
         children.old children.new (W.contents writer.old) (W.contents writer.new)
         ((writer.new ≡ writer.old) × (children.new ≡ children.old))) }
+
+    // That the disk failed, at the opening or later, is told only where it did.
+    ensures unopened { IsErrOf result (told.Open opens.Disk) → FailedSince D.view disk }
+    ensures failed { IsErrOf result (told.Host hosts.Disk) → FailedSince D.view disk }
 {
     let script = match read_input(alloc, reader) {
         Ok(script) => script,
@@ -86,8 +94,10 @@ pub fn run<R: Read, W: Write, D: Disk, C: Children>(
         Ok(host) => host,
         Err(fault) => return Err(RunFault::Open(fault.cause)),
     };
-    match run_on_host(alloc, &mut host, children, script.as_slice(), writer) {
-        Ok(()) => Ok(host.close()),
+    let done = run_on_host(alloc, &mut host, children, script.as_slice(), writer);
+    let disk = host.close();
+    match done {
+        Ok(()) => Ok(disk),
         Err(fault) => Err(fault),
     }
 }

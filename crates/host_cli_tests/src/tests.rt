@@ -2,10 +2,14 @@
 //! and some that fail.
 mod endings;
 mod failing;
+mod file_calls;
 mod file_disk;
+mod lengths;
 mod limits;
+mod made_up;
 mod programs;
 mod scripts;
 mod streams;
 mod tasks;
+mod whole;
 mod words;

@@ -1,10 +1,11 @@
 //! How the program ends over streams that take what they get, and over some that don't.
-use super::failing::{Full, Parts};
+use super::failing::{Full, Parts, Unflushed};
 use super::words::refusal;
 use clap::Error;
 use host_cli::{Ending, refuse_unread_words, refuse_words, run_blocks};
 use std::alloc::Global;
 use std::io;
+use std::io::Write;
 use std::test::Fail;
 
 fn ending(status: u8, told: bool) -> Ending {
@@ -68,18 +69,19 @@ fn is_shown(alloc: Global, error: &Error, status: u8, front: &[u8]) -> bool {
     ended == ending(status, true) && output.as_slice().starts_with(front) && errors.is_empty()
 }
 
-// The same with a full output, and this text on the errors.
-fn is_shown_full(alloc: Global, error: &Error, status: u8, said: &[u8]) -> bool {
+// Whether it is told that this output could not be written.
+fn is_shown_on_a_bad<W: Write>(alloc: Global, error: &Error, output: &mut W) -> bool {
     let mut errors: Vec<u8> = Vec::new(alloc);
-    let ended = refuse_words(error, &mut Full, &mut errors);
-    ended == ending(status, true) && errors.as_slice() == said
+    let ended = refuse_words(error, output, &mut errors);
+    ended == ending(1, true) && errors.as_slice() == b"fault 42 Output\n".as_slice()
 }
 
 #[test]
 fn help_is_shown_on_the_output(rt: HostRuntime) -> Result<(), Fail> {
     let error = refusal(rt.alloc(), &["tmhost", "--help"]).ok_or("a task")?;
     assert!(rt; is_shown(rt.alloc(), &error, 0, b"A worksheet host"));
-    assert!(rt; is_shown_full(rt.alloc(), &error, 1, b"fault 42 Output\n"));
+    assert!(rt; is_shown_on_a_bad(rt.alloc(), &error, &mut Full));
+    assert!(rt; is_shown_on_a_bad(rt.alloc(), &error, &mut Unflushed));
     Ok(())
 }
 

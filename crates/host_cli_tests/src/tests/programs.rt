@@ -1,10 +1,11 @@
 //! How `create` and `show` end, over disks in memory and over files.
-use super::failing::Full;
+use super::failing::{Full, Unflushed};
 use disk_model::{FuseDisk, FuseMode, MemoryDisk};
 use host_cli::{Ending, FileDisk, run_create, run_show};
 use journal::{CreateCause, OpenCause};
 use std::alloc::Global;
 use std::fs;
+use std::io::Write;
 use std::test::Fail;
 
 // Area First of a worksheet: session `a` with the word `sh`, field 1 with the input `x`, its output
@@ -128,19 +129,18 @@ fn show_without_files(rt: HostRuntime) {
     assert!(rt; shows_files(rt.alloc(), none, 1, (b"", b"fault 32 Disk\n")));
 }
 
-// Whether `show` of these files over a full output ends so, and writes this on its errors.
-fn shows_full(alloc: Global, disk: MemoryDisk, status: u8, said: &[u8]) -> bool {
+// Whether `show` over this output tells that it could not be written.
+fn shows_on_a_bad<W: Write>(alloc: Global, output: &mut W) -> Option<bool> {
     let mut errors: Vec<u8> = Vec::new(alloc);
-    let files: Result<MemoryDisk, OpenCause> = Ok(disk);
-    let ended = run_show(alloc, files, &mut Full, &mut errors);
-    ended == ending(status, true) && errors.as_slice() == said
+    let files: Result<MemoryDisk, OpenCause> = Ok(holding(alloc, SHEET)?);
+    let ended = run_show(alloc, files, output, &mut errors);
+    Some(ended == ending(1, true) && errors.as_slice() == b"fault 42 Output\n".as_slice())
 }
 
 #[test]
-fn show_tells_a_full_output(rt: HostRuntime) -> Result<(), Fail> {
-    let disk = holding(rt.alloc(), SHEET).ok_or("no disk")?;
-    assert!(rt; shows_full(rt.alloc(), disk, 1, b"fault 42 Output\n"));
-    Ok(())
+fn show_tells_an_output_that_fails(rt: HostRuntime) {
+    assert!(rt; shows_on_a_bad(rt.alloc(), &mut Full) == Some(true));
+    assert!(rt; shows_on_a_bad(rt.alloc(), &mut Unflushed) == Some(true));
 }
 
 /// Whether `show` of the worksheet in these files ends so, and writes this on its output and its errors.

@@ -137,8 +137,8 @@ fn reader_fault<R: Read>(alloc: Global, reader: &mut R) -> Option<RunFault> {
 }
 
 // The fault of this writer.
-fn writer_fault<W: Write>(alloc: Global, writer: &mut W) -> Option<RunFault> {
-    let mut reader = b"\x02a:\x05".as_slice();
+fn writer_fault<W: Write>(alloc: Global, stream: &[u8], writer: &mut W) -> Option<RunFault> {
+    let mut reader = stream;
     blocks(alloc, &mut reader, writer).err()
 }
 
@@ -155,8 +155,16 @@ fn a_reader_or_a_writer_that_fails(rt: HostRuntime) {
         interrupted: false,
     };
     assert!(rt; reader_fault(alloc, &mut interrupted) == Some(RunFault::Input));
-    assert!(rt; writer_fault(alloc, &mut Full) == Some(RunFault::Output));
-    assert!(rt; writer_fault(alloc, &mut Unflushed) == Some(RunFault::Output));
+    assert!(rt; writer_fault(alloc, b"\x02a:\x05", &mut Full) == Some(RunFault::Output));
+}
+
+#[test]
+fn a_flush_that_fails_is_told_whatever_the_stream(rt: HostRuntime) {
+    let streams: [&[u8]; 4] = [b"", b"\x02a:\x05", b"\x02:", b"\x02a"];
+    for stream in streams {
+        let fault = writer_fault(rt.alloc(), stream, &mut Unflushed);
+        assert!(rt; fault == Some(RunFault::Output));
+    }
 }
 
 // Whether `blocks` takes so many bytes of noise, and prints nothing.

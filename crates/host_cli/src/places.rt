@@ -1,0 +1,80 @@
+//! Where worksheets lie.
+ghost use Rattle.std.specs.Prelude.{◌≤◌, ℕ, List, Result, IfOk};
+ghost use Rattle.journal.specs.declared.opening.CreateCause.{CreateCause};
+ghost use Rattle.journal.specs.declared.opening.OpenCause.{OpenCause};
+ghost use Rattle.host_cli.specs.declared.fault.RunFault.{RunFault};
+
+use crate::holding::{Closed, Held, hold_closed};
+use crate::{FileDisk, RunFault};
+use disk_model::Disk;
+use journal::{CreateCause, OpenCause};
+use std::alloc::Global;
+use std::fs::OpenFile;
+use std::os::unix::fs::FileExt;
+use std::rt::Files;
+
+/// Where worksheets lie, each at a path. What its calls do stands in three relations: the places
+/// before a call, what it asks for, its answer, and the places after it.
+pub trait Places<D: Disk> {
+    ghost holds: { Self → Result (Unit {0}) RunFault → Self → Type 0 };
+
+    ghost creates: { Self → List ℕ → Result D CreateCause → Self → Type 0 };
+
+    ghost opens: { Self → List ℕ → Result D OpenCause → Self → Type 0 };
+
+    /// Sees to it that no file takes the place of a standard stream. It comes before the others.
+    fn hold(&mut self) -> Result<(), RunFault>
+        ensures { holds self.old result self.new };
+
+    /// Makes the files of a worksheet.
+    fn create(&mut self, path: &str) -> Result<D, CreateCause>
+        ensures made { creates self.old path.now result self.new }
+        ensures room { IfOk result (λ disk. 11 ≤ (D.view disk).room) };
+
+    /// Opens the files of a worksheet.
+    fn open(&mut self, path: &str) -> Result<D, OpenCause>
+        ensures { opens self.old path.now result self.new };
+}
+
+/// Worksheets in files. Of what they hold nothing is claimed.
+#[derive(Drop)]
+pub struct FilePlaces<R: Files + Drop> {
+    rt: R,
+    alloc: Global,
+    closed: Closed,
+    held: Option<Held<R::File>>,
+}
+
+impl<R: Files + Drop> FilePlaces<R> {
+    /// The files that a runtime reaches, of a program that found these standard streams closed.
+    pub fn new(rt: R, alloc: Global, closed: Closed) -> FilePlaces<R> {
+        FilePlaces {
+            rt,
+            alloc,
+            closed,
+            held: None,
+        }
+    }
+}
+
+impl<F: OpenFile + FileExt + Drop, R: Files<File = F> + Drop> Places<FileDisk<F>>
+    for FilePlaces<R> {
+    ghost holds = { λ _ _ _. Unit {0} };
+
+    ghost creates = { λ _ _ _ _. Unit {0} };
+
+    ghost opens = { λ _ _ _ _. Unit {0} };
+
+    fn hold(&mut self) -> Result<(), RunFault> {
+        self.held = Some(hold_closed(&self.rt, self.closed)?);
+        Ok(())
+    }
+
+    fn create(&mut self, path: &str) -> Result<FileDisk<F>, CreateCause> {
+        FileDisk::create(&self.rt, self.alloc, path)
+    }
+
+    fn open(&mut self, path: &str) -> Result<FileDisk<F>, OpenCause> {
+        FileDisk::open(&self.rt, self.alloc, path)
+    }
+}
