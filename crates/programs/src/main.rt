@@ -6,12 +6,17 @@
 use child_edge::Processes;
 use host_cli::{Closed, FilePlaces, run_words};
 use std::io;
+use std::io::ErrorKind;
 use std::process::{Command, ExitCode};
 
 /// The words that the program was started with, its own name first.
-fn words(rt: &HostRuntime) -> io::Result<Vec<String>> {
-    let words = std::env::args(rt)?.collect::<Vec<String>>(rt.alloc())?;
-    Ok(words)
+fn words(rt: &HostRuntime) -> Result<Vec<String>, ErrorKind> {
+    match std::env::args(rt) {
+        Ok(words) => words
+            .collect::<Vec<String>>(rt.alloc())
+            .map_err(|_| ErrorKind::OutOfMemory),
+        Err(error) => Err(error.kind()),
+    }
 }
 
 /// Runs a script by the shell, and gives its status.
@@ -25,7 +30,7 @@ fn run_steps(rt: &HostRuntime, program: &str, script: &str) -> io::Result<u8> {
 }
 
 /// The program `tmhost`.
-fn tmhost(rt: &HostRuntime, words: io::Result<Vec<String>>) -> u8 {
+fn tmhost(rt: &HostRuntime, words: Result<Vec<String>, ErrorKind>) -> u8 {
     let closed = Closed::find(&rt.stdin(), &rt.stdout(), &rt.stderr());
     let ending = run_words(
         rt.alloc(),
