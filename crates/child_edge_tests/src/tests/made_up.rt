@@ -92,9 +92,7 @@ impl<'a> process::Processes for Runtime<'a> {
         let calls = self.calls;
         count(&calls.starts);
         calls.words.set(command.get_args().len());
-        calls
-            .pipes
-            .set(stdin.makes_pipe() && stdout.makes_pipe() && !stderr.makes_pipe());
+        calls.pipes.set(stdin.makes_pipe() && stdout.makes_pipe() && !stderr.makes_pipe());
         if let Some(alloc) = calls.memory.get() {
             calls.held.set(exhausted(alloc)?);
         }

@@ -1,11 +1,10 @@
 //! What is done to processes: each call on a child, over processes that are made up.
-use super::made_up::Calls;
+use super::made_up::{Calls, Runtime};
 use block_tree::{Octets, OutOfMemory};
 use child_edge::{Children, Processes, ReceiveFault, Received};
 use std::alloc::Global;
-use std::fs;
-use std::process;
 use std::test::Fail;
+use std::{fs, process};
 use worksheet::Name;
 
 fn name() -> Option<Name> {
@@ -20,16 +19,26 @@ fn octets(alloc: Global, words: &[&str]) -> Result<Vec<Octets>, OutOfMemory> {
     Ok(list)
 }
 
-// Whether the first life of session `a` is started with these words.
+// Whether this life of session `a` is started with these words.
+fn starts_as<R: process::Processes + Drop>(
+    alloc: Global,
+    children: &mut Processes<R>,
+    words: &[&str],
+    life: u32,
+) -> bool {
+    match (name(), octets(alloc, words)) {
+        (Some(name), Ok(words)) => children.start(name, life, words.as_slice()).is_ok(),
+        _ => false,
+    }
+}
+
+// Whether the first one is.
 fn starts<R: process::Processes + Drop>(
     alloc: Global,
     children: &mut Processes<R>,
     words: &[&str],
 ) -> bool {
-    match (name(), octets(alloc, words)) {
-        (Some(name), Ok(words)) => children.start(name, 1, words.as_slice()).is_ok(),
-        _ => false,
-    }
+    starts_as(alloc, children, words, 1)
 }
 
 // Whether a line of five bytes is sent to this life of session `a`.
@@ -110,6 +119,30 @@ fn the_place_of_a_child_is_made_before_it_runs(rt: HostRuntime) {
     calls.held.set(Vec::new(rt.alloc()));
     assert!(rt; is_started && calls.starts.get() == 1);
     assert!(rt; stops(&mut children, 1));
+}
+
+// How many of so many lives are started, and get a line each once all are.
+fn lives(alloc: Global, children: &mut Processes<Runtime<'_>>, count: u32) -> u32 {
+    for life in 0..count {
+        if !starts_as(alloc, children, &WORDS, life) {
+            return 0;
+        }
+    }
+    let mut lives = 0u32;
+    for life in 0..count {
+        if sends(children, life) {
+            lives = lives.saturating_add(1);
+        }
+    }
+    lives
+}
+
+#[test]
+fn sixty_four_children_run_at_a_time(rt: HostRuntime) {
+    let calls = Calls::none(rt.alloc());
+    let mut children = Processes::new(calls.runtime(), rt.alloc());
+    assert!(rt; lives(rt.alloc(), &mut children, 64) == 64);
+    assert!(rt; calls.starts.get() == 64 && calls.sent.get() == 320);
 }
 
 // Says so where its stream of errors is discarded, and nothing else.
