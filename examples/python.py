@@ -1,39 +1,52 @@
 """An interpreter of Python: a line is an expression or a statement, and names stay from line to line."""
 import contextlib
 import io
+import os
 import sys
 
-names = {}
+names = {"__name__": "__main__"}
+
+# The lines come in and the blocks go out by descriptors that nothing else has. What a line starts has no
+# input, so it can't take the lines behind it, and what it writes past print goes to the stream of errors.
+lines = open(os.dup(0), encoding="utf-8", newline="\n", errors="surrogateescape")
+blocks = open(os.dup(1), "wb")
+os.dup2(os.open(os.devnull, os.O_RDONLY), 0)
+os.dup2(2, 1)
+
+
+def compiled(line):
+    """The line as an expression where it is one, else as a statement. Nothing of it has run yet."""
+    try:
+        return compile(line, "<line>", "eval")
+    except SyntaxError:
+        return compile(line, "<line>", "exec")
 
 
 def run(line):
-    """What the line prints, and its value, or the error that it raised."""
+    """What the line prints, and its value, or the error that it raised. An exit() is told as one too."""
     written = io.StringIO()
+    sys.stdin = io.StringIO()
     with contextlib.redirect_stdout(written):
         try:
-            try:
-                value = eval(line, names)
-                if value is not None:
-                    print(repr(value))
-            except SyntaxError:
-                exec(line, names)
-        except Exception as error:
+            value = eval(compiled(line.lstrip(" \t")), names)
+            if value is not None:
+                print(repr(value))
+        except (Exception, SystemExit) as error:
             print(f"{type(error).__name__}: {error}")
     return written.getvalue()
 
 
 def escaped(text):
     """The text as it stands in a block: an escape before each byte that has a meaning there."""
-    return "".join("\x1b" + c if c in "\x02\x05\x1b" else c for c in text)
+    text = "".join("\x1b" + c if c in "\x02\x05\x1b" else c for c in text)
+    return text.encode("utf-8", "backslashreplace")
 
 
 def write_block(text, number):
-    sys.__stdout__.write(f"\x02verbatim:{escaped(text)}\x02prompt#In [{number}]: \x05\x05")
-    sys.__stdout__.flush()
+    blocks.write(b"\x02verbatim:%b\x02prompt#In [%d]: \x05\x05" % (escaped(text), number))
+    blocks.flush()
 
 
-sys.stdin.reconfigure(encoding="utf-8", newline="\n")
-sys.__stdout__.reconfigure(encoding="utf-8", newline="\n")
 write_block("Python " + sys.version.split()[0], 1)
-for number, line in enumerate(sys.stdin, 2):
+for number, line in enumerate(lines, 2):
     write_block(run(line.rstrip("\n")), number)

@@ -9,6 +9,8 @@ use std::test::Fail;
 use worksheet::Name;
 
 mod desk;
+mod made_up;
+mod processes;
 mod talkers;
 
 const BANNER: &[u8] = b"\x02verbatim:Hello\x02prompt#Input 1] \x05\x05";
