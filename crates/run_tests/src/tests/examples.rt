@@ -58,7 +58,14 @@ fn a_session_that_stalls(rt: HostRuntime) {
     let mut children = Silent::new(rt.alloc());
     let script = b"session a plain p\nnew 0 a x\neval 1\nwait\n";
     let text = b"ok\nfield 1\nasked\nended a Stalled lost 1\n";
-    assert!(rt; leaves(rt.alloc(), script, &mut children, (text, b"#1 a\n> x\n? Stalled\n")));
+    assert!(rt;
+        leaves(
+            rt.alloc(),
+            script,
+            &mut children,
+            (text, b"#1 a\n> x\n? Stalled\n")
+        )
+    );
     assert!(rt; children.receives == 100_000 && children.stops == 1);
 }
 
