@@ -141,8 +141,3 @@ pub one_more_each : (w : World) (events rest : List Event) (e : Event) (told : L
 unfolding one_more
 one_more_each w events rest e told old host new o p took same =
     (one_more w events rest e told host p.0 new o took, each_on w p.0.done old told p.0.leads host e o new p.1 took same)
-
--- all of them
-pub all_each : (w : World) (events : List Event) (told : List Outcome) (old host : HostView) → PlayedEach w events [] told old host → (v : World) × TookEach w events old told v host
-all_each w events told old host p =
-    (p.0.leads, subst (λ (es : List Event). TookEach w es old told p.0.leads host) (sym (p.0.split ∙ append-nil p.0.done)) p.1)

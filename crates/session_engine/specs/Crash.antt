@@ -38,12 +38,14 @@ pub record HasPlayed (w : World) (events rest : List Event) (told : List Outcome
   pub runs : Runs w done told leads
   pub stands : IsHost host leads
 
--- Each of these events was taken in turn, as a step takes it, and told one of these outcomes: from this world and host to those, on
--- the same disk. So what makes no call on the disk in a step makes none here.
+-- Each of these events was taken in turn, as a step takes it, and told one of these outcomes: from
+-- this world and host to those, on the same disk. So what makes no call on the disk in a step makes
+-- none here.
 abbrev pub TookEach : World → List Event → HostView → List Outcome → World → HostView → Type 0
 TookEach w [] old [] v new = (v ≡ w) × (new ≡ old)
 TookEach w (e ∷ es) old (o ∷ os) v new =
-    (mid : HostView) × (took : Took w e old mid o) × SameDisk old.store.disk mid.store.disk × TookEach (behind w took.did) es mid os v new
+    (mid : HostView) × (took : Took w e old mid o) × SameDisk old.store.disk mid.store.disk
+    × TookEach (behind w took.did) es mid os v new
 TookEach w [] old (o ∷ os) v new = ⊥
 TookEach w (e ∷ es) old [] v new = ⊥
 
@@ -54,8 +56,8 @@ MomentsBefore w events told faults.Disk old new = (untold : Outcome) × Moments 
 MomentsBefore w events told faults.OutOfMemory old new = Moments w events told old new
 MomentsBefore w events told faults.JournalFull old new = Moments w events told old new
 
--- Events were taken that told these outcomes, and the one behind them had this fault, before which the host went on as told here.
--- The others are dropped.
+-- Events were taken that told these outcomes, and the one behind them had this fault, before which
+-- the host went on as told here. The others are dropped.
 pub record StoppedAt (w : World) (events : List Event) (old new : HostView) (told : List Outcome) (fault : HostFault) : Type 0 where
   pub at : Event
   pub dropped : List Event

@@ -35,9 +35,10 @@ use Rattle.session_engine.specs.Crash.{LeftAmong, HasPlayed, StoppedAt}
 abbrev pub Has : Contents → Field → Type 0
 Has sheet f = field_in sheet.fields f.id ≡ Some f
 
--- The event closes the answer that the field shows. It is a piece of a life that goes on, of which the field's input is the first
--- line that waits; the stream of that life, with the piece, has a whole block which by the ask points is the answer to that line;
--- its last byte is one of the piece; and the field shows the output of this block.
+-- The event closes the answer that the field shows. It is a piece of a life that goes on, in which a
+-- line with the field's input is the first item that waits. The stream of that life, with the piece,
+-- has a whole block which by the ask points is the answer to that line, and its last byte is one of
+-- the piece. The field shows the output of this block.
 pub record ClosesAnswer (w : World) (e : Event) (f : Field) : Type 0 where
   pub name : List ℕ
   pub number : ℕ
@@ -101,18 +102,25 @@ pub record Turned (room : ℕ) (before : Image) (found : List Op) (turn : HostTu
 abbrev pub LeftByTurn : ℕ → Image → List Op → HostTurn → Image → Type 0
 LeftByTurn room before found turn after = (kept : List Op) × Turned room before found turn after kept
 
--- A play is a part of such a turn. A host was opened, took events and told their outcomes; a play of these events comes behind them.
--- A crash inside it makes a turn that told the outcomes of those before it, and a crash behind it one that told all its outcomes too:
--- where it took some of the first events, and where it stopped at a fault.
+-- A play is a part of such a turn. A host was opened, took events and told their outcomes, and a play
+-- of these events comes behind them. A crash inside it makes a turn that told the outcomes of those
+-- before it, and a crash behind it one that told all its outcomes too: where it took some of the first
+-- events, and where it stopped at a fault.
 abbrev pub PlaysAreTurns : Type 0
-PlaysAreTurns = (room end : ℕ) (before : Image) (found : List Op) → Allowed found → IsSheetImage (sheet_of found) before → EndsAt before end
-    → (earlier : List Event) (said : List Outcome) (w : World) → Runs (world_at_opening found room end) earlier said w
+PlaysAreTurns = (room end : ℕ) (before : Image) (found : List Op)
+    → Allowed found → IsSheetImage (sheet_of found) before → EndsAt before end
+    → (earlier : List Event) (said : List Outcome) (w : World)
+    → Runs (world_at_opening found room end) earlier said w
     → (events : List Event) (told : List Outcome) (after : Image)
-    → (LeftAmong w events told after → LeftByTurn room before found (record { events = earlier ++ events; told = said }) after)
-    × ((rest : List Event) (host : HostView) (played : HasPlayed w events rest told host) → IsSheetImage (sheet_in played.leads) after
+    → (LeftAmong w events told after
+    → LeftByTurn room before found (record { events = earlier ++ events; told = said }) after)
+    × ((rest : List Event) (host : HostView) (played : HasPlayed w events rest told host)
+    → IsSheetImage (sheet_in played.leads) after
     → LeftByTurn room before found (record { events = earlier ++ events; told = said ++ told }) after)
     × ((old new : HostView) (fault : HostFault) → StoppedAt w events old new told fault
-    → InModel old.store.disk (Leaves (LeftByTurn room before found (record { events = earlier ++ events; told = said ++ told })) new.store.disk.history.now))
+    → InModel old.store.disk
+    (Leaves (LeftByTurn room before found (record { events = earlier ++ events; told = said ++ told }))
+    new.store.disk.history.now))
 
 -- Each image that a crash leaves of a disk, at every moment from this state of it to that one, makes
 -- such a turn.
