@@ -80,9 +80,9 @@ module _ {C : Type 0} (R : Relation C) where
   stopped-goes most s bs e t p =
       let q = p.part in
       let turn : Goes p.mid.world p.mid.disk p.last t.world t.disk = subst (λ (l : List Beat). Goes p.mid.world p.mid.disk l t.world t.disk) (sym q.beats)
-          (goes_on_by p.mid.world p.mid.disk q.before q.mid.world q.mid.disk q.last t.world t.disk
-          (first-goes (Taken R _ None) (λ x. taken-goes _ None x) (waits p.mid.world) q.whole p.mid q.before q.mid q.are_done)
-          (taken-goes _ (Some e) q.seat q.mid q.last t q.broken)) in
+      (goes_on_by p.mid.world p.mid.disk q.before q.mid.world q.mid.disk q.last t.world t.disk
+      (first-goes (Taken R _ None) (λ x. taken-goes _ None x) (waits p.mid.world) q.whole p.mid q.before q.mid q.are_done)
+      (taken-goes _ (Some e) q.seat q.mid q.last t q.broken)) in
       subst (λ (l : List Beat). Goes s.world s.disk l t.world t.disk) (sym p.beats)
       (goes_on_by s.world s.disk p.before p.mid.world p.mid.disk p.last t.world t.disk (turns-goes most p.whole s p.before p.mid p.turns) turn)
 
@@ -153,6 +153,7 @@ goes_up_to w d bs v f e fault h holds p stopped = go fault stopped.cause
         subst (λ (os : List Outcome). Moments w (events_of bs ++ e ∷ []) os d h.store.disk) (append-nil (outcomes_of bs))
         (goes_then w d bs v f (e ∷ []) [] h.store.disk holds p (λ model. subst (λ (x : DiskView). LeavesOnly (LeftAmong v (e ∷ []) []) f.history x.history) (sym same)
         (started (LeftAmong v (e ∷ []) []) f.history (λ i image. left_none v (e ∷ []) [] i (stopped.held model i image)))))
+
     go : (x : HostFault) → CauseOf v e f h.store.disk x → LeavesFrontsUpTo w bs e x d h.store.disk
     go faults.Closed cause = absurd cause
     go faults.Disk cause =
@@ -160,7 +161,7 @@ goes_up_to w d bs v f e fault h holds p stopped = go fault stopped.cause
         let gives : Gives v e give.does.told (behind v give.does) = (give.does, give.may, refl, refl) in (
           give.does.told,
           goes_then w d bs v f (e ∷ []) (give.does.told ∷ []) h.store.disk holds p
-          (one_event v e give.does.told (behind v give.does) [] [] f h.store.disk gives stopped.held (subst (λ (a : Option Op). OnDisk v.ops a f h.store.disk) (sym give.gives) cause.1.2)),
+              (one_event v e give.does.told (behind v give.does) [] [] f h.store.disk gives stopped.held (subst (λ (a : Option Op). OnDisk v.ops a f h.store.disk) (sym give.gives) cause.1.2)),
         )
     go faults.OutOfMemory cause = unmoved cause.0
     go faults.JournalFull cause = unmoved cause.0

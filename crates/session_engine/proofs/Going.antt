@@ -21,8 +21,8 @@ use Rattle.session_engine.specs.declared.outcome.Outcome.{Outcome}
 use Rattle.session_engine.specs.World.{World, world_at_opening, sheet_in}
 use Rattle.session_engine.specs.Does.{Does, MayDo, Runs, behind}
 use Rattle.session_engine.specs.Host.{EndsAt, HostView}
-use Rattle.session_engine.specs.Crash.{HasPlayed, StoppedAt}
-use Rattle.session_engine.specs.Turns.{Has, Stays, Answered, HostTurn, Turned, EachTurned, WentOn, StaysThrough, AnsweredByOne, LivesInTurn, EvaluatedAnew, PlaysAreTurns}
+use Rattle.session_engine.specs.Crash.{HasPlayed, LeftAmong, StoppedAt}
+use Rattle.session_engine.specs.Turns.{Has, Stays, Answered, HostTurn, Turned, EachTurned, WentOn, StaysThrough, AnsweredByOne, LivesInTurn, EvaluatedAnew, LeftByTurn, PlaysAreTurns}
 use Rattle.session_engine.proofs.FieldLaws.{cleared}
 use Rattle.session_engine.proofs.Playing.{run_on, behind_ops}
 use Rattle.session_engine.proofs.Living.{Sound}
@@ -131,102 +131,78 @@ evaluated_anew found room end es os w allowed run id o mid given clears later to
     (λ answered. answered)
     (shown mid later told v after more f a some has)
 
--- What a play that stopped at a fault leaves.
-module _ (room end : ℕ) (before : Image) (found : List Op) (allowed : Allowed found) (opens : IsSheetImage (sheet_of found) before) (ends : EndsAt before end) (events : List Event) (told : List Outcome) where
+-- Plays behind other events.
+
+runs_on : (w : World) (es : List Event) (os : List Outcome) (v : World) (fs : List Event) (ps : List Outcome) (u : World) → Runs w es os v → Runs v fs ps u → Runs w (es ++ fs) (os ++ ps) u
+runs_on w [] [] v fs ps u p q = subst (λ (x : World). Runs x fs ps u) p q
+runs_on w [] (o ∷ os) v fs ps u p q = absurd p
+runs_on w (e ∷ es) [] v fs ps u p q = absurd p
+runs_on w (e ∷ es) (o ∷ os) v fs ps u p q = (p.0, p.1, runs_on p.0 es os v fs ps u p.2 q)
+
+module _ (room end : ℕ) (before : Image) (found : List Op) (allowed : Allowed found) (opens : IsSheetImage (sheet_of found) before) (ends : EndsAt before end)
+    (earlier : List Event) (said : List Outcome) (w : World) (so_far : Runs (world_at_opening found room end) earlier said w) (events : List Event) (told : List Outcome) where
   abbrev first : World
   first = world_at_opening found room end
 
-  abbrev IsTurn : Image → Type 0
-  IsTurn i = (kept : List Op) × Turned room before found (record { events = events; told = told }) i kept
+  -- a turn of the events before the play and of those in it, which told these outcomes
+  abbrev IsTurn : List Outcome → Image → Type 0
+  IsTurn outcomes = LeftByTurn room before found (record { events = earlier ++ events; told = outcomes })
 
-  -- the worksheet behind the events with an outcome
-  without_it : (rest : List Event) (host : HostView) (p : HasPlayed first events rest told host) (i : Image) → IsSheetImage (sheet_in p.leads) i → IsTurn i
-  without_it rest host p i image = (
-    p.leads.ops,
+  -- The first of the play's events were taken; those before it were told, and of these some.
+  turn_of : (done rest : List Event) → events ≡ done ++ rest → (outcomes untold : List Outcome) (v : World) → Runs first (earlier ++ done) (outcomes ++ untold) v
+      → (i : Image) → IsSheetImage (sheet_in v) i → IsTurn outcomes i
+  turn_of done rest split outcomes untold v run i image = (
+    v.ops,
     record {
       allowed = allowed;
       opens = opens;
       end = end;
       ends = ends;
-      taken = p.done;
+      taken = earlier ++ done;
       lost = rest;
-      split = p.split;
-      untold = [];
-      leads = p.leads;
-      run = subst (λ (os : List Outcome). Runs first p.done os p.leads) (sym (append-nil told)) p.runs;
+      split = ap (λ (es : List Event). earlier ++ es) split ∙ sym (append_assoc earlier done rest);
+      untold = untold;
+      leads = v;
+      run = run;
       ops = refl;
       leaves = image;
     },
   )
 
-  -- and the op of the one behind them
-  with_it : (e : Event) (rest : List Event) (host : HostView) (p : HasPlayed first events (e ∷ rest) told host) (d : Does) (q : Op) (i : Image) → MayDo p.leads e d → d.op ≡ Some q
-      → IsSheetImage (sheet_of (p.leads.ops ++ q ∷ [])) i → IsTurn i
-  with_it e rest host p d q i may gives image = (
-    (behind p.leads d).ops,
-    record {
-      allowed = allowed;
-      opens = opens;
-      end = end;
-      ends = ends;
-      taken = p.done ++ e ∷ [];
-      lost = rest;
-      split = p.split ∙ sym (append_assoc p.done (e ∷ []) rest);
-      untold = d.told ∷ [];
-      leads = behind p.leads d;
-      run = run_on first p.done told p.leads e d d.told p.runs may refl;
-      ops = refl;
-      leaves = subst (λ (ops : List Op). IsSheetImage (sheet_of ops) i) (sym (behind_ops p.leads d q gives)) image;
-    },
-  )
+  -- a crash inside it
+  within : (i : Image) → LeftAmong w events told i → IsTurn said i
+  within i left = turn_of left.done left.more left.split said left.outcomes left.leads (runs_on first earlier said w left.done left.outcomes left.leads so_far left.runs) i left.image
 
-  stopped_turn : (old new : HostView) (fault : HostFault) → StoppedAt first events old new told fault → InModel old.store.disk (Leaves IsTurn new.store.disk.history.now)
-  stopped_turn old new faults.Closed s = absurd s.failed.cause
-  stopped_turn old new faults.Disk s = λ model i image.
+  -- one that leaves the worksheet behind the events with an outcome
+  without_it : (rest : List Event) (host : HostView) (p : HasPlayed w events rest told host) (i : Image) → IsSheetImage (sheet_in p.leads) i → IsTurn (said ++ told) i
+  without_it rest host p = turn_of p.done rest p.split (said ++ told) [] p.leads
+      (subst (λ (os : List Outcome). Runs first (earlier ++ p.done) os p.leads) (sym (append-nil (said ++ told))) (runs_on first earlier said w p.done told p.leads so_far p.runs))
+
+  -- one that leaves that with the op of the event behind them
+  with_it : (e : Event) (rest : List Event) (host : HostView) (p : HasPlayed w events (e ∷ rest) told host) (d : Does) (q : Op) (i : Image) → MayDo p.leads e d → d.op ≡ Some q
+      → IsSheetImage (sheet_of (p.leads.ops ++ q ∷ [])) i → IsTurn (said ++ told) i
+  with_it e rest host p d q i may gives image =
+      let more = run_on w p.done told p.leads e d d.told p.runs may refl in
+      turn_of (p.done ++ e ∷ []) rest (p.split ∙ sym (append_assoc p.done (e ∷ []) rest)) (said ++ told) (d.told ∷ []) (behind p.leads d)
+      (subst (λ (os : List Outcome). Runs first (earlier ++ (p.done ++ e ∷ [])) os (behind p.leads d)) (sym (append_assoc said told (d.told ∷ [])))
+      (runs_on first earlier said w (p.done ++ e ∷ []) (told ++ d.told ∷ []) (behind p.leads d) so_far more))
+      i (subst (λ (ops : List Op). IsSheetImage (sheet_of ops) i) (sym (behind_ops p.leads d q gives)) image)
+
+  stopped : (old new : HostView) (fault : HostFault) → StoppedAt w events old new told fault → InModel old.store.disk (Leaves (IsTurn (said ++ told)) new.store.disk.history.now)
+  stopped old new faults.Closed s = absurd s.failed.cause
+  stopped old new faults.Disk s = λ model i image.
       let q = s.failed.cause.1.0 in
       let give = s.failed.cause.1.1 in
       ⊎_elim (without_it (s.at ∷ s.dropped) s.before s.played i) (with_it s.at s.dropped s.before s.played give.does q i give.may give.gives)
       (at_end (IsEither s.played.leads.ops q) s.before.store.disk.history new.store.disk.history (s.failed.cause.1.2 (subst IsTrue (sym s.same.keeps_model) model)) i image)
-  stopped_turn old new faults.OutOfMemory s = λ model i image. without_it (s.at ∷ s.dropped) s.before s.played i
+  stopped old new faults.OutOfMemory s = λ model i image. without_it (s.at ∷ s.dropped) s.before s.played i
       (s.played.stands.stands.images (subst IsTrue (sym s.same.keeps_model) model) i (subst (λ (d : DiskView). IsImage d.history.now i) s.failed.cause.0 image))
-  stopped_turn old new faults.JournalFull s = λ model i image. without_it (s.at ∷ s.dropped) s.before s.played i
+  stopped old new faults.JournalFull s = λ model i image. without_it (s.at ∷ s.dropped) s.before s.played i
       (s.played.stands.stands.images (subst IsTrue (sym s.same.keeps_model) model) i (subst (λ (d : DiskView). IsImage d.history.now i) s.failed.cause.0 image))
 
 pub plays_are_turns : PlaysAreTurns
-plays_are_turns room end before found allowed opens ends events told after = (
-  λ left. (
-    left.leads.ops,
-    record {
-      allowed = allowed;
-      opens = opens;
-      end = end;
-      ends = ends;
-      taken = left.done;
-      lost = left.more;
-      split = left.split;
-      untold = left.outcomes;
-      leads = left.leads;
-      run = left.runs;
-      ops = refl;
-      leaves = left.image;
-    },
-  ),
-  λ rest host played image. (
-    played.leads.ops,
-    record {
-      allowed = allowed;
-      opens = opens;
-      end = end;
-      ends = ends;
-      taken = played.done;
-      lost = rest;
-      split = played.split;
-      untold = [];
-      leads = played.leads;
-      run = subst (λ (os : List Outcome). Runs (world_at_opening found room end) played.done os played.leads) (sym (append-nil told)) played.runs;
-      ops = refl;
-      leaves = image;
-    },
-  ),
-  λ old new fault stopped. stopped_turn room end before found allowed opens ends events told old new fault stopped,
+plays_are_turns room end before found allowed opens ends earlier said w so_far events told after = (
+  λ left. within room end before found allowed opens ends earlier said w so_far events told after left,
+  λ rest host played image. without_it room end before found allowed opens ends earlier said w so_far events told rest host played after image,
+  λ old new fault s. stopped room end before found allowed opens ends earlier said w so_far events told old new fault s,
 )

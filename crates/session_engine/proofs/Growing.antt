@@ -1,5 +1,7 @@
 -- What a piece adds to the stream of a life that goes on.
-use Rattle.std.proofs.Common.{◌≡◌, ◌⊎◌, inl, inr, ⊎_elim, ◌+◌, ℕ, false, List, [], ◌∷◌, ◌++◌, length, refl, ap, ◌∙◌, subst, length-append, Option, Some, None}
+use Rattle.std.proofs.Common.{◌≡◌, ◌⊎◌, inl, inr, ⊎_elim, ◌+◌, ◌<◌, ◌≤◌, ℕ, suc, false, List, [], ◌∷◌, ◌++◌, length, refl, ap, ◌∙◌, subst, arith, length-append, Option, Some, None}
+use Rattle.std.proofs.Math.Seq.{take-append_seam}
+use Rattle.std.proofs.lemmas.List.{take_all}
 use Rattle.std.specs.Prelude.{option_to_list}
 use Rattle.meta_format.specs.Limits.{limits}
 use Rattle.meta_format.specs.Stream.{Outer}
@@ -15,10 +17,12 @@ use Rattle.plugin_core.specs.Past.{Event, received, stream_of}
 use Rattle.plugin_core.specs.Answers.{answers_of, ask_of}
 use Rattle.plugin_core.specs.inside.Changes.{closed_among}
 use Rattle.plugin_core.specs.Steps.{Reads}
+use Rattle.plugin_core.specs.AskPoints.{length_after, ClosesIn}
 use Rattle.plugin_core.proofs.Readings.{one_of_streams}
 use Rattle.plugin_core.proofs.Spans.{LieWithin, LieWithin-behind, LieWithin-closed}
 use Rattle.plugin_core.proofs.ByAskPoints.{reads_lie}
 use Rattle.plugin_core.proofs.Pasts.{stream_of-received}
+use Rattle.plugin_core.proofs.Asks.{found-stop}
 use Rattle.plugin_core.proofs.OneMore.{Adds, answers_of-received}
 
 pub once : OneReading
@@ -69,10 +73,29 @@ module _ (s p : List ℕ) where
       let q = run limits start_state s in
       rest bs others fault q (run limits record { at = q.at; out = []; mode = q.mode } p) old new (stand bs q refl old) refl
 
--- at most one more answer
+-- at most one more answer, which closes in the piece
 pub record Answers (past : List Event) (piece : List ℕ) (before after : List Outer) : Type 0 where
   pub closed : Option Outer
   pub answers : answers_of (past ++ received piece ∷ []) after ≡ answers_of past before ++ option_to_list closed
+  pub closes : (b : Outer) → closed ≡ Some b → ClosesIn (past ++ received piece ∷ []) (length past) b
+
+before_last : (past : List Event) (e : Event) → length_after (past ++ e ∷ []) (length past) ≡ length (stream_of past)
+before_last past e = ap (λ (ts : List Event). length (stream_of ts)) (take-append_seam past (e ∷ []))
+
+after_last : (past : List Event) (e : Event) → length_after (past ++ e ∷ []) (suc (length past)) ≡ length (stream_of (past ++ e ∷ []))
+after_last past e = ap (λ (ts : List Event). length (stream_of ts)) (take_all (suc (length past)) (past ++ e ∷ []) (omega (arith, length-append past (e ∷ []))))
+
+closes_last : (past : List Event) (piece : List ℕ) (b : Outer) → length (stream_of past) < b.stop → b.stop ≤ length (stream_of past) + length piece → ClosesIn (past ++ received piece ∷ []) (length past) b
+closes_last past piece b lo hi = (
+  omega (arith, lo, before_last past (received piece)),
+  omega (arith, hi, after_last past (received piece), ap length (stream_of-received past piece), length-append (stream_of past) piece),
+)
+
+newly_closed : (past : List Event) (piece : List ℕ) (before fresh : List Outer) → Adds past before piece fresh → (o : Option ℕ) (b : Outer) → closed_among o fresh ≡ Some b → ClosesIn (past ++ received piece ∷ []) (length past) b
+newly_closed past piece before fresh adds None b e = cc
+newly_closed past piece before fresh adds (Some place) b e =
+    let within = found-stop (length (stream_of past)) (length (stream_of past) + length piece) place fresh b adds.fresh e in
+    closes_last past piece b within.0 within.1
 
 pub one_answer : (past : List Event) (piece : List ℕ) (before after : List Outer) (fault : Option Kind) → Reads (stream_of past) before None → Reads (stream_of (past ++ received piece ∷ [])) after fault
     → Answers past piece before after
@@ -87,6 +110,7 @@ one_answer past piece before after fault old new =
     record {
       closed = closed_among (ask_of past before) a.fresh;
       answers = ap (λ (l : List Outer). answers_of (past ++ received piece ∷ []) l) a.is ∙ answers_of-received past before piece a.fresh adds;
+      closes = newly_closed past piece before a.fresh adds (ask_of past before);
     }
 
 -- before the first piece

@@ -285,8 +285,8 @@ module _ (id : ℕ) where
   accepted_so w (command.Stop name) s first h =
       if_stopped (λ p. IsQuiet id (with_op_if p (without_life name w))) w reason.Stopped (life_of w name) (stopped w name h)
       (
-        λ l other e f. lost_one w (without_life name w) other reason.Stopped refl
-            (let t = total-out (lines_of id) name l w.lives e in let one = first_one id (waiting_in l) other f in omega (arith, t, one)) h
+      λ l other e f. lost_one w (without_life name w) other reason.Stopped refl
+      (let t = total-out (lines_of id) name l w.lives e in let one = first_one id (waiting_in l) other f in omega (arith, t, one)) h
       )
 
   commanded_so : (w : World) (c : Command) (o : Outcome) (v : World) (r : Option Refusal) → first_of (command_refusals w c) ≡ r → Sound w → Commanded w c r o v → IsQuiet id w → IsQuiet id v
@@ -299,7 +299,7 @@ module _ (id : ℕ) where
   ended_so w None why killed o v own done h = same w v done.1 h
   ended_so w (Some l) why killed o v own done h = same (with_op_if (kept_at_end w why (Some l)) (without_life l.name w)) v done.1
       (
-        with_lost w (without_life l.name w) w.room w.end why (waiting_in l) refl (let t = total-out (lines_of id) l.name l w.lives (own l refl) in omega (arith, t)) h
+      with_lost w (without_life l.name w) w.room w.end why (waiting_in l) refl (let t = total-out (lines_of id) l.name l w.lives (own l refl) in omega (arith, t)) h
       )
 
   -- a piece takes the line that it answers out of those that wait
@@ -409,8 +409,12 @@ module _ (os : List Op) (allowed : Allowed os) where
       let is : field_of os id ≡ line.field = (is_there os id line.field allowed line.found).is in
       let here : one_of id id ≡ 1 = (let e : nat_eq id id ≡ true = grind (arith, nat_tests) in rw e refl) in (
         (
-          line.field, line.found, ap (λ (f : Field). f.session) (sym is) ∙ own.0.1, line.input,
-          ap (λ (f : Field). f.answer) (sym is) ∙ (quiet id (omega (arith, here))).0, ap (λ (f : Field). f.lost) (sym is) ∙ (quiet id (omega (arith, here))).1,
+          line.field,
+          line.found,
+          ap (λ (f : Field). f.session) (sym is) ∙ own.0.1,
+          line.input,
+          ap (λ (f : Field). f.answer) (sym is) ∙ (quiet id (omega (arith, here))).0,
+          ap (λ (f : Field). f.lost) (sym is) ∙ (quiet id (omega (arith, here))).1,
         ),
         items_wait name items (λ other lt. quiet other (omega (arith, lt))) has.1 own.1,
       )

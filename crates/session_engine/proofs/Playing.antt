@@ -14,7 +14,7 @@ use Rattle.session_engine.specs.World.{World, sheet_in, with_op_if}
 use Rattle.session_engine.specs.Does.{Does, MayDo, Runs, behind}
 use Rattle.session_engine.specs.Host.{HostView, IsHost, OnDisk, Took}
 use Rattle.session_engine.specs.Faults.{Failed}
-use Rattle.session_engine.specs.Crash.{HasPlayed, LeftAmong, Moments, MomentsBefore}
+use Rattle.session_engine.specs.Crash.{HasPlayed, LeftAmong, Moments, MomentsBefore, TookEach}
 
 pub run_on : (w : World) (es : List Event) (os : List Outcome) (v : World) (e : Event) (d : Does) (o : Outcome) → Runs w es os v → MayDo v e d → o ≡ d.told → Runs w (es ++ e ∷ []) (os ++ o ∷ []) (behind v d)
 run_on w [] [] v e d o run may told = subst (λ (x : World). Runs x (e ∷ []) (o ∷ []) (behind v d)) run (behind v d, (d, may, told, refl), refl)
@@ -114,3 +114,30 @@ same_on a b c p q = record { room = q.room ∙ p.room; keeps_model = q.keeps_mod
 
 pub same_self : (d : DiskView) → SameDisk d d
 same_self d = record { room = refl; keeps_model = refl; later = omega arith }
+
+-- Each as a step takes it.
+
+-- the events but these last ones
+abbrev pub PlayedEach : World → List Event → List Event → List Outcome → HostView → HostView → Type 0
+PlayedEach w events rest told old host = (p : HasPlayed w events rest told host) × TookEach w p.done old told p.leads host
+
+pub each_on : (w : World) (es : List Event) (old : HostView) (os : List Outcome) (v : World) (mid : HostView) (e : Event) (o : Outcome) (new : HostView)
+    → TookEach w es old os v mid → (took : Took v e mid new o) → SameDisk mid.store.disk new.store.disk → TookEach w (es ++ e ∷ []) old (os ++ o ∷ []) (behind v took.did) new
+each_on w [] old [] v mid e o new each took same =
+    let one : TookEach v (e ∷ []) mid (o ∷ []) (behind v took.did) new = (new, took, same, (refl, refl)) in
+    subst (λ (x : World). TookEach x (e ∷ []) old (o ∷ []) (behind v took.did) new) each.0
+    (subst (λ (h : HostView). TookEach v (e ∷ []) h (o ∷ []) (behind v took.did) new) each.1 one)
+each_on w [] old (p ∷ os) v mid e o new each took same = absurd each
+each_on w (c ∷ es) old [] v mid e o new each took same = absurd each
+each_on w (c ∷ es) old (p ∷ os) v mid e o new each took same =
+    (each.0, each.1, each.2, each_on (behind w each.1.did) es each.0 os v mid e o new each.3 took same)
+
+pub nothing_each : (w : World) (events : List Event) (host : HostView) → IsHost host w → PlayedEach w events events [] host host
+unfolding nothing_played
+nothing_each w events host h = (nothing_played w events host h, (refl, refl))
+
+pub one_more_each : (w : World) (events rest : List Event) (e : Event) (told : List Outcome) (old host new : HostView) (o : Outcome) (p : PlayedEach w events (e ∷ rest) told old host)
+    → Took p.0.leads e host new o → SameDisk host.store.disk new.store.disk → PlayedEach w events rest (told ++ o ∷ []) old new
+unfolding one_more
+one_more_each w events rest e told old host new o p took same =
+    (one_more w events rest e told host p.0 new o took, each_on w p.0.done old told p.0.leads host e o new p.1 took same)

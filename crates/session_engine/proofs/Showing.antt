@@ -1,6 +1,6 @@
 -- What an event does to what a field shows.
 use Rattle.std.proofs.Common.{◌≡◌, ◌⊎◌, inl, inr, ⊎_elim, ℕ, zero, suc, List, [], ◌∷◌, ◌++◌, length, drop, refl, ap, sym, ◌∙◌, subst, Bool, true, false, Option, Some, None}
-use Rattle.std.specs.Prelude.{if◌then◌else◌, ◌==◌, is_some, slice_get, option_map, option_and_then}
+use Rattle.std.specs.Prelude.{if◌then◌else◌, ◌==◌, is_some, slice_get, option_map, option_and_then, option_to_list}
 use Rattle.std.specs.List.{AllByRecursion}
 use Rattle.block_tree.specs.Tree.{Tree}
 use Rattle.block_tree.specs.Output.{output}
@@ -47,7 +47,7 @@ use Rattle.session_engine.specs.inside.Commits.{AllowedIf, HasFieldIf, LosesFiel
 use Rattle.session_engine.specs.Does.{Gives}
 use Rattle.session_engine.proofs.ByParts.{by_parts, op_after}
 use Rattle.session_engine.proofs.Fields.{allowed_answer, waiting_still}
-use Rattle.session_engine.proofs.Growing.{one_answer}
+use Rattle.session_engine.proofs.Growing.{Answers, one_answer}
 use Rattle.session_engine.proofs.Losing.{first_has, if_lost, kept_allowed, line_allowed}
 use Rattle.session_engine.proofs.Changing.{as_op, first_before, allowed_by}
 use Rattle.session_engine.proofs.Asking.{line_is}
@@ -91,11 +91,17 @@ record IsClosing (os : List Op) (past : List LifeEvent) (before after : List Out
   out_is : out ≡ output block.block
   waits : HasInput os id text
   first : waiting_of past before ≡ item.Line id text ∷ drop (suc line) (items_of past)
+  newest : slice_get (answers_of (past ++ received piece ∷ []) after) (length (answers_of past before)) ≡ Some block
 
 drop_at : (n : ℕ) (items : List Item) (i : Item) → slice_get items n ≡ Some i → drop n items ≡ i ∷ drop (suc n) items
 drop_at n [] i h = cc
 drop_at zero (x ∷ items) i h = let e : x ≡ i = cc in ap (λ (y : Item). y ∷ items) e
 drop_at (suc n) (x ∷ items) i h = drop_at n items i h
+
+last_of : (xs : List Outer) (o : Option Outer) (b : Outer) → slice_get (xs ++ option_to_list o) (length xs) ≡ Some b → o ≡ Some b
+last_of [] None b h = cc
+last_of [] (Some y) b h = h
+last_of (x ∷ xs) o b h = last_of xs o b h
 
 first_dropped : (P : Item → Type 0) (n : ℕ) (items : List Item) (i : Item) → slice_get items n ≡ Some i → AllByRecursion P (drop n items) → P i
 first_dropped P n [] i h all = cc
@@ -119,6 +125,7 @@ module _ (os : List Op) (past : List LifeEvent) (before after : List Outer) (pie
         prompt_is = cc;
         out_is = cc;
         first = ap (λ (l : List Outer). unanswered l (items_of past)) e ∙ drop_at (length ys) (items_of past) (item.Line id text) here;
+        newest = ap (λ (l : List Outer). slice_get (answers_of (past ++ received piece ∷ []) after) (length l)) e ∙ f;
         waits = first_dropped (HasLine os) (length ys) (items_of past) (item.Line id text) here (subst (λ (l : List Outer). AllByRecursion (HasLine os) (unanswered l (items_of past))) e all);
       }
   by_item a ys b (Some (item.Complete other text cursor)) e f g h = cc
@@ -190,14 +197,17 @@ module _ (w : World) (name : List ℕ) (number : ℕ) (l : Going) (piece : List 
   life : SoundLife w.ops l
   life = the_life name l w h (numbered number (life_of w name) l is)
 
+  one : Answers l.past piece l.blocks blocks
+  one = one_answer l.past piece l.blocks blocks fault life.reads reads
+
   closes : (id : ℕ) (prompt : List ℕ) (out : Tree) → IsClosing w.ops l.past l.blocks blocks piece id prompt out → (f : Field) → AnsweredBy w.ops (op.Answer id prompt out) f → ClosesAnswer w (event.Child name number (child.Piece piece)) f
   closes id prompt out c f by =
       let same : op.Answer id prompt out ≡ op.Answer f.id by.prompt by.output = by.is in
       let number_is : id ≡ f.id = cc in
       let line : HasInput w.ops id c.text = c.waits in
       let there : field_in (sheet_in w).fields f.id ≡ Some line.field = ap (λ (n : ℕ). field_in (sheet_in w).fields n) (sym number_is) ∙ line.found in
-      let one : line.field ≡ by.before = let both : Some line.field ≡ Some by.before = sym there ∙ by.found in cc in
-      let text_is : c.text ≡ f.input = sym line.input ∙ ap (λ (g : Field). g.input) one ∙ sym (ap (λ (g : Field). g.input) by.now) in
+      let before : line.field ≡ by.before = let both : Some line.field ≡ Some by.before = sym there ∙ by.found in cc in
+      let text_is : c.text ≡ f.input = sym line.input ∙ ap (λ (g : Field). g.input) before ∙ sym (ap (λ (g : Field). g.input) by.now) in
       let p : by.prompt ≡ prompt_of l.past l.blocks = (let q : by.prompt ≡ prompt = cc in q ∙ c.prompt_is) in
       let t : by.output ≡ output c.block.block = (let q : by.output ≡ out = cc in q ∙ c.out_is) in
       record {
@@ -215,6 +225,7 @@ module _ (w : World) (name : List ℕ) (number : ℕ) (l : Going) (piece : List 
         waits = c.first ∙ ap (λ (n : ℕ). item.Line n c.text ∷ drop (suc c.line) (items_of l.past)) number_is ∙ ap (λ (s : List ℕ). item.Line f.id s ∷ drop (suc c.line) (items_of l.past)) text_is;
         block = c.block;
         answers = by_events (l.past ++ received piece ∷ []) blocks (reads_lie (stream_of (l.past ++ received piece ∷ [])) blocks fault reads) (suc c.line) c.block c.answers;
+        closes = one.closes c.block (last_of (answers_of l.past l.blocks) one.closed c.block (ap (λ (xs : List Outer). slice_get xs (length (answers_of l.past l.blocks))) (sym one.answers) ∙ c.newest));
         shows = ap (λ (g : Field). g.answer) by.now ∙ ap (λ (s : List ℕ). Some (record { prompt = s; output = by.output })) p ∙ ap (λ (b : Tree). Some (record { prompt = prompt_of l.past l.blocks; output = b })) t;
       }
 

@@ -10,8 +10,8 @@ use Rattle.session_engine.specs.declared.outcome.HostFault.TheVariants as faults
 use Rattle.session_engine.specs.declared.play.PlayFault.{PlayFault}
 use Rattle.session_engine.specs.declared.play.PlayFault.TheVariants as halt
 use Rattle.session_engine.specs.World.{World, sheet_in}
-use Rattle.session_engine.specs.Does.{Runs}
-use Rattle.session_engine.specs.Host.{HostView, IsHost}
+use Rattle.session_engine.specs.Does.{Runs, behind}
+use Rattle.session_engine.specs.Host.{HostView, IsHost, Took}
 use Rattle.session_engine.specs.Faults.{Failed}
 
 -- An image of the worksheet behind some of the first events, which told the first of these outcomes.
@@ -38,6 +38,17 @@ pub record HasPlayed (w : World) (events rest : List Event) (told : List Outcome
   pub runs : Runs w done told leads
   pub stands : IsHost host leads
 
+-- Each of these events was taken in turn, as a step takes it, and told one of these outcomes: from
+-- this world and host to those, on the same disk. So what makes no call on the disk in a step makes
+-- none here.
+abbrev pub TookEach : World → List Event → HostView → List Outcome → World → HostView → Type 0
+TookEach w [] old [] v new = (v ≡ w) × (new ≡ old)
+TookEach w (e ∷ es) old (o ∷ os) v new =
+    (mid : HostView) × (took : Took w e old mid o) × SameDisk old.store.disk mid.store.disk
+    × TookEach (behind w took.did) es mid os v new
+TookEach w [] old (o ∷ os) v new = ⊥
+TookEach w (e ∷ es) old [] v new = ⊥
+
 -- what the events so far and one that failed leave: where the disk failed, what that event was to tell belongs to it
 abbrev pub MomentsBefore : World → List Event → List Outcome → HostFault → DiskView → DiskView → Type 0
 MomentsBefore w events told faults.Closed old new = ⊥
@@ -45,7 +56,8 @@ MomentsBefore w events told faults.Disk old new = (untold : Outcome) × Moments 
 MomentsBefore w events told faults.OutOfMemory old new = Moments w events told old new
 MomentsBefore w events told faults.JournalFull old new = Moments w events told old new
 
--- These outcomes, and a fault at the event behind them, before which the host went on as told here. The others are dropped.
+-- Events were taken that told these outcomes, and the one behind them had this fault, before which
+-- the host went on as told here. The others are dropped.
 pub record StoppedAt (w : World) (events : List Event) (old new : HostView) (told : List Outcome) (fault : HostFault) : Type 0 where
   pub at : Event
   pub dropped : List Event
@@ -53,6 +65,7 @@ pub record StoppedAt (w : World) (events : List Event) (old new : HostView) (tol
   -- the same disk, as it was behind them
   pub same : SameDisk old.store.disk before.store.disk
   pub played : HasPlayed w events (at ∷ dropped) told before
+  pub each : TookEach w played.done old told played.leads before
   pub failed : Failed played.leads at before new fault
   pub closed : new.closed ≡ true
   pub moments : MomentsBefore w events told fault old.store.disk new.store.disk

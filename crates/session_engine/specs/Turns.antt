@@ -1,5 +1,5 @@
 -- Hosts one after another on one disk, each from its opening to a crash, and what their worksheets show. (docs/HOST.md.)
-use Rattle.std.specs.Prelude.{◌≡◌, ◌⊎◌, ℕ, suc, List, [], ◌∷◌, ◌++◌, Option, Some, drop, slice_get, Result, IfOk, IfErr}
+use Rattle.std.specs.Prelude.{◌≡◌, ◌⊎◌, ℕ, suc, List, [], ◌∷◌, ◌++◌, length, Option, Some, drop, slice_get, Result, IfOk, IfErr}
 use Rattle.block_tree.specs.Output.{output}
 use Rattle.meta_format.specs.Stream.{Outer}
 use Rattle.meta_format.specs.Faults.{Kind}
@@ -16,7 +16,7 @@ use Rattle.plugin_core.specs.declared.item.Item.TheVariants as item
 use Rattle.plugin_core.specs.Past.{received, stream_of, items_of}
 use Rattle.plugin_core.specs.Items.{prompt_of}
 use Rattle.plugin_core.specs.Steps.{Reads}
-use Rattle.plugin_core.specs.AskPoints.{IsAnswer}
+use Rattle.plugin_core.specs.AskPoints.{ClosesIn, IsAnswer}
 use Rattle.session_engine.specs.Host.{EndsAt, HostView, IsHost, Took}
 use Rattle.session_engine.specs.Faults.{Failed}
 use Rattle.session_engine.specs.declared.command.Command.TheVariants as command
@@ -35,9 +35,10 @@ use Rattle.session_engine.specs.Crash.{LeftAmong, HasPlayed, StoppedAt}
 abbrev pub Has : Contents → Field → Type 0
 Has sheet f = field_in sheet.fields f.id ≡ Some f
 
--- The event closes the answer that the field shows. It is a piece of a life that goes on, of which the field's input is a line;
--- the stream of that life, with the piece, has a whole block which by the ask points is the answer to that line; and the field
--- shows the output of this block.
+-- The event closes the answer that the field shows. It is a piece of a life that goes on, in which a
+-- line with the field's input is the first item that waits. The stream of that life, with the piece,
+-- has a whole block which by the ask points is the answer to that line, and its last byte is one of
+-- the piece. The field shows the output of this block.
 pub record ClosesAnswer (w : World) (e : Event) (f : Field) : Type 0 where
   pub name : List ℕ
   pub number : ℕ
@@ -51,10 +52,11 @@ pub record ClosesAnswer (w : World) (e : Event) (f : Field) : Type 0 where
   -- the place of the line among the life's, counted from 0, and the block
   pub line : ℕ
   pub asked : slice_get (items_of life.past) line ≡ Some (item.Line f.id f.input)
-  -- it is the first that waits: no block has answered it before
+  -- it is the first item that waits
   pub waits : waiting_in life ≡ item.Line f.id f.input ∷ drop (suc line) (items_of life.past)
   pub block : Outer
   pub answers : IsAnswer (life.past ++ received piece ∷ []) blocks (suc line) block
+  pub closes : ClosesIn (life.past ++ received piece ∷ []) (length life.past) block
   pub shows : f.answer ≡ Some (record { prompt = prompt_of life.past life.blocks; output = output block.block })
 
 -- events one behind another, and before and behind each the worksheet has this field
@@ -96,22 +98,35 @@ pub record Turned (room : ℕ) (before : Image) (found : List Op) (turn : HostTu
   pub ops : kept ≡ leads.ops
   pub leaves : IsSheetImage (sheet_of kept) after
 
--- A play is such a turn of a host that was just opened: a crash inside it as one that told nothing, a crash behind it as one that
--- told all its outcomes, also where it stopped at a fault.
+-- a crash of such a turn left this image
+abbrev pub LeftByTurn : ℕ → Image → List Op → HostTurn → Image → Type 0
+LeftByTurn room before found turn after = (kept : List Op) × Turned room before found turn after kept
+
+-- A play is a part of such a turn. A host was opened, took events and told their outcomes, and a play
+-- of these events comes behind them. A crash inside it makes a turn that told the outcomes of those
+-- before it, and a crash behind it one that told all its outcomes too: where it took some of the first
+-- events, and where it stopped at a fault.
 abbrev pub PlaysAreTurns : Type 0
-PlaysAreTurns = (room end : ℕ) (before : Image) (found : List Op) → Allowed found → IsSheetImage (sheet_of found) before → EndsAt before end
+PlaysAreTurns = (room end : ℕ) (before : Image) (found : List Op)
+    → Allowed found → IsSheetImage (sheet_of found) before → EndsAt before end
+    → (earlier : List Event) (said : List Outcome) (w : World)
+    → Runs (world_at_opening found room end) earlier said w
     → (events : List Event) (told : List Outcome) (after : Image)
-    → (LeftAmong (world_at_opening found room end) events told after → (kept : List Op) × Turned room before found (record { events = events; told = [] }) after kept)
-    × ((rest : List Event) (host : HostView) (played : HasPlayed (world_at_opening found room end) events rest told host) → IsSheetImage (sheet_in played.leads) after
-    → (kept : List Op) × Turned room before found (record { events = events; told = told }) after kept)
-    × ((old new : HostView) (fault : HostFault) (stopped : StoppedAt (world_at_opening found room end) events old new told fault)
-    → InModel old.store.disk (Leaves (λ left. (kept : List Op) × Turned room before found (record { events = events; told = told }) left kept) new.store.disk.history.now))
+    → (LeftAmong w events told after
+    → LeftByTurn room before found (record { events = earlier ++ events; told = said }) after)
+    × ((rest : List Event) (host : HostView) (played : HasPlayed w events rest told host)
+    → IsSheetImage (sheet_in played.leads) after
+    → LeftByTurn room before found (record { events = earlier ++ events; told = said ++ told }) after)
+    × ((old new : HostView) (fault : HostFault) → StoppedAt w events old new told fault
+    → InModel old.store.disk
+    (Leaves (LeftByTurn room before found (record { events = earlier ++ events; told = said ++ told }))
+    new.store.disk.history.now))
 
 -- Each image that a crash leaves of a disk, at every moment from this state of it to that one, makes
 -- such a turn.
 abbrev pub CrashesAreTurns : ℕ → Image → List Op → HostTurn → DiskView → DiskView → Type 0
 CrashesAreTurns room before found turn old new = InModel old
-    (LeavesOnly (λ after. (kept : List Op) × Turned room before found turn after kept) old.history new.history)
+    (LeavesOnly (LeftByTurn room before found turn) old.history new.history)
 
 -- So are single steps. A host was opened, took events and told their outcomes, and stands for the
 -- world that they led to; now a step takes one event more. A crash at any moment of it, whatever it

@@ -88,11 +88,13 @@ fn first_line(items: &Queue<Item>) -> Option<u32>
 {
     match items.front() {
         Some(Item::Line { id, text: _ }) => Some(*id),
-        Some(Item::Complete {
-            id: _,
-            text: _,
-            cursor: _,
-        }) => None,
+        Some(
+            Item::Complete {
+                id: _,
+                text: _,
+                cursor: _,
+            },
+        ) => None,
         None => None,
     }
 }

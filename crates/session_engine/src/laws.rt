@@ -33,7 +33,7 @@ pub fn lives_in_turn()
     recovery::one_sheet();
 }
 
-/// A play of events on a host that was just opened is such a turn, wherever a crash comes in it.
+/// A play of events is a part of such a turn, wherever a crash comes in it and wherever it stops.
 pub fn plays_are_turns()
     ensures { PlaysAreTurns }
 {}

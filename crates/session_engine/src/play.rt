@@ -3,7 +3,7 @@ ghost use Rattle.std.specs.Prelude.{◌≡◌, ◌≤◌, ◌<◌, ◌+◌, ◌+
 ghost use Rattle.disk_model.specs.Disk.{SameDisk};
 ghost use Rattle.session_engine.specs.World.{World};
 ghost use Rattle.session_engine.specs.Host.{IsHost};
-ghost use Rattle.session_engine.specs.Crash.{Halts, HasPlayed, Moments, PlaysClosed};
+ghost use Rattle.session_engine.specs.Crash.{Halts, HasPlayed, Moments, PlaysClosed, TookEach};
 
 use crate::{Event, Host, HostFault, Outcome};
 use disk_model::Disk;
@@ -21,7 +21,8 @@ pub enum PlayFault {
 }
 
 impl<D: Disk> Host<D> {
-    /// Takes events in order, each by a `step`, up to the first fault.
+    /// Takes events in order, each as a `step` takes it, up to the first fault. So an event that gives no
+    /// op, and one that fails but for the disk, makes no call on the disk.
     ///
     /// At every moment each image of the disk is one of the worksheet behind some of the first events,
     /// those told of among them once the call has ended.
@@ -29,6 +30,9 @@ impl<D: Disk> Host<D> {
         ensures same { SameDisk self.old.store.disk self.new.store.disk }
         ensures played { (w : World) → IsHost self.old w
             → IfOk result (λ outcomes. HasPlayed w events.items [] outcomes.items self.new) }
+        ensures each { (w : World) → IsHost self.old w
+            → IfOk result (λ outcomes. (v : World)
+            × TookEach w events.items self.old outcomes.items v self.new) }
         ensures moments { (w : World) → IsHost self.old w
             → IfOk result
             (λ outcomes. Moments w events.items outcomes.items self.old.store.disk self.new.store.disk) }

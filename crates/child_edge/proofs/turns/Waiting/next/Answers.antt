@@ -49,7 +49,7 @@ returns-in-Err-hear_next-clause-err g c = λ s bs w h came.
     (λ f p. p)
     (λ q. (
       subst (λ x. Came g.C.Children.after x s bs (at w c.args.children.now c.args.host.now.store.disk)) (sym c.in-Err-hear_next.ensures.stays)
-      (came_next g.C.Children.after c.args.self.now s bs (at w c.args.children.now c.args.host.now.store.disk) came _ all few refl refl (c.in-Ok-waiting.ensures w h)),
+          (came_next g.C.Children.after c.args.self.now s bs (at w c.args.children.now c.args.host.now.store.disk) came _ all few refl refl (c.in-Ok-waiting.ensures w h)),
       q.0,
       q.1,
       q.2,

@@ -99,11 +99,18 @@ returns-clause-failed g c = λ w h.
     record {
       contents = fails.contents;
       numbers = λ n. ap (λ (l : List Running). number_in l n) c.lose.ensures.lives ∙ numbers_are rs w.lives h.lives_are n;
-      cause = (fails.cause.0, (fails.lost, record {
-        does = ends_life w reason.Stopped true (life_of w asked) reply.Done;
-        may = gives_stop w asked s (life_of w asked) named refl;
-        gives = stop_op w reason.Stopped true (life_of w asked) reply.Done fails.lost kept;
-      }, fails.cause.1));
+      cause = (
+        fails.cause.0,
+        (
+          fails.lost,
+          record {
+            does = ends_life w reason.Stopped true (life_of w asked) reply.Done;
+            may = gives_stop w asked s (life_of w asked) named refl;
+            gives = stop_op w reason.Stopped true (life_of w asked) reply.Done fails.lost kept;
+          },
+          fails.cause.1,
+        ),
+      );
     }
 
 pub returns-in-None-clause-took : goal.returns-in-None-clause-took

@@ -3,7 +3,8 @@ use Rattle.std.specs.Vec.Iter.{into_iter_items, into_iter_len}
 use Rattle.disk_model.specs.Disk.{SameDisk}
 use Rattle.session_engine.specs.World.{World}
 use Rattle.session_engine.specs.Host.{IsHost}
-use Rattle.session_engine.specs.Crash.{HasPlayed, Moments}
+use Rattle.session_engine.specs.Crash.{Moments}
+use Rattle.session_engine.proofs.Playing.{PlayedEach}
 use Rattle.session_engine.proofs.host.Host.play.Given as goal
 
 abbrev pub invariant-loop-event : goal.invariant-loop-event
@@ -11,7 +12,7 @@ invariant-loop-event g l = record {
   left : into_iter_len l.event-iterator ≡ length (into_iter_items l.event-iterator);
   room : vec_len l.outcomes + length (into_iter_items l.event-iterator) ≤ vec_capacity l.outcomes;
   same : SameDisk l.fn.self.store.disk l.self.store.disk;
-  played : (w : World) → IsHost l.fn.self w → HasPlayed w l.fn.events.items (into_iter_items l.event-iterator) l.outcomes.items l.self;
+  played : (w : World) → IsHost l.fn.self w → PlayedEach w l.fn.events.items (into_iter_items l.event-iterator) l.outcomes.items l.fn.self l.self;
   moments : (w : World) → IsHost l.fn.self w → Moments w l.fn.events.items l.outcomes.items l.fn.self.store.disk l.self.store.disk;
   -- a closed host takes no event
   still : l.fn.self.closed ≡ true → l.self ≡ l.fn.self;
