@@ -222,11 +222,13 @@ fn first_line_in(items: &VecDeque<Item>) -> Option<u32>
 {
     match items.front() {
         Some(Item::Line { id, text: _ }) => Some(*id),
-        Some(Item::Complete {
-            id: _,
-            text: _,
-            cursor: _,
-        }) => None,
+        Some(
+            Item::Complete {
+                id: _,
+                text: _,
+                cursor: _,
+            },
+        ) => None,
         None => None,
     }
 }

@@ -2,10 +2,9 @@
 ghost use Rattle.std.specs.Prelude.{◌≡◌, None};
 
 use crate::Item;
+pub use block_tree::Reason;
 use block_tree::{Block, Octets, Queue};
 use scheme_text::{BadCompletion, Completions};
-
-pub use block_tree::Reason;
 
 /// What an outer block answers.
 #[derive(Drop)]

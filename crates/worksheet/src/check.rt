@@ -131,7 +131,9 @@ pub(crate) fn check_op(
             input.as_slice(),
         ),
         Op::Set { id, input } => check_set(fields, *id, input.as_slice()),
-        Op::Remove { id } | Op::Clear { id } | Op::Lost { id, reason: _ } => check_there(fields, *id),
+        Op::Remove { id } | Op::Clear { id } | Op::Lost { id, reason: _ } => check_there(
+            fields, *id,
+        ),
         Op::Move { id, after } => check_move(fields, *id, *after),
         Op::Answer {
             id,

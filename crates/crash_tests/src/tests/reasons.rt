@@ -91,10 +91,7 @@ fn an_end_that_keeps_a_reason_is_four_calls(rt: HostRuntime) -> Result<(), Fail>
 }
 
 // How many events a host takes on a disk whose k-th call fails; the next one has the disk's fault.
-fn taken(
-    alloc: Global,
-    host: &mut Host<FuseDisk<MemoryDisk>>,
-) -> Result<u32, Fail> {
+fn taken(alloc: Global, host: &mut Host<FuseDisk<MemoryDisk>>) -> Result<u32, Fail> {
     for number in 0..ALL {
         match host.step(one(alloc, number)?) {
             Ok(_) => {}

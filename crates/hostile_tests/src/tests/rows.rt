@@ -80,7 +80,9 @@ fn tells<C: Children>(
     let mut host = opened(alloc)?;
     let made = told(alloc, &mut host, children, session)?;
     let text = told(alloc, &mut host, children, "eval 1\nwait")?;
-    let is_open = printed(alloc, &host)?.as_slice().starts_with(b"#1 a\n> x\n? ".as_slice());
+    let is_open = printed(alloc, &host)?
+        .as_slice()
+        .starts_with(b"#1 a\n> x\n? ".as_slice());
     Ok(are(&made, "ok\nfield 1\n") && are(&text, want) && is_open)
 }
 

@@ -22,5 +22,6 @@ returns-in-6-clause-read c = found_by 6 clear_at clear_again c.args.bytes.now (b
 
 pub returns-in-8-clause-read : goal.returns-in-8-clause-read
 returns-in-8-clause-read c = found_by 8 lost_at lost_again c.args.bytes.now (behind_first c.args.bytes.now) (first_and_rest c.args.bytes.now 8 c.in-len1-up.len_at_least c.in-8.is) _ c.lost_of.ensures.read
+
 pub returns-in-9-clause-read : goal.returns-in-9-clause-read
 returns-in-9-clause-read c = found_by 9 ids_at ids_again c.args.bytes.now (behind_first c.args.bytes.now) (first_and_rest c.args.bytes.now 9 c.in-len1-up.len_at_least c.in-9.is) _ c.ids_of.ensures.read
