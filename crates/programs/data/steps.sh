@@ -95,6 +95,51 @@ run create ended
 printf 'session a plain true\nnew 0 a x\neval 1\nwait\n' | run run ended
 run show ended
 
+step a reason stays until its field is changed
+printf 'set 1 y\n' | run run ended
+run show ended
+
+step completions
+cat >tab.sh <<'END'
+printf '\002verbatim:\005'
+while IFS= read -r l; do
+    case $l in
+    *'(complete "h" 1)') printf '\002scheme:(tuple "h" "ello" "i there")\005' ;;
+    *) printf '\002verbatim:%s\005' "$l" ;;
+    esac
+done
+END
+run create names
+printf 'session t tab sh tab.sh\nnew 0 t h\ncomplete 1 1\ncomplete 1 2\neval 1\nwait\nprint\n' | run run names
+
+step the bytes of a worksheet
+run create bytes
+printf 'session a plain sh\nnew 0 a x\n' | run run bytes
+od -An -v -tx1 bytes
+
+# Its parts: a session and a field, the clearing of an evaluation, then an answer, or the reason why there is none.
+step worksheets by their bytes
+front='TMWSHEET\001AR\000\000\000\011\001\001a\000\001\000\002shR\000\000\000\012\002\000\000\000\000\001a\000\001xR\000\000\000\005\006\000\000\000\001'
+printf "$front"'R\000\000\000\025\007\000\000\000\001\000\002> \002verbatim:A\005\000' >answered
+printf "$front"'R\000\000\000\006\010\000\000\000\001\002\000' >lost
+printf "$front"'R\000\000\000\006\010\000\000\000\001\012\000' >reason
+files answered lost
+run show answered
+run show lost
+run show reason
+
+step a worksheet in its second file
+printf 'TMWSHEET\001B\000' >second
+printf 'TMWSHEET\001\000R\000\000\000\010\001\001a\000\001\000\001pR\000\000\000\005\011\000\000\000\002R\000\000\000\012\002\000\000\000\000\001a\000\001y\000' >second.alt
+run show second
+printf 'set 2 z\n' | run run second
+files second second.alt
+printf 'new 0 a w\nprint\n' | run run second
+printf 'TMWSHEET\001' >second.alt
+run show second
+printf 'TMWSHEET\001C\000' >other
+run show other
+
 step what is no worksheet
 run run missing </dev/null
 files missing missing.alt
