@@ -46,12 +46,15 @@ fn op_number(alloc: Global, number: u32) -> Result<Op, OutOfMemory> {
     }
 }
 
-fn commit(alloc: Global, store: &mut Store<MemoryDisk>, number: u32) -> Result<bool, Fail> {
-    let op = op_number(alloc, number)?;
+fn commit_op(store: &mut Store<MemoryDisk>, op: Op) -> bool {
     if store.sheet().check(&op).is_err() {
-        return Ok(false);
+        return false;
     }
-    Ok(store.commit(op).is_ok())
+    store.commit(op).is_ok()
+}
+
+fn commit(alloc: Global, store: &mut Store<MemoryDisk>, number: u32) -> Result<bool, Fail> {
+    Ok(commit_op(store, op_number(alloc, number)?))
 }
 
 /// A store after this many of the steps: four ops, a checkpoint, a change, a checkpoint, a field.
@@ -76,14 +79,17 @@ fn store_after(alloc: Global, steps: u32) -> Result<Store<MemoryDisk>, Fail> {
     Ok(store)
 }
 
+// A byte of an area.
+fn byte_at(disk: &MemoryDisk, area: Area, offset: usize) -> Option<u8> {
+    disk.content(area).get(offset).copied()
+}
+
 #[test]
 fn a_checkpoint_writes_the_other_area(rt: HostRuntime) -> Result<(), Fail> {
-    let before = store_after(rt.alloc(), 4)?.into_disk();
-    assert_eq!(rt; before.content(Area::First).len(), 64);
     let disk = store_after(rt.alloc(), 5)?.into_disk();
-    assert_eq!(rt; disk.content(Area::First).len(), 64);
-    assert_eq!(rt; disk.content(Area::First)[9], 0x42);
-    assert_eq!(rt; disk.content(Area::Second), ANEW.as_slice());
+    assert!(rt; disk.content(Area::First).len() == 64);
+    assert!(rt; byte_at(&disk, Area::First, 9) == Some(0x42));
+    assert!(rt; disk.content(Area::Second) == ANEW.as_slice());
     Ok(())
 }
 
@@ -91,105 +97,140 @@ fn a_checkpoint_writes_the_other_area(rt: HostRuntime) -> Result<(), Fail> {
 fn a_change_goes_into_the_active_area(rt: HostRuntime) -> Result<(), Fail> {
     let before = store_after(rt.alloc(), 5)?.into_disk();
     let disk = store_after(rt.alloc(), 6)?.into_disk();
-    assert_eq!(rt; disk.content(Area::Second).len(), 62);
-    assert_eq!(rt; disk.content(Area::First), before.content(Area::First));
+    assert!(rt; before.content(Area::First).len() == 64);
+    assert!(rt; disk.content(Area::Second).len() == 62);
+    assert!(rt; disk.content(Area::First) == before.content(Area::First));
     Ok(())
 }
 
 #[test]
 fn the_next_one_goes_back(rt: HostRuntime) -> Result<(), Fail> {
     let disk = store_after(rt.alloc(), 7)?.into_disk();
-    assert_eq!(rt; disk.content(Area::First)[9], 0x41);
-    assert_eq!(rt; disk.content(Area::First)[48], 0);
-    assert_eq!(rt; disk.content(Area::First).len(), 64);
+    assert!(rt; byte_at(&disk, Area::First, 9) == Some(0x41));
+    assert!(rt; byte_at(&disk, Area::First, 48) == Some(0));
+    assert!(rt; disk.content(Area::First).len() == 64);
+    Ok(())
+}
+
+#[test]
+fn numbers_go_on_behind_it(rt: HostRuntime) -> Result<(), Fail> {
     let store = store_after(rt.alloc(), 8)?;
-    assert_eq!(rt; store.sheet().next_id(), 4);
-    assert!(rt; store.sheet().field(3).is_some());
+    assert!(rt; store.sheet().next_id() == 4 && store.sheet().field(3).is_some());
     Ok(())
 }
 
-/// The input of field 2 on the disk that a crash leaves, where that is one field and the next number
-/// is 3.
-fn input_left(
-    alloc: Global,
-    disk: &MemoryDisk,
-    moment: u64,
-    fill: Fill,
-    grown: bool,
-) -> Result<u8, Fail> {
-    let choice = Choice {
-        moment,
-        fill,
-        grown,
-    };
-    let Ok(left) = disk.crash(&choice) else {
-        return Err("crash".into());
-    };
-    let Ok(store) = Store::open(alloc, left) else {
-        return Err("doesn't open".into());
-    };
+fn opened(alloc: Global, disk: MemoryDisk) -> Option<Store<MemoryDisk>> {
+    match Store::open(alloc, disk) {
+        Ok(store) => Some(store),
+        Err(_) => None,
+    }
+}
+
+// The one byte of the input of field 2, where that is the only field and the next number is 3.
+fn input_of(store: &Store<MemoryDisk>) -> Option<u8> {
     if store.sheet().next_id() != 3 || store.sheet().field(1).is_some() {
-        return Err("another worksheet".into());
+        return None;
     }
-    match store.sheet().field(2) {
-        Some(field) => match field.input.as_bytes() {
-            [byte] => Ok(*byte),
-            _ => Err("input".into()),
-        },
-        None => Err("no field".into()),
+    match store.sheet().field(2)?.input.as_bytes() {
+        [byte] => Some(*byte),
+        _ => None,
     }
 }
 
-#[test]
-fn a_crash_at_each_moment(rt: HostRuntime) -> Result<(), Fail> {
-    let alloc = rt.alloc();
-    let mut from = store_after(alloc, 4)?.into_disk().calls();
-    for (steps, before, after) in [(5, b'y', b'y'), (6, b'y', b'z'), (7, b'z', b'z')] {
-        let disk = store_after(alloc, steps)?.into_disk();
-        let calls = disk.calls();
-        for moment in from..calls + 1 {
-            for fill in [
-                Fill::Old,
-                Fill::New,
-                Fill::Torn(1),
-                Fill::Byte(0),
-                Fill::Byte(0x52),
-                Fill::Byte(255),
-                Fill::Byte(0x41),
-                Fill::Byte(0x42),
-            ] {
-                for grown in [false, true] {
-                    let input = input_left(alloc, &disk, moment, fill, grown)?;
-                    assert!(rt; input == before || input == after);
-                    assert!(rt; moment < calls || input == after);
-                }
-            }
-        }
-        from = calls;
+// That input on the disk which a crash leaves.
+fn input_left(alloc: Global, disk: &MemoryDisk, choice: &Choice) -> Option<u8> {
+    if choice.moment > disk.calls() {
+        return None;
     }
+    match disk.crash(choice) {
+        Ok(left) => input_of(&opened(alloc, left)?),
+        Err(_) => None,
+    }
+}
+
+fn fill_number(number: u32) -> Fill {
+    match number {
+        0 => Fill::Old,
+        1 => Fill::New,
+        2 => Fill::Torn(1),
+        3 => Fill::Byte(0),
+        4 => Fill::Byte(0x52),
+        5 => Fill::Byte(255),
+        6 => Fill::Byte(0x41),
+        _ => Fill::Byte(0x42),
+    }
+}
+
+// Whether a crash at this moment leaves one of two inputs, each of which may be there.
+fn leaves(alloc: Global, disk: &MemoryDisk, moment: u64, either: (u8, u8)) -> bool {
+    for number in 0..16 {
+        let choice = Choice {
+            moment,
+            fill: fill_number(number / 2),
+            grown: number % 2 == 1,
+        };
+        match input_left(alloc, disk, &choice) {
+            Some(input) if input == either.0 || input == either.1 => {}
+            _ => return false,
+        }
+    }
+    true
+}
+
+// Whether a crash at each moment from the end of these steps to that of the next one leaves one of two
+// inputs, and behind them the second.
+fn step_leaves(alloc: Global, steps: u32, before: u8, after: u8) -> Result<bool, Fail> {
+    let from = store_after(alloc, steps)?.into_disk().calls();
+    let disk = store_after(alloc, steps.saturating_add(1))?.into_disk();
+    for moment in from..disk.calls() {
+        if !leaves(alloc, &disk, moment, (before, after)) {
+            return Ok(false);
+        }
+    }
+    Ok(leaves(alloc, &disk, disk.calls(), (after, after)))
+}
+
+#[test]
+fn a_crash_within_a_checkpoint(rt: HostRuntime) -> Result<(), Fail> {
+    assert!(rt; step_leaves(rt.alloc(), 4, b'y', b'y')?);
+    assert!(rt; step_leaves(rt.alloc(), 6, b'z', b'z')?);
     Ok(())
 }
 
 #[test]
-fn a_reason_is_kept(rt: HostRuntime) -> Result<(), Fail> {
-    let mut store = store_after(rt.alloc(), 4)?;
+fn a_crash_within_the_change_between_two(rt: HostRuntime) -> Result<(), Fail> {
+    assert!(rt; step_leaves(rt.alloc(), 5, b'y', b'z')?);
+    Ok(())
+}
+
+// The disk of a worksheet behind a checkpoint, whose field 2 has a reason.
+fn with_a_reason(alloc: Global) -> Result<MemoryDisk, Fail> {
+    let mut store = store_after(alloc, 4)?;
     let lost = Op::Lost {
         id: 2,
         reason: Reason::Ended,
     };
-    assert!(rt; store.commit(lost).is_ok());
-    assert!(rt; store.checkpoint().is_ok());
-    let disk = store.into_disk();
-    assert_eq!(rt; disk.content(Area::First)[9], 0x42);
-    assert_eq!(rt; disk.content(Area::Second).len(), 60);
-    let Ok(store) = Store::open(rt.alloc(), disk) else {
-        return Err("open".into());
-    };
-    let Some(field) = store.sheet().field(2) else {
-        return Err("field".into());
-    };
-    assert_eq!(rt; field.lost, Some(Reason::Ended));
-    assert!(rt; field.answer.is_none());
-    assert_eq!(rt; store.sheet().next_id(), 3);
+    if !commit_op(&mut store, lost) || store.checkpoint().is_err() {
+        return Err("refused".into());
+    }
+    Ok(store.into_disk())
+}
+
+// The reason of field 2 where it has no answer and the next number is 3.
+fn reason_on(alloc: Global, disk: MemoryDisk) -> Option<Reason> {
+    let store = opened(alloc, disk)?;
+    let field = store.sheet().field(2)?;
+    if field.answer.is_some() || store.sheet().next_id() != 3 {
+        return None;
+    }
+    field.lost
+}
+
+#[test]
+fn a_reason_is_kept(rt: HostRuntime) -> Result<(), Fail> {
+    let disk = with_a_reason(rt.alloc())?;
+    assert!(rt; byte_at(&disk, Area::First, 9) == Some(0x42));
+    assert!(rt; disk.content(Area::Second).len() == 60);
+    assert!(rt; reason_on(rt.alloc(), disk) == Some(Reason::Ended));
     Ok(())
 }
