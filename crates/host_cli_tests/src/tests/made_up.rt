@@ -201,13 +201,13 @@ impl FileExt for MadeUpFile<'_> {
 
 impl io::Read for MadeUpFile<'_> {
     fn read(&mut self, _buf: &mut [u8]) -> io::Result<usize> {
-        unsupported()
+        Err(io::Error::from(ErrorKind::Unsupported))
     }
 }
 
 impl io::Write for MadeUpFile<'_> {
     fn write(&mut self, _buf: &[u8]) -> io::Result<usize> {
-        unsupported()
+        Err(io::Error::from(ErrorKind::Unsupported))
     }
 
     fn flush(&mut self) -> io::Result<()> {
