@@ -191,3 +191,5 @@ echo "status $?"
 echo "status $?"
 run show sheet
 files sheet.alt
+
+sh journals.sh "$tmhost"
