@@ -4,3 +4,4 @@ pub mod Nodes
 pub mod Growing
 pub mod Reading
 pub mod ReasonCode
+pub mod Asides

@@ -9,7 +9,7 @@ use crate::{Item, Node, OutOfMemory, Tag};
 pub fn copy_node(node: &Node) -> Result<Node, OutOfMemory>
     ensures { IfOk result (λ copy. tree_of copy ≡ tree_of node.now) }
 {
-    let mut items = Vec::new(*node.items.allocator());
+    let mut items = Vec::with_capacity(*node.items.allocator(), node.items.len())?;
     for item in &node.items {
         let copied = copy_item(item)?;
         items.push(copied)?;

@@ -13,6 +13,7 @@ mod queue;
 mod reason;
 mod sequence;
 mod shape;
+mod tag_name;
 mod text;
 mod tree;
 
@@ -25,6 +26,7 @@ pub use queue::Queue;
 pub use reason::Reason;
 pub use sequence::Sequence;
 pub use shape::{MAX_DEPTH, MAX_TAG};
+pub use tag_name::TagName;
 pub use text::Text;
 pub use tree::{Item, Node, Tag};
 

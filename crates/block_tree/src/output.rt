@@ -1,11 +1,12 @@
 //! Outputs: blocks without prompts and default inputs.
-ghost use Rattle.std.specs.Prelude.{◌≡◌, IfOk, OnOk, map};
+ghost use Rattle.std.specs.Prelude.{◌≡◌, ◌||◌, IfOk, OnOk, map};
+ghost use Rattle.block_tree.specs.inside.Asides.{has_aside};
 ghost use Rattle.block_tree.specs.inside.Growing.{text_behind};
 ghost use Rattle.block_tree.specs.Output.{is_aside, output, output_items};
 ghost use Rattle.block_tree.specs.Tree.{items_from};
 ghost use Rattle.block_tree.specs.View.{piece_of, tree_of};
 
-use crate::{Block, Item, Node, Octets, OutOfMemory, Tag};
+use crate::{Block, Item, Node, Octets, OutOfMemory, Tag, TagName};
 use std::alloc::Global;
 
 /// Whether this is the tag of a prompt or of a default input.
@@ -59,12 +60,35 @@ fn without_asides(alloc: Global, node: &Node) -> Result<Node, OutOfMemory>
             }
         }
     }
+    items.shrink_to_fit();
     let name = node.tag.name.copy()?;
     let tag = Tag {
         channel: node.tag.channel,
         name,
     };
     Ok(Node { tag, items })
+}
+
+/// Whether a prompt or a default input stands in the node, at any depth.
+fn has_asides(node: &Node) -> bool
+    ensures { result ≡ has_aside (tree_of node.now).items }
+{
+    for item in &node.items {
+        if let Item::Block(inner) = item {
+            if is_aside_tag(&inner.tag) || has_asides(inner) {
+                return true;
+            }
+        }
+    }
+    false
+}
+
+/// Whether the node is a prompt or a default input, or one stands in it.
+fn holds_aside(node: &Node) -> bool
+    ensures { result ≡ (is_aside (tree_of node.now).channel (tree_of node.now).name
+        || has_aside (tree_of node.now).items) }
+{
+    is_aside_tag(&node.tag) || has_asides(node)
 }
 
 /// The output of a block: the block without its prompts and default inputs at any depth, with
@@ -75,7 +99,7 @@ pub fn output_of(alloc: Global, block: &Block) -> Result<Block, OutOfMemory>
     ensures { IfOk result (λ kept. kept ≡ output block.now) }
 {
     if is_aside_tag(&block.node.tag) {
-        let name = Octets::from_vec(b"verbatim".to_vec(alloc)?);
+        let name = TagName::from_slice(alloc, b"verbatim")?;
         let tag = Tag {
             channel: false,
             name,
@@ -88,5 +112,19 @@ pub fn output_of(alloc: Global, block: &Block) -> Result<Block, OutOfMemory>
     } else {
         let node = without_asides(alloc, &block.node)?;
         Ok(Block { node })
+    }
+}
+
+impl Block {
+    /// The output of the block, as `output_of` tells it. A block without prompts and default inputs is its
+    /// own output, and takes no memory.
+    pub fn into_output(self, alloc: Global) -> Result<Block, OutOfMemory>
+        ensures { IfOk result (λ kept. kept ≡ output self) }
+    {
+        if holds_aside(&self.node) {
+            output_of(alloc, &self)
+        } else {
+            Ok(self)
+        }
     }
 }

@@ -1,5 +1,5 @@
 //! Block trees as plain data.
-use crate::Octets;
+use crate::{Octets, TagName};
 
 /// What a block begins with: a format, written with ':', or a channel, written with '#'.
 /// (TeXmacs manual, interfacing: formatted output; channels, prompts and default input.)
@@ -8,7 +8,7 @@ pub struct Tag {
     /// Whether it is a channel.
     pub channel: bool,
     /// Its name, without the separator.
-    pub name: Octets,
+    pub name: TagName,
 }
 
 /// One of the things that stand in a block.

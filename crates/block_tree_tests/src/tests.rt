@@ -8,7 +8,7 @@ fn text(alloc: Global, bytes: &[u8]) -> Result<Item, OutOfMemory> {
 }
 
 fn node(alloc: Global, channel: bool, name: &[u8]) -> Result<Node, OutOfMemory> {
-    let name = Octets::from_slice(alloc, name)?;
+    let name = TagName::from_slice(alloc, name)?;
     Ok(Node {
         tag: Tag { channel, name },
         items: Vec::new(alloc),

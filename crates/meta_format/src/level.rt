@@ -25,7 +25,8 @@ fn flush(alloc: Global, level: &mut Level) -> Result<(), OutOfMemory>
     ensures right { OnOk result (IsLevel level.old → IsRight level.new) }
 {
     if !level.text.is_empty() {
-        let text = mem::replace(&mut level.text, Vec::new(alloc));
+        let mut text = mem::replace(&mut level.text, Vec::new(alloc));
+        text.shrink_to_fit();
         level.items.push(Item::Text(Octets::from_vec(text)))?;
     }
     Ok(())
@@ -94,6 +95,7 @@ pub fn node_of(alloc: Global, mut level: Level) -> Result<Node, OutOfMemory>
     ensures marks { IfOk result (λ n. marks n ≡ level_marks level ++ close_mark ∷ []) }
 {
     flush(alloc, &mut level)?;
+    level.items.shrink_to_fit();
     Ok(Node {
         tag: level.tag,
         items: level.items,

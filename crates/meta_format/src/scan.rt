@@ -13,9 +13,8 @@ ghost use Rattle.meta_format.specs.declared.scan.Stop.TheVariants as stop;
 
 use crate::bounds::Bounds;
 use crate::level::{Level, add_letter, add_letters, add_level, end_level};
-use block_tree::{Block, MAX_DEPTH, MAX_TAG, Octets, OutOfMemory, Tag};
+use block_tree::{Block, MAX_DEPTH, MAX_TAG, OutOfMemory, Tag, TagName};
 use std::alloc::{AllocFailed, Global};
-use std::mem;
 
 /// Where the last byte has led.
 #[derive(Clone, Copy, Debug, PartialEq, Eq)]
@@ -165,11 +164,11 @@ impl Scanner {
         }
         self.at = at + 1;
         if is_separator(c) {
-            let name = mem::replace(&mut self.name, Vec::new(alloc));
             let tag = Tag {
                 channel: c == b'#',
-                name: Octets::from_vec(name),
+                name: TagName::from_slice(alloc, self.name.as_slice())?,
             };
+            self.name.clear();
             add_level(alloc, &mut self.levels, tag)?;
             self.place = Place::Body;
             return Ok(None);

@@ -1,5 +1,5 @@
 //! A piece of an interpreter's output.
-ghost use Rattle.std.specs.Prelude.{◌≡◌, ◌≤◌, ◌∷◌, ◌++◌, ℕ, List, [], length, true, false, IfOk, OnErr, option_map, option_and_then, slice_get, is_some, unwrap_or, option_copied, nat_le};
+ghost use Rattle.std.specs.Prelude.{◌≡◌, ◌≤◌, ◌∷◌, ◌++◌, ℕ, List, [], length, true, false, IfOk, OnErr, option_map, option_and_then, slice_get, is_some, unwrap_or, nat_le};
 ghost use Rattle.std.specs.List.{find};
 ghost use Rattle.meta_format.specs.Stream.{Outer};
 ghost use Rattle.meta_format.specs.Found.{outer_of, outers};
@@ -12,7 +12,7 @@ ghost use Rattle.plugin_core.specs.Items.{bytes_of, answer_to};
 use crate::item::bytes_for;
 use crate::limits::LONGEST_PROMPT;
 use crate::{Answered, Ended, Item, Life, Reason, Step};
-use block_tree::{Block, Octets, OutOfMemory, Queue, channel_text, output_of};
+use block_tree::{Block, Octets, OutOfMemory, Queue, channel_text};
 use meta_format::{FeedFault, Found};
 use scheme_text::{AnswerFault, BadCompletion, read_answer};
 use std::alloc::Global;
@@ -42,7 +42,7 @@ impl Life {
         ensures number { self.new.number ≡ self.old.number }
     {
         let step = match self.reader.feed(piece) {
-            Ok(found) => self.pass(found.as_slice()),
+            Ok(found) => self.pass(found),
             Err(fault) => {
                 self.over = true;
                 self.end_at(fault)
@@ -65,15 +65,15 @@ impl Life {
         match fault {
             FeedFault::BadTag { offset: _, found } => self.break_off(
                 Reason::BadTag,
-                found.as_slice(),
+                found,
             ),
             FeedFault::TooDeep { offset: _, found } => self.break_off(
                 Reason::TooDeep,
-                found.as_slice(),
+                found,
             ),
             FeedFault::TooLong { offset: _, found } => self.break_off(
                 Reason::TooLong,
-                found.as_slice(),
+                found,
             ),
             FeedFault::OutOfMemory => Err(OutOfMemory),
             FeedFault::Failed => unreachable!(),
@@ -81,15 +81,15 @@ impl Life {
     }
 
     /// The blocks of a piece without a fault.
-    fn pass(&mut self, found: &[Found]) -> Result<Step, OutOfMemory>
+    fn pass(&mut self, found: Vec<Found>) -> Result<Step, OutOfMemory>
         ensures ok { IfOk result
-            (λ step. Passes (closed_among self.old.ask (outers found.now)) self.old self.new step) }
+            (λ step. Passes (closed_among self.old.ask (outers found.items)) self.old self.new step) }
         ensures number { self.new.number ≡ self.old.number }
     {
         let Some(answer) = self.answer_in(found) else {
             return Ok(Step::nothing());
         };
-        let closing = self.close(&answer.block)?;
+        let closing = self.close(answer.block)?;
         let send = self.first_bytes()?;
         Ok(Step {
             answered: closing.answered,
@@ -100,16 +100,16 @@ impl Life {
     }
 
     /// The blocks of a piece with a fault after them.
-    fn break_off(&mut self, reason: Reason, found: &[Found]) -> Result<Step, OutOfMemory>
+    fn break_off(&mut self, reason: Reason, found: Vec<Found>) -> Result<Step, OutOfMemory>
         requires { self.old.over ≡ true }
         ensures ok { IfOk result
             (λ step. Breaks
-            (closed_among self.old.ask (outers found.now)) self.old self.new reason step) }
+            (closed_among self.old.ask (outers found.items)) self.old self.new reason step) }
         ensures over { self.new.over ≡ true }
         ensures number { self.new.number ≡ self.old.number }
     {
         let closing = match self.answer_in(found) {
-            Some(answer) => self.close(&answer.block)?,
+            Some(answer) => self.close(answer.block)?,
             None => Closing {
                 answered: None,
                 default_input: None,
@@ -128,9 +128,8 @@ impl Life {
     }
 
     /// The block that closes the answer that is awaited, if one does.
-    fn answer_in<'a>(&self, found: &'a [Found]) -> Option<&'a Found>
-        ensures { option_map outer_of (option_copied result)
-            ≡ closed_among self.now.ask (outers found.now) }
+    fn answer_in(&self, found: Vec<Found>) -> Option<Found>
+        ensures { option_map outer_of result ≡ closed_among self.now.ask (outers found.items) }
     {
         match self.ask {
             Some(ask) => first_behind(found, ask),
@@ -139,14 +138,14 @@ impl Life {
     }
 
     /// The answer of the first item, or the banner, closes with this block.
-    fn close(&mut self, block: &Block) -> Result<Closing, OutOfMemory>
-        ensures ok { IfOk result (λ closing. AnswerCloses self.old self.new block.now closing) }
+    fn close(&mut self, block: Block) -> Result<Closing, OutOfMemory>
+        ensures ok { IfOk result (λ closing. AnswerCloses self.old self.new block closing) }
         ensures over { self.new.over ≡ self.old.over }
         ensures number { self.new.number ≡ self.old.number }
     {
-        let output = output_of(self.alloc, block)?;
-        let default_input = channel_text(self.alloc, block, b"input")?;
-        let next = self.prompt_behind(block)?;
+        let default_input = channel_text(self.alloc, &block, b"input")?;
+        let next = self.prompt_behind(&block)?;
+        let output = block.into_output(self.alloc)?;
         let prompt = std::mem::replace(&mut self.prompt, next);
         let answered = self.answer_first(prompt, output)?;
         self.ask = self.next_ask();
@@ -212,10 +211,10 @@ impl Life {
 }
 
 /// The first block that starts at or after the ask point.
-fn first_behind(found: &[Found], ask: u64) -> Option<&Found>
-    ensures { option_copied result ≡ find (λ block. nat_le ask block.start) found.now }
+fn first_behind(found: Vec<Found>, ask: u64) -> Option<Found>
+    ensures { result ≡ find (λ block. nat_le ask block.start) found.items }
 {
-    found.iter().find(|block| ask <= block.start)
+    found.into_iter().find(|block| ask <= block.start)
 }
 
 /// The prompt of a block, cut to its first bytes.

@@ -16,7 +16,7 @@ use Rattle.session_engine.specs.declared.reply.Reply.TheVariants as reply
 use Rattle.session_engine.specs.World.{World, Going, kept_at_end, life_of, sheet_in, with_number}
 use Rattle.session_engine.specs.Refused.{command_refusals}
 use Rattle.session_engine.specs.Does.{ends_life, tells, ChildDoes, CommandDoes, MayDo}
-use Rattle.session_engine.specs.Faults.{wants_memory}
+use Rattle.session_engine.specs.Faults.{event_takes_memory}
 use Rattle.session_engine.specs.inside.Parts.{end_by, without_life}
 use Rattle.session_engine.proofs.Tables.{without_none}
 
@@ -38,7 +38,7 @@ gives_stop_none w name s o named is =
 
 -- what an end wants memory for
 pub wants_at_end : (w : World) (name : List ℕ) (number : ℕ) (e : ChildEvent) (why : Reason) (killed : Bool) (o : Op) → end_by e ≡ Some (why, killed) → kept_at_end w why (with_number number (life_of w name)) ≡ Some o
-    → wants_memory w (event.Child name number e) ≡ true
+    → event_takes_memory w (event.Child name number e) ≡ true
 wants_at_end w name number child.StartRefused why killed o by is = let same : (reason.StartRefused, false) ≡ (why, killed) = cc in ap (λ (p : Option Op). is_some p) (ap (λ (p : Reason × Bool). kept_at_end w p.0 (with_number number (life_of w name))) same ∙ is)
 wants_at_end w name number (child.Piece piece) why killed o by is = cc
 wants_at_end w name number child.End why killed o by is = let same : (reason.Ended, true) ≡ (why, killed) = cc in ap (λ (p : Option Op). is_some p) (ap (λ (p : Reason × Bool). kept_at_end w p.0 (with_number number (life_of w name))) same ∙ is)

@@ -24,15 +24,15 @@ is_piece w (event.Child name number child.Stalled) = false
 is_piece w (event.Child name number child.StopFault) = false
 
 -- The end of a life at which a line keeps its reason takes memory too; no other event of a child does.
-abbrev pub wants_memory : World → Event → Bool
-wants_memory w (event.Command c) = false
-wants_memory w (event.Child name number child.StartRefused) = is_some (kept_at_end w reason.StartRefused (with_number number (life_of w name)))
-wants_memory w (event.Child name number (child.Piece piece)) = is_piece w (event.Child name number (child.Piece piece))
-wants_memory w (event.Child name number child.End) = is_some (kept_at_end w reason.Ended (with_number number (life_of w name)))
-wants_memory w (event.Child name number child.ReadFault) = is_some (kept_at_end w reason.ReadFault (with_number number (life_of w name)))
-wants_memory w (event.Child name number child.SendFault) = is_some (kept_at_end w reason.SendFault (with_number number (life_of w name)))
-wants_memory w (event.Child name number child.Stalled) = is_some (kept_at_end w reason.Stalled (with_number number (life_of w name)))
-wants_memory w (event.Child name number child.StopFault) = false
+abbrev pub event_takes_memory : World → Event → Bool
+event_takes_memory w (event.Command c) = false
+event_takes_memory w (event.Child name number child.StartRefused) = is_some (kept_at_end w reason.StartRefused (with_number number (life_of w name)))
+event_takes_memory w (event.Child name number (child.Piece piece)) = is_piece w (event.Child name number (child.Piece piece))
+event_takes_memory w (event.Child name number child.End) = is_some (kept_at_end w reason.Ended (with_number number (life_of w name)))
+event_takes_memory w (event.Child name number child.ReadFault) = is_some (kept_at_end w reason.ReadFault (with_number number (life_of w name)))
+event_takes_memory w (event.Child name number child.SendFault) = is_some (kept_at_end w reason.SendFault (with_number number (life_of w name)))
+event_takes_memory w (event.Child name number child.Stalled) = is_some (kept_at_end w reason.Stalled (with_number number (life_of w name)))
+event_takes_memory w (event.Child name number child.StopFault) = false
 
 -- the event may do this, which gives this op
 pub record MayGive (w : World) (e : Event) (o : Op) : Type 0 where
@@ -45,7 +45,7 @@ pub record MayGive (w : World) (e : Event) (o : Op) : Type 0 where
 abbrev pub CauseOf : World → Event → DiskView → DiskView → HostFault → Type 0
 CauseOf w e old new faults.Closed = ⊥
 CauseOf w e old new faults.Disk = Rises old.faults new.faults × ((o : Op) × MayGive w e o × OnDisk w.ops (Some o) old new)
-CauseOf w e old new faults.OutOfMemory = (new ≡ old) × (wants_memory w e ≡ true)
+CauseOf w e old new faults.OutOfMemory = (new ≡ old) × (event_takes_memory w e ≡ true)
 CauseOf w e old new faults.JournalFull = (new ≡ old) × (is_piece w e ≡ true) × ((o : Op) × MayGive w e o × (fits w o ≡ false))
 
 -- An event that was not taken leaves the worksheet, and each life's number, as they were.

@@ -17,7 +17,8 @@ pub enum ChildEvent {
     ReadFault,
     /// A line could not be sent to it. The life ends.
     SendFault,
-    /// It gave no answer in all the turns of a wait. The life ends.
+    /// An item of it still waits at the end of the 100,000 turns of a wait, whatever else it answered in
+    /// them. The life ends.
     Stalled,
     /// It could not be stopped. Nothing comes of it.
     StopFault,

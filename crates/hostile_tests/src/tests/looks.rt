@@ -1,5 +1,5 @@
 //! Calls of the lower libraries that take no memory.
-use block_tree::{Block, Node, Octets, Sequence, Tag};
+use block_tree::{Block, Node, Octets, Sequence, Tag, TagName};
 use disk_model::{Area, Disk, FuseDisk, FuseMode, MemoryDisk};
 use meta_format::{Reader, read_block};
 use plugin_core::{Item, Life};
@@ -76,7 +76,7 @@ fn block(alloc: Global) -> Result<Block, Fail> {
 }
 
 fn bare_node(alloc: Global) -> Result<Node, Fail> {
-    let name = Octets::from_slice(alloc, b"a".as_slice())?;
+    let name = TagName::from_slice(alloc, b"a".as_slice())?;
     Ok(Node {
         tag: Tag {
             channel: false,

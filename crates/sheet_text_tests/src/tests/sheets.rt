@@ -1,5 +1,5 @@
 //! Worksheets in print.
-use block_tree::{Block, Item, Node, Octets, OutOfMemory, Sequence, Tag};
+use block_tree::{Block, Item, Node, Octets, OutOfMemory, Sequence, Tag, TagName};
 use sheet_text::sheet_text;
 use std::alloc::Global;
 use worksheet::{Op, Sheet};
@@ -32,7 +32,7 @@ fn verbatim(alloc: Global, text: &str) -> Result<Node, OutOfMemory> {
     let items = items(alloc, text)?;
     let tag = Tag {
         channel: false,
-        name: octets(alloc, "verbatim")?,
+        name: TagName::from_slice(alloc, b"verbatim")?,
     };
     Ok(Node { tag, items })
 }

@@ -1,5 +1,5 @@
 //! Blocks in print.
-use block_tree::{Block, Item, Node, Octets, OutOfMemory, Tag};
+use block_tree::{Block, Item, Node, Octets, OutOfMemory, Tag, TagName};
 use sheet_text::{block_text, tree_text};
 use std::alloc::Global;
 use std::test::Fail;
@@ -13,7 +13,7 @@ fn text(alloc: Global, text: &str) -> Result<Item, OutOfMemory> {
 }
 
 fn tag(alloc: Global, channel: bool, name: &str) -> Result<Tag, OutOfMemory> {
-    let name = octets(alloc, name)?;
+    let name = TagName::from_slice(alloc, name.as_bytes())?;
     Ok(Tag { channel, name })
 }
 

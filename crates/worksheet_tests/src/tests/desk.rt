@@ -1,5 +1,5 @@
 //! Ops in short, and the steps of a test with what has to come of each.
-use block_tree::{Block, Item, Node, Octets, OutOfMemory, Reason, Sequence, Tag};
+use block_tree::{Block, Item, Node, Octets, OutOfMemory, Reason, Sequence, Tag, TagName};
 use std::alloc::Global;
 use std::test::Fail;
 use tests_desk::exhausted;
@@ -104,7 +104,7 @@ fn block(alloc: Global) -> Result<Block, Fail> {
     items.push(Item::Text(octets(alloc, "A")?))?;
     let tag = Tag {
         channel: false,
-        name: octets(alloc, "verbatim")?,
+        name: TagName::from_slice(alloc, b"verbatim")?,
     };
     match Block::new(Node { tag, items }) {
         Ok(block) => Ok(block),

@@ -24,4 +24,4 @@ loop-item-preserved t c =
 
 pub returns : goal.returns
 returns t c =
-    made_node _ _ refl c.in_ok-name.ensures (c.loop-item.invariant ∙ ap (λ xs. output_items (items_from (map piece_of xs))) (take_all _ _ c.loop-item-test.false ∙ c.deref-item-items.ensures.value))
+    made_node _ _ refl c.in_ok-name.ensures (ap (λ xs. items_from (map piece_of xs)) c.shrink_to_fit.ensures.items ∙ c.loop-item.invariant ∙ ap (λ xs. output_items (items_from (map piece_of xs))) (take_all _ _ c.loop-item-test.false ∙ c.deref-item-items.ensures.value))
