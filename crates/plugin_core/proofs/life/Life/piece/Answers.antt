@@ -1,9 +1,7 @@
-use Rattle.std.proofs.Common.{◌++◌, List, true, refl, subst, sym, IfOk}
+use Rattle.std.proofs.Common.{◌++◌, true, refl, subst, sym}
 use Rattle.std.proofs.lemmas.Result.{IfOk-weaker}
 use Rattle.meta_format.specs.Found.{outers}
 use Rattle.plugin_core.specs.Past.{stream_of}
-use Rattle.meta_format.specs.declared.scan.Found.{Found}
-use Rattle.plugin_core.specs.inside.Changes.{Passes, closed_among}
 use Rattle.plugin_core.specs.Kept.{InterpreterView, LifeHasPast}
 use Rattle.plugin_core.proofs.Pieces.{Fed, passes_gives, ends_gives}
 use Rattle.plugin_core.proofs.life.Life.piece.Goals as goal
@@ -24,7 +22,7 @@ returns-else-is_err-clause-ok c = λ past before now.
           let fed : Fed old mid = record { ask = refl; greeted = refl; waiting = refl; prompt = refl } in
           rw (w.step-is, w.self-is) (IfOk-weaker w.pass-step.result _ _ (λ step h. passes_gives old mid w.pass-step.new.self past before c.args.piece.now (outers w.in-Ok.found.items) step s fed s.goes_on
           (w.in-Ok.ensures.ok (stream_of past) before s.reader) (w.in-Ok.ensures.closes (stream_of past) before s.reader) h)
-          (subst (λ (xs : List Found). IfOk w.pass-step.result (λ step. Passes (closed_among i.ask (outers xs)) mid w.pass-step.new.self step)) w.as_slice.ensures.value w.pass-step.ensures.ok))
+          w.pass-step.ensures.ok)
       | in-Err w ↦
           let mid : InterpreterView = record old { over = true; reader = c.feed.new.self } in
           let fed : Fed old mid = record { ask = refl; greeted = refl; waiting = refl; prompt = refl } in
