@@ -118,6 +118,8 @@ module _ (one : OneReading) (w : World) where
       go None = refl
       go (Some l) = refl
 
+  accepts command.Checkpoint = refl
+
   differs : (c : Command) (d f : Does) → d ≡ does w c → f ≡ lacks_memory w → d.told ≡ f.told → ⊥
   differs c d f a b same =
       let t : (does w c).told ≡ (lacks_memory w).told = ap (λ (x : Does). x.told) (sym a) ∙ same ∙ ap (λ (x : Does). x.told) b in
