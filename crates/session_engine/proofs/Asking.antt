@@ -282,9 +282,11 @@ module _ (w : World) (id : ℕ) (f : Field) (e : field_in (sheet_in w).fields id
   eval_fails old mid new (Err y) h none same lives contents numbers fault disk = record {
     contents = contents ∙ same.contents ∙ h.contents;
     numbers = λ other. numbers other ∙ ap (λ (l : List Running). number_in l other) lives ∙ numbers_are old.lives w.lives h.lives_are other;
-    cause = subst (λ (x : HostFault). CauseOf w (event.Command (command.Eval id)) old.store.disk new.store.disk x) (sym fault.0)
-        (subst (λ (d : DiskView). Rises d.faults new.store.disk.faults) same.disk fault.1, (
-          record { does = does w (command.Eval id); may = eval_done none; writes = asked_writes w (line_of_field w id) (op.Clear id) (session_of_field w id) (life_of w (session_of_field w id)) },
-          eval_on_disk old.store.disk new.store.disk disk,
-        ));
+    cause = subst (λ (x : HostFault). CauseOf w (event.Command (command.Eval id)) old.store.disk new.store.disk x) (sym fault.0) (
+      subst (λ (d : DiskView). Rises d.faults new.store.disk.faults) same.disk fault.1,
+      (
+        record { does = does w (command.Eval id); may = eval_done none; writes = asked_writes w (line_of_field w id) (op.Clear id) (session_of_field w id) (life_of w (session_of_field w id)) },
+        eval_on_disk old.store.disk new.store.disk disk,
+      ),
+    );
   }

@@ -78,12 +78,15 @@ returns-in-Err-Disk-clause-failed g c = λ w e h is.
     record {
       contents = fails.contents;
       numbers = λ n. ap (λ (l : List Running). number_in l n) c.lose.ensures.lives ∙ numbers_are rs w.lives h.lives_are n;
-      cause = (fails.cause.0, (
-        record {
-          does = ends_life w c.args.reason c.args.killed (with_number number (life_of w name)) reply.Nothing;
-          may = gives_end w (with_number number (life_of w name)) e c.args.reason c.args.killed is;
-          writes = end_writes w c.args.reason c.args.killed (with_number number (life_of w name)) reply.Nothing fails.lost kept;
-        },
-        end_on_disk w c.args.reason c.args.killed (with_number number (life_of w name)) reply.Nothing fails.lost kept c.args.self.now.store.disk c.lose.new.self.store.disk fails.cause.1,
-      ));
+      cause = (
+        fails.cause.0,
+        (
+          record {
+            does = ends_life w c.args.reason c.args.killed (with_number number (life_of w name)) reply.Nothing;
+            may = gives_end w (with_number number (life_of w name)) e c.args.reason c.args.killed is;
+            writes = end_writes w c.args.reason c.args.killed (with_number number (life_of w name)) reply.Nothing fails.lost kept;
+          },
+          end_on_disk w c.args.reason c.args.killed (with_number number (life_of w name)) reply.Nothing fails.lost kept c.args.self.now.store.disk c.lose.new.self.store.disk fails.cause.1,
+        ),
+      );
     }
