@@ -3,9 +3,7 @@ use Rattle.std.proofs.Common.{◌≡◌, ⊎_elim, ℕ, zero, suc, Bool, List, [
 use Rattle.std.specs.Bool.{IsTrue}
 use Rattle.disk_model.specs.Disk.{DiskView, Image, InModel, LeavesOnly}
 use Rattle.disk_model.specs.inside.Moments.{started, weakens, goes_on}
-use Rattle.worksheet.specs.declared.op.Op.{Op}
-use Rattle.worksheet.specs.Ops.{sheet_of}
-use Rattle.recovery.specs.Sheets.{IsEither, IsSheetImage}
+use Rattle.recovery.specs.Sheets.{IsSheetImage}
 use Rattle.session_engine.specs.declared.event.Event.{Event}
 use Rattle.session_engine.specs.declared.event.Event.TheVariants.{Child}
 use Rattle.session_engine.specs.declared.outcome.Outcome.{Outcome}
@@ -16,7 +14,7 @@ use Rattle.session_engine.specs.Does.{Does, Gives, behind}
 use Rattle.session_engine.specs.Host.{HostView, OnDisk}
 use Rattle.session_engine.specs.Faults.{CauseOf}
 use Rattle.session_engine.specs.Crash.{LeftAmong, Moments, MomentsBefore}
-use Rattle.session_engine.proofs.Playing.{behind_ops}
+use Rattle.session_engine.proofs.Playing.{EitherSheet, either_sheet}
 use Rattle.child_edge.specs.Kept.{HoldsSheet, Kept}
 use Rattle.session_engine.specs.declared.reply.Reply.{Reply}
 use Rattle.child_edge.specs.Faithful.{Relation, At, at, Beat, Beats, Follows, FirstOf, Taken, Turns, Served, ServedUpTo, Waited, due_after}
@@ -106,19 +104,13 @@ left_more w e o mid es os i gives l = record {
 
 -- the moments of one event, whatever comes behind it
 one_event : (w : World) (e : Event) (o : Outcome) (mid : World) (es : List Event) (os : List Outcome) (old new : DiskView) (gives : Gives w e o mid)
-    → HoldsSheet w old → OnDisk w.ops gives.0.op old new → InModel old (LeavesOnly (LeftAmong w (e ∷ es) (o ∷ os)) old.history new.history)
-one_event w e o mid es os old new gives holds disk = go gives.0.op refl disk
-  where
-    go : (a : Option Op) → gives.0.op ≡ a → OnDisk w.ops a old new → InModel old (LeavesOnly (LeftAmong w (e ∷ es) (o ∷ os)) old.history new.history)
-    go None is same model = subst (λ (d : DiskView). LeavesOnly (LeftAmong w (e ∷ es) (o ∷ os)) old.history d.history) (sym same)
-        (started (LeftAmong w (e ∷ es) (o ∷ os)) old.history (λ i image. left_none w (e ∷ es) (o ∷ os) i (holds model i image)))
-    go (Some q) is moments model = weakens (IsEither w.ops q) (LeftAmong w (e ∷ es) (o ∷ os)) old.history new.history
-        (λ i image. ⊎_elim
-        (left_none w (e ∷ es) (o ∷ os) i)
-        (λ after. left_more w e o mid es os i gives (left_none mid es os i
-        (subst (λ (v : World). IsSheetImage (sheet_in v) i) (sym gives.3) (subst (λ (ops : List Op). IsSheetImage (sheet_of ops) i) (sym (behind_ops w gives.0 q is)) after))))
-        image)
-        (moments model)
+    → HoldsSheet w old → OnDisk w.ops gives.0.anew gives.0.op old new → InModel old (LeavesOnly (LeftAmong w (e ∷ es) (o ∷ os)) old.history new.history)
+one_event w e o mid es os old new gives holds disk model = weakens (EitherSheet w gives.0) (LeftAmong w (e ∷ es) (o ∷ os)) old.history new.history
+    (λ i image. ⊎_elim
+    (left_none w (e ∷ es) (o ∷ os) i)
+    (λ after. left_more w e o mid es os i gives (left_none mid es os i (subst (λ (v : World). IsSheetImage (sheet_in v) i) (sym gives.3) after)))
+    image)
+    (either_sheet w gives.0 old new holds disk model)
 
 -- the moments of a timeline, and then those that these events leave
 pub goes_then : (w : World) (d : DiskView) (bs : List Beat) (v : World) (f : DiskView) (es : List Event) (os : List Outcome) (g : DiskView) → HoldsSheet w d → Goes w d bs v f
@@ -157,11 +149,11 @@ goes_up_to w d bs v f e fault h holds p stopped = go fault stopped.cause
     go : (x : HostFault) → CauseOf v e f h.store.disk x → LeavesFrontsUpTo w bs e x d h.store.disk
     go faults.Closed cause = absurd cause
     go faults.Disk cause =
-        let give = cause.1.1 in
-        let gives : Gives v e give.does.told (behind v give.does) = (give.does, give.may, refl, refl) in (
-          give.does.told,
-          goes_then w d bs v f (e ∷ []) (give.does.told ∷ []) h.store.disk holds p
-              (one_event v e give.does.told (behind v give.does) [] [] f h.store.disk gives stopped.held (subst (λ (a : Option Op). OnDisk v.ops a f h.store.disk) (sym give.gives) cause.1.2)),
+        let write = cause.1.0 in
+        let gives : Gives v e write.does.told (behind v write.does) = (write.does, write.may, refl, refl) in (
+          write.does.told,
+          goes_then w d bs v f (e ∷ []) (write.does.told ∷ []) h.store.disk holds p
+              (one_event v e write.does.told (behind v write.does) [] [] f h.store.disk gives stopped.held cause.1.1),
         )
     go faults.OutOfMemory cause = unmoved cause.0
     go faults.JournalFull cause = unmoved cause.0

@@ -120,6 +120,13 @@ impl<D: Disk> Journal<D> {
         Journal { disk, active, end }
     }
 
+    /// The most bytes that an area may have: the disk's room.
+    pub fn room(&self) -> u64
+        ensures { result ≡ self.now.disk.room }
+    {
+        self.disk.room()
+    }
+
     /// Whether a payload of so many bytes fits behind the end: it has at most 33,554,432 bytes, and
     /// the end, 5 bytes, the payload and the next gate are together at most the disk's room. It
     /// takes no memory.

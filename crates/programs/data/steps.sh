@@ -140,6 +140,38 @@ run show second
 printf 'TMWSHEET\001C\000' >other
 run show other
 
+step a journal that is written anew
+run create anew
+printf 'session a plain p\nnew 0 a x\nremove 1\nnew 0 a y\n' | run run anew
+files anew anew.alt
+echo checkpoint | run run anew
+od -An -v -tx1 -j9 -N1 anew
+od -An -v -tx1 anew.alt
+cp anew before
+echo 'set 2 z' | run run anew
+files anew anew.alt
+cmp anew before && echo unchanged
+echo checkpoint | run run anew
+files anew
+od -An -v -tx1 -j9 -N1 anew
+od -An -v -tx1 -j48 -N1 anew
+echo 'new 0 a w' | run run anew
+run show anew
+
+step a line that waits while the journal is written anew
+run create waits
+cat >script <<'END'
+session a plain sh echo.sh
+new 0 a x
+eval 1
+checkpoint
+wait
+print
+END
+run run waits <script
+run show waits
+files waits waits.alt
+
 step what is no worksheet
 run run missing </dev/null
 files missing missing.alt

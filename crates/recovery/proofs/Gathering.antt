@@ -29,11 +29,11 @@ pub all_behind : (P : Op → Type 0) (a b : List Op) → AllByRecursion P (a ++ 
 all_behind P [] b all = all
 all_behind P (o ∷ a) b all = all_behind P a b all.1
 
-payloads_front : (a b : List Op) → ArePayloads max_payload (codes_of (a ++ b)) → ArePayloads max_payload (codes_of a)
+pub payloads_front : (a b : List Op) → ArePayloads max_payload (codes_of (a ++ b)) → ArePayloads max_payload (codes_of a)
 payloads_front [] b each = tt
 payloads_front (o ∷ a) b each = (each.0, payloads_front a b each.1)
 
-payloads_behind : (a b : List Op) → ArePayloads max_payload (codes_of (a ++ b)) → ArePayloads max_payload (codes_of b)
+pub payloads_behind : (a b : List Op) → ArePayloads max_payload (codes_of (a ++ b)) → ArePayloads max_payload (codes_of b)
 payloads_behind [] b each = each
 payloads_behind (o ∷ a) b each = payloads_behind a b each.1
 

@@ -11,3 +11,4 @@ pub mod Commits
 pub mod Refusals
 pub mod Renewing
 pub mod Gathering
+pub mod Measures

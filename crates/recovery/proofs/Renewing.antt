@@ -16,7 +16,7 @@ use Rattle.journal.specs.Limits.{max_payload}
 use Rattle.journal.specs.Kept.{EitherStands, FitsAnew, ImageStandsFor}
 use Rattle.recovery.specs.Code.{HasCode, IsTyped}
 use Rattle.recovery.specs.Sheets.{StoreView, codes_of, IsSheetImage, IsStore, Makes, SameStore}
-use Rattle.recovery.specs.Checkpointed.{CheckpointAnswers}
+use Rattle.recovery.specs.Checkpointed.{CheckpointAnswers, HasRoomAnew}
 use Rattle.recovery.specs.declared.fault.CheckpointFault.{CheckpointFault}
 use Rattle.recovery.specs.declared.fault.CheckpointFault.TheVariants as faults
 use Rattle.recovery.specs.declared.base.Base.{Base}
@@ -63,10 +63,11 @@ module _ {D : Type 0} (view : D → DiskView) (base new : Base D) (sheet : Sheet
   }
   still_base (Err faults.Closed) answers = absurd answers
 
-  pub answered : (result : Result Unit CheckpointFault) → AnewAnswers view base new payloads result → CheckpointAnswers (store_on view (Some base) sheet) (store_on view (Some new) sheet) result
+  pub answered : HasRoomAnew (disk_of view base).room sheet.contents → (result : Result Unit CheckpointFault) → AnewAnswers view base new payloads result → CheckpointAnswers (store_on view (Some base) sheet) (store_on view (Some new) sheet) result
   unfolding keeps_anew
-  answered (Ok u) answers = (
+  answered room (Ok u) answers = (
     opened,
+    room,
     answers.0,
     answers.1 ∙ ap end_of are,
     answers.2,
@@ -74,15 +75,15 @@ module _ {D : Type 0} (view : D → DiskView) (base new : Base D) (sheet : Sheet
         let kept = keeps_anew answers.3 model in
         record { still_open = answers.0; keeps = outside view new (codes_of (rewrite_of sheet.contents)) kept.keeps; makes = anew },
   )
-  answered (Err faults.Full) answers = (
+  answered room (Err faults.Full) answers = (
     opened,
     λ fits. answers.0 (subst (λ (l : List (List ℕ)). FitsAnew (disk_of view base).room l) (sym are) fits.1),
     subst (λ (b : Base D). SameStore (store_on view (Some base) sheet) (store_on view (Some b) sheet)) (sym answers.1)
         (record { disk = refl; end = refl; contents = refl; closed = refl }),
   )
-  answered (Err faults.OutOfMemory) answers = absurd answers
-  answered (Err faults.Disk) answers = (opened, answers.0, answers.1)
-  answered (Err faults.Closed) answers = absurd answers
+  answered room (Err faults.OutOfMemory) answers = absurd answers
+  answered room (Err faults.Disk) answers = (opened, room, answers.0, answers.1)
+  answered room (Err faults.Closed) answers = absurd answers
 
   -- at every moment each image is one of the worksheet
   pub same_sheet_moments : InModel (disk_of view base) ((before : List (List ℕ)) → KeepsIn base before → LeavesOnly (EitherStands before payloads) (disk_of view base).history (disk_of view new).history)
@@ -110,12 +111,12 @@ pub next_some : (ops : List Op) (sheet : Contents) → Makes ops sheet → 1 ≤
 next_some ops sheet makes = (subst IsWorksheet (sym makes.is) (ops_make_worksheets ops makes.allowed)).from_one
 
 -- a refusal before it
-pub refused_before : (store : StoreView) (fault : CheckpointFault) → store.closed ≡ false
+pub refused_before : (store : StoreView) (fault : CheckpointFault) → store.closed ≡ false → HasRoomAnew store.disk.room store.sheet.contents
     → (fault ≡ faults.Full → ArePayloads max_payload (codes_of (rewrite_of store.sheet.contents)) → ⊥) → (fault ≡ faults.Disk → ⊥) → (fault ≡ faults.Closed → ⊥) → CheckpointAnswers store store (Err fault)
-refused_before store faults.Full opened full disk closed = (opened, λ fits. full refl fits.0, record { disk = refl; end = refl; contents = refl; closed = refl })
-refused_before store faults.OutOfMemory opened full disk closed = (opened, record { disk = refl; end = refl; contents = refl; closed = refl })
-refused_before store faults.Disk opened full disk closed = absurd (disk refl)
-refused_before store faults.Closed opened full disk closed = absurd (closed refl)
+refused_before store faults.Full opened room full disk closed = (opened, λ fits. full refl fits.0, record { disk = refl; end = refl; contents = refl; closed = refl })
+refused_before store faults.OutOfMemory opened room full disk closed = (opened, room, record { disk = refl; end = refl; contents = refl; closed = refl })
+refused_before store faults.Disk opened room full disk closed = absurd (disk refl)
+refused_before store faults.Closed opened room full disk closed = absurd (closed refl)
 
 -- where nothing has changed each image is still one of the sheet
 pub stays_same : (store : StoreView) → IsStore store → store.closed ≡ false → InModel store.disk (LeavesOnly (IsSheetImage store.sheet.contents) store.disk.history store.disk.history)

@@ -16,9 +16,9 @@ HasRoomAnew room sheet = ArePayloads max_payload (codes_of (rewrite_of sheet)) �
 
 -- what each answer to a checkpoint says of the store before and after it: the worksheet is the same in each case
 abbrev pub CheckpointAnswers : StoreView → StoreView → Result Unit CheckpointFault → Type 0
-CheckpointAnswers old new (Ok u) = (old.closed ≡ false) × (new.closed ≡ false) × (new.end ≡ end_of (codes_of (rewrite_of old.sheet.contents)))
+CheckpointAnswers old new (Ok u) = (old.closed ≡ false) × HasRoomAnew old.disk.room old.sheet.contents × (new.closed ≡ false) × (new.end ≡ end_of (codes_of (rewrite_of old.sheet.contents)))
     × (new.disk.faults ≡ old.disk.faults) × InModel old.disk (KeepsOps new (rewrite_of old.sheet.contents))
 CheckpointAnswers old new (Err faults.Full) = (old.closed ≡ false) × (HasRoomAnew old.disk.room old.sheet.contents → ⊥) × SameStore old new
-CheckpointAnswers old new (Err faults.OutOfMemory) = (old.closed ≡ false) × SameStore old new
-CheckpointAnswers old new (Err faults.Disk) = (old.closed ≡ false) × (new.closed ≡ true) × Rises old.disk.faults new.disk.faults
+CheckpointAnswers old new (Err faults.OutOfMemory) = (old.closed ≡ false) × HasRoomAnew old.disk.room old.sheet.contents × SameStore old new
+CheckpointAnswers old new (Err faults.Disk) = (old.closed ≡ false) × HasRoomAnew old.disk.room old.sheet.contents × (new.closed ≡ true) × Rises old.disk.faults new.disk.faults
 CheckpointAnswers old new (Err faults.Closed) = (old.closed ≡ true) × SameStore old new

@@ -3,3 +3,4 @@ pub mod Codes
 pub mod Taken
 pub mod Base
 pub mod Gathered
+pub mod Measured

@@ -85,6 +85,17 @@ impl<D: Disk> Base<D> {
         }
     }
 
+    /// The most bytes that an area may have, of one that is open.
+    pub(crate) fn room(&self) -> u64
+        requires { is_closed self.now ≡ false }
+        ensures { result ≡ (disk_of D.view self.now).room }
+    {
+        match self {
+            Base::Open(journal) => journal.room(),
+            Base::Closed(_) => unreachable!(),
+        }
+    }
+
     pub(crate) fn is_closed(&self) -> bool
         ensures { result ≡ is_closed self.now }
     {

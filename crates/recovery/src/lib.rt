@@ -5,6 +5,7 @@
 mod base;
 mod fault;
 mod laws;
+mod measuring;
 mod opening;
 mod parts;
 mod reading;

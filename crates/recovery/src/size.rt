@@ -3,10 +3,12 @@ ghost use Rattle.std.specs.Prelude.{◌≡◌, ◌+◌, ◌≤◌, min, length};
 ghost use Rattle.std.specs.List.{flat_map};
 ghost use Rattle.block_tree.specs.View.{tree_of};
 ghost use Rattle.meta_format.specs.Canonical.{escape, canonical};
+ghost use Rattle.worksheet.specs.declared.op.Op.TheVariants as op;
+ghost use Rattle.worksheet.specs.Rewrite.{session_op};
 ghost use Rattle.recovery.specs.Code.{code_of, long, longest_told, HasCode};
 
 use block_tree::{Item, Node, Octets};
-use worksheet::Op;
+use worksheet::{Answer, Field, Op, Session};
 
 // The greatest length that `code_len` tells, in bytes.
 const LONGEST_TOLD: u64 = 4_294_967_295;
@@ -92,4 +94,40 @@ pub fn code_len(op: &Op) -> u64
         } => with_node(7 + prompt.as_slice().len() as u64, output.node()),
         Op::Lost { id: _, reason: _ } => 6,
     }
+}
+
+/// The length of the payload of the op that makes a session, in bytes.
+#[tactic(auto, using(crate::proofs::Sizes::size_rules))]
+pub(crate) fn session_len(session: &Session) -> u64
+    requires { HasCode (session_op session.now) }
+    ensures { result ≡ min (length (code_of (session_op session.now))) longest_told }
+{
+    with_words(
+        session.name.as_slice().len() as u64 + 4,
+        session.words.as_slice(),
+    )
+}
+
+/// The length of the payload of the op that makes a field, in bytes.
+#[tactic(auto, using(crate::proofs::Sizes::size_rules))]
+pub(crate) fn new_len(after: u32, field: &Field) -> u64
+    requires { HasCode (op.New after field.now.session field.now.input) }
+    ensures { result
+        ≡ min (length (code_of (op.New after field.now.session field.now.input))) longest_told }
+{
+    8 + field.session.as_slice().len() as u64 + field.input.as_bytes().len() as u64
+}
+
+/// The length of the payload of the op that gives a field this answer, in bytes, or 4,294,967,295
+/// where it is longer.
+#[tactic(auto, using(crate::proofs::Sizes::size_rules))]
+pub(crate) fn answer_len(id: u32, answer: &Answer) -> u64
+    requires { HasCode (op.Answer id answer.now.prompt answer.now.output) }
+    ensures { result
+        ≡ min (length (code_of (op.Answer id answer.now.prompt answer.now.output))) longest_told }
+{
+    with_node(
+        7 + answer.prompt.as_slice().len() as u64,
+        answer.output.node(),
+    )
 }

@@ -13,6 +13,7 @@ ghost use Rattle.recovery.specs.Sheets.{codes_of, IsSheetImage, IsEither, KeepsO
 
 use crate::base::Base;
 use crate::fault::{CheckpointFault, CommitFault, PrepareFault};
+use crate::measuring::has_room_anew;
 use crate::opening::take_all;
 use crate::rewriting::frames_of;
 use crate::size::code_len;
@@ -53,7 +54,7 @@ impl<D: Disk> Model for Store<D> {
 impl<D: Disk> Store<D> {
     ghost use Rattle.recovery.specs.Opened.{disk_left, GivesSheet};
     ghost use Rattle.recovery.specs.Committed.{Commits, DoesNotFit, LeftBy};
-    ghost use Rattle.recovery.specs.Checkpointed.{CheckpointAnswers};
+    ghost use Rattle.recovery.specs.Checkpointed.{CheckpointAnswers, HasRoomAnew};
 
     /// Opens a disk that a crash may have left, and gives the worksheet that it stands for. It writes
     /// nothing. A disk that stands for none is refused with its first damage: that of the gates
@@ -276,6 +277,9 @@ impl<D: Disk> Store<D> {
         if base.is_closed() {
             return Err(CheckpointFault::Closed);
         }
+        if !has_room_anew(base.room(), &self.sheet) {
+            return Err(CheckpointFault::Full);
+        }
         let frames = match frames_of(self.alloc, &self.sheet) {
             Ok(frames) => frames,
             Err(fault) => return Err(fault),
@@ -286,6 +290,7 @@ impl<D: Disk> Store<D> {
     /// Writes these records, which make the worksheet anew, in place of the journal's own.
     fn renew(&mut self, frames: &[Frame]) -> Result<(), CheckpointFault>
         requires open { self.old.closed ≡ false }
+        requires room { HasRoomAnew self.old.disk.room self.old.sheet.contents }
         requires frames { frames.now ≡ codes_of (rewrite_of self.old.sheet.contents) }
         requires typed { AllByRecursion IsTyped (rewrite_of self.old.sheet.contents) }
 

@@ -114,6 +114,7 @@ accepted w (command.Complete id cursor) h = Adds.nothing (item_ops (session_of_f
 accepted w (command.Stop name) h =
     if_stopped (λ p. Adds w (with_op_if p (without_life name w))) w reason.Stopped (life_of w name) (Adds.nothing refl)
     (λ l id e f. Adds.a_reason id reason.Stopped (shows_none w l id h (its_own w name l e) (first_counts id (waiting_in l) f)) refl)
+accepted w command.Checkpoint h = Adds.nothing refl
 
 commanded_adds : (w : World) (c : Command) (r : Option Refusal) (o : Outcome) (v : World) → Waits w → Commanded w c r o v → Adds w v
 commanded_adds w c (Some r) o v h g = Adds.nothing (ap (λ (u : World). u.ops) g.1)

@@ -172,6 +172,7 @@ accepted_same n w x (command.Remove id) a e = with_one n w x (event.Command (com
 accepted_same n w x (command.Move id place) a e = with_one n w x (event.Command (command.Move id place)) (replies reply.Done) (replies reply.Done) (op.Move id place) a refl refl
 accepted_same n w x (command.Clear id) a e = with_one n w x (event.Command (command.Clear id)) (replies reply.Done) (replies reply.Done) (op.Clear id) a refl refl
 accepted_same n w x (command.Stop m) a e = stopped n m w x a
+accepted_same n w x command.Checkpoint a e = record { alike = record { ops = a.ops; lives = a.lives }; about = refl; says = λ t. refl; adds = nothing_added w x w.ops x.ops refl refl }
 accepted_same n w x (command.Eval id) a e =
     let s : session_of_field w id ≡ session_of_field x id = session_of_alike w x id a.ops in
     let t : line_of_field w id ≡ line_of_field x id = ap (λ (text : List ℕ). item.Line id text) (input_of_alike w x id a.ops) in
@@ -250,4 +251,5 @@ begins_alike n w x (event.Command (command.Remove id)) a is js h = (refl, h)
 begins_alike n w x (event.Command (command.Move id place)) a is js h = (refl, h)
 begins_alike n w x (event.Command (command.Clear id)) a is js h = (refl, h)
 begins_alike n w x (event.Command (command.Stop name)) a is js h = (refl, h)
+begins_alike n w x (event.Command command.Checkpoint) a is js h = (refl, h)
 begins_alike n w x (event.Child name number c) a is js h = (refl, h)

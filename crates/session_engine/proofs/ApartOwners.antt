@@ -135,6 +135,7 @@ accepted_owned w (command.Eval id) h none =
 accepted_owned w (command.Complete id cursor) h none = owned_item w (session_of_field w id) (request_of_field w id cursor) (life_of w (session_of_field w id)) refl tt h
 accepted_owned w (command.Stop m) h none =
     if_stopped (λ p. Owned (with_op_if p (without_life m w))) w reason.Stopped (life_of w m) (owned_without w m h) (λ l id e f. owned_op (without_life m w) (op.Lost id reason.Stopped) tt (owned_without w m h))
+accepted_owned w command.Checkpoint h none = record { below = h.below; lives = h.lives }
 
 -- What an event adds to the ops, and whether it is an answer of another session.
 pub record Grown (w v : World) : Type 0 where
@@ -163,6 +164,7 @@ accepted_ops w (command.Eval id) = (op.Clear id ∷ [], ap (λ (os : List Op). o
 accepted_ops w (command.Complete id cursor) = ([], item_ops (session_of_field w id) (request_of_field w id cursor) (life_of w (session_of_field w id)) w ∙ sym (append-nil w.ops))
 accepted_ops w (command.Stop m) =
     if_stopped (λ p. (more : List Op) × ((with_op_if p (without_life m w)).ops ≡ w.ops ++ more)) w reason.Stopped (life_of w m) ([], sym (append-nil w.ops)) (λ l id e f. (op.Lost id reason.Stopped ∷ [], refl))
+accepted_ops w command.Checkpoint = ([], sym (append-nil w.ops))
 
 pub command_grows : (w : World) (c : Command) (o : Outcome) (v : World) → Owned w → GivesByParts w (event.Command c) o v → Grown w v
 command_grows w c o v h g = go (first_of (command_refusals w c)) refl g

@@ -102,6 +102,7 @@ accepted_silent n w (command.Clear id) h = (refl, refl)
 accepted_silent n w (command.Eval id) h = ask_silent n (session_of_field w id) w (line_of_field w id) (life_of w (session_of_field w id)) h
 accepted_silent n w (command.Complete id cursor) h = ask_silent n (session_of_field w id) w (request_of_field w id cursor) (life_of w (session_of_field w id)) h
 accepted_silent n w (command.Stop m) h = stop_silent n m w (life_of w m) (λ l e. first_has m w.lives l e) h
+accepted_silent n w command.Checkpoint h = (refl, refl)
 
 command_silent : (n : List ℕ) (w : World) (c : Command) (o : Outcome) (v : World) → concerns n w (event.Command c) ≡ false → GivesByParts w (event.Command c) o v → Silent n o
 command_silent n w c o v h g = go (first_of (command_refusals w c)) g

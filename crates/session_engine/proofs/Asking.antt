@@ -1,6 +1,6 @@
 -- Lemmas on an Eval.
 use Rattle.std.proofs.Common.{◌≡◌, inl, inr, ⊎_elim, ◌+◌, ℕ, List, [], ◌∷◌, ◌++◌, length, refl, ap, sym, ◌∙◌, subst, arith, Bool, true, false, Option, Some, None}
-use Rattle.std.specs.Prelude.{nat_le, nat_eq, is_some, ◌&&◌, not, if◌then◌else◌}
+use Rattle.std.specs.Prelude.{nat_le, nat_eq, is_some, ◌&&◌, ◌||◌, not, if◌then◌else◌}
 use Rattle.std.proofs.lemmas.Bool.Decides.{nat_tests}
 use Rattle.worksheet.specs.declared.op.Op.{Op}
 use Rattle.worksheet.specs.declared.op.Op.TheVariants as op
@@ -238,6 +238,15 @@ pub asked_op : (w : World) (i : Item) (o : Option Op) (name : List ℕ) (l : Opt
 asked_op w i o name None = refl
 asked_op w i o name (Some l) = refl
 
+pub asked_on_disk : (w : World) (i : Item) (o : Option Op) (name : List ℕ) (l : Option Going) (old new : DiskView) → OnDisk w.ops false o old new
+    → OnDisk w.ops (asks_item w i o name l).anew (asks_item w i o name l).op old new
+asked_on_disk w i o name None old new disk = disk
+asked_on_disk w i o name (Some l) old new disk = disk
+
+asked_writes : (w : World) (i : Item) (o : Op) (name : List ℕ) (l : Option Going) → ((asks_item w i (Some o) name l).anew || is_some (asks_item w i (Some o) name l).op) ≡ true
+asked_writes w i o name None = refl
+asked_writes w i o name (Some l) = refl
+
 module _ (w : World) (id : ℕ) (f : Field) (e : field_in (sheet_in w).fields id ≡ Some f) (free : in_flight w id ≡ false) where
   pub eval_refused : (r : Refusal) → RefusesEval w id r → MayDo w (event.Command (command.Eval id)) (tells w (reply.Refused r))
   eval_refused r why = ⊎_elim
@@ -261,18 +270,23 @@ module _ (w : World) (id : ℕ) (f : Field) (e : field_in (sheet_in w).fields id
       ap (λ (n : List ℕ). with_op (op.Clear id) (with_item w n line (life_of w n))) s ∙ ap (λ (i : Item). with_op (op.Clear id) (with_item w (session_of_field w id) i (life_of w (session_of_field w id)))) l
       ∙ sym (asked_leads w (line_of_field w id) (Some (op.Clear id)) (session_of_field w id) (life_of w (session_of_field w id)))
 
-  pub eval_gives : (does w (command.Eval id)).op ≡ Some (op.Clear id)
-  eval_gives = asked_op w (line_of_field w id) (Some (op.Clear id)) (session_of_field w id) (life_of w (session_of_field w id))
+  pub eval_on_disk : (old new : DiskView) → OnDisk w.ops false (Some (op.Clear id)) old new → OnDisk w.ops (does w (command.Eval id)).anew (does w (command.Eval id)).op old new
+  eval_on_disk old new disk = asked_on_disk w (line_of_field w id) (Some (op.Clear id)) (session_of_field w id) (life_of w (session_of_field w id)) old new disk
 
   -- the disk's fault at an Eval, behind a preparation that changed nothing
   pub eval_fails : (old mid new : HostView) (r : Result Outcome HostFault) → EngineStandsFor old.store old.lives old.begun w → first_of (eval_refusals w id) ≡ None → SameStore old.store mid.store → mid.lives ≡ old.lives
       → OnErr r (new.store.sheet.contents ≡ mid.store.sheet.contents) → ((other : List ℕ) → OnErr r (number_in new.lives other ≡ number_in mid.lives other))
-      → IfErr r (λ fault. (fault ≡ faults.Disk) × Rises mid.store.disk.faults new.store.disk.faults) → OnDisk w.ops (Some (op.Clear id)) old.store.disk new.store.disk
+      → IfErr r (λ fault. (fault ≡ faults.Disk) × Rises mid.store.disk.faults new.store.disk.faults) → OnDisk w.ops false (Some (op.Clear id)) old.store.disk new.store.disk
       → IfErr r (Failed w (event.Command (command.Eval id)) old new)
   eval_fails old mid new (Ok x) h none same lives contents numbers fault disk = tt
   eval_fails old mid new (Err y) h none same lives contents numbers fault disk = record {
     contents = contents ∙ same.contents ∙ h.contents;
     numbers = λ other. numbers other ∙ ap (λ (l : List Running). number_in l other) lives ∙ numbers_are old.lives w.lives h.lives_are other;
-    cause = subst (λ (x : HostFault). CauseOf w (event.Command (command.Eval id)) old.store.disk new.store.disk x) (sym fault.0)
-        (subst (λ (d : DiskView). Rises d.faults new.store.disk.faults) same.disk fault.1, (op.Clear id, record { does = does w (command.Eval id); may = eval_done none; gives = eval_gives }, disk));
+    cause = subst (λ (x : HostFault). CauseOf w (event.Command (command.Eval id)) old.store.disk new.store.disk x) (sym fault.0) (
+      subst (λ (d : DiskView). Rises d.faults new.store.disk.faults) same.disk fault.1,
+      (
+        record { does = does w (command.Eval id); may = eval_done none; writes = asked_writes w (line_of_field w id) (op.Clear id) (session_of_field w id) (life_of w (session_of_field w id)) },
+        eval_on_disk old.store.disk new.store.disk disk,
+      ),
+    );
   }

@@ -49,6 +49,7 @@ same_outcome w (command.Clear id) = refl
 same_outcome w (command.Eval id) = asked_told w (line_of_field w id) (Some (op.Clear id)) (session_of_field w id) (life_of w (session_of_field w id))
 same_outcome w (command.Complete id cursor) = asked_told w (request_of_field w id cursor) None (session_of_field w id) (life_of w (session_of_field w id))
 same_outcome w (command.Stop name) = stopped_told w (life_of w name)
+same_outcome w command.Checkpoint = refl
 
 same_after : (w : World) (c : Command) → behind w (does w c) ≡ after w c
 same_after w (command.Session name tab words) = refl
@@ -60,6 +61,7 @@ same_after w (command.Clear id) = refl
 same_after w (command.Eval id) = asked_leads w (line_of_field w id) (Some (op.Clear id)) (session_of_field w id) (life_of w (session_of_field w id))
 same_after w (command.Complete id cursor) = asked_leads w (request_of_field w id cursor) None (session_of_field w id) (life_of w (session_of_field w id))
 same_after w (command.Stop name) = stopped_leads w name (life_of w name) refl
+same_after w command.Checkpoint = refl
 
 stepped : (w : World) (l : Going) (piece : List ℕ) (blocks : List Outer) (s : Step) → behind w (steps w l piece blocks s) ≡ with_op_if (op_by w.room w.end s.answered s.ended) (goes_on (with_piece l piece blocks) s.ended w)
 stepped w l piece blocks s = go s.ended refl

@@ -47,6 +47,7 @@ as_op w (command.Clear id) o e = let is : op.Clear id ≡ o = cc in subst (λ (o
 as_op w (command.Eval id) o e = cc
 as_op w (command.Complete id cursor) o e = cc
 as_op w (command.Stop name) o e = cc
+as_op w command.Checkpoint o e = cc
 
 pub first_behind : (rs qs : List (Refusal × Bool)) → first_of rs ≡ None → first_of (rs ++ qs) ≡ first_of qs
 first_behind [] qs h = refl
@@ -158,11 +159,11 @@ module _ (w : World) (c : Command) (o : Op) (is : op_of c ≡ Some o) where
   -- the disk's fault at a command that only changes the worksheet
   pub change_fails : (old new : HostView) (r : Result Outcome HostFault) → EngineStandsFor old.store old.lives old.begun w → first_of (checks w o) ≡ None → new.lives ≡ old.lives
       → IfErr r (λ fault. (fault ≡ faults.Disk) × (new.store.sheet.contents ≡ old.store.sheet.contents) × Rises old.store.disk.faults new.store.disk.faults)
-      → OnErr r (fits w o ≡ true) → OnDisk w.ops (Some o) old.store.disk new.store.disk → IfErr r (Failed w (event.Command c) old new)
+      → OnErr r (fits w o ≡ true) → OnDisk w.ops false (Some o) old.store.disk new.store.disk → IfErr r (Failed w (event.Command c) old new)
   change_fails old new (Ok x) h none lives fault fit disk = tt
   change_fails old new (Err y) h none lives fault fit disk = record {
     contents = fault.1 ∙ h.contents;
     numbers = λ name. ap (λ (l : List Running). number_in l name) lives ∙ numbers_are old.lives w.lives h.lives_are name;
     cause = subst (λ (x : HostFault). CauseOf w (event.Command c) old.store.disk new.store.disk x) (sym fault.0)
-        (fault.2, (o, record { does = changes w o; may = gives_done none fit; gives = refl }, disk));
+        (fault.2, (record { does = changes w o; may = gives_done none fit; writes = refl }, disk));
   }

@@ -3,6 +3,7 @@ use Rattle.std.proofs.Common.{◌≡◌, ◌≤◌, ◌<◌, inl, inr, ⊎_elim,
 use Rattle.std.specs.Prelude.{nat_le, nat_lt, is_some, ◌&&◌, not, drop, slice_index}
 use Rattle.std.proofs.lemmas.Bool.Decides.{nat_tests}
 use Rattle.std.specs.Str.{IsCharBoundary}
+use Rattle.disk_model.specs.Disk.{DiskView}
 use Rattle.worksheet.specs.declared.refusal.Refusal.{Refusal}
 use Rattle.worksheet.specs.declared.refusal.Refusal.TheVariants as refusal
 use Rattle.worksheet.specs.declared.field.Field.{Field}
@@ -16,9 +17,10 @@ use Rattle.session_engine.specs.declared.reply.Reply.TheVariants as reply
 use Rattle.session_engine.specs.World.{World, by_field, sheet_in, life_of, session_of_field, input_of, request_of_field}
 use Rattle.session_engine.specs.Refused.{command_refusals, takes_tab, begins_inside, is_cursor, lives_are_spent}
 use Rattle.session_engine.specs.Does.{does, tells, behind, CommandDoes, MayDo}
+use Rattle.session_engine.specs.Host.{OnDisk}
 use Rattle.session_engine.specs.inside.Parts.{queue_refusals, asks, with_item}
 use Rattle.session_engine.specs.inside.Commits.{GivesRequest, RefusesComplete}
-use Rattle.session_engine.proofs.Asking.{asked_told, asked_leads, asked_op, session_is}
+use Rattle.session_engine.proofs.Asking.{asked_told, asked_leads, asked_on_disk, session_is}
 
 -- Cursors.
 
@@ -135,5 +137,5 @@ module _ (w : World) (id cursor : ℕ) where
       ∙ ap (λ (j : Item). with_item w (session_of_field w id) j (life_of w (session_of_field w id))) g.request
       ∙ sym (asked_leads w (request_of_field w id cursor) None (session_of_field w id) (life_of w (session_of_field w id)))
 
-  pub complete_op : (does w (command.Complete id cursor)).op ≡ None
-  complete_op = asked_op w (request_of_field w id cursor) None (session_of_field w id) (life_of w (session_of_field w id))
+  pub complete_on_disk : (old new : DiskView) → new ≡ old → OnDisk w.ops (does w (command.Complete id cursor)).anew (does w (command.Complete id cursor)).op old new
+  complete_on_disk old new same = asked_on_disk w (request_of_field w id cursor) None (session_of_field w id) (life_of w (session_of_field w id)) old new same

@@ -82,7 +82,7 @@ next_life : (does refused_start (command.Eval 1)).told ≡ record { reply = repl
 next_life = refl
 
 -- an event of a life that doesn't go on does nothing
-stale : MayDo refused_start (event.Child a 1 child.End) (record { told = replies reply.Nothing; op = None; begun = 1; lives = [] })
+stale : MayDo refused_start (event.Child a 1 child.End) (record { told = replies reply.Nothing; op = None; anew = false; begun = 1; lives = [] })
 stale = refl
 
 -- where the record of the Clear ends behind the room, an evaluation is refused
@@ -141,3 +141,28 @@ still_free = refl
 -- it keeps the field's input
 keeps_its_text : waiting_in (begun_with with_tab a (request_of_field with_tab 1 2)) ≡ item.Complete 1 (195 ∷ 169 ∷ []) 2 ∷ []
 keeps_its_text = refl
+
+-- A checkpoint: of the session, a field that was removed and one behind it there are left the session, the number of the field and
+-- the field.
+
+abbrev ops_with_removed : List Op
+ops_with_removed = op.Session a false (p ∷ []) ∷ op.New 0 a (120 ∷ []) ∷ op.Remove 1 ∷ op.New 0 a (121 ∷ []) ∷ []
+
+abbrev with_removed : ℕ → World
+with_removed room = world_at_opening ops_with_removed room 63
+
+is_done : (does (with_removed 64) command.Checkpoint).told ≡ replies reply.Done
+is_done = refl
+
+the_ops_stay : (behind (with_removed 64) (does (with_removed 64) command.Checkpoint)).ops ≡ ops_with_removed
+the_ops_stay = refl
+
+the_end_moves : (behind (with_removed 64) (does (with_removed 64) command.Checkpoint)).end ≡ 48
+the_end_moves = refl
+
+-- the gate behind the records needs room too
+no_room_anew : first_of (command_refusals (with_removed 48) command.Checkpoint) ≡ Some refusal.JournalFull
+no_room_anew = refl
+
+room_anew : first_of (command_refusals (with_removed 49) command.Checkpoint) ≡ None
+room_anew = refl

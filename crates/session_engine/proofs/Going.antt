@@ -10,7 +10,7 @@ use Rattle.worksheet.specs.declared.field.Answer.{Answer}
 use Rattle.worksheet.specs.Contents.{Contents}
 use Rattle.worksheet.specs.Ops.{sheet_of}
 use Rattle.worksheet.specs.Checks.{Allowed, field_in}
-use Rattle.recovery.specs.Sheets.{IsEither, IsSheetImage}
+use Rattle.recovery.specs.Sheets.{IsSheetImage}
 use Rattle.recovery.specs.Laws.{OneSheet}
 use Rattle.session_engine.specs.declared.command.Command.TheVariants as command
 use Rattle.session_engine.specs.declared.event.Event.{Event}
@@ -24,7 +24,7 @@ use Rattle.session_engine.specs.Host.{EndsAt, HostView}
 use Rattle.session_engine.specs.Crash.{HasPlayed, LeftAmong, StoppedAt}
 use Rattle.session_engine.specs.Turns.{Has, Stays, Answered, HostTurn, Turned, EachTurned, WentOn, StaysThrough, AnsweredByOne, LivesInTurn, EvaluatedAnew, LeftByTurn, PlaysAreTurns}
 use Rattle.session_engine.proofs.FieldLaws.{cleared}
-use Rattle.session_engine.proofs.Playing.{run_on, behind_ops}
+use Rattle.session_engine.proofs.Playing.{EitherSheet, either_sheet, run_on}
 use Rattle.session_engine.proofs.Living.{Sound}
 use Rattle.session_engine.proofs.Showing.{stepped}
 use Rattle.session_engine.proofs.Same.{by_ops, runs}
@@ -178,23 +178,23 @@ module _ (room end : ℕ) (before : Image) (found : List Op) (allowed : Allowed 
   without_it rest host p = turn_of p.done rest p.split (said ++ told) [] p.leads
       (subst (λ (os : List Outcome). Runs first (earlier ++ p.done) os p.leads) (sym (append-nil (said ++ told))) (runs_on first earlier said w p.done told p.leads so_far p.runs))
 
-  -- one that leaves that with the op of the event behind them
-  with_it : (e : Event) (rest : List Event) (host : HostView) (p : HasPlayed w events (e ∷ rest) told host) (d : Does) (q : Op) (i : Image) → MayDo p.leads e d → d.op ≡ Some q
-      → IsSheetImage (sheet_of (p.leads.ops ++ q ∷ [])) i → IsTurn (said ++ told) i
-  with_it e rest host p d q i may gives image =
+  -- one that leaves that behind the event behind them
+  with_it : (e : Event) (rest : List Event) (host : HostView) (p : HasPlayed w events (e ∷ rest) told host) (d : Does) (i : Image) → MayDo p.leads e d
+      → IsSheetImage (sheet_in (behind p.leads d)) i → IsTurn (said ++ told) i
+  with_it e rest host p d i may image =
       let more = run_on w p.done told p.leads e d d.told p.runs may refl in
       turn_of (p.done ++ e ∷ []) rest (p.split ∙ sym (append_assoc p.done (e ∷ []) rest)) (said ++ told) (d.told ∷ []) (behind p.leads d)
       (subst (λ (os : List Outcome). Runs first (earlier ++ (p.done ++ e ∷ [])) os (behind p.leads d)) (sym (append_assoc said told (d.told ∷ [])))
       (runs_on first earlier said w (p.done ++ e ∷ []) (told ++ d.told ∷ []) (behind p.leads d) so_far more))
-      i (subst (λ (ops : List Op). IsSheetImage (sheet_of ops) i) (sym (behind_ops p.leads d q gives)) image)
+      i image
 
   stopped : (old new : HostView) (fault : HostFault) → StoppedAt w events old new told fault → InModel old.store.disk (Leaves (IsTurn (said ++ told)) new.store.disk.history.now)
   stopped old new faults.Closed s = absurd s.failed.cause
   stopped old new faults.Disk s = λ model i image.
-      let q = s.failed.cause.1.0 in
-      let give = s.failed.cause.1.1 in
-      ⊎_elim (without_it (s.at ∷ s.dropped) s.before s.played i) (with_it s.at s.dropped s.before s.played give.does q i give.may give.gives)
-      (at_end (IsEither s.played.leads.ops q) s.before.store.disk.history new.store.disk.history (s.failed.cause.1.2 (subst IsTrue (sym s.same.keeps_model) model)) i image)
+      let write = s.failed.cause.1.0 in
+      ⊎_elim (without_it (s.at ∷ s.dropped) s.before s.played i) (with_it s.at s.dropped s.before s.played write.does i write.may)
+      (at_end (EitherSheet s.played.leads write.does) s.before.store.disk.history new.store.disk.history
+      (either_sheet s.played.leads write.does s.before.store.disk new.store.disk s.played.stands.stands.images s.failed.cause.1.1 (subst IsTrue (sym s.same.keeps_model) model)) i image)
   stopped old new faults.OutOfMemory s = λ model i image. without_it (s.at ∷ s.dropped) s.before s.played i
       (s.played.stands.stands.images (subst IsTrue (sym s.same.keeps_model) model) i (subst (λ (d : DiskView). IsImage d.history.now i) s.failed.cause.0 image))
   stopped old new faults.JournalFull s = λ model i image. without_it (s.at ∷ s.dropped) s.before s.played i

@@ -39,7 +39,7 @@ use Rattle.session_engine.specs.declared.event.ChildEvent.TheVariants as child
 use Rattle.session_engine.specs.declared.event.Event.{Event}
 use Rattle.session_engine.specs.declared.event.Event.TheVariants as event
 use Rattle.session_engine.specs.declared.outcome.Outcome.{Outcome}
-use Rattle.session_engine.specs.World.{World, Going, world_at_opening, kept_at_end, life_of, line_of_field, request_of_field, session_of_field, waiting_in, waits_in, with_number, with_op, with_op_if}
+use Rattle.session_engine.specs.World.{World, Going, world_at_opening, kept_at_end, life_of, line_of_field, request_of_field, session_of_field, waiting_in, waits_in, renewed, with_number, with_op, with_op_if}
 use Rattle.session_engine.specs.Refused.{command_refusals}
 use Rattle.session_engine.specs.Does.{Gives, Runs, begun_with, joined_by, op_by, with_piece}
 use Rattle.session_engine.specs.inside.Parts.{goes_on, with_item, without_life}
@@ -288,6 +288,7 @@ module _ (id : ℕ) where
       λ l other e f. lost_one w (without_life name w) other reason.Stopped refl
       (let t = total-out (lines_of id) name l w.lives e in let one = first_one id (waiting_in l) other f in omega (arith, t, one)) h
       )
+  accepted_so w command.Checkpoint s first h = fewer w (renewed w) (omega arith) (λ none. none) h
 
   commanded_so : (w : World) (c : Command) (o : Outcome) (v : World) (r : Option Refusal) → first_of (command_refusals w c) ≡ r → Sound w → Commanded w c r o v → IsQuiet id w → IsQuiet id v
   commanded_so w c o v (Some r) first s done h = same w v done.1 h

@@ -4,6 +4,7 @@ pub mod Standing
 pub mod PieceLaws
 pub mod Changing
 pub mod Stopping
+pub mod Renewals
 pub mod Asking
 pub mod Completing
 pub mod Playing

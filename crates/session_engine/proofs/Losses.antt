@@ -1,32 +1,27 @@
 -- What becomes of a host at the end of a life.
 use Rattle.std.proofs.Common.{◌≡◌, ℕ, List, refl, ap, sym, ◌∙◌, subst, Bool, true, false, Option, Some, None, Result, Ok, Err}
-use Rattle.std.specs.Prelude.{OnOk, IfErr}
+use Rattle.std.specs.Prelude.{OnOk, IfErr, is_some, ◌||◌}
 use Rattle.std.specs.List.{AllByRecursion}
 use Rattle.block_tree.specs.declared.reason.Reason.{Reason}
-use Rattle.disk_model.specs.Disk.{InModel, LeavesOnly, SameDisk}
+use Rattle.disk_model.specs.Disk.{DiskView, InModel, LeavesOnly, SameDisk}
 use Rattle.worksheet.specs.declared.op.Op.{Op}
 use Rattle.worksheet.specs.declared.op.Op.TheVariants as op
 use Rattle.worksheet.specs.Contents.{Contents}
 use Rattle.recovery.specs.Sheets.{StoreView}
 use Rattle.session_engine.specs.declared.commits.LoseFault.{LoseFault}
 use Rattle.session_engine.specs.declared.commits.LoseFault.TheVariants as loses
-use Rattle.session_engine.specs.declared.event.ChildEvent.{ChildEvent}
-use Rattle.session_engine.specs.declared.event.Event.TheVariants as event
 use Rattle.session_engine.specs.declared.reply.Reply.{Reply}
-use Rattle.session_engine.specs.declared.reply.Reply.TheVariants as reply
 use Rattle.session_engine.specs.declared.table.Running.{Running}
 use Rattle.session_engine.specs.Named.{without_named}
 use Rattle.session_engine.specs.World.{World, Going, kept_at_end, life_of, sheet_in, waiting_in, with_number, with_op, with_op_if}
 use Rattle.session_engine.specs.Does.{ends_life}
-use Rattle.session_engine.specs.Faults.{MayGive}
 use Rattle.session_engine.specs.Host.{EngineStandsFor, HaveFields, Lives, OnDisk, life_in, name_of}
 use Rattle.session_engine.specs.inside.Commits.{CauseOfLoss, CommittedIf, HasFieldIf, IsEitherIf, NotLost, kept_for}
-use Rattle.session_engine.specs.inside.Parts.{end_by, without_life}
+use Rattle.session_engine.specs.inside.Parts.{without_life}
 use Rattle.session_engine.specs.inside.Tables.{has_number, line_in}
 use Rattle.session_engine.proofs.Fields.{spared_lost}
 use Rattle.session_engine.proofs.Losing.{first_has, if_lost, line_allowed}
 use Rattle.session_engine.proofs.Standing.{all_at, committed, gone, the_life, unchanged}
-use Rattle.session_engine.proofs.Stopping.{gives_end}
 use Rattle.session_engine.proofs.Tables.{Found, found}
 
 pub on_ok : {T E : Type 0} (r : Result T E) (P Q : Type 0) → (P → Q) → OnOk r P → OnOk r Q
@@ -71,10 +66,10 @@ module _ (store new : StoreView) (rs : List Running) (begun : ℕ) (w : World) (
           (λ done. unchanged store new rs begun w h done)
           (λ id is done. committed store new rs begun w (op.Lost id why) h done disk (line_allowed (sheet_in w) line id why has is) (spared_lost id why w.lives))
 
-  pub lost_disk : CommittedIf store w.ops kept new → InModel store.disk (LeavesOnly (IsEitherIf w.ops kept) store.disk.history new.disk.history) → OnDisk w.ops (kept_at_end w why (life_of w name)) store.disk new.disk
-  lost_disk done moments = subst (λ (p : Option Op). OnDisk w.ops p store.disk new.disk) (kept_is store rs begun w name why line h e) (go kept done moments)
+  pub lost_disk : CommittedIf store w.ops kept new → InModel store.disk (LeavesOnly (IsEitherIf w.ops kept) store.disk.history new.disk.history) → OnDisk w.ops false (kept_at_end w why (life_of w name)) store.disk new.disk
+  lost_disk done moments = subst (λ (p : Option Op). OnDisk w.ops false p store.disk new.disk) (kept_is store rs begun w name why line h e) (go kept done moments)
     where
-      go : (p : Option Op) → CommittedIf store w.ops p new → InModel store.disk (LeavesOnly (IsEitherIf w.ops p) store.disk.history new.disk.history) → OnDisk w.ops p store.disk new.disk
+      go : (p : Option Op) → CommittedIf store w.ops p new → InModel store.disk (LeavesOnly (IsEitherIf w.ops p) store.disk.history new.disk.history) → OnDisk w.ops false p store.disk new.disk
       go None done moments = done.disk
       go (Some o) done moments = moments
 
@@ -119,13 +114,17 @@ op_at_end : (w : World) (why : Reason) (killed : Bool) (l : Option Going) (r : R
 op_at_end w why killed None r = refl
 op_at_end w why killed (Some l) r = refl
 
-pub gives_at_end : (w : World) (name : List ℕ) (number : ℕ) (e : ChildEvent) (why : Reason) (killed : Bool) (o : Op) → end_by e ≡ Some (why, killed) → kept_at_end w why (with_number number (life_of w name)) ≡ Some o
-    → MayGive w (event.Child name number e) o
-gives_at_end w name number e why killed o by is = record {
-  does = ends_life w why killed (with_number number (life_of w name)) reply.Nothing;
-  may = gives_end w (with_number number (life_of w name)) e why killed by;
-  gives = op_at_end w why killed (with_number number (life_of w name)) reply.Nothing ∙ is;
-}
+anew_at_end : (w : World) (why : Reason) (killed : Bool) (l : Option Going) (r : Reply) → (ends_life w why killed l r).anew ≡ false
+anew_at_end w why killed None r = refl
+anew_at_end w why killed (Some l) r = refl
 
-pub stop_op : (w : World) (why : Reason) (killed : Bool) (l : Option Going) (r : Reply) (o : Op) → kept_at_end w why l ≡ Some o → (ends_life w why killed l r).op ≡ Some o
-stop_op w why killed l r o is = op_at_end w why killed l r ∙ is
+-- an end that keeps a reason writes
+pub end_writes : (w : World) (why : Reason) (killed : Bool) (l : Option Going) (r : Reply) (o : Op) → kept_at_end w why l ≡ Some o
+    → ((ends_life w why killed l r).anew || is_some (ends_life w why killed l r).op) ≡ true
+end_writes w why killed l r o is = rw (anew_at_end w why killed l r, op_at_end w why killed l r ∙ is) refl
+
+pub end_on_disk : (w : World) (why : Reason) (killed : Bool) (l : Option Going) (r : Reply) (o : Op) → kept_at_end w why l ≡ Some o → (old new : DiskView) → OnDisk w.ops false (Some o) old new
+    → OnDisk w.ops (ends_life w why killed l r).anew (ends_life w why killed l r).op old new
+end_on_disk w why killed l r o is old new disk =
+    subst (λ (b : Bool). OnDisk w.ops b (ends_life w why killed l r).op old new) (sym (anew_at_end w why killed l r))
+    (subst (λ (p : Option Op). OnDisk w.ops false p old new) (sym (op_at_end w why killed l r ∙ is)) disk)

@@ -26,7 +26,7 @@ use Rattle.session_engine.specs.declared.reply.Closed.{Closed}
 use Rattle.session_engine.specs.declared.reply.Reply.{Reply}
 use Rattle.session_engine.specs.declared.reply.Reply.TheVariants as reply
 use Rattle.session_engine.specs.Named.{first_named, without_named, replace_named}
-use Rattle.session_engine.specs.World.{World, Going, world_at_opening, life_of, line_of_field, session_of_field, with_number, with_op_if, request_of_field}
+use Rattle.session_engine.specs.World.{World, Going, world_at_opening, life_of, line_of_field, session_of_field, with_number, with_op_if, renewed_if, request_of_field}
 use Rattle.session_engine.specs.Refused.{command_refusals}
 use Rattle.session_engine.specs.Does.{Does, MayDo, ChildDoes, CommandDoes, Gives, Runs, behind, begun_with, closed_told, does, ends_life, asks_item, joined_by, sends_or_kills, steps, tells, told_of, told_with, with_piece}
 use Rattle.session_engine.specs.Apart.{named}
@@ -106,6 +106,7 @@ module _ (w : World) where
   does_so (command.Eval id) = asks_so (line_of_field w id) (Some (op.Clear id)) (session_of_field w id) (life_of w (session_of_field w id)) refl
   does_so (command.Complete id cursor) = asks_so (request_of_field w id cursor) None (session_of_field w id) (life_of w (session_of_field w id)) refl
   does_so (command.Stop name) = ends_so reason.Stopped true (life_of w name) reply.Done (λ l h. its_own w name l h)
+  does_so command.Checkpoint = Becomes.all_stay refl refl refl
 
   command_so : (c : Command) (r : Option Refusal) (d : Does) → CommandDoes w c r d → Becomes w d
   command_so c (Some r) d is = by_row d (tells w (reply.Refused r)) is (tells_so (reply.Refused r))
@@ -129,11 +130,16 @@ module _ (w : World) where
 
 -- the lives and the count of a world behind an event are those of the row
 behind_lives : (w : World) (d : Does) → ((behind w d).lives ≡ d.lives) × ((behind w d).begun ≡ d.begun)
-behind_lives w d = go d.op
+behind_lives w d = go d.anew d.op
   where
-    go : (o : Option Op) → ((with_op_if o (record w { begun = d.begun; lives = d.lives })).lives ≡ d.lives) × ((with_op_if o (record w { begun = d.begun; lives = d.lives })).begun ≡ d.begun)
-    go None = (refl, refl)
-    go (Some o) = (refl, refl)
+    left : Bool → Option Op → World
+    left b o = renewed_if b (with_op_if o (record w { begun = d.begun; lives = d.lives }))
+
+    go : (b : Bool) (o : Option Op) → ((left b o).lives ≡ d.lives) × ((left b o).begun ≡ d.begun)
+    go false None = (refl, refl)
+    go false (Some o) = (refl, refl)
+    go true None = (refl, refl)
+    go true (Some o) = (refl, refl)
 
 -- What is counted of the lives.
 

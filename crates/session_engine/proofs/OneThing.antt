@@ -117,6 +117,7 @@ module _ (one : OneReading) (w : World) where
       go : (l : Option Going) → is_refusal (ends_life w reason.Stopped true l reply.Done).told.reply ≡ false
       go None = refl
       go (Some l) = refl
+  accepts command.Checkpoint = refl
 
   differs : (c : Command) (d f : Does) → d ≡ does w c → f ≡ lacks_memory w → d.told ≡ f.told → ⊥
   differs c d f a b same =

@@ -142,10 +142,10 @@ module _ (store : StoreView) (rs : List Running) (begun : ℕ) (w : World) (name
           (λ x id e first none. one (op.Lost id x.reason) (spared_lost id x.reason v.lives))
 
   -- the images of the disk while what the piece gives is kept
-  pub on_disk : (new : StoreView) → CommittedIf store w.ops given new → InModel store.disk (LeavesOnly (IsEitherIf w.ops given) store.disk.history new.disk.history) → OnDisk w.ops given store.disk new.disk
+  pub on_disk : (new : StoreView) → CommittedIf store w.ops given new → InModel store.disk (LeavesOnly (IsEitherIf w.ops given) store.disk.history new.disk.history) → OnDisk w.ops false given store.disk new.disk
   on_disk new done moments = go given done moments
     where
-      go : (a : Option Op) → CommittedIf store w.ops a new → InModel store.disk (LeavesOnly (IsEitherIf w.ops a) store.disk.history new.disk.history) → OnDisk w.ops a store.disk new.disk
+      go : (a : Option Op) → CommittedIf store w.ops a new → InModel store.disk (LeavesOnly (IsEitherIf w.ops a) store.disk.history new.disk.history) → OnDisk w.ops false a store.disk new.disk
       go None done moments = done.disk
       go (Some o) done moments = moments
 
@@ -173,7 +173,7 @@ module _ (store : StoreView) (rs : List Running) (begun : ℕ) (w : World) (name
       go None e faults.OutOfMemory n moments = absurd n
       go None e faults.JournalFull n moments = absurd n
       go (Some o) e faults.Closed n moments = absurd n
-      go (Some o) e faults.Disk n moments = (n.1, (o, record { does = did; may = may; gives = e }, moments))
+      go (Some o) e faults.Disk n moments = (n.1, (record { does = did; may = may; writes = ap (λ (p : Option Op). is_some p) e }, subst (λ (p : Option Op). OnDisk w.ops false p store.disk new.disk) (sym e) moments))
       go (Some o) e faults.OutOfMemory n moments = (n.disk, fed)
       go (Some o) e faults.JournalFull n moments =
           let no : fits w o ≡ false = fit_in store rs begun w o h ∙ n.1 in

@@ -1,7 +1,7 @@
 -- Events in order.
-use Rattle.std.proofs.Common.{◌≡◌, ⊎_elim, List, [], ◌∷◌, ◌++◌, refl, sym, ap, ◌∙◌, subst, arith, append_assoc, append-nil, Option, Some, None}
+use Rattle.std.proofs.Common.{◌≡◌, ◌⊎◌, inl, inr, ⊎_elim, Bool, true, false, List, [], ◌∷◌, ◌++◌, refl, sym, ap, ◌∙◌, subst, arith, append_assoc, append-nil, Option, Some, None}
 use Rattle.std.specs.Bool.{IsTrue}
-use Rattle.disk_model.specs.Disk.{DiskView, Image, SameDisk}
+use Rattle.disk_model.specs.Disk.{DiskView, Image, InModel, Leaves, LeavesOnly, SameDisk}
 use Rattle.disk_model.specs.inside.Moments.{started, weakens, goes_on}
 use Rattle.worksheet.specs.declared.op.Op.{Op}
 use Rattle.recovery.specs.Sheets.{IsEither, IsSheetImage}
@@ -10,7 +10,7 @@ use Rattle.session_engine.specs.declared.event.Event.{Event}
 use Rattle.session_engine.specs.declared.outcome.Outcome.{Outcome}
 use Rattle.session_engine.specs.declared.outcome.HostFault.{HostFault}
 use Rattle.session_engine.specs.declared.outcome.HostFault.TheVariants as faults
-use Rattle.session_engine.specs.World.{World, sheet_in, with_op_if}
+use Rattle.session_engine.specs.World.{World, sheet_in, renewed_if, with_op_if}
 use Rattle.session_engine.specs.Does.{Does, MayDo, Runs, behind}
 use Rattle.session_engine.specs.Host.{HostView, IsHost, OnDisk, Took}
 use Rattle.session_engine.specs.Faults.{Failed}
@@ -58,7 +58,26 @@ module _ (w : World) (events rest : List Event) (told : List Outcome) (host : Ho
   nothing_left model = started (LeftAmong w events told) host.store.disk.history (λ i image. left_here i (p.stands.stands.images model i image))
 
 pub behind_ops : (v : World) (d : Does) (o : Op) → d.op ≡ Some o → (behind v d).ops ≡ v.ops ++ o ∷ []
-behind_ops v d o is = ap (λ (x : Option Op). (with_op_if x (record v { begun = d.begun; lives = d.lives })).ops) is
+behind_ops v d o is = go d.anew ∙ ap (λ (x : Option Op). (with_op_if x (record v { begun = d.begun; lives = d.lives })).ops) is
+  where
+    go : (b : Bool) → (renewed_if b (with_op_if d.op (record v { begun = d.begun; lives = d.lives }))).ops ≡ (with_op_if d.op (record v { begun = d.begun; lives = d.lives })).ops
+    go false = refl
+    go true = refl
+
+-- an image of the worksheet before an event, or of that behind it
+abbrev pub EitherSheet : World → Does → Image → Type 0
+EitherSheet w d i = IsSheetImage (sheet_in w) i ⊎ IsSheetImage (sheet_in (behind w d)) i
+
+-- so is each image at every moment of an event
+pub either_sheet : (w : World) (d : Does) (old new : DiskView) → InModel old (Leaves (IsSheetImage (sheet_in w)) old.history.now) → OnDisk w.ops d.anew d.op old new
+    → InModel old (LeavesOnly (EitherSheet w d) old.history new.history)
+either_sheet w d old new images disk = go d.anew d.op refl disk
+  where
+    go : (b : Bool) (a : Option Op) → d.op ≡ a → OnDisk w.ops b a old new → InModel old (LeavesOnly (EitherSheet w d) old.history new.history)
+    go false None is same model = subst (λ (v : DiskView). LeavesOnly (EitherSheet w d) old.history v.history) (sym same) (started (EitherSheet w d) old.history (λ i image. inl (images model i image)))
+    go false (Some o) is moments model = weakens (IsEither w.ops o) (EitherSheet w d) old.history new.history
+        (λ i image. ⊎_elim (λ before. inl before) (λ after. inr (subst (λ (ops : List Op). IsSheetImage (sheet_of ops) i) (sym (behind_ops w d o is)) after)) image) (moments model)
+    go true a is moments model = weakens (IsSheetImage (sheet_in w)) (EitherSheet w d) old.history new.history (λ i image. inl image) (moments model)
 
 module _ (w : World) (events rest : List Event) (e : Event) (told : List Outcome) (host : HostView) (p : HasPlayed w events (e ∷ rest) told host) where
   longer : events ≡ (p.done ++ e ∷ []) ++ rest
@@ -67,9 +86,9 @@ module _ (w : World) (events rest : List Event) (e : Event) (told : List Outcome
   pub one_more : (new : HostView) (o : Outcome) → Took p.leads e host new o → HasPlayed w events rest (told ++ o ∷ []) new
   one_more new o took = record { done = p.done ++ e ∷ []; split = longer; leads = behind p.leads took.did; runs = run_on w p.done told p.leads e took.did o p.runs took.may took.told; stands = took.stands }
 
-  -- an image before the op of an event, or behind it
-  either_left : (d : Does) (q : Op) (o : Outcome) → MayDo p.leads e d → o ≡ d.told → d.op ≡ Some q → (i : Image) → IsEither p.leads.ops q i → LeftAmong w events (told ++ o ∷ []) i
-  either_left d q o may is gives i image = ⊎_elim
+  -- an image before an event, or behind it
+  either_left : (d : Does) (o : Outcome) → MayDo p.leads e d → o ≡ d.told → (i : Image) → EitherSheet p.leads d i → LeftAmong w events (told ++ o ∷ []) i
+  either_left d o may is i image = ⊎_elim
       (λ before. more_told w events told o i (left_here w events (e ∷ rest) told host p i before))
       (λ after. record {
         done = p.done ++ e ∷ [];
@@ -80,32 +99,28 @@ module _ (w : World) (events rest : List Event) (e : Event) (told : List Outcome
         first = sym (append-nil (told ++ o ∷ []));
         leads = behind p.leads d;
         runs = run_on w p.done told p.leads e d o p.runs may is;
-        image = subst (λ (ops : List Op). IsSheetImage (sheet_of ops) i) (sym (behind_ops p.leads d q gives)) after;
+        image = after;
       }) image
 
   told_on : (old new : DiskView) (o : Outcome) → Moments w events told old new → Moments w events (told ++ o ∷ []) old new
   told_on old new o moments model = weakens (LeftAmong w events told) (LeftAmong w events (told ++ o ∷ [])) old.history new.history (more_told w events told o) (moments model)
 
-  -- the moments so far, and those of an event with this op
-  op_on : (old new : DiskView) (d : Does) (q : Op) (o : Outcome) → MayDo p.leads e d → o ≡ d.told → d.op ≡ Some q → SameDisk old host.store.disk → Moments w events told old host.store.disk
-      → OnDisk p.leads.ops (Some q) host.store.disk new → Moments w events (told ++ o ∷ []) old new
-  op_on old new d q o may is gives same before disk model = goes_on (LeftAmong w events (told ++ o ∷ [])) old.history host.store.disk.history new.history (told_on old host.store.disk o before model)
-      (weakens (IsEither p.leads.ops q) (LeftAmong w events (told ++ o ∷ [])) host.store.disk.history new.history (either_left d q o may is gives) (disk (subst IsTrue (sym same.keeps_model) model)))
+  -- the moments so far, and those of what an event does
+  did_on : (old new : DiskView) (d : Does) (o : Outcome) → MayDo p.leads e d → o ≡ d.told → SameDisk old host.store.disk → Moments w events told old host.store.disk
+      → OnDisk p.leads.ops d.anew d.op host.store.disk new → Moments w events (told ++ o ∷ []) old new
+  did_on old new d o may is same before disk model = goes_on (LeftAmong w events (told ++ o ∷ [])) old.history host.store.disk.history new.history (told_on old host.store.disk o before model)
+      (weakens (EitherSheet p.leads d) (LeftAmong w events (told ++ o ∷ [])) host.store.disk.history new.history (either_left d o may is)
+      (either_sheet p.leads d host.store.disk new p.stands.stands.images disk (subst IsTrue (sym same.keeps_model) model)))
 
   pub moments_on : (old : DiskView) (new : HostView) (o : Outcome) → SameDisk old host.store.disk → Moments w events told old host.store.disk → Took p.leads e host new o → Moments w events (told ++ o ∷ []) old new.store.disk
-  moments_on old new o same before took = go took.did.op refl took.disk
-    where
-      go : (a : Option Op) → took.did.op ≡ a → OnDisk p.leads.ops a host.store.disk new.store.disk → Moments w events (told ++ o ∷ []) old new.store.disk
-      go None gives disk = subst (λ (d : DiskView). Moments w events (told ++ o ∷ []) old d) (sym disk) (told_on old host.store.disk o before)
-      go (Some q) gives disk = op_on old new.store.disk took.did q o took.may took.told gives same before disk
+  moments_on old new o same before took = did_on old new.store.disk took.did o took.may took.told same before took.disk
 
   -- the moments so far, and those of an event that failed
   pub moments_failed : (old : DiskView) (new : HostView) (fault : HostFault) → SameDisk old host.store.disk → Moments w events told old host.store.disk → Failed p.leads e host new fault → MomentsBefore w events told fault old new.store.disk
   moments_failed old new faults.Closed same before failed = absurd failed.cause
   moments_failed old new faults.Disk same before failed =
-      let q = failed.cause.1.0 in
-      let give = failed.cause.1.1 in
-      (give.does.told, op_on old new.store.disk give.does q give.does.told give.may refl give.gives same before failed.cause.1.2)
+      let write = failed.cause.1.0 in
+      (write.does.told, did_on old new.store.disk write.does write.does.told write.may refl same before failed.cause.1.1)
   moments_failed old new faults.OutOfMemory same before failed = subst (λ (d : DiskView). Moments w events told old d) (sym failed.cause.0) before
   moments_failed old new faults.JournalFull same before failed = subst (λ (d : DiskView). Moments w events told old d) (sym failed.cause.0) before
 

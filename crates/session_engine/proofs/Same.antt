@@ -11,6 +11,7 @@ use Rattle.worksheet.specs.Checks.{Allowed, field_in, has_field, has_session, se
 use Rattle.worksheet.specs.Checks.{refusals as sheet_refusals}
 use Rattle.worksheet.proofs.Existence.{allowed_goes_on}
 use Rattle.worksheet.proofs.NextLaws.{same_next}
+use Rattle.journal.specs.Area.{end_of}
 use Rattle.plugin_core.specs.declared.item.Item.{Item}
 use Rattle.plugin_core.specs.declared.item.Item.TheVariants as item
 use Rattle.plugin_core.specs.declared.step.Ended.{Ended}
@@ -27,7 +28,7 @@ use Rattle.session_engine.specs.declared.outcome.Outcome.{Outcome}
 use Rattle.session_engine.specs.declared.reply.Reply.TheVariants as reply
 use Rattle.session_engine.specs.Commands.{op_of}
 use Rattle.session_engine.specs.inside.Commits.{AllowedIf}
-use Rattle.session_engine.specs.World.{World, Going, kept_at_end, sheet_in, life_of, session_of_field, line_of_field, by_field, in_flight, with_number, with_op, with_op_if, request_of_field}
+use Rattle.session_engine.specs.World.{World, Going, kept_at_end, sheet_in, life_of, session_of_field, line_of_field, by_field, in_flight, with_number, with_op, with_op_if, request_of_field, codes_anew, fits_anew_in}
 use Rattle.session_engine.specs.inside.Parts.{with_item, without_life, goes_on, second, checks, op_refusals, queue_refusals, asks}
 use Rattle.session_engine.specs.Does.{op_by, with_piece, starting_words, replies, Runs}
 use Rattle.session_engine.specs.Refused.{full, command_refusals, takes_tab, is_cursor}
@@ -91,6 +92,7 @@ module _ (w : World) (b : List Op) (same : sheet_of w.ops ≡ sheet_of b) where
       ∷ (refusal.BadCursor, not (is_cursor (by_field (field_in s.fields id) [] (λ f. f.input)) cursor))
       ∷ queue_refusals w (life_of w (by_field (field_in s.fields id) [] (λ f. f.session)))) same
   refusals_same (command.Stop name) = ap (λ (s : Contents). (refusal.NoSession, not (has_session s name)) ∷ []) same
+  refusals_same command.Checkpoint = ap (λ (s : Contents). (refusal.JournalFull, not (fits_anew_in w.room s)) ∷ []) same
 
   asks_same : (name : List ℕ) (i : Item) (l : Option Going) → asks w name i l ≡ asks (by_ops b w) name i l
   asks_same name i None = ap (λ (s : Contents). record { reply = reply.Asked (w.begun + 1); effect = Some (effect.Start name (w.begun + 1) (starting_words (session_named s.sessions name))) }) same
@@ -112,6 +114,7 @@ module _ (w : World) (b : List Op) (same : sheet_of w.ops ≡ sheet_of b) where
       ∙ ap (λ (n : List ℕ). asks (by_ops b w) n (request_of_field w id cursor) (life_of w n)) (session_same id)
       ∙ ap (λ (i : Item). asks (by_ops b w) (session_of_field (by_ops b w) id) i (life_of w (session_of_field (by_ops b w) id))) (request_same id cursor)
   outcome_same (command.Stop name) = refl
+  outcome_same command.Checkpoint = refl
 
 item_same : (w : World) (b : List Op) (name : List ℕ) (i : Item) (l : Option Going) → with_item (by_ops b w) name i l ≡ by_ops b (with_item w name i l)
 item_same w b name i None = refl
@@ -201,6 +204,12 @@ module _ (w : World) (b : List Op) (h : Sound w) (allowed : Allowed b) (same : s
       let u = without_life name w in
       let next = end_allowed w reason.Stopped (life_of w name) (λ l e. the_life name l w h e) in
       record { ops = with_if b p; is = if_same b p u; same = sheet_if w b h allowed same p u refl next; allowed = allowed_if w b h allowed same p next }
+  leads_on command.Checkpoint first = record {
+    ops = b;
+    is = ap (λ (s : Contents). record w { ops = b; end = end_of (codes_anew s) }) (sym same);
+    same = same;
+    allowed = allowed;
+  }
 
   nothing : (e : Event) (o : Outcome) (v : World) → v ≡ w → GivesByParts (by_ops b w) e o (by_ops b w) → Follows w b e o v
   nothing e o v is gives = record {

@@ -271,6 +271,7 @@ no_answer (command.Clear other) o e id prompt out is = let no : Some (op.Clear o
 no_answer (command.Eval other) o e id prompt out is = cc
 no_answer (command.Complete other cursor) o e id prompt out is = cc
 no_answer (command.Stop name) o e id prompt out is = cc
+no_answer command.Checkpoint o e id prompt out is = cc
 
 as_done : (w : World) (c : Command) (o : Op) → op_of c ≡ Some o → Sound w → first_of (command_refusals w c) ≡ None → Stepped w (event.Command c) (after w c)
 as_done w c o is h first =
@@ -342,6 +343,7 @@ accepted w (command.Stop name) h first = go (life_of w name) refl
     go : (k : Option Going) → life_of w name ≡ k → Stepped w (event.Command (command.Stop name)) (with_op_if (kept_at_end w reason.Stopped k) (without_life name w))
     go None e = record { sound = gone name w h; shown = λ f a some has. inl has }
     go (Some l) e = lost_step w (event.Command (command.Stop name)) (without_life name w) w.room w.end reason.Stopped (first_line_of (waiting_in l)) h (gone name w h) refl (has_first w l (the_life name l w h e))
+accepted w command.Checkpoint h first = record { sound = record { allowed = h.allowed; lives = h.lives }; shown = λ f a some has. inl has }
 
 -- Events of children.
 

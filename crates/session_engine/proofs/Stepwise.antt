@@ -1,12 +1,12 @@
 -- Hosts that take their events one by one.
-use Rattle.std.proofs.Common.{◌≡◌, ⊎_elim, ℕ, List, [], ◌∷◌, ◌++◌, refl, sym, subst, append-nil, Option, Some, None}
+use Rattle.std.proofs.Common.{◌≡◌, ⊎_elim, ℕ, List, [], ◌∷◌, ◌++◌, refl, sym, subst, append-nil}
 use Rattle.std.specs.Prelude.{Ok, Err}
 use Rattle.disk_model.specs.Disk.{DiskView, Image, InModel, LeavesOnly}
 use Rattle.disk_model.specs.inside.Moments.{started, weakens}
 use Rattle.worksheet.specs.declared.op.Op.{Op}
 use Rattle.worksheet.specs.Ops.{sheet_of}
 use Rattle.worksheet.specs.Checks.{Allowed}
-use Rattle.recovery.specs.Sheets.{IsEither, IsSheetImage}
+use Rattle.recovery.specs.Sheets.{IsSheetImage}
 use Rattle.session_engine.specs.declared.event.Event.{Event}
 use Rattle.session_engine.specs.declared.outcome.HostFault.{HostFault}
 use Rattle.session_engine.specs.declared.outcome.HostFault.TheVariants as faults
@@ -17,7 +17,7 @@ use Rattle.session_engine.specs.Host.{EndsAt, HostView, IsHost, OnDisk, Took}
 use Rattle.session_engine.specs.Faults.{CauseOf}
 use Rattle.session_engine.specs.Crash.{HasPlayed}
 use Rattle.session_engine.specs.Turns.{Turned, CrashesAreTurns, StepsAreTurns}
-use Rattle.session_engine.proofs.Playing.{run_on, behind_ops}
+use Rattle.session_engine.proofs.Playing.{EitherSheet, either_sheet, run_on}
 
 module _ (room end : ℕ) (before : Image) (found : List Op) (allowed : Allowed found) (opens : IsSheetImage (sheet_of found) before) (ends : EndsAt before end) (events : List Event) (told : List Outcome)
     (w : World) (run : Runs (world_at_opening found room end) events told w) (e : Event) where
@@ -78,25 +78,19 @@ module _ (room end : ℕ) (before : Image) (found : List Op) (allowed : Allowed 
     stays same = subst (λ (d : DiskView). InModel old.store.disk (LeavesOnly (IsTurn told) old.store.disk.history d.history)) (sym same)
         (λ model. started (IsTurn told) old.store.disk.history (λ i image. without i (stands.stands.images model i image)))
 
-    -- the moments of an event that gives this op
-    gives : (d : Does) (o : Op) → MayDo w e d → d.op ≡ Some o → OnDisk w.ops (Some o) old.store.disk new.store.disk
-        → Crashes old new
-    gives d o may is disk model = weakens (IsEither w.ops o) (IsTurn told) old.store.disk.history new.store.disk.history (λ i image. ⊎_elim
+    -- the moments of what an event does
+    does_so : (d : Does) → MayDo w e d → OnDisk w.ops d.anew d.op old.store.disk new.store.disk → Crashes old new
+    does_so d may disk model = weakens (EitherSheet w d) (IsTurn told) old.store.disk.history new.store.disk.history (λ i image. ⊎_elim
         (without i)
-        (λ after. behind_it told (d.told ∷ []) (behind w d) i (run_on first events told w e d d.told run may refl)
-        (subst (λ (ops : List Op). IsSheetImage (sheet_of ops) i) (sym (behind_ops w d o is)) after))
-        image) (disk model)
+        (λ after. behind_it told (d.told ∷ []) (behind w d) i (run_on first events told w e d d.told run may refl) after)
+        image) (either_sheet w d old.store.disk new.store.disk stands.stands.images disk model)
 
     took : (o : Outcome) → Took w e old new o → Crashes old new
-    took o t = go t.did.op refl t.disk
-      where
-        go : (a : Option Op) → t.did.op ≡ a → OnDisk w.ops a old.store.disk new.store.disk → Crashes old new
-        go None is disk = stays disk
-        go (Some q) is disk = gives t.did q t.may is disk
+    took o t = does_so t.did t.may t.disk
 
     failed : (f : HostFault) → CauseOf w e old.store.disk new.store.disk f → Crashes old new
     failed faults.Closed cause = absurd cause
-    failed faults.Disk cause = let give = cause.1.1 in gives give.does cause.1.0 give.may give.gives cause.1.2
+    failed faults.Disk cause = does_so cause.1.0.does cause.1.0.may cause.1.1
     failed faults.OutOfMemory cause = stays cause.0
     failed faults.JournalFull cause = stays cause.0
 

@@ -40,6 +40,7 @@ concerns name w (event.Command (command.Clear id)) = true
 concerns name w (event.Command (command.Eval id)) = bytes_eq (session_of_field w id) name
 concerns name w (event.Command (command.Complete id cursor)) = bytes_eq (session_of_field w id) name
 concerns name w (event.Command (command.Stop other)) = bytes_eq other name
+concerns name w (event.Command command.Checkpoint) = true
 
 -- the number that a life of this session begins with, where none goes on
 abbrev pub number_if : Bool → Option Going → ℕ → List ℕ
@@ -59,6 +60,7 @@ begins name w (event.Command (command.Clear id)) = []
 begins name w (event.Command (command.Eval id)) = number_if (bytes_eq (session_of_field w id) name) (life_of w name) (w.begun + 1)
 begins name w (event.Command (command.Complete id cursor)) = number_if (bytes_eq (session_of_field w id) name) (life_of w name) (w.begun + 1)
 begins name w (event.Command (command.Stop other)) = []
+begins name w (event.Command command.Checkpoint) = []
 
 -- the numbers of this session's lives that begin in a history
 abbrev pub life_numbers : List ℕ → (w : World) (es : List Event) (os : List Outcome) (v : World) → Runs w es os v → List ℕ

@@ -32,19 +32,21 @@ use Rattle.session_engine.specs.declared.reply.Closed.{Closed}
 use Rattle.session_engine.specs.declared.reply.Closed.TheVariants as closed
 use Rattle.session_engine.specs.declared.reply.Reply.{Reply}
 use Rattle.session_engine.specs.declared.reply.Reply.TheVariants as reply
-use Rattle.session_engine.specs.World.{World, Going, life_of, with_number, with_op_if, kept_in, kept_at_end, session_of_field, line_of_field, request_of_field, sheet_in, waiting_in}
+use Rattle.session_engine.specs.World.{World, Going, life_of, with_number, with_op_if, renewed_if, kept_in, kept_at_end, session_of_field, line_of_field, request_of_field, sheet_in, waiting_in}
 use Rattle.session_engine.specs.Refused.{command_refusals, command_takes_memory}
 
--- What an event does: what is told, the op that it gives if any, how many lives have begun behind it, and the lives that go on.
+-- What an event does: what is told, the op that it gives if any, whether it writes the journal anew, how many lives have begun
+-- behind it, and the lives that go on.
 pub record Does : Type 0 where
   pub told : Outcome
   pub op : Option Op
+  pub anew : Bool
   pub begun : ℕ
   pub lives : List Going
 
 -- the world behind it
 abbrev pub behind : World → Does → World
-behind w d = with_op_if d.op (record w { begun = d.begun; lives = d.lives })
+behind w d = renewed_if d.anew (with_op_if d.op (record w { begun = d.begun; lives = d.lives }))
 
 -- What is told.
 
@@ -135,11 +137,15 @@ lives_behind l (Some e) lives = taken_out l.name lives
 
 -- nothing but this is told
 abbrev pub tells : World → Reply → Does
-tells w r = record { told = replies r; op = None; begun = w.begun; lives = w.lives }
+tells w r = record { told = replies r; op = None; anew = false; begun = w.begun; lives = w.lives }
 
 -- the worksheet alone changes
 abbrev pub changes : World → Op → Does
-changes w o = record { told = replies (reply_to (sheet_in w) o); op = Some o; begun = w.begun; lives = w.lives }
+changes w o = record { told = replies (reply_to (sheet_in w) o); op = Some o; anew = false; begun = w.begun; lives = w.lives }
+
+-- the journal alone changes, which is written anew
+abbrev pub renews : World → Does
+renews w = record { told = replies reply.Done; op = None; anew = true; begun = w.begun; lives = w.lives }
 
 -- the words that a session's interpreter is started with
 abbrev pub starting_words : Option Session → List (List ℕ)
@@ -151,12 +157,14 @@ abbrev pub asks_item : World → Item → Option Op → List ℕ → Option Goin
 asks_item w i given name None = record {
   told = record { reply = reply.Asked (w.begun + 1); effect = Some (effect.Start name (w.begun + 1) (starting_words (session_named (sheet_in w).sessions name))) };
   op = given;
+  anew = false;
   begun = w.begun + 1;
   lives = w.lives ++ begun_with w name i ∷ [];
 }
 asks_item w i given name (Some l) = record {
   told = record { reply = reply.Asked l.number; effect = option_map (λ bytes. effect.Send name l.number bytes) (sent_by l.past l.blocks (accepted i) l.blocks) };
   op = given;
+  anew = false;
   begun = w.begun;
   lives = put_back (joined_by l i) w.lives;
 }
@@ -164,11 +172,11 @@ asks_item w i given name (Some l) = record {
 -- a life ends from outside; where none goes on, only this is told
 abbrev pub ends_life : World → Reason → Bool → Option Going → Reply → Does
 ends_life w why killed None else_told = tells w else_told
-ends_life w why killed (Some l) else_told = record { told = ends l why killed; op = kept_at_end w why (Some l); begun = w.begun; lives = taken_out l.name w.lives }
+ends_life w why killed (Some l) else_told = record { told = ends l why killed; op = kept_at_end w why (Some l); anew = false; begun = w.begun; lives = taken_out l.name w.lives }
 
 -- a piece of a life gives this step of it, where these are the blocks of its stream with the piece
 abbrev pub steps : World → Going → List ℕ → List Outer → Step → Does
-steps w l piece blocks s = record { told = told_of l s; op = op_by w.room w.end s.answered s.ended; begun = w.begun; lives = lives_behind (with_piece l piece blocks) s.ended w.lives }
+steps w l piece blocks s = record { told = told_of l s; op = op_by w.room w.end s.answered s.ended; anew = false; begun = w.begun; lives = lives_behind (with_piece l piece blocks) s.ended w.lives }
 
 -- what an accepted command does
 abbrev pub does : World → Command → Does
@@ -183,6 +191,7 @@ does w (command.Eval id) = asks_item w (line_of_field w id) (Some (op.Clear id))
 -- its input is asked at the cursor, and the worksheet stays as it is
 does w (command.Complete id cursor) = asks_item w (request_of_field w id cursor) None (session_of_field w id) (life_of w (session_of_field w id))
 does w (command.Stop name) = ends_life w reason.Stopped true (life_of w name) reply.Done
+does w command.Checkpoint = renews w
 
 -- What an event of a child does, where this is the life with its number, if that goes on. A piece does what the stream of the
 -- life with it tells by its blocks and its fault.

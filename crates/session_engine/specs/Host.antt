@@ -4,6 +4,7 @@ use Rattle.std.specs.List.{AllByRecursion}
 use Rattle.disk_model.specs.Disk.{DiskView, Image, InModel, Leaves, LeavesOnly}
 use Rattle.worksheet.specs.declared.op.Op.{Op}
 use Rattle.worksheet.specs.Contents.{Contents}
+use Rattle.worksheet.specs.Ops.{sheet_of}
 use Rattle.worksheet.specs.Checks.{Allowed, has_field}
 use Rattle.journal.specs.declared.journal.OpenFault.{OpenFault}
 use Rattle.journal.specs.Open.{IsPassing}
@@ -80,11 +81,13 @@ pub record IsHost (h : HostView) (w : World) : Type 0 where
   pub works : h.closed ≡ false
   pub stands : EngineStandsFor h.store h.lives h.begun w
 
--- What an event that gives an op behind these, or none, does to a disk. Without an op it makes no call on it. While one that
--- gives an op goes on, each image at every moment is one of the worksheet before it, or of that with the op.
-abbrev pub OnDisk : List Op → Option Op → DiskView → DiskView → Type 0
-OnDisk ops None old new = new ≡ old
-OnDisk ops (Some o) old new = InModel old (LeavesOnly (IsEither ops o) old.history new.history)
+-- What an event does to a disk with the worksheet of these ops, by whether it writes the journal anew and by the op that it gives,
+-- or none. Without both it makes no call on the disk. While one that gives an op goes on, each image at every moment is one of the
+-- worksheet before it, or of that with the op. While the journal is written anew, each is one of the same worksheet.
+abbrev pub OnDisk : List Op → Bool → Option Op → DiskView → DiskView → Type 0
+OnDisk ops false None old new = new ≡ old
+OnDisk ops false (Some o) old new = InModel old (LeavesOnly (IsEither ops o) old.history new.history)
+OnDisk ops true given old new = InModel old (LeavesOnly (IsSheetImage (sheet_of ops)) old.history new.history)
 
 -- The event did this, which was told, and the host goes on behind it.
 pub record Took (w : World) (e : Event) (old new : HostView) (o : Outcome) : Type 0 where
@@ -92,7 +95,7 @@ pub record Took (w : World) (e : Event) (old new : HostView) (o : Outcome) : Typ
   pub may : MayDo w e did
   pub told : o ≡ did.told
   pub stands : IsHost new (behind w did)
-  pub disk : OnDisk w.ops did.op old.store.disk new.store.disk
+  pub disk : OnDisk w.ops did.anew did.op old.store.disk new.store.disk
 
 -- the disk that an opening leaves
 abbrev pub disk_of_opening : {D : Type 0} → (D → DiskView) → Result HostView (OpenFault D) → DiskView

@@ -14,7 +14,7 @@ use Rattle.plugin_core.specs.Limits.{most_waiting}
 use Rattle.session_engine.specs.Limits.{most_lives}
 use Rattle.session_engine.specs.declared.command.Command.{Command}
 use Rattle.session_engine.specs.declared.command.Command.TheVariants as command
-use Rattle.session_engine.specs.World.{World, Going, sheet_in, in_flight, fits, kept_at_end, life_of, session_of_field, input_of, waiting_in}
+use Rattle.session_engine.specs.World.{World, Going, sheet_in, in_flight, fits, fits_anew, kept_at_end, life_of, session_of_field, input_of, waiting_in}
 
 abbrev pub no_session : World → List ℕ → Refusal × Bool
 no_session w name = (refusal.NoSession, not (has_session (sheet_in w) name))
@@ -94,6 +94,10 @@ lives_spent w name = (refusal.LivesSpent, lives_are_spent w.begun (life_of w nam
 abbrev pub full : World → Op → Refusal × Bool
 full w o = (refusal.JournalFull, not (fits w o))
 
+-- the ops that make the worksheet anew have no room
+abbrev pub full_anew : World → Refusal × Bool
+full_anew w = (refusal.JournalFull, not (fits_anew w))
+
 abbrev pub command_refusals : World → Command → List (Refusal × Bool)
 command_refusals w (command.Session name tab words) =
     bad_name name
@@ -129,6 +133,7 @@ command_refusals w (command.Complete id cursor) =
     ∷ lives_spent w (session_of_field w id)
     ∷ []
 command_refusals w (command.Stop name) = no_session w name ∷ []
+command_refusals w command.Checkpoint = full_anew w ∷ []
 
 -- Behind these stands want of memory: all commands take memory, a Stop where a line keeps its reason.
 abbrev pub command_takes_memory : World → Command → Bool
@@ -141,3 +146,4 @@ command_takes_memory w (command.Clear id) = true
 command_takes_memory w (command.Eval id) = true
 command_takes_memory w (command.Complete id cursor) = true
 command_takes_memory w (command.Stop name) = is_some (kept_at_end w reason.Stopped (life_of w name))
+command_takes_memory w command.Checkpoint = true

@@ -1,6 +1,6 @@
 -- Where a list of events leads a host that was opened on a worksheet. (docs/HOST.md, "The world".)
-use Rattle.std.specs.Prelude.{ℕ, ◌+◌, ◌==◌, ◌&&◌, nat_le, List, [], ◌∷◌, ◌++◌, length, Bool, Option, Some, None, option_and_then, if◌then◌else◌}
-use Rattle.std.specs.List.{list_any}
+use Rattle.std.specs.Prelude.{ℕ, ◌+◌, ◌==◌, ◌&&◌, nat_le, List, [], ◌∷◌, ◌++◌, length, Bool, true, false, Option, Some, None, option_and_then, if◌then◌else◌}
+use Rattle.std.specs.List.{list_all, list_any}
 use Rattle.block_tree.specs.declared.reason.Reason.{Reason}
 use Rattle.meta_format.specs.Stream.{Outer}
 use Rattle.worksheet.specs.declared.op.Op.{Op}
@@ -9,8 +9,11 @@ use Rattle.worksheet.specs.declared.field.Field.{Field}
 use Rattle.worksheet.specs.Contents.{Contents}
 use Rattle.worksheet.specs.Ops.{sheet_of}
 use Rattle.worksheet.specs.Checks.{field_in}
+use Rattle.worksheet.specs.Rewrite.{rewrite_of}
+use Rattle.journal.specs.Area.{end_of}
 use Rattle.journal.specs.Limits.{max_payload}
 use Rattle.recovery.specs.Code.{code_of}
+use Rattle.recovery.specs.Sheets.{codes_of}
 use Rattle.plugin_core.specs.declared.item.Item.{Item}
 use Rattle.plugin_core.specs.declared.item.Item.TheVariants as item
 use Rattle.plugin_core.specs.Past.{Event as LifeEvent}
@@ -92,6 +95,18 @@ fits w o = fits_in w.room w.end o
 abbrev pub if_fits : ℕ → ℕ → Op → Option Op
 if_fits room end o = if fits_in room end o then Some o else None
 
+-- the payloads of the ops that make a worksheet anew
+abbrev pub codes_anew : Contents → List (List ℕ)
+codes_anew sheet = codes_of (rewrite_of sheet)
+
+-- An area of so many bytes has room for a journal that makes the worksheet anew: none of its payloads is too long, and the gate
+-- behind their records is in the area.
+abbrev pub fits_anew_in : ℕ → Contents → Bool
+fits_anew_in room sheet = list_all (λ payload. nat_le (length payload) max_payload) (codes_anew sheet) && nat_le (end_of (codes_anew sheet) + 1) room
+
+abbrev pub fits_anew : World → Bool
+fits_anew w = fits_anew_in w.room (sheet_in w)
+
 -- The op of the end of a life which leaves these items without an answer: where the first of them is a line, its field keeps the
 -- reason, if there is room for that. The others keep none.
 abbrev pub kept_in : ℕ → ℕ → Reason → List Item → Option Op
@@ -109,3 +124,11 @@ with_op o w = record w { ops = w.ops ++ o ∷ []; end = w.end + 5 + length (code
 abbrev pub with_op_if : Option Op → World → World
 with_op_if None w = w
 with_op_if (Some o) w = with_op o w
+
+-- the journal is written anew: the worksheet and its ops are what they were, and the payloads end elsewhere
+abbrev pub renewed : World → World
+renewed w = record w { end = end_of (codes_anew (sheet_in w)) }
+
+abbrev pub renewed_if : Bool → World → World
+renewed_if false w = w
+renewed_if true w = renewed w

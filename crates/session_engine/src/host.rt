@@ -1,7 +1,7 @@
 //! The host.
 ghost use Rattle.std.specs.Prelude.{◌≡◌, ◌↔◌, List, true, false, IfOk, IfErr, OnErr, IsErrOf, MatchResult, length, option_map};
 ghost use Rattle.std.specs.Option.{option_copied};
-ghost use Rattle.disk_model.specs.Disk.{InModel, Looks, Rises, SameDisk, bytes_on};
+ghost use Rattle.disk_model.specs.Disk.{InModel, LeavesOnly, Looks, Rises, SameDisk, bytes_on};
 ghost use Rattle.worksheet.specs.declared.op.Op.{Op};
 ghost use Rattle.worksheet.specs.Contents.{Contents};
 ghost use Rattle.worksheet.specs.Ops.{sheet_of};
@@ -14,7 +14,7 @@ ghost use Rattle.session_engine.specs.Faults.{Failed};
 
 use crate::engine::Engine;
 use crate::table::place_of;
-use crate::{Event, HostFault, Outcome};
+use crate::{Command, Event, HostFault, Outcome};
 use disk_model::Disk;
 use journal::{OpenCause, OpenFault};
 use recovery::Store;
@@ -55,6 +55,9 @@ impl<D: Disk> Model for Host<D> {
 }
 
 impl<D: Disk> Host<D> {
+    ghost use Rattle.session_engine.specs.declared.command.Command.TheVariants as command;
+    ghost use Rattle.session_engine.specs.declared.event.Event.TheVariants as event;
+
     /// Opens a disk that a crash may have left, with the worksheet that it stands for. No session has a
     /// life, and none has a number. It writes nothing. A disk that stands for no worksheet is refused
     /// with its first damage (docs/FORMAT.md, "Opening").
@@ -128,6 +131,32 @@ impl<D: Disk> Host<D> {
             self.closed = true;
         }
         outcome
+    }
+
+    /// Writes the journal anew into the area that isn't active, with the ops that make the same worksheet
+    /// (docs/HOST.md, "A checkpoint"). It is the step of a `Command::Checkpoint`: the reply is `Done`, or
+    /// `Refused` with `JournalFull` where those ops have no room, or with `OutOfMemory`; there is no
+    /// effect, and lives go on. `HostFault::Closed` and `HostFault::Disk` are its faults.
+    pub fn checkpoint(&mut self) -> Result<Outcome, HostFault>
+        ensures same { SameDisk self.old.store.disk self.new.store.disk }
+        ensures took { (w : World) → IsHost self.old w
+            → IfOk result (Took w (event.Command command.Checkpoint) self.old self.new) }
+        ensures failed { (w : World) → IsHost self.old w
+            → IfErr result (Failed w (event.Command command.Checkpoint) self.old self.new) }
+        ensures closed { IsErrOf result HostFault.Closed ↔ (self.old.closed ≡ true) }
+        ensures closes { OnErr result (self.new.closed ≡ true) }
+        ensures still { self.old.closed ≡ true → self.new ≡ self.old }
+
+        // The worksheet stays, and the number of its next new field.
+        ensures sheet { self.new.store.sheet.contents ≡ self.old.store.sheet.contents }
+
+        // A crash at any moment of the call leaves the same worksheet.
+        ensures any_moment { InModel self.old.store.disk (self.old.closed ≡ false
+            → LeavesOnly (IsSheetImage self.old.store.sheet.contents) self.old.store.disk.history
+            self.new.store.disk.history) }
+    {
+        let _sheet = self.sheet();
+        self.step(Event::Command(Command::Checkpoint))
     }
 
     /// The worksheet. After a fault it is that of the events before it.

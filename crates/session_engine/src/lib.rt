@@ -3,6 +3,7 @@
 #![tactic(auto)]
 
 mod changes;
+mod checkpoints;
 pub mod command;
 mod commits;
 mod completes;

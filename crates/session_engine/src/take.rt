@@ -46,6 +46,7 @@ impl<D: Disk> Engine<D> {
             Command::Eval { id } => self.eval(id),
             Command::Complete { id, cursor } => Ok(self.complete(id, cursor)),
             Command::Stop { name } => self.stop(name),
+            Command::Checkpoint => self.checkpoint(),
             other => match other.into_op() {
                 Some(op) => self.alter(op),
                 None => unreachable!(),

@@ -137,6 +137,7 @@ line_of bytes =
     if is_skipped bytes then Some line.Skip
     else if bytes_eq bytes (codes "wait") then Some line.Wait
     else if bytes_eq bytes (codes "print") then Some line.Print
+    else if bytes_eq bytes (codes "checkpoint") then Some (line.Command command.Checkpoint)
     else option_map (λ told. line.Command told) (command_named (before_space bytes) (behind_space bytes))
 
 -- Memory.
@@ -152,6 +153,7 @@ keeps_bytes (command.Clear id) = false
 keeps_bytes (command.Eval id) = false
 keeps_bytes (command.Complete id cursor) = false
 keeps_bytes (command.Stop name) = true
+keeps_bytes command.Checkpoint = false
 
 abbrev pub wants_memory_for : Option Command → Bool
 wants_memory_for None = false

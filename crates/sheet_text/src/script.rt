@@ -239,6 +239,9 @@ pub fn read_line(alloc: Global, line: &[u8]) -> Result<ScriptLine, LineFault>
     if line == b"print".as_slice() {
         return Ok(ScriptLine::Print);
     }
+    if line == b"checkpoint".as_slice() {
+        return Ok(ScriptLine::Command(Command::Checkpoint));
+    }
     let (name, rest) = split_space(line);
     let Some(rest) = rest else {
         return Err(LineFault::BadLine);

@@ -33,8 +33,8 @@ fn bad_lines_are_told_by_number(rt: HostRuntime) {
     let script = b"foo\n\n# x\nremove 01\nsession a/b plain p\nsession a plain";
     let expected = b"bad line 1\nbad line 4\nrefused 5 BadName\nrefused 6 BadWords\n";
     assert!(rt; gives(rt.alloc(), script, expected));
-    let script = b"wait\nstop a\neval 1\ncomplete 1 1\n";
-    let expected = b"bad line 1\nbad line 2\nbad line 3\nbad line 4\n";
+    let script = b"wait\nstop a\neval 1\ncomplete 1 1\ncheckpoint\n";
+    let expected = b"bad line 1\nbad line 2\nbad line 3\nbad line 4\nbad line 5\n";
     assert!(rt; gives(rt.alloc(), script, expected));
 }
 

@@ -8,7 +8,7 @@ use std::test::Fail;
 fn a_record_that_fills_the_room(rt: HostRuntime) -> Result<(), Fail> {
     let alloc = rt.alloc();
     let journal = empty(alloc, created(alloc, 25)?)?;
-    assert!(rt; journal.fits(9));
+    assert!(rt; journal.room() == 25 && journal.fits(9));
     let journal = longer(alloc, journal, &SESSION)?;
     assert!(rt; !journal.fits(1));
     let disk = too_long(alloc, journal, &[7])?.into_disk();

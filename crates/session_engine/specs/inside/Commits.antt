@@ -106,12 +106,12 @@ answer_op (Some (answered.Complete id result)) = None
 -- what becomes of a host that loses the first line of a life: its reason is kept, if there is room
 pub record Loses {D : Type 0} (w : World) (name : List ℕ) (why : Reason) (old new : Engine D) : Type 0 where
   pub stands : StandsAt new (with_op_if (kept_at_end w why (life_of w name)) w)
-  pub disk : OnDisk w.ops (kept_at_end w why (life_of w name)) old.store.disk new.store.disk
+  pub disk : OnDisk w.ops false (kept_at_end w why (life_of w name)) old.store.disk new.store.disk
 
 -- or of one that can't keep it
 abbrev pub CauseOfLoss : List Op → Op → DiskView → DiskView → LoseFault → Type 0
 CauseOfLoss ops o old new loses.OutOfMemory = new ≡ old
-CauseOfLoss ops o old new loses.Disk = Rises old.faults new.faults × OnDisk ops (Some o) old new
+CauseOfLoss ops o old new loses.Disk = Rises old.faults new.faults × OnDisk ops false (Some o) old new
 
 pub record FailsToLose {D : Type 0} (w : World) (name : List ℕ) (why : Reason) (old new : Engine D) (fault : LoseFault) : Type 0 where
   pub lost : Op

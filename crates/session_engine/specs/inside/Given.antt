@@ -18,7 +18,7 @@ use Rattle.session_engine.specs.declared.event.Event.{Event}
 use Rattle.session_engine.specs.declared.event.Event.TheVariants as event
 use Rattle.session_engine.specs.declared.outcome.Outcome.{Outcome}
 use Rattle.session_engine.specs.declared.reply.Reply.TheVariants as reply
-use Rattle.session_engine.specs.World.{World, Going, sheet_in, life_of, with_number, session_of_field, line_of_field, request_of_field, with_op, with_op_if, kept_at_end}
+use Rattle.session_engine.specs.World.{World, Going, sheet_in, life_of, with_number, session_of_field, line_of_field, request_of_field, with_op, with_op_if, kept_at_end, renewed}
 use Rattle.session_engine.specs.Refused.{command_refusals, command_takes_memory}
 use Rattle.session_engine.specs.Does.{replies, refused, ends, told_of, with_piece, op_by}
 use Rattle.session_engine.specs.inside.Parts.{asks, with_item, without_life, goes_on}
@@ -38,6 +38,7 @@ outcome_of w (command.Clear id) = replies reply.Done
 outcome_of w (command.Eval id) = asks w (session_of_field w id) (line_of_field w id) (life_of w (session_of_field w id))
 outcome_of w (command.Complete id cursor) = asks w (session_of_field w id) (request_of_field w id cursor) (life_of w (session_of_field w id))
 outcome_of w (command.Stop name) = stops (life_of w name)
+outcome_of w command.Checkpoint = replies reply.Done
 
 -- and where it leads
 abbrev pub after : World → Command → World
@@ -50,6 +51,7 @@ after w (command.Clear id) = with_op (op.Clear id) w
 after w (command.Eval id) = with_op (op.Clear id) (with_item w (session_of_field w id) (line_of_field w id) (life_of w (session_of_field w id)))
 after w (command.Complete id cursor) = with_item w (session_of_field w id) (request_of_field w id cursor) (life_of w (session_of_field w id))
 after w (command.Stop name) = with_op_if (kept_at_end w reason.Stopped (life_of w name)) (without_life name w)
+after w command.Checkpoint = renewed w
 
 abbrev pub Commanded : World → Command → Option Refusal → Outcome → World → Type 0
 Commanded w c (Some r) o v = (o ≡ refused r) × (v ≡ w)

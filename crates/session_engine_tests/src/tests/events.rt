@@ -26,6 +26,7 @@ pub enum Step<'a> {
     Complete(u32, u32),
     /// The session of this name is stopped.
     Stop(&'a str),
+    Checkpoint,
     /// These bytes came from the child of this life.
     Piece(u32, &'a str),
     StartRefused(u32),
@@ -97,6 +98,7 @@ pub fn event(alloc: Global, step: &Step<'_>) -> Result<Event, Fail> {
             cursor: *cursor,
         })),
         Step::Stop(name) => Ok(Event::Command(stop(alloc, name)?)),
+        Step::Checkpoint => Ok(Event::Command(Command::Checkpoint)),
         Step::Piece(life, text) => child(*life, piece(alloc, text)?),
         Step::StartRefused(life) => child(*life, ChildEvent::StartRefused),
         Step::End(life) => child(*life, ChildEvent::End),

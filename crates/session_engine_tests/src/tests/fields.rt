@@ -42,6 +42,24 @@ fn an_evaluation_takes_the_answer_away(rt: HostRuntime) -> Result<(), Fail> {
 }
 
 #[test]
+fn a_checkpoint_while_a_line_waits(rt: HostRuntime) -> Result<(), Fail> {
+    plays(
+        rt.alloc(),
+        &[
+            (Step::Session("p"), "ok\n"),
+            (Step::New(0, "x"), "field 1\n"),
+            (Step::Eval(1), "asked 1\nstart a 1 p\n"),
+            (Step::Piece(1, BANNER), "banner a\nsend a 1 x\n"),
+            (Step::Checkpoint, "ok\n"),
+            (Step::Set(1, "z"), "refused 3 InFlight\n"),
+            (Step::Piece(1, "\x02verbatim:A\x05"), "answered 1\n"),
+            (Step::Checkpoint, "ok\n"),
+        ],
+        "1 > x \x02verbatim:A\x05\n",
+    )
+}
+
+#[test]
 fn an_empty_input(rt: HostRuntime) -> Result<(), Fail> {
     plays(
         rt.alloc(),

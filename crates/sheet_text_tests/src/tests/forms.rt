@@ -14,6 +14,7 @@ pub enum Form {
     Move(u32, u32),
     Eval(u32),
     Stop,
+    Checkpoint,
     Other,
 }
 
@@ -24,6 +25,7 @@ fn form_of(command: &Command) -> Form {
         Command::Move { id, after } => Form::Move(*id, *after),
         Command::Eval { id } => Form::Eval(*id),
         Command::Stop { .. } => Form::Stop,
+        Command::Checkpoint => Form::Checkpoint,
         _ => Form::Other,
     }
 }
@@ -47,6 +49,8 @@ fn lines_of_no_form_are_bad(rt: HostRuntime) {
         "print ",
         "wait ",
         "wait\r",
+        "checkpoint ",
+        "checkpoint 1",
         "\r",
         "\u{feff}print",
         "session",
@@ -144,6 +148,7 @@ fn names_and_texts_may_be_empty(rt: HostRuntime) {
     }
     for (line, want) in [
         ("stop ", Form::Stop),
+        ("checkpoint", Form::Checkpoint),
         ("set 1", Form::Set(1)),
         ("remove 0", Form::Remove(0)),
         ("eval 4294967295", Form::Eval(4_294_967_295)),

@@ -15,6 +15,23 @@ frames_of-requires-clause-code g c =
     let made = made_in g.D.Disk.view c.self.inside.base c.self.inside.sheet.contents c.self.invariant in
     code_anew made.0 c.self.inside.sheet.contents made.1
 
+pub has_room_anew-requires-clause-some : goal.has_room_anew-requires-clause-some
+has_room_anew-requires-clause-some g c =
+    let made = made_in g.D.Disk.view c.self.inside.base c.self.inside.sheet.contents c.self.invariant in
+    next_some made.0 c.self.inside.sheet.contents made.1
+
+pub has_room_anew-requires-clause-code : goal.has_room_anew-requires-clause-code
+has_room_anew-requires-clause-code g c =
+    let made = made_in g.D.Disk.view c.self.inside.base c.self.inside.sheet.contents c.self.invariant in
+    code_anew made.0 c.self.inside.sheet.contents made.1
+
 pub returns-in-Err-clause-any_moment : goal.returns-in-Err-clause-any_moment
 returns-in-Err-clause-any_moment g c = λ model opened.
     stays_same c.args.self.now (subst IsStore c.self.view_is (is_store g.D.Disk.view c.self.inside.base c.self.inside.sheet c.self.invariant)) opened model
+
+pub returns-then-not-has_room_anew-clause-any_moment : goal.returns-then-not-has_room_anew-clause-any_moment
+returns-then-not-has_room_anew-clause-any_moment g c = λ model opened.
+    stays_same c.args.self.now (subst IsStore c.self.view_is (is_store g.D.Disk.view c.self.inside.base c.self.inside.sheet c.self.invariant)) opened model
+
+pub returns-in-Err-clause-store : goal.returns-in-Err-clause-store
+returns-in-Err-clause-store g c = subst IsStore c.self.view_is (is_store g.D.Disk.view c.self.inside.base c.self.inside.sheet c.self.invariant)

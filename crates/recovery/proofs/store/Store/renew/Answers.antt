@@ -3,7 +3,7 @@ use Rattle.std.specs.List.{AllByRecursion}
 use Rattle.disk_model.specs.Disk.{InModel, LeavesOnly}
 use Rattle.worksheet.specs.Rewrite.{rewrite_of}
 use Rattle.recovery.specs.Code.{IsTyped}
-use Rattle.recovery.specs.Checkpointed.{CheckpointAnswers}
+use Rattle.recovery.specs.Checkpointed.{CheckpointAnswers, HasRoomAnew}
 use Rattle.recovery.specs.Sheets.{codes_of, IsSheetImage, IsStore, StoreView}
 use Rattle.recovery.specs.declared.base.Base.{Base}
 use Rattle.recovery.specs.inside.Base.{disk_in, disk_of, is_closed_store, IsStoreOf, store_on}
@@ -33,10 +33,11 @@ returns-clause-answers g c =
     let holds = subst (λ (b : Option (Base g.row.D.Denot)). IsStoreOf view b sheet.contents) e c.self.invariant in
     let opened = subst (λ (b : Option (Base g.row.D.Denot)). is_closed_store b ≡ false) e (subst (λ (s : StoreView). s.closed ≡ false) (sym c.self.view_is) c.requires.open) in
     let are = subst (λ (s : StoreView). c.args.frames.now ≡ codes_of (rewrite_of s.sheet.contents)) (sym c.self.view_is) c.requires.frames in
+    let room = subst (λ (b : Option (Base g.row.D.Denot)). HasRoomAnew (disk_in view b).room sheet.contents) e (subst (λ (s : StoreView). HasRoomAnew s.disk.room s.sheet.contents) (sym c.self.view_is) c.requires.room) in
     let typed = subst (λ (s : StoreView). AllByRecursion IsTyped (rewrite_of s.sheet.contents)) (sym c.self.view_is) c.requires.typed in
     subst (λ (s : StoreView). CheckpointAnswers s (store_on view (Some c.anew-renewed.result.0) sheet) c.anew-renewed.result.1) c.self.view_is
     (subst (λ (b : Option (Base g.row.D.Denot)). CheckpointAnswers (store_on view b sheet) (store_on view (Some c.anew-renewed.result.0) sheet) c.anew-renewed.result.1) (sym e)
-    (answered view c.unwrap.result c.anew-renewed.result.0 sheet c.args.frames.now holds opened are typed c.anew-renewed.ensures.same c.anew-renewed.result.1 c.anew-renewed.ensures.answers))
+    (answered view c.unwrap.result c.anew-renewed.result.0 sheet c.args.frames.now holds opened are typed c.anew-renewed.ensures.same room c.anew-renewed.result.1 c.anew-renewed.ensures.answers))
 
 pub returns-clause-any_moment : goal.returns-clause-any_moment
 returns-clause-any_moment g c =

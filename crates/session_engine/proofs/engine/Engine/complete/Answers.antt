@@ -1,5 +1,4 @@
-use Rattle.std.proofs.Common.{◌≡◌, inr, ℕ, List, ap, sym, ◌∙◌, refl, subst, false, Option}
-use Rattle.worksheet.specs.declared.op.Op.{Op}
+use Rattle.std.proofs.Common.{◌≡◌, inr, ℕ, List, ap, sym, ◌∙◌, refl, subst, false}
 use Rattle.worksheet.specs.declared.refusal.Refusal.TheVariants as refusal
 use Rattle.recovery.specs.Sheets.{StoreView}
 use Rattle.plugin_core.specs.declared.item.Item.{Item}
@@ -9,9 +8,9 @@ use Rattle.session_engine.specs.declared.table.Running.{Running}
 use Rattle.session_engine.specs.World.{World, sheet_in, life_of}
 use Rattle.session_engine.specs.Refused.{lives_are_spent}
 use Rattle.session_engine.specs.Does.{does, tells}
-use Rattle.session_engine.specs.Host.{EngineStandsFor, HasField, OnDisk}
+use Rattle.session_engine.specs.Host.{EngineStandsFor, HasField}
 use Rattle.session_engine.specs.inside.Engines.{StandsAt}
-use Rattle.session_engine.proofs.Completing.{complete_refused, complete_done, complete_told, complete_leads, complete_op, life_left}
+use Rattle.session_engine.proofs.Completing.{complete_refused, complete_done, complete_told, complete_leads, complete_on_disk, life_left}
 use Rattle.session_engine.proofs.engine.Engine.complete.Goals as goal
 
 pub returns-in-Ok-asked-clause-took : goal.returns-in-Ok-asked-clause-took
@@ -27,7 +26,7 @@ returns-in-Ok-asked-clause-took g c = λ w h.
       may = complete_done w id cursor given.none;
       told = both.0 ∙ complete_told w id cursor _ _ given;
       stands = record { works = refl; stands = subst (λ (v : World). StandsAt c.asked.new.self v) (complete_leads w id cursor _ _ given) both.1 };
-      disk = subst (λ (o : Option Op). OnDisk w.ops o c.args.self.now.store.disk c.asked.new.self.store.disk) (sym (complete_op w id cursor)) (ap (λ (s : StoreView). s.disk) c.asked.ensures.store);
+      disk = complete_on_disk w id cursor c.args.self.now.store.disk c.asked.new.self.store.disk (ap (λ (s : StoreView). s.disk) c.asked.ensures.store);
     }
 
 pub returns-in-Err-asked-clause-took : goal.returns-in-Err-asked-clause-took

@@ -1,4 +1,4 @@
-use Rattle.std.proofs.Common.{◌≡◌, List, ap, sym, ◌∙◌, refl, subst, true, Option, Some, None}
+use Rattle.std.proofs.Common.{◌≡◌, List, ap, sym, ◌∙◌, refl, subst, true, false, Option, Some, None}
 use Rattle.session_engine.specs.declared.commits.LoseFault.{LoseFault}
 use Rattle.session_engine.specs.declared.table.Running.{Running}
 use Rattle.session_engine.specs.declared.reply.Reply.TheVariants as reply
@@ -7,7 +7,7 @@ use Rattle.session_engine.specs.Does.{ends_life, tells, ChildDoes}
 use Rattle.session_engine.specs.Host.{Lives, OnDisk, life_in, number_in}
 use Rattle.session_engine.specs.inside.Commits.{FailsToLose}
 use Rattle.session_engine.specs.inside.Tables.{has_number}
-use Rattle.session_engine.proofs.Losses.{end_stands, gives_at_end, its_life}
+use Rattle.session_engine.proofs.Losses.{end_on_disk, end_stands, end_writes, its_life}
 use Rattle.session_engine.proofs.Tables.{found, numbers_are}
 use Rattle.session_engine.proofs.Standing.{no_life, told_end}
 use Rattle.session_engine.proofs.Stopping.{gives_end, wants_at_end}
@@ -50,7 +50,7 @@ returns-in-Some-clause-took g c = λ w e h is.
       may = subst (λ (l : Option Going). ChildDoes w l e (ends_life w why killed (Some f.life) reply.Nothing)) (sym there) (gives_end w (Some f.life) e why killed is);
       told = c.ended.ensures f.life.past f.life.blocks f.runs.stands ∙ told_end f.life r.name r.life.number why killed f.runs.name f.runs.number;
       stands = record { works = refl; stands = end_stands c.lose.new.self.store rs c.take_life.new.lives.items c.lose.new.self.begun w name r why f lost.stands c.in-Some.ensures.1 };
-      disk = subst (λ (k : Option Going). OnDisk w.ops (kept_at_end w why k) c.args.self.now.store.disk c.lose.new.self.store.disk) f.is lost.disk;
+      disk = subst (λ (k : Option Going). OnDisk w.ops false (kept_at_end w why k) c.args.self.now.store.disk c.lose.new.self.store.disk) f.is lost.disk;
     }
 
 pub returns-in-Err-OutOfMemory-clause-failed : goal.returns-in-Err-OutOfMemory-clause-failed
@@ -78,5 +78,15 @@ returns-in-Err-Disk-clause-failed g c = λ w e h is.
     record {
       contents = fails.contents;
       numbers = λ n. ap (λ (l : List Running). number_in l n) c.lose.ensures.lives ∙ numbers_are rs w.lives h.lives_are n;
-      cause = (fails.cause.0, (fails.lost, gives_at_end w name number e c.args.reason c.args.killed fails.lost is kept, fails.cause.1));
+      cause = (
+        fails.cause.0,
+        (
+          record {
+            does = ends_life w c.args.reason c.args.killed (with_number number (life_of w name)) reply.Nothing;
+            may = gives_end w (with_number number (life_of w name)) e c.args.reason c.args.killed is;
+            writes = end_writes w c.args.reason c.args.killed (with_number number (life_of w name)) reply.Nothing fails.lost kept;
+          },
+          end_on_disk w c.args.reason c.args.killed (with_number number (life_of w name)) reply.Nothing fails.lost kept c.args.self.now.store.disk c.lose.new.self.store.disk fails.cause.1,
+        ),
+      );
     }

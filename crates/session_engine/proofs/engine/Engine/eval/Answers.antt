@@ -2,7 +2,6 @@ use Rattle.std.proofs.Common.{◌≡◌, inr, ⊎_elim, ℕ, List, ap, sym, ◌�
 use Rattle.std.specs.Prelude.{is_some}
 use Rattle.std.proofs.lemmas.Result.{IfOk-weaker, IfOk-at_ok}
 use Rattle.disk_model.specs.Disk.{DiskView}
-use Rattle.worksheet.specs.declared.op.Op.{Op}
 use Rattle.worksheet.specs.declared.op.Op.TheVariants as op
 use Rattle.worksheet.specs.declared.field.Field.{Field}
 use Rattle.worksheet.specs.declared.refusal.Refusal.TheVariants as refusal
@@ -22,7 +21,7 @@ use Rattle.session_engine.specs.Host.{EngineStandsFor, HasField, OnDisk}
 use Rattle.session_engine.specs.inside.Engines.{StandsAt, TookAt, view_of}
 use Rattle.session_engine.specs.inside.Commits.{Evaluated}
 use Rattle.session_engine.proofs.Standing.{unchanged}
-use Rattle.session_engine.proofs.Asking.{gives_no_field, gives_in_flight, session_is, not_spent, eval_refused, eval_done, eval_told, eval_leads, eval_gives, eval_fails}
+use Rattle.session_engine.proofs.Asking.{gives_no_field, gives_in_flight, session_is, not_spent, eval_refused, eval_done, eval_told, eval_leads, eval_on_disk, eval_fails}
 use Rattle.session_engine.proofs.engine.Engine.eval.Goals as goal
 
 pub returns-in-Ok-line-clause-took : goal.returns-in-Ok-line-clause-took
@@ -41,8 +40,8 @@ returns-in-Ok-line-clause-took g c = λ w h.
     let still = unchanged c.args.self.now.store c.ready.new.self.store c.args.self.now.lives.items c.args.self.now.begun w h c.ready.ensures.store in
     let stand = subst (λ (l : List Running). EngineStandsFor c.ready.new.self.store l c.ready.new.self.begun w) (sym (ap (λ (x : Rattle.std.specs.declared.vec.Vec.Vec Running _). x.items) c.ready.ensures.lives))
     (subst (λ (k : ℕ). EngineStandsFor c.ready.new.self.store c.args.self.now.lives.items k w) (sym c.ready.ensures.begun) still) in
-    let cleared : OnDisk w.ops (Some (op.Clear id)) c.args.self.now.store.disk c.evaluate.new.self.store.disk =
-    subst (λ (d : DiskView). OnDisk w.ops (Some (op.Clear id)) d c.evaluate.new.self.store.disk) c.ready.ensures.store.disk (c.evaluate.ensures.moments w stand) in
+    let cleared : OnDisk w.ops false (Some (op.Clear id)) c.args.self.now.store.disk c.evaluate.new.self.store.disk =
+    subst (λ (d : DiskView). OnDisk w.ops false (Some (op.Clear id)) d c.evaluate.new.self.store.disk) c.ready.ensures.store.disk (c.evaluate.ensures.moments w stand) in
     IfOk-weaker c.evaluate.result (Evaluated w f.session id c.in-Ok-line.line c.ready.new.self c.evaluate.new.self) (TookAt w (event.Command (command.Eval id)) c.args.self.now c.evaluate.new.self)
     (λ out. ⊎_elim
     (λ done. record {
@@ -50,7 +49,7 @@ returns-in-Ok-line-clause-took g c = λ w h.
       may = eval_done w id f here free none;
       told = done.0 ∙ eval_told w id f here free c.in-Ok-line.line line;
       stands = record { works = refl; stands = subst (λ (v : World). StandsAt c.evaluate.new.self v) (eval_leads w id f here free c.in-Ok-line.line line) done.1 };
-      disk = subst (λ (o : Option Op). OnDisk w.ops o c.args.self.now.store.disk c.evaluate.new.self.store.disk) (sym (eval_gives w id f here free)) cleared;
+      disk = eval_on_disk w id f here free c.args.self.now.store.disk c.evaluate.new.self.store.disk cleared;
     })
     (λ want. record {
       did = tells w (reply.Refused refusal.OutOfMemory);
@@ -73,8 +72,8 @@ returns-in-Ok-line-clause-failed g c = λ w h.
     let lives = ap (λ (x : Rattle.std.specs.declared.vec.Vec.Vec Running _). x.items) c.ready.ensures.lives in
     let stand = subst (λ (l : List Running). EngineStandsFor c.ready.new.self.store l c.ready.new.self.begun w) (sym lives)
     (subst (λ (k : ℕ). EngineStandsFor c.ready.new.self.store c.args.self.now.lives.items k w) (sym c.ready.ensures.begun) still) in
-    let cleared : OnDisk w.ops (Some (op.Clear id)) c.args.self.now.store.disk c.evaluate.new.self.store.disk =
-    subst (λ (d : DiskView). OnDisk w.ops (Some (op.Clear id)) d c.evaluate.new.self.store.disk) c.ready.ensures.store.disk (c.evaluate.ensures.moments w stand) in
+    let cleared : OnDisk w.ops false (Some (op.Clear id)) c.args.self.now.store.disk c.evaluate.new.self.store.disk =
+    subst (λ (d : DiskView). OnDisk w.ops false (Some (op.Clear id)) d c.evaluate.new.self.store.disk) c.ready.ensures.store.disk (c.evaluate.ensures.moments w stand) in
     eval_fails w id f here free (view_of c.args.self.now false) (view_of c.ready.new.self false) (view_of c.evaluate.new.self false) c.evaluate.result h none
     c.ready.ensures.store lives c.evaluate.ensures.contents c.evaluate.ensures.numbers c.evaluate.ensures.fault cleared
 

@@ -1,4 +1,4 @@
-use Rattle.std.proofs.Common.{◌≡◌, ℕ, List, ap, sym, ◌∙◌, refl, subst, true, Option, Some, None}
+use Rattle.std.proofs.Common.{◌≡◌, ℕ, List, ap, sym, ◌∙◌, refl, subst, true, false, Option, Some, None}
 use Rattle.worksheet.specs.Contents.{Contents, SheetView}
 use Rattle.worksheet.specs.Checks.{session_named}
 use Rattle.worksheet.specs.declared.refusal.Refusal.TheVariants as refusal
@@ -11,7 +11,7 @@ use Rattle.session_engine.specs.World.{Going, kept_at_end, life_of, sheet_in, wi
 use Rattle.session_engine.specs.Does.{ends_life, tells}
 use Rattle.session_engine.specs.Host.{EngineStandsFor, Lives, OnDisk, number_in}
 use Rattle.session_engine.specs.inside.Commits.{FailsToLose}
-use Rattle.session_engine.proofs.Losses.{end_stands, stop_op}
+use Rattle.session_engine.proofs.Losses.{end_on_disk, end_stands, end_writes}
 use Rattle.session_engine.proofs.Tables.{found, not_found, numbers_are}
 use Rattle.session_engine.proofs.Standing.{told_end}
 use Rattle.session_engine.proofs.Stopping.{gives_stop, gives_stop_none, gives_no_session}
@@ -43,7 +43,7 @@ returns-in-Some-take_life-clause-took g c = λ w h.
       may = gives_stop w asked s (Some f.life) named there;
       told = c.ended.ensures f.life.past f.life.blocks f.runs.stands ∙ told_end f.life r.name r.life.number reason.Stopped true f.runs.name f.runs.number;
       stands = record { works = refl; stands = end_stands c.lose.new.self.store rs c.take_life.new.lives.items c.lose.new.self.begun w s.name r reason.Stopped f lost.stands c.in-Some-take_life.ensures.1 };
-      disk = subst (λ (k : Option Going). OnDisk w.ops (kept_at_end w reason.Stopped k) c.args.self.now.store.disk c.lose.new.self.store.disk) f.is lost.disk;
+      disk = subst (λ (k : Option Going). OnDisk w.ops false (kept_at_end w reason.Stopped k) c.args.self.now.store.disk c.lose.new.self.store.disk) f.is lost.disk;
     }
 
 pub returns-in-Ok-clause-took : goal.returns-in-Ok-clause-took
@@ -64,7 +64,7 @@ returns-in-Ok-clause-took g c = λ w h.
       may = gives_stop w asked s None named (ap (λ (n : List ℕ). life_of w n) (sym same) ∙ gone_before);
       told = refl;
       stands = record { works = refl; stands = subst (λ (l : List Running). EngineStandsFor c.lose.new.self.store l c.lose.new.self.begun w) (sym c.in-None-take_life.ensures.1) stands };
-      disk = subst (λ (k : Option Going). OnDisk w.ops (kept_at_end w reason.Stopped k) c.args.self.now.store.disk c.lose.new.self.store.disk) gone_before lost.disk;
+      disk = subst (λ (k : Option Going). OnDisk w.ops false (kept_at_end w reason.Stopped k) c.args.self.now.store.disk c.lose.new.self.store.disk) gone_before lost.disk;
     }
 
 pub returns-in-Err-OutOfMemory-clause-took : goal.returns-in-Err-OutOfMemory-clause-took
@@ -102,13 +102,12 @@ returns-clause-failed g c = λ w h.
       cause = (
         fails.cause.0,
         (
-          fails.lost,
           record {
             does = ends_life w reason.Stopped true (life_of w asked) reply.Done;
             may = gives_stop w asked s (life_of w asked) named refl;
-            gives = stop_op w reason.Stopped true (life_of w asked) reply.Done fails.lost kept;
+            writes = end_writes w reason.Stopped true (life_of w asked) reply.Done fails.lost kept;
           },
-          fails.cause.1,
+          end_on_disk w reason.Stopped true (life_of w asked) reply.Done fails.lost kept c.args.self.now.store.disk c.lose.new.self.store.disk fails.cause.1,
         ),
       );
     }

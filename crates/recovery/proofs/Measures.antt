@@ -1,0 +1,107 @@
+-- The room that the records of ops take, one behind another.
+use Rattle.std.proofs.Common.{◌≡◌, ℕ, List, [], ◌∷◌, ◌++◌, Option, Some, None, ◌+◌, ◌-◌, ◌<◌, ◌≤◌, ◌↔◌, Bool, true, false, min, length, refl, sym, ap, ◌∙◌, subst, arith, append_assoc, length-append, IsTrue}
+use Rattle.std.specs.Prelude.{is_some}
+use Rattle.std.specs.List.{AllByRecursion}
+use Rattle.worksheet.specs.declared.op.Op.{Op}
+use Rattle.worksheet.specs.Contents.{Contents}
+use Rattle.worksheet.specs.declared.op.Op.TheVariants as op
+use Rattle.worksheet.specs.declared.field.Field.{Field}
+use Rattle.worksheet.specs.Checks.{numbers}
+use Rattle.worksheet.specs.Rewrite.{field_ops, ids_to, outcome_ops, rewrite_of, smaller_before}
+use Rattle.journal.specs.Area.{ArePayloads, record_of, records}
+use Rattle.journal.specs.Limits.{max_payload}
+use Rattle.recovery.specs.Code.{code_of, longest_told}
+use Rattle.recovery.specs.Sheets.{codes_of}
+use Rattle.recovery.specs.Checkpointed.{HasRoomAnew}
+use Rattle.recovery.specs.inside.Measured.{Measures}
+use Rattle.recovery.proofs.Gathering.{all_behind, codes_append, payloads_behind, payloads_front}
+
+-- how long the records of ops are
+abbrev size_of : List Op → ℕ
+size_of ops = length (records (codes_of ops))
+
+records_size : (a b : List (List ℕ)) → length (records (a ++ b)) ≡ length (records a) + length (records b)
+records_size [] b = omega arith
+records_size (p ∷ a) b = omega (arith, records_size a b, length-append (record_of p) (records (a ++ b)), length-append (record_of p) (records a))
+
+size_append : (a b : List Op) → size_of (a ++ b) ≡ size_of a + size_of b
+size_append a b = ap (λ (l : List (List ℕ)). length (records l)) (codes_append a b) ∙ records_size (codes_of a) (codes_of b)
+
+payloads_both : (a b : List Op) → ArePayloads max_payload (codes_of a) → ArePayloads max_payload (codes_of b) → ArePayloads max_payload (codes_of (a ++ b))
+payloads_both [] b each more = more
+payloads_both (o ∷ a) b each more = (each.0, payloads_both a b each.1 more)
+
+-- One op.
+
+size_one : (o : Op) → size_of (o ∷ []) ≡ 5 + length (code_of o)
+size_one o = omega (arith, length-append (record_of (code_of o)) [])
+
+pub measures_long : (o : Op) (left len : ℕ) → len ≡ min (length (code_of o)) longest_told → max_payload < len → Measures (o ∷ []) left None
+measures_long o left len is long = λ each room. omega (arith, is, long, each.0.1)
+
+pub measures_wide : (o : Op) (left len : ℕ) → len ≡ min (length (code_of o)) longest_told → len ≤ max_payload → left < len + 5 → Measures (o ∷ []) left None
+measures_wide o left len is short wide = λ each room. omega (arith, is, short, wide, size_one o, room)
+
+pub measures_one : (o : Op) (left len : ℕ) → len ≡ min (length (code_of o)) longest_told → len ≤ max_payload → len + 5 ≤ left → Measures (o ∷ []) left (Some (left - 5 - len))
+measures_one o left len is short fits = (((omega arith, omega (arith, is, short)), tt), omega (arith, is, short, fits, size_one o))
+
+-- One behind another.
+
+pub measures_none : (x : ℕ) → Measures [] x (Some x)
+measures_none x = (tt, omega arith)
+
+pub measures_on : (a b : List Op) (r : Option ℕ) (x y : ℕ) → Measures a x (Some y) → Measures b y r → Measures (a ++ b) x r
+measures_on a b (Some z) x y one two = (payloads_both a b one.0 two.0, omega (arith, one.1, two.1, size_append a b))
+measures_on a b None x y one two = λ each room. two (payloads_behind a b each) (omega (arith, one.1, size_append a b, room))
+
+pub measures_stop : (a b : List Op) (x : ℕ) → Measures a x None → Measures (a ++ b) x None
+measures_stop a b x one = λ each room. one (payloads_front a b each) (omega (arith, size_append a b, room))
+
+-- Some of these ops were measured, and the rest is left.
+pub record MeasuredSoFar (all rest : List Op) (x y : ℕ) : Type 0 where
+  pub done : List Op
+  pub split : done ++ rest ≡ all
+  pub measures : Measures done x (Some y)
+
+pub measured_none : (all : List Op) (x : ℕ) → MeasuredSoFar all all x x
+measured_none all x = record { done = []; split = refl; measures = measures_none x }
+
+pub measured_on : (all rest more left : List Op) (x y z : ℕ) → MeasuredSoFar all rest x y → rest ≡ more ++ left → Measures more y (Some z) → MeasuredSoFar all left x z
+measured_on all rest more left x y z so_far is one = record {
+  done = so_far.done ++ more;
+  split = append_assoc so_far.done more left ∙ ap (λ (l : List Op). so_far.done ++ l) (sym is) ∙ so_far.split;
+  measures = measures_on so_far.done more (Some z) x y so_far.measures one;
+}
+
+pub measured_ends : (all rest : List Op) (r : Option ℕ) (x y : ℕ) → MeasuredSoFar all rest x y → Measures rest y r → Measures all x r
+measured_ends all rest r x y so_far last = subst (λ (l : List Op). Measures l x r) so_far.split (measures_on so_far.done rest r x y so_far.measures last)
+
+pub measured_stops : (all rest more left : List Op) (x y : ℕ) → MeasuredSoFar all rest x y → rest ≡ more ++ left → Measures more y None → Measures all x None
+measured_stops all rest more left x y so_far is one =
+    measured_ends all rest None x y so_far (subst (λ (l : List Op). Measures l y None) (sym is) (measures_stop more left y one))
+
+pub rest_measured : (P : Op → Type 0) (all rest : List Op) (x y : ℕ) → MeasuredSoFar all rest x y → AllByRecursion P all → AllByRecursion P rest
+rest_measured P all rest x y so_far holds = all_behind P so_far.done rest (subst (AllByRecursion P) (sym so_far.split) holds)
+
+-- whether there is room for them all
+pub no_room_anew : (room : ℕ) (sheet : Contents) → room < 11 → IsTrue false ↔ HasRoomAnew room sheet
+no_room_anew room sheet small = ((λ no. absurd (let wrong : false ≡ true = no in cc)), λ has. absurd (omega (arith, small, has.1)))
+
+pub has_room : (room : ℕ) (sheet : Contents) (r : Option ℕ) → 11 ≤ room → Measures (rewrite_of sheet) (room - 11) r → IsTrue (is_some r) ↔ HasRoomAnew room sheet
+has_room room sheet (Some rest) wide one = ((λ _. (one.0, omega (arith, wide, one.1))), λ _. refl)
+has_room room sheet None wide one = ((λ no. absurd (let wrong : false ≡ true = no in cc)), λ has. absurd (one has.0 (omega (arith, wide, has.1))))
+
+-- A field.
+
+-- the op that makes a field behind others
+abbrev new_op : List Field → Field → Op
+new_op fields f = op.New (smaller_before 0 f.id (numbers fields)) f.session f.input
+
+pub field_stops : (fields : List Field) (next : ℕ) (f : Field) (x y : ℕ) → Measures (ids_to next f.id) x (Some y) → Measures (new_op fields f ∷ []) y None → Measures (field_ops fields next f) x None
+field_stops fields next f x y ids made =
+    measures_on (ids_to next f.id) (new_op fields f ∷ outcome_ops f.id f.answer f.lost) None x y ids (measures_stop (new_op fields f ∷ []) (outcome_ops f.id f.answer f.lost) y made)
+
+pub field_measures : (fields : List Field) (next : ℕ) (f : Field) (r : Option ℕ) (x y z : ℕ) → Measures (ids_to next f.id) x (Some y) → Measures (new_op fields f ∷ []) y (Some z)
+    → Measures (outcome_ops f.id f.answer f.lost) z r → Measures (field_ops fields next f) x r
+field_measures fields next f r x y z ids made outcome =
+    measures_on (ids_to next f.id) (new_op fields f ∷ outcome_ops f.id f.answer f.lost) r x y ids (measures_on (new_op fields f ∷ []) (outcome_ops f.id f.answer f.lost) r y z made outcome)

@@ -1,0 +1,154 @@
+//! The room that the records which make a worksheet anew take, told without making them.
+ghost use Rattle.std.specs.Prelude.{◌≡◌, ◌↔◌, ◌≤◌, ◌-◌, ◌∷◌, [], ℕ, List, map, min, length, IsTrue};
+ghost use Rattle.std.specs.List.{AllByRecursion};
+ghost use Rattle.worksheet.specs.declared.op.Op.{Op};
+ghost use Rattle.worksheet.specs.declared.field.Field.{Field};
+ghost use Rattle.worksheet.specs.Rewrite.{field_ops, fields_ops, ids_to, lost_ops, outcome_ops, rewrite_of, session_op};
+ghost use Rattle.recovery.specs.Code.{code_of, longest_told, HasCode};
+ghost use Rattle.recovery.specs.Checkpointed.{HasRoomAnew};
+ghost use Rattle.recovery.specs.inside.Measured.{Measures};
+
+use crate::size::{answer_len, new_len, session_len};
+use block_tree::Reason;
+use journal::MAX_PAYLOAD;
+use worksheet::{Answer, Field, Session, Sheet};
+
+// The bytes of the payload of an Ids, and of a Lost.
+const IDS_LEN: u64 = 5;
+
+const LOST_LEN: u64 = 6;
+
+// What a record of a payload of so many bytes leaves of so much room, where the record fits.
+fn behind(left: u64, len: u64) -> Option<u64>
+    ensures { (o : Op) → len ≡ min (length (code_of o)) longest_told
+        → Measures (o ∷ []) left result }
+{
+    if len > MAX_PAYLOAD {
+        return None;
+    }
+    if left < len + 5 {
+        return None;
+    }
+    Some(left - 5 - len)
+}
+
+fn behind_session(left: u64, session: &Session) -> Option<u64>
+    requires { HasCode (session_op session.now) }
+    ensures { Measures (session_op session.now ∷ []) left result }
+{
+    behind(left, session_len(session))
+}
+
+fn behind_sessions(left: u64, sheet: &Sheet) -> Option<u64>
+    requires { AllByRecursion HasCode (map session_op sheet.now.contents.sessions) }
+    ensures { Measures (map session_op sheet.now.contents.sessions) left result }
+{
+    let mut rest = left;
+    let mut sessions = sheet.sessions();
+    while let Some(session) = sessions.next() {
+        match behind_session(rest, session) {
+            Some(less) => rest = less,
+            None => return None,
+        }
+    }
+    Some(rest)
+}
+
+// The next number, where it isn't this already.
+fn behind_ids(left: u64, next: u32, number: u32) -> Option<u64>
+    ensures { Measures (ids_to next number) left result }
+{
+    if next == number {
+        return Some(left);
+    }
+    behind(left, IDS_LEN)
+}
+
+// The reason why nothing was answered, if that is known.
+fn behind_lost(left: u64, id: u32, lost: Option<Reason>) -> Option<u64>
+    ensures { Measures (lost_ops id lost) left result }
+{
+    match lost {
+        Some(_) => behind(left, LOST_LEN),
+        None => Some(left),
+    }
+}
+
+// An answer, or the reason why there is none, if there is one of them.
+fn behind_outcome(left: u64, id: u32, answer: &Option<Answer>, lost: Option<Reason>) -> Option<u64>
+    requires { AllByRecursion HasCode (outcome_ops id answer.now lost) }
+    ensures { Measures (outcome_ops id answer.now lost) left result }
+{
+    match answer {
+        Some(answer) => behind(left, answer_len(id, answer)),
+        None => behind_lost(left, id, lost),
+    }
+}
+
+// A field, where this is the next number. Its place takes the same room whatever it is.
+fn behind_field(left: u64, next: u32, field: &Field) -> Option<u64>
+    requires { (fields : List Field) × AllByRecursion HasCode (field_ops fields next field.now) }
+    ensures { (fields : List Field) → Measures (field_ops fields next field.now) left result }
+{
+    let Some(left) = behind_ids(left, next, field.id) else {
+        return None;
+    };
+    let Some(left) = behind(left, new_len(0, field)) else {
+        return None;
+    };
+    behind_outcome(left, field.id, &field.answer, field.lost)
+}
+
+// The fields by ascending number, and the next number.
+fn behind_fields(left: u64, sheet: &Sheet) -> Option<u64>
+    requires some { 1 ≤ sheet.now.contents.next }
+    requires code { AllByRecursion HasCode
+        (fields_ops sheet.now.contents.fields (sheet.now.contents.next - 1) 1 1) }
+    ensures { Measures (fields_ops sheet.now.contents.fields (sheet.now.contents.next - 1) 1 1)
+        left result }
+{
+    let last = sheet.next_id();
+    let mut rest = left;
+    let mut id = 1;
+    let mut next = 1;
+    while id < last {
+        match sheet.field(id) {
+            Some(field) => {
+                match behind_field(rest, next, field) {
+                    Some(less) => rest = less,
+                    None => return None,
+                }
+                next = id + 1;
+            }
+            None => {}
+        }
+        id += 1;
+    }
+    behind_ids(rest, next, last)
+}
+
+// The records that make a worksheet anew.
+fn behind_all(left: u64, sheet: &Sheet) -> Option<u64>
+    requires some { 1 ≤ sheet.now.contents.next }
+    requires code { AllByRecursion HasCode (rewrite_of sheet.now.contents) }
+    ensures { Measures (rewrite_of sheet.now.contents) left result }
+{
+    match behind_sessions(left, sheet) {
+        Some(rest) => behind_fields(rest, sheet),
+        None => None,
+    }
+}
+
+/// Whether an area of so many bytes has room for the records that make a worksheet anew. It takes no
+/// memory.
+pub(crate) fn has_room_anew(room: u64, sheet: &Sheet) -> bool
+    requires some { 1 ≤ sheet.now.contents.next }
+    requires code { AllByRecursion HasCode (rewrite_of sheet.now.contents) }
+    ensures { IsTrue result ↔ HasRoomAnew room sheet.now.contents }
+{
+    // A header, and the gate behind the records.
+    if room < 11 {
+        return false;
+    }
+    behind_all(room - 11, sheet).is_some()
+}

@@ -1,0 +1,37 @@
+//! A checkpoint.
+ghost use Rattle.std.specs.Prelude.{◌≡◌, IfOk, IfErr};
+ghost use Rattle.disk_model.specs.Disk.{SameDisk};
+
+use crate::engine::{Engine, refused};
+use crate::{HostFault, Outcome, Reply};
+use disk_model::Disk;
+use recovery::CheckpointFault;
+use worksheet::Refusal;
+
+impl<D: Disk> Engine<D> {
+    ghost use Rattle.session_engine.specs.declared.event.Event.TheVariants as event_of;
+    ghost use Rattle.session_engine.specs.declared.command.Command.TheVariants as command_of;
+    ghost use Rattle.session_engine.specs.World.{World};
+    ghost use Rattle.session_engine.specs.inside.Engines.{StandsAt, Works, TookAt, FailedAt};
+
+    /// The journal is written anew.
+    pub(crate) fn checkpoint(&mut self) -> Result<Outcome, HostFault>
+        requires { Works self.old }
+        ensures same { SameDisk self.old.store.disk self.new.store.disk }
+        ensures took { (w : World) → StandsAt self.old w
+            → IfOk result (TookAt w (event_of.Command command_of.Checkpoint) self.old self.new) }
+        ensures failed { (w : World) → StandsAt self.old w
+            → IfErr result (FailedAt w (event_of.Command command_of.Checkpoint) self.old self.new) }
+    {
+        match self.store.checkpoint() {
+            Ok(()) => Ok(Outcome {
+                reply: Reply::Done,
+                effect: None,
+            }),
+            Err(CheckpointFault::Full) => Ok(refused(Refusal::JournalFull)),
+            Err(CheckpointFault::OutOfMemory) => Ok(refused(Refusal::OutOfMemory)),
+            Err(CheckpointFault::Disk) => Err(HostFault::Disk),
+            Err(CheckpointFault::Closed) => unreachable!(),
+        }
+    }
+}
