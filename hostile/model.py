@@ -106,6 +106,8 @@ class Model:
         if verb == "new":
             after, name, text = words
             return 1 if name not in self.sessions else 2 if after != "0" and not field(after) else self.bad_input(text)
+        if verb == "checkpoint":
+            return None
         if verb == "stop":
             return None if words[0] in self.sessions else 1
         if not field(words[0]):
@@ -149,7 +151,7 @@ class Model:
             session, ended = self.sessions[words[0]], f"ended {words[0]} Stopped lost "
             if session.is_up:
                 return [ended + str(self.end(session, "Stopped"))]
-        else:
+        elif verb != "checkpoint":
             return self.change(verb, int(words[0]), words)
         return ["ok"]
 
@@ -232,7 +234,7 @@ class Model:
                 self.end(session, "Ended")
 
 
-VERBS = {"session", "new", "set", "remove", "move", "clear", "eval", "complete", "stop"}
+VERBS = {"session", "new", "set", "remove", "move", "clear", "eval", "complete", "stop", "checkpoint"}
 
 
 def words_of(line):
@@ -339,6 +341,7 @@ def scripts(rng, length, kinds, completes):
                 rng.choice(
                     [f"set {some()} {text}", f"clear {some()}", f"move {some()} {after}", f"stop {rng.choice(names)}"]
                     + [f"remove {some()}", "# remark", "", "print", "no command", "stop nobody", f"set {some()} \x10"]
+                    + ["checkpoint"] * 2
                     + [f"complete {some()} {rng.randint(0, 3)}"] * completes
                     + [f"session {rng.choice(names)} plain p"] * (rng.random() < 0.2)
                 )
