@@ -2,7 +2,8 @@
 # Prints how long opening a worksheet takes (`tmhost show`) whose journal has so many MB (100 and 1,000 where none are given), against
 # `cat` of that file, and the peak memory of both, resident and asked for. Every journal makes the same worksheet of 10 fields: what is longer about a longer
 # one are the inputs that were set and set again. The medians of RUNS runs (5 where it isn't set) of both in turn; the files lie in
-# FOLDER, or in the current one.
+# FOLDER, or in the current one. Behind that the journal is written anew by the line `checkpoint`: how long an opening takes then, and how long such a
+# line takes, against writing and syncing the bytes of the new journal twice.
 set -euo pipefail
 root=$(dirname "$(dirname "$(readlink -f "${BASH_SOURCE[0]}")")")
 work=$(mktemp -d "$(readlink -f "${FOLDER:-.}")/open.XXXXXX")
@@ -54,6 +55,25 @@ def measured(words):
     assert child.wait() == 0, f"{words[0]}: status {child.returncode}"
     return time.perf_counter() - begun, peak[1], told, peak[0]
 
+# Seconds of a `run` of this script, which tells this.
+def run(path, script, told):
+    begun = time.perf_counter()
+    ran = subprocess.run([program, "run", path], input=script, capture_output=True, check=True)
+    assert ran.stdout == told, f"run tells {ran.stdout}"
+    return time.perf_counter() - begun
+
+# Seconds of writing so many bytes into a file and syncing it, twice.
+def written_twice(path, length):
+    with open(path, "wb", buffering=0) as file:
+        begun = time.perf_counter()
+        for _ in range(2):
+            file.write(bytes(length))
+            os.fdatasync(file.fileno())
+        return time.perf_counter() - begun
+
+def median(seconds):
+    return statistics.median(seconds() for _ in range(runs))
+
 for size in sys.argv[4:]:
     path = f"{work}/sheet{size}"
     journal(path, int(size) * 1_000_000)
@@ -67,5 +87,12 @@ for size in sys.argv[4:]:
     peak, other = (max(run[1] for run in side) for side in (ours, theirs))
     asked = max(run[3] for run in ours)
     print(f"{size} MB: show {show:.2f} s, cat {cat:.2f} s, ratio {show / cat:.1f}; peak memory {peak:.1f} MiB, of cat {other:.1f} MiB; addresses {asked:.1f} MiB")
+    run(path, b"checkpoint\n", b"ok\n")
+    assert measured([program, "show", path])[2] == want, "show prints another worksheet behind a checkpoint"
+    behind = median(lambda: measured([program, "show", path])[0])
+    line = median(lambda: run(path, b"checkpoint\n", b"ok\n")) - median(lambda: run(path, b"", b""))
+    anew = os.path.getsize(path + ".alt")
+    twice = median(lambda: written_twice(f"{work}/plain", anew))
+    print(f"{size} MB behind a checkpoint: show {1000 * behind:.1f} ms; the line takes {1000 * line:.1f} ms, writing and syncing its {anew} bytes twice {1000 * twice:.1f} ms, ratio {line / twice:.1f}")
     os.remove(path)
 PYTHON
