@@ -127,6 +127,14 @@ exec sleep 10
 END_OF_CHILD
 script 'a line that is not taken' "$one" 'ok\nfield 1\nasked\nbanner a\nended a SendFault lost 1\n' '#1 a\n> x\n? SendFault\n'
 
+# A session that gives noise without end is stalled behind 100,000 pieces.
+cat >p.sh <<'END_OF_CHILD'
+echo $$ >lives
+while :; do printf .; done
+END_OF_CHILD
+script 'a session that stalls' "$one" 'ok\nfield 1\nasked\nended a Stalled lost 1\n' '#1 a\n> x\n? Stalled\n'
+ended 'a session that stalls' 1
+
 # Programs that are no interpreters.
 script 'a program that is not there' 'session a plain /nonexistent/p\nnew 0 a x\neval 1\nwait\n' \
     'ok\nfield 1\nasked\nended a StartRefused lost 1\n' '#1 a\n> x\n? StartRefused\n'
