@@ -1,5 +1,5 @@
 # Each journal of the file `journals` is shown by the program, whose path is the first word. A worksheet of more than 1,000 bytes is
-# told by its checksum and its length. The files aren't changed by it.
+# told by its checksum and its length, of others each byte that is no ASCII as `cat -v` prints it. The files aren't changed by it.
 tmhost=$1
 
 grep -v '^#' journals | while read -r first name; do
@@ -18,7 +18,7 @@ while read -r name; do
     cp "journal_$name" before
     "$tmhost" show "journal_$name" >text 2>errors
     status=$?
-    if [ "$(wc -c <text)" -gt 1000 ]; then cksum <text; else cat text; fi
+    if [ "$(wc -c <text)" -gt 1000 ]; then cksum <text; else cat -v text; fi
     cat errors
     [ $status = 0 ] || echo "status $status"
     cmp "journal_$name" before

@@ -1,6 +1,10 @@
 # Steps of the program as its users take them, over real files, streams and interpreters. Its first word is the program's path. What
 # is printed here is compared with the file stdout beside this folder. A line `-- WORDS` names the step, and one `status N` its status
 # where that isn't 0.
+#
+# At the end stand the cases, by matter: each of the files that are read there has some hundred of them, and prints how many are as
+# wanted. Who adds a case writes it into the file of its matter, with the text that is wanted (desk.sh has the forms), and counts it in
+# the last lines of the file stdout. Nothing is to be proved for it.
 tmhost=$1
 
 step() {
@@ -34,11 +38,15 @@ printf '\002verbatim:\005'
 while IFS= read -r l; do printf '\002verbatim:%s\005' "$l"; done
 END
 
-# The same, which kills its host at the line `kill`.
+# The same, which kills its host at the line `kill`, once the file text says that this line was asked as well.
 cat >kills.sh <<'END'
 printf '\002verbatim:\005'
 while IFS= read -r l; do
-    if [ "$l" = kill ]; then kill -9 $PPID; exit; fi
+    if [ "$l" = kill ]; then
+        until [ "$(grep -c '^asked$' text)" = 2 ]; do sleep 0.01; done
+        kill -9 $PPID
+        exit
+    fi
     printf '\002verbatim:%s\005' "$l"
 done
 END
@@ -165,7 +173,9 @@ session a plain sh echo.sh
 new 0 a x
 eval 1
 checkpoint
+set 1 z
 wait
+checkpoint
 print
 END
 run run waits <script
@@ -225,3 +235,15 @@ run show sheet
 files sheet.alt
 
 sh journals.sh "$tmhost"
+
+step cases
+. ./desk.sh
+compare 'a case that must differ' yes no
+counted 'cases that must differ'
+. ./areas.sh
+. ./blocks.sh
+. ./children.sh
+. ./completions.sh
+. ./replies.sh
+. ./limits.sh
+. ./command_lines.sh

@@ -1,10 +1,12 @@
 //! The program `tmhost` once more, which the merge gate starts by a shell script, `data/steps.sh`, over
 //! real files, streams and interpreters. Started with the words `by SCRIPT` it runs that script, whose
-//! first word is the path of this program; with any other words it is `tmhost`.
+//! first word is the path of this program. With the words `in memory` it runs the script on its input over
+//! a worksheet in memory, without interpreters. With any other words it is `tmhost`. `data/steps.sh` says
+//! how a case is added.
 #![tactic(auto)]
 
 use child_edge::Processes;
-use host_cli::{Closed, FilePlaces, run_words};
+use host_cli::{Closed, FilePlaces, end_program, run_memory, run_words};
 use std::io;
 use std::io::ErrorKind;
 use std::process::{Command, ExitCode};
@@ -29,6 +31,34 @@ fn run_steps(rt: &HostRuntime, program: &str, script: &str) -> io::Result<u8> {
     }
 }
 
+/// Runs the script on the input over a worksheet in memory, and gives the status. A fault is told as
+/// `tmhost` tells its own.
+fn run_in_memory(rt: &HostRuntime) -> u8 {
+    let ran = run_memory(rt.alloc(), &mut rt.stdin(), &mut rt.stdout());
+    let answer = match ran {
+        Ok(()) => Ok(true),
+        Err(fault) => Err(fault),
+    };
+    end_program(answer, &mut rt.stderr()).status
+}
+
+/// What the words ask for beside the tasks of `tmhost`.
+#[derive(Clone, Copy)]
+enum Asked<'a> {
+    Steps(&'a str, &'a str),
+    Memory,
+    Nothing,
+}
+
+/// That of these words.
+fn asked_by(words: &[String]) -> Asked<'_> {
+    match words {
+        [program, by, script] if by.as_str() == "by" => Asked::Steps(program, script),
+        [_, into, memory] if into.as_str() == "in" && memory.as_str() == "memory" => Asked::Memory,
+        _ => Asked::Nothing,
+    }
+}
+
 /// The program `tmhost`.
 fn tmhost(rt: &HostRuntime, words: Result<Vec<String>, ErrorKind>) -> u8 {
     let closed = Closed::find(&rt.stdin(), &rt.stdout(), &rt.stderr());
@@ -46,11 +76,13 @@ fn tmhost(rt: &HostRuntime, words: Result<Vec<String>, ErrorKind>) -> u8 {
 
 fn main(rt: HostRuntime) -> ExitCode {
     let words = words(&rt);
-    if let Ok(steps) = &words {
-        if let [program, by, script] = steps.as_slice() {
-            if by.as_str() == "by" {
+    if let Ok(all) = &words {
+        match asked_by(all.as_slice()) {
+            Asked::Steps(program, script) => {
                 return ExitCode::from(run_steps(&rt, program, script).unwrap_or(1));
             }
+            Asked::Memory => return ExitCode::from(run_in_memory(&rt)),
+            Asked::Nothing => {}
         }
     }
     ExitCode::from(tmhost(&rt, words))

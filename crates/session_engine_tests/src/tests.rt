@@ -5,7 +5,6 @@ mod completions;
 mod desk;
 mod disks;
 mod events;
-mod fields;
 mod lives;
 mod lost;
 mod told;

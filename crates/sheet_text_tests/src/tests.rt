@@ -1,7 +1,2 @@
-//! Printed texts, with their bytes typed in, and the forms of lines.
-mod completions;
-mod forms;
-mod hosted;
+//! Texts where no memory is left. Lines and printed texts are cases of `programs`, `data/replies.sh`.
 mod memory;
-mod sheets;
-mod trees;

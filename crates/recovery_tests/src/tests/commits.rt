@@ -1,7 +1,6 @@
 //! Commits, and what they leave where the disk fails or a crash comes.
 use super::desk::{
-    AREA, Outcome, created, empty_disk, has_session, new, prepared, put, session, store_of,
-    store_on,
+    Outcome, created, empty_disk, has_session, new, prepared, put, session, store_of, store_on,
 };
 use block_tree::OutOfMemory;
 use disk_model::{Area, Choice, Disk, DiskFault, Fill, FuseDisk, FuseMode, MemoryDisk};
@@ -9,23 +8,6 @@ use recovery::{CommitFault, Store};
 use std::alloc::Global;
 use std::test::Fail;
 use worksheet::Op;
-
-#[test]
-fn the_worked_example_is_written(rt: HostRuntime) -> Result<(), Fail> {
-    let disk = store_of(rt.alloc(), 100, 4)?.into_disk();
-    assert_eq!(rt; disk.content(Area::First), AREA.as_slice());
-    assert_eq!(rt; disk.content(Area::Second).len(), 0);
-    Ok(())
-}
-
-#[test]
-fn each_op_lengthens_the_area(rt: HostRuntime) -> Result<(), Fail> {
-    for (ops, len) in [(0, 11), (1, 25), (2, 40), (3, 50)] {
-        let disk = store_of(rt.alloc(), 100, ops)?.into_disk();
-        assert_eq!(rt; disk.content(Area::First).len(), len);
-    }
-    Ok(())
-}
 
 // Whether field 1 is answered on the disk that a crash leaves.
 fn is_answered(alloc: Global, disk: &MemoryDisk, moment: u64, fill: Fill) -> Result<bool, Fail> {

@@ -3,10 +3,9 @@ use super::events::{Step, event};
 use super::told::{fields, told};
 use disk_model::{Disk, MemoryDisk};
 use journal::create;
-use session_engine::{Host, HostFault};
+use session_engine::Host;
 use std::alloc::Global;
 use std::test::Fail;
-use worksheet::Name;
 
 /// A new disk in memory with an empty worksheet.
 pub fn created(alloc: Global, room: u64) -> Result<MemoryDisk, Fail> {
@@ -28,16 +27,6 @@ pub fn open<D: Disk>(alloc: Global, disk: D) -> Result<Host<D>, Fail> {
 
 pub fn opened(alloc: Global, room: u64) -> Result<Host<MemoryDisk>, Fail> {
     open(alloc, created(alloc, room)?)
-}
-
-/// Takes an event, and gives its fault.
-pub fn take<D: Disk>(
-    alloc: Global,
-    host: &mut Host<D>,
-    step: &Step<'_>,
-) -> Result<Option<HostFault>, Fail> {
-    let event = event(alloc, step)?;
-    Ok(host.step(event).err())
 }
 
 // An error that has what was told.
@@ -119,18 +108,4 @@ pub fn then_shows(
 /// A host on a new worksheet tells these lines of these events, and then has these fields.
 pub fn plays(alloc: Global, steps: &[(Step<'_>, &str)], want: &str) -> Result<(), Fail> {
     then_shows(alloc, opened(alloc, 1_000)?, steps, want)
-}
-
-/// The number of the life of session `a`, and how many of its lines wait.
-pub fn life(host: &Host<MemoryDisk>) -> Option<(u32, u32)> {
-    let life = host.life(Name::new(b"a")?)?;
-    Some((life.number, life.waiting))
-}
-
-/// Whether the next line of session `a` has this prompt.
-pub fn has_prompt(host: &Host<MemoryDisk>, want: &[u8]) -> bool {
-    match Name::new(b"a") {
-        Some(name) => host.prompt(name) == Some(want),
-        None => false,
-    }
 }

@@ -20,8 +20,6 @@ pub enum Step<'a> {
     New(u32, &'a str),
     Set(u32, &'a str),
     Remove(u32),
-    Move(u32, u32),
-    Clear(u32),
     Eval(u32),
     Complete(u32, u32),
     /// The session of this name is stopped.
@@ -87,11 +85,6 @@ pub fn event(alloc: Global, step: &Step<'_>) -> Result<Event, Fail> {
         Step::New(after, input) => Ok(Event::Command(new(alloc, *after, input)?)),
         Step::Set(id, input) => Ok(Event::Command(set(alloc, *id, input)?)),
         Step::Remove(id) => Ok(Event::Command(Command::Remove { id: *id })),
-        Step::Move(id, after) => Ok(Event::Command(Command::Move {
-            id: *id,
-            after: *after,
-        })),
-        Step::Clear(id) => Ok(Event::Command(Command::Clear { id: *id })),
         Step::Eval(id) => Ok(Event::Command(Command::Eval { id: *id })),
         Step::Complete(id, cursor) => Ok(Event::Command(Command::Complete {
             id: *id,

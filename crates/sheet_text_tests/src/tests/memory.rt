@@ -1,14 +1,80 @@
-//! Texts where no memory is left.
-use super::forms::{Form, said_by};
-use super::sheets::{Step, takes};
-use super::trees::example;
-use block_tree::Block;
-use session_engine::Reply;
-use sheet_text::{block_text, reply_text, sheet_text, tree_text};
+//! Lines that are read and texts that are written while no memory is left.
+use block_tree::{Block, Octets, OutOfMemory, Sequence};
+use meta_format::read_block;
+use session_engine::{Command, Reply};
+use sheet_text::{LineFault, ScriptLine, block_text, read_line, reply_text, sheet_text, tree_text};
 use std::alloc::Global;
 use std::test::Fail;
 use tests_desk::exhausted;
-use worksheet::{Refusal, Sheet};
+use worksheet::{Op, Refusal, Sheet};
+
+fn octets(alloc: Global, bytes: &[u8]) -> Result<Octets, OutOfMemory> {
+    Octets::from_slice(alloc, bytes)
+}
+
+fn session(alloc: Global) -> Result<Op, OutOfMemory> {
+    let mut words = Vec::new(alloc);
+    words.push(octets(alloc, b"p")?)?;
+    Ok(Op::Session {
+        name: octets(alloc, b"a")?,
+        tab: false,
+        words: Sequence::from_vec(words),
+    })
+}
+
+// A field at the front.
+fn new(alloc: Global, input: &[u8]) -> Result<Op, OutOfMemory> {
+    Ok(Op::New {
+        after: 0,
+        session: octets(alloc, b"a")?,
+        input: octets(alloc, input)?,
+    })
+}
+
+fn block(alloc: Global, bytes: &[u8]) -> Result<Block, OutOfMemory> {
+    match read_block(alloc, bytes) {
+        Ok(block) => Ok(block),
+        Err(_) => Err(OutOfMemory),
+    }
+}
+
+// A session, three fields of it, and the answer to the last one, which stands first.
+fn op(alloc: Global, number: u32) -> Result<Op, OutOfMemory> {
+    match number {
+        0 => session(alloc),
+        1 => new(alloc, b"z"),
+        2 => new(alloc, b"y"),
+        3 => new(alloc, b"x"),
+        _ => Ok(Op::Answer {
+            id: 3,
+            prompt: octets(alloc, b"> ")?,
+            output: block(alloc, b"\x02verbatim:A\x05")?,
+        }),
+    }
+}
+
+fn takes(sheet: &mut Sheet, op: Op) -> bool {
+    sheet.check(&op).is_ok() && sheet.apply(op).is_ok()
+}
+
+fn filled(alloc: Global) -> Result<Sheet, OutOfMemory> {
+    let mut sheet = Sheet::new(alloc);
+    for number in 0..5 {
+        if !takes(&mut sheet, op(alloc, number)?) {
+            return Err(OutOfMemory);
+        }
+    }
+    Ok(sheet)
+}
+
+// Whether a line that wants memory says so, and one that wants none is read.
+fn are_read(alloc: Global) -> bool {
+    matches!(read_line(alloc, b"new 0 a x"), Err(LineFault::OutOfMemory))
+        && matches!(
+            read_line(alloc, b"move 1 2"),
+            Ok(ScriptLine::Command(Command::Move { id: 1, after: 2 }))
+        )
+}
 
 // Whether all texts are written.
 fn are_written(output: &Block, sheet: &Sheet, out: &mut Vec<u8>) -> bool {
@@ -19,43 +85,22 @@ fn are_written(output: &Block, sheet: &Sheet, out: &mut Vec<u8>) -> bool {
         && reply_text(&Reply::Refused(Refusal::OutOfMemory), out).is_ok()
 }
 
-// Where no memory is left: what two lines say, and whether all texts are written.
-fn without_memory(
-    alloc: Global,
-    output: &Block,
-    sheet: &Sheet,
-    out: &mut Vec<u8>,
-) -> Option<(Form, Form, bool)> {
-    let held = exhausted(alloc).ok()?;
-    let new = said_by(alloc, "new 0 a x");
-    let moved = said_by(alloc, "move 1 2");
-    let written = are_written(output, sheet, out);
-    drop(held);
-    Some((new, moved, written))
-}
+const TEXT: &[u8] =
+    b"{verbatim:{prompt#a\\x09b\\x7f\\x0a}\"}{prompt#a\tb\\x7f\n}\"#3 a\n> x\nA\n#2 a\n> y\n?\n#1 a\n> z\n?\nfield 7\nrefused 17 OutOfMemory\n";
 
-// Whether a worksheet has taken these steps, and all texts are written without memory, with this end.
-fn take_no_memory(alloc: Global, output: &Block, steps: &[Step<'_>], end: &[u8]) -> Option<bool> {
-    let mut out: Vec<u8> = Vec::with_capacity(alloc, 1_000).ok()?;
-    let mut sheet = Sheet::new(alloc);
-    if !takes(alloc, &mut sheet, steps) {
-        return None;
-    }
-    let told = without_memory(alloc, output, &sheet, &mut out)?;
-    Some(told == (Form::NoMemory, Form::Move(1, 2), true) && out.as_slice().ends_with(end))
+// Whether lines are read and these texts are written while no memory is left.
+fn take_no_memory(alloc: Global, output: &Block, sheet: &Sheet) -> Result<bool, Fail> {
+    let mut out: Vec<u8> = Vec::with_capacity(alloc, 1_000)?;
+    let held = exhausted(alloc)?;
+    let done = are_read(alloc) && are_written(output, sheet, &mut out);
+    drop(held);
+    Ok(done && out.as_slice() == TEXT)
 }
 
 #[test]
 fn texts_take_no_memory(rt: HostRuntime) -> Result<(), Fail> {
-    let steps = [
-        Step::Session,
-        Step::New(0, "x"),
-        Step::New(1, "y"),
-        Step::New(2, "z"),
-        Step::Answer(1, "> ", "A"),
-    ];
-    let end = b"#3 a\n> z\n?\nfield 7\nrefused 17 OutOfMemory\n";
-    let output = Block::new(example(rt.alloc())?).ok().ok_or("no block")?;
-    assert!(rt; take_no_memory(rt.alloc(), &output, &steps, end) == Some(true));
+    let output = block(rt.alloc(), b"\x02verbatim:\x02prompt#a\tb\x7f\n\x05\"\x05")?;
+    let sheet = filled(rt.alloc())?;
+    assert!(rt; take_no_memory(rt.alloc(), &output, &sheet)?);
     Ok(())
 }

@@ -1,0 +1,237 @@
+# Interpreters, and what comes of them: answers by ask points, prompts, ends and faults of lives, lines that are lost.
+
+# An interpreter in the file NAME.sh: it writes the first text, and the next one for each line that it is sent. Each is one write. Which
+# words it was started with and what it was sent stands in the file `sent`, a line each, and its process in the file `lives`. Behind its
+# last text it does what `then` says.
+then='read -r line'
+interpreter() {
+    name=$1 first=$2
+    shift 2
+    {
+        printf '%s\n' "echo \"start \$*\" >>sent" 'echo $$ >>lives' "printf '$first'"
+        for text in "$@"; do
+            printf '%s\n' 'IFS= read -r line || exit' "printf 'send %s\\n' \"\$line\" >>sent" "printf '$text'"
+        done
+        printf '%s\n' "$then"
+    } >"$name.sh"
+    rm -f sent lives
+}
+
+# What was sent since the interpreters were made, a line each.
+sent() {
+    compare "$1, sent" "$(cat sent 2>/dev/null)" "$(printf "$2")"
+}
+
+# None of the processes is left.
+ended() {
+    left=0
+    for life in $(cat lives 2>/dev/null); do
+        if kill -0 "$life" 2>/dev/null; then left=$((left + 1)); fi
+    done
+    compare "$1, ended" "$left of $(cat lives 2>/dev/null | wc -l)" "0 of $2"
+}
+
+banner='\002verbatim:\005'
+one='session a plain sh p.sh one\nnew 0 a x\neval 1\nwait\n'
+two='session a plain sh p.sh\nnew 0 a x\nnew 1 a y\neval 1\neval 2\nwait\n'
+
+# Which block answers which line.
+interpreter p '\002verbatim:Hello\002prompt#Input 1] \005\005' '\002verbatim:\002latex:$x^2$\005\002prompt#Input 2] \005\005'
+script 'prompts in the blocks' 'session a plain sh p.sh one two\nnew 0 a x^2\neval 1\nwait\nprint\n' \
+    'ok\nfield 1\nasked\nbanner a\nanswered 1\n#1 a\nInput 1] x^2\n{latex:$x^2$}\n' '#1 a\nInput 1] x^2\n{latex:$x^2$}\n'
+sent 'prompts in the blocks' 'start one two\nsend x^2'
+ended 'prompts in the blocks' 1
+interpreter p '\002verbatim:Hello\002prompt#Input 1] \005\005' '\002verbatim:\002latex:$x^2$\005\002prompt#Input 2] \005\005' '\002verbatim:B\005'
+script 'the prompt of the next line' 'session a plain sh p.sh\nnew 0 a x^2\neval 1\nwait\neval 1\nwait\n' \
+    'ok\nfield 1\nasked\nbanner a\nanswered 1\nasked\nanswered 1\n' '#1 a\nInput 2] x^2\nB\n'
+cat >p.sh <<'END_OF_CHILD'
+printf '\002verbatim:Hello\002prompt#Input 1] \005\005' | dd bs=1 2>/dev/null
+read -r line
+printf '\002verbatim:\002latex:$x^2$\005\002prompt#Input 2] \005\005' | dd bs=1 2>/dev/null
+read -r line
+END_OF_CHILD
+script 'the same byte by byte' 'session a plain sh p.sh\nnew 0 a x^2\neval 1\nwait\n' \
+    'ok\nfield 1\nasked\nbanner a\nanswered 1\n' '#1 a\nInput 1] x^2\n{latex:$x^2$}\n'
+
+interpreter p "$banner" '\002verbatim:A\005\002verbatim:B\005' '\002verbatim:C\005'
+script 'two answers in one piece' "$two" 'ok\nfield 1\nfield 2\nasked\nasked\nbanner a\nanswered 1\nanswered 2\n' \
+    '#1 a\n> x\nA\n#2 a\n> y\nC\n'
+sent 'two answers in one piece' 'start \nsend x\nsend y'
+
+interpreter p "$banner" '\002verbatim:A\005' '\002verbatim:B\005'
+script 'cut between two answers' "$two" 'ok\nfield 1\nfield 2\nasked\nasked\nbanner a\nanswered 1\nanswered 2\n' \
+    '#1 a\n> x\nA\n#2 a\n> y\nB\n'
+sent 'cut between two answers' 'start \nsend x\nsend y'
+
+interpreter p "$banner" '\002verbatim:A\005\002verb' 'atim:B\005\002verbatim:C\005'
+script 'cut inside the second answer' "$two" 'ok\nfield 1\nfield 2\nasked\nasked\nbanner a\nanswered 1\nanswered 2\n' \
+    '#1 a\n> x\nA\n#2 a\n> y\nC\n'
+sent 'cut inside the second answer' 'start \nsend x\nsend y'
+
+interpreter p "$banner" '\002prompt#a\005' '\002verbatim:A\005'
+script 'a prompt as an answer' "$one" 'ok\nfield 1\nasked\nbanner a\nanswered 1\n' '#1 a\n> x\n\n'
+script 'its prompt is that of the next line' "$one"'eval 1\nwait\n' 'ok\nfield 1\nasked\nbanner a\nanswered 1\nasked\nanswered 1\n' \
+    '#1 a\nax\nA\n'
+
+interpreter p "$banner" '\002verbatim:A\002input#y\005\005'
+script 'a default input with the answer' "$one" 'ok\nfield 1\nasked\nbanner a\nanswered 1\ndefault a y\n' '#1 a\n> x\nA\n'
+
+interpreter p '\002verbatim:\002input#a\tb\005\005' '\002verbatim:A\005'
+script 'a default input in the banner' "$one" 'ok\nfield 1\nasked\nbanner a\ndefault a a\\x09b\nanswered 1\n' '#1 a\n> x\nA\n'
+
+interpreter p "$banner" '\002verbatim:A\005'
+script 'an empty input' 'session a plain sh p.sh\nnew 0 a\neval 1\nwait\n' 'ok\nfield 1\nasked\nbanner a\nanswered 1\n' '#1 a\n> \nA\n'
+sent 'an empty input' 'start \nsend '
+
+# Fields whose line waits, and lines that are evaluated again.
+interpreter p "$banner" '\002verbatim:A\005'
+script 'a field in flight' 'session a plain sh p.sh\nnew 0 a x\neval 1\nnew 1 a y\nset 1 z\nremove 1\nclear 1\neval 1\nmove 1 0\nmove 1 2\nwait\n' \
+    'ok\nfield 1\nasked\nfield 2\nrefused 3 InFlight\nrefused 3 InFlight\nrefused 3 InFlight\nrefused 3 InFlight\nrefused 8 SamePlace\nok\nbanner a\nanswered 1\n' \
+    '#2 a\n> y\n?\n#1 a\n> x\nA\n'
+script 'an evaluation takes the answer away' "$one"'eval 1\n' 'ok\nfield 1\nasked\nbanner a\nanswered 1\nasked\n' '#1 a\n> x\n?\n'
+ended 'an evaluation takes the answer away' 2
+
+# Ends and faults of lives. Of the lines that are lost the first keeps the reason.
+three='session a plain sh p.sh\nnew 0 a x\nnew 1 a y\nnew 2 a z\neval 1\neval 2\neval 3\nwait\n'
+then=exit
+interpreter p "$banner" '\002verbatim:hal'
+script 'half an answer and the end' "$three" 'ok\nfield 1\nfield 2\nfield 3\nasked\nasked\nasked\nbanner a\nended a Ended lost 3\n' \
+    '#1 a\n> x\n? Ended\n#2 a\n> y\n?\n#3 a\n> z\n?\n'
+sent 'half an answer and the end' 'start \nsend x'
+interpreter p "$banner"'\002verb' ''
+script 'the end inside a tag' "$one" 'ok\nfield 1\nasked\nbanner a\nended a Ended lost 1\n' '#1 a\n> x\n? Ended\n'
+interpreter p "$banner"'\002verbatim:x\033' ''
+script 'the end behind an escape' "$one" 'ok\nfield 1\nasked\nbanner a\nended a Ended lost 1\n' '#1 a\n> x\n? Ended\n'
+interpreter p 'x'
+script 'noise and the end' "$one" 'ok\nfield 1\nasked\nended a Ended lost 1\n' '#1 a\n> x\n? Ended\n'
+then='read -r line'
+
+interpreter p "$banner" '\002verbatim:A\005\002:'
+script 'a fault behind the first answer' "$two" 'ok\nfield 1\nfield 2\nasked\nasked\nbanner a\nanswered 1\nended a BadTag lost 1\n' \
+    '#1 a\n> x\nA\n#2 a\n> y\n?\n'
+sent 'a fault behind the first answer' 'start \nsend x'
+ended 'a fault behind the first answer' 1
+interpreter p "$banner"'\002:'
+script 'a fault behind the banner' "$one" 'ok\nfield 1\nasked\nbanner a\nended a BadTag lost 1\n' '#1 a\n> x\n? BadTag\n'
+sent 'a fault behind the banner' 'start one'
+ended 'a fault behind the banner' 1
+interpreter p "$banner$(repeated 33 x | sed 's/x/\\002a:/g')"
+script 'a block of 33 levels' "$one" 'ok\nfield 1\nasked\nbanner a\nended a TooDeep lost 1\n' '#1 a\n> x\n? TooDeep\n'
+ended 'a block of 33 levels' 1
+
+# An input that is closed before the line is sent.
+cat >p.sh <<'END_OF_CHILD'
+exec <&-
+printf '\002verbatim:\005'
+exec sleep 10
+END_OF_CHILD
+script 'a line that is not taken' "$one" 'ok\nfield 1\nasked\nbanner a\nended a SendFault lost 1\n' '#1 a\n> x\n? SendFault\n'
+
+# A session that gives noise without end is stalled behind 100,000 pieces.
+cat >p.sh <<'END_OF_CHILD'
+echo $$ >lives
+while :; do printf .; done
+END_OF_CHILD
+script 'a session that stalls' "$one" 'ok\nfield 1\nasked\nended a Stalled lost 1\n' '#1 a\n> x\n? Stalled\n'
+ended 'a session that stalls' 1
+
+# Programs that are no interpreters.
+script 'a program that is not there' 'session a plain /nonexistent/p\nnew 0 a x\neval 1\nwait\n' \
+    'ok\nfield 1\nasked\nended a StartRefused lost 1\n' '#1 a\n> x\n? StartRefused\n'
+script 'a program that ends at once' 'session a plain echo x\nnew 0 a x\neval 1\nwait\n' \
+    'ok\nfield 1\nasked\nended a Ended lost 1\n' '#1 a\n> x\n? Ended\n'
+script 'programs that are none' \
+    'session a plain sh no_such_file\nsession b plain echo no_such_file\nsession c plain /nonexistent/p no_such_file\nnew 0 a x\nnew 0 b x\nnew 0 c x\neval 1\neval 2\neval 3\nwait\nstop a\nstop b\nstop c\n' \
+    'ok\nok\nok\nfield 1\nfield 2\nfield 3\nasked\nasked\nasked\nended c StartRefused lost 1\nended a Ended lost 1\nended b Ended lost 1\nok\nok\nok\n' \
+    '#3 c\n> x\n? StartRefused\n#2 b\n> x\n? Ended\n#1 a\n> x\n? Ended\n'
+script 'programs that are none, without a wait between' \
+    'session a plain /nonexistent/p\nsession b plain true\nnew 0 a x\nnew 1 b y\neval 1\neval 2\nwait\nprint\n' \
+    'ok\nok\nfield 1\nfield 2\nasked\nended a StartRefused lost 1\nasked\nended b Ended lost 1\n#1 a\n> x\n? StartRefused\n#2 b\n> y\n? Ended\n' \
+    '#1 a\n> x\n? StartRefused\n#2 b\n> y\n? Ended\n'
+
+# A program that is there when its line is evaluated once more: the interpreter of session b makes it.
+cat >p.sh <<'END_OF_CHILD'
+printf '\002verbatim:\005'
+read -r line
+printf '#!/bin/sh\nprintf "\\002verbatim:\\005"\nread -r line\nprintf "\\002verbatim:A\\005"\nread -r line\n' >later
+chmod +x later
+printf '\002verbatim:made\005'
+read -r line
+END_OF_CHILD
+rm -f later
+script 'a start that is refused and then the next life' \
+    'session a plain ./later\nsession b plain sh p.sh\nnew 0 a x\nnew 1 b y\neval 1\neval 2\nwait\neval 1\nwait\n' \
+    'ok\nok\nfield 1\nfield 2\nasked\nended a StartRefused lost 1\nasked\nbanner b\nanswered 2\nasked\nbanner a\nanswered 1\n' \
+    '#1 a\n> x\nA\n#2 b\n> y\nmade\n'
+
+# Stops.
+interpreter p "$banner" '' ''
+script 'a stopped session' 'session a plain sh p.sh\nnew 0 a x\nnew 1 a y\neval 1\neval 2\nstop a\nstop a\nstop b\n' \
+    'ok\nfield 1\nfield 2\nasked\nasked\nended a Stopped lost 2\nok\nrefused 1 NoSession\n' '#1 a\n> x\n? Stopped\n#2 a\n> y\n?\n'
+interpreter p "$banner" '\002verbatim:A\005' ''
+script 'a line that is asked behind an answer is stopped' "$one"'eval 1\nstop a\n' \
+    'ok\nfield 1\nasked\nbanner a\nanswered 1\nasked\nended a Stopped lost 1\n' '#1 a\n> x\n? Stopped\n'
+ended 'a line that is asked behind an answer is stopped' 1
+interpreter p "$banner" '\002verbatim:A\005' ''
+script 'lives that go on are stopped at the end' "$one"'eval 1\n' 'ok\nfield 1\nasked\nbanner a\nanswered 1\nasked\n' '#1 a\n> x\n?\n'
+ended 'lives that go on are stopped at the end' 1
+
+# What takes a reason away.
+then=exit
+interpreter p "$banner" '\002verbatim:hal'
+script 'a reason' "$one" 'ok\nfield 1\nasked\nbanner a\nended a Ended lost 1\n' '#1 a\n> x\n? Ended\n'
+then_runs 'another input takes the reason away' 'set 1 z\n' 'ok\n' '#1 a\n> z\n?\n'
+script 'a reason once more' "$one" 'ok\nfield 1\nasked\nbanner a\nended a Ended lost 1\n' '#1 a\n> x\n? Ended\n'
+then_runs 'a clear takes the reason away' 'clear 1\n' 'ok\n' '#1 a\n> x\n?\n'
+then='read -r line'
+
+# Two interpreters at a time. Which of them is heard first is not said.
+cat >p.sh <<'END_OF_CHILD'
+printf '\002verbatim:\005'
+while IFS= read -r line; do printf '\002verbatim:%s\005' "$line"; done
+END_OF_CHILD
+rm -f sheet sheet.alt
+"$tmhost" create sheet
+printf 'session a plain sh p.sh\nsession b plain sh p.sh\nnew 0 a one\nnew 0 b two\neval 1\neval 2\nwait\nstop a\nstop b\n' >given
+compare 'two interpreters' "$("$tmhost" run sheet <given | sort)" \
+    "$(printf 'ok\nok\nfield 1\nfield 2\nasked\nasked\nbanner a\nbanner b\nanswered 1\nanswered 2\nended a Stopped lost 0\nended b Stopped lost 0\n' | sort)"
+compare 'two interpreters, shown' "$(answer show sheet)" "$(ending '#2 b\n> two\ntwo\n#1 a\n> one\none\n' 0)"
+
+# A session whose banner comes late: another one is answered meanwhile.
+cat >late.sh <<'END_OF_CHILD'
+until [ -e answered ]; do printf .; sleep 0.01; done
+printf '\002verbatim:\005'
+while IFS= read -r line; do printf '\002verbatim:A\005'; done
+END_OF_CHILD
+cat >p.sh <<'END_OF_CHILD'
+printf '\002verbatim:\005'
+read -r line
+printf '\002verbatim:B\005'
+echo >answered
+read -r line
+END_OF_CHILD
+rm -f answered sheet sheet.alt
+"$tmhost" create sheet
+printf 'session a plain sh late.sh\nsession b plain sh p.sh\nnew 0 a x\nnew 1 b y\neval 1\neval 2\nwait\n' >given
+compare 'the first session waits for the second' "$("$tmhost" run sheet <given | sort)" \
+    "$(printf 'ok\nok\nfield 1\nfield 2\nasked\nasked\nbanner b\nbanner a\nanswered 2\nanswered 1\n' | sort)"
+compare 'the first session waits for the second, shown' "$(answer show sheet)" "$(ending '#1 a\n> x\nA\n#2 b\n> y\nB\n' 0)"
+
+# A copy of the worksheet that is made while a line is evaluated shows the line without an answer.
+cat >p.sh <<'END_OF_CHILD'
+printf '\002verbatim:\005'
+IFS= read -r line
+cat "$line" >copied
+printf '\002verbatim:%s\005' "$line"
+read -r line
+END_OF_CHILD
+rm -f copied.alt
+script 'a copy while a line is evaluated' 'session a plain sh p.sh\nnew 0 a sheet\neval 1\nwait\n' \
+    'ok\nfield 1\nasked\nbanner a\nanswered 1\n' '#1 a\n> sheet\nsheet\n'
+compare 'the copy' "$(answer show copied)" "$(ending '#1 a\n> sheet\n?\n' 0)"
+
+# A child's stream of errors is discarded.
+printf '[ /proc/self/fd/2 -ef /dev/null ] && printf "\\002verbatim:\\005"\nread -r line\nprintf "\\002verbatim:null\\005"\nread -r line\n' >p.sh
+script 'the errors of a child' "$one" 'ok\nfield 1\nasked\nbanner a\nanswered 1\n' '#1 a\n> x\nnull\n'
+
+counted children

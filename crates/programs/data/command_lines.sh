@@ -1,0 +1,61 @@
+# Command lines: paths, words that ask for nothing, and helps. The texts are those of clap.
+
+# Paths with blanks, that are named like a task, and that begin with a dash.
+mkdir -p 'a b'
+words 'a path with a blank' 0 '' create 'a b/c'
+compare 'its first file' "$(bytes 'a b/c')" 544d575348454554014100
+words 'a path that is a task' 0 '' create create
+words 'that is shown' 0 '' show create
+words 'that is run' 0 '' run create
+words 'a path with a dash' 0 '' create -- -w
+words 'that is run with a dash' 0 '' run -- -w
+words 'that is shown with a dash' 0 '' show -- -w
+words 'an empty path is not shown' 1 'fault 32 Disk\n' show ''
+words 'an empty path is not created' 1 'fault 32 Disk\n' create ''
+words 'no word' 0 ''
+words 'the word blocks' 0 '' blocks
+words 'two dashes alone' 0 '' --
+
+# Words that ask for nothing: NAME WORDS and the first line of the text, which stands on the errors.
+told() {
+    name=$1 line=$2
+    shift 2
+    "$tmhost" "$@" >text 2>errors </dev/null
+    compare "$name" "$? $(wc -c <text) $(head -n 1 errors)" "2 0 $line"
+}
+for task in create run show; do
+    told "$task without a path" 'error: the following required arguments were not provided:' "$task"
+    told "$task with two paths" "error: unexpected argument 'b' found" "$task" a b
+    told "$task with a flag" "error: unexpected argument '-w' found" "$task" -w
+done
+told 'another task' "error: unrecognized subcommand 'remove'" remove a
+told 'one word' "error: unrecognized subcommand 'foo'" foo
+told 'a word behind blocks' "error: unexpected argument 'x' found" blocks x
+told 'a version' "error: unexpected argument '--version' found" --version
+told 'a task behind dashes' "error: unexpected argument 'blocks' found" -- blocks
+set --
+for count in $(seq 40); do
+    set -- "$@" x
+    told "$count words behind blocks" "error: unexpected argument 'x' found" blocks "$@"
+done
+"$tmhost" "$(printf '\377')" >text 2>errors
+compare 'a word that is no text' "$? $(wc -c <text) $(wc -c <errors)" '2 0 0'
+
+# Helps: NAME, its first line, its usage and its last line. They have the paths and the states of all that they tell.
+helps() {
+    "$tmhost" $1 --help >text 2>errors
+    compare "the help of $1" "$? $(wc -c <errors) $(head -n 1 text)|$(grep '^Usage' text)|$(grep -c 'Status: 0 ' text)|$(tail -n 1 text)" "0 0 $2|$3|1|$4"
+    compare "the paths of $1" "$(grep -c 'PATH\.alt' text)" "$5"
+}
+helps blocks 'Write the blocks of the stream on standard input, a line each' "Usage: ${tmhost##*/} blocks" "Example: printf '\\002verbatim:Hi\\005' | tmhost blocks" 0
+helps create 'Make an empty worksheet' "Usage: ${tmhost##*/} create <PATH>" 'Example: tmhost create sheet.tm' 2
+helps run 'Run the script on standard input over a worksheet' "Usage: ${tmhost##*/} run <PATH>" 'Example: tmhost run sheet.tm <script.txt' 1
+helps show 'Write a worksheet' "Usage: ${tmhost##*/} show <PATH>" 'Example: tmhost show sheet.tm' 1
+"$tmhost" --help >text 2>errors
+compare 'the help of all' "$? $(wc -c <errors) $(head -c 16 text)" '0 0 A worksheet host'
+"$tmhost" --help >/dev/full 2>errors
+compare 'a help over a full output' "$? $(cat errors)" '1 fault 42 Output'
+"$tmhost" foo 2>/dev/full >text
+compare 'a refusal over full errors' "$? $(wc -c <text)" '2 0'
+
+counted 'command lines'

@@ -1,0 +1,112 @@
+# What the files of cases share. A case is one line or two: a name, what is given, and the text that is wanted, typed in. One that is as
+# wanted is counted; of one that isn't both texts are printed. Texts and bytes are formats of printf: \n, \\, and \ooo for a byte by its
+# value in octal digits. None of them has a percent sign. What a case reads comes from a file, never from a pipe: a shell counts in vain
+# behind one.
+
+cases=0
+differing=0
+
+# Compares a text that was got with the one that is wanted.
+compare() {
+    if [ "$2" = "$3" ]; then
+        cases=$((cases + 1))
+    else
+        differing=$((differing + 1))
+        printf 'DIFFERS: %s\n-- wanted\n%s\n-- got\n%s\n' "$1" "$3" "$2"
+    fi
+}
+
+# Says how many cases of this matter were as wanted, since the last time.
+counted() {
+    echo "$1: $cases as wanted, $differing not"
+    cases=0
+    differing=0
+}
+
+# A text with `status N` behind it.
+ending() {
+    printf "$1"
+    echo "status $2"
+}
+
+# What the program writes of the input here, on its output and then on its errors, and its status.
+answer() {
+    "$tmhost" "$@" 2>errors
+    status=$?
+    cat errors
+    echo "status $status"
+}
+
+# A case of words alone: NAME STATUS TEXT WORDS.
+words() {
+    name=$1 want=$(ending "$3" "$2")
+    shift 3
+    compare "$name" "$(answer "$@" </dev/null)" "$want"
+}
+
+# A case of `show`: NAME STATUS TEXT, over the bytes here as the first file of a worksheet. It must be left as it was, with an empty
+# second file, or none where it isn't opened.
+shows() {
+    cat >area
+    rm -f area.alt
+    compare "$1" "$(answer show area)" "$(ending "$3" "$2")"
+}
+
+# The same of bytes that are typed in: NAME BYTES STATUS TEXT.
+area() {
+    printf "$2" >given
+    shows "$1" "$3" "$4" <given
+}
+
+# A case of `blocks`: NAME STATUS TEXT, of the bytes here.
+prints() {
+    compare "$1" "$(answer blocks)" "$(ending "$3" "$2")"
+}
+
+# The same of bytes that are typed in: NAME BYTES STATUS TEXT.
+stream() {
+    printf "$2" >given
+    prints "$1" "$3" "$4" <given
+}
+
+# A case of `run`: NAME TEXT SHEET. A script, which is the input here, over a new worksheet writes the text, and then the worksheet is
+# shown so. Both have status 0.
+runs() {
+    rm -f sheet sheet.alt
+    "$tmhost" create sheet
+    compare "$1" "$(answer run sheet)" "$(ending "$2" 0)"
+    compare "$1, shown" "$(answer show sheet </dev/null)" "$(ending "$3" 0)"
+}
+
+# The same of a script that is typed in: NAME SCRIPT TEXT SHEET.
+script() {
+    printf "$2" >given
+    runs "$1" "$3" "$4" <given
+}
+
+# The same over the worksheet that the case before it left.
+then_runs() {
+    compare "$1" "$(printf "$2" | answer run sheet)" "$(ending "$3" 0)"
+    compare "$1, shown" "$(answer show sheet </dev/null)" "$(ending "$4" 0)"
+}
+
+# A case of a script over a worksheet in memory, without interpreters: NAME TEXT, of the script here.
+remembers() {
+    compare "$1" "$(answer in memory)" "$(ending "$2" 0)"
+}
+
+# The same of a script that is typed in: NAME SCRIPT TEXT.
+memory() {
+    printf "$2" >given
+    remembers "$1" "$3" <given
+}
+
+# So many times a text that has no percent sign and no backslash.
+repeated() {
+    if [ "$1" -gt 0 ]; then printf "$2%.0s" $(seq "$1"); fi
+}
+
+# The bytes of a file in hexadecimal digits.
+bytes() {
+    od -An -v -tx1 "$1" | tr -d ' \n'
+}
