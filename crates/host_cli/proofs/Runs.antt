@@ -190,6 +190,7 @@ lines_failed R all number left line others s h c a b g d e fault.Output is so p 
 lines_failed R all number left line others s h c a b g d e fault.Input is so p = absurd p
 lines_failed R all number left line others s h c a b g d e fault.InputTooLong is so p = absurd p
 lines_failed R all number left line others s h c a b g d e (fault.Open why) is so p = absurd p
+lines_failed R all number left line others s h c a b g d e fault.InUse is so p = absurd p
 
 -- The stops behind it.
 
@@ -209,6 +210,7 @@ lines_stopped R lines s h c d a b fault.Output stops p = (at p.0 c p.1, p.2, p.3
 lines_stopped R lines s h c d a b fault.Input stops p = absurd p
 lines_stopped R lines s h c d a b fault.InputTooLong stops p = absurd p
 lines_stopped R lines s h c d a b (fault.Open why) stops p = absurd p
+lines_stopped R lines s h c d a b fault.InUse stops p = absurd p
 
 -- Lines are a timeline of the disk.
 
@@ -333,6 +335,7 @@ unread_script R stream disk c d a b nothing fault.OutOfMemory is long none = inl
 unread_script R stream disk c d a b nothing fault.Output is long none = absurd is
 unread_script R stream disk c d a b nothing (fault.Host why) is long none = absurd is
 unread_script R stream disk c d a b nothing (fault.Open why) is long none = absurd is
+unread_script R stream disk c d a b nothing fault.InUse is long none = absurd is
 
 pub broken_run : {C : Type 0} (R : Relation C) (stream : Option (List ℕ)) (disk now : DiskView) (c d : C) (a b : Option (List ℕ)) (nothing : Type 0) (f : RunFault) (script : List ℕ) (start : World) (h : HostView)
     → IfSome stream (λ bytes. script ≡ bytes) → length script ≤ max_input → OpenedOn disk start now → HoldsSheet start now → SameDisk disk h.store.disk → LinesStopped R (script_lines script) (at start c now) h d a b f
@@ -374,3 +377,4 @@ broken_run R stream disk now c d a b nothing fault.Output script start h is shor
 broken_run R stream disk now c d a b nothing fault.Input script start h is short opened held same p = absurd p
 broken_run R stream disk now c d a b nothing fault.InputTooLong script start h is short opened held same p = absurd p
 broken_run R stream disk now c d a b nothing (fault.Open why) script start h is short opened held same p = absurd p
+broken_run R stream disk now c d a b nothing fault.InUse script start h is short opened held same p = absurd p

@@ -2,13 +2,16 @@
 use Rattle.std.specs.Prelude.{ℕ, List, [], ◌∷◌, ◌++◌, codes}
 use Rattle.std.specs.Fmt.{decimal}
 use Rattle.disk_model.specs.Disk.{DiskView, InModel, Rises, SameDisk, bytes_on}
-use Rattle.journal.specs.declared.opening.CreateCause.{CreateCause}
 use Rattle.journal.specs.declared.opening.CreateCause.TheVariants as creates
 use Rattle.journal.specs.declared.opening.OpenCause.{OpenCause}
 use Rattle.journal.specs.declared.opening.OpenCause.TheVariants as opens
 use Rattle.recovery.specs.Sheets.{TellsOfSheet}
 use Rattle.session_engine.specs.declared.outcome.HostFault.{HostFault}
 use Rattle.session_engine.specs.declared.outcome.HostFault.TheVariants as host
+use Rattle.host_cli.specs.declared.fault.FilesFault.{FilesFault}
+use Rattle.host_cli.specs.declared.fault.FilesFault.TheVariants as files
+use Rattle.host_cli.specs.declared.fault.MakeFault.{MakeFault}
+use Rattle.host_cli.specs.declared.fault.MakeFault.TheVariants as makes
 use Rattle.host_cli.specs.declared.fault.RunFault.{RunFault}
 use Rattle.host_cli.specs.declared.fault.RunFault.TheVariants as fault
 
@@ -25,9 +28,10 @@ open_fault_text opens.NotASheet = codes "fault 31 NotASheet\n"
 open_fault_text opens.Disk = codes "fault 32 Disk\n"
 open_fault_text opens.OutOfMemory = codes "fault 33 OutOfMemory\n"
 
-abbrev pub create_fault_text : CreateCause → List ℕ
-create_fault_text creates.NotEmpty = codes "fault 34 NotEmpty\n"
-create_fault_text creates.Disk = codes "fault 32 Disk\n"
+abbrev pub create_fault_text : MakeFault → List ℕ
+create_fault_text (makes.Create creates.NotEmpty) = codes "fault 34 NotEmpty\n"
+create_fault_text (makes.Create creates.Disk) = codes "fault 32 Disk\n"
+create_fault_text makes.InUse = codes "fault 35 InUse\n"
 
 abbrev pub fault_text : RunFault → List ℕ
 fault_text fault.Input = codes "fault 40 Input\n"
@@ -36,6 +40,12 @@ fault_text fault.Output = codes "fault 42 Output\n"
 fault_text fault.OutOfMemory = codes "fault 43 OutOfMemory\n"
 fault_text (fault.Host why) = host_fault_text why
 fault_text (fault.Open why) = open_fault_text why
+fault_text fault.InUse = codes "fault 35 InUse\n"
+
+-- the fault of a program that has no files of a worksheet
+abbrev pub no_files : FilesFault → RunFault
+no_files files.InUse = fault.InUse
+no_files files.Disk = fault.Open opens.Disk
 
 -- What a fault of `show` tells: the damage of the disk, where nothing was written, or that the writer failed.
 abbrev pub TellsShow : DiskView → Type 0 → RunFault → Type 0
@@ -45,6 +55,7 @@ TellsShow disk nothing fault.OutOfMemory = ⊥
 TellsShow disk nothing fault.Input = ⊥
 TellsShow disk nothing fault.InputTooLong = ⊥
 TellsShow disk nothing (fault.Host why) = ⊥
+TellsShow disk nothing fault.InUse = ⊥
 
 -- The disk later, with a failure of a call counted since, or with a count at its greatest.
 abbrev pub FailedSince : {D : Type 0} → (D → DiskView) → D → Type 0

@@ -15,6 +15,7 @@ IsInputFault fault.Output = ⊥
 IsInputFault fault.OutOfMemory = Unit {0}
 IsInputFault (fault.Host why) = ⊥
 IsInputFault (fault.Open why) = ⊥
+IsInputFault fault.InUse = ⊥
 
 -- a fault of a program that has only its input, its output and memory
 abbrev pub IsStreamFault : RunFault → Type 0
@@ -24,3 +25,4 @@ IsStreamFault fault.Output = Unit {0}
 IsStreamFault fault.OutOfMemory = Unit {0}
 IsStreamFault (fault.Host why) = ⊥
 IsStreamFault (fault.Open why) = ⊥
+IsStreamFault fault.InUse = ⊥

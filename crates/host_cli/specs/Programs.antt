@@ -8,16 +8,18 @@ use Rattle.worksheet.specs.Ops.{sheet_of}
 use Rattle.journal.specs.Open.{AreEmpty}
 use Rattle.journal.specs.declared.opening.CreateCause.{CreateCause}
 use Rattle.journal.specs.declared.opening.CreateCause.TheVariants as creates
-use Rattle.journal.specs.declared.opening.OpenCause.{OpenCause}
 use Rattle.journal.specs.declared.opening.OpenCause.TheVariants as opens
 use Rattle.recovery.specs.Sheets.{IsSheetImage}
 use Rattle.session_engine.specs.declared.outcome.HostFault.TheVariants as hosts
 use Rattle.sheet_text.specs.Texts.{sheet_text}
 use Rattle.child_edge.specs.Faithful.{Relation}
 use Rattle.host_cli.specs.Ending.{ProgramAnswer}
-use Rattle.host_cli.specs.Faults.{FailedSince, TellsShow, create_fault_text}
+use Rattle.host_cli.specs.Faults.{FailedSince, TellsShow, create_fault_text, no_files}
 use Rattle.host_cli.specs.Input.{max_input}
 use Rattle.host_cli.specs.Run.{RunDone, TellsRun}
+use Rattle.host_cli.specs.declared.fault.FilesFault.{FilesFault}
+use Rattle.host_cli.specs.declared.fault.MakeFault.{MakeFault}
+use Rattle.host_cli.specs.declared.fault.MakeFault.TheVariants as makes
 use Rattle.host_cli.specs.declared.fault.RunFault.TheVariants as fault
 
 -- what `create` answers: why there is no worksheet, or nothing
@@ -28,11 +30,15 @@ abbrev pub create_status : CreateAnswer → ℕ
 create_status None = 0
 create_status (Some why) = 1
 
--- a fault is a line on the stream of errors, where that takes it; nothing else stands there
+-- why no worksheet was made is a line on the stream of errors, where that takes it; nothing else stands there
+abbrev pub TellsMake : {E : Type 0} → (E → Option (List ℕ)) → E → E → Bool → MakeFault → Type 0
+TellsMake contents old new told why =
+    told ≡ true → Appends (contents old) (contents new) (create_fault_text why)
+
+-- the same of what `create` answers: nothing stands there where it made a worksheet
 abbrev pub TellsCreate : {E : Type 0} → (E → Option (List ℕ)) → E → E → Bool → CreateAnswer → Type 0
 TellsCreate contents old new told None = new ≡ old
-TellsCreate contents old new told (Some why) =
-    told ≡ true → Appends (contents old) (contents new) (create_fault_text why)
+TellsCreate contents old new told (Some why) = TellsMake contents old new told (makes.Create why)
 
 -- What `create` makes of a disk, and what it answers: its clauses.
 pub record Creates (old new : DiskView) (answer : CreateAnswer) : Type 0 where
@@ -49,8 +55,8 @@ pub record Creates (old new : DiskView) (answer : CreateAnswer) : Type 0 where
 -- What `show` answers on its files, or on why they weren't opened, and what it has written then:
 -- its clauses. `contents` are the bytes that the writer holds.
 pub record ShowAnswer {D W : Type 0} (view : D → DiskView) (contents : W → Option (List ℕ))
-    (files : Result D OpenCause) (old new : W) (answer : ProgramAnswer) : Type 0 where
-  pub unopened : IfErr files (λ why. (answer ≡ Err (fault.Open why)) × (new ≡ old))
+    (files : Result D FilesFault) (old new : W) (answer : ProgramAnswer) : Type 0 where
+  pub unopened : IfErr files (λ why. (answer ≡ Err (no_files why)) × (new ≡ old))
   pub whole : IfOk answer (λ whole. whole ≡ true)
   pub shown : IfOk files (λ disk. InModel (view disk)
       ((sheet : Contents) → IsSheetImage sheet (bytes_on (view disk))

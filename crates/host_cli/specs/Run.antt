@@ -135,6 +135,7 @@ abbrev pub TellsRun : {C : Type 0} → Relation C → Option (List ℕ) → Disk
 TellsRun R stream disk c d a b nothing fault.Input = nothing
 TellsRun R stream disk c d a b nothing fault.InputTooLong = nothing × IfSome stream (λ script. max_input < length script)
 TellsRun R stream disk c d a b nothing (fault.Open why) = nothing × InModel disk (TellsOfSheet (bytes_on disk) why)
+TellsRun R stream disk c d a b nothing fault.InUse = ⊥
 TellsRun R stream disk c d a b nothing (fault.Host f) = IfSome stream (λ script. RunStopped R script disk c d a b f)
 TellsRun R stream disk c d a b nothing fault.OutOfMemory = nothing ⊎ IfSome stream (λ script. RunSoFar R script disk c d a b)
 TellsRun R stream disk c d a b nothing fault.Output = IfSome stream (λ script. (length script ≤ max_input) × RunLed R script disk c d)

@@ -1,5 +1,5 @@
 -- Which program runs for which words, over which streams and files.
-use Rattle.std.specs.Prelude.{◌≡◌, ◌≢◌, ◌⊎◌, ℕ, List, [], Option, Some, Result, Ok, Err, IfOk, IfErr, MatchResult}
+use Rattle.std.specs.Prelude.{◌≡◌, ◌≢◌, ◌⊎◌, ℕ, List, [], Option, Result, Ok, Err, IfOk, IfErr, MatchResult}
 use Rattle.std.specs.Io.Buffered.{writer_buffer, writer_contents, writer_inner}
 use Rattle.std.specs.declared.alloc.Global.{Global}
 use Rattle.std.specs.declared.io.buffered.BufWriter.{BufWriter}
@@ -7,14 +7,15 @@ use Rattle.clap.specs.Words.{Text}
 use Rattle.clap.specs.declared.error.kind.ErrorKind.{ErrorKind}
 use Rattle.clap.specs.declared.error.kind.ErrorKind.TheVariants as kind
 use Rattle.disk_model.specs.Disk.{DiskView}
-use Rattle.journal.specs.declared.opening.CreateCause.{CreateCause}
-use Rattle.journal.specs.declared.opening.OpenCause.{OpenCause}
 use Rattle.child_edge.specs.Faithful.{Relation}
 use Rattle.host_cli.specs.Asked.{TaskView}
 use Rattle.host_cli.specs.Asked as asked
 use Rattle.host_cli.specs.Ending.{BlocksAnswer, ProgramAnswer, ShowsText, TellsFault, status_of}
-use Rattle.host_cli.specs.Programs.{CreateAnswer, Creates, RunAnswer, ShowAnswer, TellsCreate, create_status}
+use Rattle.host_cli.specs.Faults.{no_files}
+use Rattle.host_cli.specs.Programs.{CreateAnswer, Creates, RunAnswer, ShowAnswer, TellsCreate, TellsMake, create_status}
 use Rattle.host_cli.specs.declared.ending.Ending.{Ending}
+use Rattle.host_cli.specs.declared.fault.FilesFault.{FilesFault}
+use Rattle.host_cli.specs.declared.fault.MakeFault.{MakeFault}
 use Rattle.host_cli.specs.declared.fault.RunFault.{RunFault}
 use Rattle.host_cli.specs.declared.fault.RunFault.TheVariants as fault
 
@@ -38,21 +39,21 @@ BlocksEnds stream written a b said old new ending =
     (answer : ProgramAnswer) × BlocksAnswer stream written a b answer × EndsWith said old new ending answer
 
 -- how `create` ends on its files, or on why they weren't made
-abbrev pub CreateEnds : {D E : Type 0} → (D → DiskView) → Result D CreateCause → (E → Option (List ℕ)) → E → E → Ending → Type 0
+abbrev pub CreateEnds : {D E : Type 0} → (D → DiskView) → Result D MakeFault → (E → Option (List ℕ)) → E → E → Ending → Type 0
 CreateEnds {D = D} view files said old new ending =
-    IfErr files (λ why. (ending.status ≡ 1) × TellsCreate said old new ending.told (Some why))
+    IfErr files (λ why. (ending.status ≡ 1) × TellsMake said old new ending.told why)
     × IfOk files (λ disk. (later : D) × (answer : CreateAnswer) × Creates (view disk) (view later) answer
     × (ending.status ≡ create_status answer) × TellsCreate said old new ending.told answer)
 
 -- how `show` ends on its files, or on why they weren't opened
-abbrev pub ShowEnds : {D W E : Type 0} → (D → DiskView) → Result D OpenCause → (W → Option (List ℕ)) → W → W → (E → Option (List ℕ)) → E → E → Ending → Type 0
+abbrev pub ShowEnds : {D W E : Type 0} → (D → DiskView) → Result D FilesFault → (W → Option (List ℕ)) → W → W → (E → Option (List ℕ)) → E → E → Ending → Type 0
 ShowEnds view files written a b said old new ending =
     (answer : ProgramAnswer) × ShowAnswer view written files a b answer × EndsWith said old new ending answer
 
 -- how `run` ends on its files, or on why they weren't opened, from children c to d; then its script is unread
-abbrev pub RunEnds : {D C W E : Type 0} → (D → DiskView) → Relation C → Type 0 → Option (List ℕ) → Result D OpenCause → C → C → (W → Option (List ℕ)) → W → W → (E → Option (List ℕ)) → E → E → Ending → Type 0
+abbrev pub RunEnds : {D C W E : Type 0} → (D → DiskView) → Relation C → Type 0 → Option (List ℕ) → Result D FilesFault → C → C → (W → Option (List ℕ)) → W → W → (E → Option (List ℕ)) → E → E → Ending → Type 0
 RunEnds view R unread stream files c d written a b said old new ending =
-    IfErr files (λ why. unread × (b ≡ a) × (d ≡ c) × (ending.status ≡ 1) × TellsFault said old new ending.told (Err (fault.Open why)))
+    IfErr files (λ why. unread × (b ≡ a) × (d ≡ c) × (ending.status ≡ 1) × TellsFault said old new ending.told (Err (no_files why)))
     × IfOk files (λ disk. (answer : ProgramAnswer)
     × RunAnswer view R stream disk c d (written a) (written b) ((b ≡ a) × (d ≡ c)) answer
     × (ending.status ≡ status_of answer) × TellsFault said old new ending.told answer)
@@ -63,36 +64,36 @@ BlocksTo stream written output said old new ending =
     Buffered output (λ first last. BlocksEnds stream (writer_contents written) first last said old new ending) (EndsWith said old new ending (Err fault.OutOfMemory))
 
 -- `create` of what the places make at a path
-abbrev pub CreateAt : {P D E : Type 0} → (P → Result Unit RunFault → P → Type 0) → (P → List ℕ → Result D CreateCause → P → Type 0) → (D → DiskView)
+abbrev pub CreateAt : {P D E : Type 0} → (P → Result Unit RunFault → P → Type 0) → (P → List ℕ → Result D MakeFault → P → Type 0) → (D → DiskView)
     → P → P → (E → Option (List ℕ)) → E → E → Ending → Text → Type 0
 CreateAt {D = D} holds creates view p q said old new ending path =
     HeldFirst holds p q (λ why. EndsWith said old new ending (Err why))
-    (λ held. (files : Result D CreateCause) × creates held path files q × CreateEnds view files said old new ending)
+    (λ held. (files : Result D MakeFault) × creates held path files q × CreateEnds view files said old new ending)
 
 -- `show` of files to the buffered output
-abbrev pub ShowTo : {D W E : Type 0} → (D → DiskView) → Result D OpenCause → (W → Option (List ℕ)) → W → (E → Option (List ℕ)) → E → E → Ending → Type 0
+abbrev pub ShowTo : {D W E : Type 0} → (D → DiskView) → Result D FilesFault → (W → Option (List ℕ)) → W → (E → Option (List ℕ)) → E → E → Ending → Type 0
 ShowTo view files written output said old new ending =
     Buffered output (λ first last. ShowEnds view files (writer_contents written) first last said old new ending) (EndsWith said old new ending (Err fault.OutOfMemory))
 
--- `show` of what the places open at a path
-abbrev pub ShowAt : {P D W E : Type 0} → (P → Result Unit RunFault → P → Type 0) → (P → List ℕ → Result D OpenCause → P → Type 0) → (D → DiskView)
+-- `show` of what the places open to read at a path
+abbrev pub ShowAt : {P D W E : Type 0} → (P → Result Unit RunFault → P → Type 0) → (P → List ℕ → Result D FilesFault → P → Type 0) → (D → DiskView)
     → P → P → (W → Option (List ℕ)) → W → (E → Option (List ℕ)) → E → E → Ending → Text → Type 0
-ShowAt {D = D} holds opens view p q written output said old new ending path =
+ShowAt {D = D} holds reads view p q written output said old new ending path =
     HeldFirst holds p q (λ why. EndsWith said old new ending (Err why))
-    (λ held. (files : Result D OpenCause) × opens held path files q × ShowTo view files written output said old new ending)
+    (λ held. (files : Result D FilesFault) × reads held path files q × ShowTo view files written output said old new ending)
 
 -- `run` over files of the script of a stream, to the buffered output
-abbrev pub RunTo : {D C W E : Type 0} → (D → DiskView) → Relation C → Type 0 → Option (List ℕ) → Result D OpenCause → C → C → (W → Option (List ℕ)) → W → (E → Option (List ℕ)) → E → E → Ending → Type 0
+abbrev pub RunTo : {D C W E : Type 0} → (D → DiskView) → Relation C → Type 0 → Option (List ℕ) → Result D FilesFault → C → C → (W → Option (List ℕ)) → W → (E → Option (List ℕ)) → E → E → Ending → Type 0
 RunTo view R unread stream files c d written output said old new ending =
     Buffered output (λ first last. RunEnds view R unread stream files c d (writer_contents written) first last said old new ending)
     ((d ≡ c) × EndsWith said old new ending (Err fault.OutOfMemory))
 
 -- `run` over what the places open at a path
-abbrev pub RunAt : {P D C W E : Type 0} → (P → Result Unit RunFault → P → Type 0) → (P → List ℕ → Result D OpenCause → P → Type 0) → (D → DiskView) → Relation C → Type 0 → Option (List ℕ)
+abbrev pub RunAt : {P D C W E : Type 0} → (P → Result Unit RunFault → P → Type 0) → (P → List ℕ → Result D FilesFault → P → Type 0) → (D → DiskView) → Relation C → Type 0 → Option (List ℕ)
     → P → P → C → C → (W → Option (List ℕ)) → W → (E → Option (List ℕ)) → E → E → Ending → Text → Type 0
 RunAt {D = D} holds opens view R unread stream p q c d written output said old new ending path =
     HeldFirst holds p q (λ why. (d ≡ c) × EndsWith said old new ending (Err why))
-    (λ held. (files : Result D OpenCause) × opens held path files q × RunTo view R unread stream files c d written output said old new ending)
+    (λ held. (files : Result D FilesFault) × opens held path files q × RunTo view R unread stream files c d written output said old new ending)
 
 -- what is done, by the task
 abbrev pub ByTask : Type 0 → (Text → Type 0) → (Text → Type 0) → (Text → Type 0) → TaskView → Type 0

@@ -1,39 +1,42 @@
 //! Where worksheets lie.
 ghost use Rattle.std.specs.Prelude.{◌≤◌, ℕ, List, Result, IfOk};
-ghost use Rattle.journal.specs.declared.opening.CreateCause.{CreateCause};
-ghost use Rattle.journal.specs.declared.opening.OpenCause.{OpenCause};
+ghost use Rattle.host_cli.specs.declared.fault.FilesFault.{FilesFault};
+ghost use Rattle.host_cli.specs.declared.fault.MakeFault.{MakeFault};
 ghost use Rattle.host_cli.specs.declared.fault.RunFault.{RunFault};
 
 use crate::holding::{Closed, Held, hold_closed};
-use crate::{FileDisk, RunFault};
+use crate::{FileDisk, FilesFault, MakeFault, RunFault, SheetFile};
 use disk_model::Disk;
-use journal::{CreateCause, OpenCause};
 use std::alloc::Global;
-use std::fs::OpenFile;
-use std::os::unix::fs::FileExt;
 use std::rt::Files;
 
-/// Where worksheets lie, each at a path. What its calls do stands in three relations: the places
+/// Where worksheets lie, each at a path. What its calls do stands in four relations: the places
 /// before a call, what it asks for, its answer, and the places after it.
 pub trait Places<D: Disk> {
     ghost holds: { Self → Result (Unit {0}) RunFault → Self → Type 0 };
 
-    ghost creates: { Self → List ℕ → Result D CreateCause → Self → Type 0 };
+    ghost creates: { Self → List ℕ → Result D MakeFault → Self → Type 0 };
 
-    ghost opens: { Self → List ℕ → Result D OpenCause → Self → Type 0 };
+    ghost opens: { Self → List ℕ → Result D FilesFault → Self → Type 0 };
+
+    ghost reads: { Self → List ℕ → Result D FilesFault → Self → Type 0 };
 
     /// Sees to it that no file takes the place of a standard stream. It comes before the others.
     fn hold(&mut self) -> Result<(), RunFault>
         ensures { holds self.old result self.new };
 
     /// Makes the files of a worksheet.
-    fn create(&mut self, path: &str) -> Result<D, CreateCause>
+    fn create(&mut self, path: &str) -> Result<D, MakeFault>
         ensures made { creates self.old path.now result self.new }
         ensures room { IfOk result (λ disk. 11 ≤ (D.view disk).room) };
 
     /// Opens the files of a worksheet.
-    fn open(&mut self, path: &str) -> Result<D, OpenCause>
+    fn open(&mut self, path: &str) -> Result<D, FilesFault>
         ensures { opens self.old path.now result self.new };
+
+    /// Opens the files of a worksheet to read alone.
+    fn open_to_read(&mut self, path: &str) -> Result<D, FilesFault>
+        ensures { reads self.old path.now result self.new };
 }
 
 /// Worksheets in files. Of what they hold nothing is claimed.
@@ -57,24 +60,29 @@ impl<R: Files + Drop> FilePlaces<R> {
     }
 }
 
-impl<F: OpenFile + FileExt + Drop, R: Files<File = F> + Drop> Places<FileDisk<F>>
-    for FilePlaces<R> {
+impl<F: SheetFile + Drop, R: Files<File = F> + Drop> Places<FileDisk<F>> for FilePlaces<R> {
     ghost holds = { λ _ _ _. Unit {0} };
 
     ghost creates = { λ _ _ _ _. Unit {0} };
 
     ghost opens = { λ _ _ _ _. Unit {0} };
 
+    ghost reads = { λ _ _ _ _. Unit {0} };
+
     fn hold(&mut self) -> Result<(), RunFault> {
         self.held = Some(hold_closed(&self.rt, self.closed)?);
         Ok(())
     }
 
-    fn create(&mut self, path: &str) -> Result<FileDisk<F>, CreateCause> {
+    fn create(&mut self, path: &str) -> Result<FileDisk<F>, MakeFault> {
         FileDisk::create(&self.rt, self.alloc, path)
     }
 
-    fn open(&mut self, path: &str) -> Result<FileDisk<F>, OpenCause> {
+    fn open(&mut self, path: &str) -> Result<FileDisk<F>, FilesFault> {
         FileDisk::open(&self.rt, self.alloc, path)
+    }
+
+    fn open_to_read(&mut self, path: &str) -> Result<FileDisk<F>, FilesFault> {
+        FileDisk::open_to_read(&self.rt, self.alloc, path)
     }
 }

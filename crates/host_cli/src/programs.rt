@@ -1,22 +1,22 @@
 //! The programs over a worksheet's files, from their files on: how each ends, and what it says on
 //! which stream.
-ghost use Rattle.std.specs.Prelude.{◌≡◌, ◌≤◌, Err, IfErr, IfOk, Some};
+ghost use Rattle.std.specs.Prelude.{◌≡◌, ◌≤◌, Err, IfErr, IfOk};
 ghost use Rattle.host_cli.specs.Ending.{ProgramAnswer, TellsFault, status_of};
-ghost use Rattle.host_cli.specs.Programs.{CreateAnswer, Creates, RunAnswer, ShowAnswer, TellsCreate, create_status};
-ghost use Rattle.host_cli.specs.declared.fault.RunFault.TheVariants as fault;
+ghost use Rattle.host_cli.specs.Faults as printed;
+ghost use Rattle.host_cli.specs.Programs.{CreateAnswer, Creates, RunAnswer, ShowAnswer, TellsCreate, TellsMake, create_status};
 
 use crate::ending::ended;
-use crate::{Ending, RunFault, create_fault_text, end_program, run, show};
+use crate::fault::no_files;
+use crate::{Ending, FilesFault, MakeFault, RunFault, create_fault_text, end_program, run, show};
 use child_edge::Children;
 use disk_model::Disk;
-use journal::{CreateCause, OpenCause};
 use std::alloc::Global;
 use std::io::{Read, Write};
 
 /// Tells on a line why no worksheet was made.
-fn end_create<E: Write>(why: CreateCause, errors: &mut E) -> Ending
+fn end_create<E: Write>(why: MakeFault, errors: &mut E) -> Ending
     ensures { (result.status ≡ 1)
-        × TellsCreate E.contents errors.old errors.new result.told (Some why) }
+        × TellsMake E.contents errors.old errors.new result.told why }
 {
     ended(1, create_fault_text(why, errors).is_ok())
 }
@@ -31,17 +31,17 @@ fn create_on<D: Disk, E: Write>(disk: D, errors: &mut E) -> Ending
 {
     match journal::create(disk) {
         Ok(_) => ended(0, true),
-        Err(fault) => end_create(fault.cause, errors),
+        Err(fault) => end_create(MakeFault::Create(fault.cause), errors),
     }
 }
 
 /// The whole program `create` on its files, or on why they weren't made: lays an empty worksheet,
 /// and tells on a line of `errors` why there is none.
-pub fn run_create<D: Disk, E: Write>(files: Result<D, CreateCause>, errors: &mut E) -> Ending
+pub fn run_create<D: Disk, E: Write>(files: Result<D, MakeFault>, errors: &mut E) -> Ending
     requires { IfOk files (λ disk. 11 ≤ (D.view disk).room) }
 
     ensures no_files { IfErr files (λ why. (result.status ≡ 1)
-        × TellsCreate E.contents errors.old errors.new result.told (Some why)) }
+        × TellsMake E.contents errors.old errors.new result.told why) }
 
     // What becomes of the disk, and what is said of it.
     ensures files { IfOk files (λ disk. (new : D) × (answer : CreateAnswer)
@@ -58,13 +58,13 @@ pub fn run_create<D: Disk, E: Write>(files: Result<D, CreateCause>, errors: &mut
 /// Writes the worksheet of a disk, where there is one.
 fn show_files<D: Disk, W: Write>(
     alloc: Global,
-    files: Result<D, OpenCause>,
+    files: Result<D, FilesFault>,
     output: &mut W,
 ) -> Result<bool, RunFault>
     ensures { ShowAnswer D.view W.contents files output.old output.new result }
 {
     match files {
-        Err(why) => Err(RunFault::Open(why)),
+        Err(why) => Err(no_files(why)),
         Ok(disk) => match show(alloc, disk, output) {
             Ok(()) => Ok(true),
             Err(fault) => Err(fault),
@@ -76,7 +76,7 @@ fn show_files<D: Disk, W: Write>(
 /// `output`, and the line of a fault to `errors`.
 pub fn run_show<D: Disk, W: Write, E: Write>(
     alloc: Global,
-    files: Result<D, OpenCause>,
+    files: Result<D, FilesFault>,
     output: &mut W,
     errors: &mut E,
 ) -> Ending
@@ -135,13 +135,13 @@ pub fn run_script<R: Read, W: Write, E: Write, D: Disk, C: Children>(
     input: &mut R,
     output: &mut W,
     errors: &mut E,
-    files: Result<D, OpenCause>,
+    files: Result<D, FilesFault>,
     children: &mut C,
 ) -> Ending
     // It is told before the script is read.
     ensures unopened { IfErr files (λ why. (input.new ≡ input.old) × (output.new ≡ output.old)
         × (children.new ≡ children.old) × (result.status ≡ 1)
-        × TellsFault E.contents errors.old errors.new result.told (Err (fault.Open why))) }
+        × TellsFault E.contents errors.old errors.new result.told (Err (printed.no_files why))) }
 
     ensures files { IfOk files (λ disk. (answer : ProgramAnswer)
         × RunAnswer D.view C.after (R.remaining input.old) disk children.old children.new
@@ -152,6 +152,6 @@ pub fn run_script<R: Read, W: Write, E: Write, D: Disk, C: Children>(
 {
     match files {
         Ok(disk) => end_run(alloc, input, output, errors, disk, children),
-        Err(why) => end_program(Err(RunFault::Open(why)), errors),
+        Err(why) => end_program(Err(no_files(why)), errors),
     }
 }

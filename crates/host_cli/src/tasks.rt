@@ -9,13 +9,12 @@ ghost use Rattle.host_cli.specs.declared.fault.RunFault.TheVariants as fault;
 ghost use Rattle.host_cli.specs.declared.words.Task.{Task};
 
 use crate::{
-    Ending, Places, RunFault, Task, end_program, read_words, refuse_unread_words, refuse_words,
-    run_blocks, run_create, run_script, run_show,
+    Ending, FilesFault, Places, RunFault, Task, end_program, read_words, refuse_unread_words,
+    refuse_words, run_blocks, run_create, run_script, run_show,
 };
 use child_edge::Children;
 use clap::Error;
 use disk_model::Disk;
-use journal::OpenCause;
 use std::alloc::Global;
 use std::io;
 use std::io::{BufWriter, Read, Write};
@@ -53,7 +52,7 @@ fn create_at<D: Disk, P: Places<D>, E: Write>(places: &mut P, path: &str, errors
 /// `show` of a worksheet's files on the output.
 fn show_on<D: Disk, W: Write + Drop, E: Write>(
     alloc: Global,
-    files: Result<D, OpenCause>,
+    files: Result<D, FilesFault>,
     output: W,
     errors: &mut E,
 ) -> Ending
@@ -73,11 +72,11 @@ fn show_at<D: Disk, P: Places<D>, W: Write + Drop, E: Write>(
     output: W,
     errors: &mut E,
 ) -> Ending
-    ensures { ShowAt P.holds P.opens D.view places.old places.new W.contents output
+    ensures { ShowAt P.holds P.reads D.view places.old places.new W.contents output
         E.contents errors.old errors.new result path.now }
 {
     match places.hold() {
-        Ok(()) => show_on(alloc, places.open(path), output, errors),
+        Ok(()) => show_on(alloc, places.open_to_read(path), output, errors),
         Err(fault) => end_program(Err(fault), errors),
     }
 }
@@ -88,7 +87,7 @@ fn run_over<R: Read, W: Write + Drop, E: Write, D: Disk, C: Children>(
     input: &mut R,
     output: W,
     errors: &mut E,
-    files: Result<D, OpenCause>,
+    files: Result<D, FilesFault>,
     children: &mut C,
 ) -> Ending
     ensures { RunTo D.view C.after (input.new ≡ input.old) (R.remaining input.old) files
@@ -140,7 +139,7 @@ pub fn do_task<D: Disk, P: Places<D>, R: Read, W: Write + Drop, E: Write, C: Chi
         (RunAt P.holds P.opens D.view C.after (input.new ≡ input.old) (R.remaining input.old)
         places.old places.new children.old children.new W.contents output
         E.contents errors.old errors.new result)
-        (ShowAt P.holds P.opens D.view places.old places.new W.contents output
+        (ShowAt P.holds P.reads D.view places.old places.new W.contents output
         E.contents errors.old errors.new result)
         (task_view task.entry) }
 {
@@ -189,7 +188,7 @@ pub fn run_words<D: Disk, P: Places<D>, R: Read, W: Write + Drop, E: Write, C: C
         (RunAt P.holds P.opens D.view C.after (input.new ≡ input.old) (R.remaining input.old)
         places.old places.new children.old children.new W.contents output
         E.contents errors.old errors.new result)
-        (ShowAt P.holds P.opens D.view places.old places.new W.contents output
+        (ShowAt P.holds P.reads D.view places.old places.new W.contents output
         E.contents errors.old errors.new result)
         (task_view task))
         (λ error. (last : W)

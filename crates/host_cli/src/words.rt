@@ -36,7 +36,9 @@ at a fault of the program; 2 where the words are refused.\n\n\
 Example: printf '\\002verbatim:Hi\\005' | tmhost blocks";
 
 const CREATE_NOTES: &str =
-    "Where PATH or PATH.alt exists nothing is made, and the fault is 34 NotEmpty.\n\n\
+    "Where PATH or PATH.alt exists nothing is made, and the fault is 34 NotEmpty.\n\
+A creation that was cut off may leave files that are no worksheet, which `run`\n\
+tells as the fault 31: remove PATH and PATH.alt, and create it again.\n\n\
 Status: 0 where the worksheet is on the disk; 1 at a fault; 2 where the words are\n\
 refused.\n\n\
 Example: tmhost create sheet.tm";
@@ -44,13 +46,15 @@ Example: tmhost create sheet.tm";
 const RUN_NOTES: &str =
     "The script is read whole from standard input. What each line of it gives is\n\
 written before the next one is taken, and what is told as done is on the disk.\n\
-A worksheet must not be run twice at a time: no lock guards it.\n\n\
+Where another program has the worksheet the script isn't read and nothing is\n\
+done: that is the fault 35 InUse.\n\n\
 Status: 0 where the script ran to its end, also where it has bad lines and refused\n\
 commands; 1 at a fault; 2 where the words are refused.\n\n\
 Example: tmhost run sheet.tm <script.txt";
 
 const SHOW_NOTES: &str =
-    "It changes nothing in the worksheet. A field without an output shows `?`.\n\n\
+    "It writes and makes no file. A field without an output shows `?`. Where a program\n\
+runs the worksheet nothing is shown: that is the fault 35 InUse.\n\n\
 Status: 0 where all was written; 1 at a fault; 2 where the words are refused.\n\n\
 Example: tmhost show sheet.tm";
 

@@ -1,6 +1,6 @@
 # Steps of the program as its users take them, over real files, streams and interpreters. Its first word is the program's path. What
 # is printed here is compared with the file stdout beside this folder. A line `-- WORDS` names the step, and one `status N` its status
-# where that isn't 0.
+# where that isn't 0. They are taken by a user who isn't root, who may read and write everything.
 #
 # At the end stand the cases, by matter: each of the files that are read there has some hundred of them, and prints how many are as
 # wanted. Who adds a case writes it into the file of its matter, with the text that is wanted (desk.sh has the forms), and counts it in
@@ -145,8 +145,12 @@ files second second.alt
 printf 'new 0 a w\nprint\n' | run run second
 printf 'TMWSHEET\001' >second.alt
 run show second
+rm second.alt
+run show second
+files second.alt
 printf 'TMWSHEET\001C\000' >other
 run show other
+files other.alt
 
 step a journal that is written anew
 run create anew
@@ -187,6 +191,7 @@ run run missing </dev/null
 files missing missing.alt
 echo hello >hello.txt
 run show hello.txt
+files hello.txt.alt
 run run hello.txt </dev/null
 printf 'TMWSHEET\001AR\000\000\000\011abc' >cut
 run show cut
@@ -197,6 +202,113 @@ step a second file that is missing
 rm killed.alt
 run show killed
 files killed.alt
+printf 'print\n' | run run killed
+files killed.alt
+
+# An interpreter that says when it has its line, and answers it once it may.
+cat >waits.sh <<'END'
+printf '\002verbatim:\005'
+while IFS= read -r l; do
+    echo >"$l.asked"
+    until [ -e go ]; do sleep 0.1; done
+    printf '\002verbatim:%s\005' "$l"
+done
+END
+
+# What a refused run hasn't read of its script is printed by `cat`.
+step a worksheet that is in use
+run create used
+ln -s used used.link
+printf 'session a plain sh waits.sh\nnew 0 a first\neval 1\nwait\n' | "$tmhost" run used >told 2>&1 &
+host=$!
+until [ -e first.asked ]; do sleep 0.1; done
+printf 'new 0 a second\n' | { run run used; cat; }
+printf 'new 0 a third\n' | { run run used.link; cat; }
+run show used
+run create used
+echo >go
+wait $host
+echo "status $?"
+cat told
+run show used
+printf 'new 1 a fourth\n' | run run used
+
+# An interpreter that kills its host, and goes on until it may end.
+cat >stays.sh <<'END'
+printf '\002verbatim:\005'
+echo $$ >stays.pid
+kill -9 $PPID
+until [ -e gone ]; do sleep 0.1; done
+END
+
+step an interpreter that outlives its host has no lock
+run create stays
+printf 'session a plain sh stays.sh\nnew 0 a x\neval 1\nwait\n' >script
+"$tmhost" run stays <script >text 2>/dev/null
+run show stays
+printf 'new 1 a y\n' | run run stays
+kill -0 "$(cat stays.pid)" && echo it goes on
+echo >gone
+
+step a link to a worksheet in another folder
+mkdir far
+run create far/sheet
+ln -s far/sheet near
+printf 'session a plain sh\nnew 0 a x\n' | run run near
+files near.alt far/sheet.alt
+rm far/sheet.alt
+run show near
+files near.alt far/sheet.alt
+printf 'set 1 y\n' | run run near
+run show far/sheet
+files near.alt far/sheet.alt
+
+step files that are shared
+run create named
+ln named name
+run show named
+run run name </dev/null
+files name.alt
+rm name
+printf 'session a plain sh\nnew 0 a x\n' | run run named
+rm named.alt
+ln named named.alt
+run show named
+run run named </dev/null
+rm named.alt
+ln -s far/sheet.alt named.alt
+run show named
+run run named </dev/null
+rm named.alt
+run show named
+
+step what is no plain file
+mkfifo pipe
+run show pipe
+run run pipe </dev/null
+files pipe.alt
+mkfifo named.alt
+run show named
+run run named </dev/null
+rm named.alt
+run show /dev/null
+run run . </dev/null
+
+step what may not be written
+chmod 400 named
+run show named
+printf 'set 1 y\n' | run run named
+chmod 500 far
+run show far/sheet
+run create far/new
+chmod 700 far
+rm far/sheet.alt
+chmod 500 far
+run show far/sheet
+printf 'set 1 z\n' | run run far/sheet
+files named.alt far/sheet.alt far/new
+chmod 600 named
+chmod 700 far
 
 step words
 refused create

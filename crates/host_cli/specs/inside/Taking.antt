@@ -56,6 +56,7 @@ LineFailed R l s h c a b fault.Output = (t : World) × (d : DiskView) × LineLed
 LineFailed R l s h c a b fault.Input = ⊥
 LineFailed R l s h c a b fault.InputTooLong = ⊥
 LineFailed R l s h c a b (fault.Open why) = ⊥
+LineFailed R l s h c a b fault.InUse = ⊥
 
 -- The same of the lines of a script.
 abbrev pub LinesFailed : {C : Type 0} → Relation C → List (List ℕ) → At C → HostView → C → Option (List ℕ) → Option (List ℕ) → RunFault → Type 0
@@ -67,6 +68,7 @@ LinesFailed R lines s h c a b fault.Output = (t : World) × (d : DiskView) × Li
 LinesFailed R lines s h c a b fault.Input = ⊥
 LinesFailed R lines s h c a b fault.InputTooLong = ⊥
 LinesFailed R lines s h c a b (fault.Open why) = ⊥
+LinesFailed R lines s h c a b fault.InUse = ⊥
 
 -- The same, and each life that goes on was stopped behind it.
 abbrev pub LinesStopped : {C : Type 0} → Relation C → List (List ℕ) → At C → HostView → C → Option (List ℕ) → Option (List ℕ) → RunFault → Type 0
@@ -78,3 +80,4 @@ LinesStopped {C = C} R lines s h d a b fault.Output = (t : At C) × LinesLed R l
 LinesStopped R lines s h d a b fault.Input = ⊥
 LinesStopped R lines s h d a b fault.InputTooLong = ⊥
 LinesStopped R lines s h d a b (fault.Open why) = ⊥
+LinesStopped R lines s h d a b fault.InUse = ⊥

@@ -1,7 +1,7 @@
 //! The two files of a worksheet, in folders of the tests' own.
 use super::programs::{has, shows_path};
-use host_cli::{Ending, FileDisk, run_create};
-use journal::{CreateCause, OpenCause};
+use host_cli::{Ending, FileDisk, FilesFault, MakeFault, run_create};
+use journal::CreateCause;
 use std::fs::{File, Permissions};
 use std::os::unix::fs::{PermissionsExt, symlink};
 use std::test::Fail;
@@ -16,15 +16,23 @@ fn folder(rt: &HostRuntime, name: &str) -> io::Result<()> {
     fs::create_dir(rt, name)
 }
 
-fn creates(rt: &HostRuntime, path: &str) -> Result<(), CreateCause> {
+fn creates(rt: &HostRuntime, path: &str) -> Result<(), MakeFault> {
     match FileDisk::create(rt, rt.alloc(), path) {
         Ok(_) => Ok(()),
         Err(why) => Err(why),
     }
 }
 
-fn opens(rt: &HostRuntime, path: &str) -> Result<(), OpenCause> {
+fn opens(rt: &HostRuntime, path: &str) -> Result<(), FilesFault> {
     match FileDisk::open(rt, rt.alloc(), path) {
+        Ok(_) => Ok(()),
+        Err(why) => Err(why),
+    }
+}
+
+// What comes of a worksheet that is opened to read.
+fn reads(rt: &HostRuntime, path: &str) -> Result<(), FilesFault> {
+    match FileDisk::open_to_read(rt, rt.alloc(), path) {
         Ok(_) => Ok(()),
         Err(why) => Err(why),
     }
@@ -70,7 +78,7 @@ fn make_things(rt: &HostRuntime) -> io::Result<()> {
 
 // Whether nothing is created for this path, which has something, so that the other file isn't there.
 fn is_not_created(rt: &HostRuntime, path: &str, missing: &str) -> bool {
-    creates(rt, path) == Err(CreateCause::NotEmpty) && !is_there(rt, missing)
+    creates(rt, path) == Err(MakeFault::Create(CreateCause::NotEmpty)) && !is_there(rt, missing)
 }
 
 #[test]
@@ -96,13 +104,14 @@ fn what_is_there_is_not_created(rt: HostRuntime) -> Result<(), Fail> {
 fn what_can_not_be_made_is_a_fault_of_the_disk(rt: HostRuntime) -> Result<(), Fail> {
     folder(&rt, "not_made")?;
     fs::write(&rt, "not_made/file", b"x".as_slice())?;
+    let failed = Err(MakeFault::Create(CreateCause::Disk));
     for path in [
         "",
         "not_made/none/sheet",
         "not_made/file/sheet",
         "not_made/\0",
     ] {
-        assert!(rt; creates(&rt, path) == Err(CreateCause::Disk), "{path:?}");
+        assert!(rt; creates(&rt, path) == failed, "{path:?}");
     }
     assert!(rt; !is_there(&rt, ".alt") && !is_there(&rt, "not_made/none"));
     assert!(rt; has(&rt, "not_made/file", b"x"));
@@ -150,7 +159,7 @@ fn what_can_not_be_opened_is_a_fault_of_the_disk(rt: HostRuntime) -> Result<(), 
         "not_opened/sheet/in",
         "not_opened/\0",
     ] {
-        assert!(rt; opens(&rt, path) == Err(OpenCause::Disk), "{path:?}");
+        assert!(rt; opens(&rt, path) == Err(FilesFault::Disk), "{path:?}");
     }
     for made in [
         ".alt",
@@ -173,7 +182,7 @@ fn is_opened_or_not(rt: &HostRuntime, path: &str, second: &str) -> bool {
     let expected = if may_read {
         Ok(())
     } else {
-        Err(OpenCause::Disk)
+        Err(FilesFault::Disk)
     };
     opens(rt, path) == expected && is_there(rt, second) == may_read
 }
@@ -209,5 +218,91 @@ fn a_file_longer_than_the_room(rt: HostRuntime) -> Result<(), Fail> {
     assert!(rt; shows_path(&rt, "too_long/sheet", 1, (b"", b"fault 32 Disk\n")));
     assert!(rt; has_len(&rt, "too_long/sheet", 2_147_483_649));
     fs::remove_dir_all(&rt, "too_long")?;
+    Ok(())
+}
+
+// What an opening to write and one to read answer while this disk is held.
+fn beside<D: Drop>(
+    rt: &HostRuntime,
+    held: D,
+    path: &str,
+) -> (Result<(), FilesFault>, Result<(), FilesFault>) {
+    let answers = (opens(rt, path), reads(rt, path));
+    drop(held);
+    answers
+}
+
+// Whether a worksheet that is made, or opened, is locked as long as it is held.
+fn is_locked(rt: &HostRuntime, path: &str) -> Option<bool> {
+    let both = (Err(FilesFault::InUse), Err(FilesFault::InUse));
+    let made = FileDisk::create(rt, rt.alloc(), path).ok()?;
+    let beside_made = beside(rt, made, path);
+    let opened = FileDisk::open(rt, rt.alloc(), path).ok()?;
+    let beside_opened = beside(rt, opened, path);
+    let read = FileDisk::open_to_read(rt, rt.alloc(), path).ok()?;
+    let beside_read = beside(rt, read, path);
+    let others_read = (Err(FilesFault::InUse), Ok(()));
+    Some(beside_made == both && beside_opened == both && beside_read == others_read)
+}
+
+#[test]
+fn a_worksheet_has_one_writer_or_readers(rt: HostRuntime) -> Result<(), Fail> {
+    folder(&rt, "locked")?;
+    assert!(rt; is_locked(&rt, "locked/sheet") == Some(true));
+    assert!(rt; opens(&rt, "locked/sheet") == Ok(()));
+    fs::remove_dir_all(&rt, "locked")?;
+    Ok(())
+}
+
+// Worksheets that have a second name, or whose second file is another's or the first one.
+fn make_shared_files(rt: &HostRuntime) -> io::Result<()> {
+    folder(rt, "shared")?;
+    fs::write(rt, "shared/sheet", EMPTY_SHEET)?;
+    fs::hard_link(rt, "shared/sheet", "shared/name")?;
+    fs::write(rt, "shared/same", EMPTY_SHEET)?;
+    fs::hard_link(rt, "shared/same", "shared/same.alt")?;
+    fs::write(rt, "shared/other", EMPTY_SHEET)?;
+    fs::hard_link(rt, "shared/sheet", "shared/other.alt")?;
+    fs::write(rt, "shared/linked", EMPTY_SHEET)?;
+    symlink(rt, "linked", "shared/linked.alt")
+}
+
+#[test]
+fn a_file_that_is_shared_is_not_opened(rt: HostRuntime) -> Result<(), Fail> {
+    make_shared_files(&rt)?;
+    for path in [
+        "shared/sheet",
+        "shared/name",
+        "shared/same",
+        "shared/other",
+        "shared/linked",
+    ] {
+        assert!(rt; opens(&rt, path) == Err(FilesFault::Disk), "{path}");
+        assert!(rt; reads(&rt, path) == Err(FilesFault::Disk), "{path}");
+    }
+    assert!(rt; !is_there(&rt, "shared/sheet.alt") && !is_there(&rt, "shared/name.alt"));
+    fs::remove_dir_all(&rt, "shared")?;
+    Ok(())
+}
+
+// Links in two folders to one worksheet.
+fn make_links(rt: &HostRuntime) -> io::Result<()> {
+    folder(rt, "links")?;
+    fs::create_dir(rt, "links/far")?;
+    fs::write(rt, "links/sheet", EMPTY_SHEET)?;
+    symlink(rt, "../sheet", "links/far/link")?;
+    symlink(rt, "far/link", "links/again")
+}
+
+#[test]
+fn a_link_has_the_second_file_of_what_it_leads_to(rt: HostRuntime) -> Result<(), Fail> {
+    make_links(&rt)?;
+    for path in ["links/far/link", "links/again"] {
+        assert!(rt; opens(&rt, path) == Ok(()), "{path}");
+        assert!(rt; reads(&rt, path) == Ok(()), "{path}");
+    }
+    assert!(rt; is_there(&rt, "links/sheet.alt"));
+    assert!(rt; !is_there(&rt, "links/far/link.alt") && !is_there(&rt, "links/again.alt"));
+    fs::remove_dir_all(&rt, "links")?;
     Ok(())
 }

@@ -1,11 +1,13 @@
 //! Files that are made up: each call on them is listed, and they hold nothing.
+use host_cli::{Identity, Lock, SheetFile};
 use std::alloc::{Allocator, Global};
 use std::cell::{Cell, RefCell};
 use std::fmt::Write;
-use std::fs::{Metadata, OpenFile, OpenOptions};
+use std::fs::{Metadata, OpenFile, OpenOptions, TryLockError};
 use std::io;
 use std::io::{ErrorKind, SeekFrom};
 use std::os::unix::fs::FileExt;
+use std::path::PathBuf;
 use std::rt::Files;
 
 /// The calls so far, a line each, and what becomes of the next ones.
@@ -14,10 +16,46 @@ pub struct Calls {
     list: RefCell<String>,
     /// How many opens fail, from the next one on.
     pub shut: Cell<u32>,
-    /// Whether the second file of a worksheet is missing.
-    pub missing: Cell<bool>,
-    /// Whether each sync fails.
-    pub stuck: Cell<bool>,
+    /// What is there before a file is made.
+    pub there: Cell<There>,
+    /// Whether each sync fails, and why.
+    pub stuck: Cell<Option<ErrorKind>>,
+    /// What becomes of a lock.
+    pub locks: Cell<Locks>,
+    /// How many names the first file of a worksheet has, and how many the second.
+    pub names: Cell<(u64, u64)>,
+    /// The numbers of these files.
+    pub numbers: Cell<(u64, u64)>,
+    /// Whether what was opened is a plain file.
+    pub plain: Cell<bool>,
+}
+
+/// What a file system has before a file is made.
+#[derive(Clone, Copy, PartialEq, Eq)]
+pub enum There {
+    /// No file.
+    Nothing,
+    /// Each file.
+    All,
+    /// Each but the second one of a worksheet.
+    First,
+    /// What is no plain file, at each path.
+    Folders,
+    /// The same at the path of the second file alone.
+    SecondLink,
+    /// Each file, and the path `link` leads to the path `far/sheet`.
+    Linked,
+    /// The same, but where it leads can't be told.
+    Lost,
+}
+
+/// What becomes of a lock that is asked for.
+#[derive(Clone, Copy, PartialEq, Eq)]
+pub enum Locks {
+    Free,
+    Taken,
+    /// The file system has none.
+    None,
 }
 
 impl Calls {
@@ -26,8 +64,12 @@ impl Calls {
         Calls {
             list: RefCell::new(String::new(alloc)),
             shut: Cell::new(0),
-            missing: Cell::new(false),
-            stuck: Cell::new(false),
+            there: Cell::new(There::Nothing),
+            stuck: Cell::new(None),
+            locks: Cell::new(Locks::Free),
+            names: Cell::new((1, 1)),
+            numbers: Cell::new((8, 9)),
+            plain: Cell::new(true),
         }
     }
 
@@ -51,24 +93,50 @@ impl Calls {
         }
     }
 
-    // Why this open fails.
-    fn refusal(&self, what: &str, path: &str) -> Option<ErrorKind> {
+    /// Whether the last calls are these.
+    pub fn end_in(&self, lines: &str) -> bool {
+        match self.list.try_borrow() {
+            Ok(list) => list.as_str().ends_with(lines),
+            Err(_) => false,
+        }
+    }
+
+    // Whether this open fails.
+    fn is_shut(&self) -> bool {
         let shut = self.shut.get();
-        if shut > 0 {
-            self.shut.set(shut.wrapping_sub(1));
-            return Some(ErrorKind::PermissionDenied);
+        self.shut.set(shut.saturating_sub(1));
+        shut > 0
+    }
+
+    // What stands at a path.
+    fn found(&self, path: &str) -> io::Result<Metadata> {
+        let second = path.ends_with(".alt");
+        match self.there.get() {
+            There::Nothing => Err(io::Error::from(ErrorKind::NotFound)),
+            There::First if second => Err(io::Error::from(ErrorKind::NotFound)),
+            There::SecondLink if second => Ok(Metadata::of_symlink(3)),
+            There::Linked | There::Lost if path == "link" => Ok(Metadata::of_symlink(9)),
+            There::Folders => Ok(Metadata::of_dir()),
+            There::All | There::First | There::SecondLink | There::Linked | There::Lost => {
+                Ok(Metadata::of_file(7))
+            }
         }
-        if self.missing.get() && what == "open" && path.ends_with(".alt") {
-            return Some(ErrorKind::NotFound);
+    }
+
+    // Where a path leads.
+    fn leads<'b>(&self, path: &'b str) -> io::Result<&'b str> {
+        match self.there.get() {
+            There::Lost => Err(io::Error::from(ErrorKind::InvalidData)),
+            There::Linked if path == "link" => Ok("far/sheet"),
+            _ => Ok(path),
         }
-        None
     }
 
     fn answer(&self) -> io::Result<()> {
-        if self.stuck.get() {
-            return Err(io::Error::from(ErrorKind::Other));
+        match self.stuck.get() {
+            Some(why) => Err(io::Error::from(why)),
+            None => Ok(()),
         }
-        Ok(())
     }
 }
 
@@ -111,10 +179,9 @@ impl<'a> Files for MadeUp<'a> {
     type Dir = MadeUpFile<'a>;
 
     fn open_file(&self, how: &OpenOptions, path: &str) -> io::Result<MadeUpFile<'a>> {
-        let what = verb(how);
-        self.calls.note(what, path);
-        if let Some(why) = self.calls.refusal(what, path) {
-            return Err(io::Error::from(why));
+        self.calls.note(verb(how), path);
+        if self.calls.is_shut() {
+            return Err(io::Error::from(ErrorKind::PermissionDenied));
         }
         Ok(MadeUpFile {
             path: String::from_str(self.alloc, path)?,
@@ -130,10 +197,14 @@ impl<'a> Files for MadeUp<'a> {
         unsupported()
     }
 
-    // Nothing is there before it is made.
     fn symlink_metadata(&self, path: &str) -> io::Result<Metadata> {
         self.calls.note("look for", path);
-        Err(io::Error::from(ErrorKind::NotFound))
+        self.calls.found(path)
+    }
+
+    fn canonicalize<B: Allocator>(&self, alloc: B, path: &str) -> io::Result<PathBuf<B>> {
+        self.calls.note("follow", path);
+        Ok(PathBuf::from_str(alloc, self.calls.leads(path)?)?)
     }
 
     fn copy(&self, _from: &str, _to: &str) -> io::Result<u64> {
@@ -179,6 +250,34 @@ impl OpenFile for MadeUpFile<'_> {
     fn sync_data(&self) -> io::Result<()> {
         self.calls.note("sync the data of", self.path.as_str());
         self.calls.answer()
+    }
+}
+
+impl SheetFile for MadeUpFile<'_> {
+    fn take_lock(&self, lock: Lock) -> Result<(), TryLockError> {
+        let what = match lock {
+            Lock::Shared => "lock to read",
+            Lock::Exclusive => "lock",
+        };
+        self.calls.note(what, self.path.as_str());
+        match self.calls.locks.get() {
+            Locks::Free => Ok(()),
+            Locks::Taken => Err(TryLockError::WouldBlock),
+            Locks::None => Err(TryLockError::Error(io::Error::from(ErrorKind::Unsupported))),
+        }
+    }
+
+    fn identity(&self) -> io::Result<Identity> {
+        self.calls.note("identify", self.path.as_str());
+        let second = self.path.as_str().ends_with(".alt");
+        let (names, others) = self.calls.names.get();
+        let (number, other) = self.calls.numbers.get();
+        Ok(Identity {
+            device: 1,
+            number: if second { other } else { number },
+            names: if second { others } else { names },
+            is_plain: self.calls.plain.get(),
+        })
     }
 }
 

@@ -1,8 +1,8 @@
 //! How `create` and `show` end, over disks in memory and over files.
 use super::failing::{Full, Unflushed};
 use disk_model::{FuseDisk, FuseMode, MemoryDisk};
-use host_cli::{Ending, FileDisk, run_create, run_show};
-use journal::{CreateCause, OpenCause};
+use host_cli::{Ending, FileDisk, FilesFault, MakeFault, run_create, run_show};
+use journal::CreateCause;
 use std::alloc::Global;
 use std::fs;
 use std::io::Write;
@@ -56,17 +56,22 @@ fn create_tells_a_disk_that_fails(rt: HostRuntime) {
 }
 
 // The same without files.
-fn creates_without_files(alloc: Global, status: u8, said: &[u8]) -> bool {
+fn creates_without_files(alloc: Global, why: MakeFault, said: &[u8]) -> bool {
     let mut errors: Vec<u8> = Vec::new(alloc);
-    let none: Result<MemoryDisk, CreateCause> = Err(CreateCause::Disk);
+    let none: Result<MemoryDisk, MakeFault> = Err(why);
     let ended = run_create(none, &mut errors);
-    ended == ending(status, true) && errors.as_slice() == said
+    ended == ending(1, true) && errors.as_slice() == said
 }
 
 #[test]
 fn create_without_files(rt: HostRuntime) {
-    assert!(rt; creates_without_files(rt.alloc(), 1, b"fault 32 Disk\n"));
-    let none: Result<MemoryDisk, CreateCause> = Err(CreateCause::NotEmpty);
+    let alloc = rt.alloc();
+    let disk = MakeFault::Create(CreateCause::Disk);
+    let there = MakeFault::Create(CreateCause::NotEmpty);
+    assert!(rt; creates_without_files(alloc, disk, b"fault 32 Disk\n"));
+    assert!(rt; creates_without_files(alloc, there, b"fault 34 NotEmpty\n"));
+    assert!(rt; creates_without_files(alloc, MakeFault::InUse, b"fault 35 InUse\n"));
+    let none: Result<MemoryDisk, MakeFault> = Err(there);
     assert!(rt; run_create(none, &mut Full) == ending(1, false));
 }
 
@@ -82,7 +87,7 @@ fn holding(alloc: Global, first: &[u8]) -> Option<MemoryDisk> {
 // Whether `show` of these files ends so, and writes this on its output and its errors.
 fn shows_files(
     alloc: Global,
-    files: Result<MemoryDisk, OpenCause>,
+    files: Result<MemoryDisk, FilesFault>,
     status: u8,
     (out, said): (&[u8], &[u8]),
 ) -> bool {
@@ -125,14 +130,16 @@ fn show_writes_the_worksheet_or_tells_the_damage(rt: HostRuntime) -> Result<(), 
 
 #[test]
 fn show_without_files(rt: HostRuntime) {
-    let none: Result<MemoryDisk, OpenCause> = Err(OpenCause::Disk);
+    let none: Result<MemoryDisk, FilesFault> = Err(FilesFault::Disk);
     assert!(rt; shows_files(rt.alloc(), none, 1, (b"", b"fault 32 Disk\n")));
+    let used: Result<MemoryDisk, FilesFault> = Err(FilesFault::InUse);
+    assert!(rt; shows_files(rt.alloc(), used, 1, (b"", b"fault 35 InUse\n")));
 }
 
 // Whether `show` over this output tells that it could not be written.
 fn shows_on_a_bad<W: Write>(alloc: Global, output: &mut W) -> Option<bool> {
     let mut errors: Vec<u8> = Vec::new(alloc);
-    let files: Result<MemoryDisk, OpenCause> = Ok(holding(alloc, SHEET)?);
+    let files: Result<MemoryDisk, FilesFault> = Ok(holding(alloc, SHEET)?);
     let ended = run_show(alloc, files, output, &mut errors);
     Some(ended == ending(1, true) && errors.as_slice() == b"fault 42 Output\n".as_slice())
 }
@@ -147,7 +154,7 @@ fn show_tells_an_output_that_fails(rt: HostRuntime) {
 pub fn shows_path(rt: &HostRuntime, path: &str, status: u8, (out, said): (&[u8], &[u8])) -> bool {
     let mut output: Vec<u8> = Vec::new(rt.alloc());
     let mut errors: Vec<u8> = Vec::new(rt.alloc());
-    let files = FileDisk::open(rt, rt.alloc(), path);
+    let files = FileDisk::open_to_read(rt, rt.alloc(), path);
     let ended = run_show(rt.alloc(), files, &mut output, &mut errors);
     ended == ending(status, true) && output.as_slice() == out && errors.as_slice() == said
 }
@@ -166,7 +173,7 @@ fn show_leaves_the_files_as_they_were(rt: HostRuntime) -> Result<(), Fail> {
     fs::create_dir(&rt, "shown")?;
     fs::write(&rt, "shown/sheet", SHEET)?;
     assert!(rt; shows_path(&rt, "shown/sheet", 0, (SHEET_TEXT, b"")));
-    assert!(rt; has(&rt, "shown/sheet", SHEET) && has(&rt, "shown/sheet.alt", b""));
+    assert!(rt; has(&rt, "shown/sheet", SHEET) && !has(&rt, "shown/sheet.alt", b""));
     fs::remove_dir_all(&rt, "shown")?;
     Ok(())
 }

@@ -1,0 +1,56 @@
+//! What a worksheet asks of a file, beside that it is read, written and synced.
+use std::fs::{File, OpenFile, TryLockError};
+use std::io;
+use std::os::unix::fs::{FileExt, MetadataExt};
+
+/// A lock on a whole file. It is advisory: it binds those alone who ask for it.
+#[derive(Clone, Copy, Debug, PartialEq, Eq)]
+pub enum Lock {
+    /// Others may have this one too, and none may have the other.
+    Shared,
+    /// Nobody else has any.
+    Exclusive,
+}
+
+/// Which file an open one is, and of what kind.
+#[derive(Clone, Copy, Debug, PartialEq, Eq)]
+pub struct Identity {
+    /// The device that it lies on.
+    pub device: u64,
+    /// Its number on that device.
+    pub number: u64,
+    /// How many names it has: more than one where it has hard links, and none where it was removed.
+    pub names: u64,
+    /// Whether it is a plain file: no folder, device, pipe or socket.
+    pub is_plain: bool,
+}
+
+/// An open file in which a worksheet can lie.
+pub trait SheetFile: OpenFile + FileExt {
+    /// Takes a lock, without waiting for it. It is this open's own, so no other has it, and it goes
+    /// when the file is closed, also by the end of a program that was killed. `WouldBlock` where
+    /// another open has one that forbids it; another error where the file system has no locks.
+    fn take_lock(&self, lock: Lock) -> Result<(), TryLockError>;
+
+    /// Which file this is.
+    fn identity(&self) -> io::Result<Identity>;
+}
+
+impl SheetFile for File {
+    fn take_lock(&self, lock: Lock) -> Result<(), TryLockError> {
+        match lock {
+            Lock::Shared => self.try_lock_shared(),
+            Lock::Exclusive => self.try_lock(),
+        }
+    }
+
+    fn identity(&self) -> io::Result<Identity> {
+        let found = self.metadata()?;
+        Ok(Identity {
+            device: found.dev(),
+            number: found.ino(),
+            names: found.nlink(),
+            is_plain: found.is_file(),
+        })
+    }
+}
