@@ -30,19 +30,19 @@ for length in $(seq 0 75); do
     shows "the first $length bytes of the example" 1 "fault $fault\n" <given
 done
 
-# `show` changes no byte, and makes the second file where it is missing.
+# `show` changes no byte, and makes no file.
 printf "$front$answered"'\000' >kept
 rm -f kept.alt
 compare 'a worksheet that is kept' "$(answer show kept)" "$(ending '#1 a\n> x\nA\n' 0)"
 compare 'its first file' "$(bytes kept)" "$(bytes example)"
-compare 'its second file' "$(bytes kept.alt)" ''
+compare 'its second file' "$([ -e kept.alt ] || echo missing)" 'missing'
 
 # Headers.
 area 'no header' '0123456789' 1 'fault 31 NotASheet\n'
 area 'no header, with a gate behind it' '0123456789\000' 1 'fault 31 NotASheet\n'
 area 'no first gate' 'TMWSHEET\001A' 1 'fault 31 NotASheet\n'
 area 'another version' 'TMWSHEET\002A\000' 1 'fault 31 NotASheet\n'
-area 'a second area that is missing' 'TMWSHEET\001B\000' 1 'fault 31 NotASheet\n'
+area 'a second file that is missing' 'TMWSHEET\001B\000' 1 'fault 32 Disk\n'
 area 'another selector' 'TMWSHEET\001C\000' 0 ''
 
 # Gates and lengths.

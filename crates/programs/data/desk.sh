@@ -44,8 +44,7 @@ words() {
     compare "$name" "$(answer "$@" </dev/null)" "$want"
 }
 
-# A case of `show`: NAME STATUS TEXT, over the bytes here as the first file of a worksheet. It must be left as it was, with an empty
-# second file, or none where it isn't opened.
+# A case of `show`: NAME STATUS TEXT, over the bytes here as the first file of a worksheet, which has no second one.
 shows() {
     cat >area
     rm -f area.alt
