@@ -1,5 +1,4 @@
-//! Tests of `host_cli::run` and `show`: worked examples with the text typed in, failing readers and
-//! writers, scripted interpreters, and real ones over real files.
+//! Tests of `host_cli::run` where its reader or its writer fails.
 #![tactic(auto)]
 
 #[cfg(test)]

@@ -1,7 +1,3 @@
-mod completions;
-mod desk;
-mod examples;
+//! Runs whose readers and writers fail. Those that come to their end are cases of `programs`.
 mod failing;
-mod faults;
-mod real;
-mod talkers;
+mod running;

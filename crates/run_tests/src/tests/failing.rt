@@ -36,22 +36,6 @@ impl Write for Full {
     }
 }
 
-/// Gives so many bytes of noise.
-#[derive(Drop)]
-pub struct Noise {
-    pub left: usize,
-}
-
-impl Read for Noise {
-    fn read(&mut self, buf: &mut [u8]) -> io::Result<usize> {
-        let noise = [0u8; 65_536];
-        let count = self.left.min(buf.len()).min(65_536);
-        buf[..count].copy_from_slice(&noise[..count]);
-        self.left -= count;
-        Ok(count)
-    }
-}
-
 /// Takes all bytes, and can't put them where they belong.
 #[derive(Drop)]
 pub struct Unflushed;
