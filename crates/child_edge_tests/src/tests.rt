@@ -1,10 +1,10 @@
-//! Worked examples, with what is told typed in.
+//! Children of which each byte counts, with what is told typed in. Whole examples and real interpreters are
+//! cases of `programs`, `data/children.sh`.
 use crate::tests::desk::{Asked, told};
 use crate::tests::talkers::{Silent, Turned};
 use block_tree::{OutOfMemory, Queue};
-use child_edge::{Got, Part, PieceBytes, Processes, Scripted};
+use child_edge::{Got, Part, PieceBytes, Scripted};
 use std::alloc::Global;
-use std::fs;
 use std::test::Fail;
 use worksheet::Name;
 
@@ -66,18 +66,6 @@ fn asked<'a>(name: &'a str, program: &'a str, word: &'a str, input: &'a str) -> 
     }
 }
 
-#[test]
-fn prompts_in_the_blocks(rt: HostRuntime) -> Result<(), Fail> {
-    let alloc = rt.alloc();
-    let mut children = scripted(alloc, &[BANNER, ANSWER])?;
-    let text = told(alloc, &mut children, &[asked("a", "sh", "p", "x^2")])?;
-    assert_eq!(rt;
-        text.as_str(),
-        "ok, field 1, asked, wait: banner a, answered 1, stop: ended a Stopped lost 0, fields: 1: Input 1] x^2, answered, "
-    );
-    Ok(())
-}
-
 fn single_bytes<'a>(alloc: Global, all: &[&'a [u8]]) -> Result<Vec<&'a [u8]>, OutOfMemory> {
     let mut pieces = Vec::new(alloc);
     for bytes in all {
@@ -89,7 +77,7 @@ fn single_bytes<'a>(alloc: Global, all: &[&'a [u8]]) -> Result<Vec<&'a [u8]>, Ou
 }
 
 #[test]
-fn the_same_in_pieces_of_one_byte(rt: HostRuntime) -> Result<(), Fail> {
+fn prompts_in_pieces_of_one_byte(rt: HostRuntime) -> Result<(), Fail> {
     let alloc = rt.alloc();
     let pieces = single_bytes(alloc, &[BANNER, ANSWER])?;
     let mut children = scripted(alloc, pieces.as_slice())?;
@@ -108,7 +96,7 @@ fn a_session_that_stalls(rt: HostRuntime) -> Result<(), Fail> {
     let text = told(alloc, &mut children, &[asked("a", "sh", "p", "x")])?;
     assert_eq!(rt;
         text.as_str(),
-        "ok, field 1, asked, wait: ended a Stalled lost 1, stop: ok, fields: 1: > x, open, "
+        "ok, field 1, asked, wait: ended a Stalled lost 1, stop: ok, fields: 1: > x, Stalled, "
     );
     assert_eq!(rt; children.receives, 100_000);
     assert_eq!(rt; children.stops, 1);
@@ -125,43 +113,6 @@ fn the_first_session_waits_for_the_second(rt: HostRuntime) -> Result<(), Fail> {
         text.as_str()
             .contains("wait: banner b, banner a, answered 2, answered 1, stop: ")
     );
-    Ok(())
-}
-
-// An interpreter that gives each line back as its answer.
-const ECHOES: &str =
-    "printf '\\002verbatim:\\005'\nwhile IFS= read -r l; do printf '\\002verbatim:%s\\005' \"$l\"; done\n";
-
-#[test]
-fn real_interpreters(rt: HostRuntime) -> Result<(), Fail> {
-    let alloc = rt.alloc();
-    let path = "child_edge_real_interpreters.sh";
-    fs::write(&rt, path, ECHOES)?;
-    let mut children = Processes::new(rt.clone()?, alloc);
-    let all = [asked("a", "sh", path, "one"), asked("b", "sh", path, "two")];
-    let text = told(alloc, &mut children, &all)?;
-    fs::remove_file(&rt, path)?;
-    assert!(rt;
-        text.as_str().ends_with(
-            "stop: ended a Stopped lost 0, ended b Stopped lost 0, fields: 2: > two, answered, 1: > one, answered, "
-        )
-    );
-    Ok(())
-}
-
-#[test]
-fn real_children_that_are_none(rt: HostRuntime) -> Result<(), Fail> {
-    let alloc = rt.alloc();
-    let mut children = Processes::new(rt.clone()?, alloc);
-    let all = [
-        asked("a", "sh", "no_such_file", "x"),
-        asked("b", "echo", "no_such_file", "x"),
-        asked("c", "/nonexistent/p", "no_such_file", "x"),
-    ];
-    let text = told(alloc, &mut children, &all)?;
-    assert_eq!(rt;
-        text.as_str(),
-        "ok, field 1, asked, ok, field 2, asked, ok, field 3, asked, ended c StartRefused lost 1, wait: ended a Ended lost 1, ended b Ended lost 1, stop: ok, ok, ok, fields: 3: > x, open, 2: > x, open, 1: > x, open, "
-    );
+    assert!(rt; children.receives <= 1_000);
     Ok(())
 }

@@ -179,7 +179,10 @@ fn add_field(text: &mut String, field: &Field) -> Result<(), OutOfMemory> {
             let prompt = shown(answer.prompt.as_slice());
             write!(text, "{id}: {prompt}{input}, answered, ")
         }
-        None => write!(text, "{id}: > {input}, open, "),
+        None => match field.lost {
+            Some(reason) => write!(text, "{id}: > {input}, {reason:?}, "),
+            None => write!(text, "{id}: > {input}, open, "),
+        },
     }
 }
 

@@ -3,8 +3,7 @@ use super::made_up::{Calls, Runtime};
 use block_tree::{Octets, OutOfMemory};
 use child_edge::{Children, Processes, ReceiveFault, Received};
 use std::alloc::Global;
-use std::test::Fail;
-use std::{fs, process};
+use std::process;
 use worksheet::Name;
 
 fn name() -> Option<Name> {
@@ -143,20 +142,4 @@ fn sixty_four_children_run_at_a_time(rt: HostRuntime) {
     let mut children = Processes::new(calls.runtime(), rt.alloc());
     assert!(rt; lives(rt.alloc(), &mut children, 64) == 64);
     assert!(rt; calls.starts.get() == 64 && calls.sent.get() == 320);
-}
-
-// Says so where its stream of errors is discarded, and nothing else.
-const LOOKS_AT_ERRORS: &str = "[ /proc/self/fd/2 -ef /dev/null ] && printf null\n";
-
-#[test]
-fn what_a_child_writes_as_errors_is_discarded(rt: HostRuntime) -> Result<(), Fail> {
-    let path = "child_edge_looks_at_errors.sh";
-    fs::write(&rt, path, LOOKS_AT_ERRORS)?;
-    let mut children = Processes::new(rt.clone()?, rt.alloc());
-    let is_started = starts(rt.alloc(), &mut children, &["sh", path]);
-    let piece = received(&mut children);
-    let is_stopped = stops(&mut children, 1);
-    fs::remove_file(&rt, path)?;
-    assert!(rt; is_started && is_stopped && piece == Some(4));
-    Ok(())
 }

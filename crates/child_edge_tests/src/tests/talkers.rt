@@ -72,7 +72,7 @@ impl Children for Silent {
 #[derive(Drop)]
 pub struct Turned {
     alloc: Global,
-    receives: u32,
+    pub receives: u32,
     is_sent: bool,
 }
 

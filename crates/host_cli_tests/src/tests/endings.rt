@@ -1,4 +1,4 @@
-//! How the program ends over streams that take what they get, and over some that don't.
+//! How the program ends over streams that don't take what they get.
 use super::failing::{Full, Parts, Unflushed};
 use super::words::refusal;
 use clap::Error;
@@ -14,31 +14,6 @@ fn ending(status: u8, told: bool) -> Ending {
 
 fn stream(rest: &[u8], fails: bool) -> Parts<'_> {
     Parts { rest, fails }
-}
-
-// Whether the program ends so over this stream, and writes this on its output and its errors.
-fn ends(alloc: Global, input: Parts<'_>, status: u8, (out, said): (&[u8], &[u8])) -> bool {
-    let mut input = input;
-    let mut output: Vec<u8> = Vec::new(alloc);
-    let mut errors: Vec<u8> = Vec::new(alloc);
-    let ended = run_blocks(alloc, &mut input, &mut output, &mut errors);
-    ended == ending(status, true) && output.as_slice() == out && errors.as_slice() == said
-}
-
-#[test]
-fn a_stream_gives_the_status(rt: HostRuntime) {
-    let rows: [(&[u8], bool, u8, (&[u8], &[u8])); 4] = [
-        (b"\x02a:\x05", false, 0, (b"0 4 {a:}\n", b"")),
-        (b"\x02:", false, 1, (b"fault 1 BadTag 1\n", b"")),
-        (b"\x02a", false, 1, (b"unfinished 0\n", b"")),
-        (b"\x02a:\x05", true, 1, (b"", b"fault 40 Input\n")),
-    ];
-    for (rest, fails, status, texts) in rows {
-        assert!(rt;
-            ends(rt.alloc(), stream(rest, fails), status, texts),
-            "{status}"
-        );
-    }
 }
 
 // How the program ends over a full output, and what it writes on its errors.
@@ -61,14 +36,6 @@ fn a_full_output_is_told(rt: HostRuntime) {
     assert!(rt; ends_untold(rt.alloc()) == ending(1, false));
 }
 
-// Whether a refusal ends so, with a text on the output that begins so, and none on the errors.
-fn is_shown(alloc: Global, error: &Error, status: u8, front: &[u8]) -> bool {
-    let mut output: Vec<u8> = Vec::new(alloc);
-    let mut errors: Vec<u8> = Vec::new(alloc);
-    let ended = refuse_words(error, &mut output, &mut errors);
-    ended == ending(status, true) && output.as_slice().starts_with(front) && errors.is_empty()
-}
-
 // Whether it is told that this output could not be written.
 fn is_shown_on_a_bad<W: Write>(alloc: Global, error: &Error, output: &mut W) -> bool {
     let mut errors: Vec<u8> = Vec::new(alloc);
@@ -77,20 +44,11 @@ fn is_shown_on_a_bad<W: Write>(alloc: Global, error: &Error, output: &mut W) -> 
 }
 
 #[test]
-fn help_is_shown_on_the_output(rt: HostRuntime) -> Result<(), Fail> {
+fn a_help_that_can_not_be_written_is_told(rt: HostRuntime) -> Result<(), Fail> {
     let error = refusal(rt.alloc(), &["tmhost", "--help"]).ok_or("a task")?;
-    assert!(rt; is_shown(rt.alloc(), &error, 0, b"A worksheet host"));
     assert!(rt; is_shown_on_a_bad(rt.alloc(), &error, &mut Full));
     assert!(rt; is_shown_on_a_bad(rt.alloc(), &error, &mut Unflushed));
     Ok(())
-}
-
-// Whether a refusal ends so, with a text on the errors that begins so, and none on the output.
-fn is_told(alloc: Global, error: &Error, status: u8, front: &[u8]) -> bool {
-    let mut output: Vec<u8> = Vec::new(alloc);
-    let mut errors: Vec<u8> = Vec::new(alloc);
-    let ended = refuse_words(error, &mut output, &mut errors);
-    ended == ending(status, true) && output.is_empty() && errors.as_slice().starts_with(front)
 }
 
 // How a refusal ends where its errors can't be written.
@@ -100,9 +58,8 @@ fn is_untold(alloc: Global, error: &Error) -> Ending {
 }
 
 #[test]
-fn a_refusal_is_told_on_the_errors(rt: HostRuntime) -> Result<(), Fail> {
+fn a_refusal_that_can_not_be_told_has_its_status(rt: HostRuntime) -> Result<(), Fail> {
     let error = refusal(rt.alloc(), &["tmhost", "foo"]).ok_or("a task")?;
-    assert!(rt; is_told(rt.alloc(), &error, 2, b"error: "));
     assert!(rt; is_untold(rt.alloc(), &error) == ending(2, false));
     Ok(())
 }

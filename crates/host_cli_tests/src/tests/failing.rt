@@ -58,22 +58,6 @@ impl Read for InterruptedOnce<'_> {
     }
 }
 
-/// Gives so many bytes of noise.
-#[derive(Drop)]
-pub struct Noise {
-    pub left: usize,
-}
-
-impl Read for Noise {
-    fn read(&mut self, buf: &mut [u8]) -> io::Result<usize> {
-        let noise = [0u8; 65_536];
-        let count = self.left.min(buf.len()).min(65_536);
-        buf[..count].copy_from_slice(&noise[..count]);
-        self.left -= count;
-        Ok(count)
-    }
-}
-
 /// Gives its bytes, and takes all memory at the read that tells their end. It holds it until it is dropped.
 #[derive(Drop)]
 pub struct Exhausting<'a> {

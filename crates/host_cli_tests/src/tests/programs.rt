@@ -13,9 +13,6 @@ use std::test::Fail;
 const SHEET: &[u8] =
     b"TMWSHEET\x01A\x52\0\0\0\x09\x01\x01a\0\x01\0\x02sh\x52\0\0\0\x0a\x02\0\0\0\0\x01a\0\x01x\x52\0\0\0\x05\x06\0\0\0\x01\x52\0\0\0\x15\x07\0\0\0\x01\0\x02> \x02verbatim:A\x05\0";
 
-// The same, printed.
-const SHEET_TEXT: &[u8] = b"#1 a\n> x\nA\n";
-
 fn ending(status: u8, told: bool) -> Ending {
     Ending { status, told }
 }
@@ -97,37 +94,6 @@ fn shows_files(
     ended == ending(status, true) && output.as_slice() == out && errors.as_slice() == said
 }
 
-// The same of a disk with these bytes in area First.
-fn shows(alloc: Global, first: &[u8], status: u8, texts: (&[u8], &[u8])) -> bool {
-    match holding(alloc, first) {
-        Some(disk) => shows_files(alloc, Ok(disk), status, texts),
-        None => false,
-    }
-}
-
-// The worksheet without its answer and without the clearing.
-fn unanswered(alloc: Global) -> Option<Vec<u8>> {
-    let mut first = Vec::from_slice(alloc, &SHEET[..49]).ok()?;
-    first.push(0).ok()?;
-    Some(first)
-}
-
-#[test]
-fn show_writes_the_worksheet_or_tells_the_damage(rt: HostRuntime) -> Result<(), Fail> {
-    let first = unanswered(rt.alloc()).ok_or("memory")?;
-    assert!(rt; SHEET.len() == 76);
-    let rows: [(&[u8], u8, (&[u8], &[u8])); 4] = [
-        (SHEET, 0, (SHEET_TEXT, b"")),
-        (first.as_slice(), 0, (b"#1 a\n> x\n?\n", b"")),
-        (&SHEET[..48], 1, (b"", b"fault 30 Damaged 39\n")),
-        (&SHEET[..10], 1, (b"", b"fault 31 NotASheet\n")),
-    ];
-    for (area, status, texts) in rows {
-        assert!(rt; shows(rt.alloc(), area, status, texts), "{status}");
-    }
-    Ok(())
-}
-
 #[test]
 fn show_without_files(rt: HostRuntime) {
     let none: Result<MemoryDisk, FilesFault> = Err(FilesFault::Disk);
@@ -165,15 +131,4 @@ pub fn has(rt: &HostRuntime, path: &str, bytes: &[u8]) -> bool {
         Ok(found) => found.as_slice() == bytes,
         Err(_) => false,
     }
-}
-
-#[test]
-fn show_leaves_the_files_as_they_were(rt: HostRuntime) -> Result<(), Fail> {
-    let _ = fs::remove_dir_all(&rt, "shown");
-    fs::create_dir(&rt, "shown")?;
-    fs::write(&rt, "shown/sheet", SHEET)?;
-    assert!(rt; shows_path(&rt, "shown/sheet", 0, (SHEET_TEXT, b"")));
-    assert!(rt; has(&rt, "shown/sheet", SHEET) && !has(&rt, "shown/sheet.alt", b""));
-    fs::remove_dir_all(&rt, "shown")?;
-    Ok(())
 }
