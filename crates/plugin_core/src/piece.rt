@@ -63,18 +63,9 @@ impl Life {
         ensures number { self.new.number ≡ self.old.number }
     {
         match fault {
-            FeedFault::BadTag { offset: _, found } => self.break_off(
-                Reason::BadTag,
-                found,
-            ),
-            FeedFault::TooDeep { offset: _, found } => self.break_off(
-                Reason::TooDeep,
-                found,
-            ),
-            FeedFault::TooLong { offset: _, found } => self.break_off(
-                Reason::TooLong,
-                found,
-            ),
+            FeedFault::BadTag { offset: _, found } => self.break_off(Reason::BadTag, found),
+            FeedFault::TooDeep { offset: _, found } => self.break_off(Reason::TooDeep, found),
+            FeedFault::TooLong { offset: _, found } => self.break_off(Reason::TooLong, found),
             FeedFault::OutOfMemory => Err(OutOfMemory),
             FeedFault::Failed => unreachable!(),
         }
