@@ -74,7 +74,8 @@ def shown(sheet):
 words = f"python3 {work}/interpreter.py"
 small = f"{work}/small"
 tmhost("create", small)
-tmhost("run", small, script=b"session a plain " + words.encode() + b"\nnew 0 a x\n")
+# Three fields are more than the pipe of `show` holds.
+tmhost("run", small, script=f"session a plain {words}\n".encode() + (b"new 0 a " + b"x" * 4000 + b"\n") * 3)
 base = shown(small)
 for number, shape in enumerate(["flat text", "tiny blocks", "31 levels"]):
     sheet = f"{work}/sheet{number}"

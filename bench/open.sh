@@ -8,9 +8,9 @@ set -euo pipefail
 root=$(dirname "$(dirname "$(readlink -f "${BASH_SOURCE[0]}")")")
 work=$(mktemp -d "$(readlink -f "${FOLDER:-.}")/open.XXXXXX")
 trap 'rm -rf "$work"' EXIT
-"$root/tmhost" blocks </dev/null
+[ -n "${TMHOST:-}" ] || "$root/tmhost" blocks </dev/null
 [ $# -gt 0 ] || set -- 100 1000
-python3 - "$root/crates/tmhost/out/tmhost" "$work" "${RUNS:-5}" "$@" <<'PYTHON'
+python3 - "${TMHOST:-$root/crates/tmhost/out/tmhost}" "$work" "${RUNS:-5}" "$@" <<'PYTHON'
 import fcntl, os, re, statistics, subprocess, sys, time
 
 program, work, runs = sys.argv[1], sys.argv[2], int(sys.argv[3])

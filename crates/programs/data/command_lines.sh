@@ -48,7 +48,7 @@ helps() {
     compare "the paths of $1" "$(grep -c 'PATH\.alt' text)" "$5"
 }
 helps blocks 'Write the blocks of the stream on standard input, a line each' "Usage: ${tmhost##*/} blocks" "Example: printf '\\002verbatim:Hi\\005' | tmhost blocks" 0
-helps create 'Make an empty worksheet' "Usage: ${tmhost##*/} create <PATH>" 'Example: tmhost create sheet.tm' 2
+helps create 'Make an empty worksheet' "Usage: ${tmhost##*/} create <PATH>" 'Example: tmhost create sheet.tm' 3
 helps run 'Run the script on standard input over a worksheet' "Usage: ${tmhost##*/} run <PATH>" 'Example: tmhost run sheet.tm <script.txt' 1
 helps show 'Write a worksheet' "Usage: ${tmhost##*/} show <PATH>" 'Example: tmhost show sheet.tm' 1
 "$tmhost" --help >text 2>errors
