@@ -141,7 +141,8 @@ class Model:
     # Does a command that isn't refused, and gives what is told of it.
     def do(self, verb, words):
         if verb == "session":
-            self.sessions[words[0]] = Session(self.kinds[" ".join(words[2:])], words[1] == "tab")
+            # One whose words are no interpreter is made where the session of that name was refused for want of memory. It can't be started.
+            self.sessions[words[0]] = Session(self.kinds.get(" ".join(words[2:]), "echo"), words[1] == "tab")
         elif verb == "new":
             id, self.next_id = self.next_id, self.next_id + 1
             self.fields[id] = [words[1], words[2], None]
