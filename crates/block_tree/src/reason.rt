@@ -11,7 +11,7 @@ pub enum Reason {
     ReadFault,
     /// A line could not be sent to it.
     SendFault,
-    /// It gave no answer for too long.
+    /// An item of it still waited at the end of the turns of a wait.
     Stalled,
     /// A bad tag in its output.
     BadTag,
