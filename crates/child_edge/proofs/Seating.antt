@@ -1,11 +1,11 @@
 -- Who waits, and who is stopped, session by session.
-use Rattle.std.proofs.Common.{◌≡◌, ℕ, List, [], ◌∷◌, ◌++◌, Option, Some, None, refl, sym, ◌∙◌, subst, ap, append_assoc, append-nil}
+use Rattle.std.proofs.Common.{◌≡◌, ◌≢◌, ℕ, List, [], ◌∷◌, ◌++◌, Option, Some, None, refl, sym, ◌∙◌, subst, ap, append_assoc, append-nil}
 use Rattle.std.specs.Prelude.{option_map}
 use Rattle.worksheet.specs.declared.field.Session.{Session}
 use Rattle.session_engine.specs.World.{World, Going, life_of, sheet_in}
 use Rattle.session_engine.specs.declared.host.LifeView.{LifeView}
 use Rattle.child_edge.specs.declared.waiting.Seat.{Seat}
-use Rattle.child_edge.specs.Seats.{life_view, seats_of, waits, numbered, lives_of, running}
+use Rattle.child_edge.specs.Seats.{life_view, seat_of, seats_of, waits, numbered, lives_of, running}
 use Rattle.child_edge.specs.Faithful.{Relation}
 use Rattle.child_edge.specs.Stops.{Stops}
 
@@ -45,3 +45,19 @@ told-number w name view e = ap (λ (o : Option LifeView). option_map (λ v. v.nu
     go : (o : Option Going) → option_map (λ v. v.number) (option_map life_view o) ≡ option_map (λ l. l.number) o
     go None = refl
     go (Some l) = refl
+
+-- an item waits in the first of these sessions
+pub not-idle : (w : World) (s : Session) (left rest : List Session) (v : Option LifeView) → left ≡ s ∷ rest → v ≡ option_map life_view (life_of w s.name)
+    → seat_of s.name v ≢ [] → seats_of w left ≡ waits w → waits w ≢ []
+not-idle w s left rest v e n some all none =
+    some (front-nil (seat_of s.name v) (seats_of w rest) (ap (λ (x : Option LifeView). seat_of s.name x ++ seats_of w rest) n ∙ ap (seats_of w) (sym e) ∙ all ∙ none))
+  where
+    front-nil : (xs ys : List Seat) → xs ++ ys ≡ [] → xs ≡ []
+    front-nil [] ys h = refl
+    front-nil (x ∷ xs) ys h = cc
+
+-- none does
+pub idle-on : (w : World) (s : Session) (left rest : List Session) (v : Option LifeView) → left ≡ s ∷ rest → v ≡ option_map life_view (life_of w s.name)
+    → seat_of s.name v ≡ [] → seats_of w left ≡ waits w → seats_of w rest ≡ waits w
+idle-on w s left rest v e n none all =
+    ap (λ (xs : List Seat). xs ++ seats_of w rest) (sym none) ∙ ap (λ (x : Option LifeView). seat_of s.name x ++ seats_of w rest) n ∙ ap (seats_of w) (sym e) ∙ all

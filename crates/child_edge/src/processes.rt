@@ -3,10 +3,12 @@ ghost use Rattle.std.specs.Prelude.{◌≡◌, IfOk, length};
 ghost use Rattle.child_edge.specs.Answers.{HasSize, longest_piece};
 
 use crate::children::{ChildFault, Children, ReceiveFault, Received};
+use crate::waiting::Seat;
 use block_tree::Octets;
 use bytes::BytesMut;
 use std::alloc::{AllocError, Global};
 use std::io::{ErrorKind, Read, Write};
+use std::os::fd::{AsRawFd, RawFd};
 use std::process::{Child, Command, OpenProcess, Stdio};
 use std::{io, process, str};
 use worksheet::Name;
@@ -46,6 +48,16 @@ impl<R: process::Processes + Drop> Processes<R> {
             alloc,
             running: Vec::new(alloc),
         }
+    }
+
+    /// How many children run: those that were started and not stopped.
+    pub fn count(&self) -> usize {
+        self.running.len()
+    }
+
+    /// Whether the child of this life runs: it was started and not stopped.
+    pub fn is_running(&self, seat: Seat) -> bool {
+        self.place(seat.name, seat.life).is_some()
     }
 
     /// Where the child of a life is.
@@ -113,6 +125,25 @@ impl<R: process::Processes + Drop> Processes<R> {
         drop(running.child.stdout.take());
         running.child.wait()?;
         killed
+    }
+}
+
+impl<R: process::Processes + Drop> Processes<R>
+where
+    <R::Started as OpenProcess>::Stdout: AsRawFd,
+{
+    /// The life of the child at this place, from 0, and the descriptor that its output is read from.
+    ///
+    /// The places are those of the order in which they were started; one that is stopped leaves its own to
+    /// the next. Whoever polls the descriptor reads by `receive` alone.
+    pub fn output(&self, at: usize) -> Option<(Seat, RawFd)> {
+        let running = self.running.get(at)?;
+        let pipe = running.child.stdout.as_ref()?;
+        let seat = Seat {
+            name: running.name,
+            life: running.life,
+        };
+        Some((seat, pipe.as_raw_fd()))
     }
 }
 

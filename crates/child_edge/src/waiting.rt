@@ -1,5 +1,5 @@
 //! The lives in which an item waits.
-ghost use Rattle.std.specs.Prelude.{◌≡◌, ◌++◌, IfOk, OnOk};
+ghost use Rattle.std.specs.Prelude.{◌≡◌, ◌≢◌, ◌++◌, ◌↔◌, ℕ, List, [], IfOk, OnOk, IsTrue, MatchBool};
 ghost use Rattle.session_engine.specs.World.{World};
 ghost use Rattle.session_engine.specs.Host.{IsHost};
 ghost use Rattle.child_edge.specs.Seats.{seat_of, waits};
@@ -35,7 +35,7 @@ fn add(seats: &mut Vec<Seat>, name: Name, view: Option<LifeView>) -> Result<(), 
 }
 
 /// The lives in which an item waits, in the order in which their sessions were made.
-pub(crate) fn waiting<D: Disk>(alloc: Global, host: &Host<D>) -> Result<Vec<Seat>, AllocError>
+pub fn waiting<D: Disk>(alloc: Global, host: &Host<D>) -> Result<Vec<Seat>, AllocError>
     ensures { (w : World) → IsHost host.now w → IfOk result (λ seats. seats.items ≡ waits w) }
 {
     let mut seats = Vec::new(alloc);
@@ -43,4 +43,26 @@ pub(crate) fn waiting<D: Disk>(alloc: Global, host: &Host<D>) -> Result<Vec<Seat
         add(&mut seats, session.name, host.life(session.name))?;
     }
     Ok(seats)
+}
+
+/// Whether an item waits in this life.
+fn is_waited_for(view: Option<LifeView>) -> bool
+    ensures { (name : List ℕ) → MatchBool result (seat_of name view ≢ []) (seat_of name view ≡ []) }
+{
+    match view {
+        Some(view) => view.waiting > 0,
+        None => false,
+    }
+}
+
+/// Whether no item waits for an answer. No memory is wanted.
+pub fn is_idle<D: Disk>(host: &Host<D>) -> bool
+    ensures { (w : World) → IsHost host.now w → IsTrue result ↔ (waits w ≡ []) }
+{
+    for session in host.sheet().sessions() {
+        if is_waited_for(host.life(session.name)) {
+            return false;
+        }
+    }
+    true
 }

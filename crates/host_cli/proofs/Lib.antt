@@ -1,5 +1,4 @@
 pub mod Lines
 pub mod Subcommands
-pub mod Scripting
 pub mod Fronts
-pub mod Runs
+pub mod Answering

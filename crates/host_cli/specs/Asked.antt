@@ -10,13 +10,17 @@ pub data TaskView : Type 0 where
   blocks : TaskView
   create : Text → TaskView
   run : Text → TaskView
+  live : Text → TaskView
   show : Text → TaskView
+  rescue : Text → Text → TaskView
 
 abbrev pub task_view : Task → TaskView
 task_view task.Blocks = blocks
 task_view (task.Create path) = create path.now
 task_view (task.Run path) = run path.now
+task_view (task.Live path) = live path.now
 task_view (task.Show path) = show path.now
+task_view (task.Rescue path new) = rescue path.now new.now
 
 -- the one argument of a subcommand that has one
 abbrev pub path_rule : Rule
@@ -25,24 +29,45 @@ path_rule = record (new_rule (codes "PATH")) { required = true }
 abbrev pub with_path : Text → App
 with_path name = with_rule (new_app name) path_rule
 
--- the command line of `tmhost`: four subcommands, three of them with a path
-abbrev pub tmhost : App
-tmhost = with_subcommand (with_subcommand (with_subcommand (with_subcommand
-    (new_app (codes "tmhost")) (new_app (codes "blocks")).top) (with_path (codes "create")).top)
-    (with_path (codes "run")).top) (with_path (codes "show")).top
+-- and of the one with a second path behind the first
+abbrev pub second_rule : Rule
+second_rule = record (new_rule (codes "NEW")) { required = true }
 
--- The task of a subcommand with its path; `blocks` has none. Where another has none, `clap` refuses
--- the words.
-abbrev pub by_path : Text → Option Text → TaskView
-by_path name None = blocks
-by_path name (Some path) = if bytes_eq name (codes "create") then create path
+abbrev pub with_paths : Text → App
+with_paths name = with_rule (with_path name) second_rule
+
+-- a subcommand that shows its help alone
+abbrev pub help_alone : Text → App
+help_alone name =
+    let a = new_app name in record a { top = record a.top { arg_required_else_help = true } }
+
+-- the command line of `tmhost`: subcommands, four of them with a path, and one with two
+abbrev pub tmhost : App
+tmhost = with_subcommand (with_subcommand (with_subcommand (with_subcommand (with_subcommand (with_subcommand
+    (with_subcommand (new_app (codes "tmhost")) (new_app (codes "blocks")).top)
+    (with_path (codes "create")).top) (with_path (codes "run")).top) (with_path (codes "live")).top)
+    (with_path (codes "show")).top) (with_paths (codes "rescue")).top) (help_alone (codes "faults")).top
+
+-- the task of a subcommand with a path
+abbrev pub by_path : Text → Text → TaskView
+by_path name path = if bytes_eq name (codes "create") then create path
     else (if bytes_eq name (codes "run") then run path
-    else (if bytes_eq name (codes "show") then show path else blocks))
+    else (if bytes_eq name (codes "live") then live path
+    else (if bytes_eq name (codes "show") then show path else blocks)))
+
+-- The task of a subcommand with its paths; `blocks` has none. Where another has none, `clap` refuses
+-- the words.
+abbrev pub by_paths : Text → Option Text → Option Text → TaskView
+by_paths name None new = blocks
+by_paths name (Some path) None = by_path name path
+by_paths name (Some path) (Some new) =
+    if bytes_eq name (codes "rescue") then rescue path new else blocks
 
 -- the task of a subcommand, and `blocks` where there is none
 abbrev pub by_subcommand : Option (Text × List Row) → TaskView
 by_subcommand None = blocks
-by_subcommand (Some subcommand) = by_path subcommand.0 (first_of (codes "PATH") subcommand.1)
+by_subcommand (Some subcommand) = by_paths subcommand.0 (first_of (codes "PATH") subcommand.1)
+    (first_of (codes "NEW") subcommand.1)
 
 -- the task that the words ask for, of which the first is the program's own name
 abbrev pub asked_by : List Text → TaskView

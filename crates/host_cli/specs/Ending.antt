@@ -4,11 +4,11 @@ use Rattle.std.specs.Io.KnownBytes.{Appends}
 use Rattle.meta_format.specs.Limits.{limits}
 use Rattle.clap.specs.declared.error.kind.ErrorKind.{ErrorKind}
 use Rattle.clap.specs.declared.error.kind.ErrorKind.TheVariants as kind
-use Rattle.host_cli.specs.Faults.{fault_text}
-use Rattle.host_cli.specs.Input.{IsStreamFault, max_input}
+use Rattle.sheet_programs.specs.Faults.{fault_text}
+use Rattle.sheet_programs.specs.Input.{IsStreamFault, max_input}
 use Rattle.host_cli.specs.Printed.{Printed, PrintsFront}
-use Rattle.host_cli.specs.declared.fault.RunFault.{RunFault}
-use Rattle.host_cli.specs.declared.fault.RunFault.TheVariants as fault
+use Rattle.sheet_programs.specs.declared.fault.RunFault.{RunFault}
+use Rattle.sheet_programs.specs.declared.fault.RunFault.TheVariants as fault
 
 -- what a program answers: whether all is well, or its fault
 abbrev pub ProgramAnswer : Type 0

@@ -1,12 +1,8 @@
-pub mod Input
 pub mod Faults
 pub mod Asked
 pub mod Printed
-pub mod Memory
 pub mod Ending
 pub mod Files
-pub mod Lines
-pub mod Run
 pub mod Programs
+pub mod RescueProgram
 pub mod Tasks
-pub mod inside

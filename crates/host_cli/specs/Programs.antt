@@ -1,6 +1,6 @@
 -- How the programs over a worksheet's files end: what becomes of the disk, what is written on which
 -- stream, and the exit status.
-use Rattle.std.specs.Prelude.{◌≡◌, ◌≤◌, ℕ, Bool, true, List, [], Option, Some, None, Result, Err, IfOk, IfErr, IfSome, IsErrOf, length}
+use Rattle.std.specs.Prelude.{◌≡◌, ◌≤◌, ℕ, Bool, true, List, [], Option, Some, None, Result, Ok, Err, IfOk, IfErr, IfSome, IsErrOf, length}
 use Rattle.std.specs.Io.KnownBytes.{Appends}
 use Rattle.disk_model.specs.Disk.{DiskView, InModel, Leaves, Looks, Rises, SameDisk, bytes_on}
 use Rattle.worksheet.specs.Contents.{Contents}
@@ -14,13 +14,17 @@ use Rattle.session_engine.specs.declared.outcome.HostFault.TheVariants as hosts
 use Rattle.sheet_text.specs.Texts.{sheet_text}
 use Rattle.child_edge.specs.Faithful.{Relation}
 use Rattle.host_cli.specs.Ending.{ProgramAnswer}
-use Rattle.host_cli.specs.Faults.{FailedSince, TellsShow, create_fault_text, no_files}
-use Rattle.host_cli.specs.Input.{max_input}
-use Rattle.host_cli.specs.Run.{RunDone, TellsRun}
-use Rattle.host_cli.specs.declared.fault.FilesFault.{FilesFault}
-use Rattle.host_cli.specs.declared.fault.MakeFault.{MakeFault}
-use Rattle.host_cli.specs.declared.fault.MakeFault.TheVariants as makes
-use Rattle.host_cli.specs.declared.fault.RunFault.TheVariants as fault
+use Rattle.sheet_programs.specs.Faults.{FailedSince, TellsShow}
+use Rattle.host_cli.specs.Faults.{create_fault_text, no_files}
+use Rattle.sheet_programs.specs.Input.{max_input}
+use Rattle.live.specs.Arrivals.{Watch}
+use Rattle.live.specs.Live.{LiveDone, TellsLive}
+use Rattle.sheet_programs.specs.Run.{RunDone, TellsRun}
+use Rattle.host_cli.specs.declared.files_fault.FilesFault.{FilesFault}
+use Rattle.host_cli.specs.declared.files_fault.MakeFault.{MakeFault}
+use Rattle.host_cli.specs.declared.files_fault.MakeFault.TheVariants as makes
+use Rattle.sheet_programs.specs.declared.fault.RunFault.{RunFault}
+use Rattle.sheet_programs.specs.declared.fault.RunFault.TheVariants as fault
 
 -- what `create` answers: why there is no worksheet, or nothing
 abbrev pub CreateAnswer : Type 0
@@ -80,3 +84,21 @@ pub record RunAnswer {D C : Type 0} (view : D → DiskView) (R : Relation C)
   pub unopened : IsErrOf answer (fault.Open opens.Disk) → FailedSince view disk
   pub failed : IsErrOf answer (fault.Host hosts.Disk) → FailedSince view disk
   pub fault : IfErr answer (TellsRun R stream (view disk) c d a b nothing)
+
+-- what a program answers that came to its end, or had a fault
+abbrev pub answer_of : {D : Type 0} → Result D RunFault → ProgramAnswer
+answer_of (Ok back) = Ok true
+answer_of (Err why) = Err why
+
+-- What `live` answers on a disk, and what it has written and done then: its clauses. Its lines are those of the stream of its reader,
+-- where that is known; `nothing` says that it wrote nothing and called no child.
+pub record LiveAnswer {D C : Type 0} (view : D → DiskView) (R : Relation C) (W : Watch C)
+    (stream : Option (List ℕ)) (disk : D) (c d : C) (a b : Option (List ℕ)) (nothing : Type 0)
+    (answer : ProgramAnswer) : Type 0 where
+  -- the disk that it gives back is the same one, after all that came
+  pub lived : IfOk answer (λ whole. (whole ≡ true) × ((back : D) × SameDisk (view disk) (view back)
+      × LiveDone R W stream (view disk) c d a b (view back)))
+  -- that the disk failed, at the opening or later, is told only where it did
+  pub unopened : IsErrOf answer (fault.Open opens.Disk) → FailedSince view disk
+  pub failed : IsErrOf answer (fault.Host hosts.Disk) → FailedSince view disk
+  pub fault : IfErr answer (TellsLive R W stream (view disk) c d a b nothing)

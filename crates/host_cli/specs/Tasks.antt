@@ -12,12 +12,15 @@ use Rattle.host_cli.specs.Asked.{TaskView}
 use Rattle.host_cli.specs.Asked as asked
 use Rattle.host_cli.specs.Ending.{BlocksAnswer, ProgramAnswer, ShowsText, TellsFault, status_of}
 use Rattle.host_cli.specs.Faults.{no_files}
-use Rattle.host_cli.specs.Programs.{CreateAnswer, Creates, RunAnswer, ShowAnswer, TellsCreate, TellsMake, create_status}
+use Rattle.live.specs.Arrivals.{Watch}
+use Rattle.host_cli.specs.Programs.{CreateAnswer, Creates, LiveAnswer, RunAnswer, ShowAnswer, TellsCreate, TellsMake, create_status}
+use Rattle.host_cli.specs.RescueProgram.{FilesAreRead, RescueEnds}
+use Rattle.recovery.specs.declared.rescuing.Rescued.{Rescued}
 use Rattle.host_cli.specs.declared.ending.Ending.{Ending}
-use Rattle.host_cli.specs.declared.fault.FilesFault.{FilesFault}
-use Rattle.host_cli.specs.declared.fault.MakeFault.{MakeFault}
-use Rattle.host_cli.specs.declared.fault.RunFault.{RunFault}
-use Rattle.host_cli.specs.declared.fault.RunFault.TheVariants as fault
+use Rattle.host_cli.specs.declared.files_fault.FilesFault.{FilesFault}
+use Rattle.host_cli.specs.declared.files_fault.MakeFault.{MakeFault}
+use Rattle.sheet_programs.specs.declared.fault.RunFault.{RunFault}
+use Rattle.sheet_programs.specs.declared.fault.RunFault.TheVariants as fault
 
 -- how a program with this answer ends, and what it says on the stream of errors
 abbrev pub EndsWith : {E : Type 0} → (E → Option (List ℕ)) → E → E → Ending → ProgramAnswer → Type 0
@@ -58,6 +61,14 @@ RunEnds view R unread stream files c d written a b said old new ending =
     × RunAnswer view R stream disk c d (written a) (written b) ((b ≡ a) × (d ≡ c)) answer
     × (ending.status ≡ status_of answer) × TellsFault said old new ending.told answer)
 
+-- how `live` ends on its files, or on why they weren't opened, from children c to d; then no line is read
+abbrev pub LiveEnds : {D C W E : Type 0} → (D → DiskView) → Relation C → Watch C → Type 0 → Option (List ℕ) → Result D FilesFault → C → C → (W → Option (List ℕ)) → W → W → (E → Option (List ℕ)) → E → E → Ending → Type 0
+LiveEnds view R watch unread stream files c d written a b said old new ending =
+    IfErr files (λ why. unread × (b ≡ a) × (d ≡ c) × (ending.status ≡ 1) × TellsFault said old new ending.told (Err (no_files why)))
+    × IfOk files (λ disk. (answer : ProgramAnswer)
+    × LiveAnswer view R watch stream disk c d (written a) (written b) ((b ≡ a) × (d ≡ c)) answer
+    × (ending.status ≡ status_of answer) × TellsFault said old new ending.told answer)
+
 -- `blocks` over a stream and the buffered output
 abbrev pub BlocksTo : {W E : Type 0} → Option (List ℕ) → (W → Option (List ℕ)) → W → (E → Option (List ℕ)) → E → E → Ending → Type 0
 BlocksTo stream written output said old new ending =
@@ -95,12 +106,43 @@ RunAt {D = D} holds opens view R unread stream p q c d written output said old n
     HeldFirst holds p q (λ why. (d ≡ c) × EndsWith said old new ending (Err why))
     (λ held. (files : Result D FilesFault) × opens held path files q × RunTo view R unread stream files c d written output said old new ending)
 
+-- `rescue` of files, or of why they weren't opened, to what the places make at a new path: they make
+-- nothing where nothing was found
+abbrev pub RescueFrom : {P D W E : Type 0} → (P → List ℕ → Result D MakeFault → P → Type 0) → (D → DiskView) → Result D FilesFault
+    → P → P → (W → Option (List ℕ)) → W → (E → Option (List ℕ)) → E → E → Ending → Text → Type 0
+RescueFrom {D = D} {W = W} creates view files p q written output said old new ending to =
+    (answer : Result (Rescued D) RunFault) × FilesAreRead view files answer × MatchResult answer
+    (λ found. (made : Result D MakeFault) × creates p to made q × ((last : W) × RescueEnds view made found written output last said old new ending))
+    (λ why. (q ≡ p) × EndsWith said old new ending (Err why))
+
+-- `rescue` of what the places open to read at a path, to a new one
+abbrev pub RescueAt : {P D W E : Type 0} → (P → Result Unit RunFault → P → Type 0) → (P → List ℕ → Result D FilesFault → P → Type 0) → (P → List ℕ → Result D MakeFault → P → Type 0) → (D → DiskView)
+    → P → P → (W → Option (List ℕ)) → W → (E → Option (List ℕ)) → E → E → Ending → Text → Text → Type 0
+RescueAt {P = P} {D = D} holds reads creates view p q written output said old new ending path to =
+    HeldFirst holds p q (λ why. EndsWith said old new ending (Err why))
+    (λ held. (files : Result D FilesFault) × (read : P) × reads held path files read × RescueFrom creates view files read q written output said old new ending to)
+
+-- `live` over files with the lines of a stream, to the buffered output
+abbrev pub LiveTo : {D C W E : Type 0} → (D → DiskView) → Relation C → Watch C → Type 0 → Option (List ℕ) → Result D FilesFault → C → C → (W → Option (List ℕ)) → W → (E → Option (List ℕ)) → E → E → Ending → Type 0
+LiveTo view R watch unread stream files c d written output said old new ending =
+    Buffered output (λ first last. LiveEnds view R watch unread stream files c d (writer_contents written) first last said old new ending)
+    ((d ≡ c) × EndsWith said old new ending (Err fault.OutOfMemory))
+
+-- `live` over what the places open at a path
+abbrev pub LiveAt : {P D C W E : Type 0} → (P → Result Unit RunFault → P → Type 0) → (P → List ℕ → Result D FilesFault → P → Type 0) → (D → DiskView) → Relation C → Watch C → Type 0 → Option (List ℕ)
+    → P → P → C → C → (W → Option (List ℕ)) → W → (E → Option (List ℕ)) → E → E → Ending → Text → Type 0
+LiveAt {D = D} holds opens view R watch unread stream p q c d written output said old new ending path =
+    HeldFirst holds p q (λ why. (d ≡ c) × EndsWith said old new ending (Err why))
+    (λ held. (files : Result D FilesFault) × opens held path files q × LiveTo view R watch unread stream files c d written output said old new ending)
+
 -- what is done, by the task
-abbrev pub ByTask : Type 0 → (Text → Type 0) → (Text → Type 0) → (Text → Type 0) → TaskView → Type 0
-ByTask blocks create run show asked.blocks = blocks
-ByTask blocks create run show (asked.create path) = create path
-ByTask blocks create run show (asked.run path) = run path
-ByTask blocks create run show (asked.show path) = show path
+abbrev pub ByTask : Type 0 → (Text → Type 0) → (Text → Type 0) → (Text → Type 0) → (Text → Type 0) → (Text → Text → Type 0) → TaskView → Type 0
+ByTask blocks create run live show rescue asked.blocks = blocks
+ByTask blocks create run live show rescue (asked.create path) = create path
+ByTask blocks create run live show rescue (asked.run path) = run path
+ByTask blocks create run live show rescue (asked.live path) = live path
+ByTask blocks create run live show rescue (asked.show path) = show path
+ByTask blocks create run live show rescue (asked.rescue path new) = rescue path new
 
 -- How the program ends where `clap` gave no task, by the kind of its error.
 pub record Refuses {W E : Type 0} (a b : W) (said : E → Option (List ℕ)) (old new : E) (ending : Ending) (k : ErrorKind) : Type 0 where

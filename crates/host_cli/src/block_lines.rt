@@ -4,10 +4,10 @@ ghost use Rattle.std.specs.Io.KnownBytes.{Appends};
 ghost use Rattle.meta_format.specs.Limits.{limits};
 ghost use Rattle.meta_format.specs.Found.{outer_of, outers};
 ghost use Rattle.host_cli.specs.Printed.{Printed, PrintsFront, named_fault_line, outer_line, outer_lines, unfinished_line};
-ghost use Rattle.host_cli.specs.Input.{IsStreamFault, max_input};
+ghost use Rattle.sheet_programs.specs.Input.{IsStreamFault, max_input};
 
-use crate::{RunFault, read_input};
 use meta_format::{FeedFault, Found, Reader};
+use sheet_programs::{RunFault, read_input};
 use sheet_text::tree_text;
 use std::alloc::Global;
 use std::io::{Read, Write};

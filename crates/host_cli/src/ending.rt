@@ -4,10 +4,11 @@ ghost use Rattle.clap.specs.Words.{kind_of};
 ghost use Rattle.clap.specs.declared.error.kind.ErrorKind.TheVariants as kind;
 ghost use Rattle.std.specs.declared.io.ErrorKind.TheVariants as io_kind;
 ghost use Rattle.host_cli.specs.Ending.{BlocksAnswer, ProgramAnswer, ShowsText, TellsFault, status_of};
-ghost use Rattle.host_cli.specs.declared.fault.RunFault.TheVariants as fault;
+ghost use Rattle.sheet_programs.specs.declared.fault.RunFault.TheVariants as fault;
 
-use crate::{RunFault, blocks, fault_text};
+use crate::blocks;
 use clap::error::ErrorKind;
+use sheet_programs::{RunFault, fault_text};
 use std::alloc::Global;
 use std::io;
 use std::io::{Read, Write};

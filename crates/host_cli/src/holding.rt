@@ -2,7 +2,7 @@
 //!
 //! A file takes the lowest free descriptor. Where a standard stream was closed, that is the stream's
 //! own, and what is written there would go into the file.
-use crate::RunFault;
+use sheet_programs::RunFault;
 use std::fs::OpenOptions;
 use std::io;
 use std::os::fd::AsFd;

@@ -1,35 +1,28 @@
-//! The programs of `tmhost`, over any reader and writer. The crate `tmhost` runs them on the standard
-//! streams.
+//! The program `tmhost`: its words and statuses, its standard streams and a worksheet's files. The crate
+//! `tmhost` runs it; what it does with a disk and interpreters stands in `sheet_programs`.
 #![tactic(auto)]
 
 mod block_lines;
 mod ending;
-mod fault;
 mod file_disk;
+mod files_fault;
 mod holding;
-mod input;
-mod memory;
 mod pairing;
 mod places;
-mod printing;
 mod programs;
-mod running;
+mod rescue_program;
 mod sheet_file;
-mod taking;
 mod tasks;
 mod words;
 
 pub use block_lines::blocks;
 pub use ending::{Ending, end_program, refuse_unread_words, refuse_words, run_blocks};
-pub use fault::{FilesFault, MakeFault, RunFault, create_fault_text, fault_text};
 pub use file_disk::FileDisk;
+pub use files_fault::{FilesFault, MakeFault, create_fault_text};
 pub use holding::{Closed, Held, hold_closed};
-pub use input::{MAX_INPUT, read_input};
-pub use memory::run_memory;
 pub use places::{FilePlaces, Places};
-pub use printing::show;
-pub use programs::{run_create, run_script, run_show};
-pub use running::run;
+pub use programs::{run_create, run_live, run_script, run_show};
+pub use rescue_program::{read_rescued, run_rescue};
 pub use sheet_file::{Identity, Lock, SheetFile};
 pub use tasks::{do_task, run_words};
 pub use words::{Task, read_words};

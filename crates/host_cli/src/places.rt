@@ -1,12 +1,13 @@
 //! Where worksheets lie.
 ghost use Rattle.std.specs.Prelude.{◌≤◌, ℕ, List, Result, IfOk};
-ghost use Rattle.host_cli.specs.declared.fault.FilesFault.{FilesFault};
-ghost use Rattle.host_cli.specs.declared.fault.MakeFault.{MakeFault};
-ghost use Rattle.host_cli.specs.declared.fault.RunFault.{RunFault};
+ghost use Rattle.host_cli.specs.declared.files_fault.FilesFault.{FilesFault};
+ghost use Rattle.host_cli.specs.declared.files_fault.MakeFault.{MakeFault};
+ghost use Rattle.sheet_programs.specs.declared.fault.RunFault.{RunFault};
 
 use crate::holding::{Closed, Held, hold_closed};
-use crate::{FileDisk, FilesFault, MakeFault, RunFault, SheetFile};
+use crate::{FileDisk, FilesFault, MakeFault, SheetFile};
 use disk_model::Disk;
+use sheet_programs::RunFault;
 use std::alloc::Global;
 use std::rt::Files;
 

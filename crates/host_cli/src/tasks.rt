@@ -1,20 +1,27 @@
 //! Which program runs for which words, over which streams and files.
-ghost use Rattle.std.specs.Prelude.{◌≡◌, ◌≢◌, IfErr, IfOk, MatchResult, Result, map, string_bytes};
+ghost use Rattle.std.specs.Prelude.{◌≡◌, ◌≢◌, List, IfErr, IfOk, MatchResult, Result, map, string_bytes};
 ghost use Rattle.std.specs.declared.io.ErrorKind.TheVariants as io_kind;
 ghost use Rattle.clap.specs.Words.{FailsBy, fault_of, kind_of};
 ghost use Rattle.clap.specs.declared.error.Error.{Error};
 ghost use Rattle.host_cli.specs.Asked.{asked_by, task_view, tmhost};
-ghost use Rattle.host_cli.specs.Tasks.{BlocksTo, ByTask, CreateAt, EndsWith, Refuses, RunAt, RunTo, ShowAt, ShowTo};
-ghost use Rattle.host_cli.specs.declared.fault.RunFault.TheVariants as fault;
+ghost use Rattle.host_cli.specs.Tasks.{BlocksTo, ByTask, CreateAt, EndsWith, LiveAt, LiveTo, Refuses, RescueAt, RescueFrom, RunAt, RunTo, ShowAt, ShowTo};
+ghost use Rattle.sheet_programs.specs.declared.fault.RunFault.TheVariants as fault;
+ghost use Rattle.host_cli.specs.RescueProgram.{RescueEnds};
+ghost use Rattle.host_cli.specs.declared.files_fault.MakeFault.{MakeFault};
 ghost use Rattle.host_cli.specs.declared.words.Task.{Task};
+ghost use Rattle.recovery.specs.Sheets.{Makes};
+ghost use Rattle.worksheet.specs.declared.op.Op.{Op};
 
 use crate::{
-    Ending, FilesFault, Places, RunFault, Task, end_program, read_words, refuse_unread_words,
-    refuse_words, run_blocks, run_create, run_script, run_show,
+    Ending, FilesFault, Places, Task, end_program, read_rescued, read_words, refuse_unread_words,
+    refuse_words, run_blocks, run_create, run_live, run_rescue, run_script, run_show,
 };
+use arrivals::Sources;
 use child_edge::Children;
 use clap::Error;
 use disk_model::Disk;
+use recovery::Rescued;
+use sheet_programs::RunFault;
 use std::alloc::Global;
 use std::io;
 use std::io::{BufWriter, Read, Write};
@@ -119,14 +126,109 @@ fn run_at<D: Disk, P: Places<D>, R: Read, W: Write + Drop, E: Write, C: Children
     }
 }
 
-/// Does a task: `blocks` reads the input, `run` its script from it; `create`, `run` and `show` work on
-/// the worksheet at the path, once the places of closed streams are held. What they give goes to the
+/// `live` with the lines of the input over a worksheet's files.
+fn live_over<R: Read, W: Write + Drop, E: Write, D: Disk, S: Sources>(
+    alloc: Global,
+    input: &mut R,
+    output: W,
+    errors: &mut E,
+    files: Result<D, FilesFault>,
+    sources: &mut S,
+) -> Ending
+    ensures { LiveTo D.view S.after S.wakes (input.new ≡ input.old) (R.remaining input.old) files
+        sources.old sources.new W.contents output E.contents errors.old errors.new result }
+{
+    match BufWriter::with_capacity(alloc, BUFFER, output) {
+        Ok(mut output) => run_live(alloc, input, &mut output, errors, files, sources),
+        Err(_) => end_program(Err(RunFault::OutOfMemory), errors),
+    }
+}
+
+/// `live` with the lines of the input over the worksheet at a path.
+fn live_at<D: Disk, P: Places<D>, R: Read, W: Write + Drop, E: Write, S: Sources>(
+    alloc: Global,
+    places: &mut P,
+    path: &str,
+    sources: &mut S,
+    input: &mut R,
+    output: W,
+    errors: &mut E,
+) -> Ending
+    ensures { LiveAt P.holds P.opens D.view S.after S.wakes (input.new ≡ input.old) (R.remaining input.old)
+        places.old places.new sources.old sources.new W.contents output
+        E.contents errors.old errors.new result path.now }
+{
+    match places.hold() {
+        Ok(()) => live_over(alloc, input, output, errors, places.open(path), sources),
+        Err(fault) => end_program(Err(fault), errors),
+    }
+}
+
+/// `rescue` of what was found to a new path.
+fn rescue_to<D: Disk, P: Places<D>, W: Write + Drop, E: Write>(
+    alloc: Global,
+    places: &mut P,
+    found: &Rescued<D>,
+    new: &str,
+    output: W,
+    errors: &mut E,
+) -> Ending
+    requires { (ops : List Op) × Makes ops found.now.sheet.contents }
+    ensures { (made : Result D MakeFault) × P.creates places.old new.now made places.new
+        × ((last : W) × RescueEnds D.view made found.now W.contents output last
+        E.contents errors.old errors.new result) }
+{
+    let mut output = output;
+    run_rescue(alloc, found, places.create(new), &mut output, errors)
+}
+
+/// `rescue` of a worksheet's files to a new path, which is made only where there is something to rescue.
+fn rescue_from<D: Disk, P: Places<D>, W: Write + Drop, E: Write>(
+    alloc: Global,
+    places: &mut P,
+    files: Result<D, FilesFault>,
+    new: &str,
+    output: W,
+    errors: &mut E,
+) -> Ending
+    ensures { RescueFrom P.creates D.view files places.old places.new W.contents output
+        E.contents errors.old errors.new result new.now }
+{
+    match read_rescued(alloc, files) {
+        Ok(found) => rescue_to(alloc, places, &found, new, output, errors),
+        Err(fault) => end_program(Err(fault), errors),
+    }
+}
+
+/// `rescue` from a path to a new one.
+fn rescue_at<D: Disk, P: Places<D>, W: Write + Drop, E: Write>(
+    alloc: Global,
+    places: &mut P,
+    path: &str,
+    new: &str,
+    output: W,
+    errors: &mut E,
+) -> Ending
+    ensures { RescueAt P.holds P.reads P.creates D.view places.old places.new W.contents output
+        E.contents errors.old errors.new result path.now new.now }
+{
+    match places.hold() {
+        Ok(()) => {
+            let files = places.open_to_read(path);
+            rescue_from(alloc, places, files, new, output, errors)
+        }
+        Err(fault) => end_program(Err(fault), errors),
+    }
+}
+
+/// Does a task: `blocks` reads the input, `run` its script and `live` its lines from it; `create`,
+/// `run`, `live`, `show` and `rescue` work on the worksheet at the path, once the places of closed streams are held. What they give goes to the
 /// output, and the line of a fault to the errors.
-pub fn do_task<D: Disk, P: Places<D>, R: Read, W: Write + Drop, E: Write, C: Children>(
+pub fn do_task<D: Disk, P: Places<D>, R: Read, W: Write + Drop, E: Write, S: Sources>(
     alloc: Global,
     task: Task<'_>,
     places: &mut P,
-    children: &mut C,
+    sources: &mut S,
     input: &mut R,
     output: W,
     errors: &mut E,
@@ -136,18 +238,25 @@ pub fn do_task<D: Disk, P: Places<D>, R: Read, W: Write + Drop, E: Write, C: Chi
         E.contents errors.old errors.new result)
         (CreateAt P.holds P.creates D.view places.old places.new
         E.contents errors.old errors.new result)
-        (RunAt P.holds P.opens D.view C.after (input.new ≡ input.old) (R.remaining input.old)
-        places.old places.new children.old children.new W.contents output
+        (RunAt P.holds P.opens D.view S.after (input.new ≡ input.old) (R.remaining input.old)
+        places.old places.new sources.old sources.new W.contents output
+        E.contents errors.old errors.new result)
+        (LiveAt P.holds P.opens D.view S.after S.wakes (input.new ≡ input.old) (R.remaining input.old)
+        places.old places.new sources.old sources.new W.contents output
         E.contents errors.old errors.new result)
         (ShowAt P.holds P.reads D.view places.old places.new W.contents output
+        E.contents errors.old errors.new result)
+        (RescueAt P.holds P.reads P.creates D.view places.old places.new W.contents output
         E.contents errors.old errors.new result)
         (task_view task.entry) }
 {
     match task {
         Task::Blocks => blocks_between(alloc, input, output, errors),
         Task::Create(path) => create_at(places, path, errors),
-        Task::Run(path) => run_at(alloc, places, path, children, input, output, errors),
+        Task::Run(path) => run_at(alloc, places, path, sources, input, output, errors),
+        Task::Live(path) => live_at(alloc, places, path, sources, input, output, errors),
         Task::Show(path) => show_at(alloc, places, path, output, errors),
+        Task::Rescue(path, new) => rescue_at(alloc, places, path, new, output, errors),
     }
 }
 
@@ -162,11 +271,11 @@ fn refuse<W: Write + Drop, E: Write>(error: &Error, output: W, errors: &mut E) -
 
 /// The whole program: does the task that its words ask for, or tells why there is none. The words may
 /// be missing for this kind of error.
-pub fn run_words<D: Disk, P: Places<D>, R: Read, W: Write + Drop, E: Write, C: Children>(
+pub fn run_words<D: Disk, P: Places<D>, R: Read, W: Write + Drop, E: Write, S: Sources>(
     alloc: Global,
     words: Result<Vec<String>, io::ErrorKind>,
     places: &mut P,
-    children: &mut C,
+    sources: &mut S,
     input: &mut R,
     output: W,
     errors: &mut E,
@@ -185,10 +294,15 @@ pub fn run_words<D: Disk, P: Places<D>, R: Read, W: Write + Drop, E: Write, C: C
         E.contents errors.old errors.new result)
         (CreateAt P.holds P.creates D.view places.old places.new
         E.contents errors.old errors.new result)
-        (RunAt P.holds P.opens D.view C.after (input.new ≡ input.old) (R.remaining input.old)
-        places.old places.new children.old children.new W.contents output
+        (RunAt P.holds P.opens D.view S.after (input.new ≡ input.old) (R.remaining input.old)
+        places.old places.new sources.old sources.new W.contents output
+        E.contents errors.old errors.new result)
+        (LiveAt P.holds P.opens D.view S.after S.wakes (input.new ≡ input.old) (R.remaining input.old)
+        places.old places.new sources.old sources.new W.contents output
         E.contents errors.old errors.new result)
         (ShowAt P.holds P.reads D.view places.old places.new W.contents output
+        E.contents errors.old errors.new result)
+        (RescueAt P.holds P.reads P.creates D.view places.old places.new W.contents output
         E.contents errors.old errors.new result)
         (task_view task))
         (λ error. (last : W)
@@ -199,7 +313,7 @@ pub fn run_words<D: Disk, P: Places<D>, R: Read, W: Write + Drop, E: Write, C: C
         Err(kind) => return refuse_unread_words(kind, errors),
     };
     match read_words(alloc, words.as_slice()) {
-        Ok(task) => do_task(alloc, task, places, children, input, output, errors),
+        Ok(task) => do_task(alloc, task, places, sources, input, output, errors),
         Err(error) => refuse(&error, output, errors),
     }
 }

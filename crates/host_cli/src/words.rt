@@ -2,7 +2,7 @@
 ghost use Rattle.std.specs.Prelude.{◌≡◌, IfOk, Some, false, map, string_bytes};
 ghost use Rattle.clap.specs.Words.{FailsBy, app_of, fault_of, new_app, subcommand_rows_of};
 ghost use Rattle.clap.specs.declared.builder.command.Command.TheViews.{out-Command as fields_of};
-ghost use Rattle.host_cli.specs.Asked.{asked_by, by_path, by_subcommand, tmhost, task_view};
+ghost use Rattle.host_cli.specs.Asked.{asked_by, by_path, by_paths, by_subcommand, tmhost, task_view};
 ghost use Rattle.host_cli.specs.Asked as asked;
 
 use clap::{Arg, ArgMatches, Command, Error};
@@ -17,15 +17,21 @@ pub enum Task<'a> {
     Create(&'a str),
     /// Run the script that comes in on standard input over the worksheet at the path.
     Run(&'a str),
+    /// Hold the worksheet at the path open for the lines that come in on standard input.
+    Live(&'a str),
     /// Write the worksheet at the path.
     Show(&'a str),
+    /// Write what stands in the worksheet at the first path, before its first damage, to a new one at
+    /// the second.
+    Rescue(&'a str, &'a str),
 }
 
 /// What the help of the program says below its lists.
 const NOTES: &str = "Without a command it is `blocks`.\n\n\
 Status: 0 where all was done, or help was shown; 1 at a fault, which is told on\n\
 standard error as `fault N NAME`, and where the stream of `blocks` has a fault or\n\
-an open block; 2 where the words are refused.\n\n\
+an open block; 2 where the words are refused. `tmhost help faults` says what each\n\
+fault means.\n\n\
 Example: tmhost create sheet.tm && tmhost run sheet.tm <script.txt";
 
 const BLOCKS_NOTES: &str =
@@ -52,11 +58,59 @@ Status: 0 where the script ran to its end, also where it has bad lines and refus
 commands; 1 at a fault; 2 where the words are refused.\n\n\
 Example: tmhost run sheet.tm <script.txt";
 
+const LIVE_NOTES: &str =
+    "Each line of standard input is taken when it comes, and what an interpreter\n\
+writes is taken when it comes: what either gives is written and flushed at once,\n\
+and what is told as done is on the disk. Lines are those of `run`, of 65,536 bytes\n\
+at most, and `print ID` and `wait SECONDS`. A `wait` holds back the lines behind it\n\
+until no answer is awaited, or its time is over. At the end of the input each\n\
+interpreter is stopped.\n\n\
+Status: 0 where the input came to its end, also where it had bad lines and refused\n\
+commands; 1 at a fault; 2 where the words are refused.\n\n\
+Example: printf 'print\\n' | tmhost live sheet.tm";
+
 const SHOW_NOTES: &str =
     "It writes and makes no file. A field without an output shows `?`. Where a program\n\
 runs the worksheet nothing is shown: that is the fault 35 InUse.\n\n\
 Status: 0 where all was written; 1 at a fault; 2 where the words are refused.\n\n\
 Example: tmhost show sheet.tm";
+
+const RESCUE_NOTES: &str =
+    "It reads PATH alone, and makes NEW as `create` does. NEW has the worksheet of the\n\
+changes that stand in PATH before the first damage, whether that is a broken gate\n\
+or a change that can't be read or isn't allowed there; nothing behind it is read.\n\
+(`show` tells a broken gate first, also where it stands behind such a change.)\n\
+It writes `kept N, damaged at OFFSET`, where N counts the changes that were kept,\n\
+or `kept N, whole`.\n\n\
+Where PATH is no worksheet (31), can't be read (32), or is run by another program\n\
+(35), NEW isn't made. Where NEW or NEW.alt exists, the fault is 34 NotEmpty. A\n\
+rescue that was cut off may leave NEW empty, or no worksheet: remove NEW and\n\
+NEW.alt, and give it again.\n\n\
+Status: 0 where NEW is on the disk and that was told, be PATH whole or damaged; 1\n\
+at a fault; 2 where the words are refused.\n\n\
+Example: tmhost rescue sheet.tm new.tm";
+
+const FAULTS_NOTES: &str = "A fault is told on standard error as `fault N NAME`, with status 1.\n\n\
+21 Disk          a write failed while the script ran; all that was told is kept:\n\
+\x20                make room, then `show`\n\
+22 OutOfMemory   while the script ran; all that was told is kept: run the rest again\n\
+23 JournalFull   an answer doesn't fit the file; it isn't kept: `checkpoint`, or a new\n\
+\x20                worksheet. Of `rescue`: the worksheet doesn't fit a new file\n\
+30 Damaged G     no whole change stands at offset G of the file; what stands before it\n\
+\x20                is whole: leave the file as it is, and `rescue` it\n\
+31 NotASheet     no worksheet of this version; nothing was written: look at the path.\n\
+\x20                What a `create` leaves that was cut off: remove PATH and PATH.alt\n\
+32 Disk          a file can't be opened, made, read or synced, or has a second name;\n\
+\x20                nothing was written to a worksheet: look at the path, make room\n\
+33 OutOfMemory   while the worksheet was opened; nothing was written: run it again\n\
+34 NotEmpty      PATH or PATH.alt is there already; nothing was changed: another path\n\
+35 InUse         another program has the worksheet; nothing was done: wait for its end\n\
+40 Input         standard input can't be read; nothing was done: give it again\n\
+41 InputTooLong  more than 67,108,864 bytes; nothing was done: cut it into parts\n\
+42 Output        standard output can't be written; what was done is on the disk, and\n\
+\x20                one line more than was told may be: `show` says where it stands\n\
+43 OutOfMemory   outside of the worksheet; all that was told is kept: run the rest again\n\n\
+docs/FAULTS.md has more of each.";
 
 /// A command without arguments, with a text above and one below its help.
 fn plain<'a>(alloc: Global, name: &'a str, about: &'a str, notes: &'a str) -> Command<'a>
@@ -82,6 +136,32 @@ fn with_path<'a>(
     plain(alloc, name, about, notes).arg(path)
 }
 
+/// A subcommand with a path, and with that of a new worksheet behind it.
+fn with_paths<'a>(
+    alloc: Global,
+    name: &'a str,
+    about: &'a str,
+    notes: &'a str,
+) -> Result<Command<'a>, AllocError>
+    ensures made { IfOk result (λ command. app_of command ≡ asked.with_paths name.entry.now) }
+    ensures local { IfOk result (λ command. (fields_of command).has_globals ≡ false) }
+{
+    let first = with_path(alloc, name, about, notes)?;
+    first.arg(
+        Arg::new(alloc, "NEW")
+            .help("The new worksheet, which will be the files NEW and NEW.alt")
+            .required(true),
+    )
+}
+
+/// A subcommand that shows its help alone.
+fn help_alone<'a>(alloc: Global, name: &'a str, about: &'a str, notes: &'a str) -> Command<'a>
+    ensures made { app_of result ≡ asked.help_alone name.entry.now }
+    ensures local { (fields_of result).has_globals ≡ false }
+{
+    plain(alloc, name, about, notes).arg_required_else_help(true)
+}
+
 /// The command line of the program.
 fn tmhost_command<'a>(alloc: Global) -> Result<Command<'a>, AllocError>
     ensures { IfOk result (λ command. app_of command ≡ tmhost) }
@@ -99,7 +179,20 @@ fn tmhost_command<'a>(alloc: Global) -> Result<Command<'a>, AllocError>
         "Run the script on standard input over a worksheet",
         RUN_NOTES,
     )?;
+    let live = with_path(
+        alloc,
+        "live",
+        "Hold a worksheet open for lines that come on standard input",
+        LIVE_NOTES,
+    )?;
     let show = with_path(alloc, "show", "Write a worksheet", SHOW_NOTES)?;
+    let rescue = with_paths(
+        alloc,
+        "rescue",
+        "Write what stands before a damage to a new worksheet",
+        RESCUE_NOTES,
+    )?;
+    let faults = help_alone(alloc, "faults", "What each fault means", FAULTS_NOTES);
     let first = plain(
         alloc,
         "tmhost",
@@ -109,18 +202,32 @@ fn tmhost_command<'a>(alloc: Global) -> Result<Command<'a>, AllocError>
     .subcommand(blocks)?;
     let second = first.subcommand(create)?;
     let third = second.subcommand(run)?;
-    let fourth = third.subcommand(show)?;
-    Ok(fourth)
+    let fourth = third.subcommand(live)?;
+    let fifth = fourth.subcommand(show)?;
+    let sixth = fifth.subcommand(rescue)?;
+    let seventh = sixth.subcommand(faults)?;
+    Ok(seventh)
 }
 
 /// The task of a subcommand with a path.
 fn task_with_path<'a>(name: &str, path: &'a str) -> Task<'a>
-    ensures { task_view result ≡ by_path name.now (Some path.entry.now) }
+    ensures { task_view result ≡ by_path name.now path.entry.now }
 {
     match name {
         "create" => Task::Create(path),
         "run" => Task::Run(path),
+        "live" => Task::Live(path),
         "show" => Task::Show(path),
+        _ => Task::Blocks,
+    }
+}
+
+/// The task of a subcommand with two paths.
+fn task_with_paths<'a>(name: &str, path: &'a str, new: &'a str) -> Task<'a>
+    ensures { task_view result ≡ by_paths name.now (Some path.entry.now) (Some new.entry.now) }
+{
+    match name {
+        "rescue" => Task::Rescue(path, new),
         _ => Task::Blocks,
     }
 }
@@ -132,9 +239,12 @@ fn task_of<'a>(matches: &ArgMatches<'a>) -> Task<'a>
     let Some((name, inner)) = matches.subcommand() else {
         return Task::Blocks;
     };
-    match inner.get_str("PATH") {
-        Some(path) => task_with_path(name, path),
-        None => Task::Blocks,
+    let Some(path) = inner.get_str("PATH") else {
+        return Task::Blocks;
+    };
+    match inner.get_str("NEW") {
+        Some(new) => task_with_paths(name, path, new),
+        None => task_with_path(name, path),
     }
 }
 
@@ -149,6 +259,8 @@ pub fn read_words<'a>(alloc: Global, words: &'a [String]) -> Result<Task<'a>, Er
     ensures kinds { FailsBy (fault_of tmhost (map string_bytes words.entry.now)) result }
 {
     let command = tmhost_command(alloc)?;
-    let matches = command.try_get_matches_from(words)?;
-    Ok(task_of(&matches))
+    match command.try_get_matches_from(words) {
+        Ok(matches) => Ok(task_of(&matches)),
+        Err(error) => Err(error),
+    }
 }

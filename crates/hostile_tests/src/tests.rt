@@ -5,6 +5,5 @@ mod desk;
 mod edge;
 mod looks;
 mod memory;
-mod rows;
 mod stale;
 mod sweep;

@@ -1,10 +1,12 @@
 -- Bytes lay out one list of payloads at most, and none where they are damaged.
-use Rattle.std.proofs.Common.{◌≡◌, ◌≢◌, ⊎_elim, ℕ, ◌<◌, ◌^◌, List, [], ◌∷◌, ◌++◌, length, take, drop, refl, sym, ◌∙◌, ap, subst, arith, append_assoc, length-append}
+use Rattle.std.proofs.Common.{◌≡◌, ◌≢◌, ⊎_elim, ℕ, Bool, true, false, ◌<◌, ◌^◌, List, [], ◌∷◌, ◌++◌, length, take, drop, refl, sym, ◌∙◌, ap, subst, arith, append_assoc, length-append}
 use Rattle.std.specs.Int.{to_be_bytes, from_be_bytes, w32}
 use Rattle.std.proofs.lemmas.List.{take_at, drop_at}
 use Rattle.std.proofs.lemmas.Nat.{from_be_bytes-to_be_bytes_4}
 use Rattle.journal.specs.Area.{HasHeader, StandsFor, records, record_of, body_of, IsPayload, ArePayloads, end_of, open_gate}
 use Rattle.journal.specs.Damage.{IsBroken, IsDamaged, Walked}
+use Rattle.journal.specs.Front.{HasFront}
+use Rattle.journal.specs.Laws.{OneFront}
 use Rattle.disk_model.specs.Disk.{Image}
 use Rattle.journal.specs.Kept.{ImageStandsFor, active_of}
 use Rattle.journal.specs.Open.{IsPassing, Tells}
@@ -102,6 +104,19 @@ module _ (limit : ℕ) (fits : limit < 2 ^ 32) where
     s.header_is,
     omega (arith, ap length s.lays.is, length-append (records ps) (s.lays.gate ∷ s.lays.more)),
   )
+
+  pub one_front_of : (bytes : List ℕ) (ps qs : List (List ℕ)) (damaged again : Bool) → HasFront limit bytes ps damaged → HasFront limit bytes qs again → (ps ≡ qs) × (damaged ≡ again)
+  one_front_of bytes ps qs false false f g = (laid_out_once bytes ps qs f g, refl)
+  one_front_of bytes ps qs false true f g = absurd (undamaged bytes ps (end_of qs) f (qs, g.0, g.1, refl, g.2))
+  one_front_of bytes ps qs true false f g = absurd (undamaged bytes qs (end_of ps) g (ps, f.0, f.1, refl, f.2))
+  one_front_of bytes ps qs true true f g = (
+    same_damage ps qs f.0 g.0 f.1.each g.1.each f.2 g.2
+        (sym (walked_behind bytes ps (open_gate ∷ f.0) f.1) ∙ walked_behind bytes qs (open_gate ∷ g.0) g.1),
+    refl,
+  )
+
+pub one_front : OneFront
+one_front limit fits area payloads others damaged again f g = one_front_of limit fits area payloads others damaged again f g
 
 -- bytes stand for one list of payloads
 pub one_list : (limit : ℕ) → limit < 2 ^ 32 → (area : List ℕ) (payloads others : List (List ℕ)) → StandsFor limit area payloads → StandsFor limit area others → payloads ≡ others

@@ -1,10 +1,11 @@
 -- A walk over the gates of an area.
-use Rattle.std.proofs.Common.{◌≡◌, ◌≢◌, ℕ, ◌+◌, ◌-◌, ◌<◌, ◌≤◌, min, get_or, List, [], ◌∷◌, ◌++◌, length, take, drop, refl, sym, ◌∙◌, ap, subst, arith, append_assoc, length-append, length-drop, take-append-drop}
+use Rattle.std.proofs.Common.{◌≡◌, ◌≢◌, ℕ, ◌+◌, ◌-◌, ◌<◌, ◌≤◌, min, true, get_or, List, [], ◌∷◌, ◌++◌, length, take, drop, refl, sym, ◌∙◌, ap, subst, arith, append_assoc, length-append, length-drop, take-append-drop}
 use Rattle.std.specs.Int.{to_be_bytes, from_be_bytes, w32}
 use Rattle.std.proofs.lemmas.List.{drop_at, length-take-le, take-append-le}
 use Rattle.std.proofs.lemmas.Nat.{from_be_bytes-to_be_bytes_4}
 use Rattle.journal.specs.Area.{HasHeader, HeaderOf, header, records, record_of, IsPayload, StandsFor, end_of, first_gate, open_gate}
-use Rattle.journal.specs.Damage.{IsBroken, IsDamaged, Walked}
+use Rattle.journal.specs.Damage.{IsBroken, Walked}
+use Rattle.journal.specs.Front.{HasFront}
 use Rattle.journal.specs.Limits.{max_payload}
 use Rattle.journal.specs.inside.Reads.{Begins}
 use Rattle.journal.specs.inside.Walk.{IsStep}
@@ -80,13 +81,12 @@ closed_here area gate byte more r here closed = (
   r.gate_is,
 )
 
-pub broken_here : (area : List ℕ) (gate : ℕ) (more : List ℕ) → Reached area gate → drop gate area ≡ open_gate ∷ more → IsBroken max_payload more → IsDamaged max_payload area gate
-broken_here area gate more r here broken = (
+-- and at a damaged one they are its front
+pub damaged_here : (area : List ℕ) (gate : ℕ) (more : List ℕ) → Reached area gate → drop gate area ≡ open_gate ∷ more → IsBroken max_payload more → (payloads : List (List ℕ)) × HasFront max_payload area payloads true × (gate ≡ end_of payloads)
+damaged_here area gate more r here broken = (
   r.payloads,
-  more,
-  subst (λ (l : List ℕ). Walked max_payload area r.payloads l) (sym (rest_here area gate r) ∙ here) r.walked,
+  (more, subst (λ (l : List ℕ). Walked max_payload area r.payloads l) (sym (rest_here area gate r) ∙ here) r.walked, broken),
   r.gate_is,
-  broken,
 )
 
 -- what stands at a gate, from what the window shows there

@@ -8,8 +8,14 @@ use Rattle.journal.specs.declared.walk.Payload.{Payload}
 use Rattle.std.specs.declared.alloc.Global.{Global}
 use Rattle.std.specs.Prelude.{Vec}
 use Rattle.journal.specs.declared.journal.OpenFault.{OpenFault}
+use Rattle.journal.specs.declared.opening.CreateFault.{CreateFault}
 use Rattle.journal.specs.declared.journal.AppendFault.{AppendFault}
 use Rattle.journal.specs.declared.journal.AppendFault.TheVariants as faults
+
+-- the disk that a creation leaves
+abbrev pub laid : {D : Type 0} → (D → DiskView) → Result JournalView (CreateFault D) → DiskView
+laid view (Ok journal) = journal.disk
+laid view (Err fault) = view fault.disk
 
 -- the disk that an append leaves
 abbrev pub disk_after : {D : Type 0} → (D → DiskView) → Result JournalView (AppendFault D)

@@ -1,8 +1,9 @@
 -- Laws of areas.
-use Rattle.std.specs.Prelude.{◌≡◌, ℕ, ◌<◌, ◌^◌, List}
+use Rattle.std.specs.Prelude.{◌≡◌, ℕ, Bool, ◌<◌, ◌^◌, List}
 use Rattle.disk_model.specs.Disk.{Image}
 use Rattle.journal.specs.Area.{StandsFor}
 use Rattle.journal.specs.Damage.{IsDamaged}
+use Rattle.journal.specs.Front.{HasFront}
 use Rattle.journal.specs.Kept.{ImageStandsFor}
 use Rattle.journal.specs.Open.{IsPassing, Tells}
 use Rattle.journal.specs.declared.opening.OpenCause.{OpenCause}
@@ -21,6 +22,12 @@ OneDamage = (limit : ℕ) → limit < 2 ^ 32 → (area : List ℕ) (gate other :
 abbrev pub NoDamage : Type 0
 NoDamage = (limit : ℕ) → limit < 2 ^ 32 → (area : List ℕ) (payloads : List (List ℕ)) (gate : ℕ)
     → StandsFor limit area payloads → IsDamaged limit area gate → ⊥
+
+-- an area has at most one front, which is damaged or not
+abbrev pub OneFront : Type 0
+OneFront = (limit : ℕ) → limit < 2 ^ 32 → (area : List ℕ) (payloads others : List (List ℕ))
+    (damaged again : Bool) → HasFront limit area payloads damaged → HasFront limit area others again
+    → (payloads ≡ others) × (damaged ≡ again)
 
 -- and no cause of a refusal lies in the bytes of an image that stands for payloads
 abbrev pub StandingOpens : Type 0

@@ -6,6 +6,8 @@ pub mod Journal
 pub mod Open
 pub mod Opening
 pub mod Next
+pub mod Front
+pub mod NextFront
 pub mod Laws
 pub mod Payloads
 pub mod inside

@@ -1,15 +1,17 @@
 // A journal on a disk that it owns.
 ghost use Rattle.std.specs.Prelude.{◌≡◌, ◌<◌, ◌≤◌, ◌+◌, ◌++◌, ◌∷◌, ◌↔◌, [], List, ℕ, length, IfOk, IfErr, IsTrue, MatchResult};
-ghost use Rattle.disk_model.specs.Disk.{InModel, LeavesOnly, Looks, SameDisk, Rises, bytes_on, max_room, other_area};
+ghost use Rattle.disk_model.specs.Disk.{ChangesArea, InModel, LeavesOnly, Looks, Reaches, SameDisk, Torn, Rises, bytes_on, max_room, other_area};
 ghost use Rattle.journal.specs.Payloads.{payloads_in, AreGates};
-ghost use Rattle.journal.specs.Open.{Tells};
+ghost use Rattle.journal.specs.Open.{AreEmpty, Tells};
 ghost use Rattle.journal.specs.Kept.{BeforeOrAfter, EitherStands, Fits, FitsAnew, Keeps, ImageStandsFor, active_area, active_of, other_of};
 ghost use Rattle.journal.specs.Area.{added_at, end_of, first_gate};
 ghost use Rattle.journal.specs.inside.Active.{HasEnd};
 
 use crate::append::add;
 use crate::rewrite::{end_of_frames, other, write_anew};
-use crate::{Frame, MAX_PAYLOAD, Next, OpenCause, Opening, Payload};
+use crate::{
+    CreateCause, CreateFault, Frame, MAX_PAYLOAD, Next, OpenCause, Opening, Payload, create,
+};
 use disk_model::{Area, Disk, DiskFault};
 use std::alloc::Global;
 use std::marker::Model;
@@ -59,7 +61,7 @@ pub enum AppendFault<D: Disk> {
 }
 
 impl<D: Disk> Journal<D> {
-    ghost use Rattle.journal.specs.Journal.{opened, disk_after, GivesPayloads, HandsBack, IsFull, IsFaulty};
+    ghost use Rattle.journal.specs.Journal.{laid, opened, disk_after, GivesPayloads, HandsBack, IsFull, IsFaulty};
 
     /// Opens a disk that a crash may have left, and gives the payloads that it stands for, in
     /// order, each with the offset of its gate. It writes nothing (docs/FORMAT.md, "Opening").
@@ -107,6 +109,48 @@ impl<D: Disk> Journal<D> {
                 Ok(Next::End(journal)) => return Ok((journal, payloads)),
                 Err(fault) => return Err(fault),
             }
+        }
+    }
+
+    /// Lays an empty journal on an empty disk of at least 11 bytes of room, as [`create`] does, and is
+    /// that journal. It takes no memory.
+    pub fn create(disk: D) -> Result<Journal<D>, CreateFault<D>>
+        requires { 11 ≤ (D.view disk).room }
+
+        ensures same { SameDisk (D.view disk) (laid D.view result) }
+
+        // The journal is durable, and stands for no payload.
+        ensures empty { InModel (D.view disk)
+            (IfOk result (λ journal. AreEmpty (bytes_on (D.view disk))
+            × Keeps journal.disk.history journal.end [])) }
+
+        ensures not_empty { InModel (D.view disk)
+            (IfErr result (λ e. e.cause ≡ CreateCause.NotEmpty → AreEmpty (bytes_on (D.view disk))
+            → ⊥)) }
+
+        // A disk that isn't empty is left as it was, whatever fails.
+        ensures untouched { InModel (D.view disk)
+            (IfErr result (λ e. (AreEmpty (bytes_on (D.view disk)) → ⊥)
+            → Looks (D.view disk).history (D.view e.disk).history)) }
+
+        // A crash at any moment of the call leaves the eleven bytes of area First torn at most, and area
+        // Second untouched.
+        ensures any_moment { InModel (D.view disk)
+            (LeavesOnly (Reaches (ChangesArea Area.First (Torn 0 11)) (D.view disk).history.now)
+            (D.view disk).history (laid D.view result).history) }
+
+        ensures ends { IfOk result (λ journal. journal.end ≡ first_gate) }
+
+        // A failure of the disk is told as one, and nothing else is.
+        ensures faulty { IfErr result
+            (λ e. e.cause ≡ CreateCause.Disk → Rises (D.view disk).faults (D.view e.disk).faults) }
+        ensures steady { MatchResult result
+            (λ journal. journal.disk.faults ≡ (D.view disk).faults)
+            (λ e. (e.cause ≡ CreateCause.Disk → ⊥) → (D.view e.disk).faults ≡ (D.view disk).faults) }
+    {
+        match create(disk) {
+            Ok(disk) => Ok(Journal::ending_at(disk, Area::First, 10)),
+            Err(fault) => Err(fault),
         }
     }
 

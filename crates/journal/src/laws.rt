@@ -1,6 +1,6 @@
 //! Laws of the definitions that the contracts cite. Each function does nothing: its contract is the
 //! law.
-ghost use Rattle.journal.specs.Laws.{NoDamage, OneDamage, OneList, StandingOpens};
+ghost use Rattle.journal.specs.Laws.{NoDamage, OneDamage, OneFront, OneList, StandingOpens};
 
 /// An area stands for at most one list of payloads.
 pub fn one_list()
@@ -15,6 +15,12 @@ pub fn one_damage()
 /// An area that stands for payloads isn't damaged.
 pub fn no_damage()
     ensures { NoDamage }
+{}
+
+/// An area has one front at most: the payloads of its whole records, and whether the gate behind them
+/// is damaged.
+pub fn one_front()
+    ensures { OneFront }
 {}
 
 /// A disk that stands for payloads is refused for no cause that lies in its bytes.

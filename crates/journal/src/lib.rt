@@ -6,6 +6,7 @@
 
 mod append;
 mod frame;
+mod front;
 mod journal;
 pub mod laws;
 mod opening;
@@ -16,6 +17,7 @@ mod window;
 
 pub use disk_model::OutOfMemory;
 pub use frame::{Frame, MAX_PAYLOAD};
+pub use front::{Front, InFront};
 pub use journal::{AppendFault, Journal, OpenFault};
 pub use opening::{CreateCause, CreateFault, OpenCause, create};
 pub use payloads::{Next, Opening};

@@ -1,17 +1,18 @@
 // Making a journal's disk, and reading it.
 ghost use Rattle.std.specs.Prelude.{◌≡◌, ◌≤◌, ◌<◌, [], List, ℕ, get_or, IfOk, IfErr, OnErr, OnOk, IsErrOf, MatchResult};
 ghost use Rattle.disk_model.specs.Disk.{ChangesArea, InModel, Leaves, LeavesOnly, Looks, Reaches, SameDisk, Rises, Torn, area_of, bytes_on};
-ghost use Rattle.journal.specs.Area.{HasHeader, created, first_gate, selector_at};
+ghost use Rattle.journal.specs.Area.{HasHeader, created, end_of, first_gate, selector_at};
+ghost use Rattle.journal.specs.Front.{ImageHasFront, TellsHeader};
 ghost use Rattle.journal.specs.Kept.{ImageStandsFor, Keeps};
 ghost use Rattle.journal.specs.inside.Active.{IsActive};
 ghost use Rattle.journal.specs.inside.Reads.{Fails, Reads};
 ghost use Rattle.journal.specs.inside.Walk.{LacksHeader};
-ghost use Rattle.journal.specs.inside.Window.{IsOnActive, Shows};
+ghost use Rattle.journal.specs.inside.Window.{IsDurable, IsOnActive, Shows};
 ghost use Rattle.journal.specs.Open.{AreEmpty, Tells};
 ghost use Rattle.journal.specs.declared.opening.CreateCause.TheVariants.{Disk as CreateDisk};
 ghost use Rattle.journal.specs.declared.opening.OpenCause.TheVariants.{Disk as OpenDisk, OutOfMemory};
 
-use crate::walk::{NAMES_SECOND, selector_of, walk_gates};
+use crate::walk::{NAMES_SECOND, Stop, selector_of, walk_gates};
 use crate::window::Window;
 use disk_model::{Area, Disk, DiskFault};
 use std::alloc::{AllocError, AllocFailed, Global};
@@ -202,7 +203,8 @@ fn on_active<D: Disk>(alloc: Global, disk: &mut D) -> Result<Window, OpenCause>
     ensures found { InModel (D.view disk.old)
         (IfOk result (λ window. IsOnActive window (bytes_on (D.view disk.old))
         (D.view disk.new).history.now)) }
-    ensures fault { InModel (D.view disk.old) (IfErr result (Tells (bytes_on (D.view disk.old)))) }
+    ensures fault { InModel (D.view disk.old)
+        (IfErr result (TellsHeader (bytes_on (D.view disk.old)))) }
 {
     let (first, selector) = match durable(alloc, disk, Area::First) {
         Ok(found) => found,
@@ -213,6 +215,38 @@ fn on_active<D: Disk>(alloc: Global, disk: &mut D) -> Result<Window, OpenCause>
     }
     match durable(alloc, disk, Area::Second) {
         Ok((second, _)) => Ok(second),
+        Err(cause) => Err(cause),
+    }
+}
+
+// A window on the active area, and where the walk over its gates ended. That area and area First are
+// durable.
+pub(crate) fn survey_front<D: Disk>(
+    alloc: Global,
+    disk: &mut D,
+) -> Result<(Window, Stop), OpenCause>
+    ensures reads { Reads (Fails result) (D.view disk.old) (D.view disk.new) }
+    ensures front { InModel (D.view disk.old)
+        (IfOk result (λ found. (payloads : List (List ℕ))
+        × ImageHasFront (bytes_on (D.view disk.old)) payloads found.1.damaged
+        × (found.1.gate ≡ end_of payloads))) }
+    ensures durable { InModel (D.view disk.old)
+        (OnOk result (IsDurable (bytes_on (D.view disk.old)) (D.view disk.new).history.now)) }
+    ensures active { InModel (D.view disk.old)
+        (IfOk result (λ found. IsActive found.0.area (bytes_on (D.view disk.old)))) }
+    ensures shows { InModel (D.view disk.old)
+        (IfOk result (λ found. Shows found.0 (area_of found.0.area (bytes_on (D.view disk.old))))) }
+    ensures inside { IfOk result
+        (λ found. (first_gate ≤ found.1.gate) × (found.1.gate < found.0.limit)) }
+    ensures fault { InModel (D.view disk.old)
+        (IfErr result (TellsHeader (bytes_on (D.view disk.old)))) }
+{
+    let mut window = match on_active(alloc, disk) {
+        Ok(window) => window,
+        Err(cause) => return Err(cause),
+    };
+    match walk_gates(&mut window, disk) {
+        Ok(stop) => Ok((window, stop)),
         Err(cause) => Err(cause),
     }
 }
@@ -232,12 +266,12 @@ pub(crate) fn survey<D: Disk>(alloc: Global, disk: &mut D) -> Result<(Window, u6
     ensures inside { IfOk result (λ found. (first_gate ≤ found.1) × (found.1 < found.0.limit)) }
     ensures fault { InModel (D.view disk.old) (IfErr result (Tells (bytes_on (D.view disk.old)))) }
 {
-    let mut window = match on_active(alloc, disk) {
-        Ok(window) => window,
+    let (window, stop) = match survey_front(alloc, disk) {
+        Ok(found) => found,
         Err(cause) => return Err(cause),
     };
-    match walk_gates(&mut window, disk) {
-        Ok(end) => Ok((window, end)),
-        Err(cause) => Err(cause),
+    if stop.damaged {
+        return Err(OpenCause::Damaged(stop.gate));
     }
+    Ok((window, stop.gate))
 }

@@ -2,10 +2,11 @@
 ghost use Rattle.std.specs.Prelude.{◌≡◌, ◌<◌, ◌≤◌, ◌+◌, ◌++◌, List, ℕ, get_or, length, min, drop, IfOk, IfErr, IfSome, IfNone, OnOk};
 ghost use Rattle.disk_model.specs.Disk.{InModel, area_of, bytes_on};
 ghost use Rattle.journal.specs.Limits.{max_payload};
-ghost use Rattle.journal.specs.Area.{HasHeader, IsPayload, StandsFor, end_of, first_gate, header, record_of, selector_at};
+ghost use Rattle.journal.specs.Area.{HasHeader, IsPayload, end_of, first_gate, header, record_of, selector_at};
+ghost use Rattle.journal.specs.Front.{HasFront};
 ghost use Rattle.journal.specs.Open.{IsPassing};
 ghost use Rattle.journal.specs.inside.Reads.{Begins, Fails, Reads};
-ghost use Rattle.journal.specs.inside.Walk.{IsLength, IsStep, LacksHeader, TellsOf};
+ghost use Rattle.journal.specs.inside.Walk.{IsLength, IsStep, LacksHeader};
 ghost use Rattle.journal.specs.inside.Window.{Shows};
 
 use crate::window::Window;
@@ -37,6 +38,13 @@ enum Step {
     Broken,
     // A record, whose payload has so many bytes.
     Record(u64),
+}
+
+/// The gate at which a walk ended: it is closed, or damaged.
+#[derive(Clone, Copy)]
+pub(crate) struct Stop {
+    pub(crate) gate: u64,
+    pub(crate) damaged: bool,
 }
 
 // What stands at a gate, from the bytes there and how many there are up to the area's end.
@@ -76,8 +84,8 @@ fn behind_header(bytes: &[u8]) -> Option<(u8, &[u8])>
     Some((selector[0], rest))
 }
 
-/// The offset of the closed gate behind the records of the window's area, which begins with a header.
-pub(crate) fn walk_gates<D: Disk>(window: &mut Window, disk: &mut D) -> Result<u64, OpenCause>
+/// Where the walk over the gates of the window's area ends, which begins with a header.
+pub(crate) fn walk_gates<D: Disk>(window: &mut Window, disk: &mut D) -> Result<Stop, OpenCause>
     requires header { InModel (D.view disk.old) (HasHeader (area_of window.old.area (bytes_on (D.view disk.old)))) }
     requires some { first_gate < window.old.limit }
     requires shows { InModel (D.view disk.old)
@@ -87,13 +95,12 @@ pub(crate) fn walk_gates<D: Disk>(window: &mut Window, disk: &mut D) -> Result<u
     ensures limit { window.new.limit ≡ window.old.limit }
     ensures shows { InModel (D.view disk.old)
         (OnOk result (Shows window.new (area_of window.old.area (bytes_on (D.view disk.old))))) }
-    ensures end { InModel (D.view disk.old)
-        (IfOk result (λ end. (payloads : List (List ℕ))
-        × StandsFor max_payload (area_of window.old.area (bytes_on (D.view disk.old))) payloads
-        × (end ≡ end_of payloads))) }
-    ensures inside { IfOk result (λ end. (first_gate ≤ end) × (end < window.new.limit)) }
-    ensures fault { InModel (D.view disk.old)
-        (IfErr result (TellsOf (area_of window.old.area (bytes_on (D.view disk.old))))) }
+    ensures front { InModel (D.view disk.old)
+        (IfOk result (λ stop. (payloads : List (List ℕ))
+        × HasFront max_payload (area_of window.old.area (bytes_on (D.view disk.old))) payloads
+        stop.damaged × (stop.gate ≡ end_of payloads))) }
+    ensures inside { IfOk result (λ stop. (first_gate ≤ stop.gate) × (stop.gate < window.new.limit)) }
+    ensures cause { IfErr result IsPassing }
 {
     let mut gate = 10;
     loop {
@@ -102,8 +109,14 @@ pub(crate) fn walk_gates<D: Disk>(window: &mut Window, disk: &mut D) -> Result<u
             return Err(cause);
         }
         match step_at(window.behind(gate), left) {
-            Step::End => return Ok(gate),
-            Step::Broken => return Err(OpenCause::Damaged(gate)),
+            Step::End => return Ok(Stop {
+                gate,
+                damaged: false,
+            }),
+            Step::Broken => return Ok(Stop {
+                gate,
+                damaged: true,
+            }),
             Step::Record(len) => gate += 5 + len,
         }
     }

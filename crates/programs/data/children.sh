@@ -83,6 +83,17 @@ interpreter p "$banner" '\002verbatim:A\005'
 script 'an empty input' 'session a plain sh p.sh\nnew 0 a\neval 1\nwait\n' 'ok\nfield 1\nasked\nbanner a\nanswered 1\n' '#1 a\n> \nA\n'
 sent 'an empty input' 'start \nsend '
 
+# A thousand blocks in one piece: the first one answers, and the others are of no line.
+interpreter p "$banner" '\002verbatim:A\005'"$(repeated 999 x | sed 's/x/\\002a:\\005/g')" '\002verbatim:B\005'
+script 'a thousand blocks in one piece' "$two" 'ok\nfield 1\nfield 2\nasked\nasked\nbanner a\nanswered 1\nanswered 2\n' \
+    '#1 a\n> x\nA\n#2 a\n> y\nB\n'
+sent 'a thousand blocks in one piece' 'start \nsend x\nsend y'
+
+for length in 1024 1025 3000 100000; do
+    interpreter p "$banner" '\002verbatim:A\002input#'"$(repeated $length y)"'\005\005'
+    script "a default input of $length bytes" "$one" "ok\nfield 1\nasked\nbanner a\nanswered 1\ndefault a $(repeated $length y)\n" '#1 a\n> x\nA\n'
+done
+
 # Fields whose line waits, and lines that are evaluated again.
 interpreter p "$banner" '\002verbatim:A\005'
 script 'a field in flight' 'session a plain sh p.sh\nnew 0 a x\neval 1\nnew 1 a y\nset 1 z\nremove 1\nclear 1\neval 1\nmove 1 0\nmove 1 2\nwait\n' \
@@ -196,6 +207,21 @@ printf 'session a plain sh p.sh\nsession b plain sh p.sh\nnew 0 a one\nnew 0 b t
 compare 'two interpreters' "$("$tmhost" run sheet <given | sort)" \
     "$(printf 'ok\nok\nfield 1\nfield 2\nasked\nasked\nbanner a\nbanner b\nanswered 1\nanswered 2\nended a Stopped lost 0\nended b Stopped lost 0\n' | sort)"
 compare 'two interpreters, shown' "$(answer show sheet)" "$(ending '#2 b\n> two\ntwo\n#1 a\n> one\none\n' 0)"
+
+# 64 interpreters at a time: each gets its line once all have theirs.
+{
+    seq 64 | sed 's/.*/session s& plain sh p.sh/'
+    seq 64 | sed 's/.*/new 0 s& x&/'
+    seq 64 | sed 's/.*/eval &/'
+    echo wait
+    seq 64 | sed 's/.*/eval &/'
+    echo wait
+} >given
+rm -f sheet sheet.alt
+"$tmhost" create sheet
+compare '64 interpreters' "$("$tmhost" run sheet <given | sort)" \
+    "$({ seq 64 | sed 's/.*/ok/'; seq 64 | sed 's/.*/field &/'; seq 128 | sed 's/.*/asked/'; seq 64 | sed 's/.*/banner s&/'; seq 64 | sed 's/.*/answered &/'; seq 64 | sed 's/.*/answered &/'; } | sort)"
+compare '64 interpreters, shown' "$(answer show sheet)" "$(ending "$(seq 64 -1 1 | sed 's/.*/#& s&\\n> x&\\nx&\\n/' | tr -d '\n')" 0)"
 
 # A session whose banner comes late: another one is answered meanwhile.
 cat >late.sh <<'END_OF_CHILD'

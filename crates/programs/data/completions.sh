@@ -13,6 +13,13 @@ interpreter p "$banner" '\002scheme:(tuple "a\\"b\\\\c\n\177" "" "\\\\\\"\t")\00
 script 'completions stand between quotes' "$tab"'complete 1 1\nwait\n' \
     'ok\nfield 1\nasked\nbanner t\ncompleted 1 "a\\"b\\\\c\\x0a\\x7f" "" "\\\\\\"\\x09"\n' '#1 t\n> h\n?\n'
 
+# Many completions, and long ones.
+interpreter p "$banner" '\002scheme:(tuple "h"'"$(seq 10000 | sed 's/.*/ "e&"/' | tr -d '\n')"')\005' \
+    '\002scheme:(tuple "h" "'"$(repeated 100000 e)"'")\005'
+script '10,000 completions, and one of 100,000 bytes' "$tab"'complete 1 1\ncomplete 1 1\nwait\n' \
+    'ok\nfield 1\nasked\nasked\nbanner t\ncompleted 1 "h"'"$(seq 10000 | sed 's/.*/ "e&"/' | tr -d '\n')"'\ncompleted 1 "h" "'"$(repeated 100000 e)"'"\n' \
+    '#1 t\n> h\n?\n'
+
 script 'requests that are refused' \
     'session a plain sh p.sh\nsession t tab sh p.sh\nnew 0 a h\nnew 0 t \303\251\ncomplete 1 1\ncomplete 1 9\ncomplete 3 0\ncomplete 2 1\ncomplete 2 3\ncomplete 2 4294967295\ncomplete 2\ncomplete 2 2\ncomplete 2 0\n' \
     'ok\nok\nfield 1\nfield 2\nrefused 12 NoTab\nrefused 12 NoTab\nrefused 2 NoField\nrefused 13 BadCursor\nrefused 13 BadCursor\nrefused 13 BadCursor\nbad line 11\nasked\nasked\n' \

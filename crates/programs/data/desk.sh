@@ -89,6 +89,59 @@ then_runs() {
     compare "$1, shown" "$(answer show sheet </dev/null)" "$(ending "$4" 0)"
 }
 
+# A case of `live`: NAME TEXT SHEET. The lines of the input here give the text over a new worksheet, and then the worksheet is shown so.
+# Both have status 0.
+lives() {
+    rm -f sheet sheet.alt
+    "$tmhost" create sheet
+    compare "$1" "$(answer live sheet)" "$(ending "$2" 0)"
+    compare "$1, shown" "$(answer show sheet </dev/null)" "$(ending "$3" 0)"
+}
+
+# The same of lines that are typed in: NAME LINES TEXT SHEET.
+live() {
+    printf "$2" >given
+    lives "$1" "$3" "$4" <given
+}
+
+# Begins a talk with `live` over a new worksheet, which ten seconds cut off: bytes are written by `say TEXT`, and what they give is read
+# before more are written by `hears NAME TEXT`.
+talk() {
+    rm -f sheet sheet.alt talk.in talk.out
+    mkfifo talk.in talk.out
+    "$tmhost" create sheet
+    timeout 10 "$tmhost" live sheet <talk.in >talk.out 2>talk.errors &
+    host=$!
+    exec 3>talk.in 4<talk.out
+}
+
+# Writes bytes to the one who listens. Where nobody does, the shell inside ends alone.
+say() {
+    (printf "$1" >&3)
+}
+
+# As many lines as are wanted, and no byte behind them.
+heard() {
+    for count in $(seq "$1"); do
+        IFS= read -r line <&4 || break
+        printf '%s\n' "$line"
+    done
+}
+hears() {
+    compare "$1" "$(heard "$(printf "$2" | wc -l)")" "$(printf "$2")"
+}
+
+# Ends the input: NAME TEXT SHEET. The text is what is told then; the status is 0, and the worksheet is shown so.
+hang_up() {
+    exec 3>&-
+    rest=$(cat <&4)
+    exec 4<&-
+    wait "$host"
+    status=$?
+    compare "$1, at the end" "$(printf '%s\n' "$rest"; cat talk.errors; echo "status $status")" "$(printf '%s\n' "$(printf "$2")"; echo 'status 0')"
+    compare "$1, shown" "$(answer show sheet </dev/null)" "$(ending "$3" 0)"
+}
+
 # A case of a script over a worksheet in memory, without interpreters: NAME TEXT, of the script here.
 remembers() {
     compare "$1" "$(answer in memory)" "$(ending "$2" 0)"

@@ -225,6 +225,8 @@ until [ -e first.asked ]; do sleep 0.1; done
 printf 'new 0 a second\n' | { run run used; cat; }
 printf 'new 0 a third\n' | { run run used.link; cat; }
 run show used
+run rescue used saved
+files saved saved.alt
 run create used
 echo >go
 wait $host
@@ -314,11 +316,15 @@ step words
 refused create
 refused create one two
 refused run
+refused live
 refused show
+refused rescue sheet
+refused faults
 refused paint sheet
 refused --version
 refused --help
 refused run --help
+refused live --help
 refused --  run
 
 step a full device
@@ -358,4 +364,6 @@ counted 'cases that must differ'
 . ./completions.sh
 . ./replies.sh
 . ./limits.sh
+. ./live.sh
 . ./command_lines.sh
+. ./rescues.sh

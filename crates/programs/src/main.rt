@@ -5,10 +5,13 @@
 //! how a case is added.
 #![tactic(auto)]
 
+use arrivals::Polled;
 use child_edge::Processes;
-use host_cli::{Closed, FilePlaces, end_program, run_memory, run_words};
+use host_cli::{Closed, FilePlaces, end_program, run_words};
+use sheet_programs::{RunFault, run_memory};
 use std::io;
 use std::io::ErrorKind;
+use std::os::fd::AsRawFd;
 use std::process::{Command, ExitCode};
 
 /// The words that the program was started with, its own name first.
@@ -62,15 +65,20 @@ fn asked_by(words: &[String]) -> Asked<'_> {
 /// The program `tmhost`.
 fn tmhost(rt: &HostRuntime, words: Result<Vec<String>, ErrorKind>) -> u8 {
     let closed = Closed::find(&rt.stdin(), &rt.stdout(), &rt.stderr());
-    let ending = run_words(
-        rt.alloc(),
-        words,
-        &mut FilePlaces::new(rt, rt.alloc(), closed),
-        &mut Processes::new(rt, rt.alloc()),
-        &mut rt.stdin(),
-        rt.stdout(),
-        &mut rt.stderr(),
-    );
+    let children = Processes::new(rt, rt.alloc());
+    let input = rt.stdin().as_raw_fd();
+    let ending = match Polled::new(rt.alloc(), children, input, rt) {
+        Ok(mut sources) => run_words(
+            rt.alloc(),
+            words,
+            &mut FilePlaces::new(rt, rt.alloc(), closed),
+            &mut sources,
+            &mut rt.stdin(),
+            rt.stdout(),
+            &mut rt.stderr(),
+        ),
+        Err(_) => end_program(Err(RunFault::OutOfMemory), &mut rt.stderr()),
+    };
     ending.status
 }
 

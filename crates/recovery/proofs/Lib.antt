@@ -12,3 +12,5 @@ pub mod Refusals
 pub mod Renewing
 pub mod Gathering
 pub mod Measures
+pub mod Rescues
+pub mod Saves

@@ -1,5 +1,5 @@
 -- Laws of payloads and of the images of worksheets.
-use Rattle.std.specs.Prelude.{◌≡◌, ◌≤◌, ℕ, List, None, length}
+use Rattle.std.specs.Prelude.{◌≡◌, ◌≤◌, ℕ, Bool, List, ◌++◌, Option, None, length}
 use Rattle.block_tree.specs.Tree.{Tree}
 use Rattle.block_tree.specs.Output.{output}
 use Rattle.meta_format.specs.Limits.{limits}
@@ -15,8 +15,10 @@ use Rattle.disk_model.specs.Disk.{Image}
 use Rattle.journal.specs.Open.{IsPassing}
 use Rattle.journal.specs.declared.opening.OpenCause.{OpenCause}
 use Rattle.journal.specs.declared.opening.OpenCause.TheVariants as causes
+use Rattle.journal.specs.Front.{ImageHasFront}
 use Rattle.journal.specs.Kept.{ImageStandsFor}
 use Rattle.recovery.specs.Code.{code_of, HasCode, IsPayloadOf}
+use Rattle.recovery.specs.Rescued.{IsRescued}
 use Rattle.recovery.specs.Sheets.{codes_of, Makes, IsSheetImage, TellsOfSheet}
 
 -- no two ops have one payload
@@ -46,6 +48,24 @@ OneRefusal = (i : Image) (gate other : ℕ) → TellsOfSheet i (causes.Damaged g
 abbrev pub SheetImageOpens : Type 0
 SheetImageOpens = (sheet : Contents) (i : Image) (cause : OpenCause) → IsSheetImage sheet i
     → TellsOfSheet i cause → IsPassing cause
+
+-- No list of allowed ops whose payloads stand at the front of an image is longer than that of a rescue:
+-- each is a front of it.
+abbrev pub LongestRescue : Type 0
+LongestRescue = (i : Image) (ops : List Op) (damage : Option ℕ) (others : List Op)
+    (left : List (List ℕ)) (damaged : Bool) → IsRescued i ops damage
+    → Makes others (sheet_of others) → ImageHasFront i (codes_of others ++ left) damaged
+    → (more : List Op) × (ops ≡ others ++ more)
+
+-- an image has one rescue at most
+abbrev pub OneRescue : Type 0
+OneRescue = (i : Image) (ops others : List Op) (damage again : Option ℕ) → IsRescued i ops damage
+    → IsRescued i others again → (ops ≡ others) × (damage ≡ again)
+
+-- and that of an image of a worksheet is the worksheet, whole
+abbrev pub RescueOfWhole : Type 0
+RescueOfWhole = (i : Image) (sheet : Contents) (ops : List Op) (damage : Option ℕ)
+    → IsSheetImage sheet i → IsRescued i ops damage → (sheet_of ops ≡ sheet) × (damage ≡ None)
 
 -- An answer fits a record: where the bytes of its block were no more than an outer block may have,
 -- and its prompt is one that a worksheet allows.

@@ -4,4 +4,6 @@ pub mod Sheets
 pub mod Opened
 pub mod Committed
 pub mod Checkpointed
+pub mod Rescued
+pub mod Saved
 pub mod inside

@@ -4,3 +4,4 @@ pub mod Taken
 pub mod Base
 pub mod Gathered
 pub mod Measured
+pub mod Rescuing

@@ -1,6 +1,6 @@
 //! Laws of the definitions that the contracts cite. Each function does nothing: its contract is the
 //! law.
-ghost use Rattle.recovery.specs.Laws.{AllowedHaveCode, OneListOfOps, OneOp, OneRefusal, OneSheet, ReceivedAnswersFit, SheetImageOpens};
+ghost use Rattle.recovery.specs.Laws.{AllowedHaveCode, LongestRescue, OneListOfOps, OneOp, OneRefusal, OneRescue, OneSheet, ReceivedAnswersFit, RescueOfWhole, SheetImageOpens};
 
 /// No two ops have one payload.
 pub fn one_op()
@@ -41,6 +41,27 @@ pub fn sheet_image_opens()
 {
     journal::laws::one_list();
     journal::laws::standing_opens();
+}
+
+/// No list of allowed ops whose payloads stand at the front of a disk is longer than that of a rescue.
+pub fn longest_rescue()
+    ensures { LongestRescue }
+{
+    journal::laws::one_front();
+}
+
+/// A disk has one rescue at most.
+pub fn one_rescue()
+    ensures { OneRescue }
+{
+    journal::laws::one_front();
+}
+
+/// The rescue of a disk that is the image of a worksheet is that worksheet, and is whole.
+pub fn rescue_of_whole()
+    ensures { RescueOfWhole }
+{
+    journal::laws::one_front();
 }
 
 /// An answer that was received within the limit of an outer block fits a record, with any prompt that

@@ -9,17 +9,21 @@ mod measuring;
 mod opening;
 mod parts;
 mod reading;
+mod rescuing;
 mod rewriting;
+mod saving;
 mod size;
 mod store;
 mod writing;
 
 pub use fault::{CheckpointFault, CommitFault, PrepareFault};
 pub use laws::{
-    allowed_have_code, one_list_of_ops, one_op, one_refusal, one_sheet, received_answers_fit,
-    sheet_image_opens,
+    allowed_have_code, longest_rescue, one_list_of_ops, one_op, one_refusal, one_rescue, one_sheet,
+    received_answers_fit, rescue_of_whole, sheet_image_opens,
 };
 pub use reading::{DecodeFault, decode};
+pub use rescuing::{Rescued, rescue};
+pub use saving::{SaveCause, SaveFault, save};
 pub use size::code_len;
 pub use store::Store;
 pub use writing::encode;

@@ -1,5 +1,5 @@
 // The worksheet of payloads.
-ghost use Rattle.std.specs.Prelude.{◌≡◌, ◌≤◌, [], List, ℕ, IfOk, IfErr, OnOk, IsErrOf, MatchResult};
+ghost use Rattle.std.specs.Prelude.{◌≡◌, ◌≤◌, [], List, ℕ, IfOk, IfErr, OnErr, OnOk, IsErrOf, MatchResult};
 ghost use Rattle.disk_model.specs.Disk.{InModel, Looks, Rises, SameDisk};
 ghost use Rattle.worksheet.specs.declared.op.Op.{Op};
 ghost use Rattle.journal.specs.Opening.{HasGiven};
@@ -12,12 +12,14 @@ use journal::{Journal, Next, OpenCause, OpenFault, Opening, Payload};
 use std::alloc::Global;
 use worksheet::Sheet;
 
-// Does what a payload says.
-fn take(alloc: Global, sheet: &mut Sheet, payload: &Payload) -> Result<(), OpenCause>
+/// Does what a payload says. A payload that is no op's, or whose op is refused, is told as `Damaged`
+/// with its gate, and changes nothing.
+pub(crate) fn take(alloc: Global, sheet: &mut Sheet, payload: &Payload) -> Result<(), OpenCause>
     ensures taken { (ops : List Op) → Makes ops sheet.old.contents
         → OnOk result (TakesOps ops payload.now.bytes sheet.new.contents) }
     ensures refused { (ops : List Op) → Makes ops sheet.old.contents
         → IfErr result (Refuses ops payload.now) }
+    ensures as_before { OnErr result (sheet.new.contents ≡ sheet.old.contents) }
     ensures passing { IsErrOf result OpenCause.Disk → ⊥ }
 {
     let op = match decode(alloc, payload.bytes.as_slice()) {

@@ -5,3 +5,4 @@ mod commits;
 mod desk;
 mod memory;
 mod openings;
+mod rescues;

@@ -1,4 +1,4 @@
-//! Tests of `host_cli::run` where its reader or its writer fails.
+//! Tests of `sheet_programs::run` where its reader or its writer fails.
 #![tactic(auto)]
 
 #[cfg(test)]

@@ -1,6 +1,7 @@
 pub mod Escape
 pub mod Blocks
 pub mod Script
+pub mod LiveLines
 pub mod Replies
 pub mod Texts
 pub mod Laws

@@ -83,8 +83,11 @@ fn write_output<W: Write>(
     Ok(())
 }
 
+/// Writes one field, as `sheet_text` does.
+///
+/// After a `WriteFault` a part of the text may have gone out.
 #[tactic(auto, using(crate::proofs::Appending::steps))]
-fn write_field<W: Write>(field: &Field, out: &mut W) -> Result<(), WriteFault>
+pub fn field_text<W: Write>(field: &Field, out: &mut W) -> Result<(), WriteFault>
     ensures { OnOk result
         (Appends (W.contents out.old) (W.contents out.new) (printed.field_text field.now)) }
 {
@@ -107,7 +110,7 @@ pub fn sheet_text<W: Write>(sheet: &Sheet, out: &mut W) -> Result<(), WriteFault
 {
     let mut fields = sheet.fields();
     while let Some(field) = fields.next() {
-        write_field(field, out)?;
+        field_text(field, out)?;
     }
     Ok(())
 }

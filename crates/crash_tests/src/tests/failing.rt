@@ -1,10 +1,12 @@
 //! A disk whose calls fail, each in turn.
-use super::desk::{EVENTS, Shown, Taken, behind, created, disk_of, open, shows, take, take_from};
+use super::desk::{
+    EVENTS, Shown, Step, behind, calls_behind, calls_of_create, created, open, shown_on, shows,
+    take, take_from,
+};
 use disk_model::{FuseDisk, FuseMode, MemoryDisk};
-use journal::OpenCause;
+use journal::{OpenCause, OpenFault};
 use session_engine::{Host, HostFault};
 use std::alloc::Global;
-use std::test::Fail;
 
 // How far the example came on a disk that fails at its k-th call.
 #[derive(Clone, Copy, Debug, PartialEq, Eq)]
@@ -19,40 +21,22 @@ enum Came {
     Other,
 }
 
-// How far a host comes, and whether it is closed by a fault.
-fn how_far(alloc: Global, host: &mut Host<FuseDisk<MemoryDisk>>) -> Result<Came, Fail> {
-    let taken = take_from(alloc, host, 0, EVENTS)?;
-    let Taken {
-        count,
-        fault: Some(fault),
-    } = taken
-    else {
-        return Ok(Came::Done);
-    };
-    let next = take(alloc, host, count)?;
-    if fault == HostFault::Disk && next == Some(HostFault::Closed) {
-        Ok(Came::Closed(count))
+// How far a host came that had the disk's fault behind so many events.
+fn closed_behind(alloc: Global, host: &mut Host<FuseDisk<MemoryDisk>>, count: u32) -> Came {
+    if take(alloc, host, count) == Step::Failed(HostFault::Closed) {
+        Came::Closed(count)
     } else {
-        Ok(Came::Other)
+        Came::Other
     }
 }
 
-// The same from the opening on, and the disk inside.
-fn run_over(alloc: Global, disk: FuseDisk<MemoryDisk>) -> Result<(Came, MemoryDisk), Fail> {
-    match Host::open(alloc, disk) {
-        Ok(host) => {
-            let mut host = host;
-            let came = how_far(alloc, &mut host)?;
-            Ok((came, host.close().into_inner()))
-        }
-        Err(fault) => {
-            let came = if fault.cause == OpenCause::Disk {
-                Came::NotOpened
-            } else {
-                Came::Other
-            };
-            Ok((came, fault.disk.into_inner()))
-        }
+// How far a host comes, and whether it is closed by a fault.
+fn how_far(alloc: Global, host: &mut Host<FuseDisk<MemoryDisk>>) -> Came {
+    let way = take_from(alloc, host, 0, EVENTS);
+    match way.last {
+        Step::Taken => Came::Done,
+        Step::Failed(HostFault::Disk) => closed_behind(alloc, host, way.count),
+        Step::Failed(_) | Step::Wrong => Came::Other,
     }
 }
 
@@ -76,24 +60,56 @@ fn missing(shown: Shown) -> u32 {
     }
 }
 
-// The disk is opened again, has such a worksheet, and what is missing is played anew: the answer is there
-// at the end.
-fn is_mended(alloc: Global, came: Came, disk: MemoryDisk) -> Result<bool, Fail> {
-    let mut host = open(alloc, disk)?;
-    let found = shows(alloc, &host)?;
-    let taken = take_from(alloc, &mut host, missing(found), EVENTS)?;
-    let again = open(alloc, host.close())?;
-    Ok(may_be(came, found) && taken.fault.is_none() && shows(alloc, &again)? == Shown::Answer)
+// The worksheet that is found is such a one, what is missing is played anew, and the answer is there at the
+// end.
+fn is_mended_by(alloc: Global, came: Came, host: Host<MemoryDisk>) -> bool {
+    let mut host = host;
+    let found = shows(alloc, &host);
+    let way = take_from(alloc, &mut host, missing(found), EVENTS);
+    let again = shown_on(alloc, host.close());
+    may_be(came, found) && way.last == Step::Taken && again == Shown::Answer
+}
+
+// How far the example came, where the disk opens again and is mended so.
+fn mended(alloc: Global, came: Came, disk: MemoryDisk) -> Came {
+    let is_mended = match open(alloc, disk) {
+        Some(host) => is_mended_by(alloc, came, host),
+        None => false,
+    };
+    if is_mended { came } else { Came::Other }
+}
+
+fn runs(alloc: Global, host: Host<FuseDisk<MemoryDisk>>) -> Came {
+    let mut host = host;
+    let came = how_far(alloc, &mut host);
+    mended(alloc, came, host.close().into_inner())
+}
+
+fn not_opened(cause: OpenCause) -> Came {
+    if cause == OpenCause::Disk {
+        Came::NotOpened
+    } else {
+        Came::Other
+    }
+}
+
+fn refused(alloc: Global, fault: OpenFault<FuseDisk<MemoryDisk>>) -> Came {
+    let came = not_opened(fault.cause);
+    mended(alloc, came, fault.disk.into_inner())
+}
+
+fn runs_over(alloc: Global, disk: FuseDisk<MemoryDisk>) -> Came {
+    match Host::open(alloc, disk) {
+        Ok(host) => runs(alloc, host),
+        Err(fault) => refused(alloc, fault),
+    }
 }
 
 // How far the example comes where the k-th call fails, with what is left mended.
-fn comes(alloc: Global, k: u64, mode: FuseMode) -> Result<Came, Fail> {
-    let disk = FuseDisk::new(created(alloc)?, k, mode);
-    let (came, disk) = run_over(alloc, disk)?;
-    if is_mended(alloc, came, disk)? {
-        Ok(came)
-    } else {
-        Ok(Came::Other)
+fn comes(alloc: Global, k: u64, mode: FuseMode) -> Came {
+    match created(alloc) {
+        Some(disk) => runs_over(alloc, FuseDisk::new(disk, k, mode)),
+        None => Came::Other,
     }
 }
 
@@ -110,35 +126,37 @@ fn wanted(k: u64, opening: u64) -> Came {
 }
 
 // How many calls an opening of an empty worksheet makes.
-fn calls_of_opening(alloc: Global) -> Result<u64, Fail> {
-    let before = created(alloc)?.calls();
-    let calls = disk_of(alloc, 0)?.calls().saturating_sub(before);
-    if calls == 0 {
-        return Err("an opening without a call".into());
+fn calls_of_opening(alloc: Global) -> Option<u64> {
+    let before = calls_of_create(alloc)?;
+    let behind = calls_behind(alloc, 0)?;
+    if behind > before {
+        Some(behind - before)
+    } else {
+        None
     }
-    Ok(calls)
 }
 
-fn fails_at_each_call(alloc: Global, mode: FuseMode) -> Result<bool, Fail> {
-    let opening = calls_of_opening(alloc)?;
+// The first call whose failure brings the example elsewhere; 0 where the opening makes no call.
+fn first_wrong(alloc: Global, mode: FuseMode) -> Option<u64> {
+    let Some(opening) = calls_of_opening(alloc) else {
+        return Some(0);
+    };
     for k in 1..opening.saturating_add(19) {
-        if comes(alloc, k, mode)? != wanted(k, opening) {
-            return Ok(false);
+        if comes(alloc, k, mode) != wanted(k, opening) {
+            return Some(k);
         }
     }
-    Ok(true)
+    None
 }
 
 #[test]
-fn a_disk_that_fails_from_each_call_on(rt: HostRuntime) -> Result<(), Fail> {
-    let alloc = rt.alloc();
-    assert!(rt; fails_at_each_call(alloc, FuseMode::From)?);
-    Ok(())
+fn a_disk_that_fails_from_each_call_on(rt: HostRuntime) {
+    let wrong = first_wrong(rt.alloc(), FuseMode::From);
+    assert_eq!(rt; wrong, None);
 }
 
 #[test]
-fn a_disk_that_fails_at_each_call_alone(rt: HostRuntime) -> Result<(), Fail> {
-    let alloc = rt.alloc();
-    assert!(rt; fails_at_each_call(alloc, FuseMode::Only)?);
-    Ok(())
+fn a_disk_that_fails_at_each_call_alone(rt: HostRuntime) {
+    let wrong = first_wrong(rt.alloc(), FuseMode::Only);
+    assert_eq!(rt; wrong, None);
 }

@@ -1,6 +1,7 @@
 //! A writer that fails in the middle of a text, and how often an input is read.
 use super::failing::{Counted, Narrow};
-use host_cli::{RunFault, blocks, run_memory};
+use host_cli::blocks;
+use sheet_programs::{RunFault, run_memory};
 use std::alloc::Global;
 
 // Whether a writer with this room gets this text of the script, and the run fails for it.

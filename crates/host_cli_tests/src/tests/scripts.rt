@@ -1,6 +1,6 @@
 //! Scripts over memory whose readers and writers fail, or whose reader takes all memory.
 use super::failing::{Exhausting, Full, InterruptedOnce, Parts, Unflushed};
-use host_cli::{RunFault, run_memory};
+use sheet_programs::{RunFault, run_memory};
 use std::alloc::Global;
 use std::io;
 use std::io::Read;

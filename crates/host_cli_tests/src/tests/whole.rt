@@ -2,8 +2,10 @@
 use super::made_up::{Calls, MadeUp};
 use super::programs::has;
 use super::words::words;
+use arrivals::ScriptedSources;
 use child_edge::Scripted;
-use host_cli::{Closed, Ending, FilePlaces, RunFault, hold_closed, run_words};
+use host_cli::{Closed, Ending, FilePlaces, hold_closed, run_words};
+use sheet_programs::RunFault;
 use std::alloc::Global;
 use std::fs;
 use std::io::ErrorKind;
@@ -82,7 +84,8 @@ fn a_place_is_held_by_what_there_is(rt: HostRuntime) {
 fn ends(rt: &HostRuntime, texts: &[&str], script: &[u8], text: &[u8]) -> bool {
     let alloc = rt.alloc();
     let mut places = FilePlaces::new(rt, alloc, OPEN);
-    let mut children = Scripted::new(alloc, Vec::new(alloc));
+    let children = Scripted::new(alloc, Vec::new(alloc));
+    let mut sources = ScriptedSources::new(children, Vec::new(alloc));
     let mut input = script;
     let mut output: Vec<u8> = Vec::new(alloc);
     let mut errors: Vec<u8> = Vec::new(alloc);
@@ -90,7 +93,7 @@ fn ends(rt: &HostRuntime, texts: &[&str], script: &[u8], text: &[u8]) -> bool {
         alloc,
         words(alloc, texts).map_err(|_| ErrorKind::OutOfMemory),
         &mut places,
-        &mut children,
+        &mut sources,
         &mut input,
         &mut output,
         &mut errors,

@@ -2,13 +2,14 @@
 ghost use Rattle.std.specs.Prelude.{IfOk};
 ghost use Rattle.child_edge.specs.Answers.{HasSize};
 
-use super::desk::{open, opened, printed, told};
+use super::desk::{add_lines, empty_text, keeps, opened, sheet};
 use block_tree::Octets;
 use bytes::Bytes;
 use child_edge::{ChildFault, Children, ReceiveFault, Received};
+use disk_model::MemoryDisk;
+use session_engine::Host;
 use std::alloc::Global;
 use std::str;
-use std::test::Fail;
 use worksheet::Name;
 
 fn piece(alloc: Global) -> Result<Received, ReceiveFault>
@@ -89,73 +90,125 @@ const SCRIPT: &str =
 
 // Whether the end that is told is that of the call that failed.
 fn tells_of(text: &str, failed: Option<Kind>) -> bool {
-    let refused = text.contains("StartRefused lost 1\n");
-    let sent = text.contains("SendFault lost 1\n");
-    let read = text.contains("ReadFault lost 1\n");
+    let refused = text.contains("StartRefused lost 1\n") == (failed == Some(Kind::Start));
+    let sent = text.contains("SendFault lost 1\n") == (failed == Some(Kind::Send));
+    let read = text.contains("ReadFault lost 1\n") == (failed == Some(Kind::Receive));
+    refused && sent && read
+}
+
+// The whole answer, or none, or why.
+fn is_answer(line: &str) -> bool {
+    line == "A"
+        || line == "?"
+        || line == "? StartRefused"
+        || line == "? SendFault"
+        || line == "? ReadFault"
+}
+
+fn is_line(number: u32, line: &str) -> bool {
+    match number {
+        0 => line == "#1 a",
+        1 => line == "> x",
+        3 => line == "#2 b",
+        4 => line == "> y",
+        2 | 5 => is_answer(line),
+        _ => false,
+    }
+}
+
+// Whether each field of a worksheet in print shows the whole answer, or none, or why.
+fn is_whole(sheet: &str) -> bool {
+    let mut number = 0u32;
+    for line in sheet.lines() {
+        if !is_line(number, line) {
+            return false;
+        }
+        number = number.saturating_add(1);
+    }
+    number == 6
+}
+
+fn shown(text: &Vec<u8>) -> &str {
+    match str::from_utf8(text.as_slice()) {
+        Ok(text) => text,
+        Err(_) => "?",
+    }
+}
+
+// Whether the script tells of the call that failed.
+fn plays(alloc: Global, host: &mut Host<MemoryDisk>, children: &mut Broken) -> bool {
+    match empty_text(alloc) {
+        Some(mut text) => {
+            add_lines(alloc, host, children, SCRIPT, &mut text);
+            tells_of(shown(&text), children.failed)
+        }
+        None => false,
+    }
+}
+
+// Whether the worksheet of the host is whole, and the same once it is opened again.
+fn is_kept(alloc: Global, host: Host<MemoryDisk>) -> bool {
+    match sheet(alloc, &host) {
+        Some(text) => is_whole(shown(&text)) && keeps(alloc, host.close(), shown(&text)),
+        None => false,
+    }
+}
+
+// What came of the script.
+#[derive(Clone, Copy, Debug, PartialEq, Eq)]
+enum Came {
+    NoneFailed,
+    Failed(Kind),
+    /// What was told, or what is kept, is not as it has to be.
+    Wrong,
+}
+
+fn call_failed(failed: Option<Kind>) -> Came {
     match failed {
-        Some(Kind::Start) => refused && !sent && !read,
-        Some(Kind::Send) => !refused && sent && !read,
-        Some(Kind::Receive) => !refused && !sent && read,
-        Some(Kind::Stop) | None => !refused && !sent && !read,
+        Some(kind) => Came::Failed(kind),
+        None => Came::NoneFailed,
     }
 }
 
-// Whether the first field shows the whole answer, or none, or why.
-fn is_first(sheet: &[u8]) -> bool {
-    sheet.starts_with(b"#1 a\n> x\nA\n#2 b\n> y\n".as_slice())
-        || sheet.starts_with(b"#1 a\n> x\n?\n#2 b\n> y\n".as_slice())
-        || sheet.starts_with(b"#1 a\n> x\n? StartRefused\n#2 b\n> y\n".as_slice())
-        || sheet.starts_with(b"#1 a\n> x\n? SendFault\n#2 b\n> y\n".as_slice())
-        || sheet.starts_with(b"#1 a\n> x\n? ReadFault\n#2 b\n> y\n".as_slice())
-}
-
-// And the second.
-fn is_second(sheet: &[u8]) -> bool {
-    sheet.ends_with(b"#2 b\n> y\nA\n".as_slice())
-        || sheet.ends_with(b"#2 b\n> y\n?\n".as_slice())
-        || sheet.ends_with(b"#2 b\n> y\n? StartRefused\n".as_slice())
-        || sheet.ends_with(b"#2 b\n> y\n? SendFault\n".as_slice())
-        || sheet.ends_with(b"#2 b\n> y\n? ReadFault\n".as_slice())
-}
-
-// Whether each field shows the whole answer or none.
-fn is_whole(sheet: &[u8]) -> bool {
-    is_first(sheet) && is_second(sheet)
-}
-
-// The script where the k-th call fails: which one that was.
-fn fails_at(alloc: Global, k: u32) -> Result<Option<Kind>, Fail> {
+fn fails_on(alloc: Global, host: Host<MemoryDisk>, k: u32) -> Came {
+    let mut host = host;
     let mut children = Broken::new(alloc, k);
-    let mut host = opened(alloc)?;
-    let text = told(alloc, &mut host, &mut children, SCRIPT)?;
-    let sheet = printed(alloc, &host)?;
-    let again = printed(alloc, &open(alloc, host.close())?)?;
-    let told_right = match str::from_utf8(text.as_slice()) {
-        Ok(text) => tells_of(text, children.failed),
-        Err(_) => false,
-    };
-    if told_right && is_whole(sheet.as_slice()) && again.as_slice() == sheet.as_slice() {
-        Ok(children.failed)
+    let is_told = plays(alloc, &mut host, &mut children);
+    let is_kept = is_kept(alloc, host);
+    if is_told && is_kept {
+        call_failed(children.failed)
     } else {
-        Err("another text".into())
+        Came::Wrong
     }
 }
 
-#[test]
-fn each_call_fails_in_turn(rt: HostRuntime) -> Result<(), Fail> {
-    let alloc = rt.alloc();
+// The script where the k-th call fails.
+fn fails_at(alloc: Global, k: u32) -> Came {
+    match opened(alloc) {
+        Some(host) => fails_on(alloc, host, k),
+        None => Came::Wrong,
+    }
+}
+
+// How many calls of each kind failed, each in its turn; None where something was wrong.
+fn failures(alloc: Global) -> Option<[u32; 4]> {
     let mut kinds = [0u32; 4];
     for k in 0..100u32 {
-        match fails_at(alloc, k)? {
-            Some(Kind::Start) => kinds[0] = kinds[0].saturating_add(1),
-            Some(Kind::Send) => kinds[1] = kinds[1].saturating_add(1),
-            Some(Kind::Receive) => kinds[2] = kinds[2].saturating_add(1),
-            Some(Kind::Stop) => kinds[3] = kinds[3].saturating_add(1),
-            None => break,
+        match fails_at(alloc, k) {
+            Came::Failed(Kind::Start) => kinds[0] = kinds[0].saturating_add(1),
+            Came::Failed(Kind::Send) => kinds[1] = kinds[1].saturating_add(1),
+            Came::Failed(Kind::Receive) => kinds[2] = kinds[2].saturating_add(1),
+            Came::Failed(Kind::Stop) => kinds[3] = kinds[3].saturating_add(1),
+            Came::NoneFailed => return Some(kinds),
+            Came::Wrong => return None,
         }
     }
-    // Two starts and one after a stop; a line for each of five evaluations; three banners and five answers;
-    // two stops.
-    assert_eq!(rt; kinds, [3, 5, 8, 2]);
-    Ok(())
+    None
+}
+
+// Two starts and one after a stop; a line for each of five evaluations; three banners and five answers; two
+// stops.
+#[test]
+fn each_call_fails_in_turn(rt: HostRuntime) {
+    assert!(rt; failures(rt.alloc()) == Some([3, 5, 8, 2]));
 }

@@ -2,77 +2,59 @@
 use block_tree::Queue;
 use child_edge::{Got, Part, PieceBytes, Scripted};
 use std::alloc::Global;
-use std::test::Fail;
 use worksheet::Name;
 
-/// What a receive gives behind all pieces.
-#[derive(Clone, Copy)]
-pub enum Given {
-    End,
-    Fault,
-}
-
-/// The first life of session `a`: whether it is started, takes its line and is stopped, and what it
-/// gives: two pieces, each where it has a byte, and then this.
-#[derive(Clone, Copy)]
-pub struct Row<'a> {
-    pub start: bool,
-    pub send: bool,
-    pub stop: bool,
-    pub first: &'a [u8],
-    pub second: &'a [u8],
-    pub last: Given,
-}
-
-fn add(receives: &mut Queue<Got>, got: Got) -> Result<(), Fail> {
-    match receives.push(got) {
-        Ok(()) => Ok(()),
-        Err(_) => Err("memory".into()),
-    }
-}
-
-fn add_piece(alloc: Global, receives: &mut Queue<Got>, bytes: &[u8]) -> Result<(), Fail> {
-    let bytes = Vec::from_slice(alloc, bytes)?;
+fn piece(alloc: Global, bytes: &[u8]) -> Option<Got> {
     if bytes.is_empty() || bytes.len() > 65_536 {
-        return Ok(());
+        return None;
     }
-    add(receives, Got::Piece(PieceBytes::from_vec(bytes)))
+    let bytes = Vec::from_slice(alloc, bytes).ok()?;
+    Some(Got::Piece(PieceBytes::from_vec(bytes)))
 }
 
-impl Row<'_> {
-    fn receives(&self, alloc: Global) -> Result<Queue<Got>, Fail> {
-        let mut receives = Queue::new(alloc);
-        add_piece(alloc, &mut receives, self.first)?;
-        add_piece(alloc, &mut receives, self.second)?;
-        match self.last {
-            Given::End => add(&mut receives, Got::End)?,
-            Given::Fault => add(&mut receives, Got::Fault)?,
-        }
-        Ok(receives)
-    }
+fn answers(alloc: Global) -> Option<Queue<Got>> {
+    let mut receives = Queue::new(alloc);
+    receives.push(piece(alloc, b"\x02verbatim:\x05")?).ok()?;
+    receives.push(piece(alloc, b"\x02verbatim:A\x05")?).ok()?;
+    receives.push(Got::End).ok()?;
+    Some(receives)
+}
 
-    fn sends(&self, alloc: Global) -> Result<Queue<bool>, Fail> {
-        let mut sends = Queue::new(alloc);
-        match sends.push(self.send) {
-            Ok(()) => Ok(sends),
-            Err(_) => Err("memory".into()),
-        }
-    }
+fn fault(alloc: Global) -> Option<Queue<Got>> {
+    let mut receives = Queue::new(alloc);
+    receives.push(Got::Fault).ok()?;
+    Some(receives)
+}
 
-    /// Children with this life alone.
-    pub fn children(&self, alloc: Global) -> Result<Scripted, Fail> {
-        let Some(name) = Name::new(b"a") else {
-            return Err("a name".into());
-        };
-        let mut parts = Vec::new(alloc);
-        parts.push(Part {
-            name,
-            life: 1,
-            start: self.start,
-            sends: self.sends(alloc)?,
-            receives: self.receives(alloc)?,
-            stop: self.stop,
-        })?;
-        Ok(Scripted::new(alloc, parts))
-    }
+// The first life of session `a`, which takes each line that it is sent.
+fn life(alloc: Global, receives: Queue<Got>, stop: bool) -> Option<Part> {
+    Some(Part {
+        name: Name::new(b"a")?,
+        life: 1,
+        start: true,
+        sends: Queue::new(alloc),
+        receives,
+        stop,
+    })
+}
+
+fn only(alloc: Global, part: Part) -> Option<Scripted> {
+    let mut parts = Vec::new(alloc);
+    parts.push(part).ok()?;
+    Some(Scripted::new(alloc, parts))
+}
+
+/// Children without a life.
+pub fn none(alloc: Global) -> Scripted {
+    Scripted::new(alloc, Vec::new(alloc))
+}
+
+/// A child that gives its banner, the answer `A` to its line, and its end.
+pub fn answering(alloc: Global) -> Option<Scripted> {
+    only(alloc, life(alloc, answers(alloc)?, true)?)
+}
+
+/// One of which nothing can be read, and which can't be stopped.
+pub fn unreadable(alloc: Global) -> Option<Scripted> {
+    only(alloc, life(alloc, fault(alloc)?, false)?)
 }

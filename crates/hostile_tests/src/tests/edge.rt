@@ -1,131 +1,111 @@
-//! Commands and waits while no memory is left.
-use super::children::{Given, Row};
-use super::desk::{are, opened, printed, told};
-use child_edge::{Children, EdgeCause, EdgeFault, Scripted, serve, stop_all, wait};
+//! Commands and waits while no memory is left, and children of which nothing can be read.
+use super::children::{answering, unreadable};
+use super::desk::{is_told, opened, tells};
+use child_edge::{Scripted, stop_all};
 use disk_model::MemoryDisk;
-use session_engine::{Command, Event, Host};
-use sheet_text::{ScriptLine, read_line};
+use session_engine::Host;
 use std::alloc::Global;
-use std::test::Fail;
 use tests_desk::exhausted;
 use worksheet::Name;
 
-fn answering(alloc: Global) -> Result<Scripted, Fail> {
-    let row = Row {
-        start: true,
-        send: true,
-        stop: true,
-        first: b"\x02verbatim:\x05",
-        second: b"\x02verbatim:A\x05",
-        last: Given::End,
-    };
-    row.children(alloc)
-}
-
-// The cause of a fault before which nothing was told.
-fn cause_of(fault: &EdgeFault) -> Option<EdgeCause> {
-    if fault.replies.is_empty() {
-        Some(fault.cause)
-    } else {
-        None
+// Whether a script tells this over a child that answers one line.
+fn is_answered(alloc: Global, script: &str, want: &str) -> bool {
+    match answering(alloc) {
+        Some(mut children) => is_told(alloc, &mut children, script, want),
+        None => false,
     }
 }
 
-// Why a command that is served while no memory is left breaks off, where nothing was told.
-fn serve_without<C: Children>(
-    alloc: Global,
-    host: &mut Host<MemoryDisk>,
-    children: &mut C,
-    command: Command,
-) -> Result<Option<EdgeCause>, Fail> {
-    let _held = exhausted(alloc)?;
-    match serve(alloc, host, children, command) {
-        Ok(_) => Ok(None),
-        Err(fault) => Ok(cause_of(&fault)),
-    }
-}
-
-// The same of a wait.
-fn wait_without<C: Children>(
-    alloc: Global,
-    host: &mut Host<MemoryDisk>,
-    children: &mut C,
-) -> Result<Option<EdgeCause>, Fail> {
-    let _held = exhausted(alloc)?;
-    match wait(alloc, host, children) {
-        Ok(_) => Ok(None),
-        Err(fault) => Ok(cause_of(&fault)),
-    }
-}
-
-// A command that isn't served: no block is left behind that replies had.
-fn step(alloc: Global, host: &mut Host<MemoryDisk>, line: &str) -> Result<(), Fail> {
-    let Ok(ScriptLine::Command(command)) = read_line(alloc, line.as_bytes()) else {
-        return Err("no command".into());
-    };
-    match host.step(Event::Command(command)) {
-        Ok(_) => Ok(()),
-        Err(_) => Err("a fault".into()),
+// The same over one of which nothing can be read.
+fn is_lost(alloc: Global, script: &str, want: &str) -> bool {
+    match unreadable(alloc) {
+        Some(mut children) => is_told(alloc, &mut children, script, want),
+        None => false,
     }
 }
 
 #[test]
-fn a_command_that_is_served_without_memory(rt: HostRuntime) -> Result<(), Fail> {
-    let alloc = rt.alloc();
-    let mut children = answering(alloc)?;
-    let mut host = opened(alloc)?;
-    step(alloc, &mut host, "session a plain p")?;
-    step(alloc, &mut host, "new 0 a x")?;
-    let cause = serve_without(alloc, &mut host, &mut children, Command::Eval { id: 1 })?;
-    assert!(rt; cause == Some(EdgeCause::OutOfMemory));
-    let text = told(alloc, &mut host, &mut children, "eval 1\nwait")?;
-    assert!(rt; are(&text, "asked\nwait\nbanner a\nanswered 1\n"));
-    Ok(())
+fn a_read_that_fails(rt: HostRuntime) {
+    let script = "session a plain p\nnew 0 a x\neval 1\nwait\nprint";
+    let want = "ok\nfield 1\nasked\nwait\nended a ReadFault lost 1\n#1 a\n> x\n? ReadFault\n";
+    assert!(rt; is_lost(rt.alloc(), script, want));
+}
+
+// The command is not done, and nothing is told of it. It is done once there is memory.
+#[test]
+fn a_command_that_is_served_without_memory(rt: HostRuntime) {
+    let script = ".session a plain p\n.new 0 a x\n!eval 1\neval 1\nwait";
+    let want = "ok\nfield 1\nno memory for the edge\nasked\nwait\nbanner a\nanswered 1\n";
+    assert!(rt; is_answered(rt.alloc(), script, want));
 }
 
 // No byte is lost: the wait that follows has the banner and the answer.
 #[test]
-fn a_wait_without_memory_loses_nothing(rt: HostRuntime) -> Result<(), Fail> {
-    let alloc = rt.alloc();
-    let mut children = answering(alloc)?;
-    let mut host = opened(alloc)?;
-    told(
-        alloc,
-        &mut host,
-        &mut children,
-        "session a plain p\nnew 0 a x\neval 1",
-    )?;
-    let cause = wait_without(alloc, &mut host, &mut children)?;
-    assert!(rt; cause == Some(EdgeCause::OutOfMemory));
-    let text = told(alloc, &mut host, &mut children, "wait")?;
-    assert!(rt; are(&text, "wait\nbanner a\nanswered 1\n"));
-    assert!(rt; are(&printed(alloc, &host)?, "#1 a\n> x\nA\n"));
-    Ok(())
+fn a_wait_without_memory_loses_nothing(rt: HostRuntime) {
+    let script = "session a plain p\nnew 0 a x\neval 1\n!wait\nwait\nprint";
+    let want =
+        "ok\nfield 1\nasked\nwait\nno memory for the edge\nwait\nbanner a\nanswered 1\n#1 a\n> x\nA\n";
+    assert!(rt; is_answered(rt.alloc(), script, want));
 }
 
-// What a host shows, and the stop of all lives, take no memory.
-#[test]
-fn looks_and_the_stop_of_all_take_no_memory(rt: HostRuntime) -> Result<(), Fail> {
-    let alloc = rt.alloc();
-    let mut children = answering(alloc)?;
-    let mut host = opened(alloc)?;
-    told(
-        alloc,
-        &mut host,
-        &mut children,
-        "session a plain p\nnew 0 a x\neval 1",
-    )?;
-    let Some(name) = Name::new(b"a") else {
-        return Err("a name".into());
-    };
-    let held = exhausted(alloc)?;
-    let waits = host
-        .life(name)
-        .is_some_and(|life| life.number == 1 && life.waiting == 1);
+// Whether the first life of session `a` waits with one line.
+fn waits(host: &Host<MemoryDisk>, name: Name) -> bool {
+    match host.life(name) {
+        Some(life) => life.number == 1 && life.waiting == 1,
+        None => false,
+    }
+}
+
+fn shows(host: &Host<MemoryDisk>, name: Name) -> bool {
     let has_prompt = host.prompt(name) == Some(b"> ".as_slice());
     let has_field = host.sheet().field(1).is_some();
-    stop_all(&host, &mut children);
-    drop(held);
-    assert!(rt; waits && has_prompt && has_field);
-    Ok(())
+    has_prompt && has_field
+}
+
+// What a host shows, and the stop of all lives.
+fn looks(host: &Host<MemoryDisk>, children: &mut Scripted, name: Name) -> bool {
+    let waits = waits(host, name);
+    let shows = shows(host, name);
+    stop_all(host, children);
+    waits && shows
+}
+
+fn looks_without(
+    alloc: Global,
+    host: &Host<MemoryDisk>,
+    children: &mut Scripted,
+    name: Name,
+) -> bool {
+    match exhausted(alloc) {
+        Ok(_held) => looks(host, children, name),
+        Err(_) => false,
+    }
+}
+
+fn asks_and_looks(alloc: Global, host: &mut Host<MemoryDisk>, children: &mut Scripted) -> bool {
+    let script = "session a plain p\nnew 0 a x\neval 1";
+    let is_asked = tells(alloc, host, children, script, "ok\nfield 1\nasked\n");
+    match Name::new(b"a") {
+        Some(name) => is_asked && looks_without(alloc, host, children, name),
+        None => false,
+    }
+}
+
+fn looks_over(alloc: Global, children: &mut Scripted) -> bool {
+    match opened(alloc) {
+        Some(mut host) => asks_and_looks(alloc, &mut host, children),
+        None => false,
+    }
+}
+
+fn looks_take_no_memory(alloc: Global) -> bool {
+    match answering(alloc) {
+        Some(mut children) => looks_over(alloc, &mut children),
+        None => false,
+    }
+}
+
+#[test]
+fn looks_and_the_stop_of_all_take_no_memory(rt: HostRuntime) {
+    assert!(rt; looks_take_no_memory(rt.alloc()));
 }

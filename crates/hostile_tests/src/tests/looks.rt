@@ -4,80 +4,96 @@ use disk_model::{Area, Disk, FuseDisk, FuseMode, MemoryDisk};
 use meta_format::{Reader, read_block};
 use plugin_core::{Item, Life};
 use std::alloc::Global;
-use std::test::Fail;
 use tests_desk::exhausted;
 use worksheet::{Name, Op, Refusal, Sheet};
 
-// What a new reader says, and one that has read half a block.
-fn readers_say(alloc: Global, half: &Reader) -> Result<bool, Fail> {
-    let _held = exhausted(alloc)?;
-    let reader = Reader::new(alloc);
-    Ok(
-        reader.offset() == 0
-            && reader.pending().is_none()
-            && half.offset() == 7
-            && half.pending() == Some(1),
-    )
+// Whether a reader has read so many bytes, and its open block begins there.
+fn says(reader: &Reader, offset: u64, pending: Option<u64>) -> bool {
+    reader.offset() == offset && reader.pending() == pending
+}
+
+fn says_without(alloc: Global, half: &Reader) -> bool {
+    match exhausted(alloc) {
+        Ok(_held) => says(half, 7, Some(1)) && says(&Reader::new(alloc), 0, None),
+        Err(_) => false,
+    }
+}
+
+fn half_read(alloc: Global) -> Option<Reader> {
+    let mut half = Reader::new(alloc);
+    let is_read = half.feed(b"x\x02verb:").is_ok();
+    if is_read { Some(half) } else { None }
 }
 
 #[test]
-fn readers_say_where_they_are(rt: HostRuntime) -> Result<(), Fail> {
-    let alloc = rt.alloc();
-    let mut half = Reader::new(alloc);
-    if half.feed(b"x\x02verb:".as_slice()).is_err() {
-        return Err("a fault".into());
-    }
-    assert!(rt; readers_say(alloc, &half)?);
-    Ok(())
+fn readers_say_where_they_are(rt: HostRuntime) {
+    let says = match half_read(rt.alloc()) {
+        Some(half) => says_without(rt.alloc(), &half),
+        None => false,
+    };
+    assert!(rt; says);
 }
 
-fn session(alloc: Global) -> Result<Op, Fail> {
+fn words(alloc: Global) -> Option<Vec<Octets>> {
     let mut words = Vec::new(alloc);
-    words.push(Octets::from_slice(alloc, b"p".as_slice())?)?;
-    Ok(Op::Session {
-        name: Octets::from_slice(alloc, b"a".as_slice())?,
+    words.push(Octets::from_slice(alloc, b"p").ok()?).ok()?;
+    Some(words)
+}
+
+fn session(alloc: Global) -> Option<Op> {
+    Some(Op::Session {
+        name: Octets::from_slice(alloc, b"a").ok()?,
         tab: false,
-        words: Sequence::from_vec(words),
+        words: Sequence::from_vec(words(alloc)?),
     })
 }
 
+fn shows_no_field(sheet: &Sheet) -> bool {
+    sheet.fields().next().is_none() && sheet.field(1).is_none() && sheet.next_id() == 1
+}
+
+fn shows_no_session(sheet: &Sheet) -> bool {
+    sheet.sessions().next().is_none() && sheet.session(b"a").is_none()
+}
+
+fn checks(sheet: &Sheet, session: &Op, clear: &Op) -> bool {
+    sheet.check(session).is_ok() && sheet.check(clear) == Err(Refusal::NoField)
+}
+
+fn has_room(sheet: &Sheet, session: &Op, clear: &Op) -> bool {
+    !sheet.has_room(session) && sheet.has_room(clear)
+}
+
 // What an empty worksheet shows, and which ops it takes and has room for.
-fn sheet_shows(alloc: Global, sheet: &Sheet, op: &Op) -> Result<bool, Fail> {
-    let _held = exhausted(alloc)?;
-    let empty = Sheet::new(alloc);
+fn sheet_shows(sheet: &Sheet, session: &Op) -> bool {
     let clear = Op::Clear { id: 1 };
-    Ok(
-        empty.next_id() == 1
-            && sheet.fields().next().is_none()
-            && sheet.field(1).is_none()
-            && sheet.sessions().next().is_none()
-            && sheet.session(b"a".as_slice()).is_none()
-            && sheet.check(op).is_ok()
-            && sheet.check(&clear) == Err(Refusal::NoField)
-            && !sheet.has_room(op)
-            && sheet.has_room(&clear),
-    )
+    let shows = shows_no_field(sheet) && shows_no_session(sheet);
+    shows && checks(sheet, session, &clear) && has_room(sheet, session, &clear)
 }
 
-#[test]
-fn worksheets_show_and_check(rt: HostRuntime) -> Result<(), Fail> {
-    let alloc = rt.alloc();
-    let sheet = Sheet::new(alloc);
-    let op = session(alloc)?;
-    assert!(rt; sheet_shows(alloc, &sheet, &op)?);
-    Ok(())
-}
-
-fn block(alloc: Global) -> Result<Block, Fail> {
-    match read_block(alloc, b"\x02a:x\x02b#\x05\x05".as_slice()) {
-        Ok(block) => Ok(block),
-        Err(_) => Err("no block".into()),
+fn sheet_shows_without(alloc: Global, session: &Op) -> bool {
+    match exhausted(alloc) {
+        Ok(_held) => sheet_shows(&Sheet::new(alloc), session),
+        Err(_) => false,
     }
 }
 
-fn bare_node(alloc: Global) -> Result<Node, Fail> {
-    let name = TagName::from_slice(alloc, b"a".as_slice())?;
-    Ok(Node {
+#[test]
+fn worksheets_show_and_check(rt: HostRuntime) {
+    let shows = match session(rt.alloc()) {
+        Some(session) => sheet_shows_without(rt.alloc(), &session),
+        None => false,
+    };
+    assert!(rt; shows);
+}
+
+fn block(alloc: Global) -> Option<Block> {
+    read_block(alloc, b"\x02a:x\x02b#\x05\x05").ok()
+}
+
+fn bare_node(alloc: Global) -> Option<Node> {
+    let name = TagName::from_slice(alloc, b"a").ok()?;
+    Some(Node {
         tag: Tag {
             channel: false,
             name,
@@ -86,58 +102,99 @@ fn bare_node(alloc: Global) -> Result<Node, Fail> {
     })
 }
 
-#[test]
-fn blocks_are_made_and_compared(rt: HostRuntime) -> Result<(), Fail> {
-    let alloc = rt.alloc();
-    let (one, other) = (block(alloc)?, block(alloc)?);
+fn are_equal(one: &Block, other: &Block) -> bool {
+    one == other && one.node().items.len() == 2
+}
+
+fn is_made_apart(node: Node, other: &Block) -> bool {
+    match Block::new(node) {
+        Ok(made) => made != *other,
+        Err(_) => false,
+    }
+}
+
+fn compare_without(alloc: Global, node: Node, one: &Block, other: &Block) -> bool {
+    match exhausted(alloc) {
+        Ok(_held) => are_equal(one, other) && is_made_apart(node, one),
+        Err(_) => false,
+    }
+}
+
+fn compares(alloc: Global) -> Option<bool> {
     let node = bare_node(alloc)?;
-    let held = exhausted(alloc)?;
-    let made = Block::new(node);
-    let are_equal = one == other && one.node().items.len() == 2;
-    let is_apart = made.is_ok_and(|bare| bare != one);
-    drop(held);
-    assert!(rt; are_equal && is_apart);
-    Ok(())
+    let one = block(alloc)?;
+    let other = block(alloc)?;
+    Some(compare_without(alloc, node, &one, &other))
+}
+
+#[test]
+fn blocks_are_made_and_compared(rt: HostRuntime) {
+    assert!(rt; compares(rt.alloc()) == Some(true));
 }
 
 // What a life with one line says.
-fn life_says(alloc: Global, life: &Life) -> Result<bool, Fail> {
-    if life.over() {
-        return Ok(false);
+fn says_what_waits(life: &Life) -> bool {
+    let waits = life.waiting() == 1 && life.waits_for(1) && !life.waits_for(2);
+    let is_first = life.first_line() == Some(1) && life.number() == 7;
+    waits && is_first
+}
+
+fn shows_its_prompt(life: &Life) -> bool {
+    life.prompt() == b"> ".as_slice()
+}
+
+fn life_says_without(alloc: Global, life: &Life) -> bool {
+    match exhausted(alloc) {
+        Ok(_held) => !life.over() && says_what_waits(life) && shows_its_prompt(life),
+        Err(_) => false,
     }
-    let _held = exhausted(alloc)?;
-    Ok(
-        life.waiting() == 1
-            && life.waits_for(1)
-            && !life.waits_for(2)
-            && life.prompt() == b"> ".as_slice()
-            && life.number() == 7,
-    )
+}
+
+fn life(alloc: Global) -> Option<Life> {
+    let text = Octets::from_slice(alloc, b"x").ok()?;
+    Life::begin(alloc, 7, Item::Line { id: 1, text }).ok()
 }
 
 #[test]
-fn lives_say_what_waits(rt: HostRuntime) -> Result<(), Fail> {
-    let alloc = rt.alloc();
-    let text = Octets::from_slice(alloc, b"x".as_slice())?;
-    let Ok(life) = Life::begin(alloc, 7, Item::Line { id: 1, text }) else {
-        return Err("no life".into());
+fn lives_say_what_waits(rt: HostRuntime) {
+    let says = match life(rt.alloc()) {
+        Some(life) => life_says_without(rt.alloc(), &life),
+        None => false,
     };
-    assert!(rt; life_says(alloc, &life)?);
-    Ok(())
+    assert!(rt; says);
 }
 
-// A fuse that fails its first call passes nothing on, and takes no memory.
-#[test]
-fn fuses_and_names(rt: HostRuntime) -> Result<(), Fail> {
-    let alloc = rt.alloc();
-    let disk = MemoryDisk::new(alloc, 100);
-    let held = exhausted(alloc)?;
+// A fuse that fails its first call passes nothing on.
+fn fails(fused: &mut FuseDisk<MemoryDisk>) -> bool {
+    let fails = fused.len(Area::First).is_err();
+    let room = fused.room();
+    fails && room == 100
+}
+
+fn is_new(disk: &MemoryDisk) -> bool {
+    disk.calls() == 0 && disk.content(Area::Second).is_empty()
+}
+
+fn fuse_fails(disk: MemoryDisk) -> bool {
     let mut fused = FuseDisk::new(disk, 1, FuseMode::From);
-    let fails = fused.len(Area::First).is_err() && fused.room() == 100;
-    let inner = fused.into_inner();
-    let is_new = inner.calls() == 0 && inner.content(Area::Second).is_empty();
-    let has_name = Name::new(b"a").is_some() && Name::new(b"").is_none();
-    drop(held);
-    assert!(rt; fails && is_new && has_name);
-    Ok(())
+    let fails = fails(&mut fused);
+    let is_new = is_new(&fused.into_inner());
+    fails && is_new
+}
+
+fn is_named() -> bool {
+    Name::new(b"a").is_some() && Name::new(b"").is_none()
+}
+
+fn fails_without(alloc: Global, disk: MemoryDisk) -> bool {
+    match exhausted(alloc) {
+        Ok(_held) => fuse_fails(disk) && is_named(),
+        Err(_) => false,
+    }
+}
+
+#[test]
+fn fuses_and_names(rt: HostRuntime) {
+    let alloc = rt.alloc();
+    assert!(rt; fails_without(alloc, MemoryDisk::new(alloc, 100)));
 }

@@ -1,212 +1,264 @@
 //! Events of a host while no memory is left.
-use super::desk::{add_line, are, open, opened, printed};
+use super::children::none;
+use super::desk::{add_step_without, are, command, empty_text, keeps, opened, tells};
 use bytes::Bytes;
-use child_edge::Scripted;
 use disk_model::MemoryDisk;
-use session_engine::{ChildEvent, Event, Host, HostFault};
-use sheet_text::{ScriptLine, read_line, reply_text};
+use journal::OpenCause;
+use session_engine::{ChildEvent, Event, Host};
 use std::alloc::Global;
-use std::io::Write;
-use std::test::Fail;
 use tests_desk::exhausted;
 use worksheet::Name;
 
-fn line(alloc: Global, text: &str) -> Result<Event, Fail> {
-    match read_line(alloc, text.as_bytes()) {
-        Ok(ScriptLine::Command(command)) => Ok(Event::Command(command)),
-        _ => Err("no command".into()),
+// Two items wait in the first life of session `a`: a request and a line, or the lines of fields 1 and 2.
+#[derive(Clone, Copy)]
+enum Waiting {
+    Request,
+    Lines,
+}
+
+fn script_of(waiting: Waiting) -> &'static str {
+    match waiting {
+        Waiting::Request => ".session a tab p\n.new 0 a x\n.complete 1 1\n.eval 1",
+        Waiting::Lines => {
+            ".session a plain p\n.new 0 a x\n.new 1 a y\n.new 2 a z\n.eval 1\n.eval 2"
+        }
     }
 }
 
-fn child(life: u32, event: ChildEvent) -> Result<Event, Fail> {
-    match Name::new(b"a") {
-        Some(name) => Ok(Event::Child { name, life, event }),
-        None => Err("no name".into()),
+fn told_of(waiting: Waiting) -> &'static str {
+    match waiting {
+        Waiting::Request => "ok\nfield 1\nasked\nasked\n",
+        Waiting::Lines => "ok\nfield 1\nfield 2\nfield 3\nasked\nasked\n",
     }
 }
 
-fn piece(alloc: Global, life: u32) -> Result<Event, Fail> {
-    let bytes = Bytes::copy_from_slice(alloc, b"\x02verbatim:A\x05".as_slice())?;
-    child(life, ChildEvent::Piece(bytes))
-}
-
-fn take(host: &mut Host<MemoryDisk>, event: Event) -> Result<(), Fail> {
-    match host.step(event) {
-        Ok(_) => Ok(()),
-        Err(_) => Err("a fault".into()),
-    }
-}
-
-// A host whose fields 1 and 2 wait in the first life of session `a`, and whose field 3 doesn't.
-fn asked_twice(alloc: Global) -> Result<Host<MemoryDisk>, Fail> {
-    let mut host = opened(alloc)?;
-    let script = "session a plain p\nnew 0 a x\nnew 1 a y\nnew 2 a z\neval 1\neval 2";
-    for text in script.lines() {
-        take(&mut host, line(alloc, text)?)?;
-    }
-    Ok(host)
-}
-
-fn add_told(host: &mut Host<MemoryDisk>, event: Event, text: &mut Vec<u8>) -> bool {
-    match host.step(event) {
-        Ok(outcome) => reply_text(&outcome.reply, text).is_ok(),
-        Err(HostFault::OutOfMemory) => text.write_all(b"no memory\n".as_slice()).is_ok(),
-        Err(HostFault::Closed) => text.write_all(b"closed\n".as_slice()).is_ok(),
-        Err(_) => false,
-    }
-}
-
-// What a host tells of an event while no memory is left. There is room for the text.
-fn told_without(alloc: Global, host: &mut Host<MemoryDisk>, event: Event) -> Result<Vec<u8>, Fail> {
-    let mut text = Vec::with_capacity(alloc, 200)?;
-    let held = exhausted(alloc)?;
-    let is_told = add_told(host, event, &mut text);
-    drop(held);
-    if is_told {
-        Ok(text)
-    } else {
-        Err("another fault".into())
-    }
-}
-
-// Ends of a life and stale events, and what is told of them where a life ends with these lost.
-fn ending(alloc: Global, number: u32) -> Result<(Event, &'static str), Fail> {
-    match number {
-        0 => Ok((line(alloc, "stop a")?, "ended a Stopped lost 2\n")),
-        1 => Ok((
-            child(1, ChildEvent::StartRefused)?,
-            "ended a StartRefused lost 2\n",
-        )),
-        2 => Ok((child(1, ChildEvent::End)?, "ended a Ended lost 2\n")),
-        3 => Ok((
-            child(1, ChildEvent::ReadFault)?,
-            "ended a ReadFault lost 2\n",
-        )),
-        4 => Ok((
-            child(1, ChildEvent::SendFault)?,
-            "ended a SendFault lost 2\n",
-        )),
-        5 => Ok((child(1, ChildEvent::Stalled)?, "ended a Stalled lost 2\n")),
-        6 => Ok((child(1, ChildEvent::StopFault)?, "")),
-        7 => Ok((child(2, ChildEvent::End)?, "")),
-        8 => Ok((piece(alloc, 2)?, "")),
-        _ => Ok((line(alloc, "stop b")?, "refused 1 NoSession\n")),
-    }
-}
-
-// A host with a request and a line that wait in the first life of session `a`.
-fn asked_request(alloc: Global) -> Result<Host<MemoryDisk>, Fail> {
-    let mut host = opened(alloc)?;
-    let script = "session a tab p\nnew 0 a x\ncomplete 1 1\neval 1";
-    for text in script.lines() {
-        take(&mut host, line(alloc, text)?)?;
-    }
-    Ok(host)
-}
-
-// Where a request waits first, an end gives no op.
-#[test]
-fn ends_take_no_memory(rt: HostRuntime) -> Result<(), Fail> {
-    let alloc = rt.alloc();
-    for number in 0..10u32 {
-        let mut host = asked_request(alloc)?;
-        let (event, want) = ending(alloc, number)?;
-        let text = told_without(alloc, &mut host, event)?;
-        assert!(rt; are(&text, want), "event {number}");
-    }
-    Ok(())
-}
-
-// Where a line waits first, its field keeps the reason, and that takes memory.
-fn wants(number: u32) -> Option<&'static str> {
-    match number {
-        0 => Some("refused 17 OutOfMemory\n"),
-        1..=5 => Some("no memory\n"),
-        _ => None,
-    }
-}
-
-#[test]
-fn reasons_take_memory(rt: HostRuntime) -> Result<(), Fail> {
-    let alloc = rt.alloc();
-    for number in 0..10u32 {
-        let mut host = asked_twice(alloc)?;
-        let (event, told) = ending(alloc, number)?;
-        let want = wants(number).unwrap_or(told);
-        let text = told_without(alloc, &mut host, event)?;
-        assert!(rt; are(&text, want), "event {number}");
-    }
-    Ok(())
-}
-
-fn command(number: u32) -> &'static str {
-    match number {
-        0 => "session b plain p",
-        1 => "new 3 a v",
-        2 => "set 3 w",
-        3 => "move 3 0",
-        4 => "clear 3",
-        5 => "eval 3",
-        _ => "remove 3",
-    }
-}
-
-const THREE: &str = "#1 a\n> x\n?\n#2 a\n> y\n?\n#3 a\n> z\n?\n";
-
-// Whether a command is refused while no memory is left, changes nothing, and is done once there is some.
-fn is_refused_and_then_done(alloc: Global, text: &str) -> Result<bool, Fail> {
-    let mut host = asked_twice(alloc)?;
-    let event = line(alloc, text)?;
-    let refused = told_without(alloc, &mut host, event)?;
-    let before = printed(alloc, &host)?;
-    let mut done = Vec::new(alloc);
-    let mut children = Scripted::new(alloc, Vec::new(alloc));
-    add_line(alloc, &mut host, &mut children, text, &mut done)?;
-    Ok(
-        are(&refused, "refused 17 OutOfMemory\n")
-            && are(&before, THREE)
-            && !done.as_slice().starts_with(b"refused".as_slice()),
+// Whether these wait now.
+fn is_ready(alloc: Global, host: &mut Host<MemoryDisk>, waiting: Waiting) -> bool {
+    let mut children = none(alloc);
+    tells(
+        alloc,
+        host,
+        &mut children,
+        script_of(waiting),
+        told_of(waiting),
     )
 }
 
+// A host where these wait.
+fn ready(alloc: Global, waiting: Waiting) -> Option<Host<MemoryDisk>> {
+    let mut host = opened(alloc)?;
+    if is_ready(alloc, &mut host, waiting) {
+        Some(host)
+    } else {
+        None
+    }
+}
+
+fn child(life: u32, event: ChildEvent) -> Option<Event> {
+    let name = Name::new(b"a")?;
+    Some(Event::Child { name, life, event })
+}
+
+fn piece(alloc: Global, life: u32) -> Option<Event> {
+    let bytes = Bytes::copy_from_slice(alloc, b"\x02verbatim:A\x05").ok()?;
+    child(life, ChildEvent::Piece(bytes))
+}
+
+// Ends of a life, stale events, and a piece.
+fn event(alloc: Global, number: u32) -> Option<Event> {
+    match number {
+        0 => command(alloc, b"stop a"),
+        1 => child(1, ChildEvent::StartRefused),
+        2 => child(1, ChildEvent::End),
+        3 => child(1, ChildEvent::ReadFault),
+        4 => child(1, ChildEvent::SendFault),
+        5 => child(1, ChildEvent::Stalled),
+        6 => child(1, ChildEvent::StopFault),
+        7 => child(2, ChildEvent::End),
+        8 => piece(alloc, 2),
+        9 => command(alloc, b"stop b"),
+        _ => piece(alloc, 1),
+    }
+}
+
+// Whether this is told of an event while no memory is left.
+fn tells_without(alloc: Global, host: &mut Host<MemoryDisk>, event: Event, want: &str) -> bool {
+    match empty_text(alloc) {
+        Some(mut text) => {
+            add_step_without(alloc, host, event, &mut text);
+            are(&text, want)
+        }
+        None => false,
+    }
+}
+
+fn tells_event(alloc: Global, host: &mut Host<MemoryDisk>, number: u32, want: &str) -> bool {
+    match event(alloc, number) {
+        Some(event) => tells_without(alloc, host, event, want),
+        None => false,
+    }
+}
+
+fn ends_so(alloc: Global, waiting: Waiting, number: u32, want: &str) -> bool {
+    match ready(alloc, waiting) {
+        Some(mut host) => tells_event(alloc, &mut host, number, want),
+        None => false,
+    }
+}
+
+// What is told of the first nine events where a request waits first: an end gives no op.
+fn told(number: u32) -> &'static str {
+    match number {
+        0 => "ended a Stopped lost 2\n",
+        1 => "ended a StartRefused lost 2\n",
+        2 => "ended a Ended lost 2\n",
+        3 => "ended a ReadFault lost 2\n",
+        4 => "ended a SendFault lost 2\n",
+        5 => "ended a Stalled lost 2\n",
+        9 => "refused 1 NoSession\n",
+        _ => "",
+    }
+}
+
 #[test]
-fn commands_are_refused_without_memory(rt: HostRuntime) -> Result<(), Fail> {
-    let alloc = rt.alloc();
+fn ends_take_no_memory(rt: HostRuntime) {
+    for number in 0..10u32 {
+        assert!(rt;
+            ends_so(rt.alloc(), Waiting::Request, number, told(number)),
+            "event {number}"
+        );
+    }
+}
+
+// Where a line waits first, its field keeps the reason, and that takes memory.
+fn wants(number: u32) -> &'static str {
+    match number {
+        0 => "refused 17 OutOfMemory\n",
+        1..=5 => "no memory\n",
+        _ => told(number),
+    }
+}
+
+#[test]
+fn reasons_take_memory(rt: HostRuntime) {
+    for number in 0..10u32 {
+        assert!(rt;
+            ends_so(rt.alloc(), Waiting::Lines, number, wants(number)),
+            "event {number}"
+        );
+    }
+}
+
+// A command while no memory is left, the worksheet then, and the command once there is some.
+fn refused_and_done(number: u32) -> &'static str {
+    match number {
+        0 => "-session b plain p\nprint\nsession b plain p",
+        1 => "-new 3 a v\nprint\nnew 3 a v",
+        2 => "-set 3 w\nprint\nset 3 w",
+        3 => "-move 3 0\nprint\nmove 3 0",
+        4 => "-clear 3\nprint\nclear 3",
+        5 => "-eval 3\nprint\neval 3",
+        _ => "-remove 3\nprint\nremove 3",
+    }
+}
+
+// It is refused, and changes nothing.
+fn told_of_both(number: u32) -> &'static str {
+    match number {
+        1 => { "refused 17 OutOfMemory\n#1 a\n> x\n?\n#2 a\n> y\n?\n#3 a\n> z\n?\nfield 4\n" }
+        5 => { "refused 17 OutOfMemory\n#1 a\n> x\n?\n#2 a\n> y\n?\n#3 a\n> z\n?\nasked\n" }
+        _ => "refused 17 OutOfMemory\n#1 a\n> x\n?\n#2 a\n> y\n?\n#3 a\n> z\n?\nok\n",
+    }
+}
+
+fn is_done_later(alloc: Global, host: &mut Host<MemoryDisk>, number: u32) -> bool {
+    let mut children = none(alloc);
+    tells(
+        alloc,
+        host,
+        &mut children,
+        refused_and_done(number),
+        told_of_both(number),
+    )
+}
+
+fn is_refused_and_then_done(alloc: Global, number: u32) -> bool {
+    match ready(alloc, Waiting::Lines) {
+        Some(mut host) => is_done_later(alloc, &mut host, number),
+        None => false,
+    }
+}
+
+#[test]
+fn commands_are_refused_without_memory(rt: HostRuntime) {
     for number in 0..7u32 {
         assert!(rt;
-            is_refused_and_then_done(alloc, command(number))?,
+            is_refused_and_then_done(rt.alloc(), number),
             "command {number}"
         );
     }
-    Ok(())
+}
+
+// What those three fields look like.
+const THREE: &str = "#1 a\n> x\n?\n#2 a\n> y\n?\n#3 a\n> z\n?\n";
+
+fn is_closed_by_a_piece(alloc: Global, host: &mut Host<MemoryDisk>) -> bool {
+    let is_fault = tells_event(alloc, host, 10, "no memory\n");
+    let mut children = none(alloc);
+    let is_closed = tells(alloc, host, &mut children, "-clear 3", "closed\n");
+    is_fault && is_closed
+}
+
+fn is_closed_and_whole(alloc: Global, host: Host<MemoryDisk>) -> bool {
+    let mut host = host;
+    let is_closed = is_closed_by_a_piece(alloc, &mut host);
+    is_closed && keeps(alloc, host.close(), THREE)
 }
 
 // A piece of a life that goes on is a fault then: the host is closed, and its disk has what was told.
 #[test]
-fn a_piece_without_memory_closes_the_host(rt: HostRuntime) -> Result<(), Fail> {
-    let alloc = rt.alloc();
-    let mut host = asked_twice(alloc)?;
-    let event = piece(alloc, 1)?;
-    let text = told_without(alloc, &mut host, event)?;
-    assert!(rt; are(&text, "no memory\n"));
-    let event = line(alloc, "clear 3")?;
-    let text = told_without(alloc, &mut host, event)?;
-    assert!(rt; are(&text, "closed\n"));
-    assert!(rt; are(&printed(alloc, &open(alloc, host.close())?)?, THREE));
-    Ok(())
+fn a_piece_without_memory_closes_the_host(rt: HostRuntime) {
+    let is_whole = match ready(rt.alloc(), Waiting::Lines) {
+        Some(host) => is_closed_and_whole(rt.alloc(), host),
+        None => false,
+    };
+    assert!(rt; is_whole);
 }
 
-// Whether an opening without memory tells so, and the disk opens once there is some.
+// The disk of an opening that is refused: a disk in memory fails where its record of calls can't grow.
+fn refused(alloc: Global, disk: MemoryDisk) -> Option<MemoryDisk> {
+    match Host::open(alloc, disk) {
+        Ok(_) => None,
+        Err(fault) => {
+            if fault.cause == OpenCause::Disk {
+                Some(fault.disk)
+            } else {
+                None
+            }
+        }
+    }
+}
+
+fn refused_without(alloc: Global, disk: MemoryDisk) -> Option<MemoryDisk> {
+    match exhausted(alloc) {
+        Ok(_held) => refused(alloc, disk),
+        Err(_) => None,
+    }
+}
+
+fn opens_later(alloc: Global, disk: MemoryDisk) -> bool {
+    match refused_without(alloc, disk) {
+        Some(disk) => keeps(alloc, disk, THREE),
+        None => false,
+    }
+}
+
+// It is refused, and the disk opens once there is memory.
 #[test]
-fn an_opening_without_memory(rt: HostRuntime) -> Result<(), Fail> {
-    let alloc = rt.alloc();
-    let disk = asked_twice(alloc)?.close();
-    let held = exhausted(alloc)?;
-    let answer = Host::open(alloc, disk);
-    drop(held);
-    let Err(fault) = answer else {
-        return Err("opened".into());
+fn an_opening_without_memory(rt: HostRuntime) {
+    let opens = match ready(rt.alloc(), Waiting::Lines) {
+        Some(host) => opens_later(rt.alloc(), host.close()),
+        None => false,
     };
-    assert!(rt; are(&printed(alloc, &open(alloc, fault.disk)?)?, THREE));
-    Ok(())
+    assert!(rt; opens);
 }

@@ -1,92 +1,100 @@
 //! What comes of children that no life goes on for.
-use super::desk::{add_line, are, opened, printed};
+use super::children::none;
+use super::desk::{opened, tells};
 use bytes::Bytes;
-use child_edge::Scripted;
 use disk_model::MemoryDisk;
-use session_engine::{ChildEvent, Command, Event, Host, Reply};
+use session_engine::{ChildEvent, Event, Host, Outcome, Reply};
 use std::alloc::Global;
-use std::test::Fail;
 use worksheet::Name;
 
-const ANSWER: &[u8] = b"\x02verbatim:A\x05";
-
-fn child(name: &[u8], life: u32, event: ChildEvent) -> Result<Event, Fail> {
-    match Name::new(name) {
-        Some(name) => Ok(Event::Child { name, life, event }),
-        None => Err("no name".into()),
-    }
+fn child(name: &[u8], life: u32, event: ChildEvent) -> Option<Event> {
+    let name = Name::new(name)?;
+    Some(Event::Child { name, life, event })
 }
 
-fn piece(alloc: Global, name: &[u8], life: u32) -> Result<Event, Fail> {
-    child(
-        name,
-        life,
-        ChildEvent::Piece(Bytes::copy_from_slice(alloc, ANSWER)?),
-    )
+fn piece(alloc: Global, name: &[u8], life: u32) -> Option<Event> {
+    let bytes = Bytes::copy_from_slice(alloc, b"\x02verbatim:A\x05").ok()?;
+    child(name, life, ChildEvent::Piece(bytes))
 }
 
 // Events of a life that there isn't, and a fault of a stop.
-fn stale(alloc: Global, number: u32) -> Result<Event, Fail> {
+fn stale(alloc: Global, number: u32) -> Option<Event> {
     match number {
-        0 => piece(alloc, b"a".as_slice(), 4_294_967_295),
-        1 => piece(alloc, b"b".as_slice(), 1),
-        2 => piece(alloc, b"a".as_slice(), 0),
-        3 => piece(alloc, b"a".as_slice(), 2),
-        4 => child(b"b".as_slice(), 1, ChildEvent::End),
-        5 => child(b"a".as_slice(), 2, ChildEvent::StartRefused),
-        6 => child(b"a".as_slice(), 0, ChildEvent::ReadFault),
-        7 => child(b"a".as_slice(), 4_294_967_295, ChildEvent::SendFault),
-        8 => child(b"b".as_slice(), 0, ChildEvent::Stalled),
-        _ => child(b"a".as_slice(), 1, ChildEvent::StopFault),
+        0 => piece(alloc, b"a", 4_294_967_295),
+        1 => piece(alloc, b"b", 1),
+        2 => piece(alloc, b"a", 0),
+        3 => piece(alloc, b"a", 2),
+        4 => child(b"b", 1, ChildEvent::End),
+        5 => child(b"a", 2, ChildEvent::StartRefused),
+        6 => child(b"a", 0, ChildEvent::ReadFault),
+        7 => child(b"a", 4_294_967_295, ChildEvent::SendFault),
+        8 => child(b"b", 0, ChildEvent::Stalled),
+        _ => child(b"a", 1, ChildEvent::StopFault),
     }
 }
 
-fn is_nothing(host: &mut Host<MemoryDisk>, event: Event) -> bool {
+fn has_nothing(outcome: &Outcome) -> bool {
+    matches!(&outcome.reply, Reply::Nothing) && outcome.effect.is_none()
+}
+
+fn gives_nothing(host: &mut Host<MemoryDisk>, event: Event) -> bool {
     match host.step(event) {
-        Ok(outcome) => matches!(outcome.reply, Reply::Nothing) && outcome.effect.is_none(),
+        Ok(outcome) => has_nothing(&outcome),
         Err(_) => false,
     }
 }
 
-// A host whose first life waits with one line.
-fn asked(alloc: Global) -> Result<Host<MemoryDisk>, Fail> {
-    let mut host = opened(alloc)?;
-    let mut children = Scripted::new(alloc, Vec::new(alloc));
-    let mut text = Vec::new(alloc);
-    add_line(
-        alloc,
-        &mut host,
-        &mut children,
-        "session a plain p",
-        &mut text,
-    )?;
-    add_line(alloc, &mut host, &mut children, "new 0 a x", &mut text)?;
-    match host.step(Event::Command(Command::Eval { id: 1 })) {
-        Ok(_) => Ok(host),
-        Err(_) => Err("a fault".into()),
+fn is_stale(alloc: Global, host: &mut Host<MemoryDisk>, number: u32) -> bool {
+    match stale(alloc, number) {
+        Some(event) => gives_nothing(host, event),
+        None => false,
+    }
+}
+
+// The first of these events of which something comes, or 10.
+fn first_taken(alloc: Global, host: &mut Host<MemoryDisk>) -> u32 {
+    for number in 0..10u32 {
+        if !is_stale(alloc, host, number) {
+            return number;
+        }
+    }
+    10
+}
+
+fn tells_so(alloc: Global, host: &mut Host<MemoryDisk>, script: &str, want: &str) -> bool {
+    let mut children = none(alloc);
+    tells(alloc, host, &mut children, script, want)
+}
+
+// The first life of the host waits with one line. The first event of which something comes, where the
+// worksheet stays as it was.
+fn first_taken_in_flight(alloc: Global, host: &mut Host<MemoryDisk>) -> Option<u32> {
+    let script = "session a plain p\nnew 0 a x\n.eval 1";
+    let is_asked = tells_so(alloc, host, script, "ok\nfield 1\nasked\n");
+    let first = first_taken(alloc, host);
+    let is_open = tells_so(alloc, host, "print", "#1 a\n> x\n?\n");
+    if is_asked && is_open {
+        Some(first)
+    } else {
+        None
     }
 }
 
 #[test]
-fn nothing_of_lives_that_are_none(rt: HostRuntime) -> Result<(), Fail> {
-    let alloc = rt.alloc();
-    let mut host = asked(alloc)?;
-    for number in 0..10u32 {
-        let event = stale(alloc, number)?;
-        assert!(rt; is_nothing(&mut host, event), "event {number}");
-    }
-    assert!(rt; are(&printed(alloc, &host)?, "#1 a\n> x\n?\n"));
-    Ok(())
+fn nothing_of_lives_that_are_none(rt: HostRuntime) {
+    let first = match opened(rt.alloc()) {
+        Some(mut host) => first_taken_in_flight(rt.alloc(), &mut host),
+        None => None,
+    };
+    assert!(rt; first == Some(10));
 }
 
 // The same events on a host that has no session at all.
 #[test]
-fn nothing_on_an_empty_worksheet(rt: HostRuntime) -> Result<(), Fail> {
-    let alloc = rt.alloc();
-    let mut host = opened(alloc)?;
-    for number in 0..10u32 {
-        let event = stale(alloc, number)?;
-        assert!(rt; is_nothing(&mut host, event), "event {number}");
-    }
-    Ok(())
+fn nothing_on_an_empty_worksheet(rt: HostRuntime) {
+    let first = match opened(rt.alloc()) {
+        Some(mut host) => first_taken(rt.alloc(), &mut host),
+        None => 0,
+    };
+    assert!(rt; first == 10);
 }

@@ -3,9 +3,8 @@ use block_tree::{Octets, Sequence};
 use bytes::Bytes;
 use disk_model::MemoryDisk;
 use journal::create;
-use session_engine::{ChildEvent, Closed, Command, Event, Host, Reply};
+use session_engine::{ChildEvent, Closed, Command, Event, Host, Outcome, Reply};
 use std::alloc::Global;
-use std::test::Fail;
 use worksheet::Name;
 
 // The longest input, in bytes.
@@ -58,162 +57,199 @@ impl Tally {
 }
 
 // So many bytes of one kind.
-fn times(alloc: Global, byte: u8, len: u32) -> Result<Vec<u8>, Fail> {
-    Ok(Vec::from_elem(alloc, byte, len as usize)?)
+fn times(alloc: Global, byte: u8, len: u32) -> Option<Vec<u8>> {
+    Vec::from_elem(alloc, byte, len as usize).ok()
 }
 
-fn session(alloc: Global) -> Result<Command, Fail> {
+fn words(alloc: Global) -> Option<Vec<Octets>> {
     let mut words = Vec::new(alloc);
-    words.push(Octets::from_slice(alloc, b"p".as_slice())?)?;
-    Ok(Command::Session {
-        name: Octets::from_slice(alloc, b"a".as_slice())?,
+    words.push(Octets::from_slice(alloc, b"p").ok()?).ok()?;
+    Some(words)
+}
+
+fn session(alloc: Global) -> Option<Command> {
+    Some(Command::Session {
+        name: Octets::from_slice(alloc, b"a").ok()?,
         tab: true,
-        words: Sequence::from_vec(words),
+        words: Sequence::from_vec(words(alloc)?),
     })
 }
 
-// A field of session `a` at the front.
-fn new(alloc: Global, input: Vec<u8>) -> Result<Command, Fail> {
-    Ok(Command::New {
+// A field of session `a` at the front, whose input has so many bytes.
+fn new(alloc: Global, len: u32) -> Option<Command> {
+    let input = times(alloc, b'x', len)?;
+    Some(Command::New {
         after: 0,
-        session: Octets::from_slice(alloc, b"a".as_slice())?,
+        session: Octets::from_slice(alloc, b"a").ok()?,
         input: Octets::from_vec(input),
     })
 }
 
 // The answer: a block whose text has so many bytes.
-fn answer(alloc: Global, len: u32) -> Result<Vec<u8>, Fail> {
-    let mut bytes = Vec::from_slice(alloc, b"\x02verbatim:".as_slice())?;
-    bytes.extend_from_slice(times(alloc, b'y', len)?.as_slice())?;
-    bytes.push(5)?;
-    Ok(bytes)
+fn answer(alloc: Global, len: u32) -> Option<Vec<u8>> {
+    let text = times(alloc, b'y', len)?;
+    let mut bytes = Vec::from_slice(alloc, b"\x02verbatim:").ok()?;
+    bytes.extend_from_slice(text.as_slice()).ok()?;
+    bytes.push(5).ok()?;
+    Some(bytes)
 }
 
-fn add_piece(alloc: Global, events: &mut Vec<Event>, bytes: &[u8]) -> Result<(), Fail> {
-    let Some(name) = Name::new(b"a") else {
-        return Err("a name".into());
-    };
-    events.push(Event::Child {
+// Adds an event. One for which there is no memory is not counted, and so the count is not as wanted.
+fn add(events: &mut Vec<Event>, event: Event) {
+    let _ = events.push(event);
+}
+
+fn add_command(events: &mut Vec<Event>, command: Command) {
+    add(events, Event::Command(command));
+}
+
+fn add_if(events: &mut Vec<Event>, command: Option<Command>) {
+    if let Some(command) = command {
+        add_command(events, command);
+    }
+}
+
+fn piece(alloc: Global, bytes: &[u8]) -> Option<Event> {
+    let name = Name::new(b"a")?;
+    let piece = Bytes::copy_from_slice(alloc, bytes).ok()?;
+    Some(Event::Child {
         name,
         life: 1,
-        event: ChildEvent::Piece(Bytes::copy_from_slice(alloc, bytes)?),
-    })?;
-    Ok(())
+        event: ChildEvent::Piece(piece),
+    })
+}
+
+fn add_piece(alloc: Global, events: &mut Vec<Event>, bytes: &[u8]) {
+    if let Some(event) = piece(alloc, bytes) {
+        add(events, event);
+    }
 }
 
 // Pieces of so many bytes, the last one what is left.
-fn add_pieces(
-    alloc: Global,
-    events: &mut Vec<Event>,
-    bytes: &[u8],
-    size: usize,
-) -> Result<(), Fail> {
+fn add_pieces(alloc: Global, events: &mut Vec<Event>, bytes: &[u8], size: usize) {
     if size == 0 {
-        return Err("no size".into());
+        return;
     }
     for piece in bytes.chunks(size) {
-        add_piece(alloc, events, piece)?;
+        add_piece(alloc, events, piece);
     }
-    Ok(())
+}
+
+fn add_answer(alloc: Global, events: &mut Vec<Event>, len: u32) {
+    if let Some(bytes) = answer(alloc, len) {
+        add_pieces(alloc, events, bytes.as_slice(), len as usize);
+    }
 }
 
 // What is done with a field once it is answered: its completions are asked for, with the cursor at the
 // end of its input, and there are none; then an empty input, its place behind field 1, no output, and no
 // field.
-fn add_end(alloc: Global, events: &mut Vec<Event>, id: u32, len: u32) -> Result<(), Fail> {
-    events.push(Event::Command(Command::Complete { id, cursor: len }))?;
-    add_piece(alloc, events, b"\x02scheme:\"\"\x05".as_slice())?;
-    events.push(Event::Command(Command::Set {
-        id,
-        input: Octets::from_vec(Vec::new(alloc)),
-    }))?;
-    events.push(Event::Command(Command::Move { id, after: 1 }))?;
-    events.push(Event::Command(Command::Clear { id }))?;
-    events.push(Event::Command(Command::Remove { id }))?;
-    Ok(())
+fn add_end(alloc: Global, events: &mut Vec<Event>, id: u32, len: u32) {
+    add_command(events, Command::Complete { id, cursor: len });
+    add_piece(alloc, events, b"\x02scheme:\"\"\x05");
+    let input = Octets::from_vec(Vec::new(alloc));
+    add_command(events, Command::Set { id, input });
+    add_command(events, Command::Move { id, after: 1 });
+    add_command(events, Command::Clear { id });
+    add_command(events, Command::Remove { id });
 }
 
 // The events of one size: a field with such an input, its evaluation, and an answer of such a size in
 // pieces of that size. Field 1 is there before, so the field of size 1 has number 2.
-fn add_round(alloc: Global, events: &mut Vec<Event>, len: u32) -> Result<(), Fail> {
+fn add_round(alloc: Global, events: &mut Vec<Event>, len: u32) {
     let id = len.saturating_add(1);
-    events.push(Event::Command(new(alloc, times(alloc, b'x', len)?)?))?;
-    events.push(Event::Command(Command::Eval { id }))?;
+    add_if(events, new(alloc, len));
+    add_command(events, Command::Eval { id });
     if len == 1 {
-        add_piece(alloc, events, b"\x02verbatim:\x05".as_slice())?;
+        add_piece(alloc, events, b"\x02verbatim:\x05");
     }
-    let bytes = answer(alloc, len)?;
-    add_pieces(alloc, events, bytes.as_slice(), len as usize)?;
-    add_end(alloc, events, id, len)
+    add_answer(alloc, events, len);
+    add_end(alloc, events, id, len);
 }
 
 // The session and field 1.
-fn add_start(alloc: Global, events: &mut Vec<Event>) -> Result<(), Fail> {
-    events.push(Event::Command(session(alloc)?))?;
-    events.push(Event::Command(new(alloc, times(alloc, b'x', 1)?)?))?;
-    Ok(())
+fn add_start(alloc: Global, events: &mut Vec<Event>) {
+    add_if(events, session(alloc));
+    add_if(events, new(alloc, 1));
 }
 
-// A host on a new worksheet of the greatest room.
-fn opened(alloc: Global) -> Result<Host<MemoryDisk>, Fail> {
-    let Ok(disk) = create(MemoryDisk::new(alloc, 2_147_483_648)) else {
-        return Err("create".into());
-    };
-    match Host::open(alloc, disk) {
-        Ok(host) => Ok(host),
-        Err(_) => Err("open".into()),
+// The events of this size, or those before the first.
+fn events_of(alloc: Global, len: u32) -> Vec<Event> {
+    let mut events = Vec::new(alloc);
+    if len == 0 {
+        add_start(alloc, &mut events);
+    } else {
+        add_round(alloc, &mut events, len);
+    }
+    events
+}
+
+fn all_events(alloc: Global) -> Vec<Event> {
+    let mut events = Vec::new(alloc);
+    add_start(alloc, &mut events);
+    for len in 1..LONGEST + 1 {
+        add_round(alloc, &mut events, len);
+    }
+    events
+}
+
+// An empty worksheet on a disk of the greatest room.
+fn created(alloc: Global) -> Option<MemoryDisk> {
+    create(MemoryDisk::new(alloc, 2_147_483_648)).ok()
+}
+
+fn opened(alloc: Global) -> Option<Host<MemoryDisk>> {
+    Host::open(alloc, created(alloc)?).ok()
+}
+
+// Gives the host an event, and counts what it tells.
+fn step(host: &mut Host<MemoryDisk>, event: Event, tally: &mut Tally) {
+    match host.step(event) {
+        Ok(outcome) => tally.add(&outcome.reply),
+        Err(_) => count(&mut tally.others),
     }
 }
 
-// Gives the host the events one by one, and counts what it tells.
-fn step_each(
-    host: &mut Host<MemoryDisk>,
-    events: Vec<Event>,
-    tally: &mut Tally,
-) -> Result<(), Fail> {
+fn step_each(host: &mut Host<MemoryDisk>, events: Vec<Event>, tally: &mut Tally) {
     for event in events {
-        match host.step(event) {
-            Ok(outcome) => tally.add(&outcome.reply),
-            Err(_) => return Err("a fault".into()),
-        }
+        step(host, event, tally);
     }
-    Ok(())
 }
 
-fn swept_by_step(alloc: Global) -> Result<Tally, Fail> {
-    let mut host = opened(alloc)?;
+fn swept_on(alloc: Global, host: &mut Host<MemoryDisk>) -> Tally {
     let mut tally = NONE;
-    let mut events = Vec::new(alloc);
-    add_start(alloc, &mut events)?;
-    step_each(&mut host, events, &mut tally)?;
-    for len in 1..LONGEST + 1 {
-        let mut events = Vec::new(alloc);
-        add_round(alloc, &mut events, len)?;
-        step_each(&mut host, events, &mut tally)?;
+    for len in 0..LONGEST + 1 {
+        step_each(host, events_of(alloc, len), &mut tally);
     }
-    Ok(tally)
+    tally
 }
 
-fn all_events(alloc: Global) -> Result<Vec<Event>, Fail> {
-    let mut events = Vec::new(alloc);
-    add_start(alloc, &mut events)?;
-    for len in 1..LONGEST + 1 {
-        add_round(alloc, &mut events, len)?;
+fn swept_by_step(alloc: Global) -> Tally {
+    match opened(alloc) {
+        Some(mut host) => swept_on(alloc, &mut host),
+        None => NONE,
     }
-    Ok(events)
 }
 
-fn swept_by_play(alloc: Global) -> Result<Tally, Fail> {
-    let mut host = opened(alloc)?;
+fn tally_of(outcomes: &[Outcome]) -> Tally {
     let mut tally = NONE;
-    match host.play(all_events(alloc)?) {
-        Ok(outcomes) => {
-            for outcome in outcomes {
-                tally.add(&outcome.reply);
-            }
-            Ok(tally)
-        }
-        Err(_) => Err("a fault".into()),
+    for outcome in outcomes {
+        tally.add(&outcome.reply);
+    }
+    tally
+}
+
+fn played_on(host: &mut Host<MemoryDisk>, events: Vec<Event>) -> Tally {
+    match host.play(events) {
+        Ok(outcomes) => tally_of(outcomes.as_slice()),
+        Err(_) => NONE,
+    }
+}
+
+fn swept_by_play(alloc: Global) -> Tally {
+    match opened(alloc) {
+        Some(mut host) => played_on(&mut host, all_events(alloc)),
+        None => NONE,
     }
 }
 
@@ -233,15 +269,13 @@ const WANTED: Tally = Tally {
 };
 
 #[test]
-fn each_size_by_step(rt: HostRuntime) -> Result<(), Fail> {
-    let tally = swept_by_step(rt.alloc())?;
+fn each_size_by_step(rt: HostRuntime) {
+    let tally = swept_by_step(rt.alloc());
     assert_eq!(rt; tally, WANTED);
-    Ok(())
 }
 
 #[test]
-fn each_size_by_play(rt: HostRuntime) -> Result<(), Fail> {
-    let tally = swept_by_play(rt.alloc())?;
+fn each_size_by_play(rt: HostRuntime) {
+    let tally = swept_by_play(rt.alloc());
     assert_eq!(rt; tally, WANTED);
-    Ok(())
 }

@@ -2,7 +2,7 @@
 use Rattle.std.specs.Prelude.{◌≡◌, ◌≢◌, ℕ, ◌+◌, ◌<◌, ◌≤◌, List, ◌∷◌, ◌++◌, length}
 use Rattle.std.specs.Int.{to_be_bytes, w32}
 use Rattle.journal.specs.Area.{HasHeader, open_gate}
-use Rattle.journal.specs.Damage.{IsBroken, IsDamaged}
+use Rattle.journal.specs.Damage.{IsBroken}
 use Rattle.journal.specs.Limits.{max_payload}
 use Rattle.journal.specs.declared.opening.OpenCause.{OpenCause}
 use Rattle.journal.specs.declared.opening.OpenCause.TheVariants as causes
@@ -23,14 +23,7 @@ abbrev pub IsLength : ℕ → Step → Type 0
 IsLength left (Record n) = (1 ≤ n) × (n ≤ max_payload) × (5 + n < left)
 IsLength left step = Unit {0}
 
--- what a cause says of one area
-abbrev pub TellsOf : List ℕ → OpenCause → Type 0
-TellsOf bytes (causes.Damaged gate) = IsDamaged max_payload bytes gate
-TellsOf bytes causes.NotASheet = HasHeader bytes → ⊥
-TellsOf bytes causes.Disk = Unit {0}
-TellsOf bytes causes.OutOfMemory = Unit {0}
-
--- and where only its header was read
+-- what a cause says of one area, of which the header was read
 abbrev pub LacksHeader : List ℕ → OpenCause → Type 0
 LacksHeader bytes (causes.Damaged gate) = ⊥
 LacksHeader bytes causes.NotASheet = HasHeader bytes → ⊥

@@ -184,6 +184,24 @@ fn create_and_append_take_no_memory(rt: HostRuntime) -> Result<(), Fail> {
     Ok(())
 }
 
+// A journal that was made while no memory was left.
+fn made_without_memory(alloc: Global) -> Result<Journal<ArrayDisk>, Fail> {
+    let disk = ArrayDisk::new();
+    let _held = exhausted(alloc)?;
+    match Journal::create(disk) {
+        Ok(journal) => Ok(journal),
+        Err(_) => Err("create".into()),
+    }
+}
+
+#[test]
+fn a_new_journal_takes_no_memory(rt: HostRuntime) -> Result<(), Fail> {
+    let alloc = rt.alloc();
+    let journal = made_without_memory(alloc)?;
+    assert!(rt; has(alloc, journal.into_disk(), &[])?);
+    Ok(())
+}
+
 // The session behind the closed gate of a journal on a disk of an array.
 fn array_with_session(alloc: Global) -> Result<ArrayDisk, Fail> {
     let frame = frame(alloc, &SESSION)?;

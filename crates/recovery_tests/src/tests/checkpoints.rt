@@ -1,10 +1,9 @@
 //! Checkpoints, and what a crash leaves at each moment of them.
-use super::desk::{empty_disk, octets};
-use block_tree::{OutOfMemory, Reason, Sequence};
-use disk_model::{Area, Choice, Disk, Fill, MemoryDisk};
+use super::desk::{created, is_put, new_with, octets, session_of, store_on};
+use block_tree::Reason;
+use disk_model::{Area, Choice, Fill, MemoryDisk};
 use recovery::Store;
 use std::alloc::Global;
-use std::test::Fail;
 use worksheet::Op;
 
 /// Area Second after the first checkpoint.
@@ -16,67 +15,62 @@ const ANEW: [u8; 49] = [
     0x00,
 ];
 
-fn new_with(alloc: Global, input: &[u8]) -> Result<Op, OutOfMemory> {
-    Ok(Op::New {
-        after: 0,
-        session: octets(alloc, b"a")?,
-        input: octets(alloc, input)?,
-    })
-}
-
-fn op_number(alloc: Global, number: u32) -> Result<Op, OutOfMemory> {
+fn op_number(alloc: Global, number: u32) -> Option<Op> {
     match number {
-        1 => {
-            let mut words = Vec::new(alloc);
-            words.push(octets(alloc, b"p")?)?;
-            Ok(Op::Session {
-                name: octets(alloc, b"a")?,
-                tab: false,
-                words: Sequence::from_vec(words),
-            })
-        }
+        1 => session_of(alloc, b"p"),
         2 => new_with(alloc, b"x"),
-        3 => Ok(Op::Remove { id: 1 }),
+        3 => Some(Op::Remove { id: 1 }),
         4 => new_with(alloc, b"y"),
-        5 => Ok(Op::Set {
-            id: 2,
-            input: octets(alloc, b"z")?,
-        }),
+        5 => {
+            let input = octets(alloc, b"z")?;
+            Some(Op::Set { id: 2, input })
+        }
         _ => new_with(alloc, b"w"),
     }
 }
 
-fn commit_op(store: &mut Store<MemoryDisk>, op: Op) -> bool {
-    if store.sheet().check(&op).is_err() {
-        return false;
+// The number of the op of a step; none at a checkpoint.
+fn number_at(step: u32) -> Option<u32> {
+    match step {
+        0 => Some(1),
+        1 => Some(2),
+        2 => Some(3),
+        3 => Some(4),
+        5 => Some(5),
+        7 => Some(6),
+        _ => None,
     }
-    store.commit(op).is_ok()
 }
 
-fn commit(alloc: Global, store: &mut Store<MemoryDisk>, number: u32) -> Result<bool, Fail> {
-    Ok(commit_op(store, op_number(alloc, number)?))
+fn do_step(alloc: Global, store: &mut Store<MemoryDisk>, step: u32) -> bool {
+    match number_at(step) {
+        Some(number) => is_put(store, op_number(alloc, number)),
+        None => store.checkpoint().is_ok(),
+    }
+}
+
+fn do_steps(alloc: Global, store: &mut Store<MemoryDisk>, steps: u32) -> bool {
+    for step in 0..steps {
+        if !do_step(alloc, store, step) {
+            return false;
+        }
+    }
+    true
 }
 
 /// A store after this many of the steps: four ops, a checkpoint, a change, a checkpoint, a field.
-fn store_after(alloc: Global, steps: u32) -> Result<Store<MemoryDisk>, Fail> {
-    let Ok(mut store) = Store::open(alloc, empty_disk(alloc, 100)?) else {
-        return Err("open".into());
-    };
-    for step in 0..steps {
-        let done = match step {
-            0 => commit(alloc, &mut store, 1)?,
-            1 => commit(alloc, &mut store, 2)?,
-            2 => commit(alloc, &mut store, 3)?,
-            3 => commit(alloc, &mut store, 4)?,
-            5 => commit(alloc, &mut store, 5)?,
-            7 => commit(alloc, &mut store, 6)?,
-            _ => store.checkpoint().is_ok(),
-        };
-        if !done {
-            return Err("step".into());
-        }
+fn store_after(alloc: Global, steps: u32) -> Option<Store<MemoryDisk>> {
+    let mut store = created(alloc, 100)?;
+    if do_steps(alloc, &mut store, steps) {
+        Some(store)
+    } else {
+        None
     }
-    Ok(store)
+}
+
+fn disk_after(alloc: Global, steps: u32) -> Option<MemoryDisk> {
+    let store = store_after(alloc, steps)?;
+    Some(store.into_disk())
 }
 
 // A byte of an area.
@@ -84,46 +78,64 @@ fn byte_at(disk: &MemoryDisk, area: Area, offset: usize) -> Option<u8> {
     disk.content(area).get(offset).copied()
 }
 
-#[test]
-fn a_checkpoint_writes_the_other_area(rt: HostRuntime) -> Result<(), Fail> {
-    let disk = store_after(rt.alloc(), 5)?.into_disk();
-    assert!(rt; disk.content(Area::First).len() == 64);
-    assert!(rt; byte_at(&disk, Area::First, 9) == Some(0x42));
-    assert!(rt; disk.content(Area::Second) == ANEW.as_slice());
-    Ok(())
+fn is_anew(disk: &MemoryDisk) -> bool {
+    disk.content(Area::First).len() == 64
+        && byte_at(disk, Area::First, 9) == Some(0x42)
+        && disk.content(Area::Second) == ANEW.as_slice()
 }
 
 #[test]
-fn a_change_goes_into_the_active_area(rt: HostRuntime) -> Result<(), Fail> {
-    let before = store_after(rt.alloc(), 5)?.into_disk();
-    let disk = store_after(rt.alloc(), 6)?.into_disk();
-    assert!(rt; before.content(Area::First).len() == 64);
-    assert!(rt; disk.content(Area::Second).len() == 62);
-    assert!(rt; disk.content(Area::First) == before.content(Area::First));
-    Ok(())
+fn a_checkpoint_writes_the_other_area(rt: HostRuntime) {
+    let is_anew = match disk_after(rt.alloc(), 5) {
+        Some(disk) => is_anew(&disk),
+        None => false,
+    };
+    assert!(rt; is_anew);
+}
+
+fn is_changed(before: &MemoryDisk, disk: &MemoryDisk) -> bool {
+    before.content(Area::First).len() == 64
+        && disk.content(Area::Second).len() == 62
+        && disk.content(Area::First) == before.content(Area::First)
+}
+
+fn is_changed_by_a_step(alloc: Global) -> Option<bool> {
+    let before = disk_after(alloc, 5)?;
+    let disk = disk_after(alloc, 6)?;
+    Some(is_changed(&before, &disk))
 }
 
 #[test]
-fn the_next_one_goes_back(rt: HostRuntime) -> Result<(), Fail> {
-    let disk = store_after(rt.alloc(), 7)?.into_disk();
-    assert!(rt; byte_at(&disk, Area::First, 9) == Some(0x41));
-    assert!(rt; byte_at(&disk, Area::First, 48) == Some(0));
-    assert!(rt; disk.content(Area::First).len() == 64);
-    Ok(())
+fn a_change_goes_into_the_active_area(rt: HostRuntime) {
+    assert!(rt; is_changed_by_a_step(rt.alloc()) == Some(true));
+}
+
+fn is_back(disk: &MemoryDisk) -> bool {
+    byte_at(disk, Area::First, 9) == Some(0x41)
+        && byte_at(disk, Area::First, 48) == Some(0)
+        && disk.content(Area::First).len() == 64
 }
 
 #[test]
-fn numbers_go_on_behind_it(rt: HostRuntime) -> Result<(), Fail> {
-    let store = store_after(rt.alloc(), 8)?;
-    assert!(rt; store.sheet().next_id() == 4 && store.sheet().field(3).is_some());
-    Ok(())
+fn the_next_one_goes_back(rt: HostRuntime) {
+    let is_back = match disk_after(rt.alloc(), 7) {
+        Some(disk) => is_back(&disk),
+        None => false,
+    };
+    assert!(rt; is_back);
 }
 
-fn opened(alloc: Global, disk: MemoryDisk) -> Option<Store<MemoryDisk>> {
-    match Store::open(alloc, disk) {
-        Ok(store) => Some(store),
-        Err(_) => None,
-    }
+fn has_third(store: &Store<MemoryDisk>) -> bool {
+    store.sheet().next_id() == 4 && store.sheet().field(3).is_some()
+}
+
+#[test]
+fn numbers_go_on_behind_it(rt: HostRuntime) {
+    let has_third = match store_after(rt.alloc(), 8) {
+        Some(store) => has_third(&store),
+        None => false,
+    };
+    assert!(rt; has_third);
 }
 
 // The one byte of the input of field 2, where that is the only field and the next number is 3.
@@ -143,7 +155,7 @@ fn input_left(alloc: Global, disk: &MemoryDisk, choice: &Choice) -> Option<u8> {
         return None;
     }
     match disk.crash(choice) {
-        Ok(left) => input_of(&opened(alloc, left)?),
+        Ok(left) => input_of(&store_on(alloc, left)?),
         Err(_) => None,
     }
 }
@@ -177,48 +189,56 @@ fn leaves(alloc: Global, disk: &MemoryDisk, moment: u64, either: (u8, u8)) -> bo
     true
 }
 
-// Whether a crash at each moment from the end of these steps to that of the next one leaves one of two
-// inputs, and behind them the second.
-fn step_leaves(alloc: Global, steps: u32, before: u8, after: u8) -> Result<bool, Fail> {
-    let from = store_after(alloc, steps)?.into_disk().calls();
-    let disk = store_after(alloc, steps.saturating_add(1))?.into_disk();
+// Whether a crash at each moment from this one to the last leaves one of two inputs, and behind them the
+// second.
+fn leaves_each(alloc: Global, disk: &MemoryDisk, from: u64, either: (u8, u8)) -> bool {
     for moment in from..disk.calls() {
-        if !leaves(alloc, &disk, moment, (before, after)) {
-            return Ok(false);
+        if !leaves(alloc, disk, moment, either) {
+            return false;
         }
     }
-    Ok(leaves(alloc, &disk, disk.calls(), (after, after)))
+    leaves(alloc, disk, disk.calls(), (either.1, either.1))
+}
+
+// Whether it is so from the end of these steps to that of the next one.
+fn step_leaves(alloc: Global, steps: u32, before: u8, after: u8) -> Option<bool> {
+    let from = disk_after(alloc, steps)?.calls();
+    let disk = disk_after(alloc, steps.saturating_add(1))?;
+    Some(leaves_each(alloc, &disk, from, (before, after)))
 }
 
 #[test]
-fn a_crash_within_a_checkpoint(rt: HostRuntime) -> Result<(), Fail> {
-    assert!(rt; step_leaves(rt.alloc(), 4, b'y', b'y')?);
-    assert!(rt; step_leaves(rt.alloc(), 6, b'z', b'z')?);
-    Ok(())
+fn a_crash_within_a_checkpoint(rt: HostRuntime) {
+    assert!(rt; step_leaves(rt.alloc(), 4, b'y', b'y') == Some(true));
+    assert!(rt; step_leaves(rt.alloc(), 6, b'z', b'z') == Some(true));
 }
 
 #[test]
-fn a_crash_within_the_change_between_two(rt: HostRuntime) -> Result<(), Fail> {
-    assert!(rt; step_leaves(rt.alloc(), 5, b'y', b'z')?);
-    Ok(())
+fn a_crash_within_the_change_between_two(rt: HostRuntime) {
+    assert!(rt; step_leaves(rt.alloc(), 5, b'y', b'z') == Some(true));
 }
 
-// The disk of a worksheet behind a checkpoint, whose field 2 has a reason.
-fn with_a_reason(alloc: Global) -> Result<MemoryDisk, Fail> {
-    let mut store = store_after(alloc, 4)?;
+// Field 2 gets a reason, and then there is a checkpoint.
+fn lose(store: &mut Store<MemoryDisk>) -> bool {
     let lost = Op::Lost {
         id: 2,
         reason: Reason::Ended,
     };
-    if !commit_op(&mut store, lost) || store.checkpoint().is_err() {
-        return Err("refused".into());
+    is_put(store, Some(lost)) && store.checkpoint().is_ok()
+}
+
+// The disk of a worksheet behind a checkpoint, whose field 2 has a reason.
+fn with_a_reason(alloc: Global) -> Option<MemoryDisk> {
+    let mut store = store_after(alloc, 4)?;
+    if lose(&mut store) {
+        Some(store.into_disk())
+    } else {
+        None
     }
-    Ok(store.into_disk())
 }
 
 // The reason of field 2 where it has no answer and the next number is 3.
-fn reason_on(alloc: Global, disk: MemoryDisk) -> Option<Reason> {
-    let store = opened(alloc, disk)?;
+fn reason_of(store: &Store<MemoryDisk>) -> Option<Reason> {
     let field = store.sheet().field(2)?;
     if field.answer.is_some() || store.sheet().next_id() != 3 {
         return None;
@@ -226,11 +246,24 @@ fn reason_on(alloc: Global, disk: MemoryDisk) -> Option<Reason> {
     field.lost
 }
 
+fn has_reason(alloc: Global, disk: MemoryDisk) -> bool {
+    match store_on(alloc, disk) {
+        Some(store) => reason_of(&store) == Some(Reason::Ended),
+        None => false,
+    }
+}
+
+fn is_kept(alloc: Global, disk: MemoryDisk) -> bool {
+    let selector = byte_at(&disk, Area::First, 9);
+    let len = disk.content(Area::Second).len();
+    selector == Some(0x42) && len == 60 && has_reason(alloc, disk)
+}
+
 #[test]
-fn a_reason_is_kept(rt: HostRuntime) -> Result<(), Fail> {
-    let disk = with_a_reason(rt.alloc())?;
-    assert!(rt; byte_at(&disk, Area::First, 9) == Some(0x42));
-    assert!(rt; disk.content(Area::Second).len() == 60);
-    assert!(rt; reason_on(rt.alloc(), disk) == Some(Reason::Ended));
-    Ok(())
+fn a_reason_is_kept(rt: HostRuntime) {
+    let is_kept = match with_a_reason(rt.alloc()) {
+        Some(disk) => is_kept(rt.alloc(), disk),
+        None => false,
+    };
+    assert!(rt; is_kept);
 }

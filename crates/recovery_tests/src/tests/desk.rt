@@ -1,11 +1,10 @@
 //! Ops, and stores on disks in memory.
-use block_tree::{Octets, OutOfMemory, Sequence};
+use block_tree::{Octets, Sequence};
 use disk_model::{Disk, MemoryDisk};
 use journal::create;
 use meta_format::read_block;
 use recovery::{CommitFault, PrepareFault, Store};
 use std::alloc::Global;
-use std::test::Fail;
 use worksheet::Op;
 
 /// Area First after the session, the field, the clearing and the answer of the worked example.
@@ -19,73 +18,73 @@ pub const AREA: [u8; 76] = [
     0x00,
 ];
 
-pub fn octets(alloc: Global, bytes: &[u8]) -> Result<Octets, OutOfMemory> {
-    Octets::from_slice(alloc, bytes)
+pub fn octets(alloc: Global, bytes: &[u8]) -> Option<Octets> {
+    Octets::from_slice(alloc, bytes).ok()
 }
 
-/// Session `a`, plain, with the word `sh`.
-pub fn session(alloc: Global) -> Result<Op, OutOfMemory> {
+/// Session `a`, plain, with this word.
+pub fn session_of(alloc: Global, word: &[u8]) -> Option<Op> {
     let mut words = Vec::new(alloc);
-    words.push(octets(alloc, b"sh")?)?;
-    Ok(Op::Session {
+    words.push(octets(alloc, word)?).ok()?;
+    Some(Op::Session {
         name: octets(alloc, b"a")?,
         tab: false,
         words: Sequence::from_vec(words),
     })
 }
 
-/// A field of it with the input `x`.
-pub fn new(alloc: Global) -> Result<Op, OutOfMemory> {
-    Ok(Op::New {
+/// Session `a`, plain, with the word `sh`.
+pub fn session(alloc: Global) -> Option<Op> {
+    session_of(alloc, b"sh")
+}
+
+/// A field of it with this input.
+pub fn new_with(alloc: Global, input: &[u8]) -> Option<Op> {
+    Some(Op::New {
         after: 0,
         session: octets(alloc, b"a")?,
-        input: octets(alloc, b"x")?,
+        input: octets(alloc, input)?,
     })
 }
 
-/// The answer to field 1 with this output.
-pub fn answer(alloc: Global, output: &[u8]) -> Result<Op, Fail> {
+/// A field of it with the input `x`.
+pub fn new(alloc: Global) -> Option<Op> {
+    new_with(alloc, b"x")
+}
+
+// The answer to field 1 with this output.
+fn answer(alloc: Global, output: &[u8]) -> Option<Op> {
     let prompt = octets(alloc, b"> ")?;
-    match read_block(alloc, output) {
-        Ok(output) => Ok(Op::Answer {
-            id: 1,
-            prompt,
-            output,
-        }),
-        Err(_) => Err("no block".into()),
-    }
+    let output = read_block(alloc, output).ok()?;
+    Some(Op::Answer {
+        id: 1,
+        prompt,
+        output,
+    })
 }
 
 /// A disk in memory with an empty journal.
-pub fn empty_disk(alloc: Global, room: u64) -> Result<MemoryDisk, Fail> {
+pub fn empty_disk(alloc: Global, room: u64) -> Option<MemoryDisk> {
     if room < 11 || room > 100 {
-        return Err("room".into());
+        return None;
     }
-    match create(MemoryDisk::new(alloc, room)) {
-        Ok(disk) => Ok(disk),
-        Err(_) => Err("create".into()),
-    }
+    create(MemoryDisk::new(alloc, room)).ok()
 }
 
 /// A disk in memory whose area First has these bytes.
-pub fn holding(alloc: Global, first: &[u8]) -> Result<MemoryDisk, Fail> {
+pub fn holding(alloc: Global, first: &[u8]) -> Option<MemoryDisk> {
     if first.len() > 100 {
-        return Err("too long".into());
+        return None;
     }
-    match MemoryDisk::holding(alloc, 100, first.to_vec(alloc)?) {
-        Ok(disk) => Ok(disk),
-        Err(_) => Err("holding".into()),
-    }
+    let first = first.to_vec(alloc).ok()?;
+    MemoryDisk::holding(alloc, 100, first).ok()
 }
 
-pub fn store_on<D: Disk>(alloc: Global, disk: D) -> Result<Store<D>, Fail> {
-    match Store::open(alloc, disk) {
-        Ok(store) => Ok(store),
-        Err(_) => Err("open".into()),
-    }
+pub fn store_on<D: Disk>(alloc: Global, disk: D) -> Option<Store<D>> {
+    Store::open(alloc, disk).ok()
 }
 
-pub fn created(alloc: Global, room: u64) -> Result<Store<MemoryDisk>, Fail> {
+pub fn created(alloc: Global, room: u64) -> Option<Store<MemoryDisk>> {
     store_on(alloc, empty_disk(alloc, room)?)
 }
 
@@ -138,22 +137,38 @@ pub fn has_session<D: Disk>(store: &Store<D>) -> bool {
 }
 
 // The ops of the worked example, in order.
-fn op(alloc: Global, number: usize) -> Result<Op, Fail> {
+fn op(alloc: Global, number: usize) -> Option<Op> {
     match number {
-        0 => Ok(session(alloc)?),
-        1 => Ok(new(alloc)?),
-        2 => Ok(Op::Clear { id: 1 }),
+        0 => session(alloc),
+        1 => new(alloc),
+        2 => Some(Op::Clear { id: 1 }),
         _ => answer(alloc, b"\x02verbatim:A\x05"),
     }
 }
 
-/// A store with the first ops of the worked example.
-pub fn store_of(alloc: Global, room: u64, ops: usize) -> Result<Store<MemoryDisk>, Fail> {
-    let mut store = created(alloc, room)?;
+/// Whether an op is committed, where there is one.
+pub fn is_put<D: Disk>(store: &mut Store<D>, op: Option<Op>) -> bool {
+    match op {
+        Some(op) => put(store, op) == Outcome::Done,
+        None => false,
+    }
+}
+
+fn are_put(alloc: Global, store: &mut Store<MemoryDisk>, ops: usize) -> bool {
     for number in 0..ops {
-        if put(&mut store, op(alloc, number)?) != Outcome::Done {
-            return Err("not committed".into());
+        if !is_put(store, op(alloc, number)) {
+            return false;
         }
     }
-    Ok(store)
+    true
+}
+
+/// A store with the first ops of the worked example.
+pub fn store_of(alloc: Global, room: u64, ops: usize) -> Option<Store<MemoryDisk>> {
+    let mut store = created(alloc, room)?;
+    if are_put(alloc, &mut store, ops) {
+        Some(store)
+    } else {
+        None
+    }
 }

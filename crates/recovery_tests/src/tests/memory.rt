@@ -2,11 +2,10 @@
 ghost use Rattle.std.specs.Prelude.{◌≤◌, ◌+◌, IfSome};
 
 use super::desk::{Outcome, created, has_session, prepared, put, session, store_on};
-use disk_model::{Area, Disk, DiskFault};
+use disk_model::{Area, Disk, DiskFault, MemoryDisk};
 use journal::create;
 use recovery::{Store, code_len};
 use std::alloc::Global;
-use std::test::Fail;
 use tests_desk::exhausted;
 use worksheet::Op;
 
@@ -86,64 +85,149 @@ impl Disk for FixedDisk {
     }
 }
 
-// Whether the session is committed while no memory is left.
-fn is_put_without_memory<D: Disk>(alloc: Global, store: &mut Store<D>) -> Result<bool, Fail> {
-    let op = session(alloc)?;
-    if let Err(_) = store.sheet().check(&op) {
-        return Err("the worksheet refuses the op".into());
-    }
-    let Ok(frame) = store.prepare(&op) else {
-        return Err("not prepared".into());
-    };
-    let _held = exhausted(alloc)?;
-    let fits = store.fits(&Op::Clear { id: 1 }) && code_len(&Op::Clear { id: 1 }) == 5;
-    let is_put = store.commit_ready(op, frame).is_ok();
-    Ok(fits && is_put && has_session(store))
-}
-
 // An empty disk in an array.
-fn fixed_disk() -> Result<FixedDisk, Fail> {
+fn fixed_disk() -> Option<FixedDisk> {
     let empty = FixedDisk {
         first: [0; 100],
         len: 0,
         faults: 0,
     };
-    match create(empty) {
-        Ok(disk) => Ok(disk),
-        Err(_) => Err("create".into()),
+    create(empty).ok()
+}
+
+// What came of a prepared session that is committed while no memory is left.
+#[derive(Clone, Copy, Debug, PartialEq, Eq)]
+enum Ready {
+    /// It is on the disk, and in the worksheet.
+    Done,
+    /// The disk failed, and the worksheet has no session.
+    Failed,
+    /// Memory was left, or another answer came.
+    Wrong,
+}
+
+fn ready_of(is_exhausted: bool, is_done: bool, has_session: bool) -> Ready {
+    if !is_exhausted || is_done != has_session {
+        Ready::Wrong
+    } else if is_done {
+        Ready::Done
+    } else {
+        Ready::Failed
     }
 }
 
-#[test]
-fn a_prepared_commit_takes_no_memory(rt: HostRuntime) -> Result<(), Fail> {
-    let alloc = rt.alloc();
-    let mut store = store_on(alloc, fixed_disk()?)?;
-    assert!(rt; is_put_without_memory(alloc, &mut store)?);
-    let store = store_on(alloc, store.into_disk())?;
-    assert!(rt; has_session(&store));
-    Ok(())
+fn put_without<D: Disk>(alloc: Global, store: &mut Store<D>, op: Op) -> Ready {
+    if store.sheet().check(&op).is_err() {
+        return Ready::Wrong;
+    }
+    match store.prepare(&op) {
+        Ok(frame) => {
+            let held = exhausted(alloc);
+            let is_done = store.commit_ready(op, frame).is_ok();
+            ready_of(held.is_ok(), is_done, has_session(store))
+        }
+        Err(_) => Ready::Wrong,
+    }
+}
+
+fn put_session_without<D: Disk>(alloc: Global, store: &mut Store<D>) -> Ready {
+    match session(alloc) {
+        Some(op) => put_without(alloc, store, op),
+        None => Ready::Wrong,
+    }
+}
+
+fn fits<D: Disk>(store: &Store<D>) -> bool {
+    store.fits(&Op::Clear { id: 1 })
+}
+
+// Whether what fits, and the length of a payload, is told while no memory is left.
+fn fits_without<D: Disk>(alloc: Global, store: &Store<D>) -> bool {
+    match exhausted(alloc) {
+        Ok(_held) => fits(store) && code_len(&Op::Clear { id: 1 }) == 5,
+        Err(_) => false,
+    }
+}
+
+fn is_fixed_disk_kept(alloc: Global, disk: FixedDisk) -> bool {
+    match store_on(alloc, disk) {
+        Some(store) => has_session(&store),
+        None => false,
+    }
+}
+
+fn is_done_without(alloc: Global, store: Store<FixedDisk>) -> bool {
+    let mut store = store;
+    let fits = fits_without(alloc, &store);
+    let put = put_session_without(alloc, &mut store);
+    fits && put == Ready::Done && is_fixed_disk_kept(alloc, store.into_disk())
+}
+
+fn is_done_on_a_fixed_disk(alloc: Global) -> Option<bool> {
+    let store = store_on(alloc, fixed_disk()?)?;
+    Some(is_done_without(alloc, store))
 }
 
 #[test]
-fn without_memory_a_disk_in_memory_fails(rt: HostRuntime) -> Result<(), Fail> {
-    let alloc = rt.alloc();
-    let mut store = created(alloc, 100)?;
-    assert!(rt; !is_put_without_memory(alloc, &mut store)?);
-    assert!(rt; !has_session(&store));
-    assert_eq!(rt; put(&mut store, session(alloc)?), Outcome::Closed);
-    Ok(())
+fn a_prepared_commit_takes_no_memory(rt: HostRuntime) {
+    assert!(rt; is_done_on_a_fixed_disk(rt.alloc()) == Some(true));
+}
+
+fn put_session<D: Disk>(alloc: Global, store: &mut Store<D>) -> Outcome {
+    match session(alloc) {
+        Some(op) => put(store, op),
+        None => Outcome::Refused,
+    }
+}
+
+// Whether the store is closed by a disk in memory, which fails.
+fn is_closed_without(alloc: Global, store: &mut Store<MemoryDisk>) -> bool {
+    let fits = fits_without(alloc, store);
+    let put = put_session_without(alloc, store);
+    let then = put_session(alloc, store);
+    fits && put == Ready::Failed && then == Outcome::Closed
 }
 
 #[test]
-fn without_memory_nothing_is_committed(rt: HostRuntime) -> Result<(), Fail> {
-    let alloc = rt.alloc();
-    let mut store = created(alloc, 100)?;
-    let (op, other) = (session(alloc)?, session(alloc)?);
-    let held = exhausted(alloc)?;
-    let no_frame = prepared(&mut store, &op);
-    let refused = put(&mut store, other);
-    drop(held);
-    assert!(rt; no_frame == Outcome::OutOfMemory && refused == Outcome::OutOfMemory);
-    assert!(rt; !has_session(&store) && store.fits(&Op::Clear { id: 1 }));
-    Ok(())
+fn without_memory_a_disk_in_memory_fails(rt: HostRuntime) {
+    let is_closed = match created(rt.alloc(), 100) {
+        Some(mut store) => is_closed_without(rt.alloc(), &mut store),
+        None => false,
+    };
+    assert!(rt; is_closed);
+}
+
+// Whether an op is neither prepared nor committed for want of memory.
+fn is_refused(store: &mut Store<MemoryDisk>, op: &Op, other: Op) -> bool {
+    let no_frame = prepared(store, op);
+    let refused = put(store, other);
+    no_frame == Outcome::OutOfMemory && refused == Outcome::OutOfMemory
+}
+
+fn is_refused_without(alloc: Global, store: &mut Store<MemoryDisk>, op: &Op, other: Op) -> bool {
+    match exhausted(alloc) {
+        Ok(_held) => is_refused(store, op, other),
+        Err(_) => false,
+    }
+}
+
+fn is_session_refused(alloc: Global, store: &mut Store<MemoryDisk>) -> Option<bool> {
+    let op = session(alloc)?;
+    let other = session(alloc)?;
+    Some(is_refused_without(alloc, store, &op, other))
+}
+
+// Whether it is refused, and the store goes on.
+fn goes_on(alloc: Global, store: &mut Store<MemoryDisk>) -> bool {
+    let refused = is_session_refused(alloc, store);
+    refused == Some(true) && !has_session(store) && fits(store)
+}
+
+#[test]
+fn without_memory_nothing_is_committed(rt: HostRuntime) {
+    let goes_on = match created(rt.alloc(), 100) {
+        Some(mut store) => goes_on(rt.alloc(), &mut store),
+        None => false,
+    };
+    assert!(rt; goes_on);
 }

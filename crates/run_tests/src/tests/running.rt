@@ -2,7 +2,7 @@
 use super::failing::{Full, Parts, Unflushed};
 use child_edge::Scripted;
 use disk_model::MemoryDisk;
-use host_cli::{RunFault, run};
+use sheet_programs::{RunFault, run};
 use std::alloc::Global;
 use std::io::{Read, Write};
 

@@ -1,10 +1,9 @@
 //! What a crash leaves of a checkpoint.
-use super::desk::{created, open, tells};
+use super::desk::{keeps, opened, tells_one};
 use super::events::Step;
-use super::told::fields;
 use disk_model::{Choice, Fill, MemoryDisk};
+use session_engine::Host;
 use std::alloc::Global;
-use std::test::Fail;
 
 // A field that was removed and one behind it, a checkpoint, a change, and a checkpoint back.
 fn step(number: u32) -> (Step<'static>, &'static str) {
@@ -18,25 +17,39 @@ fn step(number: u32) -> (Step<'static>, &'static str) {
     }
 }
 
-// The disk behind the first of these steps.
-fn behind(alloc: Global, count: u32) -> Result<MemoryDisk, Fail> {
-    let mut host = open(alloc, created(alloc, 100)?)?;
-    for number in 0..count {
-        tells(alloc, &mut host, &[step(number)])?;
-    }
-    Ok(host.close())
+fn do_step(alloc: Global, host: &mut Host<MemoryDisk>, number: u32) -> bool {
+    let (step, want) = step(number);
+    tells_one(alloc, host, &step, want)
 }
 
-// A crash at a moment leaves these fields.
-fn leaves(
-    alloc: Global,
-    disk: &MemoryDisk,
-    moment: u64,
-    fill: Fill,
-    want: &str,
-) -> Result<bool, Fail> {
+fn do_steps(alloc: Global, host: &mut Host<MemoryDisk>, count: u32) -> bool {
+    for number in 0..count {
+        if !do_step(alloc, host, number) {
+            return false;
+        }
+    }
+    true
+}
+
+// The disk behind the first of these steps.
+fn behind(alloc: Global, count: u32) -> Option<MemoryDisk> {
+    let mut host = opened(alloc, 100)?;
+    if do_steps(alloc, &mut host, count) {
+        Some(host.close())
+    } else {
+        None
+    }
+}
+
+fn calls_behind(alloc: Global, count: u32) -> Option<u64> {
+    let disk = behind(alloc, count)?;
+    Some(disk.calls())
+}
+
+// Whether a crash at a moment leaves these fields.
+fn leaves(alloc: Global, disk: &MemoryDisk, moment: u64, fill: Fill, want: &str) -> bool {
     if moment > disk.calls() {
-        return Err("no such moment".into());
+        return false;
     }
     let choice = Choice {
         moment,
@@ -44,36 +57,50 @@ fn leaves(
         grown: moment % 2 == 0,
     };
     match disk.crash(&choice) {
-        Ok(image) => Ok(fields(alloc, &open(alloc, image)?)?.as_str() == want),
-        Err(_) => Err("crash".into()),
+        Ok(image) => keeps(alloc, image, want),
+        Err(_) => false,
     }
+}
+
+// So does each crash from this moment on.
+fn each_leaves(alloc: Global, disk: &MemoryDisk, start: u64, fill: Fill, want: &str) -> bool {
+    for moment in start..disk.calls() {
+        if !leaves(alloc, disk, moment, fill, want) {
+            return false;
+        }
+    }
+    leaves(alloc, disk, disk.calls(), fill, want)
 }
 
 // So does each crash while the step behind so many goes on.
-fn stays(alloc: Global, count: u32, fill: Fill, want: &str) -> Result<bool, Fail> {
-    let start = behind(alloc, count)?.calls();
+fn stays(alloc: Global, count: u32, fill: Fill, want: &str) -> Option<bool> {
+    let start = calls_behind(alloc, count)?;
     let disk = behind(alloc, count.saturating_add(1))?;
-    for moment in start..disk.calls() {
-        if !leaves(alloc, &disk, moment, fill, want)? {
-            return Ok(false);
-        }
+    Some(each_leaves(alloc, &disk, start, fill, want))
+}
+
+fn fill(number: u32) -> Fill {
+    match number {
+        0 => Fill::Old,
+        1 => Fill::New,
+        2 => Fill::Torn(1),
+        3 => Fill::Byte(0),
+        4 => Fill::Byte(0x42),
+        _ => Fill::Byte(0x52),
     }
-    leaves(alloc, &disk, disk.calls(), fill, want)
 }
 
 #[test]
-fn a_crash_within_a_checkpoint(rt: HostRuntime) -> Result<(), Fail> {
+fn a_crash_within_a_checkpoint(rt: HostRuntime) {
     let alloc = rt.alloc();
-    for fill in [
-        Fill::Old,
-        Fill::New,
-        Fill::Torn(1),
-        Fill::Byte(0),
-        Fill::Byte(0x42),
-        Fill::Byte(0x52),
-    ] {
-        assert!(rt; stays(alloc, 4, fill, "2 y ?\n")?);
-        assert!(rt; stays(alloc, 6, fill, "2 z ?\n")?);
+    for number in 0..6u32 {
+        assert!(rt;
+            stays(alloc, 4, fill(number), "2 y ?\n") == Some(true),
+            "fill {number}"
+        );
+        assert!(rt;
+            stays(alloc, 6, fill(number), "2 z ?\n") == Some(true),
+            "fill {number}"
+        );
     }
-    Ok(())
 }

@@ -1,9 +1,8 @@
 //! Events of session `a`, in short.
-use block_tree::{Octets, OutOfMemory, Sequence};
+use block_tree::{Octets, Sequence};
 use bytes::Bytes;
 use session_engine::{ChildEvent, Command, Event};
 use std::alloc::Global;
-use std::test::Fail;
 use worksheet::Name;
 
 /// A block with no text, as a banner.
@@ -31,69 +30,81 @@ pub enum Step<'a> {
     End(u32),
 }
 
-fn octets(alloc: Global, text: &str) -> Result<Octets, OutOfMemory> {
-    Octets::from_slice(alloc, text.as_bytes())
+fn octets(alloc: Global, text: &str) -> Option<Octets> {
+    Octets::from_slice(alloc, text.as_bytes()).ok()
 }
 
-fn session(alloc: Global, tab: bool, word: &str) -> Result<Command, OutOfMemory> {
+fn words(alloc: Global, word: &str) -> Option<Vec<Octets>> {
     let mut words = Vec::new(alloc);
-    words.push(octets(alloc, word)?)?;
-    Ok(Command::Session {
+    words.push(octets(alloc, word)?).ok()?;
+    Some(words)
+}
+
+fn session(alloc: Global, tab: bool, word: &str) -> Option<Command> {
+    let words = words(alloc, word)?;
+    Some(Command::Session {
         name: octets(alloc, "a")?,
         tab,
         words: Sequence::from_vec(words),
     })
 }
 
-fn new(alloc: Global, after: u32, input: &str) -> Result<Command, OutOfMemory> {
-    Ok(Command::New {
+fn new(alloc: Global, after: u32, input: &str) -> Option<Command> {
+    let session = octets(alloc, "a")?;
+    Some(Command::New {
         after,
-        session: octets(alloc, "a")?,
+        session,
         input: octets(alloc, input)?,
     })
 }
 
-fn set(alloc: Global, id: u32, input: &str) -> Result<Command, OutOfMemory> {
-    Ok(Command::Set {
+fn set(alloc: Global, id: u32, input: &str) -> Option<Command> {
+    Some(Command::Set {
         id,
         input: octets(alloc, input)?,
     })
 }
 
-fn stop(alloc: Global, name: &str) -> Result<Command, OutOfMemory> {
-    Ok(Command::Stop {
+fn stop(alloc: Global, name: &str) -> Option<Command> {
+    Some(Command::Stop {
         name: octets(alloc, name)?,
     })
 }
 
-fn piece(alloc: Global, text: &str) -> Result<ChildEvent, OutOfMemory> {
-    Ok(ChildEvent::Piece(Bytes::copy_from_slice(alloc, text.as_bytes())?))
-}
-
-// What came of a call on the child of a life of session `a`.
-fn child(life: u32, event: ChildEvent) -> Result<Event, Fail> {
-    match Name::new(b"a") {
-        Some(name) => Ok(Event::Child { name, life, event }),
-        None => Err("no name".into()),
+fn command(alloc: Global, step: &Step<'_>) -> Option<Command> {
+    match step {
+        Step::Session(word) => session(alloc, false, word),
+        Step::Tab(word) => session(alloc, true, word),
+        Step::New(after, input) => new(alloc, *after, input),
+        Step::Set(id, input) => set(alloc, *id, input),
+        Step::Remove(id) => Some(Command::Remove { id: *id }),
+        Step::Eval(id) => Some(Command::Eval { id: *id }),
+        Step::Complete(id, cursor) => Some(Command::Complete {
+            id: *id,
+            cursor: *cursor,
+        }),
+        Step::Stop(name) => stop(alloc, name),
+        Step::Checkpoint => Some(Command::Checkpoint),
+        Step::Piece(_, _) | Step::StartRefused(_) | Step::End(_) => None,
     }
 }
 
-pub fn event(alloc: Global, step: &Step<'_>) -> Result<Event, Fail> {
+// What came of a call on the child of a life of session `a`.
+fn child(life: u32, event: ChildEvent) -> Option<Event> {
+    let name = Name::new(b"a")?;
+    Some(Event::Child { name, life, event })
+}
+
+fn piece(alloc: Global, life: u32, text: &str) -> Option<Event> {
+    let bytes = Bytes::copy_from_slice(alloc, text.as_bytes()).ok()?;
+    child(life, ChildEvent::Piece(bytes))
+}
+
+pub fn event(alloc: Global, step: &Step<'_>) -> Option<Event> {
     match step {
-        Step::Session(word) => Ok(Event::Command(session(alloc, false, word)?)),
-        Step::Tab(word) => Ok(Event::Command(session(alloc, true, word)?)),
-        Step::New(after, input) => Ok(Event::Command(new(alloc, *after, input)?)),
-        Step::Set(id, input) => Ok(Event::Command(set(alloc, *id, input)?)),
-        Step::Remove(id) => Ok(Event::Command(Command::Remove { id: *id })),
-        Step::Eval(id) => Ok(Event::Command(Command::Eval { id: *id })),
-        Step::Complete(id, cursor) => Ok(Event::Command(Command::Complete {
-            id: *id,
-            cursor: *cursor,
-        })),
-        Step::Stop(name) => Ok(Event::Command(stop(alloc, name)?)),
-        Step::Checkpoint => Ok(Event::Command(Command::Checkpoint)),
-        Step::Piece(life, text) => child(*life, piece(alloc, text)?),
+        Step::Piece(life, text) => piece(alloc, *life, text),
         Step::StartRefused(life) => child(*life, ChildEvent::StartRefused),
         Step::End(life) => child(*life, ChildEvent::End),
+        _ => Some(Event::Command(command(alloc, step)?)),
     }
 }

@@ -3,19 +3,25 @@ use block_tree::{Octets, Sequence};
 use bytes::Bytes;
 use disk_model::MemoryDisk;
 use journal::create;
-use session_engine::{ChildEvent, ChildReply, Command, Event, Host, Reply};
+use session_engine::{ChildEvent, Command, Event, Host, Reply};
 use std::alloc::Global;
 use worksheet::Name;
 
-/// A host on a new worksheet, whose disk has the greatest room.
-pub fn opened(alloc: Global) -> Option<Host<MemoryDisk>> {
-    let disk = create(MemoryDisk::new(alloc, 2_147_483_648)).ok()?;
+/// An empty worksheet on a disk with this room.
+pub fn created(alloc: Global, room: u64) -> Option<MemoryDisk> {
+    if room < 11 || room > 2_147_483_648 {
+        return None;
+    }
+    create(MemoryDisk::new(alloc, room)).ok()
+}
+
+pub fn open(alloc: Global, disk: MemoryDisk) -> Option<Host<MemoryDisk>> {
     Host::open(alloc, disk).ok()
 }
 
-/// The same worksheet, opened again.
-pub fn again(alloc: Global, host: Host<MemoryDisk>) -> Option<Host<MemoryDisk>> {
-    Host::open(alloc, host.close()).ok()
+/// A host on a new worksheet, whose disk has the greatest room.
+pub fn opened(alloc: Global) -> Option<Host<MemoryDisk>> {
+    open(alloc, created(alloc, 2_147_483_648)?)
 }
 
 /// So many bytes of one kind.
@@ -38,92 +44,110 @@ pub fn octets(alloc: Global, bytes: &[u8]) -> Option<Octets> {
 
 /// A session whose interpreter answers requests of completions.
 pub fn session(alloc: Global, name: &[u8], words: Vec<Octets>) -> Option<Event> {
+    let name = octets(alloc, name)?;
     Some(Event::Command(Command::Session {
-        name: octets(alloc, name)?,
+        name,
         tab: true,
         words: Sequence::from_vec(words),
     }))
 }
 
-/// The same with one short word.
-pub fn short_session(alloc: Global, name: &[u8]) -> Option<Event> {
+/// One word of one byte.
+pub fn short_words(alloc: Global) -> Option<Vec<Octets>> {
     let mut words = Vec::new(alloc);
     words.push(octets(alloc, b"p")?).ok()?;
-    session(alloc, name, words)
+    Some(words)
 }
 
 /// A field behind another one.
 pub fn new(alloc: Global, after: u32, session: &[u8], input: &[u8]) -> Option<Event> {
+    let session = octets(alloc, session)?;
     Some(Event::Command(Command::New {
         after,
-        session: octets(alloc, session)?,
+        session,
         input: octets(alloc, input)?,
     }))
 }
 
 /// A piece from the interpreter of a life.
 pub fn piece(alloc: Global, name: &[u8], life: u32, bytes: &[u8]) -> Option<Event> {
+    let name = Name::new(name)?;
+    let bytes = Bytes::copy_from_slice(alloc, bytes).ok()?;
     Some(Event::Child {
-        name: Name::new(name)?,
+        name,
         life,
-        event: ChildEvent::Piece(Bytes::copy_from_slice(alloc, bytes).ok()?),
+        event: ChildEvent::Piece(bytes),
     })
 }
 
-/// Takes an event.
-pub fn take(host: &mut Host<MemoryDisk>, event: Event) -> Option<Reply> {
-    match host.step(event) {
-        Ok(outcome) => Some(outcome.reply),
-        Err(_) => None,
+/// What is told of an event, in short.
+#[derive(Clone, Copy, Debug, PartialEq, Eq)]
+enum Told {
+    /// A command isn't refused.
+    Done,
+    /// Something of a child.
+    Child,
+    Nothing,
+    /// It is refused, or a fault.
+    Other,
+}
+
+fn told_by(reply: &Reply) -> Told {
+    match reply {
+        Reply::Done | Reply::Field(_) | Reply::Asked(_) => Told::Done,
+        Reply::Child(_) => Told::Child,
+        Reply::Nothing => Told::Nothing,
+        Reply::Refused(_) => Told::Other,
     }
 }
 
-/// Whether an event is done: a command that isn't refused.
-pub fn is_done(host: &mut Host<MemoryDisk>, event: Event) -> bool {
-    matches!(
-        take(host, event),
-        Some(Reply::Done | Reply::Field(_) | Reply::Asked(_))
-    )
+fn give(host: &mut Host<MemoryDisk>, event: Event) -> Told {
+    match host.step(event) {
+        Ok(outcome) => told_by(&outcome.reply),
+        Err(_) => Told::Other,
+    }
 }
 
-/// What a life is told of these bytes, which come in pieces of at most 65,536 bytes: that of the last one,
+fn give_if(host: &mut Host<MemoryDisk>, event: Option<Event>) -> Told {
+    match event {
+        Some(event) => give(host, event),
+        None => Told::Other,
+    }
+}
+
+/// Whether an event is done, where there is one: a command that isn't refused.
+pub fn is_done(host: &mut Host<MemoryDisk>, event: Option<Event>) -> bool {
+    give_if(host, event) == Told::Done
+}
+
+/// Whether something is told of these bytes, which come in pieces of at most 65,536 bytes: of the last one,
 /// where nothing comes of the others.
-pub fn told(
+pub fn is_told(
     alloc: Global,
     host: &mut Host<MemoryDisk>,
     (name, life): (&[u8], u32),
     bytes: &[u8],
-) -> Option<ChildReply> {
-    let mut last = None;
+) -> bool {
+    let mut last = Told::Nothing;
     for part in bytes.chunks(65_536) {
-        if last.is_some() {
-            return None;
+        if last != Told::Nothing {
+            return false;
         }
-        match take(host, piece(alloc, name, life, part)?)? {
-            Reply::Child(reply) => last = Some(reply),
-            Reply::Nothing => {}
-            _ => return None,
-        }
+        last = give_if(host, piece(alloc, name, life, part));
     }
-    last
+    last == Told::Child
 }
 
-/// A host whose session `a` has field 1, and whose first life has given its banner and waits for the
-/// answer to it. It was on a new worksheet before.
-pub fn asking(alloc: Global, mut host: Host<MemoryDisk>) -> Option<Host<MemoryDisk>> {
-    let session = short_session(alloc, b"a")?;
-    let field = new(alloc, 0, b"a", b"x")?;
-    if !is_done(&mut host, session) || !is_done(&mut host, field) {
-        return None;
-    }
-    if !is_done(&mut host, Event::Command(Command::Eval { id: 1 })) {
-        return None;
-    }
-    told(alloc, &mut host, (b"a", 1), b"\x02verbatim:\x05")?;
-    Some(host)
+fn short_session(alloc: Global) -> Option<Event> {
+    session(alloc, b"a", short_words(alloc)?)
 }
 
-/// Such a host on a disk of the greatest room.
-pub fn asked(alloc: Global) -> Option<Host<MemoryDisk>> {
-    asking(alloc, opened(alloc)?)
+/// Whether session `a` gets field 1, and its first life gives its banner and waits for the answer to it,
+/// on a new worksheet.
+pub fn asks(alloc: Global, host: &mut Host<MemoryDisk>) -> bool {
+    let session = is_done(host, short_session(alloc));
+    let field = is_done(host, new(alloc, 0, b"a", b"x"));
+    let eval = is_done(host, Some(Event::Command(Command::Eval { id: 1 })));
+    let banner = is_told(alloc, host, (b"a", 1), b"\x02verbatim:\x05");
+    session && field && eval && banner
 }

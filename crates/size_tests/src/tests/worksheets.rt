@@ -1,6 +1,6 @@
 //! The greatest worksheet.
-use super::desk::{again, is_done, joined, new, opened, session, times, told};
-use block_tree::Octets;
+use super::desk::{is_done, is_told, joined, new, open, opened, session, times};
+use block_tree::{Block, Octets};
 use disk_model::MemoryDisk;
 use meta_format::read_block;
 use session_engine::{Command, Event, Host};
@@ -42,28 +42,34 @@ fn input_of(alloc: Global, id: u32) -> Option<String> {
     Some(input)
 }
 
-fn add_sessions(alloc: Global, host: &mut Host<MemoryDisk>) -> Option<()> {
-    for number in 0..SESSIONS {
-        let name = name_of(alloc, number)?;
-        let event = session(alloc, name.as_bytes(), words(alloc)?)?;
-        if !is_done(host, event) {
-            return None;
-        }
-    }
-    Some(())
+fn session_event(alloc: Global, number: u32) -> Option<Event> {
+    let name = name_of(alloc, number)?;
+    session(alloc, name.as_bytes(), words(alloc)?)
 }
 
-fn add_fields(alloc: Global, host: &mut Host<MemoryDisk>) -> Option<()> {
-    for after in 0..FIELDS {
-        let id = after.saturating_add(1);
-        let name = session_of(alloc, id)?;
-        let input = input_of(alloc, id)?;
-        let event = new(alloc, after, name.as_bytes(), input.as_bytes())?;
-        if !is_done(host, event) {
-            return None;
+fn add_sessions(alloc: Global, host: &mut Host<MemoryDisk>) -> bool {
+    for number in 0..SESSIONS {
+        if !is_done(host, session_event(alloc, number)) {
+            return false;
         }
     }
-    Some(())
+    true
+}
+
+fn field_event(alloc: Global, after: u32) -> Option<Event> {
+    let id = after.saturating_add(1);
+    let name = session_of(alloc, id)?;
+    let input = input_of(alloc, id)?;
+    new(alloc, after, name.as_bytes(), input.as_bytes())
+}
+
+fn add_fields(alloc: Global, host: &mut Host<MemoryDisk>) -> bool {
+    for after in 0..FIELDS {
+        if !is_done(host, field_event(alloc, after)) {
+            return false;
+        }
+    }
+    true
 }
 
 // A block with a prompt of 1,024 bytes in it.
@@ -90,30 +96,35 @@ fn longest(alloc: Global) -> Option<Vec<u8>> {
 }
 
 fn evaluates(host: &mut Host<MemoryDisk>, id: u32) -> bool {
-    is_done(host, Event::Command(Command::Eval { id }))
+    is_done(host, Some(Event::Command(Command::Eval { id })))
+}
+
+// Whether something is told of these bytes of the first session's first life.
+fn is_given(alloc: Global, host: &mut Host<MemoryDisk>, bytes: Option<Vec<u8>>) -> bool {
+    match (name_of(alloc, 0), bytes) {
+        (Some(name), Some(bytes)) => {
+            is_told(alloc, host, (name.as_bytes(), 1), bytes.as_slice())
+        }
+        _ => false,
+    }
 }
 
 // Answers of the first session: field 1 under a prompt of 1,024 bytes of p, field 65 under one of q, with
 // the longest block.
-fn add_answers(alloc: Global, host: &mut Host<MemoryDisk>) -> Option<()> {
-    if !evaluates(host, 1) || !evaluates(host, 65) {
-        return None;
-    }
-    let name = name_of(alloc, 0)?;
-    let first = (name.as_bytes(), 1);
-    told(alloc, host, first, with_prompt(alloc, b'p')?.as_slice())?;
-    told(alloc, host, first, with_prompt(alloc, b'q')?.as_slice())?;
-    told(alloc, host, first, longest(alloc)?.as_slice())?;
-    Some(())
+fn add_answers(alloc: Global, host: &mut Host<MemoryDisk>) -> bool {
+    let is_asked = evaluates(host, 1) && evaluates(host, 65);
+    let banner = is_given(alloc, host, with_prompt(alloc, b'p'));
+    let first = is_given(alloc, host, with_prompt(alloc, b'q'));
+    let other = is_given(alloc, host, longest(alloc));
+    is_asked && banner && first && other
 }
 
-// The greatest worksheet.
-fn made(alloc: Global) -> Option<Host<MemoryDisk>> {
-    let mut host = opened(alloc)?;
-    add_sessions(alloc, &mut host)?;
-    add_fields(alloc, &mut host)?;
-    add_answers(alloc, &mut host)?;
-    Some(host)
+// Makes the greatest worksheet of a new one.
+fn is_made(alloc: Global, host: &mut Host<MemoryDisk>) -> bool {
+    let sessions = add_sessions(alloc, host);
+    let fields = add_fields(alloc, host);
+    let answers = add_answers(alloc, host);
+    sessions && fields && answers
 }
 
 // Whether a session has this number, and its words.
@@ -154,38 +165,70 @@ fn has_fields(alloc: Global, host: &Host<MemoryDisk>) -> Option<bool> {
     Some(id == FIELDS && host.sheet().next_id() == FIELDS + 1)
 }
 
-// Whether an answer has a prompt of 1,024 bytes of this kind, and the output that is spelled so.
-fn is_answer(alloc: Global, answer: &Answer, (byte, spelling): (u8, &[u8])) -> Option<bool> {
-    let prompt = times(alloc, byte, 1_024)?;
-    let output = read_block(alloc, spelling).ok()?;
-    Some(answer.prompt.as_slice() == prompt.as_slice() && answer.output == output)
+// Whether an answer has this prompt and this output.
+fn is_answer(answer: &Answer, prompt: &[u8], output: &Block) -> bool {
+    answer.prompt.as_slice() == prompt && answer.output == *output
+}
+
+// Whether a field has an answer with a prompt of 1,024 bytes of this kind, and this output.
+fn has_answer(alloc: Global, host: &Host<MemoryDisk>, id: u32, byte: u8, output: &Block) -> bool {
+    let Some(prompt) = times(alloc, byte, 1_024) else {
+        return false;
+    };
+    match host.sheet().field(id) {
+        Some(field) => match &field.answer {
+            Some(answer) => is_answer(answer, prompt.as_slice(), output),
+            None => false,
+        },
+        None => false,
+    }
+}
+
+fn block(alloc: Global, spelling: &[u8]) -> Option<Block> {
+    read_block(alloc, spelling).ok()
+}
+
+fn longest_block(alloc: Global) -> Option<Block> {
+    let longest = longest(alloc)?;
+    block(alloc, longest.as_slice())
 }
 
 fn has_answers(alloc: Global, host: &Host<MemoryDisk>) -> Option<bool> {
-    let first = host.sheet().field(1)?.answer.as_ref()?;
-    let other = host.sheet().field(65)?.answer.as_ref()?;
-    let longest = longest(alloc)?;
-    Some(
-        is_answer(alloc, first, (b'p', b"\x02verbatim:A\x05"))?
-            && is_answer(alloc, other, (b'q', longest.as_slice()))?,
-    )
+    let short = block(alloc, b"\x02verbatim:A\x05")?;
+    let longest = longest_block(alloc)?;
+    let first = has_answer(alloc, host, 1, b'p', &short);
+    let other = has_answer(alloc, host, 65, b'q', &longest);
+    Some(first && other)
 }
 
 // Whether a worksheet is the greatest one.
-fn is_greatest(alloc: Global, host: &Host<MemoryDisk>) -> Option<bool> {
-    Some(has_sessions(alloc, host)? && has_fields(alloc, host)? && has_answers(alloc, host)?)
+fn is_greatest(alloc: Global, host: &Host<MemoryDisk>) -> bool {
+    let sessions = has_sessions(alloc, host);
+    let fields = has_fields(alloc, host);
+    let answers = has_answers(alloc, host);
+    sessions == Some(true) && fields == Some(true) && answers == Some(true)
 }
 
-// Whether the greatest worksheet is made, and stands there when it is opened again.
-fn is_kept(alloc: Global) -> Option<bool> {
-    let host = made(alloc)?;
-    if !is_greatest(alloc, &host)? {
-        return Some(false);
+fn is_greatest_on(alloc: Global, disk: MemoryDisk) -> bool {
+    match open(alloc, disk) {
+        Some(host) => is_greatest(alloc, &host),
+        None => false,
     }
-    is_greatest(alloc, &again(alloc, host)?)
 }
 
+fn is_made_and_kept(alloc: Global, host: Host<MemoryDisk>) -> bool {
+    let mut host = host;
+    let is_made = is_made(alloc, &mut host);
+    let is_greatest = is_greatest(alloc, &host);
+    is_made && is_greatest && is_greatest_on(alloc, host.close())
+}
+
+// The greatest worksheet is made, and stands there when it is opened again.
 #[test]
 fn the_greatest_worksheet_is_kept(rt: HostRuntime) {
-    assert!(rt; is_kept(rt.alloc()) == Some(true));
+    let is_kept = match opened(rt.alloc()) {
+        Some(host) => is_made_and_kept(rt.alloc(), host),
+        None => false,
+    };
+    assert!(rt; is_kept);
 }

@@ -1,10 +1,9 @@
 //! Ops in short, and the steps of a test with what has to come of each.
-use block_tree::{Block, Item, Node, Octets, OutOfMemory, Reason, Sequence, Tag, TagName};
+use block_tree::{Block, Item, Node, Octets, Reason, Sequence, Tag, TagName};
 use std::alloc::Global;
-use std::test::Fail;
 use tests_desk::exhausted;
 use worksheet::limits::LAST_NUMBER;
-use worksheet::{Op, Refusal, Sheet};
+use worksheet::{Answer, Op, Refusal, Sheet};
 
 /// An op, in short.
 #[derive(Clone, Copy)]
@@ -67,72 +66,85 @@ pub enum Step<'a> {
     Sees(Seen<'a>),
 }
 
-fn octets(alloc: Global, text: &str) -> Result<Octets, OutOfMemory> {
-    Octets::from_slice(alloc, text.as_bytes())
+fn octets(alloc: Global, text: &str) -> Option<Octets> {
+    Octets::from_slice(alloc, text.as_bytes()).ok()
 }
 
-fn session(alloc: Global, name: &str, words: &[&str]) -> Result<Op, OutOfMemory> {
+fn all_octets(alloc: Global, words: &[&str]) -> Option<Vec<Octets>> {
     let mut all = Vec::new(alloc);
     for word in words {
-        all.push(octets(alloc, word)?)?;
+        all.push(octets(alloc, word)?).ok()?;
     }
-    Ok(Op::Session {
+    Some(all)
+}
+
+fn session(alloc: Global, name: &str, words: &[&str]) -> Option<Op> {
+    let words = all_octets(alloc, words)?;
+    Some(Op::Session {
         name: octets(alloc, name)?,
         tab: false,
-        words: Sequence::from_vec(all),
+        words: Sequence::from_vec(words),
     })
 }
 
-fn new(alloc: Global, after: u32, input: &str) -> Result<Op, OutOfMemory> {
-    Ok(Op::New {
+fn new(alloc: Global, after: u32, input: &str) -> Option<Op> {
+    let session = octets(alloc, "a")?;
+    Some(Op::New {
         after,
-        session: octets(alloc, "a")?,
+        session,
         input: octets(alloc, input)?,
     })
 }
 
-fn set(alloc: Global, id: u32, input: &str) -> Result<Op, OutOfMemory> {
-    Ok(Op::Set {
+fn set(alloc: Global, id: u32, input: &str) -> Option<Op> {
+    Some(Op::Set {
         id,
         input: octets(alloc, input)?,
     })
 }
 
-// verbatim:A
-fn block(alloc: Global) -> Result<Block, Fail> {
+fn text_items(alloc: Global, text: &str) -> Option<Vec<Item>> {
     let mut items = Vec::new(alloc);
-    items.push(Item::Text(octets(alloc, "A")?))?;
-    let tag = Tag {
-        channel: false,
-        name: TagName::from_slice(alloc, b"verbatim")?,
-    };
-    match Block::new(Node { tag, items }) {
-        Ok(block) => Ok(block),
-        Err(_) => Err("no block".into()),
-    }
+    items.push(Item::Text(octets(alloc, text)?)).ok()?;
+    Some(items)
 }
 
-fn answer(alloc: Global, id: u32, prompt: &str) -> Result<Op, Fail> {
+fn verbatim(alloc: Global) -> Option<Tag> {
+    let name = TagName::from_slice(alloc, b"verbatim").ok()?;
+    Some(Tag {
+        channel: false,
+        name,
+    })
+}
+
+// verbatim:A
+fn block(alloc: Global) -> Option<Block> {
+    let items = text_items(alloc, "A")?;
+    let tag = verbatim(alloc)?;
+    Block::new(Node { tag, items }).ok()
+}
+
+fn answer(alloc: Global, id: u32, prompt: &str) -> Option<Op> {
     let prompt = octets(alloc, prompt)?;
-    Ok(Op::Answer {
+    Some(Op::Answer {
         id,
         prompt,
         output: block(alloc)?,
     })
 }
 
-fn op(alloc: Global, given: &Given<'_>) -> Result<Op, Fail> {
+fn op(alloc: Global, given: &Given<'_>) -> Option<Op> {
     match given {
-        Given::Session(name, words) => Ok(session(alloc, name, words)?),
-        Given::New(after, input) => Ok(new(alloc, *after, input)?),
-        Given::Set(id, input) => Ok(set(alloc, *id, input)?),
-        Given::Remove(id) => Ok(Op::Remove { id: *id }),
-        Given::Move(id, after) => Ok(Op::Move {
+        Given::Session(name, words) => session(alloc, name, words),
+        Given::New(after, input) => new(alloc, *after, input),
+        Given::Set(id, input) => set(alloc, *id, input),
+        Given::Remove(id) => Some(Op::Remove { id: *id }),
+        Given::Move(id, after) => Some(Op::Move {
             id: *id,
             after: *after,
         }),
         Given::Answer(id, prompt) => answer(alloc, *id, prompt),
-        Given::Lost(id, reason) => Ok(Op::Lost {
+        Given::Lost(id, reason) => Some(Op::Lost {
             id: *id,
             reason: *reason,
         }),
@@ -150,82 +162,124 @@ fn take(sheet: &mut Sheet, op: Op) -> Option<Refusal> {
     }
 }
 
-fn taken(alloc: Global, sheet: &mut Sheet, given: &Given<'_>) -> Result<Option<Refusal>, Fail> {
-    Ok(take(sheet, op(alloc, given)?))
+// The same where there was memory for the op.
+fn take_if(sheet: &mut Sheet, op: Option<Op>) -> Option<Refusal> {
+    match op {
+        Some(op) => take(sheet, op),
+        None => Some(Refusal::OutOfMemory),
+    }
+}
+
+fn taken(alloc: Global, sheet: &mut Sheet, given: &Given<'_>) -> Option<Refusal> {
+    take_if(sheet, op(alloc, given))
+}
+
+fn numbered_name(alloc: Global, number: usize) -> Option<String> {
+    format!(in alloc; "s{number}").ok()
 }
 
 // A session of this number.
-fn numbered(alloc: Global, number: usize) -> Result<Op, Fail> {
-    let name = format!(in alloc; "s{number}")?;
-    Ok(session(alloc, name.as_str(), &["p", "a b"])?)
+fn numbered(alloc: Global, number: usize) -> Option<Op> {
+    let name = numbered_name(alloc, number)?;
+    session(alloc, name.as_str(), &["p", "a b"])
 }
 
-fn adds_sessions(alloc: Global, sheet: &mut Sheet, count: usize) -> Result<bool, Fail> {
+fn adds_sessions(alloc: Global, sheet: &mut Sheet, count: usize) -> bool {
     for i in 0..count {
-        if take(sheet, numbered(alloc, i + 1)?) != None {
-            return Ok(false);
+        if take_if(sheet, numbered(alloc, i + 1)).is_some() {
+            return false;
         }
     }
-    Ok(true)
+    true
 }
 
-fn adds_fields_in_front(
-    alloc: Global,
-    sheet: &mut Sheet,
-    count: usize,
-) -> Result<bool, OutOfMemory> {
+fn adds_fields_in_front(alloc: Global, sheet: &mut Sheet, count: usize) -> bool {
     for _ in 0..count {
-        if take(sheet, new(alloc, 0, "x")?) != None {
-            return Ok(false);
+        if take_if(sheet, new(alloc, 0, "x")).is_some() {
+            return false;
         }
     }
-    Ok(true)
+    true
 }
 
-fn adds_fields_behind(alloc: Global, sheet: &mut Sheet, count: u32) -> Result<bool, OutOfMemory> {
+fn adds_fields_behind(alloc: Global, sheet: &mut Sheet, count: u32) -> bool {
     for after in 0..count {
-        if take(sheet, new(alloc, after, "x")?) != None {
-            return Ok(false);
+        if take_if(sheet, new(alloc, after, "x")).is_some() {
+            return false;
         }
     }
-    Ok(true)
+    true
 }
 
-fn gives_each_number(alloc: Global, sheet: &mut Sheet) -> Result<bool, OutOfMemory> {
+fn gives_number(alloc: Global, sheet: &mut Sheet, id: u32) -> bool {
+    let made = take_if(sheet, new(alloc, 0, "x"));
+    let removed = take(sheet, Op::Remove { id });
+    made.is_none() && removed.is_none()
+}
+
+fn gives_each_number(alloc: Global, sheet: &mut Sheet) -> bool {
     for i in 0..LAST_NUMBER {
-        let made = take(sheet, new(alloc, 0, "x")?);
-        let removed = take(sheet, Op::Remove { id: i + 1 });
-        if made != None || removed != None {
-            return Ok(false);
+        if !gives_number(alloc, sheet, i + 1) {
+            return false;
         }
     }
-    Ok(true)
+    true
 }
 
 fn makes_room(sheet: &mut Sheet, op: &Op) -> bool {
     sheet.make_room(op).is_ok() && sheet.has_room(op)
 }
 
-fn is_refused(alloc: Global, sheet: &mut Sheet, op: Op) -> Result<bool, OutOfMemory> {
-    let _held = exhausted(alloc)?;
+fn makes_room_for(alloc: Global, sheet: &mut Sheet, given: &Given<'_>) -> bool {
+    match op(alloc, given) {
+        Some(op) => makes_room(sheet, &op),
+        None => false,
+    }
+}
+
+fn is_refused(sheet: &mut Sheet, op: Op) -> bool {
     let no_room = sheet.make_room(&op).is_err();
-    Ok(no_room && take(sheet, op) == Some(Refusal::OutOfMemory))
+    no_room && take(sheet, op) == Some(Refusal::OutOfMemory)
 }
 
-fn is_done(alloc: Global, sheet: &mut Sheet, op: Op) -> Result<bool, OutOfMemory> {
-    if !makes_room(sheet, &op) {
-        return Ok(false);
+fn is_refused_without(alloc: Global, sheet: &mut Sheet, op: Op) -> bool {
+    match exhausted(alloc) {
+        Ok(_held) => is_refused(sheet, op),
+        Err(_) => false,
     }
-    let _held = exhausted(alloc)?;
-    Ok(take(sheet, op) == None)
 }
 
-fn numbers(alloc: Global, sheet: &Sheet) -> Result<Vec<u32>, OutOfMemory> {
-    let mut all = Vec::new(alloc);
+fn refuses(alloc: Global, sheet: &mut Sheet, given: &Given<'_>) -> bool {
+    match op(alloc, given) {
+        Some(op) => is_refused_without(alloc, sheet, op),
+        None => false,
+    }
+}
+
+fn is_done_without(alloc: Global, sheet: &mut Sheet, op: Op) -> bool {
+    match exhausted(alloc) {
+        Ok(_held) => take(sheet, op).is_none(),
+        Err(_) => false,
+    }
+}
+
+fn does_in_its_room(alloc: Global, sheet: &mut Sheet, given: &Given<'_>) -> bool {
+    let has_room = makes_room_for(alloc, sheet, given);
+    match op(alloc, given) {
+        Some(op) => has_room && is_done_without(alloc, sheet, op),
+        None => false,
+    }
+}
+
+fn has_numbers(sheet: &Sheet, want: &[u32]) -> bool {
+    let mut count = 0usize;
     for field in sheet.fields() {
-        all.push(field.id)?;
+        if want.get(count) != Some(&field.id) {
+            return false;
+        }
+        count = count.saturating_add(1);
     }
-    Ok(all)
+    count == want.len()
 }
 
 fn session_count(sheet: &Sheet) -> u32 {
@@ -262,77 +316,102 @@ fn is_lost(sheet: &Sheet, reason: Reason) -> bool {
     }
 }
 
-fn has_answer(alloc: Global, sheet: &Sheet, prompt: &str) -> Result<bool, Fail> {
-    let Some(field) = sheet.field(1) else {
-        return Ok(false);
-    };
-    let Some(answer) = &field.answer else {
-        return Ok(false);
-    };
-    Ok(answer.prompt.as_slice() == prompt.as_bytes() && answer.output == block(alloc)?)
+fn is_answer(answer: &Answer, prompt: &str, output: &Block) -> bool {
+    answer.prompt.as_slice() == prompt.as_bytes() && answer.output == *output
+}
+
+fn has_output(sheet: &Sheet, prompt: &str, output: &Block) -> bool {
+    match sheet.field(1) {
+        Some(field) => match &field.answer {
+            Some(answer) => is_answer(answer, prompt, output),
+            None => false,
+        },
+        None => false,
+    }
+}
+
+fn has_answer(alloc: Global, sheet: &Sheet, prompt: &str) -> bool {
+    match block(alloc) {
+        Some(output) => has_output(sheet, prompt, &output),
+        None => false,
+    }
 }
 
 // So many times `>`.
-fn prompt(alloc: Global, count: usize) -> Result<String, OutOfMemory> {
+fn prompt(alloc: Global, count: usize) -> Option<String> {
     let mut prompt = String::new(alloc);
     for _ in 0..count {
-        prompt.push('>')?;
+        prompt.push('>').ok()?;
     }
-    Ok(prompt)
+    Some(prompt)
 }
 
-fn refusal_of_prompt(alloc: Global, sheet: &Sheet, count: usize) -> Result<Option<Refusal>, Fail> {
+fn answer_under(alloc: Global, count: usize) -> Option<Op> {
     let prompt = prompt(alloc, count)?;
-    let op = answer(alloc, 1, prompt.as_str())?;
-    Ok(sheet.check(&op).err())
+    answer(alloc, 1, prompt.as_str())
 }
 
-fn sees(alloc: Global, sheet: &Sheet, seen: &Seen<'_>) -> Result<bool, Fail> {
-    match seen {
-        Seen::NextId(id) => Ok(sheet.next_id() == *id),
-        Seen::Numbers(want) => Ok(numbers(alloc, sheet)?.as_slice() == *want),
-        Seen::Sessions(count) => Ok(session_count(sheet) == *count),
-        Seen::Words(name, count) => Ok(words_of(sheet, name) == *count),
-        Seen::NoField(id) => Ok(sheet.field(*id).is_none()),
-        Seen::Open(input) => Ok(is_open(sheet, input)),
-        Seen::Lost(reason) => Ok(is_lost(sheet, *reason)),
-        Seen::Answered(prompt) => has_answer(alloc, sheet, prompt),
-        Seen::Room(given, want) => Ok(sheet.has_room(&op(alloc, given)?) == *want),
-        Seen::Prompt(count, want) => Ok(refusal_of_prompt(alloc, sheet, *count)? == *want),
+fn refusal_of(sheet: &Sheet, op: &Op) -> Option<Refusal> {
+    sheet.check(op).err()
+}
+
+fn refusal_of_prompt(alloc: Global, sheet: &Sheet, count: usize) -> Option<Refusal> {
+    match answer_under(alloc, count) {
+        Some(op) => refusal_of(sheet, &op),
+        None => Some(Refusal::OutOfMemory),
     }
 }
 
-fn is_right(alloc: Global, sheet: &mut Sheet, step: &Step<'_>) -> Result<bool, Fail> {
+fn has_room(alloc: Global, sheet: &Sheet, given: &Given<'_>) -> Option<bool> {
+    let op = op(alloc, given)?;
+    Some(sheet.has_room(&op))
+}
+
+fn sees(alloc: Global, sheet: &Sheet, seen: &Seen<'_>) -> bool {
+    match seen {
+        Seen::NextId(id) => sheet.next_id() == *id,
+        Seen::Numbers(want) => has_numbers(sheet, want),
+        Seen::Sessions(count) => session_count(sheet) == *count,
+        Seen::Words(name, count) => words_of(sheet, name) == *count,
+        Seen::NoField(id) => sheet.field(*id).is_none(),
+        Seen::Open(input) => is_open(sheet, input),
+        Seen::Lost(reason) => is_lost(sheet, *reason),
+        Seen::Answered(prompt) => has_answer(alloc, sheet, prompt),
+        Seen::Room(given, want) => has_room(alloc, sheet, given) == Some(*want),
+        Seen::Prompt(count, want) => refusal_of_prompt(alloc, sheet, *count) == *want,
+    }
+}
+
+fn is_right(alloc: Global, sheet: &mut Sheet, step: &Step<'_>) -> bool {
     match step {
-        Step::Done(given) => Ok(taken(alloc, sheet, given)? == None),
-        Step::Refused(given, why) => Ok(taken(alloc, sheet, given)? == Some(*why)),
+        Step::Done(given) => taken(alloc, sheet, given).is_none(),
+        Step::Refused(given, why) => taken(alloc, sheet, given) == Some(*why),
         Step::Sessions(count) => adds_sessions(alloc, sheet, *count),
-        Step::FieldsInFront(count) => Ok(adds_fields_in_front(alloc, sheet, *count)?),
-        Step::FieldsBehind(count) => Ok(adds_fields_behind(alloc, sheet, *count)?),
-        Step::EachNumber => Ok(gives_each_number(alloc, sheet)?),
-        Step::MakesRoom(given) => Ok(makes_room(sheet, &op(alloc, given)?)),
-        Step::WithoutMemory(given) => Ok(is_refused(alloc, sheet, op(alloc, given)?)?),
-        Step::DoneInItsRoom(given) => Ok(is_done(alloc, sheet, op(alloc, given)?)?),
+        Step::FieldsInFront(count) => adds_fields_in_front(alloc, sheet, *count),
+        Step::FieldsBehind(count) => adds_fields_behind(alloc, sheet, *count),
+        Step::EachNumber => gives_each_number(alloc, sheet),
+        Step::MakesRoom(given) => makes_room_for(alloc, sheet, given),
+        Step::WithoutMemory(given) => refuses(alloc, sheet, given),
+        Step::DoneInItsRoom(given) => does_in_its_room(alloc, sheet, given),
         Step::Sees(seen) => sees(alloc, sheet, seen),
     }
 }
 
-// A worksheet with the session a.
-fn with_session(alloc: Global) -> Result<Sheet, Fail> {
-    let mut sheet = Sheet::new(alloc);
-    match take(&mut sheet, session(alloc, "a", &["p"])?) {
-        None => Ok(sheet),
-        Some(_) => Err("the session is refused".into()),
-    }
-}
-
-/// The first of these steps, counted from 0, that is wrong on a worksheet with the session a.
-pub fn first_wrong(alloc: Global, steps: &[Step<'_>]) -> Result<Option<usize>, Fail> {
-    let mut sheet = with_session(alloc)?;
+fn first_wrong_on(alloc: Global, sheet: &mut Sheet, steps: &[Step<'_>]) -> Option<usize> {
     for (number, step) in steps.iter().enumerate() {
-        if !is_right(alloc, &mut sheet, step)? {
-            return Ok(Some(number));
+        if !is_right(alloc, sheet, step) {
+            return Some(number);
         }
     }
-    Ok(None)
+    None
+}
+
+/// The first of these steps, counted from 0, that is wrong on a worksheet with the session a; the first of
+/// all where that can't be made.
+pub fn first_wrong(alloc: Global, steps: &[Step<'_>]) -> Option<usize> {
+    let mut sheet = Sheet::new(alloc);
+    match take_if(&mut sheet, session(alloc, "a", &["p"])) {
+        None => first_wrong_on(alloc, &mut sheet, steps),
+        Some(_) => Some(0),
+    }
 }

@@ -3,8 +3,8 @@ use Rattle.disk_model.specs.Disk.{Image, InModel, area_of, bytes_on}
 use Rattle.disk_model.specs.declared.disk.Area.{Area}
 use Rattle.journal.specs.inside.Window.{Shows}
 use Rattle.journal.specs.declared.walk.Step.TheVariants as steps
-use Rattle.journal.proofs.Readings.{none_read, reads_on, so_before, unfailed}
-use Rattle.journal.proofs.Walks.{at_first, broken_here, closed_here, reached_on, step_here}
+use Rattle.journal.proofs.Readings.{none_read, reads_on, so_before}
+use Rattle.journal.proofs.Walks.{at_first, closed_here, damaged_here, reached_on, step_here}
 use Rattle.journal.proofs.walk.walk_gates.Goals as goal
 
 pub loop-cause-init : goal.loop-cause-init
@@ -25,21 +25,21 @@ pub returns-in-End-clause-reads : goal.returns-in-End-clause-reads
 returns-in-End-clause-reads g c = reads_on ⊥ _ _ _ c.loop-cause.invariant.reads c.in_default.ensures.reads
 
 pub returns-in-Broken-clause-reads : goal.returns-in-Broken-clause-reads
-returns-in-Broken-clause-reads g c = unfailed _ _ _ (λ wrong. cc) (reads_on ⊥ _ _ _ c.loop-cause.invariant.reads c.in_default.ensures.reads)
+returns-in-Broken-clause-reads g c = reads_on ⊥ _ _ _ c.loop-cause.invariant.reads c.in_default.ensures.reads
 
-pub returns-in-End-clause-end : goal.returns-in-End-clause-end
-returns-in-End-clause-end g c = λ model.
+pub returns-in-End-clause-front : goal.returns-in-End-clause-front
+returns-in-End-clause-front g c = λ model.
     let old = g.D.Disk.view c.args.disk.now in
     let shows = so_before (λ (i : Image). Shows c.fill.new.self (area_of c.args.window.now.area i)) ⊥ old (g.D.Disk.view c.loop-cause.disk) c.loop-cause.invariant.reads (subst (λ (a : Area). InModel (g.D.Disk.view c.loop-cause.disk) (Shows c.fill.new.self (area_of a (bytes_on (g.D.Disk.view c.loop-cause.disk))))) c.loop-cause.invariant.area c.in_default.ensures.shows) model in
     let step = step_here c.fill.new.self (area_of c.args.window.now.area (bytes_on old)) c.loop-cause.gate (c.loop-cause.window.limit - c.loop-cause.gate) c.behind.result.now steps.End shows (omega (arith, c.fill.ensures.limit)) (omega (arith, c.fill.ensures.limit, c.loop-cause.invariant.inside)) c.in-End.ensures.step c.behind.ensures.shows in
     closed_here _ _ step.0 step.1 (c.loop-cause.invariant.reached model) step.2 step.3
 
-pub returns-in-Broken-clause-fault : goal.returns-in-Broken-clause-fault
-returns-in-Broken-clause-fault g c = λ model.
+pub returns-in-Broken-clause-front : goal.returns-in-Broken-clause-front
+returns-in-Broken-clause-front g c = λ model.
     let old = g.D.Disk.view c.args.disk.now in
     let shows = so_before (λ (i : Image). Shows c.fill.new.self (area_of c.args.window.now.area i)) ⊥ old (g.D.Disk.view c.loop-cause.disk) c.loop-cause.invariant.reads (subst (λ (a : Area). InModel (g.D.Disk.view c.loop-cause.disk) (Shows c.fill.new.self (area_of a (bytes_on (g.D.Disk.view c.loop-cause.disk))))) c.loop-cause.invariant.area c.in_default.ensures.shows) model in
     let step = step_here c.fill.new.self (area_of c.args.window.now.area (bytes_on old)) c.loop-cause.gate (c.loop-cause.window.limit - c.loop-cause.gate) c.behind.result.now steps.Broken shows (omega (arith, c.fill.ensures.limit)) (omega (arith, c.fill.ensures.limit, c.loop-cause.invariant.inside)) c.in-Broken.ensures.step c.behind.ensures.shows in
-    broken_here _ _ step.0 (c.loop-cause.invariant.reached model) step.1 step.2
+    damaged_here _ _ step.0 (c.loop-cause.invariant.reached model) step.1 step.2
 
 pub loop-cause-preserved : goal.loop-cause-preserved
 loop-cause-preserved g c =

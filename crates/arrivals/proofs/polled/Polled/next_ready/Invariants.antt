@@ -1,0 +1,5 @@
+use Rattle.std.specs.Prelude.{vec_len}
+use Rattle.arrivals.proofs.polled.Polled.next_ready.Given as goal
+
+abbrev pub decreases-loop-seat : goal.decreases-loop-seat
+decreases-loop-seat g l = vec_len l.self.ready

@@ -1,0 +1,51 @@
+-- Sources whose turns are a list.
+use Rattle.std.specs.Prelude.{◌≡◌, ℕ, Bool, true, false, List, Option, Some, None, position, slice_get, is_some, remove}
+use Rattle.child_edge.specs.Calls.{Call, Answer}
+use Rattle.child_edge.specs.Parts.{ByParts}
+use Rattle.child_edge.specs.declared.scripted.Part.{Part}
+use Rattle.arrivals.specs.declared.sources.Input.{Input}
+use Rattle.arrivals.specs.declared.sources.Input.TheVariants as input
+use Rattle.arrivals.specs.declared.sources.Woken.{Woken}
+use Rattle.arrivals.specs.declared.sources.Woken.TheVariants as woken
+use Rattle.arrivals.specs.Watching.{Asked}
+
+-- the children's parts, and whose turn it is, in order
+pub record Turns : Type 0 where
+  pub parts : List Part
+  pub turns : List Woken
+
+abbrev pub is_wanted : Input → Bool
+is_wanted input.HeldBack = false
+is_wanted input.Empty = true
+is_wanted input.Ready = true
+
+-- whether this may come where that was asked
+abbrev pub may_come : Asked → Woken → Bool
+may_come a woken.Input = is_wanted a.input
+may_come a (woken.Life seat) = true
+may_come a woken.TimeOver = is_some a.patience
+
+abbrev pub behind_patience : Option ℕ → Option Woken
+behind_patience None = None
+behind_patience (Some millis) = Some woken.TimeOver
+
+abbrev pub behind_input : Input → Option ℕ → Option Woken
+behind_input input.HeldBack patience = behind_patience patience
+behind_input input.Empty patience = Some woken.Input
+behind_input input.Ready patience = Some woken.Input
+
+-- behind the list: the input where it is wanted, else that the time is over where there is a limit, else a fault
+abbrev pub behind_turns : Asked → Option Woken
+behind_turns a = behind_input a.input a.patience
+
+abbrev pub AtTurn : Option ℕ → List Woken → Asked → Option Woken → List Woken → Type 0
+AtTurn None ws a told vs = (told ≡ behind_turns a) × (vs ≡ ws)
+AtTurn (Some i) ws a told vs = (told ≡ slice_get ws i) × (vs ≡ remove ws i)
+
+-- The first turn that may come is told and taken off. No child is touched.
+abbrev pub ByTurns : Turns → Asked → Option Woken → Turns → Type 0
+ByTurns s a told t = (t.parts ≡ s.parts) × AtTurn (position (may_come a) s.turns) s.turns a told t.turns
+
+-- A call on a child is answered by its part, and no turn is taken.
+abbrev pub ByChild : Turns → Call → Answer → Turns → Type 0
+ByChild s c a t = ByParts s.parts c a t.parts × (t.turns ≡ s.turns)

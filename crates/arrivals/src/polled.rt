@@ -1,0 +1,201 @@
+//! Children that are processes, and an input by its descriptor.
+ghost use Rattle.std.specs.Prelude.{◌≡◌, IfSome, true};
+ghost use Rattle.arrivals.specs.Watching.{InputMayCome, MayCome, asked};
+
+use crate::sources::{Input, Sources, WatchFault, Woken};
+use block_tree::Octets;
+use child_edge::{ChildFault, Children, Processes, ReceiveFault, Received, Seat};
+use libc::net::{POLLIN, poll};
+use libc::types::pollfd;
+use std::alloc::{AllocError, Global};
+use std::os::fd::{AsRawFd, RawFd};
+use std::process::{self, OpenProcess};
+use std::time::Clock;
+use worksheet::Name;
+
+/// The most children that are watched: a worksheet has at most so many sessions.
+const MOST_CHILDREN: usize = 64;
+
+/// The places of one poll: the input's, and those of the children.
+const MOST_PLACES: usize = 65;
+
+/// How often a poll is tried: once, and again at most 1,000 times where it was interrupted.
+const MOST_POLLS: u32 = 1_001;
+
+/// A place that is left out of a poll.
+const LEFT_OUT: pollfd = pollfd {
+    fd: -1,
+    events: POLLIN,
+    revents: 0,
+};
+
+/// Processes and an input, watched by `poll`.
+///
+/// A watch first goes on with the lives that were ready at the last poll, of which each gets its turn once,
+/// and polls when none of them is left; of a poll the input is told first. A life that was stopped since
+/// then is passed over. Nothing is read, and where no limit is given an idle watch takes no processor time.
+///
+/// A child that closed its output, and an input at its end, are ready for ever: a caller takes the end of
+/// the first, which stops it, and holds the other back. At most 64 children are watched, those that were
+/// started first, and a limit above 2,147,483,647 milliseconds counts as that many. All memory of a watch
+/// is taken at the beginning.
+#[derive(Drop)]
+pub struct Polled<R: process::Processes + Drop, K: Clock + Drop> {
+    children: Processes<R>,
+    input: RawFd,
+    clock: K,
+    ready: Vec<Seat>,
+}
+
+impl<R: process::Processes + Drop, K: Clock + Drop> Polled<R, K>
+where
+    <R::Started as OpenProcess>::Stdout: AsRawFd,
+{
+    /// These processes and the input of this descriptor, by this clock.
+    pub fn new(
+        alloc: Global,
+        children: Processes<R>,
+        input: RawFd,
+        clock: K,
+    ) -> Result<Polled<R, K>, AllocError> {
+        let ready = Vec::with_capacity(alloc, MOST_CHILDREN)?;
+        Ok(Polled {
+            children,
+            input,
+            clock,
+            ready,
+        })
+    }
+
+    /// The next life that was ready at the last poll and still runs.
+    fn next_ready(&mut self) -> Option<Seat> {
+        while let Some(seat) = self.ready.pop() {
+            let Seat { name, life } = seat;
+            if self.children.is_running(seat) {
+                return Some(Seat { name, life });
+            }
+        }
+        None
+    }
+
+    /// The places of a poll: that of the input first, then those of the children.
+    fn places(&self, input: Input) -> [pollfd; MOST_PLACES] {
+        let mut places = [LEFT_OUT; MOST_PLACES];
+        if let Input::Empty = input {
+            places[0].fd = self.input;
+        }
+        for at in 1..MOST_PLACES {
+            if let Some((_, fd)) = self.children.output(at - 1) {
+                places[at].fd = fd;
+            }
+        }
+        places
+    }
+
+    /// Keeps the lives that a poll found ready, the one that was started first as the next.
+    fn keep_ready(&mut self, places: &[pollfd; MOST_PLACES]) {
+        self.ready.clear();
+        for at in (1..MOST_PLACES).rev() {
+            if places[at].revents != 0 && self.ready.len() < self.ready.capacity() {
+                if let Some((seat, _)) = self.children.output(at - 1) {
+                    self.ready.push_reserved(seat);
+                }
+            }
+        }
+    }
+
+    /// Polls once. `None` where the poll failed.
+    fn poll_once(&mut self, input: Input, patience: Option<u64>, timeout: i32) -> Option<Woken>
+        ensures { IfSome result (MayCome (asked input patience)) }
+    {
+        let mut places = self.places(input);
+        if poll(&mut places, timeout) < 0 {
+            return None;
+        }
+        self.keep_ready(&places);
+        if comes(input, places[0].revents != 0) {
+            return Some(Woken::Input);
+        }
+        match self.next_ready() {
+            Some(seat) => Some(Woken::Life(seat)),
+            None if patience.is_some() => Some(Woken::TimeOver),
+            None => None,
+        }
+    }
+}
+
+/// Whether the input has its turn, where a poll found its descriptor ready or not.
+fn comes(input: Input, is_ready: bool) -> bool
+    ensures { result ≡ true → InputMayCome input }
+{
+    match input {
+        Input::HeldBack => false,
+        Input::Empty => is_ready,
+        Input::Ready => true,
+    }
+}
+
+/// The limit of a poll in milliseconds; -1 is none. A line that is there already lets it wait for nothing.
+fn timeout(input: Input, left: Option<u64>) -> i32 {
+    if let Input::Ready = input {
+        return 0;
+    }
+    match left {
+        None => -1,
+        Some(millis) if millis < 2_147_483_647 => millis as i32,
+        Some(_) => i32::MAX,
+    }
+}
+
+impl<R: process::Processes + Drop, K: Clock + Drop> Children for Polled<R, K> {
+    ghost after = { λ _ _ _ _. Unit {0} };
+
+    fn start(&mut self, name: Name, life: u32, words: &[Octets]) -> Result<(), ChildFault> {
+        self.children.start(name, life, words)
+    }
+
+    fn send(&mut self, name: Name, life: u32, bytes: &[u8]) -> Result<(), ChildFault> {
+        self.children.send(name, life, bytes)
+    }
+
+    fn receive(&mut self, name: Name, life: u32) -> Result<Received, ReceiveFault> {
+        self.children.receive(name, life)
+    }
+
+    fn stop(&mut self, name: Name, life: u32) -> Result<(), ChildFault> {
+        self.children.stop(name, life)
+    }
+}
+
+impl<R: process::Processes + Drop, K: Clock + Drop> Sources for Polled<R, K>
+where
+    <R::Started as OpenProcess>::Stdout: AsRawFd,
+{
+    ghost wakes = { λ _ _ _ _. Unit {0} };
+
+    /// Since the clock's own start; 0 where it can't be read.
+    fn now(&self) -> u64 {
+        match self.clock.monotonic() {
+            Ok(time) => time
+                .as_secs()
+                .saturating_mul(1_000)
+                .saturating_add(u64::from(time.subsec_millis())),
+            Err(_) => 0,
+        }
+    }
+
+    fn watch(&mut self, input: Input, patience: Option<u64>) -> Result<Woken, WatchFault> {
+        if let Some(seat) = self.next_ready() {
+            return Ok(Woken::Life(seat));
+        }
+        let begun = self.now();
+        for _ in 0..MOST_POLLS {
+            let waited = self.now().saturating_sub(begun);
+            let left = patience.map(|millis| millis.saturating_sub(waited));
+            if let Some(woken) = self.poll_once(input, patience, timeout(input, left)) {
+                return Ok(woken);
+            }
+        }
+        Err(WatchFault)
+    }
+}

@@ -1,0 +1,5 @@
+//! The tests of `arrivals`.
+#![tactic(auto)]
+
+#[cfg(test)]
+mod tests;

@@ -1,0 +1,169 @@
+//! Real children and a real pipe, polled.
+use arrivals::{Input, InputLines, NextLine, Polled, Sources, Woken};
+use block_tree::{Octets, OutOfMemory};
+use child_edge::{Children, Processes, Received, Seat};
+use std::alloc::Global;
+use std::io::{PipeReader, Write, pipe};
+use std::os::fd::{AsRawFd, RawFd};
+use std::thread::sleep;
+use std::time::Duration;
+use worksheet::Name;
+
+type Real<'a> = Polled<&'a HostRuntime, &'a HostRuntime>;
+
+fn real(rt: &HostRuntime, input: RawFd) -> Option<Real<'_>> {
+    let children = Processes::new(rt, rt.alloc());
+    Polled::new(rt.alloc(), children, input, rt).ok()
+}
+
+fn words(alloc: Global, script: &str) -> Result<Vec<Octets>, OutOfMemory> {
+    let mut words = Vec::new(alloc);
+    for word in ["sh", "-c", script] {
+        words.push(Octets::from_slice(alloc, word.as_bytes())?)?;
+    }
+    Ok(words)
+}
+
+// Starts the first life of the session with this name, of one letter, with this script.
+fn start(alloc: Global, real: &mut Real<'_>, name: &[u8], script: &str) -> Option<()> {
+    let words = words(alloc, script).ok()?;
+    real.start(Name::new(name)?, 1, words.as_slice()).ok()
+}
+
+// Receives from a life, and stops it at its end. Its letter, small for a piece.
+fn hear(real: &mut Real<'_>, seat: Seat) -> u8 {
+    let letter = match seat.name.as_slice() {
+        [letter, ..] => *letter,
+        [] => b'?',
+    };
+    match real.receive(seat.name, seat.life) {
+        Ok(Received::Piece(_)) => letter,
+        Ok(Received::End) => match real.stop(seat.name, seat.life) {
+            Ok(()) => letter.to_ascii_uppercase(),
+            Err(_) => b'!',
+        },
+        Err(_) => b'!',
+    }
+}
+
+// Whose turn it is: the letter of a life, which is received from, `.` for the input, `-` where time is over.
+fn turn(real: &mut Real<'_>, input: Input, patience: Option<u64>) -> u8 {
+    match real.watch(input, patience) {
+        Ok(Woken::Life(seat)) => hear(real, seat),
+        Ok(Woken::Input) => b'.',
+        Ok(Woken::TimeOver) => b'-',
+        Err(_) => b'!',
+    }
+}
+
+fn two_children(rt: &HostRuntime) -> Option<[u8; 5]> {
+    let mut real = real(rt, -1)?;
+    start(rt.alloc(), &mut real, b"s", "sleep 2; echo")?;
+    start(rt.alloc(), &mut real, b"q", "echo")?;
+    let mut turns = [0; 5];
+    turns[0] = turn(&mut real, Input::HeldBack, None);
+    turns[1] = turn(&mut real, Input::HeldBack, None);
+    turns[2] = turn(&mut real, Input::HeldBack, Some(20));
+    turns[3] = turn(&mut real, Input::HeldBack, None);
+    turns[4] = turn(&mut real, Input::HeldBack, Some(1_000_000_000));
+    Some(turns)
+}
+
+// The quick one is told first, its end at once though nothing was asked of it, and the slow one behind that.
+#[test]
+fn each_child_is_told_when_it_has_something(rt: HostRuntime) {
+    assert!(rt; two_children(&rt) == Some(*b"qQ-sS"));
+}
+
+// How many pieces of a child that floods come one by one between the turns of an input that always has a
+// line: 10, or fewer where two come in a row.
+fn alternating(real: &mut Real<'_>) -> u32 {
+    let mut pieces: u32 = 0;
+    let mut is_behind_piece = false;
+    for _ in 0..10_000_000u32 {
+        let is_piece = turn(real, Input::Ready, None) == b'f';
+        if is_piece && is_behind_piece || pieces >= 10 {
+            return pieces;
+        }
+        if is_piece {
+            pieces = pieces.wrapping_add(1);
+        }
+        is_behind_piece = is_piece;
+    }
+    pieces
+}
+
+fn flooded(rt: &HostRuntime) -> Option<u32> {
+    let mut real = real(rt, -1)?;
+    start(rt.alloc(), &mut real, b"f", "yes")?;
+    let pieces = alternating(&mut real);
+    real.stop(Name::new(b"f")?, 1).ok()?;
+    Some(pieces)
+}
+
+#[test]
+fn a_flood_and_lines_take_turns(rt: HostRuntime) {
+    assert!(rt; flooded(&rt) == Some(10));
+}
+
+// The turns of children that are all at their end before the first watch, the last of which is stopped when
+// the two others had a turn each.
+fn three_children(rt: &HostRuntime) -> Option<[u8; 6]> {
+    let mut real = real(rt, -1)?;
+    for name in [b"a", b"b", b"c"] {
+        start(rt.alloc(), &mut real, name, "echo")?;
+    }
+    sleep(rt, Duration::from_secs(2));
+    let mut turns = [0; 6];
+    turns[0] = turn(&mut real, Input::HeldBack, None);
+    turns[1] = turn(&mut real, Input::HeldBack, None);
+    real.stop(Name::new(b"c")?, 1).ok()?;
+    turns[2] = turn(&mut real, Input::HeldBack, None);
+    turns[3] = turn(&mut real, Input::HeldBack, None);
+    turns[4] = turn(&mut real, Input::HeldBack, Some(0));
+    turns[5] = turn(&mut real, Input::Ready, None);
+    Some(turns)
+}
+
+// Each has its turn before any has a second, and one that was stopped has none; a line that is there already
+// waits for no one.
+#[test]
+fn children_that_are_ready_take_turns(rt: HostRuntime) {
+    assert!(rt; three_children(&rt) == Some(*b"abAB-."));
+}
+
+// One line of an input that is polled and read: its first byte; `-` at the end.
+fn line(real: &mut Real<'_>, lines: &mut InputLines<PipeReader>) -> Option<u8> {
+    for _ in 0..10u32 {
+        match lines.next() {
+            NextLine::Line => return lines.line().first().copied(),
+            NextLine::End => return Some(b'-'),
+            NextLine::TooLong => return None,
+            NextLine::More => {}
+        }
+        if turn(real, Input::Empty, None) != b'.' {
+            return None;
+        }
+        lines.fill().ok()?;
+    }
+    None
+}
+
+fn piped(rt: &HostRuntime) -> Option<[u8; 3]> {
+    let (reader, mut writer) = pipe(rt).ok()?;
+    let mut real = real(rt, reader.as_raw_fd())?;
+    let mut lines = InputLines::new(rt.alloc(), reader).ok()?;
+    writer.write_all(b"one\ntw").ok()?;
+    let first = line(&mut real, &mut lines)?;
+    writer.write_all(b"o").ok()?;
+    drop(writer);
+    let second = line(&mut real, &mut lines)?;
+    let end = line(&mut real, &mut lines)?;
+    Some([first, second, end])
+}
+
+// The line is there before the next is written, and the end of the input is told.
+#[test]
+fn an_input_is_told_and_read_to_its_end(rt: HostRuntime) {
+    assert!(rt; piped(&rt) == Some(*b"ot-"));
+}

@@ -1,0 +1,83 @@
+-- The lines to come, and whose turn it is.
+use Rattle.std.proofs.Common.{◌≡◌, inl, inr, ℕ, List, [], ◌∷◌, ◌++◌, Option, Some, None, refl, ap, sym, ◌∙◌, subst, append_assoc, append-nil}
+use Rattle.std.specs.Prelude.{◌⊎◌}
+use Rattle.child_edge.specs.declared.waiting.Seat.{Seat}
+use Rattle.arrivals.specs.Lines.{InputLine}
+use Rattle.arrivals.specs.Held.{Held, KeepsLines, left_with, to_come}
+use Rattle.arrivals.specs.declared.sources.Woken.{Woken}
+use Rattle.arrivals.specs.declared.sources.Woken.TheVariants as woken
+use Rattle.live.specs.declared.holding.Hold.{Hold}
+use Rattle.live.specs.Arrivals.{Arrival, line, part, life, time_over, Watch, Comes, Tells, lines_in}
+use Rattle.session_engine.specs.Host.{HostView}
+use Rattle.child_edge.specs.Faithful.{Relation}
+use Rattle.sheet_programs.specs.declared.fault.RunFault.{RunFault}
+use Rattle.sheet_programs.specs.declared.fault.RunFault.TheVariants as fault
+use Rattle.live.specs.Arrivals.{Place}
+use Rattle.live.specs.inside.Taking.{IsBy, TakesLines, TakingFailed, TurnFailed, Turns}
+
+-- a line that is given is the first of those to come
+pub line_given : (h k : Held) (given : InputLine) (r : Option (List ℕ)) → ((more : List ℕ) → left_with h more ≡ given ∷ left_with k more) → TakesLines (line given) (to_come h r) (to_come k r)
+line_given h k given None p = tt
+line_given h k given (Some more) p = (left_with k more, p more, refl)
+
+lines-snoc : (as1 : List Arrival) (a : Arrival) (own : List InputLine) → lines_in (a ∷ []) ≡ own → lines_in (as1 ++ a ∷ []) ≡ lines_in as1 ++ own
+lines-snoc [] a own p = p
+lines-snoc (line l ∷ as1) a own p = ap (λ (x : List InputLine). l ∷ x) (lines-snoc as1 a own p)
+lines-snoc (part ∷ as1) a own p = lines-snoc as1 a own p
+lines-snoc (life seat ∷ as1) a own p = lines-snoc as1 a own p
+lines-snoc (time_over ∷ as1) a own p = lines-snoc as1 a own p
+
+-- what an arrival takes of the lines
+pub lines_on : (a : Arrival) (as1 : List Arrival) (ls : List InputLine) (rest : List InputLine) (old new : Option (List InputLine)) → ls ≡ lines_in as1 ++ rest → old ≡ Some rest → TakesLines a old new
+    → (left : List InputLine) × (ls ≡ lines_in (as1 ++ a ∷ []) ++ left) × (new ≡ Some left)
+lines_on (line l) as1 ls rest old new split is takes =
+    let got = subst (λ (o : Option (List InputLine)). TakesLines (line l) o new) is takes in
+    (got.0, split ∙ ap (λ (x : List InputLine). lines_in as1 ++ x) got.1 ∙ sym (append_assoc (lines_in as1) (l ∷ []) got.0) ∙ ap (λ (x : List InputLine). x ++ got.0) (sym (lines-snoc as1 (line l) (l ∷ []) refl)), got.2)
+lines_on part as1 ls rest old new split is takes =
+    (rest, split ∙ ap (λ (x : List InputLine). x ++ rest) (sym (lines-snoc as1 part [] refl ∙ append-nil (lines_in as1))), subst (λ (o : Option (List InputLine)). KeepsLines o new) is takes)
+lines_on (life seat) as1 ls rest old new split is takes =
+    (rest, split ∙ ap (λ (x : List InputLine). x ++ rest) (sym (lines-snoc as1 (life seat) [] refl ∙ append-nil (lines_in as1))), subst (λ (o : Option (List InputLine)). KeepsLines o new) is takes)
+lines_on time_over as1 ls rest old new split is takes =
+    (rest, split ∙ ap (λ (x : List InputLine). x ++ rest) (sym (lines-snoc as1 time_over [] refl ∙ append-nil (lines_in as1))), subst (λ (o : Option (List InputLine)). KeepsLines o new) is takes)
+
+told-input : {C : Type 0} (W : Watch C) (c d : C) → Tells W c woken.Input d ⊎ ((woken.Input ≡ woken.TimeOver) × (d ≡ c)) → Tells W c woken.Input d
+told-input W c d (inl t) = t
+told-input W c d (inr p) = let wrong : woken.Input ≡ woken.TimeOver = p.0 in absurd cc
+
+told-life : {C : Type 0} (W : Watch C) (c d : C) (seat : Seat) → Tells W c (woken.Life seat) d ⊎ ((woken.Life seat ≡ woken.TimeOver) × (d ≡ c)) → Tells W c (woken.Life seat) d
+told-life W c d seat (inl t) = t
+told-life W c d seat (inr p) = let wrong : woken.Life seat ≡ woken.TimeOver = p.0 in absurd cc
+
+time-told : {C : Type 0} (W : Watch C) (c d : C) → Tells W c woken.TimeOver d ⊎ ((woken.TimeOver ≡ woken.TimeOver) × (d ≡ c)) → Comes W c time_over d
+time-told W c d (inl t) = inl t
+time-told W c d (inr p) = inr p.1
+
+-- what comes of a turn
+pub comes_by : {C : Type 0} (W : Watch C) (held : Hold) (c d : C) (told : Woken) (a : Arrival) → Turns W held c d told → IsBy told a → Comes W c a d
+comes_by W held c d woken.Input (line l) turn by = told-input W c d turn.1
+comes_by W held c d woken.Input part turn by = told-input W c d turn.1
+comes_by W held c d woken.Input (life seat) turn by = absurd by
+comes_by W held c d woken.Input time_over turn by = absurd by
+comes_by W held c d (woken.Life at) (line l) turn by = absurd by
+comes_by W held c d (woken.Life at) part turn by = absurd by
+comes_by W held c d (woken.Life at) (life seat) turn by = subst (λ s. Tells W c (woken.Life s) d) by (told-life W c d at turn.1)
+comes_by W held c d (woken.Life at) time_over turn by = absurd by
+comes_by W held c d woken.TimeOver (line l) turn by = absurd by
+comes_by W held c d woken.TimeOver part turn by = absurd by
+comes_by W held c d woken.TimeOver (life seat) turn by = absurd by
+comes_by W held c d woken.TimeOver time_over turn by = time-told W c d turn.1
+
+-- a fault of an arrival is one of its turn
+pub turn_failed : {C : Type 0} (R : Relation C) (p : Place C) (told : Woken) (h : HostView) (c : C) (out now : Option (List ℕ)) (old new : Option (List InputLine)) (a : Arrival) (f : RunFault)
+    → IsBy told a → TakesLines a old new → TakingFailed R p a h c out now f → TurnFailed R p told h c out now old new f
+turn_failed R p told h c out now old new a (fault.Host f) by lines failed = (a, by, lines, failed)
+turn_failed R p told h c out now old new a fault.OutOfMemory by lines failed = (a, by, lines, failed)
+turn_failed R p told h c out now old new a fault.Output by lines failed = (a, by, lines, failed)
+turn_failed R p told h c out now old new a fault.Input by lines failed = absurd failed
+turn_failed R p told h c out now old new a fault.InputTooLong by lines failed = absurd failed
+turn_failed R p told h c out now old new a (fault.Open why) by lines failed = absurd failed
+turn_failed R p told h c out now old new a fault.InUse by lines failed = absurd failed
+
+pub keeps_all : (lines : Option (List InputLine)) → KeepsLines lines lines
+keeps_all None = tt
+keeps_all (Some lines) = refl

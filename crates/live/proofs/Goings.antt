@@ -1,0 +1,196 @@
+-- What came, one after the other.
+use Rattle.std.proofs.Common.{◌≡◌, inl, inr, ℕ, List, [], ◌∷◌, ◌++◌, Option, Some, None, refl, ap, sym, ◌∙◌, subst, append_assoc, append-nil}
+use Rattle.std.specs.Prelude.{◌⊎◌, IfOk, IfSome, Result, Ok, Err}
+use Rattle.std.proofs.KnownBytes.{Appends-nil, Appends-trans}
+use Rattle.std.specs.Io.KnownBytes.{Appends}
+use Rattle.session_engine.specs.World.{World}
+use Rattle.session_engine.specs.Host.{HostView, IsHost}
+use Rattle.child_edge.specs.Faithful.{Relation, at, Beat}
+use Rattle.arrivals.specs.Lines.{InputLine}
+use Rattle.arrivals.specs.declared.sources.Woken.{Woken}
+use Rattle.arrivals.specs.declared.sources.Woken.TheVariants as woken
+use Rattle.sheet_programs.specs.Lines.{beats_text}
+use Rattle.sheet_programs.specs.declared.fault.RunFault.{RunFault}
+use Rattle.sheet_programs.specs.declared.fault.RunFault.TheVariants as fault
+use Rattle.live.specs.declared.stepping.Stand.{Stand}
+use Rattle.live.specs.Arrivals.{Arrival, Place, Watch, Tells, Comes, Takes, Lived, lines_in, place, woken_at}
+use Rattle.live.specs.Broken.{LivedBefore}
+use Rattle.live.specs.Live.{MayHaveWatched}
+use Rattle.live.specs.inside.Taking.{ComingFailed, IsFront, LivedThrough, LivingFailed, Steps, TakesLines, Turns, TurnFailed, TurnTook}
+use Rattle.live.proofs.Coming.{comes_by, lines_on}
+
+-- A step.
+
+module _ {C : Type 0} (R : Relation C) (W : Watch C) (p : Place C) (mid : C) (told : Woken) (h : HostView) (c : C) (out now : Option (List ℕ)) (old new : Option (List InputLine)) (turn : Turns W p.held p.run.children mid told) where
+  watched : c ≡ mid → Tells W p.run.children told mid ⊎ ((told ≡ woken.TimeOver) × (mid ≡ p.run.children)) → MayHaveWatched W p.run.children c
+  watched same (inl t) = inr (t.0, Some told, subst (λ d. W p.run.children t.0 (Some told) d) (sym same) t.1)
+  watched same (inr t) = inl (same ∙ t.1)
+
+  pub stepped : (next : Option Stand) → TurnTook R (woken_at p mid) told h c out now old new next → Steps R W p h c out now old new next
+  stepped (Some stand) t = (t.0, mid, comes_by W p.held p.run.children mid told t.0 turn t.1, t.2, t.3)
+  stepped None t = (t.0, watched t.1 turn.1, t.2)
+
+  pub step_failed : (f : RunFault) → TurnFailed R (woken_at p mid) told h c out now old new f → ComingFailed R W p h c out now old new f
+  step_failed fault.Input t = (t.0, watched t.1 turn.1)
+  step_failed fault.InputTooLong t = absurd t
+  step_failed (fault.Open why) t = absurd t
+  step_failed fault.InUse t = absurd t
+  step_failed (fault.Host f) t = (t.0, mid, comes_by W p.held p.run.children mid told t.0 turn t.1, t.2, t.3)
+  step_failed fault.OutOfMemory t = (t.0, mid, comes_by W p.held p.run.children mid told t.0 turn t.1, t.2, t.3)
+  step_failed fault.Output t = (t.0, mid, comes_by W p.held p.run.children mid told t.0 turn t.1, t.2, t.3)
+
+-- One arrival more.
+
+pub lived-more : {C : Type 0} (R : Relation C) (W : Watch C) (p : Place C) (came : List Arrival) (beats : List Beat) (text : List ℕ) (mid : Place C) (a : Arrival) (c : C) (more : List Beat) (last : List ℕ) (q : Place C)
+    → Lived R W p came beats text mid → Comes W mid.run.children a c → Takes R (woken_at mid c) a more last q → Lived R W p (came ++ a ∷ []) (beats ++ more) (text ++ last) q
+lived-more R W p [] beats text mid a c more last q h comes takes = (
+  c,
+  q,
+  more,
+  [],
+  last,
+  [],
+  subst (λ m. Comes W m.run.children a c) h.2 comes,
+  subst (λ m. Takes R (woken_at m c) a more last q) h.2 takes,
+  (refl, refl, refl),
+  ap (λ x. x ++ more) h.0 ∙ sym (append-nil more),
+  ap (λ x. x ++ last) h.1 ∙ sym (append-nil last),
+)
+lived-more R W p (b ∷ came) beats text mid a c more last q h comes takes = (
+  h.0,
+  h.1,
+  h.2,
+  h.3 ++ more,
+  h.4,
+  h.5 ++ last,
+  h.6,
+  h.7,
+  lived-more R W h.1 came h.3 h.5 mid a c more last q h.8 comes takes,
+  ap (λ y. y ++ more) h.9 ∙ append_assoc h.2 h.3 more,
+  ap (λ y. y ++ last) h.10 ∙ append_assoc h.4 h.5 last,
+)
+
+-- The lines that came, and those to come.
+
+abbrev pub LinesLeft : Option (List InputLine) → Option (List InputLine) → List Arrival → Type 0
+LinesLeft old new came = IfSome old (λ lines. (rest : List InputLine) × (lines ≡ lines_in came ++ rest) × (new ≡ Some rest))
+
+lines-more : (old new later : Option (List InputLine)) (came : List Arrival) (a : Arrival) → LinesLeft old new came → TakesLines a new later → LinesLeft old later (came ++ a ∷ [])
+lines-more None new later came a left takes = tt
+lines-more (Some lines) new later came a left takes = lines_on a came lines left.0 new later left.1 left.2 takes
+
+lines-end : (old new : Option (List InputLine)) (came : List Arrival) → LinesLeft old new came → IfSome new (λ lines. lines ≡ []) → IfSome old (λ lines. lines ≡ lines_in came)
+lines-end None new came left none = tt
+lines-end (Some lines) new came left none =
+    let no : left.0 ≡ [] = subst (λ (o : Option (List InputLine)). IfSome o (λ l. l ≡ [])) left.2 none in
+    left.1 ∙ ap (λ (x : List InputLine). lines_in came ++ x) no ∙ append-nil (lines_in came)
+
+lines-front : (old new : Option (List InputLine)) (came : List Arrival) → LinesLeft old new came → IsFront old came
+lines-front None new came left = tt
+lines-front (Some lines) new came left = (left.0, left.1)
+
+-- So much came, and all of it was taken.
+pub record LivingSoFar {C : Type 0} (R : Relation C) (W : Watch C) (p : Place C) (stand : Stand) (h : HostView) (c : C) (out now : Option (List ℕ)) (old new : Option (List InputLine)) : Type 0 where
+  pub came : List Arrival
+  pub beats : List Beat
+  pub text : List ℕ
+  pub leads : World
+  pub lived : Lived R W p came beats text (place (at leads c h.store.disk) stand.number stand.held)
+  pub stands : IsHost h leads
+  pub wrote : Appends out now text
+  pub lines : LinesLeft old new came
+
+pub none_lived : {C : Type 0} (R : Relation C) (W : Watch C) (w : World) (h : HostView) (c : C) (stand : Stand) (out : Option (List ℕ)) (old : Option (List InputLine)) → IsHost h w
+    → LivingSoFar R W (place (at w c h.store.disk) stand.number stand.held) stand h c out out old old
+none_lived R W w h c stand out old stands = record { came = []; beats = []; text = []; leads = w; lived = (refl, refl, refl); stands = stands; wrote = Appends-nil out; lines = left old }
+  where
+    left : (o : Option (List InputLine)) → LinesLeft o o []
+    left None = tt
+    left (Some lines) = (lines, refl, refl)
+
+module _ {C : Type 0} (R : Relation C) (W : Watch C) (p : Place C) (stand : Stand) (h g : HostView) (c d : C) (out now later : Option (List ℕ)) (old new behind : Option (List InputLine)) (so : LivingSoFar R W p stand h c out now old new) where
+  pub one_lived : (next : Stand) → Steps R W (place (at so.leads c h.store.disk) stand.number stand.held) g d now later new behind (Some next) → LivingSoFar R W p next g d out later old behind
+  one_lived next t = let took = t.4 in record {
+    came = so.came ++ t.0 ∷ [];
+    beats = so.beats ++ took.0;
+    text = so.text ++ took.1;
+    leads = took.2;
+    lived = lived-more R W p so.came so.beats so.text (place (at so.leads c h.store.disk) stand.number stand.held) t.0 t.1 took.0 took.1 (place (at took.2 d g.store.disk) next.number next.held) so.lived t.2 took.3;
+    stands = took.4;
+    wrote = Appends-trans out now later so.text took.1 so.wrote took.5;
+    lines = lines-more old new behind so.came t.0 so.lines t.3;
+  }
+
+  pub all_lived : Steps R W (place (at so.leads c h.store.disk) stand.number stand.held) g d now later new behind None → LivedThrough R W p g d out later old
+  all_lived t = (
+    so.came,
+    so.beats,
+    so.text,
+    place (at so.leads c h.store.disk) stand.number stand.held,
+    so.lived,
+    t.0.1,
+    sym t.0.0,
+    t.1,
+    subst (Appends out later) (append-nil so.text) (Appends-trans out now later so.text [] so.wrote t.0.2),
+    lines-end old new so.came so.lines t.2,
+  )
+
+  before : (a : Arrival) (mid : C) → Comes W c a mid → LivedBefore R W p (so.came ++ a ∷ []) a so.beats so.text (woken_at (place (at so.leads c h.store.disk) stand.number stand.held) mid)
+  before a mid comes = record { before = so.came; mid = place (at so.leads c h.store.disk) stand.number stand.held; sources = mid; are = refl; lived = so.lived; comes = comes; here = refl }
+
+  pub living_failed : (f : RunFault) → ComingFailed R W (place (at so.leads c h.store.disk) stand.number stand.held) g d now later new behind f → LivingFailed R W p g d out later old f
+  living_failed fault.Input t = (
+    so.came,
+    so.beats,
+    so.text,
+    place (at so.leads c h.store.disk) stand.number stand.held,
+    so.lived,
+    t.0.1,
+    sym t.0.0,
+    t.1,
+    subst (Appends out later) (append-nil so.text) (Appends-trans out now later so.text [] so.wrote t.0.2),
+    lines-front old new so.came so.lines,
+  )
+  living_failed fault.InputTooLong t = absurd t
+  living_failed (fault.Open why) t = absurd t
+  living_failed fault.InUse t = absurd t
+  living_failed (fault.Host f) t = let failed = t.4 in (
+    so.came ++ t.0 ∷ [],
+    so.beats ++ failed.0,
+    so.text ++ beats_text failed.0,
+    failed.1,
+    failed.2,
+    failed.3,
+    record { last = t.0; earlier = so.beats; first = so.text; mid = woken_at (place (at so.leads c h.store.disk) stand.number stand.held) t.1; beats = failed.0; before = before t.0 t.1 t.2; broke = failed.4; took = refl; wrote = refl },
+    failed.5,
+    Appends-trans out now later so.text (beats_text failed.0) so.wrote failed.6,
+    lines-front old behind (so.came ++ t.0 ∷ []) (lines-more old new behind so.came t.0 so.lines t.3),
+  )
+  living_failed fault.OutOfMemory t = let failed = t.4 in (
+    so.came ++ t.0 ∷ [],
+    so.beats ++ failed.0,
+    so.text ++ beats_text failed.0,
+    failed.1,
+    record { last = t.0; earlier = so.beats; first = so.text; mid = woken_at (place (at so.leads c h.store.disk) stand.number stand.held) t.1; beats = failed.0; before = before t.0 t.1 t.2; broke = failed.2; took = refl; wrote = refl },
+    failed.3,
+    Appends-trans out now later so.text (beats_text failed.0) so.wrote failed.4,
+    lines-front old behind (so.came ++ t.0 ∷ []) (lines-more old new behind so.came t.0 so.lines t.3),
+  )
+  living_failed fault.Output t = let failed = t.4 in (
+    so.came ++ t.0 ∷ [],
+    failed.0,
+    failed.1,
+    record { last = t.0; earlier = so.beats; first = so.text; mid = woken_at (place (at so.leads c h.store.disk) stand.number stand.held) t.1; before = before t.0 t.1 t.2; led = failed.2 },
+    failed.3,
+    lines-front old behind (so.came ++ t.0 ∷ []) (lines-more old new behind so.came t.0 so.lines t.3),
+  )
+
+-- more came than is counted
+pub too_many : {C : Type 0} (R : Relation C) (W : Watch C) (p : Place C) (stand : Stand) (h : HostView) (c : C) (out now : Option (List ℕ)) (old new : Option (List InputLine)) → LivingSoFar R W p stand h c out now old new
+    → LivingFailed R W p h c out now old fault.InputTooLong
+too_many R W p stand h c out now old new so =
+    (so.came, so.beats, so.text, place (at so.leads c h.store.disk) stand.number stand.held, so.lived, so.stands, refl, inl refl, so.wrote, lines-front old new so.came so.lines)
+
+pub if_ok_then : {T E : Type 0} (r : Result T E) (P Q : T → Type 0) → ((x : T) → P x → Q x) → IfOk r P → IfOk r Q
+if_ok_then (Ok x) P Q f p = f x p
+if_ok_then (Err e) P Q f p = p

@@ -1,0 +1,5 @@
+pub mod Said
+pub mod Turns
+pub mod Coming
+pub mod Goings
+pub mod Ends

@@ -1,0 +1,54 @@
+use Rattle.std.proofs.Common.{refl, sym, subst}
+use Rattle.session_engine.specs.World.{world_at_opening}
+use Rattle.session_engine.specs.declared.outcome.HostFault.TheVariants as hosts
+use Rattle.journal.specs.declared.opening.OpenCause.TheVariants as opens
+use Rattle.disk_model.specs.Disk.{DiskView, Rises, SameDisk}
+use Rattle.child_edge.proofs.Faulting.{same-on}
+use Rattle.arrivals.specs.Held.{to_come}
+use Rattle.sheet_programs.specs.declared.fault.RunFault.TheVariants as told
+use Rattle.sheet_programs.proofs.Runs.{opened_on, if_err_is, on_ok_is, err_same}
+use Rattle.live.specs.Live.{begin_at}
+use Rattle.live.proofs.Ends.{live_done, live_failed, live_failed_since, ended_open}
+use Rattle.live.proofs.living.live.Goals as goal
+
+pub returns-in-Ok-done-clause-lived : goal.returns-in-Ok-done-clause-lived
+returns-in-Ok-done-clause-lived g c =
+    let o = c.in-Ok-open.ensures.opens in
+    let disk = g.D.Disk.view c.args.disk in
+    let start = world_at_opening o.0 disk.room c.in-Ok-open.host.store.end in
+    live_done g.S.Children.after g.S.Sources.wakes (g.R.Read.remaining c.args.reader) disk c.in-Ok-open.host.store.disk c.args.sources.now c.live_and_stop-done.new.sources
+    (g.W.Write.contents c.args.writer.now) (g.W.Write.contents c.live_and_stop-done.new.writer) start c.live_and_stop-done.new.host (to_come c.in-Ok.lines.held (g.R.Read.remaining c.in-Ok.lines.reader))
+    (opened_on disk c.in-Ok-open.host o.0 o.1 c.in-Ok-open.ensures.found c.in-Ok-open.ensures.ends c.in-Ok-open.ensures.looks) o.1.stands.images c.in-Ok.ensures.lines
+    (g.D.Disk.view c.close-disk.result) (on_ok_is c.live_and_stop-done.result _ c.in-Ok-done.is (c.live_and_stop-done.ensures.ok start o.1)) c.close-disk.ensures
+
+pub returns-clause-fault : goal.returns-clause-fault
+returns-clause-fault g c =
+    let o = c.in-Ok-open.ensures.opens in
+    let disk = g.D.Disk.view c.args.disk in
+    let start = world_at_opening o.0 disk.room c.in-Ok-open.host.store.end in
+    live_failed g.S.Children.after g.S.Sources.wakes (g.R.Read.remaining c.args.reader) disk c.in-Ok-open.host.store.disk c.args.sources.now c.live_and_stop-done.new.sources
+    (g.W.Write.contents c.args.writer.now) (g.W.Write.contents c.live_and_stop-done.new.writer) start c.live_and_stop-done.new.host (to_come c.in-Ok.lines.held (g.R.Read.remaining c.in-Ok.lines.reader))
+    (opened_on disk c.in-Ok-open.host o.0 o.1 c.in-Ok-open.ensures.found c.in-Ok-open.ensures.ends c.in-Ok-open.ensures.looks) o.1.stands.images c.in-Ok.ensures.lines _ c.in-Err-done.fault
+    (same-on disk c.in-Ok-open.host.store.disk c.live_and_stop-done.new.host.store.disk c.in-Ok-open.ensures.same c.live_and_stop-done.ensures.same)
+    (if_err_is c.live_and_stop-done.result _ c.in-Err-done.fault c.in-Err-done.is (c.live_and_stop-done.ensures.err start o.1))
+
+pub returns-clause-unopened : goal.returns-clause-unopened
+returns-clause-unopened g c = λ e.
+    let o = c.in-Ok-open.ensures.opens in
+    let disk = g.D.Disk.view c.args.disk in
+    let start = world_at_opening o.0 disk.room c.in-Ok-open.host.store.end in
+    absurd (ended_open g.S.Children.after g.S.Sources.wakes (begin_at start c.args.sources.now c.in-Ok-open.host.store.disk) c.live_and_stop-done.new.host c.live_and_stop-done.new.sources
+    (g.W.Write.contents c.args.writer.now) (g.W.Write.contents c.live_and_stop-done.new.writer) (to_come c.in-Ok.lines.held (g.R.Read.remaining c.in-Ok.lines.reader)) c.in-Err-done.fault opens.Disk
+    (if_err_is c.live_and_stop-done.result _ c.in-Err-done.fault c.in-Err-done.is (c.live_and_stop-done.ensures.err start o.1)) (err_same _ c.in-Err-done.fault (told.Open opens.Disk) refl e))
+
+pub returns-clause-failed : goal.returns-clause-failed
+returns-clause-failed g c = λ e.
+    let o = c.in-Ok-open.ensures.opens in
+    let disk = g.D.Disk.view c.args.disk in
+    let host = c.live_and_stop-done.new.host in
+    let start = world_at_opening o.0 disk.room c.in-Ok-open.host.store.end in
+    let same = same-on disk c.in-Ok-open.host.store.disk host.store.disk c.in-Ok-open.ensures.same c.live_and_stop-done.ensures.same in
+    let rises = live_failed_since g.S.Children.after g.S.Sources.wakes disk c.in-Ok-open.host.store.disk start c.args.sources.now c.live_and_stop-done.new.sources host
+    (g.W.Write.contents c.args.writer.now) (g.W.Write.contents c.live_and_stop-done.new.writer) (to_come c.in-Ok.lines.held (g.R.Read.remaining c.in-Ok.lines.reader)) c.in-Err-done.fault c.in-Ok-open.ensures.same
+    (if_err_is c.live_and_stop-done.result _ c.in-Err-done.fault c.in-Err-done.is (c.live_and_stop-done.ensures.err start o.1)) (err_same _ c.in-Err-done.fault (told.Host hosts.Disk) refl e) in
+    (c.close-disk.result, subst (λ v. SameDisk disk v) (sym c.close-disk.ensures) same, subst (λ (v : DiskView). Rises disk.faults v.faults) (sym c.close-disk.ensures) rises)

@@ -1,0 +1,86 @@
+-- What came to a live worksheet, one after the other, and what came of it. (docs/EDGE.md, "Live".)
+use Rattle.std.specs.Prelude.{◌≡◌, ◌⊎◌, ℕ, ◌+◌, false, true, List, [], ◌∷◌, ◌++◌, Option, Some, None}
+use Rattle.child_edge.specs.declared.waiting.Seat.{Seat}
+use Rattle.child_edge.specs.Faithful.{Relation, At, at, Beat, Taken, OneTurn}
+use Rattle.child_edge.specs.Seats.{waits}
+use Rattle.arrivals.specs.Lines.{InputLine, whole, too_long}
+use Rattle.arrivals.specs.Watching.{Asked}
+use Rattle.arrivals.specs.declared.sources.Woken.{Woken}
+use Rattle.arrivals.specs.declared.sources.Woken.TheVariants as woken
+use Rattle.sheet_text.specs.LiveLines.{live_line_of}
+use Rattle.sheet_text.specs.declared.live_line.LiveLine.{LiveLine}
+use Rattle.sheet_programs.specs.Lines.{beats_text}
+use Rattle.live.specs.declared.holding.Hold.{Hold}
+use Rattle.live.specs.declared.holding.Hold.TheVariants as hold
+use Rattle.live.specs.Saying.{SaidDone, IsTimed, Begins, GoesOn}
+
+-- what came
+pub data Arrival : Type 0 where
+  -- the next line of the input
+  line : InputLine → Arrival
+  -- a part of a line
+  part : Arrival
+  -- something of the child of this life: a piece, its end or a fault
+  life : Seat → Arrival
+  -- the time of a wait is over
+  time_over : Arrival
+
+-- the lines among them
+abbrev pub lines_in : List Arrival → List InputLine
+lines_in [] = []
+lines_in (line l ∷ came) = l ∷ lines_in came
+lines_in (part ∷ came) = lines_in came
+lines_in (life seat ∷ came) = lines_in came
+lines_in (time_over ∷ came) = lines_in came
+
+-- what a line says; one that is too long says nothing that is known
+abbrev pub said_by : InputLine → Option LiveLine
+said_by (whole bytes) = live_line_of bytes
+said_by too_long = None
+
+-- Where a live worksheet stands: where its run does, how many lines were taken, and whether a wait holds back the next one.
+pub record Place (C : Type 0) : Type 0 where
+  pub run : At C
+  pub number : ℕ
+  pub held : Hold
+
+abbrev pub place : {C : Type 0} → At C → ℕ → Hold → Place C
+place run number held = record { run = run; number = number; held = held }
+
+-- the same place, with these sources
+abbrev pub woken_at : {C : Type 0} → Place C → C → Place C
+woken_at p c = place (at p.run.world c p.run.disk) p.number p.held
+
+-- The relation of a watch: the sources before it, what it was asked, what it told, and the sources after it.
+abbrev pub Watch : Type 0 → Type 1
+Watch C = C → Asked → Option Woken → C → Type 0
+
+-- a watch told this, whatever it was asked
+abbrev pub Tells : {C : Type 0} → Watch C → C → Woken → C → Type 0
+Tells W c told d = (a : Asked) × W c a (Some told) d
+
+-- This came, and these are the sources behind the watch that told it. That a time is over is told by a watch, or by the clock.
+abbrev pub Comes : {C : Type 0} → Watch C → C → Arrival → C → Type 0
+Comes W c (line l) d = Tells W c woken.Input d
+Comes W c part d = Tells W c woken.Input d
+Comes W c (life seat) d = Tells W c (woken.Life seat) d
+Comes W c time_over d = Tells W c woken.TimeOver d ⊎ (d ≡ c)
+
+-- What came of an arrival, by what it is: the beats, what is written of them, and the place behind it.
+abbrev pub Takes : {C : Type 0} → Relation C → Place C → Arrival → List Beat → List ℕ → Place C → Type 0
+Takes R p (line l) beats text q =
+    (p.held ≡ hold.Free) × (q.number ≡ p.number + 1) × SaidDone R q.number (said_by l) p.run beats text q.run
+    × ((begun : Hold) × Begins (said_by l) begun × GoesOn begun q.run.world q.held)
+Takes R p part beats text q = (p.held ≡ hold.Free) × (beats ≡ []) × (text ≡ []) × (q ≡ p)
+Takes R p (life seat) beats text q =
+    (q.number ≡ p.number) × Taken R true None seat p.run beats q.run × (text ≡ beats_text beats) × GoesOn p.held q.run.world q.held
+Takes R p time_over beats text q =
+    IsTimed p.held × (q.number ≡ p.number) × OneTurn R false (waits p.run.world) p.run beats q.run × (text ≡ beats_text beats) × (q.held ≡ hold.Free)
+
+-- These came, one after the other, and each was taken when it came.
+abbrev pub Lived : {C : Type 0} → Relation C → Watch C → Place C → List Arrival → List Beat → List ℕ → Place C → Type 0
+Lived R W p [] beats text q = (beats ≡ []) × (text ≡ []) × (q ≡ p)
+Lived {C = C} R W p (a ∷ came) beats text q =
+    (c : C) × (mid : Place C) × (before : List Beat) × (behind : List Beat) × (first : List ℕ) × (rest : List ℕ)
+    × Comes W p.run.children a c × Takes R (woken_at p c) a before first mid × Lived R W mid came behind rest q
+    × (beats ≡ before ++ behind) × (text ≡ first ++ rest)

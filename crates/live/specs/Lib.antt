@@ -1,0 +1,5 @@
+pub mod Saying
+pub mod Arrivals
+pub mod Broken
+pub mod Live
+pub mod inside

@@ -1,0 +1,130 @@
+-- A live worksheet: what it leaves at the end of its input, and what a fault of it leaves.
+use Rattle.std.specs.Prelude.{◌≡◌, ◌⊎◌, ℕ, List, ◌++◌, Option, IfSome}
+use Rattle.std.specs.Io.KnownBytes.{Appends}
+use Rattle.disk_model.specs.Disk.{DiskView, InModel, SameDisk, bytes_on}
+use Rattle.recovery.specs.Sheets.{TellsOfSheet}
+use Rattle.session_engine.specs.declared.event.Event.{Event}
+use Rattle.session_engine.specs.declared.outcome.HostFault.{HostFault}
+use Rattle.session_engine.specs.World.{World}
+use Rattle.session_engine.specs.Host.{HostView}
+use Rattle.child_edge.specs.Faithful.{Relation, At, at, Beat}
+use Rattle.child_edge.specs.Kept.{HoldsSheet}
+use Rattle.child_edge.specs.Edge.{Stopped}
+use Rattle.child_edge.specs.Moments.{LeavesFronts, LeavesFrontsUpTo}
+use Rattle.child_edge.specs.Seats.{running}
+use Rattle.child_edge.specs.Stops.{Stops}
+use Rattle.arrivals.specs.Lines.{InputLine, input_lines}
+use Rattle.arrivals.specs.Watching.{Asked}
+use Rattle.arrivals.specs.declared.sources.Woken.{Woken}
+use Rattle.sheet_programs.specs.Run.{OpenedOn}
+use Rattle.sheet_programs.specs.declared.fault.RunFault.{RunFault}
+use Rattle.sheet_programs.specs.declared.fault.RunFault.TheVariants as fault
+use Rattle.live.specs.declared.holding.Hold.TheVariants as hold
+use Rattle.live.specs.Arrivals.{Arrival, Place, Watch, Lived, lines_in, place}
+use Rattle.live.specs.Broken.{LivedUpTo, LivedSoFar, LivedLed}
+
+-- a host that was just opened, with no line taken
+abbrev pub begin_at : {C : Type 0} → World → C → DiskView → Place C
+begin_at w c disk = place (at w c disk) 0 hold.Free
+
+-- The lines that came are the first ones of the input, in its order: none is left out, and none came twice.
+abbrev pub AreFirst : Option (List ℕ) → List Arrival → Type 0
+AreFirst stream came = IfSome stream (λ bytes. (rest : List InputLine) × (input_lines bytes ≡ lines_in came ++ rest))
+
+-- the sources as they were, or behind a last watch
+abbrev pub MayHaveWatched : {C : Type 0} → Watch C → C → C → Type 0
+MayHaveWatched W c d = (d ≡ c) ⊎ ((a : Asked) × (told : Option Woken) × W c a told d)
+
+-- Where the input came to its end: all of its lines were taken, this text was written, then each life that goes on was stopped, and
+-- each image of the disk that is given back is one of the worksheet behind all events. At every moment since the opening each image
+-- was one of the worksheet behind some of the first of them.
+pub record LiveDone {C : Type 0} (R : Relation C) (W : Watch C) (stream : Option (List ℕ)) (disk : DiskView) (c d : C) (a b : Option (List ℕ)) (back : DiskView) : Type 0 where
+  pub start : World
+  pub now : DiskView
+  pub opened : OpenedOn disk start now
+  pub arrivals : List Arrival
+  pub beats : List Beat
+  pub text : List ℕ
+  pub leads : Place C
+  pub sources : C
+  pub lived : Lived R W (begin_at start c now) arrivals beats text leads
+  pub lines : IfSome stream (λ bytes. input_lines bytes ≡ lines_in arrivals)
+  pub watched : MayHaveWatched W leads.run.children sources
+  pub stops : Stops R (running leads.run.world) sources d
+  pub wrote : Appends a b text
+  pub back_is : back ≡ leads.run.disk
+  pub holds : HoldsSheet leads.run.world back
+  pub moments : LeavesFronts start beats now back
+
+-- At an event the host had this fault, and its disk was left as told. What was told before is written, and each life that goes on
+-- was stopped.
+pub record LiveStopped {C : Type 0} (R : Relation C) (W : Watch C) (stream : Option (List ℕ)) (disk : DiskView) (c d : C) (a b : Option (List ℕ)) (f : HostFault) : Type 0 where
+  pub start : World
+  pub now : DiskView
+  pub opened : OpenedOn disk start now
+  pub arrivals : List Arrival
+  pub beats : List Beat
+  pub text : List ℕ
+  pub failed : Event
+  pub leads : At C
+  pub lived : LivedUpTo R W (begin_at start c now) arrivals beats text failed leads
+  pub lines : AreFirst stream arrivals
+  pub host : HostView
+  pub same : SameDisk disk host.store.disk
+  pub stopped : Stopped leads.disk host leads.world failed f
+  pub moments : LeavesFrontsUpTo start beats failed f now host.store.disk
+  pub stops : Stops R (running leads.world) leads.children d
+  pub wrote : Appends a b text
+
+-- Memory was refused. What was told before is written, and each life that goes on was stopped.
+pub record LiveSoFar {C : Type 0} (R : Relation C) (W : Watch C) (stream : Option (List ℕ)) (disk : DiskView) (c d : C) (a b : Option (List ℕ)) : Type 0 where
+  pub start : World
+  pub now : DiskView
+  pub opened : OpenedOn disk start now
+  pub arrivals : List Arrival
+  pub beats : List Beat
+  pub text : List ℕ
+  pub leads : At C
+  pub lived : LivedSoFar R W (begin_at start c now) arrivals beats text leads
+  pub lines : AreFirst stream arrivals
+  pub moments : LeavesFronts start beats now leads.disk
+  pub stops : Stops R (running leads.world) leads.children d
+  pub wrote : Appends a b text
+
+-- The input couldn't be read any more, or more came than can be counted. All that came was taken, and what was told is written.
+pub record LiveUnread {C : Type 0} (R : Relation C) (W : Watch C) (stream : Option (List ℕ)) (disk : DiskView) (c d : C) (a b : Option (List ℕ)) : Type 0 where
+  pub start : World
+  pub now : DiskView
+  pub opened : OpenedOn disk start now
+  pub arrivals : List Arrival
+  pub beats : List Beat
+  pub text : List ℕ
+  pub leads : Place C
+  pub sources : C
+  pub lived : Lived R W (begin_at start c now) arrivals beats text leads
+  pub lines : AreFirst stream arrivals
+  pub watched : MayHaveWatched W leads.run.children sources
+  pub moments : LeavesFronts start beats now leads.run.disk
+  pub stops : Stops R (running leads.run.world) sources d
+  pub wrote : Appends a b text
+
+-- The writer failed. Each life that goes on was stopped.
+pub record LiveLed {C : Type 0} (R : Relation C) (W : Watch C) (stream : Option (List ℕ)) (disk : DiskView) (c d : C) : Type 0 where
+  pub start : World
+  pub now : DiskView
+  pub opened : OpenedOn disk start now
+  pub arrivals : List Arrival
+  pub leads : At C
+  pub lived : LivedLed R W (begin_at start c now) arrivals leads
+  pub lines : AreFirst stream arrivals
+  pub stops : Stops R (running leads.world) leads.children d
+
+-- What a fault tells, where the reader gives this stream: where the disk wasn't opened, nothing was done.
+abbrev pub TellsLive : {C : Type 0} → Relation C → Watch C → Option (List ℕ) → DiskView → C → C → Option (List ℕ) → Option (List ℕ) → Type 0 → RunFault → Type 0
+TellsLive R W stream disk c d a b nothing fault.Input = LiveUnread R W stream disk c d a b
+TellsLive R W stream disk c d a b nothing fault.InputTooLong = LiveUnread R W stream disk c d a b
+TellsLive R W stream disk c d a b nothing (fault.Open why) = nothing × InModel disk (TellsOfSheet (bytes_on disk) why)
+TellsLive R W stream disk c d a b nothing fault.InUse = ⊥
+TellsLive R W stream disk c d a b nothing (fault.Host f) = LiveStopped R W stream disk c d a b f
+TellsLive R W stream disk c d a b nothing fault.OutOfMemory = nothing ⊎ LiveSoFar R W stream disk c d a b
+TellsLive R W stream disk c d a b nothing fault.Output = LiveLed R W stream disk c d

@@ -1,0 +1,125 @@
+//! A worksheet that lives as long as its input.
+ghost use Rattle.std.specs.Prelude.{◌≡◌, IfErr, IfOk, IsErrOf, OnOk};
+ghost use Rattle.disk_model.specs.Disk.{SameDisk};
+ghost use Rattle.session_engine.specs.World.{World};
+ghost use Rattle.session_engine.specs.Host.{IsHost};
+ghost use Rattle.arrivals.specs.Held.{to_come};
+ghost use Rattle.sheet_programs.specs.Faults.{FailedSince};
+ghost use Rattle.sheet_programs.specs.declared.fault.RunFault.TheVariants as told;
+ghost use Rattle.journal.specs.declared.opening.OpenCause.TheVariants as opens;
+ghost use Rattle.session_engine.specs.declared.outcome.HostFault.TheVariants as hosts;
+ghost use Rattle.live.specs.Live.{LiveDone, TellsLive, begin_at};
+ghost use Rattle.live.specs.inside.Taking.{Ended, EndedBy, LivedThrough, LivingFailed};
+
+use crate::holding::Hold;
+use crate::stepping::{Stand, step};
+use arrivals::{InputLines, Sources};
+use child_edge::stop_all;
+use disk_model::Disk;
+use session_engine::Host;
+use sheet_programs::RunFault;
+use std::alloc::Global;
+use std::io::{Read, Write};
+
+/// Takes what comes, one after the other, to the end of the input.
+fn live_on<R: Read, D: Disk, S: Sources, W: Write>(
+    alloc: Global,
+    host: &mut Host<D>,
+    sources: &mut S,
+    lines: &mut InputLines<R>,
+    writer: &mut W,
+) -> Result<(), RunFault>
+    ensures same { SameDisk host.old.store.disk host.new.store.disk }
+    ensures ok { (w : World) → IsHost host.old w → OnOk result (LivedThrough S.after S.wakes
+        (begin_at w sources.old host.old.store.disk) host.new sources.new
+        (W.contents writer.old) (W.contents writer.new)
+        (to_come lines.old.held (R.remaining lines.old.reader))) }
+    ensures err { (w : World) → IsHost host.old w → IfErr result (LivingFailed S.after S.wakes
+        (begin_at w sources.old host.old.store.disk) host.new sources.new
+        (W.contents writer.old) (W.contents writer.new)
+        (to_come lines.old.held (R.remaining lines.old.reader))) }
+{
+    let mut stand = Stand {
+        number: 0,
+        held: Hold::Free,
+    };
+    for _ in 0..u64::MAX {
+        match step(alloc, host, sources, lines, stand, writer) {
+            Ok(Some(next)) => stand = next,
+            Ok(None) => return Ok(()),
+            Err(fault) => return Err(fault),
+        }
+    }
+    Err(RunFault::InputTooLong)
+}
+
+/// The same, and each life that goes on is stopped then.
+fn live_and_stop<R: Read, D: Disk, S: Sources, W: Write>(
+    alloc: Global,
+    host: &mut Host<D>,
+    sources: &mut S,
+    lines: &mut InputLines<R>,
+    writer: &mut W,
+) -> Result<(), RunFault>
+    ensures same { SameDisk host.old.store.disk host.new.store.disk }
+    ensures ok { (w : World) → IsHost host.old w → OnOk result (Ended S.after S.wakes
+        (begin_at w sources.old host.old.store.disk) host.new sources.new
+        (W.contents writer.old) (W.contents writer.new)
+        (to_come lines.old.held (R.remaining lines.old.reader))) }
+    ensures err { (w : World) → IsHost host.old w → IfErr result (EndedBy S.after S.wakes
+        (begin_at w sources.old host.old.store.disk) host.new sources.new
+        (W.contents writer.old) (W.contents writer.new)
+        (to_come lines.old.held (R.remaining lines.old.reader))) }
+{
+    let done = live_on(alloc, host, sources, lines, writer);
+    stop_all(host, sources);
+    done
+}
+
+/// Holds the worksheet on a disk open as long as an input lasts: its lines are taken while interpreters
+/// work, and what their children write is taken when it comes. What an event gives is written and flushed
+/// at once, in the words of `sheet_programs::run` (docs/SCRIPT.md, "Live", has the lines). It gives the
+/// disk back.
+///
+/// A `wait` holds back the lines behind it until no item waits for an answer; `wait SECONDS` ends behind
+/// so many seconds too, and each session in which an item still waits is told that it stalled. At the end
+/// of the input each life that goes on is stopped, in the order in which their sessions were made.
+///
+/// All memory for lines is taken before the disk is opened. `Open` where the disk isn't opened: nothing
+/// was read or written. `Input` where the input can't be read or its sources can't be watched,
+/// `InputTooLong` behind 2^64 - 1 arrivals, `Host` where the host has a fault, `OutOfMemory`: what was told
+/// before is written. `Output` where the writer fails: a part of the text may have gone out.
+pub fn live<R: Read, W: Write, D: Disk, S: Sources>(
+    alloc: Global,
+    reader: R,
+    writer: &mut W,
+    disk: D,
+    sources: &mut S,
+) -> Result<D, RunFault>
+where
+    R: Drop,
+    ensures lived { IfOk result (λ back. LiveDone S.after S.wakes (R.remaining reader) (D.view disk)
+        sources.old sources.new (W.contents writer.old) (W.contents writer.new) (D.view back)) }
+    ensures same { IfOk result (λ back. SameDisk (D.view disk) (D.view back)) }
+    ensures fault { IfErr result (TellsLive S.after S.wakes (R.remaining reader) (D.view disk)
+        sources.old sources.new (W.contents writer.old) (W.contents writer.new)
+        ((writer.new ≡ writer.old) × (sources.new ≡ sources.old))) }
+
+    // That the disk failed, at the opening or later, is told only where it did.
+    ensures unopened { IsErrOf result (told.Open opens.Disk) → FailedSince D.view disk }
+    ensures failed { IsErrOf result (told.Host hosts.Disk) → FailedSince D.view disk }
+{
+    let Ok(mut lines) = InputLines::new(alloc, reader) else {
+        return Err(RunFault::OutOfMemory);
+    };
+    let mut host = match Host::open(alloc, disk) {
+        Ok(host) => host,
+        Err(fault) => return Err(RunFault::Open(fault.cause)),
+    };
+    let done = live_and_stop(alloc, &mut host, sources, &mut lines, writer);
+    let disk = host.close();
+    match done {
+        Ok(()) => Ok(disk),
+        Err(fault) => Err(fault),
+    }
+}

@@ -1,0 +1,161 @@
+//! What comes next, and what comes of it.
+ghost use Rattle.std.specs.Prelude.{◌≡◌, ◌+◌, ◌<◌, ◌≤◌, ◌^◌, ℕ, IfErr, IfOk, IfSome, OnErr};
+ghost use Rattle.disk_model.specs.Disk.{SameDisk};
+ghost use Rattle.session_engine.specs.World.{World};
+ghost use Rattle.session_engine.specs.Host.{IsHost};
+ghost use Rattle.child_edge.specs.Faithful.{at};
+ghost use Rattle.arrivals.specs.Held.{to_come};
+ghost use Rattle.live.specs.Arrivals.{place};
+ghost use Rattle.live.specs.Live.{MayHaveWatched};
+ghost use Rattle.live.specs.inside.Taking.{ComingFailed, MayTurn, Steps, TurnFailed, TurnTook, Turns};
+
+use crate::holding::{Hold, input, is_over, patience};
+use crate::saying::{take_line, take_too_long};
+use crate::taking::{end_wait, take_life};
+use arrivals::{InputLines, NextLine, Sources, WatchFault, Woken};
+use disk_model::Disk;
+use session_engine::Host;
+use sheet_programs::RunFault;
+use std::alloc::Global;
+use std::io::{Read, Write};
+
+/// How many lines were taken, and whether a wait holds back the next one.
+#[derive(Clone, Copy, Debug)]
+pub(crate) struct Stand {
+    pub(crate) number: u64,
+    pub(crate) held: Hold,
+}
+
+/// Takes the next line, or reads more of the input. `None` at its end.
+fn take_input<R: Read, D: Disk, S: Sources, W: Write>(
+    alloc: Global,
+    host: &mut Host<D>,
+    sources: &mut S,
+    lines: &mut InputLines<R>,
+    number: u64,
+    writer: &mut W,
+) -> Result<Option<Stand>, RunFault>
+    requires { number + 1 < 2 ^ 64 }
+    ensures same { SameDisk host.old.store.disk host.new.store.disk }
+    ensures ok { (w : World) → IsHost host.old w → IfOk result (TurnTook S.after
+        (place (at w sources.old host.old.store.disk) number Hold.Free) Woken.Input host.new sources.new
+        (W.contents writer.old) (W.contents writer.new)
+        (to_come lines.old.held (R.remaining lines.old.reader))
+        (to_come lines.new.held (R.remaining lines.new.reader))) }
+    ensures err { (w : World) → IsHost host.old w → IfErr result (TurnFailed S.after
+        (place (at w sources.old host.old.store.disk) number Hold.Free) Woken.Input host.new sources.new
+        (W.contents writer.old) (W.contents writer.new)
+        (to_come lines.old.held (R.remaining lines.old.reader))
+        (to_come lines.new.held (R.remaining lines.new.reader))) }
+    ensures count { IfOk result (λ next. IfSome next (λ stand. stand.number ≤ number + 1)) }
+{
+    match lines.next() {
+        NextLine::Line => {
+            match take_line(alloc, host, sources, lines.line(), number + 1, writer) {
+                Ok(held) => Ok(Some(Stand {
+                    number: number + 1,
+                    held,
+                })),
+                Err(fault) => Err(fault),
+            }
+        }
+        NextLine::TooLong => match take_too_long(host, number + 1, writer) {
+            Ok(held) => Ok(Some(Stand {
+                number: number + 1,
+                held,
+            })),
+            Err(fault) => Err(fault),
+        },
+        NextLine::More => match lines.fill() {
+            Ok(()) => Ok(Some(Stand {
+                number,
+                held: Hold::Free,
+            })),
+            Err(_) => Err(RunFault::Input),
+        },
+        NextLine::End => Ok(None),
+    }
+}
+
+/// Takes what it is the turn of.
+fn take_turn<R: Read, D: Disk, S: Sources, W: Write>(
+    alloc: Global,
+    host: &mut Host<D>,
+    sources: &mut S,
+    lines: &mut InputLines<R>,
+    stand: Stand,
+    woken: Woken,
+    writer: &mut W,
+) -> Result<Option<Stand>, RunFault>
+    requires few { stand.number + 1 < 2 ^ 64 }
+    requires turn { MayTurn stand.held woken }
+    ensures same { SameDisk host.old.store.disk host.new.store.disk }
+    ensures ok { (w : World) → IsHost host.old w → IfOk result (TurnTook S.after
+        (place (at w sources.old host.old.store.disk) stand.number stand.held) woken host.new sources.new
+        (W.contents writer.old) (W.contents writer.new)
+        (to_come lines.old.held (R.remaining lines.old.reader))
+        (to_come lines.new.held (R.remaining lines.new.reader))) }
+    ensures err { (w : World) → IsHost host.old w → IfErr result (TurnFailed S.after
+        (place (at w sources.old host.old.store.disk) stand.number stand.held) woken host.new sources.new
+        (W.contents writer.old) (W.contents writer.new)
+        (to_come lines.old.held (R.remaining lines.old.reader))
+        (to_come lines.new.held (R.remaining lines.new.reader))) }
+    ensures count { IfOk result (λ next. IfSome next (λ after. after.number ≤ stand.number + 1)) }
+{
+    let Stand { number, held } = stand;
+    match woken {
+        Woken::Input => take_input(alloc, host, sources, lines, number, writer),
+        Woken::Life(seat) => match take_life(alloc, host, sources, seat, held, writer) {
+            Ok(held) => Ok(Some(Stand { number, held })),
+            Err(fault) => Err(fault),
+        },
+        Woken::TimeOver => match end_wait(alloc, host, sources, writer) {
+            Ok(()) => Ok(Some(Stand {
+                number,
+                held: Hold::Free,
+            })),
+            Err(fault) => Err(fault),
+        },
+    }
+}
+
+/// Waits until it is someone's turn. A wait whose time is over ends, whatever else has something.
+fn next_turn<S: Sources>(sources: &mut S, held: Hold, is_ready: bool) -> Result<Woken, WatchFault>
+    ensures ok { IfOk result (Turns S.wakes held sources.old sources.new) }
+    ensures err { OnErr result (MayHaveWatched S.wakes sources.old sources.new) }
+{
+    let now = sources.now();
+    if is_over(held, now) {
+        return Ok(Woken::TimeOver);
+    }
+    sources.watch(input(held, is_ready), patience(held, now))
+}
+
+/// Waits until it is someone's turn, and takes what has come. `None` at the end of the input.
+pub(crate) fn step<R: Read, D: Disk, S: Sources, W: Write>(
+    alloc: Global,
+    host: &mut Host<D>,
+    sources: &mut S,
+    lines: &mut InputLines<R>,
+    stand: Stand,
+    writer: &mut W,
+) -> Result<Option<Stand>, RunFault>
+    requires { stand.number + 1 < 2 ^ 64 }
+    ensures same { SameDisk host.old.store.disk host.new.store.disk }
+    ensures ok { (w : World) → IsHost host.old w → IfOk result (Steps S.after S.wakes
+        (place (at w sources.old host.old.store.disk) stand.number stand.held) host.new sources.new
+        (W.contents writer.old) (W.contents writer.new)
+        (to_come lines.old.held (R.remaining lines.old.reader))
+        (to_come lines.new.held (R.remaining lines.new.reader))) }
+    ensures err { (w : World) → IsHost host.old w → IfErr result (ComingFailed S.after S.wakes
+        (place (at w sources.old host.old.store.disk) stand.number stand.held) host.new sources.new
+        (W.contents writer.old) (W.contents writer.new)
+        (to_come lines.old.held (R.remaining lines.old.reader))
+        (to_come lines.new.held (R.remaining lines.new.reader))) }
+    ensures count { IfOk result (λ next. IfSome next (λ after. after.number ≤ stand.number + 1)) }
+{
+    match next_turn(sources, stand.held, lines.is_ready()) {
+        Ok(woken) => take_turn(alloc, host, sources, lines, stand, woken, writer),
+        Err(_) => Err(RunFault::Input),
+    }
+}

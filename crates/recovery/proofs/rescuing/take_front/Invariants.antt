@@ -1,0 +1,21 @@
+use Rattle.std.proofs.Common.{◌≡◌, ◌≤◌, ◌-◌, ◌+◌, ◌*◌}
+use Rattle.disk_model.specs.Disk.{InModel, Looks, SameDisk, max_room}
+use Rattle.recovery.proofs.Rescues.{ReachedInFront}
+use Rattle.recovery.proofs.rescuing.take_front.Given as goal
+
+abbrev pub invariant-loop-behind : goal.invariant-loop-behind
+invariant-loop-behind g l =
+    let old = l.fn.front.disk in
+    let new = l.front.disk in
+    record {
+      before : l.front.gate ≤ l.front.end;
+      small : l.front.end ≤ max_room;
+      counted : 6 * l.kept + 10 ≤ l.front.gate;
+      same : SameDisk old new;
+      steady : new.faults ≡ old.faults;
+      looks : InModel old (Looks old.history new.history);
+      reached : ReachedInFront l.fn.front l.front l.sheet.contents l.kept;
+    }
+
+abbrev pub decreases-loop-behind : goal.decreases-loop-behind
+decreases-loop-behind g l = l.front.end - l.front.gate

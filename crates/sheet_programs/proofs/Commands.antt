@@ -1,0 +1,70 @@
+-- A command that is taken, and what is written of it.
+use Rattle.std.proofs.Common.{◌≡◌, inl, inr, ℕ, List, [], Option, Some, refl, ap, sym, subst}
+use Rattle.std.specs.Prelude.{Result, Ok, Err, OnOk, IfErr}
+use Rattle.std.specs.Io.KnownBytes.{Appends}
+use Rattle.session_engine.specs.World.{World}
+use Rattle.session_engine.specs.Host.{HostView, IsHost}
+use Rattle.session_engine.specs.declared.command.Command.{Command}
+use Rattle.session_engine.specs.declared.event.Event.TheVariants as event
+use Rattle.session_engine.specs.declared.reply.Reply.{Reply}
+use Rattle.child_edge.specs.declared.serving.EdgeCause.{EdgeCause}
+use Rattle.child_edge.specs.declared.serving.EdgeCause.TheVariants as cause
+use Rattle.child_edge.specs.Faithful.{Relation, At, at, Served, ServedUpTo}
+use Rattle.child_edge.specs.Moments.{BrokeFrom, RanFrom}
+use Rattle.child_edge.specs.Edge.{ByCause}
+use Rattle.sheet_text.specs.declared.script.ScriptLine.TheVariants as line
+use Rattle.sheet_text.specs.declared.script.ScriptLine.{ScriptLine}
+use Rattle.sheet_programs.specs.Lines.{LineDone, whole, up_to, so_far, beats_text, replies_text}
+use Rattle.sheet_programs.specs.Told.{LineWrote, LineFailed, fault_of_cause}
+use Rattle.sheet_programs.specs.declared.fault.RunFault.{RunFault}
+use Rattle.sheet_programs.specs.declared.fault.RunFault.TheVariants as fault
+
+module _ {C : Type 0} (R : Relation C) (told : Command) (s : At C) (g : HostView) (d : C) (replies : List Reply) (a b : Option (List ℕ)) where
+  pub command_done : (number : ℕ) → RanFrom s (λ x. Served R x (event.Command told)) g d replies → Appends a b (replies_text replies) → LineWrote R number (Some (line.Command told)) s g d a b
+  command_done number p wrote = (p.ran.beats, beats_text p.ran.beats, p.ran.leads, (p.ran.form, refl), p.ran.stands, subst (λ (l : List Reply). Appends a b (replies_text l)) p.ran.replied wrote)
+
+  pub command_unwritten : (f : RunFault) → RanFrom s (λ x. Served R x (event.Command told)) g d replies → f ≡ fault.Output → LineFailed R (Some (line.Command told)) s g d a b f
+  command_unwritten f p is = subst (LineFailed R (Some (line.Command told)) s g d a b) (sym is)
+      (p.ran.leads, g.store.disk, whole 0 p.ran.beats (beats_text p.ran.beats) (p.ran.form, refl), inl (p.ran.stands, refl))
+
+-- what is known of a command that broke off
+abbrev pub CommandBroke : {C : Type 0} → Relation C → Command → World → HostView → HostView → C → C → List Reply → EdgeCause → Type 0
+CommandBroke R told w h g c d replies why = ByCause why
+    (BrokeFrom (at w c h.store.disk) (λ x. ServedUpTo R x (event.Command told)) g d replies)
+    ((g ≡ h) × (d ≡ c) × (replies ≡ []))
+
+module _ {C : Type 0} (R : Relation C) (told : Command) (w : World) (h g : HostView) (c d : C) (replies : List Reply) (a b : Option (List ℕ)) where
+  as-before : g ≡ h → d ≡ c → at w d g.store.disk ≡ at w c h.store.disk
+  as-before p q = subst (λ (x : C). at w x g.store.disk ≡ at w c h.store.disk) (sym q) (ap (λ (x : HostView). at w c x.store.disk) p)
+
+  pub command_failed : (why : EdgeCause) → IsHost h w → CommandBroke R told w h g c d replies why → Appends a b (replies_text replies) → LineFailed R (Some (line.Command told)) (at w c h.store.disk) g d a b (fault_of_cause why)
+  command_failed (cause.Host f) stands p wrote =
+      (p.broke.beats, p.broke.failed, p.broke.leads, p.broke.disk, p.broke.form, p.broke.stopped, subst (λ (l : List Reply). Appends a b (replies_text l)) p.broke.replied wrote)
+  command_failed cause.OutOfMemory stands p wrote =
+      ([], w, (refl, as-before p.0 p.1), subst (λ (x : HostView). IsHost x w) (sym p.0) stands, subst (λ (l : List Reply). Appends a b (replies_text l)) p.2 wrote)
+
+  pub command_broke_unwritten : (why : EdgeCause) (f : RunFault) → IsHost h w → CommandBroke R told w h g c d replies why → f ≡ fault.Output → LineFailed R (Some (line.Command told)) (at w c h.store.disk) g d a b f
+  command_broke_unwritten why f stands p is = subst (LineFailed R (Some (line.Command told)) (at w c h.store.disk) g d a b) (sym is) (go why p)
+    where
+      go : (x : EdgeCause) → CommandBroke R told w h g c d replies x → LineFailed R (Some (line.Command told)) (at w c h.store.disk) g d a b fault.Output
+      go (cause.Host f) q = (q.broke.leads, q.broke.disk, up_to q.broke.beats q.broke.failed q.broke.form, inr (q.broke.failed, f, q.broke.stopped))
+      go cause.OutOfMemory q = (w, g.store.disk, so_far [] (refl, as-before q.0 q.1), inl (subst (λ (x : HostView). IsHost x w) (sym q.0) stands, refl))
+
+-- A line that no event comes of.
+
+on_ok_then : {T E P Q : Type 0} (r : Result T E) → (P → Q) → OnOk r P → OnOk r Q
+on_ok_then (Ok x) f p = f p
+on_ok_then (Err e) f p = p
+
+if_err_then : {T E : Type 0} (r : Result T E) (P Q : E → Type 0) → ((e : E) → P e → Q e) → IfErr r P → IfErr r Q
+if_err_then (Ok x) P Q f p = p
+if_err_then (Err e) P Q f p = f e p
+
+module _ {C : Type 0} (R : Relation C) (number : ℕ) (l : Option ScriptLine) (w : World) (h : HostView) (c : C) (a b : Option (List ℕ)) (text : List ℕ)
+    (done : LineDone R number l (at w c h.store.disk) [] text (at w c h.store.disk)) (stands : IsHost h w) (r : Result (Unit {0}) RunFault) where
+  pub still_done : OnOk r (Appends a b text) → OnOk r (LineWrote R number l (at w c h.store.disk) h c a b)
+  still_done p = on_ok_then r (λ wrote. ([], text, w, done, stands, wrote)) p
+
+  pub still_failed : IfErr r (λ f. f ≡ fault.Output) → IfErr r (LineFailed R l (at w c h.store.disk) h c a b)
+  still_failed p = if_err_then r (λ f. f ≡ fault.Output) (LineFailed R l (at w c h.store.disk) h c a b)
+      (λ f is. subst (LineFailed R l (at w c h.store.disk) h c a b) (sym is) (w, h.store.disk, whole number [] text done, inl (stands, refl))) p

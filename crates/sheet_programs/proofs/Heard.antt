@@ -1,0 +1,107 @@
+-- A wait that is told step by step.
+use Rattle.std.proofs.Common.{◌≡◌, true, false, inl, inr, ℕ, List, [], ◌∷◌, ◌++◌, Option, Some, refl, ap, sym, ◌∙◌, subst, append_assoc, append-nil}
+use Rattle.std.proofs.KnownBytes.{Appends-trans, Appends-nil}
+use Rattle.std.specs.Prelude.{Bool, IfOk, IfErr, Result, Ok, Err}
+use Rattle.std.specs.Io.KnownBytes.{Appends}
+use Rattle.session_engine.specs.World.{World}
+use Rattle.session_engine.specs.Host.{HostView, IsHost}
+use Rattle.session_engine.specs.declared.reply.Reply.{Reply}
+use Rattle.child_edge.specs.declared.serving.EdgeCause.{EdgeCause}
+use Rattle.child_edge.specs.declared.serving.EdgeCause.TheVariants as cause
+use Rattle.child_edge.specs.declared.turns.Waiting.{Waiting}
+use Rattle.child_edge.specs.Limits.{most_turns}
+use Rattle.child_edge.specs.Faithful.{Relation, At, at, Beat, Waited}
+use Rattle.child_edge.specs.Broken.{WaitSoFar, WaitStopped}
+use Rattle.child_edge.specs.Edge.{BrokeOff, ByCause}
+use Rattle.child_edge.specs.Told.{told}
+use Rattle.child_edge.specs.Steps.{Came, IsBegun, Stepped}
+use Rattle.child_edge.proofs.Chains.{told-append}
+use Rattle.child_edge.proofs.Stepping.{came_begun, came_so_far}
+use Rattle.sheet_text.specs.Texts.{reply_text}
+use Rattle.sheet_text.specs.declared.script.ScriptLine.TheVariants as line
+use Rattle.sheet_programs.specs.Lines.{LineDone, whole, up_to, so_far, beats_text, replies_text}
+use Rattle.sheet_programs.specs.Told.{LineFailed, fault_of_cause}
+use Rattle.sheet_programs.specs.declared.fault.RunFault.{RunFault}
+use Rattle.sheet_programs.specs.declared.fault.RunFault.TheVariants as fault
+
+-- The wait came so far, and all of it is written.
+pub record HeardSoFar {C : Type 0} (R : Relation C) (wait : Waiting) (s : At C) (h : HostView) (c : C) (a b : Option (List ℕ)) : Type 0 where
+  pub beats : List Beat
+  pub leads : World
+  pub came : Came R wait s beats (at leads c h.store.disk)
+  pub stands : IsHost h leads
+  pub wrote : Appends a b (beats_text beats)
+
+-- what a step gives, by what it answered
+abbrev pub StepGave : {C : Type 0} → Relation C → Waiting → At C → List Beat → World → HostView → HostView → C → C → List Reply → List Reply → Result Bool EdgeCause → Type 0
+StepGave R wait s bs w h g c d before replies r = IfOk r (Stepped R wait s bs w h g c d before replies) × IfErr r (λ why. ByCause why
+    (BrokeOff (λ cs e t. WaitStopped R most_turns s (bs ++ cs) e t) before g d replies)
+    (Came R wait s bs (at w c h.store.disk) × (g ≡ h) × (d ≡ c) × (replies ≡ before)))
+
+replies-append : (xs ys : List Reply) → replies_text (xs ++ ys) ≡ replies_text xs ++ replies_text ys
+replies-append [] ys = refl
+replies-append (x ∷ xs) ys = ap (λ (l : List ℕ). reply_text x ++ l) (replies-append xs ys) ∙ sym (append_assoc (reply_text x) (replies_text xs) (replies_text ys))
+
+pub text_on : (bs cs : List Beat) (replies : List Reply) → replies ≡ told cs → beats_text bs ++ replies_text replies ≡ beats_text (bs ++ cs)
+text_on bs cs replies e = ap (λ (l : List Reply). beats_text bs ++ replies_text l) e ∙ sym (replies-append (told bs) (told cs)) ∙ ap (λ (l : List Reply). replies_text l) (sym (told-append bs cs))
+
+module _ {C : Type 0} (R : Relation C) where
+  pub none_heard : (wait : Waiting) (w : World) (h : HostView) (c : C) (a : Option (List ℕ)) → IsBegun wait w → IsHost h w → HeardSoFar R wait (at w c h.store.disk) h c a a
+  none_heard wait w h c a begun stands = record { beats = []; leads = w; came = came_begun R wait w c h.store.disk begun; stands = stands; wrote = Appends-nil a }
+
+  module _ (old wait : Waiting) (s : At C) (h g : HostView) (c d : C) (a b e : Option (List ℕ)) (replies : List Reply) (so : HeardSoFar R old s h c a b) where
+    wrote-on : (cs : List Beat) → replies ≡ told cs → Appends b e (replies_text replies) → Appends a e (beats_text (so.beats ++ cs))
+    wrote-on cs is wrote = subst (Appends a e) (text_on so.beats cs replies is) (Appends-trans a b e (beats_text so.beats) (replies_text replies) so.wrote wrote)
+
+    pub one_heard : Stepped R wait s so.beats so.leads h g c d [] replies true → Appends b e (replies_text replies) → HeardSoFar R wait s g d a e
+    one_heard p wrote = record { beats = so.beats ++ p.beats; leads = p.leads; came = p.form; stands = p.stands; wrote = wrote-on p.beats p.replied wrote }
+
+    -- nothing has changed
+    unmoved : (P : At C → Type 0) → g ≡ h → d ≡ c → P (at so.leads c h.store.disk) → P (at so.leads d g.store.disk)
+    unmoved P p q x = subst (λ (y : C). P (at so.leads y g.store.disk)) (sym q) (subst (λ (y : HostView). P (at so.leads c y.store.disk)) (sym p) x)
+
+    wrote-same : replies ≡ [] → Appends b e (replies_text replies) → Appends a e (beats_text so.beats)
+    wrote-same is wrote = subst (Appends a e) (append-nil (beats_text so.beats)) (Appends-trans a b e (beats_text so.beats) [] so.wrote (subst (λ (l : List Reply). Appends b e (replies_text l)) is wrote))
+
+    pub all_heard : (number : ℕ) → Stepped R wait s so.beats so.leads h g c d [] replies false → Appends b e (replies_text replies)
+        → (beats : List Beat) × (text : List ℕ) × (t : World) × LineDone R number (Some line.Wait) s beats text (at t d g.store.disk) × IsHost g t × Appends a e text
+    all_heard number p wrote = (
+      so.beats,
+      beats_text so.beats,
+      so.leads,
+      (unmoved (λ t. Waited R most_turns s so.beats t) p.1 p.2 p.0, refl),
+      subst (λ (y : HostView). IsHost y so.leads) (sym p.1) so.stands,
+      wrote-same p.3 wrote,
+    )
+
+    pub wait_failed : (why : EdgeCause) → ByCause why
+        (BrokeOff (λ cs x t. WaitStopped R most_turns s (so.beats ++ cs) x t) [] g d replies)
+        (Came R wait s so.beats (at so.leads c h.store.disk) × (g ≡ h) × (d ≡ c) × (replies ≡ []))
+        → Appends b e (replies_text replies) → LineFailed R (Some line.Wait) s g d a e (fault_of_cause why)
+    wait_failed (cause.Host f) p wrote = (so.beats ++ p.beats, p.failed, p.leads, p.disk, p.form, p.stopped, wrote-on p.beats p.replied wrote)
+    wait_failed cause.OutOfMemory p wrote = (
+      so.beats,
+      so.leads,
+      unmoved (λ t. WaitSoFar R most_turns s so.beats t) p.1 p.2 (came_so_far R wait s so.beats (at so.leads c h.store.disk) p.0),
+      subst (λ (y : HostView). IsHost y so.leads) (sym p.1) so.stands,
+      wrote-same p.3 wrote,
+    )
+
+    pub wait_unwritten : (r : Result Bool EdgeCause) (f : RunFault) → StepGave R wait s so.beats so.leads h g c d [] replies r → f ≡ fault.Output → LineFailed R (Some line.Wait) s g d a e f
+    wait_unwritten r f gave is = subst (LineFailed R (Some line.Wait) s g d a e) (sym is) (go r gave)
+      where
+        go : (x : Result Bool EdgeCause) → StepGave R wait s so.beats so.leads h g c d [] replies x → LineFailed R (Some line.Wait) s g d a e fault.Output
+        go (Ok true) p = (p.0.leads, g.store.disk, so_far (so.beats ++ p.0.beats) (came_so_far R wait s (so.beats ++ p.0.beats) (at p.0.leads d g.store.disk) p.0.form), inl (p.0.stands, refl))
+        go (Ok false) p = (
+          so.leads,
+          g.store.disk,
+          whole 0 so.beats (beats_text so.beats) (unmoved (λ t. Waited R most_turns s so.beats t) p.0.1 p.0.2 p.0.0, refl),
+          inl (subst (λ (y : HostView). IsHost y so.leads) (sym p.0.1) so.stands, refl),
+        )
+        go (Err (cause.Host x)) p = (p.1.leads, p.1.disk, up_to (so.beats ++ p.1.beats) p.1.failed p.1.form, inr (p.1.failed, x, p.1.stopped))
+        go (Err cause.OutOfMemory) p = (
+          so.leads,
+          g.store.disk,
+          so_far so.beats (unmoved (λ t. WaitSoFar R most_turns s so.beats t) p.1.1 p.1.2 (came_so_far R wait s so.beats (at so.leads c h.store.disk) p.1.0)),
+          inl (subst (λ (y : HostView). IsHost y so.leads) (sym p.1.1) so.stands, refl),
+        )

@@ -1,0 +1,4 @@
+pub mod Scripting
+pub mod Runs
+pub mod Commands
+pub mod Heard

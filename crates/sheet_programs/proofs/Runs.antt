@@ -1,0 +1,343 @@
+-- Lines of a script over a worksheet on a disk, one after another.
+use Rattle.std.proofs.Common.{◌≡◌, ◌+◌, ◌≤◌, ◌<◌, inl, inr, ℕ, true, List, [], ◌∷◌, ◌++◌, Option, Some, None, refl, ap, sym, ◌∙◌, subst, append_assoc, append-nil, length, arith}
+use Rattle.std.proofs.KnownBytes.{Appends-trans, Appends-nil}
+use Rattle.std.proofs.lemmas.Bool.{false≢true}
+use Rattle.std.specs.Prelude.{IfSome, IfErr, OnOk, Result, Ok, Err, min}
+use Rattle.std.specs.Io.KnownBytes.{Appends}
+use Rattle.std.proofs.lemmas.Option.{IfSome_then}
+use Rattle.std.proofs.Math.Nat.{le-min, min-le_left, min-le_right}
+use Rattle.disk_model.specs.Disk.{DiskView, InModel, Looks, Rises, SameDisk, bytes_on, max_faults}
+use Rattle.worksheet.specs.declared.op.Op.{Op}
+use Rattle.recovery.specs.Sheets.{IsSheetImage}
+use Rattle.session_engine.specs.declared.event.Event.{Event}
+use Rattle.session_engine.specs.declared.event.Event.TheVariants as event
+use Rattle.session_engine.specs.declared.outcome.HostFault.{HostFault}
+use Rattle.session_engine.specs.declared.outcome.HostFault.TheVariants as hosts
+use Rattle.session_engine.specs.World.{World, world_at_opening}
+use Rattle.session_engine.specs.Host.{HostView, EndsAt, IsHost}
+use Rattle.child_edge.specs.Faithful.{Relation, At, at, Beat}
+use Rattle.child_edge.specs.Kept.{HoldsSheet}
+use Rattle.child_edge.specs.Limits.{most_turns}
+use Rattle.child_edge.specs.Moments.{LeavesFronts}
+use Rattle.child_edge.specs.Edge.{Stopped}
+use Rattle.child_edge.specs.Seats.{running}
+use Rattle.child_edge.specs.Stops.{Stops}
+use Rattle.child_edge.proofs.Faulting.{same-at, same-on}
+use Rattle.child_edge.proofs.Timeline.{Goes, goes_on_by, follows-goes, turns-goes, so-far-goes, stopped-goes, goes_leaves, goes_up_to}
+use Rattle.sheet_text.specs.Script.{line_of, wants_memory}
+use Rattle.sheet_text.specs.declared.script.ScriptLine.{ScriptLine}
+use Rattle.sheet_text.specs.declared.script.ScriptLine.TheVariants as line
+use Rattle.sheet_programs.specs.Lines.{LineDone, LinesDone, LineUpTo, LineSoFar, beats_text}
+use Rattle.sheet_programs.specs.Input.{IsInputFault, max_input}
+use Rattle.sheet_programs.specs.Memory.{script_lines}
+use Rattle.sheet_programs.specs.Run.{OpenedOn, LinesBefore, LinesUpTo, LinesSoFar, RunDone, RunStopped, RunSoFar, RunLed, TellsRun}
+use Rattle.sheet_programs.specs.Told.{LineFailed, StandsOrStopped}
+use Rattle.sheet_programs.specs.inside.Taking.{LinesFailed, LinesStopped}
+use Rattle.sheet_programs.specs.declared.fault.RunFault.{RunFault}
+use Rattle.sheet_programs.specs.declared.fault.RunFault.TheVariants as fault
+
+-- A line.
+
+-- a line for whose bytes there was no memory is a command, which was not taken
+pub unread : {C : Type 0} (R : Relation C) (l : Option ScriptLine) (s : At C) → wants_memory l ≡ true → LineSoFar R l s [] s
+unread R None s h = absurd (false≢true h)
+unread R (Some line.Skip) s h = absurd (false≢true h)
+unread R (Some line.Wait) s h = absurd (false≢true h)
+unread R (Some line.Print) s h = absurd (false≢true h)
+unread R (Some (line.Command told)) s h = (refl, refl)
+
+-- Lines.
+
+lines-more : {C : Type 0} (R : Relation C) (number : ℕ) (lines : List (List ℕ)) (line : List ℕ) (s : At C) (beats : List Beat) (text : List ℕ) (mid : At C) (more : List Beat) (last : List ℕ) (t : At C)
+    → LinesDone R number lines s beats text mid → LineDone R (number + length lines) (line_of line) mid more last t → LinesDone R number (lines ++ line ∷ []) s (beats ++ more) (text ++ last) t
+lines-more R number [] line s beats text mid more last t h p =
+    let same : number + 0 ≡ number = omega arith in (
+      t,
+      more,
+      [],
+      last,
+      [],
+      subst (λ m. LineDone R number (line_of line) m more last t) h.2 (subst (λ n. LineDone R n (line_of line) mid more last t) same p),
+      (refl, refl, refl),
+      ap (λ x. x ++ more) h.0 ∙ sym (append-nil more),
+      ap (λ x. x ++ last) h.1 ∙ sym (append-nil last),
+    )
+lines-more R number (x ∷ xs) line s beats text mid more last t h p =
+    let same : number + length (x ∷ xs) ≡ number + 1 + length xs = omega arith in (
+      h.0,
+      h.1,
+      h.2 ++ more,
+      h.3,
+      h.4 ++ last,
+      h.5,
+      lines-more R (number + 1) xs line h.0 h.2 h.4 mid more last t h.6 (subst (λ n. LineDone R n (line_of line) mid more last t) same p),
+      ap (λ y. y ++ more) h.7 ∙ append_assoc h.1 h.2 more,
+      ap (λ y. y ++ last) h.8 ∙ append_assoc h.3 h.4 last,
+    )
+
+-- The first lines of a script were done, as many as this number, and these are left.
+pub record DoneSoFar {C : Type 0} (R : Relation C) (all : List (List ℕ)) (number : ℕ) (left : List (List ℕ)) (s : At C) (h : HostView) (c : C) (a b : Option (List ℕ)) : Type 0 where
+  pub done : List (List ℕ)
+  pub beats : List Beat
+  pub text : List ℕ
+  pub leads : World
+  pub split : all ≡ done ++ left
+  pub count : number ≡ length done
+  pub ran : LinesDone R 1 done s beats text (at leads c h.store.disk)
+  pub stands : IsHost h leads
+  pub wrote : Appends a b text
+
+pub none_done : {C : Type 0} (R : Relation C) (all : List (List ℕ)) (left : List (List ℕ)) (w : World) (h : HostView) (c : C) (a : Option (List ℕ)) → left ≡ all → IsHost h w → DoneSoFar R all 0 left (at w c h.store.disk) h c a a
+none_done R all left w h c a e stands = record { done = []; beats = []; text = []; leads = w; split = sym e; count = refl; ran = (refl, refl, refl); stands = stands; wrote = Appends-nil a }
+
+pub one_done : {C : Type 0} (R : Relation C) (all : List (List ℕ)) (number : ℕ) (left : List (List ℕ)) (line : List ℕ) (others : List (List ℕ)) (s : At C) (h : HostView) (c : C) (a b : Option (List ℕ))
+    (g : HostView) (d : C) (e : Option (List ℕ)) (more : List Beat) (last : List ℕ) (t : World)
+    → left ≡ line ∷ others → (so : DoneSoFar R all number left s h c a b) → LineDone R (number + 1) (line_of line) (at so.leads c h.store.disk) more last (at t d g.store.disk) → IsHost g t → Appends b e last
+    → DoneSoFar R all (number + 1) others s g d a e
+one_done R all number left line others s h c a b g d e more last t is so p stands wrote =
+    let same : number + 1 ≡ 1 + length so.done = omega (arith, so.count) in
+    record {
+      done = so.done ++ line ∷ [];
+      beats = so.beats ++ more;
+      text = so.text ++ last;
+      leads = t;
+      split = so.split ∙ ap (λ x. so.done ++ x) is ∙ sym (append_assoc so.done (line ∷ []) others);
+      count = omega (arith, so.count, length-snoc so.done line);
+      ran = lines-more R 1 so.done line s so.beats so.text (at so.leads c h.store.disk) more last (at t d g.store.disk) so.ran
+          (subst (λ n. LineDone R n (line_of line) (at so.leads c h.store.disk) more last (at t d g.store.disk)) same p);
+      stands = stands;
+      wrote = Appends-trans a b e so.text last so.wrote wrote;
+    }
+  where
+    length-snoc : {A : Type 0} (xs : List A) (x : A) → length (xs ++ x ∷ []) ≡ length xs + 1
+    length-snoc [] x = refl
+    length-snoc (y ∷ ys) x = omega (arith, length-snoc ys x)
+
+pub all_done : {C : Type 0} (R : Relation C) (all : List (List ℕ)) (number : ℕ) (left : List (List ℕ)) (s : At C) (h : HostView) (c : C) (a b : Option (List ℕ))
+    → left ≡ [] → (so : DoneSoFar R all number left s h c a b)
+    → (beats : List Beat) × (text : List ℕ) × (t : World) × LinesDone R 1 all s beats text (at t c h.store.disk) × IsHost h t × Appends a b text
+all_done R all number left s h c a b e so =
+    let same : so.done ≡ all = sym (so.split ∙ ap (λ x. so.done ++ x) e ∙ append-nil so.done) in
+    (so.beats, so.text, so.leads, subst (λ ls. LinesDone R 1 ls s so.beats so.text (at so.leads c h.store.disk)) same so.ran, so.stands, so.wrote)
+
+-- Where a line broke off, the lines did.
+
+lines-before : {C : Type 0} (R : Relation C) (all : List (List ℕ)) (number : ℕ) (left : List (List ℕ)) (line : List ℕ) (others : List (List ℕ)) (s : At C) (h : HostView) (c : C) (a b : Option (List ℕ))
+    → left ≡ line ∷ others → (so : DoneSoFar R all number left s h c a b) → LinesBefore R all line s so.beats so.text (at so.leads c h.store.disk)
+lines-before R all number left line others s h c a b is so = record { done = so.done; rest = others; split = so.split ∙ ap (λ x. so.done ++ x) is; ran = so.ran }
+
+pub lines_failed : {C : Type 0} (R : Relation C) (all : List (List ℕ)) (number : ℕ) (left : List (List ℕ)) (line : List ℕ) (others : List (List ℕ)) (s : At C) (h : HostView) (c : C) (a b : Option (List ℕ))
+    (g : HostView) (d : C) (e : Option (List ℕ)) (f : RunFault)
+    → left ≡ line ∷ others → (so : DoneSoFar R all number left s h c a b) → LineFailed R (line_of line) (at so.leads c h.store.disk) g d b e f
+    → LinesFailed R all s g d a e f
+lines_failed R all number left line others s h c a b g d e (fault.Host f) is so p = (
+  so.beats ++ p.0,
+  so.text ++ beats_text p.0,
+  p.1,
+  p.2,
+  p.3,
+  record { line = line; mid = at so.leads c h.store.disk; earlier = so.beats; first = so.text; beats = p.0; before = lines-before R all number left line others s h c a b is so; broke = p.4; took = refl; wrote = refl },
+  p.5,
+  Appends-trans a b e so.text (beats_text p.0) so.wrote p.6,
+)
+lines_failed R all number left line others s h c a b g d e fault.OutOfMemory is so p = (
+  so.beats ++ p.0,
+  so.text ++ beats_text p.0,
+  p.1,
+  record { line = line; mid = at so.leads c h.store.disk; earlier = so.beats; first = so.text; beats = p.0; before = lines-before R all number left line others s h c a b is so; broke = p.2; took = refl; wrote = refl },
+  p.3,
+  Appends-trans a b e so.text (beats_text p.0) so.wrote p.4,
+)
+lines_failed R all number left line others s h c a b g d e fault.Output is so p =
+    (p.0, p.1, record { line = line; mid = at so.leads c h.store.disk; earlier = so.beats; first = so.text; before = lines-before R all number left line others s h c a b is so; led = p.2 }, p.3)
+lines_failed R all number left line others s h c a b g d e fault.Input is so p = absurd p
+lines_failed R all number left line others s h c a b g d e fault.InputTooLong is so p = absurd p
+lines_failed R all number left line others s h c a b g d e (fault.Open why) is so p = absurd p
+lines_failed R all number left line others s h c a b g d e fault.InUse is so p = absurd p
+
+-- The stops behind it.
+
+abbrev pub StopsIn : {C : Type 0} → Relation C → HostView → C → C → Type 0
+StopsIn R h c d = ((w : World) → IsHost h w → Stops R (running w) c d)
+    × ((w : World) (e : Event) (before : DiskView) (f : HostFault) → Stopped before h w e f → Stops R (running w) c d)
+
+pub stops_behind : {C : Type 0} (R : Relation C) (h : HostView) (c d : C) (t : World) (disk : DiskView) → StopsIn R h c d → StandsOrStopped h t disk → Stops R (running t) c d
+stops_behind R h c d t disk stops (inl stands) = stops.0 t stands.0
+stops_behind R h c d t disk stops (inr p) = stops.1 t p.0 disk p.1 p.2
+
+pub lines_stopped : {C : Type 0} (R : Relation C) (lines : List (List ℕ)) (s : At C) (h : HostView) (c d : C) (a b : Option (List ℕ)) (f : RunFault)
+    → StopsIn R h c d → LinesFailed R lines s h c a b f → LinesStopped R lines s h d a b f
+lines_stopped R lines s h c d a b (fault.Host f) stops p = (p.0, p.1, p.2, at p.3 c p.4, p.5, p.6, stops.1 p.3 p.2 p.4 f p.6, p.7)
+lines_stopped R lines s h c d a b fault.OutOfMemory stops p = (p.0, p.1, at p.2 c h.store.disk, p.3, p.4, refl, stops.0 p.2 p.4, p.5)
+lines_stopped R lines s h c d a b fault.Output stops p = (at p.0 c p.1, p.2, p.3, stops_behind R h c d p.0 p.1 stops p.3)
+lines_stopped R lines s h c d a b fault.Input stops p = absurd p
+lines_stopped R lines s h c d a b fault.InputTooLong stops p = absurd p
+lines_stopped R lines s h c d a b (fault.Open why) stops p = absurd p
+lines_stopped R lines s h c d a b fault.InUse stops p = absurd p
+
+-- Lines are a timeline of the disk.
+
+pub no_beats : {C : Type 0} (s : At C) (beats : List Beat) (t : At C) → beats ≡ [] → t ≡ s → Goes s.world s.disk beats t.world t.disk
+no_beats s beats t e f = subst (λ (bs : List Beat). Goes s.world s.disk bs t.world t.disk) (sym e) (ap (λ (x : At _). x.world) f, ap (λ (x : At _). x.disk) f)
+
+line-goes : {C : Type 0} (R : Relation C) (number : ℕ) (l : Option ScriptLine) (s : At C) (beats : List Beat) (text : List ℕ) (t : At C) → LineDone R number l s beats text t → Goes s.world s.disk beats t.world t.disk
+line-goes R number None s beats text t p = no_beats s beats t p.0 p.2
+line-goes R number (Some line.Skip) s beats text t p = no_beats s beats t p.0 p.2
+line-goes R number (Some line.Print) s beats text t p = no_beats s beats t p.0 p.2
+line-goes R number (Some (line.Command c)) s beats text t p = follows-goes R s (Some (event.Command c)) beats None t p.0
+line-goes R number (Some line.Wait) s beats text t p = turns-goes R most_turns p.0.0 s beats t p.0.1
+
+up-to-goes : {C : Type 0} (R : Relation C) (l : Option ScriptLine) (s : At C) (beats : List Beat) (e : Event) (t : At C) → LineUpTo R l s beats e t → Goes s.world s.disk beats t.world t.disk
+up-to-goes R None s beats e t p = absurd p
+up-to-goes R (Some line.Skip) s beats e t p = absurd p
+up-to-goes R (Some line.Print) s beats e t p = absurd p
+up-to-goes R (Some (line.Command c)) s beats e t p = follows-goes R s (Some (event.Command c)) beats (Some e) t p
+up-to-goes R (Some line.Wait) s beats e t p = stopped-goes R most_turns s beats e t p
+
+part-goes : {C : Type 0} (R : Relation C) (l : Option ScriptLine) (s : At C) (beats : List Beat) (t : At C) → LineSoFar R l s beats t → Goes s.world s.disk beats t.world t.disk
+part-goes R None s beats t p = absurd p
+part-goes R (Some line.Skip) s beats t p = absurd p
+part-goes R (Some line.Print) s beats t p = absurd p
+part-goes R (Some (line.Command c)) s beats t p = no_beats s beats t p.0 p.1
+part-goes R (Some line.Wait) s beats t p = so-far-goes R most_turns s beats t p
+
+lines-goes : {C : Type 0} (R : Relation C) (number : ℕ) (lines : List (List ℕ)) (s : At C) (beats : List Beat) (text : List ℕ) (t : At C) → LinesDone R number lines s beats text t → Goes s.world s.disk beats t.world t.disk
+lines-goes R number [] s beats text t p = no_beats s beats t p.0 p.2
+lines-goes R number (l ∷ ls) s beats text t p =
+    subst (λ (bs : List Beat). Goes s.world s.disk bs t.world t.disk) (sym p.7)
+    (goes_on_by s.world s.disk p.1 p.0.world p.0.disk p.2 t.world t.disk (line-goes R number (line_of l) s p.1 p.3 p.0 p.5) (lines-goes R (number + 1) ls p.0 p.2 p.4 t p.6))
+
+lines-up-to-goes : {C : Type 0} (R : Relation C) (lines : List (List ℕ)) (s : At C) (beats : List Beat) (text : List ℕ) (e : Event) (t : At C) → LinesUpTo R lines s beats text e t → Goes s.world s.disk beats t.world t.disk
+lines-up-to-goes R lines s beats text e t p =
+    subst (λ (bs : List Beat). Goes s.world s.disk bs t.world t.disk) (sym p.took)
+    (goes_on_by s.world s.disk p.earlier p.mid.world p.mid.disk p.beats t.world t.disk (lines-goes R 1 p.before.done s p.earlier p.first p.mid p.before.ran) (up-to-goes R (line_of p.line) p.mid p.beats e t p.broke))
+
+lines-so-far-goes : {C : Type 0} (R : Relation C) (lines : List (List ℕ)) (s : At C) (beats : List Beat) (text : List ℕ) (t : At C) → LinesSoFar R lines s beats text t → Goes s.world s.disk beats t.world t.disk
+lines-so-far-goes R lines s beats text t p =
+    subst (λ (bs : List Beat). Goes s.world s.disk bs t.world t.disk) (sym p.took)
+    (goes_on_by s.world s.disk p.earlier p.mid.world p.mid.disk p.beats t.world t.disk (lines-goes R 1 p.before.done s p.earlier p.first p.mid p.before.ran) (part-goes R (line_of p.line) p.mid p.beats t p.broke))
+
+-- A disk that failed at the end of a timeline has failed since its beginning.
+
+pub goes_same : (w : World) (d : DiskView) (bs : List Beat) (v : World) (f : DiskView) → Goes w d bs v f → SameDisk d f
+goes_same w d [] v f p = subst (SameDisk d) (sym p.1) (same-at d)
+goes_same w d (b ∷ bs) v f p = same-on d p.1 f p.3.same (goes_same p.0 p.1 bs v f p.4)
+
+pub min_since : (most a b c : ℕ) → a ≤ b → min (b + 1) most ≤ c → min (a + 1) most ≤ c
+min_since most a b c later rises =
+    let first = min-le_left (a + 1) most in
+    let both : min (a + 1) most ≤ min (b + 1) most = le-min (omega (arith, first, later)) (min-le_right (a + 1) most) in
+    omega (arith, both, rises)
+
+pub failed_since : {C : Type 0} (R : Relation C) (lines : List (List ℕ)) (disk now : DiskView) (start : World) (c d : C) (h : HostView) (a b : Option (List ℕ)) (f : RunFault)
+    → SameDisk disk now → LinesStopped R lines (at start c now) h d a b f → f ≡ fault.Host hosts.Disk → Rises disk.faults h.store.disk.faults
+failed_since R lines disk now start c d h a b f same p e =
+    let q = subst (λ x. LinesStopped R lines (at start c now) h d a b x) e p in
+    let goes = goes_same start now q.0 q.3.world q.3.disk (lines-up-to-goes R lines (at start c now) q.0 q.1 q.2 q.3 q.4) in
+    min_since max_faults disk.faults q.3.disk.faults h.store.disk.faults (omega (arith, same.later, goes.later)) q.5.cause.0
+
+-- What is known of a result, where it is known which it is.
+
+pub on_ok_is : {T E P : Type 0} (r : Result T E) (x : T) → r ≡ Ok x → OnOk r P → P
+on_ok_is {P = P} r x is p = subst (λ s. OnOk s P) is p
+
+pub if_err_is : {T E : Type 0} (r : Result T E) (P : E → Type 0) (e : E) → r ≡ Err e → IfErr r P → P e
+if_err_is r P e is p = subst (λ s. IfErr s P) is p
+
+abbrev error_or : {T E : Type 0} → E → Result T E → E
+error_or other (Ok x) = other
+error_or other (Err e) = e
+
+pub err_same : {T E : Type 0} (r : Result T E) (e d : E) → r ≡ Err e → r ≡ Err d → e ≡ d
+err_same r e d is also = ap (error_or e) (sym is ∙ also)
+
+-- The run.
+
+pub if_err_then : {T E : Type 0} (r : Result T E) (P Q : E → Type 0) → ((e : E) → P e → Q e) → IfErr r P → IfErr r Q
+if_err_then (Ok x) P Q f h = h
+if_err_then (Err e) P Q f h = f e h
+
+pub opened_on : (disk : DiskView) (h : HostView) (ops : List Op) → IsHost h (world_at_opening ops disk.room h.store.end)
+    → InModel disk (IsSheetImage h.store.sheet.contents (bytes_on disk)) → InModel disk (EndsAt (bytes_on disk) h.store.end) → InModel disk (Looks disk.history h.store.disk.history)
+    → OpenedOn disk (world_at_opening ops disk.room h.store.end) h.store.disk
+opened_on disk h ops stands found ends looks = record {
+  ops = ops;
+  end = h.store.end;
+  is = refl;
+  found = λ m. subst (λ s. IsSheetImage s (bytes_on disk)) stands.stands.contents (found m);
+  ends = ends;
+  looks = looks;
+}
+
+pub done_run : {C : Type 0} (R : Relation C) (stream : Option (List ℕ)) (disk now : DiskView) (c d : C) (a b : Option (List ℕ)) (back : DiskView) (script : List ℕ) (start : World) (beats : List Beat) (text : List ℕ) (t : At C) (h : HostView)
+    → IfSome stream (λ bytes. script ≡ bytes) → OpenedOn disk start now → HoldsSheet start now → LinesDone R 1 (script_lines script) (at start c now) beats text t → Stops R (running t.world) t.children d → IsHost h t.world
+    → t.disk ≡ h.store.disk → Appends a b text → back ≡ h.store.disk → IfSome stream (λ bytes. RunDone R bytes disk c d a b back)
+done_run R stream disk now c d a b back script start beats text t h is opened held lines stops stands there wrote same =
+    let whole = goes_leaves start now beats t.world t.disk held (lines-goes R 1 (script_lines script) (at start c now) beats text t lines) in
+    IfSome_then stream is (λ bytes e. subst (λ s. RunDone R s disk c d a b back) e
+    (record {
+      start = start;
+      now = now;
+      opened = opened;
+      beats = beats;
+      text = text;
+      leads = t;
+      lines = lines;
+      stops = stops;
+      wrote = wrote;
+      back_is = same ∙ sym there;
+      holds = subst (HoldsSheet t.world) (sym same) stands.stands.images;
+      moments = subst (LeavesFronts start beats now) (there ∙ sym same) whole;
+    }))
+
+pub unread_script : {C : Type 0} (R : Relation C) (stream : Option (List ℕ)) (disk : DiskView) (c d : C) (a b : Option (List ℕ)) (nothing : Type 0) (f : RunFault)
+    → IsInputFault f → (f ≡ fault.InputTooLong → IfSome stream (λ script. max_input < length script)) → nothing → TellsRun R stream disk c d a b nothing f
+unread_script R stream disk c d a b nothing fault.Input is long none = none
+unread_script R stream disk c d a b nothing fault.InputTooLong is long none = (none, long refl)
+unread_script R stream disk c d a b nothing fault.OutOfMemory is long none = inl none
+unread_script R stream disk c d a b nothing fault.Output is long none = absurd is
+unread_script R stream disk c d a b nothing (fault.Host why) is long none = absurd is
+unread_script R stream disk c d a b nothing (fault.Open why) is long none = absurd is
+unread_script R stream disk c d a b nothing fault.InUse is long none = absurd is
+
+pub broken_run : {C : Type 0} (R : Relation C) (stream : Option (List ℕ)) (disk now : DiskView) (c d : C) (a b : Option (List ℕ)) (nothing : Type 0) (f : RunFault) (script : List ℕ) (start : World) (h : HostView)
+    → IfSome stream (λ bytes. script ≡ bytes) → length script ≤ max_input → OpenedOn disk start now → HoldsSheet start now → SameDisk disk h.store.disk → LinesStopped R (script_lines script) (at start c now) h d a b f
+    → TellsRun R stream disk c d a b nothing f
+broken_run R stream disk now c d a b nothing (fault.Host f) script start h is short opened held same p =
+    IfSome_then stream is (λ bytes e. subst (λ s. RunStopped R s disk c d a b f) e
+    (record {
+      start = start;
+      now = now;
+      opened = opened;
+      beats = p.0;
+      text = p.1;
+      failed = p.2;
+      leads = p.3;
+      lines = p.4;
+      host = h;
+      same = same;
+      stopped = p.5;
+      moments = goes_up_to start now p.0 p.3.world p.3.disk p.2 f h held (lines-up-to-goes R (script_lines script) (at start c now) p.0 p.1 p.2 p.3 p.4) p.5;
+      stops = p.6;
+      wrote = p.7;
+    }))
+broken_run R stream disk now c d a b nothing fault.OutOfMemory script start h is short opened held same p =
+    inr (IfSome_then stream is (λ bytes e. subst (λ s. RunSoFar R s disk c d a b) e
+    (record {
+      start = start;
+      now = now;
+      opened = opened;
+      beats = p.0;
+      text = p.1;
+      leads = p.2;
+      lines = p.3;
+      moments = goes_leaves start now p.0 p.2.world p.2.disk held (lines-so-far-goes R (script_lines script) (at start c now) p.0 p.1 p.2 p.3);
+      stops = p.6;
+      wrote = p.7;
+    })))
+broken_run R stream disk now c d a b nothing fault.Output script start h is short opened held same p =
+    IfSome_then stream is (λ bytes e. (subst (λ s. length s ≤ max_input) e short, subst (λ s. RunLed R s disk c d) e (record { start = start; now = now; opened = opened; leads = p.0; lines = p.1; stops = p.3 })))
+broken_run R stream disk now c d a b nothing fault.Input script start h is short opened held same p = absurd p
+broken_run R stream disk now c d a b nothing fault.InputTooLong script start h is short opened held same p = absurd p
+broken_run R stream disk now c d a b nothing (fault.Open why) script start h is short opened held same p = absurd p
+broken_run R stream disk now c d a b nothing fault.InUse script start h is short opened held same p = absurd p

@@ -1,0 +1,29 @@
+use Rattle.std.proofs.Common.{sym, subst}
+use Rattle.std.specs.Prelude.{Some}
+use Rattle.std.specs.Io.KnownBytes.{Appends}
+use Rattle.sheet_text.specs.declared.script.ScriptLine.TheVariants as said
+use Rattle.child_edge.specs.Faithful.{at}
+use Rattle.sheet_programs.specs.Lines.{replies_text}
+use Rattle.sheet_programs.specs.Told.{LineFailed}
+use Rattle.sheet_programs.proofs.Commands.{command_unwritten, command_failed, command_broke_unwritten}
+use Rattle.sheet_programs.proofs.taking.run_command.Goals as goal
+
+pub returns-in-Ok-clause-err : goal.returns-in-Ok-clause-err
+returns-in-Ok-clause-err g c = λ w h.
+    command_unwritten g.C.Children.after c.args.command (at w c.args.children.now c.args.host.now.store.disk) c.serve.new.host c.serve.new.children c.in-Ok.replies.items
+    (g.W.Write.contents c.args.writer.now) (g.W.Write.contents c.tell_replies.new.writer) c.in-Err-tell_replies.fault (c.in-Ok.ensures.ok w h) c.in-Err-tell_replies.ensures.err
+
+pub returns-in-Ok-tell_replies-2-clause-err : goal.returns-in-Ok-tell_replies-2-clause-err
+returns-in-Ok-tell_replies-2-clause-err g c = λ w h.
+    subst
+    (LineFailed g.C.Children.after (Some (said.Command c.args.command)) (at w c.args.children.now c.args.host.now.store.disk) c.serve.new.host c.serve.new.children
+    (g.W.Write.contents c.args.writer.now) (g.W.Write.contents c.tell_replies-in-Err.new.writer))
+    (sym c.run_fault.ensures)
+    (command_failed g.C.Children.after c.args.command w c.args.host.now c.serve.new.host c.args.children.now c.serve.new.children c.in-Err.field-0.replies.items
+    (g.W.Write.contents c.args.writer.now) (g.W.Write.contents c.tell_replies-in-Err.new.writer) c.in-Err.field-0.cause h (c.in-Err.ensures.err w h)
+    (subst (λ x. Appends (g.W.Write.contents c.args.writer.now) (g.W.Write.contents c.tell_replies-in-Err.new.writer) (replies_text x)) c.as_slice-in-Err.ensures.value c.in-Ok-tell_replies-2.ensures.ok))
+
+pub returns-clause-err : goal.returns-clause-err
+returns-clause-err g c = λ w h.
+    command_broke_unwritten g.C.Children.after c.args.command w c.args.host.now c.serve.new.host c.args.children.now c.serve.new.children c.in-Err.field-0.replies.items
+    (g.W.Write.contents c.args.writer.now) (g.W.Write.contents c.tell_replies-in-Err.new.writer) c.in-Err.field-0.cause c.in-Err-tell_replies-2.fault h (c.in-Err.ensures.err w h) c.in-Err-tell_replies-2.ensures.err

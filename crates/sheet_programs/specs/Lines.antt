@@ -1,0 +1,61 @@
+-- Lines of a script over a worksheet on a disk and its interpreters. (docs/SCRIPT.md; docs/EDGE.md, "A faithful run".)
+use Rattle.std.specs.Prelude.{◌≡◌, ◌+◌, ℕ, List, [], ◌∷◌, ◌++◌, Option, Some, None}
+use Rattle.std.specs.List.{flat_map}
+use Rattle.session_engine.specs.declared.event.Event.{Event}
+use Rattle.session_engine.specs.declared.event.Event.TheVariants as event
+use Rattle.session_engine.specs.declared.reply.Reply.{Reply}
+use Rattle.session_engine.specs.World.{sheet_in}
+use Rattle.child_edge.specs.Limits.{most_turns}
+use Rattle.child_edge.specs.Faithful.{Relation, At, Beat, Served, ServedUpTo, Waited}
+use Rattle.child_edge.specs.Broken.{WaitStopped, WaitSoFar}
+use Rattle.child_edge.specs.Told.{told}
+use Rattle.sheet_text.specs.Script.{line_of}
+use Rattle.sheet_text.specs.Texts.{reply_text, sheet_text}
+use Rattle.sheet_text.specs.declared.script.ScriptLine.{ScriptLine}
+use Rattle.sheet_text.specs.declared.script.ScriptLine.TheVariants as line
+use Rattle.sheet_programs.specs.Memory.{bad_line}
+
+-- the texts of replies, one after another
+abbrev pub replies_text : List Reply → List ℕ
+replies_text replies = flat_map reply_text replies
+
+-- what is written of the beats of a run: the texts of their replies
+abbrev pub beats_text : List Beat → List ℕ
+beats_text beats = replies_text (told beats)
+
+-- The line with this number was done: the beats that came of it, what is written of it, and where the run stands behind it.
+abbrev pub LineDone : {C : Type 0} → Relation C → ℕ → Option ScriptLine → At C → List Beat → List ℕ → At C → Type 0
+LineDone R number None s beats text t = (beats ≡ []) × (text ≡ bad_line number) × (t ≡ s)
+LineDone R number (Some line.Skip) s beats text t = (beats ≡ []) × (text ≡ []) × (t ≡ s)
+LineDone R number (Some (line.Command c)) s beats text t = Served R s (event.Command c) beats t × (text ≡ beats_text beats)
+LineDone R number (Some line.Wait) s beats text t = Waited R most_turns s beats t × (text ≡ beats_text beats)
+LineDone R number (Some line.Print) s beats text t = (beats ≡ []) × (text ≡ sheet_text (sheet_in s.world)) × (t ≡ s)
+
+-- The lines from this number on were done, one after another.
+abbrev pub LinesDone : {C : Type 0} → Relation C → ℕ → List (List ℕ) → At C → List Beat → List ℕ → At C → Type 0
+LinesDone R number [] s beats text t = (beats ≡ []) × (text ≡ []) × (t ≡ s)
+LinesDone {C = C} R number (line ∷ lines) s beats text t =
+    (mid : At C) × (before : List Beat) × (behind : List Beat) × (first : List ℕ) × (rest : List ℕ) × LineDone R number (line_of line) s before first mid
+    × LinesDone R (number + 1) lines mid behind rest t × (beats ≡ before ++ behind) × (text ≡ first ++ rest)
+
+-- The line came up to this event, at which the host had a fault: these beats of it came before.
+abbrev pub LineUpTo : {C : Type 0} → Relation C → Option ScriptLine → At C → List Beat → Event → At C → Type 0
+LineUpTo R None s beats e t = ⊥
+LineUpTo R (Some line.Skip) s beats e t = ⊥
+LineUpTo R (Some (line.Command c)) s beats e t = ServedUpTo R s (event.Command c) beats e t
+LineUpTo R (Some line.Wait) s beats e t = WaitStopped R most_turns s beats e t
+LineUpTo R (Some line.Print) s beats e t = ⊥
+
+-- The line came so far when memory was refused: a command was not taken, and a wait has taken all that it received.
+abbrev pub LineSoFar : {C : Type 0} → Relation C → Option ScriptLine → At C → List Beat → At C → Type 0
+LineSoFar R None s beats t = ⊥
+LineSoFar R (Some line.Skip) s beats t = ⊥
+LineSoFar R (Some (line.Command c)) s beats t = (beats ≡ []) × (t ≡ s)
+LineSoFar R (Some line.Wait) s beats t = WaitSoFar R most_turns s beats t
+LineSoFar R (Some line.Print) s beats t = ⊥
+
+-- The line, or a part of it, led from here to there.
+pub data LineLed {C : Type 0} (R : Relation C) (l : Option ScriptLine) (s t : At C) : Type 0 where
+  whole : (number : ℕ) (beats : List Beat) (text : List ℕ) → LineDone R number l s beats text t → LineLed R l s t
+  up_to : (beats : List Beat) (e : Event) → LineUpTo R l s beats e t → LineLed R l s t
+  so_far : (beats : List Beat) → LineSoFar R l s beats t → LineLed R l s t

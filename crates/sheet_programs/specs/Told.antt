@@ -1,0 +1,40 @@
+-- What a line gave that is taken and written, and what a fault of it leaves: what was told is on the disk.
+use Rattle.std.specs.Prelude.{◌≡◌, ◌⊎◌, ℕ, List, Option}
+use Rattle.std.specs.Io.KnownBytes.{Appends}
+use Rattle.disk_model.specs.Disk.{DiskView}
+use Rattle.session_engine.specs.declared.event.Event.{Event}
+use Rattle.session_engine.specs.declared.outcome.HostFault.{HostFault}
+use Rattle.session_engine.specs.World.{World}
+use Rattle.session_engine.specs.Host.{HostView, IsHost}
+use Rattle.child_edge.specs.declared.serving.EdgeCause.{EdgeCause}
+use Rattle.child_edge.specs.declared.serving.EdgeCause.TheVariants as cause
+use Rattle.child_edge.specs.Faithful.{Relation, At, at, Beat}
+use Rattle.child_edge.specs.Edge.{Stopped}
+use Rattle.sheet_text.specs.declared.script.ScriptLine.{ScriptLine}
+use Rattle.sheet_programs.specs.Lines.{LineDone, LineUpTo, LineSoFar, LineLed, beats_text}
+use Rattle.sheet_programs.specs.declared.fault.RunFault.{RunFault}
+use Rattle.sheet_programs.specs.declared.fault.RunFault.TheVariants as fault
+
+abbrev pub fault_of_cause : EdgeCause → RunFault
+fault_of_cause (cause.Host f) = fault.Host f
+fault_of_cause cause.OutOfMemory = fault.OutOfMemory
+
+-- The line was done, and what it gave is written.
+abbrev pub LineWrote : {C : Type 0} → Relation C → ℕ → Option ScriptLine → At C → HostView → C → Option (List ℕ) → Option (List ℕ) → Type 0
+LineWrote R number l s h c a b = (beats : List Beat) × (text : List ℕ) × (t : World) × LineDone R number l s beats text (at t c h.store.disk) × IsHost h t × Appends a b text
+
+-- the host goes on in this world and on this disk, or it has stopped behind them
+abbrev pub StandsOrStopped : HostView → World → DiskView → Type 0
+StandsOrStopped h t d = (IsHost h t × (d ≡ h.store.disk)) ⊎ ((e : Event) × (f : HostFault) × Stopped d h t e f)
+
+-- What a line's fault leaves: what was told before is written, but where the writer failed.
+abbrev pub LineFailed : {C : Type 0} → Relation C → Option ScriptLine → At C → HostView → C → Option (List ℕ) → Option (List ℕ) → RunFault → Type 0
+LineFailed R l s h c a b (fault.Host f) =
+    (beats : List Beat) × (e : Event) × (t : World) × (d : DiskView) × LineUpTo R l s beats e (at t c d) × Stopped d h t e f × Appends a b (beats_text beats)
+LineFailed R l s h c a b fault.OutOfMemory =
+    (beats : List Beat) × (t : World) × LineSoFar R l s beats (at t c h.store.disk) × IsHost h t × Appends a b (beats_text beats)
+LineFailed R l s h c a b fault.Output = (t : World) × (d : DiskView) × LineLed R l s (at t c d) × StandsOrStopped h t d
+LineFailed R l s h c a b fault.Input = ⊥
+LineFailed R l s h c a b fault.InputTooLong = ⊥
+LineFailed R l s h c a b (fault.Open why) = ⊥
+LineFailed R l s h c a b fault.InUse = ⊥

@@ -1,0 +1,103 @@
+//! A script over a worksheet on a disk, with interpreters.
+ghost use Rattle.std.specs.Prelude.{◌≡◌, ◌<◌, ◌≤◌, ◌^◌, ℕ, List, IfErr, IfOk, IfSome, IsErrOf, OnOk, length};
+ghost use Rattle.std.specs.Io.KnownBytes.{Appends};
+ghost use Rattle.disk_model.specs.Disk.{SameDisk};
+ghost use Rattle.session_engine.specs.World.{World};
+ghost use Rattle.session_engine.specs.Host.{IsHost};
+ghost use Rattle.child_edge.specs.Faithful.{At, at, Beat};
+ghost use Rattle.child_edge.specs.Seats.{running};
+ghost use Rattle.child_edge.specs.Stops.{Stops};
+ghost use Rattle.sheet_programs.specs.Faults.{FailedSince};
+ghost use Rattle.sheet_programs.specs.Input.{max_input};
+ghost use Rattle.sheet_programs.specs.Memory.{script_lines};
+ghost use Rattle.sheet_programs.specs.Lines.{LinesDone};
+ghost use Rattle.sheet_programs.specs.Run.{RunDone, TellsRun};
+ghost use Rattle.sheet_programs.specs.inside.Taking.{LinesStopped};
+ghost use Rattle.sheet_programs.specs.declared.fault.RunFault.TheVariants as told;
+ghost use Rattle.journal.specs.declared.opening.OpenCause.TheVariants as opens;
+ghost use Rattle.session_engine.specs.declared.outcome.HostFault.TheVariants as hosts;
+
+use crate::taking::run_lines;
+use crate::{RunFault, read_input};
+use child_edge::{Children, stop_all};
+use disk_model::Disk;
+use session_engine::Host;
+use std::alloc::Global;
+use std::io::{Read, Write};
+
+/// Does the lines of a script, and stops each life that goes on then.
+fn run_on_host<D: Disk, C: Children, W: Write>(
+    alloc: Global,
+    host: &mut Host<D>,
+    children: &mut C,
+    script: &[u8],
+    writer: &mut W,
+) -> Result<(), RunFault>
+    requires { length (script_lines script.now) < 2 ^ 32 }
+    ensures same { SameDisk host.old.store.disk host.new.store.disk }
+    ensures ok { (w : World) → IsHost host.old w → OnOk result ((beats : List Beat) × (text : List ℕ) × (t : At C)
+        × LinesDone C.after 1 (script_lines script.now) (at w children.old host.old.store.disk) beats text t
+        × Stops C.after (running t.world) t.children children.new
+        × IsHost host.new t.world × (t.disk ≡ host.new.store.disk)
+        × Appends (W.contents writer.old) (W.contents writer.new) text) }
+    ensures err { (w : World) → IsHost host.old w → IfErr result (LinesStopped C.after
+        (script_lines script.now) (at w children.old host.old.store.disk) host.new
+        children.new (W.contents writer.old) (W.contents writer.new)) }
+{
+    let done = run_lines(alloc, host, children, script, writer);
+    stop_all(host, children);
+    done
+}
+
+/// Runs a script over the worksheet on a disk, with its interpreters as children, and writes what its
+/// lines give: the replies to a command and to all that comes of it, those of a `wait`, the worksheet
+/// at `print`, and `bad line N` where a line isn't known. Lines are numbered from 1. (docs/SCRIPT.md has
+/// the lines, docs/EDGE.md what comes of a command and of a wait.) It gives the disk back.
+///
+/// The script is read whole before the disk is opened. What a line gives is written and flushed before
+/// the next line is taken, so whoever reads `ok` can rely on it. At the end of the script, and at a
+/// fault, each life that goes on is stopped, in the order in which their sessions were made, and nothing
+/// is written of that.
+///
+/// `Input` where the reader fails, an interruption included, `InputTooLong` where it gives more than
+/// `MAX_INPUT` bytes, `Open` where the disk isn't opened: nothing was written, and no child was called.
+/// `Host` where the host has a fault, and `OutOfMemory`: what was told before is written. `Output` where
+/// the writer fails, a flush included: a part of the text may have gone out.
+pub fn run<R: Read, W: Write, D: Disk, C: Children>(
+    alloc: Global,
+    reader: &mut R,
+    writer: &mut W,
+    disk: D,
+    children: &mut C,
+) -> Result<D, RunFault>
+    ensures ran { IfOk result (λ back. IfSome (R.remaining reader.old) (λ script.
+        RunDone C.after script (D.view disk) children.old children.new
+        (W.contents writer.old) (W.contents writer.new) (D.view back))) }
+    ensures same { IfOk result (λ back. SameDisk (D.view disk) (D.view back)) }
+
+    // A script that is too long is told as such, whatever else would go wrong with its text.
+    ensures short { OnOk result (IfSome (R.remaining reader.old)
+        (λ script. length script ≤ max_input)) }
+    ensures fault { IfErr result (TellsRun C.after (R.remaining reader.old) (D.view disk)
+        children.old children.new (W.contents writer.old) (W.contents writer.new)
+        ((writer.new ≡ writer.old) × (children.new ≡ children.old))) }
+
+    // That the disk failed, at the opening or later, is told only where it did.
+    ensures unopened { IsErrOf result (told.Open opens.Disk) → FailedSince D.view disk }
+    ensures failed { IsErrOf result (told.Host hosts.Disk) → FailedSince D.view disk }
+{
+    let script = match read_input(alloc, reader) {
+        Ok(script) => script,
+        Err(fault) => return Err(fault),
+    };
+    let mut host = match Host::open(alloc, disk) {
+        Ok(host) => host,
+        Err(fault) => return Err(RunFault::Open(fault.cause)),
+    };
+    let done = run_on_host(alloc, &mut host, children, script.as_slice(), writer);
+    let disk = host.close();
+    match done {
+        Ok(()) => Ok(disk),
+        Err(fault) => Err(fault),
+    }
+}

@@ -1,0 +1,175 @@
+//! The lines of a script over a worksheet on a disk and its interpreters.
+ghost use Rattle.std.specs.Prelude.{◌≡◌, ◌<◌, ◌^◌, ℕ, List, IfErr, OnOk, Some, length};
+ghost use Rattle.std.specs.Io.KnownBytes.{Appends};
+ghost use Rattle.disk_model.specs.Disk.{SameDisk};
+ghost use Rattle.session_engine.specs.World.{World};
+ghost use Rattle.session_engine.specs.Host.{IsHost};
+ghost use Rattle.child_edge.specs.Faithful.{at, Beat};
+ghost use Rattle.sheet_text.specs.Script.{line_of};
+ghost use Rattle.sheet_text.specs.declared.script.ScriptLine.TheVariants as said;
+ghost use Rattle.sheet_programs.specs.Memory.{script_lines};
+ghost use Rattle.sheet_programs.specs.Lines.{LinesDone};
+ghost use Rattle.sheet_programs.specs.Told.{LineFailed, LineWrote, fault_of_cause};
+ghost use Rattle.sheet_programs.specs.inside.Taking.{LinesFailed};
+
+use crate::RunFault;
+use crate::writing::{tell_bad_line, tell_replies, tell_sheet};
+use bstr::ByteSlice;
+use child_edge::{Children, EdgeCause, EdgeFault, Waiting, serve};
+use disk_model::Disk;
+use session_engine::{Command, Host};
+use sheet_text::{LineFault, ScriptLine, read_line};
+use std::alloc::Global;
+use std::io::Write;
+
+/// The fault of a program by why its edge broke off.
+pub fn run_fault(cause: EdgeCause) -> RunFault
+    ensures { result ≡ fault_of_cause cause }
+{
+    match cause {
+        EdgeCause::Host(fault) => RunFault::Host(fault),
+        EdgeCause::OutOfMemory => RunFault::OutOfMemory,
+    }
+}
+
+/// Takes a command and all that comes of it, and writes and flushes the replies: each is of an event that
+/// every image of the disk has from then on.
+///
+/// `Host` and `OutOfMemory`: what was told before is written. `Output`: a part may have gone out.
+pub fn run_command<D: Disk, C: Children, W: Write>(
+    alloc: Global,
+    host: &mut Host<D>,
+    children: &mut C,
+    command: Command,
+    writer: &mut W,
+) -> Result<(), RunFault>
+    ensures same { SameDisk host.old.store.disk host.new.store.disk }
+    ensures ok { (number : ℕ) (w : World) → IsHost host.old w → OnOk result (LineWrote C.after number
+        (Some (said.Command command)) (at w children.old host.old.store.disk) host.new children.new
+        (W.contents writer.old) (W.contents writer.new)) }
+    ensures err { (w : World) → IsHost host.old w → IfErr result (LineFailed C.after
+        (Some (said.Command command)) (at w children.old host.old.store.disk) host.new children.new
+        (W.contents writer.old) (W.contents writer.new)) }
+{
+    match serve(alloc, host, children, command) {
+        Ok(replies) => match tell_replies(replies.as_slice(), writer) {
+            Ok(()) => Ok(()),
+            Err(fault) => Err(fault),
+        },
+        Err(EdgeFault { replies, cause }) => match tell_replies(replies.as_slice(), writer) {
+            Ok(()) => Err(run_fault(cause)),
+            Err(fault) => Err(fault),
+        },
+    }
+}
+
+/// Waits for the answers, and writes what came of each child before the next one is received from.
+fn run_wait<D: Disk, C: Children, W: Write>(
+    alloc: Global,
+    host: &mut Host<D>,
+    children: &mut C,
+    writer: &mut W,
+) -> Result<(), RunFault>
+    ensures same { SameDisk host.old.store.disk host.new.store.disk }
+    ensures ok { (number : ℕ) (w : World) → IsHost host.old w → OnOk result (LineWrote C.after number
+        (Some said.Wait) (at w children.old host.old.store.disk) host.new children.new
+        (W.contents writer.old) (W.contents writer.new)) }
+    ensures err { (w : World) → IsHost host.old w → IfErr result (LineFailed C.after
+        (Some said.Wait) (at w children.old host.old.store.disk) host.new children.new
+        (W.contents writer.old) (W.contents writer.new)) }
+{
+    let Ok(mut wait) = Waiting::begin(alloc, host) else {
+        return Err(RunFault::OutOfMemory);
+    };
+    loop {
+        let mut replies = Vec::new(alloc);
+        let stepped = wait.next(alloc, host, children, &mut replies);
+        if let Err(fault) = tell_replies(replies.as_slice(), writer) {
+            return Err(fault);
+        }
+        match stepped {
+            Ok(true) => {}
+            Ok(false) => return Ok(()),
+            Err(cause) => return Err(run_fault(cause)),
+        }
+    }
+}
+
+/// Does what a line says, and writes what it gave.
+fn run_said<D: Disk, C: Children, W: Write>(
+    alloc: Global,
+    host: &mut Host<D>,
+    children: &mut C,
+    line: ScriptLine,
+    writer: &mut W,
+) -> Result<(), RunFault>
+    ensures same { SameDisk host.old.store.disk host.new.store.disk }
+    ensures ok { (number : ℕ) (w : World) → IsHost host.old w → OnOk result (LineWrote C.after number
+        (Some line) (at w children.old host.old.store.disk) host.new children.new
+        (W.contents writer.old) (W.contents writer.new)) }
+    ensures err { (w : World) → IsHost host.old w → IfErr result (LineFailed C.after
+        (Some line) (at w children.old host.old.store.disk) host.new children.new
+        (W.contents writer.old) (W.contents writer.new)) }
+{
+    match line {
+        ScriptLine::Skip => Ok(()),
+        ScriptLine::Print => tell_sheet(host.sheet(), writer),
+        ScriptLine::Wait => run_wait(alloc, host, children, writer),
+        ScriptLine::Command(command) => run_command(alloc, host, children, command, writer),
+    }
+}
+
+/// Does what a line says, and writes and flushes what it gave: of a `wait` what came of each child before
+/// the next one is received from. What it wrote is of events that every image of the disk has from then on.
+///
+/// `Host` and `OutOfMemory`: what was told before is written. `Output`: a part may have gone out.
+pub fn run_line<D: Disk, C: Children, W: Write>(
+    alloc: Global,
+    host: &mut Host<D>,
+    children: &mut C,
+    line: &[u8],
+    number: u64,
+    writer: &mut W,
+) -> Result<(), RunFault>
+    ensures same { SameDisk host.old.store.disk host.new.store.disk }
+    ensures ok { (w : World) → IsHost host.old w → OnOk result (LineWrote C.after number
+        (line_of line.now) (at w children.old host.old.store.disk) host.new children.new
+        (W.contents writer.old) (W.contents writer.new)) }
+    ensures err { (w : World) → IsHost host.old w → IfErr result (LineFailed C.after
+        (line_of line.now) (at w children.old host.old.store.disk) host.new children.new
+        (W.contents writer.old) (W.contents writer.new)) }
+{
+    match read_line(alloc, line) {
+        Ok(read) => run_said(alloc, host, children, read, writer),
+        Err(LineFault::BadLine) => tell_bad_line(number, writer),
+        Err(LineFault::OutOfMemory) => Err(RunFault::OutOfMemory),
+    }
+}
+
+/// Does the lines of a script, one after another.
+pub(crate) fn run_lines<D: Disk, C: Children, W: Write>(
+    alloc: Global,
+    host: &mut Host<D>,
+    children: &mut C,
+    script: &[u8],
+    writer: &mut W,
+) -> Result<(), RunFault>
+    requires { length (script_lines script.now) < 2 ^ 32 }
+    ensures same { SameDisk host.old.store.disk host.new.store.disk }
+    ensures ok { (w : World) → IsHost host.old w → OnOk result ((beats : List Beat) × (text : List ℕ) × (t : World)
+        × LinesDone C.after 1 (script_lines script.now) (at w children.old host.old.store.disk) beats text (at t children.new host.new.store.disk)
+        × IsHost host.new t × Appends (W.contents writer.old) (W.contents writer.new) text) }
+    ensures err { (w : World) → IsHost host.old w → IfErr result (LinesFailed C.after
+        (script_lines script.now) (at w children.old host.old.store.disk) host.new
+        children.new (W.contents writer.old) (W.contents writer.new)) }
+{
+    let mut lines = script.lines();
+    let mut number: u64 = 0;
+    while let Some(line) = lines.next() {
+        number += 1;
+        if let Err(fault) = run_line(alloc, host, children, line, number, writer) {
+            return Err(fault);
+        }
+    }
+    Ok(())
+}
