@@ -1,7 +1,9 @@
 #!/usr/bin/env bash
 # Prints how many evaluations a second `tmhost run` does with an interpreter that echoes its line, each durable, on worksheets of 100,
 # 1,000 and 10,000 fields, and how long such a worksheet takes to open: the best of RUNS runs (3 where it isn't set). 500 fields, spread
-# over the worksheet, are evaluated, each with a `wait` behind it. The files lie in FOLDER, or where none is given in the current one.
+# over the worksheet, are evaluated, each with a `wait` behind it. Beside it `tmhost live` does the same, and the ratio of their rates is
+# printed. Then it prints how many times as many evaluations `live` does with eight interpreters that take 50 ms a line each as with one, and
+# the processor time that it takes while nothing comes. The files lie in FOLDER, or where none is given in the current one.
 set -euo pipefail
 folder=$(readlink -f "${1:-.}")
 root=$(dirname "$(dirname "$(readlink -f "${BASH_SOURCE[0]}")")")
@@ -9,17 +11,17 @@ work=$(mktemp -d "$folder/evals.XXXXXX")
 trap 'rm -rf "$work"' EXIT
 "$root/tmhost" blocks </dev/null
 python3 - "$root" "$work" "${RUNS:-3}" <<'PYTHON'
-import subprocess, sys, time
+import os, subprocess, sys, time
 
 root, work, runs = sys.argv[1], sys.argv[2], int(sys.argv[3])
 program, evals = root + "/crates/tmhost/out/tmhost", 500
 
-def run(sheet, script):
+def run(sheet, script, verb="run"):
     begun = time.perf_counter()
-    done = subprocess.run([program, "run", sheet], input=script.encode(), stdout=subprocess.PIPE, check=True)
+    done = subprocess.run([program, verb, sheet], input=script.encode(), stdout=subprocess.PIPE, check=True)
     return time.perf_counter() - begun, done.stdout
 
-print(f"{'fields':>7} {'opening, ms':>12} {'evals/s':>9}", flush=True)
+print(f"{'fields':>7} {'opening, ms':>12} {'evals/s':>9} {'by live':>9} {'ratio':>6}", flush=True)
 for fields in (100, 1000, 10000):
     sheet = f"{work}/{fields}"
     subprocess.run([program, "create", sheet], check=True)
@@ -28,11 +30,58 @@ for fields in (100, 1000, 10000):
     asked = [1 + i * fields // evals for i in range(evals)]
     script = "".join(f"eval {field}\nwait\n" for field in asked)
     expected = "".join((f"asked\nbanner a\n" if i == 0 else "asked\n") + f"answered {field}\n" for i, field in enumerate(asked))
-    opening, whole = [], []
+    opening, whole = [], {"run": [], "live": []}
     for _ in range(runs):
         opening.append(run(sheet, "")[0])
-        took, text = run(sheet, script)
-        assert text == expected.encode(), text[-200:]
-        whole.append(took)
-    print(f"{fields:7} {1000 * min(opening):12.1f} {evals / (min(whole) - min(opening)):9.0f}", flush=True)
+        for verb, took in whole.items():
+            last, text = run(sheet, script, verb)
+            assert text == expected.encode(), text[-200:]
+            took.append(last)
+    rates = [evals / (min(took) - min(opening)) for took in whole.values()]
+    print(f"{fields:7} {1000 * min(opening):12.1f} {rates[0]:9.0f} {rates[1]:9.0f} {rates[1] / rates[0]:6.2f}", flush=True)
+
+# An interpreter that takes 50 ms for a line.
+slow = work + "/slow.py"
+with open(slow, "w") as file:
+    file.write("""import sys, time
+print("\\2verbatim:\\5", end="", flush=True)
+for line in sys.stdin:
+    time.sleep(0.05)
+    print("\\2verbatim:" + line.rstrip() + "\\5", end="", flush=True)
+""")
+
+def evaluations(count, lines):
+    """How many evaluations a second so many interpreters do, once they have started."""
+    sheet = f"{work}/{count}.slow"
+    subprocess.run([program, "create", sheet], check=True)
+    live = subprocess.Popen([program, "live", sheet], stdin=subprocess.PIPE, stdout=subprocess.PIPE, text=True)
+    def say(text):
+        live.stdin.write(text)
+        live.stdin.flush()
+    def hear(wanted):
+        heard = 0
+        while heard < wanted:
+            heard += live.stdout.readline().startswith("answered ")
+    for n in range(count):
+        say(f"session s{n} plain python3 {slow}\n")
+        say("".join(f"new 0 s{n} {i}\n" for i in range(lines)))
+    first = [1 + n * lines for n in range(count)]
+    say("".join(f"eval {field}\n" for field in first))
+    hear(count)
+    begun = time.perf_counter()
+    say("".join(f"eval {field + i}\n" for i in range(lines) for field in first))
+    hear(count * lines)
+    took = time.perf_counter() - begun
+    ticks = lambda: sum(map(int, open(f"/proc/{live.pid}/stat").read().rsplit(")", 1)[1].split()[11:13]))
+    before = ticks()
+    time.sleep(3)
+    idle = ticks() - before
+    live.stdin.close()
+    assert live.wait() == 0
+    return count * lines / took, idle
+
+one, _ = evaluations(1, 40)
+eight, idle = evaluations(8, 40)
+print(f"live, interpreters of 50 ms a line: one {one:.1f} evals/s, eight {eight:.1f}, {eight / one:.2f} times as many")
+print(f"live, three seconds in which nothing comes: {1000 * idle / os.sysconf('SC_CLK_TCK'):.0f} ms of processor time")
 PYTHON

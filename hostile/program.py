@@ -4,6 +4,7 @@ import os
 import shutil
 import subprocess
 import tempfile
+import time
 
 from model import KINDS, Difference
 
@@ -54,8 +55,13 @@ class Program:
         return subprocess.run([self.path, "run", sheet], input=script, capture_output=True, **more)
 
     def show(self, sheet):
-        """What is printed of a worksheet."""
-        shown = subprocess.run([self.path, "show", sheet], capture_output=True)
+        """What is printed of a worksheet. An interpreter that was just being started when its host was killed may have the lock for a moment
+        more."""
+        for _ in range(500):
+            shown = subprocess.run([self.path, "show", sheet], capture_output=True)
+            if shown.stderr != b"fault 35 InUse\n":
+                break
+            time.sleep(0.01)
         if shown.returncode or shown.stderr:
             raise Difference(f"show ended with {shown.returncode} and {shown.stderr}")
         return shown.stdout.decode()

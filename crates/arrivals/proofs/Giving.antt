@@ -4,7 +4,7 @@ use Rattle.std.proofs.lemmas.Bool.{cases_Bool, cond-true, cond-false, leb-true, 
 use Rattle.bstr.specs.Text.{line_len}
 use Rattle.bstr.proofs.lemmas.LineLemmas.{line_len-none}
 use Rattle.arrivals.specs.Lines.{whole, too_long, longest_line, input_lines}
-use Rattle.arrivals.specs.Held.{Held, Gives, IsUnended, if_read, left_with, lines_from}
+use Rattle.arrivals.specs.Held.{Held, GivesLine, IsUnended, if_read, left_with, lines_from}
 use Rattle.arrivals.specs.inside.Buffers.{Tells, dropping_of, first_line, kept_of}
 use Rattle.arrivals.specs.declared.buffer.NextLine.{NextLine}
 use Rattle.arrivals.specs.declared.buffer.NextLine.TheVariants as next
@@ -25,7 +25,7 @@ left-behind h k r n t more =
 
 -- they were the first line
 pub took-gives : (h k : Held) (r : NextLine) (n : ℕ) → Took h k r n → n ≤ length h.bytes → (h.dropping ≡ false → 0 < n)
-    → ((more : List ℕ) → line_len (h.bytes ++ if_read h.ended more) ≡ n) → Gives h r k
+    → ((more : List ℕ) → line_len (h.bytes ++ if_read h.ended more) ≡ n) → GivesLine h r k
 unfolding left_with
 took-gives h k next.Line n t fits some is = λ more.
     line_off h.dropping h.bytes (if_read h.ended more) n (is more) fits some ∙ ap (λ l. l ∷ input_lines (drop n h.bytes ++ if_read h.ended more)) t.told
@@ -42,7 +42,7 @@ line_len-last bytes ended none is more =
     ap (λ e. line_len (bytes ++ if_read e more)) is ∙ ap line_len (append-nil bytes) ∙ line_len-none bytes none
 
 -- nothing is left
-pub end-gives : (h : Held) → h.ended ≡ true → h.dropping ≡ false → h.bytes ≡ [] → Gives h next.End h
+pub end-gives : (h : Held) → h.ended ≡ true → h.dropping ≡ false → h.bytes ≡ [] → GivesLine h next.End h
 unfolding left_with
 end-gives h ended dropping none = (
   ended,
@@ -53,7 +53,7 @@ end-gives h ended dropping none = (
 )
 
 -- more is asked for
-pub more-gives : (h k : Held) → h.ended ≡ false → IsUnended h.bytes → k.bytes ≡ kept_of h.bytes → k.dropping ≡ dropping_of h.dropping h.bytes → k.ended ≡ h.ended → Gives h next.More k
+pub more-gives : (h k : Held) → h.ended ≡ false → IsUnended h.bytes → k.bytes ≡ kept_of h.bytes → k.dropping ≡ dropping_of h.dropping h.bytes → k.ended ≡ h.ended → GivesLine h next.More k
 unfolding left_with
 more-gives h k ended none kept dropping still =
     ⊎_elim

@@ -45,15 +45,15 @@ IsUnended bytes = (k : ℕ) → k < length bytes → slice_index bytes k ≢ 10
 
 -- What a call of `next` gave and what it leaves, whatever reads give later: a line is the first of those
 -- to come and is taken off; at the end there is none; more is asked for only where no whole line is held.
-abbrev pub Gives : Held → NextLine → Held → Type 0
-Gives h next.Line k = (more : List ℕ) → left_with h more ≡ whole k.line ∷ left_with k more
-Gives h next.TooLong k = (more : List ℕ) → left_with h more ≡ too_long ∷ left_with k more
-Gives h next.End k = (h.ended ≡ true) × ((more : List ℕ) → (left_with h more ≡ []) × (left_with k more ≡ []))
-Gives h next.More k =
+abbrev pub GivesLine : Held → NextLine → Held → Type 0
+GivesLine h next.Line k = (more : List ℕ) → left_with h more ≡ whole k.line ∷ left_with k more
+GivesLine h next.TooLong k = (more : List ℕ) → left_with h more ≡ too_long ∷ left_with k more
+GivesLine h next.End k = (h.ended ≡ true) × ((more : List ℕ) → (left_with h more ≡ []) × (left_with k more ≡ []))
+GivesLine h next.More k =
     (h.ended ≡ false) × IsUnended h.bytes × (length k.bytes ≤ longest_line + 2) × ((more : List ℕ) → left_with k more ≡ left_with h more)
 
 -- What one read adds: some bytes, or the end of the input. Where a line may be whole there may be no room for one.
-pub record Adds (h k : Held) (bytes : List ℕ) : Type 0 where
+pub record ReadAdds (h k : Held) (bytes : List ℕ) : Type 0 where
   pub added : k.bytes ≡ h.bytes ++ bytes
   pub dropping : k.dropping ≡ h.dropping
   pub still : h.ended ≡ true → (bytes ≡ []) × (k.ended ≡ true)

@@ -10,7 +10,7 @@ use Rattle.arrivals.specs.declared.sources.Woken.TheVariants as woken
 use Rattle.arrivals.specs.Watching.{Asked}
 
 -- the children's parts, and whose turn it is, in order
-pub record Turns : Type 0 where
+pub record TurnList : Type 0 where
   pub parts : List Part
   pub turns : List Woken
 
@@ -43,9 +43,9 @@ AtTurn None ws a told vs = (told ≡ behind_turns a) × (vs ≡ ws)
 AtTurn (Some i) ws a told vs = (told ≡ slice_get ws i) × (vs ≡ remove ws i)
 
 -- The first turn that may come is told and taken off. No child is touched.
-abbrev pub ByTurns : Turns → Asked → Option Woken → Turns → Type 0
+abbrev pub ByTurns : TurnList → Asked → Option Woken → TurnList → Type 0
 ByTurns s a told t = (t.parts ≡ s.parts) × AtTurn (position (may_come a) s.turns) s.turns a told t.turns
 
 -- A call on a child is answered by its part, and no turn is taken.
-abbrev pub ByChild : Turns → Call → Answer → Turns → Type 0
+abbrev pub ByChild : TurnList → Call → Answer → TurnList → Type 0
 ByChild s c a t = ByParts s.parts c a t.parts × (t.turns ≡ s.turns)

@@ -2,7 +2,7 @@
 ghost use Rattle.std.specs.Prelude.{◌≡◌, ◌≤◌, ◌<◌, ◌+◌, ◌-◌, ℕ, List, [], IfOk, OnOk, OnErr, true, false, length, take, drop, slice_range};
 ghost use Rattle.std.specs.Io.KnownBytes.{IsAtEnd, ReadConsumes};
 ghost use Rattle.bstr.specs.Text.{without_terminator};
-ghost use Rattle.arrivals.specs.Held.{Adds, Gives, IsUnended, KeepsLines, Same, nothing_held, to_come};
+ghost use Rattle.arrivals.specs.Held.{ReadAdds, GivesLine, IsUnended, KeepsLines, Same, nothing_held, to_come};
 ghost use Rattle.arrivals.specs.inside.Buffers.{Tells, dropping_of, first_line, kept_of};
 
 use memchr::memchr;
@@ -197,7 +197,7 @@ impl LineBuffer {
     /// Gives the next line where no line feed is held.
     fn next_unended(&mut self) -> NextLine
         requires { IsUnended self.old.bytes }
-        ensures gives { Gives self.old result self.new }
+        ensures gives { GivesLine self.old result self.new }
         ensures ended { self.new.ended ≡ self.old.ended }
     {
         if !self.ended {
@@ -213,7 +213,7 @@ impl LineBuffer {
 
     /// Gives the next line, where it is held whole.
     pub(crate) fn next(&mut self) -> NextLine
-        ensures gives { Gives self.old result self.new }
+        ensures gives { GivesLine self.old result self.new }
         ensures ended { self.new.ended ≡ self.old.ended }
     {
         match memchr(b'\n', &self.room[self.start..self.end]) {
@@ -224,7 +224,7 @@ impl LineBuffer {
 
     /// Reads once what is there, where there is room for it and the end wasn't reached.
     pub(crate) fn read_from<R: Read>(&mut self, reader: &mut R) -> Result<(), ReadFault>
-        ensures ok { OnOk result ((bytes : List ℕ) × Adds self.old self.new bytes) }
+        ensures ok { OnOk result ((bytes : List ℕ) × ReadAdds self.old self.new bytes) }
         ensures err { OnErr result (Same self.old self.new) }
         ensures end { self.old.ended ≡ false → self.new.ended ≡ true
             → IsAtEnd (R.remaining reader.new) }

@@ -2,7 +2,7 @@
 ghost use Rattle.std.specs.Prelude.{◌≡◌, IfOk, List, ℕ, OnOk, OnErr, false, option_map, true};
 ghost use Rattle.std.specs.Io.KnownBytes.{IsAtEnd};
 ghost use Rattle.arrivals.specs.Lines.{input_lines};
-ghost use Rattle.arrivals.specs.Held.{Adds, Gives, IsUnended, KeepsLines, Same, nothing_held, to_come};
+ghost use Rattle.arrivals.specs.Held.{ReadAdds, GivesLine, IsUnended, KeepsLines, Same, nothing_held, to_come};
 
 use crate::buffer::{LineBuffer, NextLine};
 use std::alloc::{AllocError, Global};
@@ -43,7 +43,7 @@ impl<R: Read> InputLines<R> {
     ///
     /// `InputFault`: the read failed, also where it was interrupted 1,001 times. Nothing is lost.
     pub fn fill(&mut self) -> Result<(), InputFault>
-        ensures ok { OnOk result ((bytes : List ℕ) × Adds self.old.held self.new.held bytes) }
+        ensures ok { OnOk result ((bytes : List ℕ) × ReadAdds self.old.held self.new.held bytes) }
         ensures err { OnErr result (Same self.old.held self.new.held) }
         ensures end { self.old.held.ended ≡ false → self.new.held.ended ≡ true
             → IsAtEnd (R.remaining self.new.reader) }
@@ -58,7 +58,7 @@ impl<R: Read> InputLines<R> {
 
     /// Gives the next line, where it is held whole. Nothing is read.
     pub fn next(&mut self) -> NextLine
-        ensures gives { Gives self.old.held result self.new.held }
+        ensures gives { GivesLine self.old.held result self.new.held }
         ensures ended { self.new.held.ended ≡ self.old.held.ended }
         ensures reader { self.new.reader ≡ self.old.reader }
     {

@@ -21,9 +21,9 @@ pub struct ScriptedSources {
 }
 
 impl Model for ScriptedSources {
-    ghost use Rattle.arrivals.specs.Turns.{Turns};
+    ghost use Rattle.arrivals.specs.Turns.{TurnList};
 
-    ghost Value = { Turns };
+    ghost Value = { TurnList };
 
     ghost view = { λ s. record { parts = s.children; turns = s.turns.items } };
 }

@@ -12,7 +12,9 @@ pub data TaskView : Type 0 where
   run : Text → TaskView
   live : Text → TaskView
   show : Text → TaskView
+  check : Text → TaskView
   rescue : Text → Text → TaskView
+  export : Text → Text → TaskView
 
 abbrev pub task_view : Task → TaskView
 task_view task.Blocks = blocks
@@ -20,7 +22,9 @@ task_view (task.Create path) = create path.now
 task_view (task.Run path) = run path.now
 task_view (task.Live path) = live path.now
 task_view (task.Show path) = show path.now
+task_view (task.Check path) = check path.now
 task_view (task.Rescue path new) = rescue path.now new.now
+task_view (task.Export format path) = export format.now path.now
 
 -- the one argument of a subcommand that has one
 abbrev pub path_rule : Rule
@@ -36,38 +40,53 @@ second_rule = record (new_rule (codes "NEW")) { required = true }
 abbrev pub with_paths : Text → App
 with_paths name = with_rule (with_path name) second_rule
 
+-- and of the one with a format before its path
+abbrev pub format_rule : Rule
+format_rule = record (new_rule (codes "FORMAT")) { required = true }
+
+abbrev pub with_format : Text → App
+with_format name = with_rule (new_app name) format_rule
+
+abbrev pub with_format_and_path : Text → App
+with_format_and_path name = with_rule (with_format name) path_rule
+
 -- a subcommand that shows its help alone
 abbrev pub help_alone : Text → App
 help_alone name =
     let a = new_app name in record a { top = record a.top { arg_required_else_help = true } }
 
--- the command line of `tmhost`: subcommands, four of them with a path, and one with two
+-- the command line of `tmhost`: subcommands, five of them with a path, one with two, and one with a format and a path
 abbrev pub tmhost : App
-tmhost = with_subcommand (with_subcommand (with_subcommand (with_subcommand (with_subcommand (with_subcommand
+tmhost = with_subcommand (with_subcommand (with_subcommand (with_subcommand (with_subcommand (with_subcommand (with_subcommand (with_subcommand
     (with_subcommand (new_app (codes "tmhost")) (new_app (codes "blocks")).top)
     (with_path (codes "create")).top) (with_path (codes "run")).top) (with_path (codes "live")).top)
-    (with_path (codes "show")).top) (with_paths (codes "rescue")).top) (help_alone (codes "faults")).top
+    (with_path (codes "show")).top) (with_path (codes "check")).top) (with_paths (codes "rescue")).top) (with_format_and_path (codes "export")).top) (help_alone (codes "faults")).top
 
 -- the task of a subcommand with a path
 abbrev pub by_path : Text → Text → TaskView
 by_path name path = if bytes_eq name (codes "create") then create path
     else (if bytes_eq name (codes "run") then run path
     else (if bytes_eq name (codes "live") then live path
-    else (if bytes_eq name (codes "show") then show path else blocks)))
+    else (if bytes_eq name (codes "show") then show path
+    else (if bytes_eq name (codes "check") then check path else blocks))))
 
--- The task of a subcommand with its paths; `blocks` has none. Where another has none, `clap` refuses
+-- The task of a subcommand with two paths, or with one path, or with a format and a path.
+abbrev pub by_words : Text → Text → Option Text → Option Text → TaskView
+by_words name path None None = by_path name path
+by_words name path None (Some format) = if bytes_eq name (codes "export") then export format path else blocks
+by_words name path (Some new) format = if bytes_eq name (codes "rescue") then rescue path new else blocks
+
+-- The task of a subcommand with its words; `blocks` has none. Where another has none, `clap` refuses
 -- the words.
-abbrev pub by_paths : Text → Option Text → Option Text → TaskView
-by_paths name None new = blocks
-by_paths name (Some path) None = by_path name path
-by_paths name (Some path) (Some new) =
-    if bytes_eq name (codes "rescue") then rescue path new else blocks
+abbrev pub by_paths : Text → Option Text → Option Text → Option Text → TaskView
+by_paths name None new format = blocks
+by_paths name (Some path) new format = by_words name path new format
 
 -- the task of a subcommand, and `blocks` where there is none
 abbrev pub by_subcommand : Option (Text × List Row) → TaskView
 by_subcommand None = blocks
 by_subcommand (Some subcommand) = by_paths subcommand.0 (first_of (codes "PATH") subcommand.1)
-    (first_of (codes "NEW") subcommand.1)
+    (first_of (codes "NEW") subcommand.1) (first_of (codes "FORMAT") subcommand.1)
 
 -- the task that the words ask for, of which the first is the program's own name
 abbrev pub asked_by : List Text → TaskView

@@ -5,4 +5,6 @@ pub mod Ending
 pub mod Files
 pub mod Programs
 pub mod RescueProgram
+pub mod CheckProgram
+pub mod ExportProgram
 pub mod Tasks

@@ -1,5 +1,6 @@
 -- Which program runs for which words, over which streams and files.
-use Rattle.std.specs.Prelude.{◌≡◌, ◌≢◌, ◌⊎◌, ℕ, List, [], Option, Result, Ok, Err, IfOk, IfErr, MatchResult}
+use Rattle.std.specs.Prelude.{◌≡◌, ◌≢◌, ◌⊎◌, ℕ, true, List, [], Option, Result, Ok, Err, IfOk, IfErr, MatchOption, MatchResult}
+use Rattle.std.specs.Io.KnownBytes.{Appends}
 use Rattle.std.specs.Io.Buffered.{writer_buffer, writer_contents, writer_inner}
 use Rattle.std.specs.declared.alloc.Global.{Global}
 use Rattle.std.specs.declared.io.buffered.BufWriter.{BufWriter}
@@ -10,9 +11,13 @@ use Rattle.disk_model.specs.Disk.{DiskView}
 use Rattle.child_edge.specs.Faithful.{Relation}
 use Rattle.host_cli.specs.Asked.{TaskView}
 use Rattle.host_cli.specs.Asked as asked
+use Rattle.sheet_export.specs.Formats.{format_named, last_part}
+use Rattle.sheet_export.specs.declared.formats.Format.{Format}
+use Rattle.host_cli.specs.ExportProgram.{ExportEnds, no_format_text}
 use Rattle.host_cli.specs.Ending.{BlocksAnswer, ProgramAnswer, ShowsText, TellsFault, status_of}
 use Rattle.host_cli.specs.Faults.{no_files}
 use Rattle.live.specs.Arrivals.{Watch}
+use Rattle.host_cli.specs.CheckProgram.{CheckEnds}
 use Rattle.host_cli.specs.Programs.{CreateAnswer, Creates, LiveAnswer, RunAnswer, ShowAnswer, TellsCreate, TellsMake, create_status}
 use Rattle.host_cli.specs.RescueProgram.{FilesAreRead, RescueEnds}
 use Rattle.recovery.specs.declared.rescuing.Rescued.{Rescued}
@@ -93,6 +98,19 @@ ShowAt {D = D} holds reads view p q written output said old new ending path =
     HeldFirst holds p q (λ why. EndsWith said old new ending (Err why))
     (λ held. (files : Result D FilesFault) × reads held path files q × ShowTo view files written output said old new ending)
 
+-- `check` of files to the buffered output
+abbrev pub CheckTo : {D C W E : Type 0} → (D → DiskView) → Relation C → Result D FilesFault → C → C → (W → Option (List ℕ)) → W → (E → Option (List ℕ)) → E → E → Ending → Type 0
+CheckTo view R files c d written output said old new ending =
+    Buffered output (λ first last. CheckEnds view R files c d (writer_contents written) first last said old new ending)
+    ((d ≡ c) × EndsWith said old new ending (Err fault.OutOfMemory))
+
+-- `check` of what the places open to read at a path
+abbrev pub CheckAt : {P D C W E : Type 0} → (P → Result Unit RunFault → P → Type 0) → (P → List ℕ → Result D FilesFault → P → Type 0) → (D → DiskView) → Relation C
+    → P → P → C → C → (W → Option (List ℕ)) → W → (E → Option (List ℕ)) → E → E → Ending → Text → Type 0
+CheckAt {D = D} holds reads view R p q c d written output said old new ending path =
+    HeldFirst holds p q (λ why. (d ≡ c) × EndsWith said old new ending (Err why))
+    (λ held. (files : Result D FilesFault) × reads held path files q × CheckTo view R files c d written output said old new ending)
+
 -- `run` over files of the script of a stream, to the buffered output
 abbrev pub RunTo : {D C W E : Type 0} → (D → DiskView) → Relation C → Type 0 → Option (List ℕ) → Result D FilesFault → C → C → (W → Option (List ℕ)) → W → (E → Option (List ℕ)) → E → E → Ending → Type 0
 RunTo view R unread stream files c d written output said old new ending =
@@ -122,6 +140,28 @@ RescueAt {P = P} {D = D} holds reads creates view p q written output said old ne
     HeldFirst holds p q (λ why. EndsWith said old new ending (Err why))
     (λ held. (files : Result D FilesFault) × (read : P) × reads held path files read × RescueFrom creates view files read q written output said old new ending to)
 
+-- `export` of files to the buffered output, in a format and with a title
+abbrev pub ExportTo : {D W E : Type 0} → (D → DiskView) → Result D FilesFault → Format → List ℕ → (W → Option (List ℕ)) → W → (E → Option (List ℕ)) → E → E → Ending → Type 0
+ExportTo view files format title written output said old new ending =
+    Buffered output (λ first last. ExportEnds view files format title (writer_contents written) first last said old new ending) (EndsWith said old new ending (Err fault.OutOfMemory))
+
+-- `export` of what the places open to read at a path, whose last part is the title
+abbrev pub ExportFrom : {P D W E : Type 0} → (P → Result Unit RunFault → P → Type 0) → (P → List ℕ → Result D FilesFault → P → Type 0) → (D → DiskView)
+    → P → P → (W → Option (List ℕ)) → W → (E → Option (List ℕ)) → E → E → Ending → Text → Format → Type 0
+ExportFrom {D = D} holds reads view p q written output said old new ending path format =
+    HeldFirst holds p q (λ why. EndsWith said old new ending (Err why))
+    (λ held. (files : Result D FilesFault) × reads held path files q × ExportTo view files format (last_part path) written output said old new ending)
+
+-- where there is no format of that name the words are refused, and nothing is done
+abbrev pub RefusesFormat : {P E : Type 0} → P → P → (E → Option (List ℕ)) → E → E → Ending → Type 0
+RefusesFormat p q said old new ending = (q ≡ p) × (ending.status ≡ 2) × (ending.told ≡ true → Appends (said old) (said new) no_format_text)
+
+-- `export` in the format of this name
+abbrev pub ExportAt : {P D W E : Type 0} → (P → Result Unit RunFault → P → Type 0) → (P → List ℕ → Result D FilesFault → P → Type 0) → (D → DiskView)
+    → P → P → (W → Option (List ℕ)) → W → (E → Option (List ℕ)) → E → E → Ending → Text → Text → Type 0
+ExportAt holds reads view p q written output said old new ending name path =
+    MatchOption (format_named name) (RefusesFormat p q said old new ending) (ExportFrom holds reads view p q written output said old new ending path)
+
 -- `live` over files with the lines of a stream, to the buffered output
 abbrev pub LiveTo : {D C W E : Type 0} → (D → DiskView) → Relation C → Watch C → Type 0 → Option (List ℕ) → Result D FilesFault → C → C → (W → Option (List ℕ)) → W → (E → Option (List ℕ)) → E → E → Ending → Type 0
 LiveTo view R watch unread stream files c d written output said old new ending =
@@ -136,13 +176,15 @@ LiveAt {D = D} holds opens view R watch unread stream p q c d written output sai
     (λ held. (files : Result D FilesFault) × opens held path files q × LiveTo view R watch unread stream files c d written output said old new ending)
 
 -- what is done, by the task
-abbrev pub ByTask : Type 0 → (Text → Type 0) → (Text → Type 0) → (Text → Type 0) → (Text → Type 0) → (Text → Text → Type 0) → TaskView → Type 0
-ByTask blocks create run live show rescue asked.blocks = blocks
-ByTask blocks create run live show rescue (asked.create path) = create path
-ByTask blocks create run live show rescue (asked.run path) = run path
-ByTask blocks create run live show rescue (asked.live path) = live path
-ByTask blocks create run live show rescue (asked.show path) = show path
-ByTask blocks create run live show rescue (asked.rescue path new) = rescue path new
+abbrev pub ByTask : Type 0 → (Text → Type 0) → (Text → Type 0) → (Text → Type 0) → (Text → Type 0) → (Text → Type 0) → (Text → Text → Type 0) → (Text → Text → Type 0) → TaskView → Type 0
+ByTask blocks create run live show check rescue export asked.blocks = blocks
+ByTask blocks create run live show check rescue export (asked.create path) = create path
+ByTask blocks create run live show check rescue export (asked.run path) = run path
+ByTask blocks create run live show check rescue export (asked.live path) = live path
+ByTask blocks create run live show check rescue export (asked.show path) = show path
+ByTask blocks create run live show check rescue export (asked.check path) = check path
+ByTask blocks create run live show check rescue export (asked.rescue path new) = rescue path new
+ByTask blocks create run live show check rescue export (asked.export format path) = export format path
 
 -- How the program ends where `clap` gave no task, by the kind of its error.
 pub record Refuses {W E : Type 0} (a b : W) (said : E → Option (List ℕ)) (old new : E) (ending : Ending) (k : ErrorKind) : Type 0 where

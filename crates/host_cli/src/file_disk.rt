@@ -87,10 +87,11 @@ impl<F: SheetFile + Drop> FileDisk<F> {
     }
 
     /// Opens both files, first the one that `path` leads to, which is locked before anything is read
-    /// and before the other is opened; a missing second one is made. `InUse` where another program has
-    /// the worksheet. `Disk` where a file can't be opened or made: a missing file at `path`, a folder or
-    /// what else is no plain file, a file that has another name, a second file that is a link or the
-    /// first one, one that may not be read and written, and want of memory for a path.
+    /// and before the other is opened; a missing second one is made, unless the worksheet lies in it.
+    /// `InUse` where another program has the worksheet. `Disk` where a file can't be opened or made: a
+    /// missing file at `path`, a missing second one in which the worksheet lies, a folder or what else is
+    /// no plain file, a file that has another name, a second file that is a link or the first one, one
+    /// that may not be read and written, and want of memory for a path.
     pub fn open<R: Files<File = F>>(
         rt: &R,
         alloc: Global,
@@ -99,7 +100,7 @@ impl<F: SheetFile + Drop> FileDisk<F> {
         let path = resolved(rt, alloc, path)?;
         let alt = second_path(alloc, path.as_str())?;
         let first = open_first(rt, path.as_str(), Lock::Exclusive)?;
-        let second = open_or_make(rt, alt.as_str())?;
+        let second = open_or_make(rt, alt.as_str(), &first)?;
         are_two(&first, &second)?;
         Ok(FileDisk {
             first,

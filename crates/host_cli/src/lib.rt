@@ -3,7 +3,9 @@
 #![tactic(auto)]
 
 mod block_lines;
+mod check_program;
 mod ending;
+mod export_program;
 mod file_disk;
 mod files_fault;
 mod holding;
@@ -16,7 +18,9 @@ mod tasks;
 mod words;
 
 pub use block_lines::blocks;
+pub use check_program::run_check;
 pub use ending::{Ending, end_program, refuse_unread_words, refuse_words, run_blocks};
+pub use export_program::run_export;
 pub use file_disk::FileDisk;
 pub use files_fault::{FilesFault, MakeFault, create_fault_text};
 pub use holding::{Closed, Held, hold_closed};

@@ -4,6 +4,7 @@ use journal::CreateCause;
 use std::alloc::Global;
 use std::fs::{OpenFile, OpenOptions, TryLockError};
 use std::io::ErrorKind;
+use std::os::unix::fs::FileExt;
 use std::rt::Files;
 use std::{fs, io};
 
@@ -116,14 +117,40 @@ pub(crate) fn open_first<F: SheetFile + Drop, R: Files<File = F>>(
     Ok(first)
 }
 
-/// Opens the second file of a worksheet, to read and to write. A missing one is made, and its name is
-/// brought onto the disk.
-pub(crate) fn open_or_make<R: Files>(rt: &R, path: &str) -> io::Result<R::File> {
+/// How the first file begins of a worksheet that lies in its second one.
+const NAMES_SECOND: &[u8] = b"TMWSHEET\x01B";
+
+/// Whether a first file says that its worksheet lies in the second one. It has a gate behind that, as each
+/// first file.
+fn names_second<F: FileExt>(first: &F) -> io::Result<bool> {
+    let mut header = [0; 11];
+    match first.read_exact_at(&mut header, 0) {
+        Ok(()) => Ok(header.starts_with(NAMES_SECOND)),
+        Err(error) if error.kind() == ErrorKind::UnexpectedEof => Ok(false),
+        Err(error) => Err(error),
+    }
+}
+
+/// Makes the second file of a worksheet, and brings its name onto the disk.
+fn make_second<R: Files>(rt: &R, path: &str) -> io::Result<R::File> {
+    let file = make_file(rt, path)?;
+    sync_folder(rt, folder_of(path))?;
+    Ok(file)
+}
+
+/// Opens the second file of a worksheet, to read and to write. A missing one is made, but where the
+/// worksheet lies in it: then an empty one would stand in the place of what was lost.
+pub(crate) fn open_or_make<F: SheetFile + Drop, R: Files<File = F>>(
+    rt: &R,
+    path: &str,
+    first: &F,
+) -> io::Result<F> {
     match open_plain(rt, path, Lock::Exclusive) {
         Err(error) if error.kind() == ErrorKind::NotFound => {
-            let file = make_file(rt, path)?;
-            sync_folder(rt, folder_of(path))?;
-            Ok(file)
+            if names_second(first)? {
+                return Err(error);
+            }
+            make_second(rt, path)
         }
         opened => opened,
     }

@@ -4,7 +4,8 @@ ghost use Rattle.std.specs.declared.io.ErrorKind.TheVariants as io_kind;
 ghost use Rattle.clap.specs.Words.{FailsBy, fault_of, kind_of};
 ghost use Rattle.clap.specs.declared.error.Error.{Error};
 ghost use Rattle.host_cli.specs.Asked.{asked_by, task_view, tmhost};
-ghost use Rattle.host_cli.specs.Tasks.{BlocksTo, ByTask, CreateAt, EndsWith, LiveAt, LiveTo, Refuses, RescueAt, RescueFrom, RunAt, RunTo, ShowAt, ShowTo};
+ghost use Rattle.host_cli.specs.Tasks.{BlocksTo, ByTask, CheckAt, CheckTo, CreateAt, EndsWith, ExportAt, ExportFrom, ExportTo, LiveAt, LiveTo, Refuses, RescueAt, RescueFrom, RunAt, RunTo, ShowAt, ShowTo};
+ghost use Rattle.sheet_export.specs.Formats.{last_part as last_part_of};
 ghost use Rattle.sheet_programs.specs.declared.fault.RunFault.TheVariants as fault;
 ghost use Rattle.host_cli.specs.RescueProgram.{RescueEnds};
 ghost use Rattle.host_cli.specs.declared.files_fault.MakeFault.{MakeFault};
@@ -12,15 +13,18 @@ ghost use Rattle.host_cli.specs.declared.words.Task.{Task};
 ghost use Rattle.recovery.specs.Sheets.{Makes};
 ghost use Rattle.worksheet.specs.declared.op.Op.{Op};
 
+use crate::export_program::refuse_format;
 use crate::{
     Ending, FilesFault, Places, Task, end_program, read_rescued, read_words, refuse_unread_words,
-    refuse_words, run_blocks, run_create, run_live, run_rescue, run_script, run_show,
+    refuse_words, run_blocks, run_check, run_create, run_export, run_live, run_rescue, run_script,
+    run_show,
 };
 use arrivals::Sources;
 use child_edge::Children;
 use clap::Error;
 use disk_model::Disk;
 use recovery::Rescued;
+use sheet_export::{Format, format_named, last_part};
 use sheet_programs::RunFault;
 use std::alloc::Global;
 use std::io;
@@ -84,6 +88,41 @@ fn show_at<D: Disk, P: Places<D>, W: Write + Drop, E: Write>(
 {
     match places.hold() {
         Ok(()) => show_on(alloc, places.open_to_read(path), output, errors),
+        Err(fault) => end_program(Err(fault), errors),
+    }
+}
+
+/// `check` of a worksheet's files to the output.
+fn check_over<D: Disk, C: Children, W: Write + Drop, E: Write>(
+    alloc: Global,
+    files: Result<D, FilesFault>,
+    children: &mut C,
+    output: W,
+    errors: &mut E,
+) -> Ending
+    ensures { CheckTo D.view C.after files children.old children.new W.contents output
+        E.contents errors.old errors.new result }
+{
+    match BufWriter::with_capacity(alloc, BUFFER, output) {
+        Ok(mut output) => run_check(alloc, files, children, &mut output, errors),
+        Err(_) => end_program(Err(RunFault::OutOfMemory), errors),
+    }
+}
+
+/// `check` of the worksheet at a path to the output.
+fn check_at<D: Disk, P: Places<D>, C: Children, W: Write + Drop, E: Write>(
+    alloc: Global,
+    places: &mut P,
+    path: &str,
+    children: &mut C,
+    output: W,
+    errors: &mut E,
+) -> Ending
+    ensures { CheckAt P.holds P.reads D.view C.after places.old places.new children.old children.new
+        W.contents output E.contents errors.old errors.new result path.now }
+{
+    match places.hold() {
+        Ok(()) => check_over(alloc, places.open_to_read(path), children, output, errors),
         Err(fault) => end_program(Err(fault), errors),
     }
 }
@@ -221,8 +260,85 @@ fn rescue_at<D: Disk, P: Places<D>, W: Write + Drop, E: Write>(
     }
 }
 
+/// `export` of a worksheet's files to the output.
+fn export_on<D: Disk, W: Write + Drop, E: Write>(
+    alloc: Global,
+    format: Format,
+    files: Result<D, FilesFault>,
+    title: &[u8],
+    output: W,
+    errors: &mut E,
+) -> Ending
+    ensures { ExportTo D.view files format title.now W.contents output
+        E.contents errors.old errors.new result }
+{
+    match BufWriter::with_capacity(alloc, BUFFER, output) {
+        Ok(mut output) => run_export(alloc, format, files, title, &mut output, errors),
+        Err(_) => end_program(Err(RunFault::OutOfMemory), errors),
+    }
+}
+
+/// `export` of a worksheet's files to the output, with the last part of their path as the title.
+fn export_titled<D: Disk, W: Write + Drop, E: Write>(
+    alloc: Global,
+    format: Format,
+    files: Result<D, FilesFault>,
+    path: &str,
+    output: W,
+    errors: &mut E,
+) -> Ending
+    ensures { ExportTo D.view files format (last_part_of path.now) W.contents output
+        E.contents errors.old errors.new result }
+{
+    let title = last_part(path.as_bytes());
+    export_on(alloc, format, files, title, output, errors)
+}
+
+/// `export` of the worksheet at a path to the output.
+fn export_from<D: Disk, P: Places<D>, W: Write + Drop, E: Write>(
+    alloc: Global,
+    places: &mut P,
+    format: Format,
+    path: &str,
+    output: W,
+    errors: &mut E,
+) -> Ending
+    ensures { ExportFrom P.holds P.reads D.view places.old places.new W.contents output
+        E.contents errors.old errors.new result path.now format }
+{
+    match places.hold() {
+        Ok(()) => export_titled(
+            alloc,
+            format,
+            places.open_to_read(path),
+            path,
+            output,
+            errors,
+        ),
+        Err(fault) => end_program(Err(fault), errors),
+    }
+}
+
+/// `export` in the format of this name.
+fn export_at<D: Disk, P: Places<D>, W: Write + Drop, E: Write>(
+    alloc: Global,
+    places: &mut P,
+    name: &str,
+    path: &str,
+    output: W,
+    errors: &mut E,
+) -> Ending
+    ensures { ExportAt P.holds P.reads D.view places.old places.new W.contents output
+        E.contents errors.old errors.new result name.now path.now }
+{
+    match format_named(name) {
+        Some(format) => export_from(alloc, places, format, path, output, errors),
+        None => refuse_format(errors),
+    }
+}
+
 /// Does a task: `blocks` reads the input, `run` its script and `live` its lines from it; `create`,
-/// `run`, `live`, `show` and `rescue` work on the worksheet at the path, once the places of closed streams are held. What they give goes to the
+/// `run`, `live`, `show`, `check`, `rescue` and `export` work on the worksheet at the path, once the places of closed streams are held. What they give goes to the
 /// output, and the line of a fault to the errors.
 pub fn do_task<D: Disk, P: Places<D>, R: Read, W: Write + Drop, E: Write, S: Sources>(
     alloc: Global,
@@ -246,7 +362,11 @@ pub fn do_task<D: Disk, P: Places<D>, R: Read, W: Write + Drop, E: Write, S: Sou
         E.contents errors.old errors.new result)
         (ShowAt P.holds P.reads D.view places.old places.new W.contents output
         E.contents errors.old errors.new result)
+        (CheckAt P.holds P.reads D.view S.after places.old places.new sources.old sources.new
+        W.contents output E.contents errors.old errors.new result)
         (RescueAt P.holds P.reads P.creates D.view places.old places.new W.contents output
+        E.contents errors.old errors.new result)
+        (ExportAt P.holds P.reads D.view places.old places.new W.contents output
         E.contents errors.old errors.new result)
         (task_view task.entry) }
 {
@@ -256,7 +376,9 @@ pub fn do_task<D: Disk, P: Places<D>, R: Read, W: Write + Drop, E: Write, S: Sou
         Task::Run(path) => run_at(alloc, places, path, sources, input, output, errors),
         Task::Live(path) => live_at(alloc, places, path, sources, input, output, errors),
         Task::Show(path) => show_at(alloc, places, path, output, errors),
+        Task::Check(path) => check_at(alloc, places, path, sources, output, errors),
         Task::Rescue(path, new) => rescue_at(alloc, places, path, new, output, errors),
+        Task::Export(format, path) => export_at(alloc, places, format, path, output, errors),
     }
 }
 
@@ -302,7 +424,11 @@ pub fn run_words<D: Disk, P: Places<D>, R: Read, W: Write + Drop, E: Write, S: S
         E.contents errors.old errors.new result)
         (ShowAt P.holds P.reads D.view places.old places.new W.contents output
         E.contents errors.old errors.new result)
+        (CheckAt P.holds P.reads D.view S.after places.old places.new sources.old sources.new
+        W.contents output E.contents errors.old errors.new result)
         (RescueAt P.holds P.reads P.creates D.view places.old places.new W.contents output
+        E.contents errors.old errors.new result)
+        (ExportAt P.holds P.reads D.view places.old places.new W.contents output
         E.contents errors.old errors.new result)
         (task_view task))
         (λ error. (last : W)

@@ -1,8 +1,8 @@
 //! The words of a command line.
-ghost use Rattle.std.specs.Prelude.{◌≡◌, IfOk, Some, false, map, string_bytes};
-ghost use Rattle.clap.specs.Words.{FailsBy, app_of, fault_of, new_app, subcommand_rows_of};
+ghost use Rattle.std.specs.Prelude.{◌≡◌, IfOk, None, Option, Some, false, map, string_bytes};
+ghost use Rattle.clap.specs.Words.{FailsBy, Text, app_of, fault_of, new_app, subcommand_rows_of};
 ghost use Rattle.clap.specs.declared.builder.command.Command.TheViews.{out-Command as fields_of};
-ghost use Rattle.host_cli.specs.Asked.{asked_by, by_path, by_paths, by_subcommand, tmhost, task_view};
+ghost use Rattle.host_cli.specs.Asked.{asked_by, by_subcommand, by_words, tmhost, task_view};
 ghost use Rattle.host_cli.specs.Asked as asked;
 
 use clap::{Arg, ArgMatches, Command, Error};
@@ -21,17 +21,21 @@ pub enum Task<'a> {
     Live(&'a str),
     /// Write the worksheet at the path.
     Show(&'a str),
+    /// Evaluate the worksheet at the path anew, and write what differs.
+    Check(&'a str),
     /// Write what stands in the worksheet at the first path, before its first damage, to a new one at
     /// the second.
     Rescue(&'a str, &'a str),
+    /// Write the worksheet at the path in the format of this name.
+    Export(&'a str, &'a str),
 }
 
 /// What the help of the program says below its lists.
 const NOTES: &str = "Without a command it is `blocks`.\n\n\
 Status: 0 where all was done, or help was shown; 1 at a fault, which is told on\n\
-standard error as `fault N NAME`, and where the stream of `blocks` has a fault or\n\
-an open block; 2 where the words are refused. `tmhost help faults` says what each\n\
-fault means.\n\n\
+standard error as `fault N NAME`, where the stream of `blocks` has a fault or an\n\
+open block, and where `check` finds a difference; 2 where the words are refused.\n\
+`tmhost help faults` says what each fault means.\n\n\
 Example: tmhost create sheet.tm && tmhost run sheet.tm <script.txt";
 
 const BLOCKS_NOTES: &str =
@@ -75,6 +79,17 @@ runs the worksheet nothing is shown: that is the fault 35 InUse.\n\n\
 Status: 0 where all was written; 1 at a fault; 2 where the words are refused.\n\n\
 Example: tmhost show sheet.tm";
 
+const CHECK_NOTES: &str =
+    "Each field that shows an answer is evaluated anew, in the worksheet's order and\n\
+with interpreters of its own, on a copy in memory; the worksheet stays as it is.\n\
+Where another output comes the field's line, its prompt and input, the lines that\n\
+it shows behind `- `, and those that came behind `+ ` are written at once, or `+ ?`\n\
+where no answer came. Prompts aren't compared. The last line has the counts, as\n\
+`same 4 differ 1 unanswered 0`.\n\n\
+Status: 0 where all outputs are the same; 1 where one differs or didn't come, or\n\
+at a fault; 2 where the words are refused.\n\n\
+Example: tmhost check sheet.tm";
+
 const RESCUE_NOTES: &str =
     "It reads PATH alone, and makes NEW as `create` does. NEW has the worksheet of the\n\
 changes that stand in PATH before the first damage, whether that is a broken gate\n\
@@ -90,6 +105,17 @@ Status: 0 where NEW is on the disk and that was told, be PATH whole or damaged; 
 at a fault; 2 where the words are refused.\n\n\
 Example: tmhost rescue sheet.tm new.tm";
 
+const EXPORT_NOTES: &str = "FORMAT is one of these:\n\
+script    the lines that make the worksheet anew, for `run` on an empty one: its\n\
+\x20         sessions, and a `new` for each field. Answers are no part of it. A\n\
+\x20         session with a space in a word has no such line: that is the fault\n\
+\x20         36 NoScript, and nothing is written\n\
+html      one page that stands alone, without scripts: prompts, inputs and outputs,\n\
+\x20         all of them as texts\n\n\
+It reads PATH as `show` does, and writes and makes no file.\n\n\
+Status: 0 where all was written; 1 at a fault; 2 where the words are refused.\n\n\
+Example: tmhost export html sheet.tm >sheet.html";
+
 const FAULTS_NOTES: &str = "A fault is told on standard error as `fault N NAME`, with status 1.\n\n\
 21 Disk          a write failed while the script ran; all that was told is kept:\n\
 \x20                make room, then `show`\n\
@@ -102,10 +128,14 @@ const FAULTS_NOTES: &str = "A fault is told on standard error as `fault N NAME`,
 \x20                What a `create` leaves that was cut off: remove PATH and PATH.alt\n\
 32 Disk          a file can't be opened, made, read or synced, or has a second name;\n\
 \x20                nothing was written to a worksheet: look at the path, make room\n\
-33 OutOfMemory   while the worksheet was opened; nothing was written: run it again\n\
+33 OutOfMemory   while the worksheet was opened; nothing was written: run it again. Of\n\
+\x20                `rescue`: remove NEW and NEW.alt first, where they were made\n\
 34 NotEmpty      PATH or PATH.alt is there already; nothing was changed: another path\n\
 35 InUse         another program has the worksheet; nothing was done: wait for its end\n\
-40 Input         standard input can't be read; nothing was done: give it again\n\
+36 NoScript      a session has a word with a space, which no line of a script makes;\n\
+\x20                nothing was written: export it in another format\n\
+40 Input         standard input can't be read; nothing was done: give it again. Of\n\
+\x20                `live`: at some line; all that was told is kept\n\
 41 InputTooLong  more than 67,108,864 bytes; nothing was done: cut it into parts\n\
 42 Output        standard output can't be written; what was done is on the disk, and\n\
 \x20                one line more than was told may be: `show` says where it stands\n\
@@ -154,6 +184,42 @@ fn with_paths<'a>(
     )
 }
 
+/// A subcommand with a format.
+fn with_format<'a>(
+    alloc: Global,
+    name: &'a str,
+    about: &'a str,
+    notes: &'a str,
+) -> Result<Command<'a>, AllocError>
+    ensures made { IfOk result (λ command. app_of command ≡ asked.with_format name.entry.now) }
+    ensures local { IfOk result (λ command. (fields_of command).has_globals ≡ false) }
+{
+    plain(alloc, name, about, notes).arg(
+        Arg::new(alloc, "FORMAT")
+            .help("What the worksheet is written as: script or html")
+            .required(true),
+    )
+}
+
+/// A subcommand with a format, and with a path behind it.
+fn with_format_and_path<'a>(
+    alloc: Global,
+    name: &'a str,
+    about: &'a str,
+    notes: &'a str,
+) -> Result<Command<'a>, AllocError>
+    ensures made { IfOk result (λ command.
+        app_of command ≡ asked.with_format_and_path name.entry.now) }
+    ensures local { IfOk result (λ command. (fields_of command).has_globals ≡ false) }
+{
+    let first = with_format(alloc, name, about, notes)?;
+    first.arg(
+        Arg::new(alloc, "PATH")
+            .help("The worksheet, which is the files PATH and PATH.alt")
+            .required(true),
+    )
+}
+
 /// A subcommand that shows its help alone.
 fn help_alone<'a>(alloc: Global, name: &'a str, about: &'a str, notes: &'a str) -> Command<'a>
     ensures made { app_of result ≡ asked.help_alone name.entry.now }
@@ -186,11 +252,23 @@ fn tmhost_command<'a>(alloc: Global) -> Result<Command<'a>, AllocError>
         LIVE_NOTES,
     )?;
     let show = with_path(alloc, "show", "Write a worksheet", SHOW_NOTES)?;
+    let check = with_path(
+        alloc,
+        "check",
+        "Evaluate a worksheet anew, and write what differs",
+        CHECK_NOTES,
+    )?;
     let rescue = with_paths(
         alloc,
         "rescue",
         "Write what stands before a damage to a new worksheet",
         RESCUE_NOTES,
+    )?;
+    let export = with_format_and_path(
+        alloc,
+        "export",
+        "Write a worksheet as a script or a page",
+        EXPORT_NOTES,
     )?;
     let faults = help_alone(alloc, "faults", "What each fault means", FAULTS_NOTES);
     let first = plain(
@@ -204,30 +282,44 @@ fn tmhost_command<'a>(alloc: Global) -> Result<Command<'a>, AllocError>
     let third = second.subcommand(run)?;
     let fourth = third.subcommand(live)?;
     let fifth = fourth.subcommand(show)?;
-    let sixth = fifth.subcommand(rescue)?;
-    let seventh = sixth.subcommand(faults)?;
-    Ok(seventh)
+    let sixth = fifth.subcommand(check)?;
+    let seventh = sixth.subcommand(rescue)?;
+    let eighth = seventh.subcommand(export)?;
+    let ninth = eighth.subcommand(faults)?;
+    Ok(ninth)
 }
 
 /// The task of a subcommand with a path.
 fn task_with_path<'a>(name: &str, path: &'a str) -> Task<'a>
-    ensures { task_view result ≡ by_path name.now path.entry.now }
+    ensures { task_view result ≡ by_words name.now path.entry.now None None }
 {
     match name {
         "create" => Task::Create(path),
         "run" => Task::Run(path),
         "live" => Task::Live(path),
         "show" => Task::Show(path),
+        "check" => Task::Check(path),
         _ => Task::Blocks,
     }
 }
 
 /// The task of a subcommand with two paths.
 fn task_with_paths<'a>(name: &str, path: &'a str, new: &'a str) -> Task<'a>
-    ensures { task_view result ≡ by_paths name.now (Some path.entry.now) (Some new.entry.now) }
+    ensures { (format : Option Text)
+        → task_view result ≡ by_words name.now path.entry.now (Some new.entry.now) format }
 {
     match name {
         "rescue" => Task::Rescue(path, new),
+        _ => Task::Blocks,
+    }
+}
+
+/// The task of a subcommand with a format and a path.
+fn task_with_format<'a>(name: &str, format: &'a str, path: &'a str) -> Task<'a>
+    ensures { task_view result ≡ by_words name.now path.entry.now None (Some format.entry.now) }
+{
+    match name {
+        "export" => Task::Export(format, path),
         _ => Task::Blocks,
     }
 }
@@ -242,8 +334,11 @@ fn task_of<'a>(matches: &ArgMatches<'a>) -> Task<'a>
     let Some(path) = inner.get_str("PATH") else {
         return Task::Blocks;
     };
-    match inner.get_str("NEW") {
-        Some(new) => task_with_paths(name, path, new),
+    if let Some(new) = inner.get_str("NEW") {
+        return task_with_paths(name, path, new);
+    }
+    match inner.get_str("FORMAT") {
+        Some(format) => task_with_format(name, format, path),
         None => task_with_path(name, path),
     }
 }

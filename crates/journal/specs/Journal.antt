@@ -13,9 +13,9 @@ use Rattle.journal.specs.declared.journal.AppendFault.{AppendFault}
 use Rattle.journal.specs.declared.journal.AppendFault.TheVariants as faults
 
 -- the disk that a creation leaves
-abbrev pub laid : {D : Type 0} → (D → DiskView) → Result JournalView (CreateFault D) → DiskView
-laid view (Ok journal) = journal.disk
-laid view (Err fault) = view fault.disk
+abbrev pub disk_created : {D : Type 0} → (D → DiskView) → Result JournalView (CreateFault D) → DiskView
+disk_created view (Ok journal) = journal.disk
+disk_created view (Err fault) = view fault.disk
 
 -- the disk that an append leaves
 abbrev pub disk_after : {D : Type 0} → (D → DiskView) → Result JournalView (AppendFault D)

@@ -61,7 +61,7 @@ pub enum AppendFault<D: Disk> {
 }
 
 impl<D: Disk> Journal<D> {
-    ghost use Rattle.journal.specs.Journal.{laid, opened, disk_after, GivesPayloads, HandsBack, IsFull, IsFaulty};
+    ghost use Rattle.journal.specs.Journal.{disk_created, opened, disk_after, GivesPayloads, HandsBack, IsFull, IsFaulty};
 
     /// Opens a disk that a crash may have left, and gives the payloads that it stands for, in
     /// order, each with the offset of its gate. It writes nothing (docs/FORMAT.md, "Opening").
@@ -117,7 +117,7 @@ impl<D: Disk> Journal<D> {
     pub fn create(disk: D) -> Result<Journal<D>, CreateFault<D>>
         requires { 11 ≤ (D.view disk).room }
 
-        ensures same { SameDisk (D.view disk) (laid D.view result) }
+        ensures same { SameDisk (D.view disk) (disk_created D.view result) }
 
         // The journal is durable, and stands for no payload.
         ensures empty { InModel (D.view disk)
@@ -137,7 +137,7 @@ impl<D: Disk> Journal<D> {
         // Second untouched.
         ensures any_moment { InModel (D.view disk)
             (LeavesOnly (Reaches (ChangesArea Area.First (Torn 0 11)) (D.view disk).history.now)
-            (D.view disk).history (laid D.view result).history) }
+            (D.view disk).history (disk_created D.view result).history) }
 
         ensures ends { IfOk result (λ journal. journal.end ≡ first_gate) }
 

@@ -7,12 +7,12 @@ use Rattle.arrivals.specs.Held.{Held, KeepsLines, left_with, to_come}
 use Rattle.arrivals.specs.declared.sources.Woken.{Woken}
 use Rattle.arrivals.specs.declared.sources.Woken.TheVariants as woken
 use Rattle.live.specs.declared.holding.Hold.{Hold}
-use Rattle.live.specs.Arrivals.{Arrival, line, part, life, time_over, Watch, Comes, Tells, lines_in}
+use Rattle.live.specs.Arrivals.{Arrival, line, part, life, time_over, Watch, Comes, WatchTells, lines_in}
 use Rattle.session_engine.specs.Host.{HostView}
 use Rattle.child_edge.specs.Faithful.{Relation}
 use Rattle.sheet_programs.specs.declared.fault.RunFault.{RunFault}
 use Rattle.sheet_programs.specs.declared.fault.RunFault.TheVariants as fault
-use Rattle.live.specs.Arrivals.{Place}
+use Rattle.live.specs.Arrivals.{LivePlace}
 use Rattle.live.specs.inside.Taking.{IsBy, TakesLines, TakingFailed, TurnFailed, Turns}
 
 -- a line that is given is the first of those to come
@@ -40,15 +40,15 @@ lines_on (life seat) as1 ls rest old new split is takes =
 lines_on time_over as1 ls rest old new split is takes =
     (rest, split ∙ ap (λ (x : List InputLine). x ++ rest) (sym (lines-snoc as1 time_over [] refl ∙ append-nil (lines_in as1))), subst (λ (o : Option (List InputLine)). KeepsLines o new) is takes)
 
-told-input : {C : Type 0} (W : Watch C) (c d : C) → Tells W c woken.Input d ⊎ ((woken.Input ≡ woken.TimeOver) × (d ≡ c)) → Tells W c woken.Input d
+told-input : {C : Type 0} (W : Watch C) (c d : C) → WatchTells W c woken.Input d ⊎ ((woken.Input ≡ woken.TimeOver) × (d ≡ c)) → WatchTells W c woken.Input d
 told-input W c d (inl t) = t
 told-input W c d (inr p) = let wrong : woken.Input ≡ woken.TimeOver = p.0 in absurd cc
 
-told-life : {C : Type 0} (W : Watch C) (c d : C) (seat : Seat) → Tells W c (woken.Life seat) d ⊎ ((woken.Life seat ≡ woken.TimeOver) × (d ≡ c)) → Tells W c (woken.Life seat) d
+told-life : {C : Type 0} (W : Watch C) (c d : C) (seat : Seat) → WatchTells W c (woken.Life seat) d ⊎ ((woken.Life seat ≡ woken.TimeOver) × (d ≡ c)) → WatchTells W c (woken.Life seat) d
 told-life W c d seat (inl t) = t
 told-life W c d seat (inr p) = let wrong : woken.Life seat ≡ woken.TimeOver = p.0 in absurd cc
 
-time-told : {C : Type 0} (W : Watch C) (c d : C) → Tells W c woken.TimeOver d ⊎ ((woken.TimeOver ≡ woken.TimeOver) × (d ≡ c)) → Comes W c time_over d
+time-told : {C : Type 0} (W : Watch C) (c d : C) → WatchTells W c woken.TimeOver d ⊎ ((woken.TimeOver ≡ woken.TimeOver) × (d ≡ c)) → Comes W c time_over d
 time-told W c d (inl t) = inl t
 time-told W c d (inr p) = inr p.1
 
@@ -60,7 +60,7 @@ comes_by W held c d woken.Input (life seat) turn by = absurd by
 comes_by W held c d woken.Input time_over turn by = absurd by
 comes_by W held c d (woken.Life at) (line l) turn by = absurd by
 comes_by W held c d (woken.Life at) part turn by = absurd by
-comes_by W held c d (woken.Life at) (life seat) turn by = subst (λ s. Tells W c (woken.Life s) d) by (told-life W c d at turn.1)
+comes_by W held c d (woken.Life at) (life seat) turn by = subst (λ s. WatchTells W c (woken.Life s) d) by (told-life W c d at turn.1)
 comes_by W held c d (woken.Life at) time_over turn by = absurd by
 comes_by W held c d woken.TimeOver (line l) turn by = absurd by
 comes_by W held c d woken.TimeOver part turn by = absurd by
@@ -68,7 +68,7 @@ comes_by W held c d woken.TimeOver (life seat) turn by = absurd by
 comes_by W held c d woken.TimeOver time_over turn by = time-told W c d turn.1
 
 -- a fault of an arrival is one of its turn
-pub turn_failed : {C : Type 0} (R : Relation C) (p : Place C) (told : Woken) (h : HostView) (c : C) (out now : Option (List ℕ)) (old new : Option (List InputLine)) (a : Arrival) (f : RunFault)
+pub turn_failed : {C : Type 0} (R : Relation C) (p : LivePlace C) (told : Woken) (h : HostView) (c : C) (out now : Option (List ℕ)) (old new : Option (List InputLine)) (a : Arrival) (f : RunFault)
     → IsBy told a → TakesLines a old new → TakingFailed R p a h c out now f → TurnFailed R p told h c out now old new f
 turn_failed R p told h c out now old new a (fault.Host f) by lines failed = (a, by, lines, failed)
 turn_failed R p told h c out now old new a fault.OutOfMemory by lines failed = (a, by, lines, failed)

@@ -1,5 +1,5 @@
 -- The end of a live worksheet, and the moments up to it.
-use Rattle.std.proofs.Common.{◌≡◌, inr, ℕ, List, [], ◌∷◌, Option, Some, None, refl, ap, sym, ◌∙◌, subst, length, arith}
+use Rattle.std.proofs.Common.{◌≡◌, inr, ℕ, List, [], ◌∷◌, ◌++◌, Option, Some, None, refl, ap, sym, ◌∙◌, subst, length, arith}
 use Rattle.std.specs.Prelude.{IfSome, option_map, false}
 use Rattle.std.specs.Io.KnownBytes.{Appends}
 use Rattle.disk_model.specs.Disk.{DiskView, Rises, SameDisk, max_faults}
@@ -22,23 +22,24 @@ use Rattle.sheet_text.specs.declared.live_line.LiveLine.TheVariants as live
 use Rattle.sheet_programs.specs.Run.{OpenedOn}
 use Rattle.sheet_programs.specs.declared.fault.RunFault.{RunFault}
 use Rattle.sheet_programs.specs.declared.fault.RunFault.TheVariants as fault
-use Rattle.sheet_programs.proofs.Runs.{StopsIn, stops_behind, no_beats, goes_same, min_since}
+use Rattle.sheet_programs.proofs.Runs.{StopsIn, stops_behind, no_beats, goes_anyhow, goes_same, min_since}
 use Rattle.live.specs.Saying.{SaidDone, SaidUpTo}
-use Rattle.live.specs.Arrivals.{Arrival, Place, Watch, Takes, Lived, lines_in, said_by, woken_at}
+use Rattle.live.specs.Arrivals.{Arrival, LivePlace, Watch, TakesArrival, Lived, lines_in, said_by, woken_at}
 use Rattle.live.specs.Arrivals as came
-use Rattle.live.specs.Broken.{TakesUpTo, TakesSoFar, LivedUpTo, LivedSoFar}
+use Rattle.live.specs.Broken.{TakesUpTo, TakesSoFar, TakesLed, LivedUpTo, LivedSoFar, LivedLed, taken_beats}
+use Rattle.live.specs.Broken as broken
 use Rattle.live.specs.Live.{AreFirst, LiveDone, TellsLive, begin_at}
 use Rattle.live.specs.inside.Taking.{Ended, EndedBy, IsFront, LivedThrough, LivingFailed}
 
 -- The stops.
 
-pub ended : {C : Type 0} (R : Relation C) (W : Watch C) (p : Place C) (h : HostView) (c d : C) (out now : Option (List ℕ)) (old : Option (List InputLine)) → StopsIn R h c d → LivedThrough R W p h c out now old → Ended R W p h d out now old
+pub ended : {C : Type 0} (R : Relation C) (W : Watch C) (p : LivePlace C) (h : HostView) (c d : C) (out now : Option (List ℕ)) (old : Option (List InputLine)) → StopsIn R h c d → LivedThrough R W p h c out now old → Ended R W p h d out now old
 ended R W p h c d out now old stops t = (t.0, t.1, t.2, t.3, c, t.4, t.5, t.6, t.7, t.8, t.9, stops.0 t.3.run.world t.5)
 
-pub ended_by : {C : Type 0} (R : Relation C) (W : Watch C) (p : Place C) (h : HostView) (c d : C) (out now : Option (List ℕ)) (old : Option (List InputLine)) (f : RunFault) → StopsIn R h c d → LivingFailed R W p h c out now old f
+pub ended_by : {C : Type 0} (R : Relation C) (W : Watch C) (p : LivePlace C) (h : HostView) (c d : C) (out now : Option (List ℕ)) (old : Option (List InputLine)) (f : RunFault) → StopsIn R h c d → LivingFailed R W p h c out now old f
     → EndedBy R W p h d out now old f
 ended_by R W p h c d out now old fault.Input stops t = (t.0, t.1, t.2, t.3, c, t.4, t.5, t.6, t.7, t.8, t.9, stops.0 t.3.run.world t.5)
-ended_by R W p h c d out now old fault.InputTooLong stops t = (t.0, t.1, t.2, t.3, c, t.4, t.5, t.6, t.7, t.8, t.9, stops.0 t.3.run.world t.5)
+ended_by R W p h c d out now old fault.InputTooLong stops t = (t.0, t.1, t.2, t.3, c, t.4, t.5, t.6, t.7, t.8, t.9, stops.0 t.3.run.world t.5, t.10)
 ended_by R W p h c d out now old (fault.Open why) stops t = absurd t
 ended_by R W p h c d out now old fault.InUse stops t = absurd t
 ended_by R W p h c d out now old (fault.Host f) stops t = (t.0, t.1, t.2, t.3, at t.4 c t.5, t.6, t.7, t.8, t.9, stops.1 t.4 t.3 t.5 f t.7)
@@ -73,35 +74,40 @@ turn-stopped-goes R seats s beats e t q =
     subst (λ (l : List Beat). Goes s.world s.disk l t.world t.disk) (sym q.beats)
     (goes_on_by s.world s.disk q.before q.mid.world q.mid.disk q.last t.world t.disk (stalled-goes R seats q.whole s q.before q.mid q.are_done) (taken-goes R false (Some e) q.seat q.mid q.last t q.broken))
 
-takes-goes : {C : Type 0} (R : Relation C) (p : Place C) (a : Arrival) (beats : List Beat) (text : List ℕ) (q : Place C) → Takes R p a beats text q → Goes p.run.world p.run.disk beats q.run.world q.run.disk
+takes-goes : {C : Type 0} (R : Relation C) (p : LivePlace C) (a : Arrival) (beats : List Beat) (text : List ℕ) (q : LivePlace C) → TakesArrival R p a beats text q → Goes p.run.world p.run.disk beats q.run.world q.run.disk
 takes-goes R p (came.line l) beats text q t = said-goes R q.number (said_by l) p.run beats text q.run t.2
-takes-goes R p came.part beats text q t = no_beats p.run beats q.run t.1 (ap (λ (x : Place _). x.run) t.3)
+takes-goes R p came.part beats text q t = no_beats p.run beats q.run t.1 (ap (λ (x : LivePlace _). x.run) t.3)
 takes-goes R p (came.life seat) beats text q t = taken-goes R Rattle.std.specs.Prelude.true None seat p.run beats q.run t.1
 takes-goes R p came.time_over beats text q t = stalled-goes R (waits p.run.world) (length (waits p.run.world)) p.run beats q.run t.2
 
-takes-up-to-goes : {C : Type 0} (R : Relation C) (p : Place C) (a : Arrival) (beats : List Beat) (e : Event) (t : At C) → TakesUpTo R p a beats e t → Goes p.run.world p.run.disk beats t.world t.disk
+takes-up-to-goes : {C : Type 0} (R : Relation C) (p : LivePlace C) (a : Arrival) (beats : List Beat) (e : Event) (t : At C) → TakesUpTo R p a beats e t → Goes p.run.world p.run.disk beats t.world t.disk
 takes-up-to-goes R p (came.line l) beats e t q = said-up-to-goes R (said_by l) p.run beats e t q
 takes-up-to-goes R p came.part beats e t q = absurd q
 takes-up-to-goes R p (came.life seat) beats e t q = taken-goes R Rattle.std.specs.Prelude.true (Some e) seat p.run beats t q
 takes-up-to-goes R p came.time_over beats e t q = turn-stopped-goes R (waits p.run.world) p.run beats e t q.1
 
-takes-so-far-goes : {C : Type 0} (R : Relation C) (p : Place C) (a : Arrival) (beats : List Beat) (t : At C) → TakesSoFar R p a beats t → Goes p.run.world p.run.disk beats t.world t.disk
+takes-so-far-goes : {C : Type 0} (R : Relation C) (p : LivePlace C) (a : Arrival) (beats : List Beat) (t : At C) → TakesSoFar R p a beats t → Goes p.run.world p.run.disk beats t.world t.disk
 takes-so-far-goes R p (came.line l) beats t q = no_beats p.run beats t q.0 q.1
 takes-so-far-goes R p came.part beats t q = absurd q
 takes-so-far-goes R p (came.life seat) beats t q = no_beats p.run beats t q.0 q.1
 takes-so-far-goes R p came.time_over beats t q = stalled-goes R (waits p.run.world) q.1.whole p.run beats t q.1.are_done
 
-lived-goes : {C : Type 0} (R : Relation C) (W : Watch C) (p : Place C) (all : List Arrival) (beats : List Beat) (text : List ℕ) (q : Place C) → Lived R W p all beats text q → Goes p.run.world p.run.disk beats q.run.world q.run.disk
-lived-goes R W p [] beats text q t = no_beats p.run beats q.run t.0 (ap (λ (x : Place _). x.run) t.2)
+takes-led-goes : {C : Type 0} (R : Relation C) (p : LivePlace C) (a : Arrival) (t : At C) (led : TakesLed R p a t) → Goes p.run.world p.run.disk (taken_beats led) t.world t.disk
+takes-led-goes R p a t (broken.all beats text q taken there) = subst (λ (x : At _). Goes p.run.world p.run.disk beats x.world x.disk) there (takes-goes R p a beats text q taken)
+takes-led-goes R p a t (broken.up_to beats e broke) = takes-up-to-goes R p a beats e t broke
+takes-led-goes R p a t (broken.so_far beats so) = takes-so-far-goes R p a beats t so
+
+lived-goes : {C : Type 0} (R : Relation C) (W : Watch C) (p : LivePlace C) (all : List Arrival) (beats : List Beat) (text : List ℕ) (q : LivePlace C) → Lived R W p all beats text q → Goes p.run.world p.run.disk beats q.run.world q.run.disk
+lived-goes R W p [] beats text q t = no_beats p.run beats q.run t.0 (ap (λ (x : LivePlace _). x.run) t.2)
 lived-goes R W p (a ∷ all) beats text q t =
     subst (λ (l : List Beat). Goes p.run.world p.run.disk l q.run.world q.run.disk) (sym t.9)
     (goes_on_by p.run.world p.run.disk t.2 t.1.run.world t.1.run.disk t.3 q.run.world q.run.disk (takes-goes R (woken_at p t.0) a t.2 t.4 t.1 t.7) (lived-goes R W t.1 all t.3 t.5 q t.8))
 
-module _ {C : Type 0} (R : Relation C) (W : Watch C) (p : Place C) (all : List Arrival) where
+module _ {C : Type 0} (R : Relation C) (W : Watch C) (p : LivePlace C) (all : List Arrival) where
   -- where the last arrival was taken
-  to-last : (a : Arrival) (earlier : List Beat) (first : List ℕ) (mid : Place C) (before : Rattle.live.specs.Broken.LivedBefore R W p all a earlier first mid) → Goes p.run.world p.run.disk earlier mid.run.world mid.run.disk
+  to-last : (a : Arrival) (earlier : List Beat) (first : List ℕ) (mid : LivePlace C) (before : Rattle.live.specs.Broken.LivedBefore R W p all a earlier first mid) → Goes p.run.world p.run.disk earlier mid.run.world mid.run.disk
   to-last a earlier first mid before =
-      subst (λ (x : Place C). Goes p.run.world p.run.disk earlier x.run.world x.run.disk) (sym before.here) (lived-goes R W p before.before earlier first before.mid before.lived)
+      subst (λ (x : LivePlace C). Goes p.run.world p.run.disk earlier x.run.world x.run.disk) (sym before.here) (lived-goes R W p before.before earlier first before.mid before.lived)
 
   up-to-goes : (beats : List Beat) (text : List ℕ) (e : Event) (t : At C) → LivedUpTo R W p all beats text e t → Goes p.run.world p.run.disk beats t.world t.disk
   up-to-goes beats text e t q =
@@ -112,6 +118,10 @@ module _ {C : Type 0} (R : Relation C) (W : Watch C) (p : Place C) (all : List A
   so-far-goes beats text t q =
       subst (λ (l : List Beat). Goes p.run.world p.run.disk l t.world t.disk) (sym q.took)
       (goes_on_by p.run.world p.run.disk q.earlier q.mid.run.world q.mid.run.disk q.beats t.world t.disk (to-last q.last q.earlier q.first q.mid q.before) (takes-so-far-goes R q.mid q.last q.beats t q.broke))
+
+  led-goes : (t : At C) (q : LivedLed R W p all t) → Goes p.run.world p.run.disk (q.earlier ++ taken_beats q.led) t.world t.disk
+  led-goes t q =
+      goes_on_by p.run.world p.run.disk q.earlier q.mid.run.world q.mid.run.disk (taken_beats q.led) t.world t.disk (to-last q.last q.earlier q.first q.mid q.before) (takes-led-goes R q.mid q.last t q.led)
 
 -- The lines of the stream.
 
@@ -147,7 +157,7 @@ module _ {C : Type 0} (R : Relation C) (W : Watch C) (stream : Option (List ℕ)
     moments = subst (LeavesFronts start t.1 now) (t.7 ∙ sym same) (goes_leaves start now t.1 t.3.run.world t.3.run.disk held (lived-goes R W (begin_at start c now) t.0 t.1 t.2 t.3 t.5));
   }
 
-  unread : (t : (all : List Arrival) × (beats : List Beat) × (text : List ℕ) × (q : Place C) × (e : C) × Lived R W (begin_at start c now) all beats text q
+  unread : (t : (all : List Arrival) × (beats : List Beat) × (text : List ℕ) × (q : LivePlace C) × (e : C) × Lived R W (begin_at start c now) all beats text q
       × IsHost h q.run.world × (q.run.disk ≡ h.store.disk) × Rattle.live.specs.Live.MayHaveWatched W q.run.children e × Appends a b text × IsFront old all × Rattle.child_edge.specs.Stops.Stops R (Rattle.child_edge.specs.Seats.running q.run.world) e d)
       → Rattle.live.specs.Live.LiveUnread R W stream disk c d a b
   unread t = record {
@@ -168,8 +178,9 @@ module _ {C : Type 0} (R : Relation C) (W : Watch C) (stream : Option (List ℕ)
   }
 
   pub live_failed : (nothing : Type 0) (f : RunFault) → SameDisk disk h.store.disk → EndedBy R W (begin_at start c now) h d a b old f → TellsLive R W stream disk c d a b nothing f
+  unfolding unread
   live_failed nothing fault.Input same t = unread t
-  live_failed nothing fault.InputTooLong same t = unread t
+  live_failed nothing fault.InputTooLong same t = (unread (t.0, t.1, t.2, t.3, t.4, t.5, t.6, t.7, t.8, t.9, t.10, t.11), t.12)
   live_failed nothing (fault.Open why) same t = absurd t
   live_failed nothing fault.InUse same t = absurd t
   live_failed nothing (fault.Host f) same t = record {
@@ -204,7 +215,19 @@ module _ {C : Type 0} (R : Relation C) (W : Watch C) (stream : Option (List ℕ)
     stops = t.9;
     wrote = t.7;
   })
-  live_failed nothing fault.Output same t = record { start = start; now = now; opened = opened; arrivals = t.0; leads = t.1; lived = t.2; lines = first-lines stream old t.0 is t.4; stops = t.5 }
+  live_failed nothing fault.Output same t = record {
+    start = start;
+    now = now;
+    opened = opened;
+    arrivals = t.0;
+    leads = t.1;
+    lived = t.2;
+    lines = first-lines stream old t.0 is t.4;
+    back = h.store.disk;
+    same = same;
+    moments = goes_anyhow start now (t.2.earlier ++ taken_beats t.2.led) t.1.world t.1.disk h held (led-goes R W (begin_at start c now) t.0 t.1 t.2) t.3;
+    stops = t.5;
+  }
 
 -- A disk that failed at the end has failed since the beginning.
 pub live_failed_since : {C : Type 0} (R : Relation C) (W : Watch C) (disk now : DiskView) (start : World) (c d : C) (h : HostView) (a b : Option (List ℕ)) (old : Option (List InputLine)) (f : RunFault)
@@ -215,5 +238,5 @@ live_failed_since R W disk now start c d h a b old f same p e =
     min_since max_faults disk.faults q.4.disk.faults h.store.disk.faults (omega (arith, same.later, goes.later)) q.6.cause.0
 
 -- it isn't told that the disk wasn't opened
-pub ended_open : {C : Type 0} (R : Relation C) (W : Watch C) (p : Place C) (h : HostView) (d : C) (a b : Option (List ℕ)) (old : Option (List InputLine)) (f : RunFault) (why : Rattle.journal.specs.declared.opening.OpenCause.OpenCause) → EndedBy R W p h d a b old f → f ≡ fault.Open why → ⊥
+pub ended_open : {C : Type 0} (R : Relation C) (W : Watch C) (p : LivePlace C) (h : HostView) (d : C) (a b : Option (List ℕ)) (old : Option (List InputLine)) (f : RunFault) (why : Rattle.journal.specs.declared.opening.OpenCause.OpenCause) → EndedBy R W p h d a b old f → f ≡ fault.Open why → ⊥
 ended_open R W p h d a b old f why t is = subst (EndedBy R W p h d a b old) is t

@@ -1,5 +1,5 @@
 -- What came, one after the other.
-use Rattle.std.proofs.Common.{◌≡◌, inl, inr, ℕ, List, [], ◌∷◌, ◌++◌, Option, Some, None, refl, ap, sym, ◌∙◌, subst, append_assoc, append-nil}
+use Rattle.std.proofs.Common.{◌≡◌, ◌+◌, inl, inr, ℕ, length, arith, List, [], ◌∷◌, ◌++◌, Option, Some, None, refl, ap, sym, ◌∙◌, subst, append_assoc, append-nil}
 use Rattle.std.specs.Prelude.{◌⊎◌, IfOk, IfSome, Result, Ok, Err}
 use Rattle.std.proofs.KnownBytes.{Appends-nil, Appends-trans}
 use Rattle.std.specs.Io.KnownBytes.{Appends}
@@ -13,16 +13,16 @@ use Rattle.sheet_programs.specs.Lines.{beats_text}
 use Rattle.sheet_programs.specs.declared.fault.RunFault.{RunFault}
 use Rattle.sheet_programs.specs.declared.fault.RunFault.TheVariants as fault
 use Rattle.live.specs.declared.stepping.Stand.{Stand}
-use Rattle.live.specs.Arrivals.{Arrival, Place, Watch, Tells, Comes, Takes, Lived, lines_in, place, woken_at}
+use Rattle.live.specs.Arrivals.{Arrival, LivePlace, Watch, WatchTells, Comes, TakesArrival, Lived, lines_in, place, woken_at}
 use Rattle.live.specs.Broken.{LivedBefore}
-use Rattle.live.specs.Live.{MayHaveWatched}
+use Rattle.live.specs.Live.{AreTooMany, MayHaveWatched}
 use Rattle.live.specs.inside.Taking.{ComingFailed, IsFront, LivedThrough, LivingFailed, Steps, TakesLines, Turns, TurnFailed, TurnTook}
 use Rattle.live.proofs.Coming.{comes_by, lines_on}
 
 -- A step.
 
-module _ {C : Type 0} (R : Relation C) (W : Watch C) (p : Place C) (mid : C) (told : Woken) (h : HostView) (c : C) (out now : Option (List ℕ)) (old new : Option (List InputLine)) (turn : Turns W p.held p.run.children mid told) where
-  watched : c ≡ mid → Tells W p.run.children told mid ⊎ ((told ≡ woken.TimeOver) × (mid ≡ p.run.children)) → MayHaveWatched W p.run.children c
+module _ {C : Type 0} (R : Relation C) (W : Watch C) (p : LivePlace C) (mid : C) (told : Woken) (h : HostView) (c : C) (out now : Option (List ℕ)) (old new : Option (List InputLine)) (turn : Turns W p.held p.run.children mid told) where
+  watched : c ≡ mid → WatchTells W p.run.children told mid ⊎ ((told ≡ woken.TimeOver) × (mid ≡ p.run.children)) → MayHaveWatched W p.run.children c
   watched same (inl t) = inr (t.0, Some told, subst (λ d. W p.run.children t.0 (Some told) d) (sym same) t.1)
   watched same (inr t) = inl (same ∙ t.1)
 
@@ -41,8 +41,8 @@ module _ {C : Type 0} (R : Relation C) (W : Watch C) (p : Place C) (mid : C) (to
 
 -- One arrival more.
 
-pub lived-more : {C : Type 0} (R : Relation C) (W : Watch C) (p : Place C) (came : List Arrival) (beats : List Beat) (text : List ℕ) (mid : Place C) (a : Arrival) (c : C) (more : List Beat) (last : List ℕ) (q : Place C)
-    → Lived R W p came beats text mid → Comes W mid.run.children a c → Takes R (woken_at mid c) a more last q → Lived R W p (came ++ a ∷ []) (beats ++ more) (text ++ last) q
+pub lived-more : {C : Type 0} (R : Relation C) (W : Watch C) (p : LivePlace C) (came : List Arrival) (beats : List Beat) (text : List ℕ) (mid : LivePlace C) (a : Arrival) (c : C) (more : List Beat) (last : List ℕ) (q : LivePlace C)
+    → Lived R W p came beats text mid → Comes W mid.run.children a c → TakesArrival R (woken_at mid c) a more last q → Lived R W p (came ++ a ∷ []) (beats ++ more) (text ++ last) q
 lived-more R W p [] beats text mid a c more last q h comes takes = (
   c,
   q,
@@ -51,7 +51,7 @@ lived-more R W p [] beats text mid a c more last q h comes takes = (
   last,
   [],
   subst (λ m. Comes W m.run.children a c) h.2 comes,
-  subst (λ m. Takes R (woken_at m c) a more last q) h.2 takes,
+  subst (λ m. TakesArrival R (woken_at m c) a more last q) h.2 takes,
   (refl, refl, refl),
   ap (λ x. x ++ more) h.0 ∙ sym (append-nil more),
   ap (λ x. x ++ last) h.1 ∙ sym (append-nil last),
@@ -89,8 +89,12 @@ lines-front : (old new : Option (List InputLine)) (came : List Arrival) → Line
 lines-front None new came left = tt
 lines-front (Some lines) new came left = (left.0, left.1)
 
+one_more : (came : List Arrival) (a : Arrival) → length (came ++ a ∷ []) ≡ length came + 1
+one_more [] a = refl
+one_more (b ∷ came) a = omega (arith, one_more came a)
+
 -- So much came, and all of it was taken.
-pub record LivingSoFar {C : Type 0} (R : Relation C) (W : Watch C) (p : Place C) (stand : Stand) (h : HostView) (c : C) (out now : Option (List ℕ)) (old new : Option (List InputLine)) : Type 0 where
+pub record LivingSoFar {C : Type 0} (R : Relation C) (W : Watch C) (p : LivePlace C) (stand : Stand) (h : HostView) (c : C) (out now : Option (List ℕ)) (old new : Option (List InputLine)) : Type 0 where
   pub came : List Arrival
   pub beats : List Beat
   pub text : List ℕ
@@ -108,7 +112,12 @@ none_lived R W w h c stand out old stands = record { came = []; beats = []; text
     left None = tt
     left (Some lines) = (lines, refl, refl)
 
-module _ {C : Type 0} (R : Relation C) (W : Watch C) (p : Place C) (stand : Stand) (h g : HostView) (c d : C) (out now later : Option (List ℕ)) (old new behind : Option (List InputLine)) (so : LivingSoFar R W p stand h c out now old new) where
+pub none_came : {C : Type 0} (R : Relation C) (W : Watch C) (w : World) (h : HostView) (c : C) (stand : Stand) (out : Option (List ℕ)) (old : Option (List InputLine)) (stands : IsHost h w)
+    → length (none_lived R W w h c stand out old stands).came ≡ 0
+unfolding none_lived
+none_came R W w h c stand out old stands = refl
+
+module _ {C : Type 0} (R : Relation C) (W : Watch C) (p : LivePlace C) (stand : Stand) (h g : HostView) (c d : C) (out now later : Option (List ℕ)) (old new behind : Option (List InputLine)) (so : LivingSoFar R W p stand h c out now old new) where
   pub one_lived : (next : Stand) → Steps R W (place (at so.leads c h.store.disk) stand.number stand.held) g d now later new behind (Some next) → LivingSoFar R W p next g d out later old behind
   one_lived next t = let took = t.4 in record {
     came = so.came ++ t.0 ∷ [];
@@ -120,6 +129,10 @@ module _ {C : Type 0} (R : Relation C) (W : Watch C) (p : Place C) (stand : Stan
     wrote = Appends-trans out now later so.text took.1 so.wrote took.5;
     lines = lines-more old new behind so.came t.0 so.lines t.3;
   }
+
+  pub one_came : (next : Stand) (t : Steps R W (place (at so.leads c h.store.disk) stand.number stand.held) g d now later new behind (Some next)) → length (one_lived next t).came ≡ length so.came + 1
+  unfolding one_lived
+  one_came next t = one_more so.came t.0
 
   pub all_lived : Steps R W (place (at so.leads c h.store.disk) stand.number stand.held) g d now later new behind None → LivedThrough R W p g d out later old
   all_lived t = (
@@ -185,11 +198,11 @@ module _ {C : Type 0} (R : Relation C) (W : Watch C) (p : Place C) (stand : Stan
     lines-front old behind (so.came ++ t.0 ∷ []) (lines-more old new behind so.came t.0 so.lines t.3),
   )
 
--- more came than is counted
-pub too_many : {C : Type 0} (R : Relation C) (W : Watch C) (p : Place C) (stand : Stand) (h : HostView) (c : C) (out now : Option (List ℕ)) (old new : Option (List InputLine)) → LivingSoFar R W p stand h c out now old new
-    → LivingFailed R W p h c out now old fault.InputTooLong
-too_many R W p stand h c out now old new so =
-    (so.came, so.beats, so.text, place (at so.leads c h.store.disk) stand.number stand.held, so.lived, so.stands, refl, inl refl, so.wrote, lines-front old new so.came so.lines)
+-- as many came as are counted
+pub too_many : {C : Type 0} (R : Relation C) (W : Watch C) (p : LivePlace C) (stand : Stand) (h : HostView) (c : C) (out now : Option (List ℕ)) (old new : Option (List InputLine)) → (so : LivingSoFar R W p stand h c out now old new)
+    → AreTooMany so.came → LivingFailed R W p h c out now old fault.InputTooLong
+too_many R W p stand h c out now old new so many =
+    (so.came, so.beats, so.text, place (at so.leads c h.store.disk) stand.number stand.held, so.lived, so.stands, refl, inl refl, so.wrote, lines-front old new so.came so.lines, many)
 
 pub if_ok_then : {T E : Type 0} (r : Result T E) (P Q : T → Type 0) → ((x : T) → P x → Q x) → IfOk r P → IfOk r Q
 if_ok_then (Ok x) P Q f p = f x p

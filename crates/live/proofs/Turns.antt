@@ -22,9 +22,9 @@ use Rattle.sheet_programs.specs.declared.fault.RunFault.{RunFault}
 use Rattle.sheet_programs.specs.declared.fault.RunFault.TheVariants as fault
 use Rattle.live.specs.declared.holding.Hold.{Hold}
 use Rattle.live.specs.declared.holding.Hold.TheVariants as hold
-use Rattle.live.specs.Saying.{GoesOn, IsTimed}
+use Rattle.live.specs.Saying.{WaitGoesOn, IsTimed}
 use Rattle.arrivals.specs.Lines.{InputLine}
-use Rattle.live.specs.Arrivals.{line, life, time_over, Place, place, said_by}
+use Rattle.live.specs.Arrivals.{line, life, time_over, LivePlace, place, said_by}
 use Rattle.live.specs.Broken.{TakesLed}
 use Rattle.live.specs.Broken as broken
 use Rattle.live.specs.inside.Taking.{Heard, HeardLed, SaidLed, SayingFailed, HearingFailed, StallingFailed, StallingLed, TakingFailed}
@@ -57,14 +57,14 @@ module _ {C : Type 0} (R : Relation C) (listens : Bool) (seat : Seat) (w : World
       go (Err cause.OutOfMemory) p = (w, g.store.disk, inside.none (as-before p.1.0 p.1.1), inl (subst (λ (x : HostView). IsHost x w) (sym p.1.0) stands, refl))
 
 -- a wait goes on or it doesn't
-pub goes_on_somehow : (held : Hold) (w : World) → (behind : Hold) × GoesOn held w behind
+pub goes_on_somehow : (held : Hold) (w : World) → (behind : Hold) × WaitGoesOn held w behind
 goes_on_somehow held w = go (waits w) refl
   where
-    go : (seats : List Seat) → waits w ≡ seats → (behind : Hold) × GoesOn held w behind
+    go : (seats : List Seat) → waits w ≡ seats → (behind : Hold) × WaitGoesOn held w behind
     go [] e = (hold.Free, inl (e, refl))
     go (s ∷ ss) e = (held, inr (λ none. let wrong : s ∷ ss ≡ [] = sym e ∙ none in absurd cc, refl))
 
-module _ {C : Type 0} (R : Relation C) (p : Place C) (h : HostView) (c : C) (a b : Option (List ℕ)) where
+module _ {C : Type 0} (R : Relation C) (p : LivePlace C) (h : HostView) (c : C) (a b : Option (List ℕ)) where
   led-life : (seat : Seat) (t : At C) → HeardLed R true seat p.run t → TakesLed R p (life seat) t
   led-life seat t (inside.all beats q) =
       let on = goes_on_somehow p.held t.world in

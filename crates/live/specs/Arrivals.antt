@@ -12,7 +12,7 @@ use Rattle.sheet_text.specs.declared.live_line.LiveLine.{LiveLine}
 use Rattle.sheet_programs.specs.Lines.{beats_text}
 use Rattle.live.specs.declared.holding.Hold.{Hold}
 use Rattle.live.specs.declared.holding.Hold.TheVariants as hold
-use Rattle.live.specs.Saying.{SaidDone, IsTimed, Begins, GoesOn}
+use Rattle.live.specs.Saying.{SaidDone, IsTimed, Begins, WaitGoesOn}
 
 -- what came
 pub data Arrival : Type 0 where
@@ -39,16 +39,16 @@ said_by (whole bytes) = live_line_of bytes
 said_by too_long = None
 
 -- Where a live worksheet stands: where its run does, how many lines were taken, and whether a wait holds back the next one.
-pub record Place (C : Type 0) : Type 0 where
+pub record LivePlace (C : Type 0) : Type 0 where
   pub run : At C
   pub number : ℕ
   pub held : Hold
 
-abbrev pub place : {C : Type 0} → At C → ℕ → Hold → Place C
+abbrev pub place : {C : Type 0} → At C → ℕ → Hold → LivePlace C
 place run number held = record { run = run; number = number; held = held }
 
 -- the same place, with these sources
-abbrev pub woken_at : {C : Type 0} → Place C → C → Place C
+abbrev pub woken_at : {C : Type 0} → LivePlace C → C → LivePlace C
 woken_at p c = place (at p.run.world c p.run.disk) p.number p.held
 
 -- The relation of a watch: the sources before it, what it was asked, what it told, and the sources after it.
@@ -56,31 +56,31 @@ abbrev pub Watch : Type 0 → Type 1
 Watch C = C → Asked → Option Woken → C → Type 0
 
 -- a watch told this, whatever it was asked
-abbrev pub Tells : {C : Type 0} → Watch C → C → Woken → C → Type 0
-Tells W c told d = (a : Asked) × W c a (Some told) d
+abbrev pub WatchTells : {C : Type 0} → Watch C → C → Woken → C → Type 0
+WatchTells W c told d = (a : Asked) × W c a (Some told) d
 
 -- This came, and these are the sources behind the watch that told it. That a time is over is told by a watch, or by the clock.
 abbrev pub Comes : {C : Type 0} → Watch C → C → Arrival → C → Type 0
-Comes W c (line l) d = Tells W c woken.Input d
-Comes W c part d = Tells W c woken.Input d
-Comes W c (life seat) d = Tells W c (woken.Life seat) d
-Comes W c time_over d = Tells W c woken.TimeOver d ⊎ (d ≡ c)
+Comes W c (line l) d = WatchTells W c woken.Input d
+Comes W c part d = WatchTells W c woken.Input d
+Comes W c (life seat) d = WatchTells W c (woken.Life seat) d
+Comes W c time_over d = WatchTells W c woken.TimeOver d ⊎ (d ≡ c)
 
 -- What came of an arrival, by what it is: the beats, what is written of them, and the place behind it.
-abbrev pub Takes : {C : Type 0} → Relation C → Place C → Arrival → List Beat → List ℕ → Place C → Type 0
-Takes R p (line l) beats text q =
+abbrev pub TakesArrival : {C : Type 0} → Relation C → LivePlace C → Arrival → List Beat → List ℕ → LivePlace C → Type 0
+TakesArrival R p (line l) beats text q =
     (p.held ≡ hold.Free) × (q.number ≡ p.number + 1) × SaidDone R q.number (said_by l) p.run beats text q.run
-    × ((begun : Hold) × Begins (said_by l) begun × GoesOn begun q.run.world q.held)
-Takes R p part beats text q = (p.held ≡ hold.Free) × (beats ≡ []) × (text ≡ []) × (q ≡ p)
-Takes R p (life seat) beats text q =
-    (q.number ≡ p.number) × Taken R true None seat p.run beats q.run × (text ≡ beats_text beats) × GoesOn p.held q.run.world q.held
-Takes R p time_over beats text q =
+    × ((begun : Hold) × Begins (said_by l) begun × WaitGoesOn begun q.run.world q.held)
+TakesArrival R p part beats text q = (p.held ≡ hold.Free) × (beats ≡ []) × (text ≡ []) × (q ≡ p)
+TakesArrival R p (life seat) beats text q =
+    (q.number ≡ p.number) × Taken R true None seat p.run beats q.run × (text ≡ beats_text beats) × WaitGoesOn p.held q.run.world q.held
+TakesArrival R p time_over beats text q =
     IsTimed p.held × (q.number ≡ p.number) × OneTurn R false (waits p.run.world) p.run beats q.run × (text ≡ beats_text beats) × (q.held ≡ hold.Free)
 
 -- These came, one after the other, and each was taken when it came.
-abbrev pub Lived : {C : Type 0} → Relation C → Watch C → Place C → List Arrival → List Beat → List ℕ → Place C → Type 0
+abbrev pub Lived : {C : Type 0} → Relation C → Watch C → LivePlace C → List Arrival → List Beat → List ℕ → LivePlace C → Type 0
 Lived R W p [] beats text q = (beats ≡ []) × (text ≡ []) × (q ≡ p)
 Lived {C = C} R W p (a ∷ came) beats text q =
-    (c : C) × (mid : Place C) × (before : List Beat) × (behind : List Beat) × (first : List ℕ) × (rest : List ℕ)
-    × Comes W p.run.children a c × Takes R (woken_at p c) a before first mid × Lived R W mid came behind rest q
+    (c : C) × (mid : LivePlace C) × (before : List Beat) × (behind : List Beat) × (first : List ℕ) × (rest : List ℕ)
+    × Comes W p.run.children a c × TakesArrival R (woken_at p c) a before first mid × Lived R W mid came behind rest q
     × (beats ≡ before ++ behind) × (text ≡ first ++ rest)

@@ -1,5 +1,5 @@
 -- A live worksheet: what it leaves at the end of its input, and what a fault of it leaves.
-use Rattle.std.specs.Prelude.{◌≡◌, ◌⊎◌, ℕ, List, ◌++◌, Option, IfSome}
+use Rattle.std.specs.Prelude.{◌≡◌, ◌+◌, ◌^◌, ◌≤◌, ◌⊎◌, ℕ, List, ◌++◌, Option, IfSome, length}
 use Rattle.std.specs.Io.KnownBytes.{Appends}
 use Rattle.disk_model.specs.Disk.{DiskView, InModel, SameDisk, bytes_on}
 use Rattle.recovery.specs.Sheets.{TellsOfSheet}
@@ -17,19 +17,24 @@ use Rattle.arrivals.specs.Lines.{InputLine, input_lines}
 use Rattle.arrivals.specs.Watching.{Asked}
 use Rattle.arrivals.specs.declared.sources.Woken.{Woken}
 use Rattle.sheet_programs.specs.Run.{OpenedOn}
+use Rattle.sheet_programs.specs.Told.{LeavesFrontsAnyhow}
 use Rattle.sheet_programs.specs.declared.fault.RunFault.{RunFault}
 use Rattle.sheet_programs.specs.declared.fault.RunFault.TheVariants as fault
 use Rattle.live.specs.declared.holding.Hold.TheVariants as hold
-use Rattle.live.specs.Arrivals.{Arrival, Place, Watch, Lived, lines_in, place}
-use Rattle.live.specs.Broken.{LivedUpTo, LivedSoFar, LivedLed}
+use Rattle.live.specs.Arrivals.{Arrival, LivePlace, Watch, Lived, lines_in, place}
+use Rattle.live.specs.Broken.{LivedUpTo, LivedSoFar, LivedLed, taken_beats}
 
 -- a host that was just opened, with no line taken
-abbrev pub begin_at : {C : Type 0} → World → C → DiskView → Place C
+abbrev pub begin_at : {C : Type 0} → World → C → DiskView → LivePlace C
 begin_at w c disk = place (at w c disk) 0 hold.Free
 
 -- The lines that came are the first ones of the input, in its order: none is left out, and none came twice.
 abbrev pub AreFirst : Option (List ℕ) → List Arrival → Type 0
 AreFirst stream came = IfSome stream (λ bytes. (rest : List InputLine) × (input_lines bytes ≡ lines_in came ++ rest))
+
+-- as many came as are counted
+abbrev pub AreTooMany : List Arrival → Type 0
+AreTooMany came = 2 ^ 64 ≤ length came + 1
 
 -- the sources as they were, or behind a last watch
 abbrev pub MayHaveWatched : {C : Type 0} → Watch C → C → C → Type 0
@@ -45,7 +50,7 @@ pub record LiveDone {C : Type 0} (R : Relation C) (W : Watch C) (stream : Option
   pub arrivals : List Arrival
   pub beats : List Beat
   pub text : List ℕ
-  pub leads : Place C
+  pub leads : LivePlace C
   pub sources : C
   pub lived : Lived R W (begin_at start c now) arrivals beats text leads
   pub lines : IfSome stream (λ bytes. input_lines bytes ≡ lines_in arrivals)
@@ -91,7 +96,7 @@ pub record LiveSoFar {C : Type 0} (R : Relation C) (W : Watch C) (stream : Optio
   pub stops : Stops R (running leads.world) leads.children d
   pub wrote : Appends a b text
 
--- The input couldn't be read any more, or more came than can be counted. All that came was taken, and what was told is written.
+-- The input couldn't be read any more, or as many came as are counted. All that came was taken, and what was told is written.
 pub record LiveUnread {C : Type 0} (R : Relation C) (W : Watch C) (stream : Option (List ℕ)) (disk : DiskView) (c d : C) (a b : Option (List ℕ)) : Type 0 where
   pub start : World
   pub now : DiskView
@@ -99,7 +104,7 @@ pub record LiveUnread {C : Type 0} (R : Relation C) (W : Watch C) (stream : Opti
   pub arrivals : List Arrival
   pub beats : List Beat
   pub text : List ℕ
-  pub leads : Place C
+  pub leads : LivePlace C
   pub sources : C
   pub lived : Lived R W (begin_at start c now) arrivals beats text leads
   pub lines : AreFirst stream arrivals
@@ -108,7 +113,7 @@ pub record LiveUnread {C : Type 0} (R : Relation C) (W : Watch C) (stream : Opti
   pub stops : Stops R (running leads.run.world) sources d
   pub wrote : Appends a b text
 
--- The writer failed. Each life that goes on was stopped.
+-- The writer failed. What came until then is on the disk as ever, and each life that goes on was stopped.
 pub record LiveLed {C : Type 0} (R : Relation C) (W : Watch C) (stream : Option (List ℕ)) (disk : DiskView) (c d : C) : Type 0 where
   pub start : World
   pub now : DiskView
@@ -117,12 +122,15 @@ pub record LiveLed {C : Type 0} (R : Relation C) (W : Watch C) (stream : Option 
   pub leads : At C
   pub lived : LivedLed R W (begin_at start c now) arrivals leads
   pub lines : AreFirst stream arrivals
+  pub back : DiskView
+  pub same : SameDisk disk back
+  pub moments : LeavesFrontsAnyhow start (lived.earlier ++ taken_beats lived.led) now back
   pub stops : Stops R (running leads.world) leads.children d
 
 -- What a fault tells, where the reader gives this stream: where the disk wasn't opened, nothing was done.
 abbrev pub TellsLive : {C : Type 0} → Relation C → Watch C → Option (List ℕ) → DiskView → C → C → Option (List ℕ) → Option (List ℕ) → Type 0 → RunFault → Type 0
 TellsLive R W stream disk c d a b nothing fault.Input = LiveUnread R W stream disk c d a b
-TellsLive R W stream disk c d a b nothing fault.InputTooLong = LiveUnread R W stream disk c d a b
+TellsLive R W stream disk c d a b nothing fault.InputTooLong = (unread : LiveUnread R W stream disk c d a b) × AreTooMany unread.arrivals
 TellsLive R W stream disk c d a b nothing (fault.Open why) = nothing × InModel disk (TellsOfSheet (bytes_on disk) why)
 TellsLive R W stream disk c d a b nothing fault.InUse = ⊥
 TellsLive R W stream disk c d a b nothing (fault.Host f) = LiveStopped R W stream disk c d a b f

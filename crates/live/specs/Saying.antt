@@ -60,5 +60,5 @@ Begins (Some (live.PrintField id)) held = held ≡ hold.Free
 Begins (Some (live.WaitFor seconds)) held = IsTimed held
 
 -- a wait goes on as long as an item waits for an answer
-abbrev pub GoesOn : Hold → World → Hold → Type 0
-GoesOn held w behind = ((waits w ≡ []) × (behind ≡ hold.Free)) ⊎ ((waits w ≢ []) × (behind ≡ held))
+abbrev pub WaitGoesOn : Hold → World → Hold → Type 0
+WaitGoesOn held w behind = ((waits w ≡ []) × (behind ≡ hold.Free)) ⊎ ((waits w ≢ []) × (behind ≡ held))

@@ -3,7 +3,7 @@ ghost use Rattle.std.specs.Prelude.{◌≡◌, true};
 ghost use Rattle.session_engine.specs.World.{World};
 ghost use Rattle.session_engine.specs.Host.{IsHost};
 ghost use Rattle.arrivals.specs.Watching.{InputMayCome, TimeMayCome};
-ghost use Rattle.live.specs.Saying.{GoesOn, IsTimed};
+ghost use Rattle.live.specs.Saying.{WaitGoesOn, IsTimed};
 
 use arrivals::Input;
 use child_edge::is_idle;
@@ -23,7 +23,7 @@ pub enum Hold {
 
 /// The wait that goes on behind an event, if it does.
 pub(crate) fn go_on<D: Disk>(held: Hold, host: &Host<D>) -> Hold
-    ensures { (w : World) → IsHost host.now w → GoesOn held w result }
+    ensures { (w : World) → IsHost host.now w → WaitGoesOn held w result }
 {
     if is_idle(host) { Hold::Free } else { held }
 }

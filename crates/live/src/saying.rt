@@ -10,7 +10,7 @@ ghost use Rattle.child_edge.specs.Faithful.{at};
 ghost use Rattle.sheet_text.specs.LiveLines.{live_line_of};
 ghost use Rattle.arrivals.specs.Lines.{whole};
 ghost use Rattle.sheet_programs.specs.Memory.{bad_line};
-ghost use Rattle.live.specs.Saying.{GoesOn, IsTimed, field_shown};
+ghost use Rattle.live.specs.Saying.{WaitGoesOn, IsTimed, field_shown};
 ghost use Rattle.live.specs.Arrivals.{line as the_line, place};
 ghost use Rattle.live.specs.inside.Taking.{Said, SayingFailed, TakingFailed, Took};
 
@@ -169,7 +169,7 @@ pub(crate) fn take_too_long<D: Disk, W: Write>(
     writer: &mut W,
 ) -> Result<Hold, RunFault>
     ensures ok { OnOk result (Appends (W.contents writer.old) (W.contents writer.new) (bad_line number)) }
-    ensures held { (w : World) → IsHost host.now w → IfOk result (GoesOn Hold.Free w) }
+    ensures held { (w : World) → IsHost host.now w → IfOk result (WaitGoesOn Hold.Free w) }
     ensures err { IfErr result (λ fault. fault ≡ RunFault.Output) }
 {
     match tell_bad_line(number, writer) {

@@ -135,4 +135,21 @@ second 'a checkpoint' "$anew" 0 '#2 a\n> y\n?\n'
 second 'a checkpoint without its last byte' "${anew%'\000'}" 1 'fault 30 Damaged 33\n'
 second 'an older record behind the last gate' "$anew"'R\000\000\000\012\002\000\000\000\000\001a\000\001z\000' 0 '#2 a\n> y\n?\n'
 
+# A selector that a crash has torn, into each of its values: area Second is the active one at `B` alone, the byte 66, and area First at
+# any other, so that each of them opens to a worksheet.
+printf "$anew" >anew
+for value in $(seq 0 255); do
+    case $value in
+    66) sheet='#2 a\n> y\n?\n' ;;
+    *) sheet='#1 a\n> x\nA\n' ;;
+    esac
+    {
+        printf 'TMWSHEET\001'
+        printf '%b' "$(printf '\\0%03o' "$value")"
+        printf "$session$new$clear$answered"'\000'
+    } >area
+    cp anew area.alt
+    compare "the selector $value" "$(answer show area)" "$(ending "$sheet" 0)"
+done
+
 counted areas

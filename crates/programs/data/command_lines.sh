@@ -23,7 +23,7 @@ told() {
     "$tmhost" "$@" >text 2>errors </dev/null
     compare "$name" "$? $(wc -c <text) $(head -n 1 errors)" "2 0 $line"
 }
-for task in create run live show; do
+for task in create run live show check; do
     told "$task without a path" 'error: the following required arguments were not provided:' "$task"
     told "$task with two paths" "error: unexpected argument 'b' found" "$task" a b
     told "$task with a flag" "error: unexpected argument '-w' found" "$task" -w
@@ -32,6 +32,9 @@ told 'rescue without a path' 'error: the following required arguments were not p
 told 'rescue with one path' 'error: the following required arguments were not provided:' rescue a
 told 'rescue with three paths' "error: unexpected argument 'c' found" rescue a b c
 told 'rescue with a flag' "error: unexpected argument '-w' found" rescue -w
+told 'export without a format' 'error: the following required arguments were not provided:' export
+told 'export without a path' 'error: the following required arguments were not provided:' export html
+told 'export with two paths' "error: unexpected argument 'c' found" export html a c
 told 'a word behind faults' "error: unexpected argument 'x' found" faults x
 told 'another topic' "error: unrecognized subcommand 'fault'" help fault
 told 'another task' "error: unrecognized subcommand 'remove'" remove a
@@ -58,12 +61,15 @@ helps create 'Make an empty worksheet' "Usage: ${tmhost##*/} create <PATH>" 'Exa
 helps run 'Run the script on standard input over a worksheet' "Usage: ${tmhost##*/} run <PATH>" 'Example: tmhost run sheet.tm <script.txt' 1
 helps live 'Hold a worksheet open for lines that come on standard input' "Usage: ${tmhost##*/} live <PATH>" "Example: printf 'print\\n' | tmhost live sheet.tm" 1
 helps show 'Write a worksheet' "Usage: ${tmhost##*/} show <PATH>" 'Example: tmhost show sheet.tm' 1
+helps check 'Evaluate a worksheet anew, and write what differs' "Usage: ${tmhost##*/} check <PATH>" 'Example: tmhost check sheet.tm' 1
 helps rescue 'Write what stands before a damage to a new worksheet' "Usage: ${tmhost##*/} rescue <PATH> <NEW>" 'Example: tmhost rescue sheet.tm new.tm' 1
+
+helps export 'Write a worksheet as a script or a page' "Usage: ${tmhost##*/} export <FORMAT> <PATH>" 'Example: tmhost export html sheet.tm >sheet.html' 1
 
 # What `help faults` has of each fault that a program tells: its number and its name.
 "$tmhost" help faults >text 2>errors
 compare 'the help of faults' "$? $(wc -c <errors) $(head -n 1 text)|$(grep '^Usage' text)" "0 0 What each fault means|Usage: ${tmhost##*/} faults"
-compare 'the faults' "$(grep -o '^[0-9][0-9] [A-Za-z]*' text | tr '\n' ' ')" '21 Disk 22 OutOfMemory 23 JournalFull 30 Damaged 31 NotASheet 32 Disk 33 OutOfMemory 34 NotEmpty 35 InUse 40 Input 41 InputTooLong 42 Output 43 OutOfMemory '
+compare 'the faults' "$(grep -o '^[0-9][0-9] [A-Za-z]*' text | tr '\n' ' ')" '21 Disk 22 OutOfMemory 23 JournalFull 30 Damaged 31 NotASheet 32 Disk 33 OutOfMemory 34 NotEmpty 35 InUse 36 NoScript 40 Input 41 InputTooLong 42 Output 43 OutOfMemory '
 "$tmhost" faults --help >same 2>errors
 compare 'the same by a flag' "$? $(wc -c <errors) $(bytes same)" "0 0 $(bytes text)"
 "$tmhost" faults >same 2>errors

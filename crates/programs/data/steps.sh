@@ -147,7 +147,11 @@ printf 'TMWSHEET\001' >second.alt
 run show second
 rm second.alt
 run show second
+run run second </dev/null
 files second.alt
+head -c 10 second >short
+run run short </dev/null
+files short.alt
 printf 'TMWSHEET\001C\000' >other
 run show other
 files other.alt
@@ -318,7 +322,10 @@ refused create one two
 refused run
 refused live
 refused show
+refused check
 refused rescue sheet
+refused export
+refused export html
 refused faults
 refused paint sheet
 refused --version
@@ -349,6 +356,8 @@ cat errors
 echo "status $?"
 "$tmhost" show hello.txt 2>&-
 echo "status $?"
+printf 'remove 99\n' | "$tmhost" run sheet >/dev/full 2>&-
+echo "status $?"
 run show sheet
 files sheet.alt
 
@@ -367,3 +376,5 @@ counted 'cases that must differ'
 . ./live.sh
 . ./command_lines.sh
 . ./rescues.sh
+. ./exports.sh
+. ./check.sh

@@ -5,24 +5,12 @@
 //! how a case is added.
 #![tactic(auto)]
 
-use arrivals::Polled;
-use child_edge::Processes;
-use host_cli::{Closed, FilePlaces, end_program, run_words};
-use sheet_programs::{RunFault, run_memory};
-use std::io;
-use std::io::ErrorKind;
-use std::os::fd::AsRawFd;
-use std::process::{Command, ExitCode};
+mod start;
 
-/// The words that the program was started with, its own name first.
-fn words(rt: &HostRuntime) -> Result<Vec<String>, ErrorKind> {
-    match std::env::args(rt) {
-        Ok(words) => words
-            .collect::<Vec<String>>(rt.alloc())
-            .map_err(|_| ErrorKind::OutOfMemory),
-        Err(error) => Err(error.kind()),
-    }
-}
+use host_cli::end_program;
+use sheet_programs::run_memory;
+use std::io;
+use std::process::{Command, ExitCode};
 
 /// Runs a script by the shell, and gives its status.
 fn run_steps(rt: &HostRuntime, program: &str, script: &str) -> io::Result<u8> {
@@ -62,28 +50,8 @@ fn asked_by(words: &[String]) -> Asked<'_> {
     }
 }
 
-/// The program `tmhost`.
-fn tmhost(rt: &HostRuntime, words: Result<Vec<String>, ErrorKind>) -> u8 {
-    let closed = Closed::find(&rt.stdin(), &rt.stdout(), &rt.stderr());
-    let children = Processes::new(rt, rt.alloc());
-    let input = rt.stdin().as_raw_fd();
-    let ending = match Polled::new(rt.alloc(), children, input, rt) {
-        Ok(mut sources) => run_words(
-            rt.alloc(),
-            words,
-            &mut FilePlaces::new(rt, rt.alloc(), closed),
-            &mut sources,
-            &mut rt.stdin(),
-            rt.stdout(),
-            &mut rt.stderr(),
-        ),
-        Err(_) => end_program(Err(RunFault::OutOfMemory), &mut rt.stderr()),
-    };
-    ending.status
-}
-
 fn main(rt: HostRuntime) -> ExitCode {
-    let words = words(&rt);
+    let words = start::words(&rt);
     if let Ok(all) = &words {
         match asked_by(all.as_slice()) {
             Asked::Steps(program, script) => {
@@ -93,5 +61,5 @@ fn main(rt: HostRuntime) -> ExitCode {
             Asked::Nothing => {}
         }
     }
-    ExitCode::from(tmhost(&rt, words))
+    ExitCode::from(start::start(&rt, words))
 }

@@ -17,18 +17,25 @@ use Rattle.worksheet.proofs.Finds.{none_applies, true_from_not}
 use Rattle.worksheet.proofs.NameLaws.{short_name}
 use Rattle.worksheet.proofs.NextLaws.{named, sessions_have_names}
 use Rattle.worksheet.proofs.Existence.{allowed_goes_on}
-use Rattle.recovery.specs.Code.{HasCode, IsShort, IsLong, IsTyped}
+use Rattle.journal.specs.Area.{ArePayloads}
+use Rattle.journal.specs.Limits.{max_payload}
+use Rattle.recovery.specs.Code.{code_of, HasCode, IsShort, IsLong, IsTyped}
 use Rattle.recovery.specs.Laws.{AllowedHaveCode}
-use Rattle.recovery.specs.Sheets.{Makes}
+use Rattle.recovery.specs.Sheets.{codes_of, Makes}
 
 typed_push : (os : List Op) (o : Op) → AllByRecursion IsTyped os → IsTyped o → AllByRecursion IsTyped (os ++ o ∷ [])
 typed_push [] o all one = (one, tt)
 typed_push (p ∷ os) o all one = (all.0, typed_push os o all.1 one)
 
+lengths_push : (os : List Op) (o : Op) → ArePayloads max_payload (codes_of os) → length (code_of o) ≤ max_payload → ArePayloads max_payload (codes_of (os ++ o ∷ []))
+lengths_push [] o each short = ((omega arith, short), tt)
+lengths_push (p ∷ os) o each short = (each.0, lengths_push os o each.1 short)
+
 -- a list of ops that makes a worksheet goes on by an op that this allows
-pub makes_more : (os : List Op) (o : Op) (before after : Contents) → Makes os before → IsTyped o → first_refusal before o ≡ None → after ≡ sheet_of (os ++ o ∷ []) → Makes (os ++ o ∷ []) after
-makes_more os o before after makes typed next is = record {
+pub makes_more : (os : List Op) (o : Op) (before after : Contents) → Makes os before → IsTyped o → length (code_of o) ≤ max_payload → first_refusal before o ≡ None → after ≡ sheet_of (os ++ o ∷ []) → Makes (os ++ o ∷ []) after
+makes_more os o before after makes typed short next is = record {
   typed = typed_push os o makes.typed typed;
+  lengths = lengths_push os o makes.lengths short;
   allowed = allowed_goes_on os o makes.allowed (subst (λ (s : Contents). first_refusal s o ≡ None) makes.is next);
   is = is;
 }

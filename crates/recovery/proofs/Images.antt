@@ -1,5 +1,5 @@
 -- The images of a store.
-use Rattle.std.proofs.Common.{◌≡◌, ◌≤◌, min, arith, inl, inr, ⊎_elim, ℕ, true, false, append-nil, List, [], ◌∷◌, ◌++◌, Option, Some, None, Result, Ok, Err, refl, sym, ap, ◌∙◌, subst, IsTrue, append_assoc}
+use Rattle.std.proofs.Common.{◌≡◌, ◌≤◌, min, arith, inl, inr, ⊎_elim, ℕ, true, false, append-nil, List, [], ◌∷◌, ◌++◌, length, Option, Some, None, Result, Ok, Err, refl, sym, ap, ◌∙◌, subst, IsTrue, append_assoc}
 use Rattle.std.specs.Prelude.{is_err, OnOk}
 use Rattle.std.specs.List.{AllByRecursion}
 use Rattle.std.specs.Result.{result_err}
@@ -65,7 +65,7 @@ all_images view (Open journal) sheet kept i image = record {
 all_images view (Closed disk) sheet kept i image = absurd kept.keeps
 
 module _ {D : Type 0} (view : D → DiskView) (base : Base D) (sheet : Contents) (o : Op) (payload : List ℕ)
-    (holds : IsBaseOf view base sheet) (own : IsPayloadOf o payload) (next : first_refusal sheet o ≡ None) (opened : is_closed base ≡ false) where
+    (holds : IsBaseOf view base sheet) (own : IsPayloadOf o payload) (short : length (code_of o) ≤ max_payload) (next : first_refusal sheet o ≡ None) (opened : is_closed base ≡ false) where
   codes_more : (ops : List Op) → codes_of ops ++ payload ∷ [] ≡ codes_of (ops ++ o ∷ [])
   codes_more ops = ap (λ (b : List ℕ). codes_of ops ++ b ∷ []) own.is ∙ sym (codes_push ops o)
 
@@ -74,11 +74,11 @@ module _ {D : Type 0} (view : D → DiskView) (base : Base D) (sheet : Contents)
       let allowed = subst (λ (c : Contents). first_refusal c o ≡ None) kept.makes.is next in
       let after : sheet_of (ops ++ o ∷ []) ≡ sheet_of (kept.ops ++ o ∷ []) = sym (same_next kept.ops ops o kept.makes.allowed (sym kept.makes.is ∙ is) allowed) in
       ⊎_elim
-      (λ before. inl (record { ops = kept.ops; stands = before; makes = record { typed = kept.makes.typed; allowed = kept.makes.allowed; is = sym is ∙ kept.makes.is } }))
+      (λ before. inl (record { ops = kept.ops; stands = before; makes = record { typed = kept.makes.typed; lengths = kept.makes.lengths; allowed = kept.makes.allowed; is = sym is ∙ kept.makes.is } }))
       (λ behind. inr (record {
         ops = kept.ops ++ o ∷ [];
         stands = subst (λ (l : List (List ℕ)). ImageStandsFor i l) (codes_more kept.ops) behind;
-        makes = makes_more kept.ops o sheet (sheet_of (ops ++ o ∷ [])) kept.makes own.typed next after;
+        makes = makes_more kept.ops o sheet (sheet_of (ops ++ o ∷ [])) kept.makes own.typed short next after;
       }))
       stands.0
 
@@ -104,14 +104,14 @@ module _ {D : Type 0} (view : D → DiskView) (base : Base D) (sheet : Contents)
       → ((ops : List Op) → sheet ≡ sheet_of ops → after ≡ sheet_of (ops ++ o ∷ []))
       → IsBaseOf view new after
   committed new after same ok applied = record {
-    made = (holds.made.0 ++ o ∷ [], makes_more holds.made.0 o sheet after holds.made.1 own.typed next (applied holds.made.0 holds.made.1.is));
+    made = (holds.made.0 ++ o ∷ [], makes_more holds.made.0 o sheet after holds.made.1 own.typed short next (applied holds.made.0 holds.made.1.is));
     kept = λ is_open model.
         let before = subst IsTrue same.keeps_model model in
         let kept = holds.kept opened before in
         record {
           ops = kept.ops ++ o ∷ [];
           keeps = subst (λ (l : List (List ℕ)). KeepsIn new l) (codes_more kept.ops) (ok before (codes_of kept.ops) kept.keeps);
-          makes = makes_more kept.ops o sheet after kept.makes own.typed next (applied kept.ops kept.makes.is);
+          makes = makes_more kept.ops o sheet after kept.makes own.typed short next (applied kept.ops kept.makes.is);
         };
   }
 

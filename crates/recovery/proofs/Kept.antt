@@ -1,5 +1,5 @@
 -- The ops that a store keeps.
-use Rattle.std.proofs.Common.{◌≡◌, inl, inr, ⊎_elim, ℕ, false, List, [], ◌∷◌, ◌++◌, Option, Some, None, sym, ap, ◌∙◌, subst}
+use Rattle.std.proofs.Common.{◌≡◌, inl, inr, ⊎_elim, ℕ, false, List, [], ◌∷◌, ◌++◌, ◌≤◌, length, Option, Some, None, sym, ap, ◌∙◌, subst}
 use Rattle.disk_model.specs.Disk.{DiskView, History, InModel, Leaves, LeavesOnly}
 use Rattle.disk_model.specs.inside.Moments.{started, weakens}
 use Rattle.worksheet.specs.declared.op.Op.{Op}
@@ -8,7 +8,8 @@ use Rattle.worksheet.specs.Ops.{sheet_of}
 use Rattle.worksheet.specs.Checks.{first_refusal}
 use Rattle.journal.specs.inside.Standing.{keeps_images}
 use Rattle.journal.specs.Kept.{Fits, ImageStandsFor, JournalView, Keeps, BeforeOrAfter}
-use Rattle.recovery.specs.Code.{IsPayloadOf}
+use Rattle.journal.specs.Limits.{max_payload}
+use Rattle.recovery.specs.Code.{code_of, IsPayloadOf}
 use Rattle.recovery.specs.Sheets.{StoreView, codes_of, Makes, HasPlace, IsSheetImage, IsStore, KeepsOps, SameStore, StandsWithOrWithout}
 use Rattle.recovery.specs.declared.base.Base.{Base}
 use Rattle.recovery.specs.declared.base.Base.TheVariants.{Open, Closed}
@@ -92,12 +93,12 @@ module _ {D : Type 0} (view : D → DiskView) (base : Base D) (sheet : SheetView
       (each model (codes_of ops) (inside view base (codes_of ops) kept.still_open kept.keeps))
 
   -- and at Ok the latter
-  pub keeps_more : (new : Base D) (after : SheetView) → first_refusal sheet.contents o ≡ None → is_closed new ≡ false
+  pub keeps_more : (new : Base D) (after : SheetView) → length (code_of o) ≤ max_payload → first_refusal sheet.contents o ≡ None → is_closed new ≡ false
       → InModel (disk_of view base) ((payloads : List (List ℕ)) → KeepsIn base payloads → KeepsIn new (payloads ++ payload ∷ []))
       → ((ops : List Op) → sheet.contents ≡ sheet_of ops → after.contents ≡ sheet_of (ops ++ o ∷ []))
       → InModel (disk_of view base) ((ops : List Op) → KeepsOps (store_on view (Some base) sheet) ops → KeepsOps (store_on view (Some new) after) (ops ++ o ∷ []))
-  keeps_more new after next opened ok applied model ops kept = record {
+  keeps_more new after short next opened ok applied model ops kept = record {
     still_open = opened;
     keeps = outside view new (codes_of (ops ++ o ∷ [])) (subst (λ (l : List (List ℕ)). KeepsIn new l) (codes_more ops) (ok model (codes_of ops) (inside view base (codes_of ops) kept.still_open kept.keeps)));
-    makes = makes_more ops o sheet.contents after.contents kept.makes own.typed next (applied ops kept.makes.is);
+    makes = makes_more ops o sheet.contents after.contents kept.makes own.typed short next (applied ops kept.makes.is);
   }

@@ -10,7 +10,9 @@ pub mod Kept
 pub mod Commits
 pub mod Refusals
 pub mod Renewing
+pub mod Lengths
 pub mod Gathering
+pub mod InFront
 pub mod Measures
 pub mod Rescues
 pub mod Saves

@@ -8,13 +8,13 @@ use Rattle.worksheet.specs.declared.op.Op.TheVariants as op
 use Rattle.worksheet.specs.declared.field.Field.{Field}
 use Rattle.worksheet.specs.Checks.{numbers}
 use Rattle.worksheet.specs.Rewrite.{field_ops, ids_to, outcome_ops, rewrite_of, smaller_before}
-use Rattle.journal.specs.Area.{ArePayloads, record_of, records}
+use Rattle.journal.specs.Area.{record_of, records}
 use Rattle.journal.specs.Limits.{max_payload}
 use Rattle.recovery.specs.Code.{code_of, longest_told}
 use Rattle.recovery.specs.Sheets.{codes_of}
 use Rattle.recovery.specs.Checkpointed.{HasRoomAnew}
 use Rattle.recovery.specs.inside.Measured.{Measures}
-use Rattle.recovery.proofs.Gathering.{all_behind, codes_append, payloads_behind, payloads_front}
+use Rattle.recovery.proofs.Gathering.{all_behind, codes_append}
 
 -- how long the records of ops are
 abbrev size_of : List Op → ℕ
@@ -27,35 +27,28 @@ records_size (p ∷ a) b = omega (arith, records_size a b, length-append (record
 size_append : (a b : List Op) → size_of (a ++ b) ≡ size_of a + size_of b
 size_append a b = ap (λ (l : List (List ℕ)). length (records l)) (codes_append a b) ∙ records_size (codes_of a) (codes_of b)
 
-payloads_both : (a b : List Op) → ArePayloads max_payload (codes_of a) → ArePayloads max_payload (codes_of b) → ArePayloads max_payload (codes_of (a ++ b))
-payloads_both [] b each more = more
-payloads_both (o ∷ a) b each more = (each.0, payloads_both a b each.1 more)
-
 -- One op.
 
 size_one : (o : Op) → size_of (o ∷ []) ≡ 5 + length (code_of o)
 size_one o = omega (arith, length-append (record_of (code_of o)) [])
 
-pub measures_long : (o : Op) (left len : ℕ) → len ≡ min (length (code_of o)) longest_told → max_payload < len → Measures (o ∷ []) left None
-measures_long o left len is long = λ each room. omega (arith, is, long, each.0.1)
-
 pub measures_wide : (o : Op) (left len : ℕ) → len ≡ min (length (code_of o)) longest_told → len ≤ max_payload → left < len + 5 → Measures (o ∷ []) left None
-measures_wide o left len is short wide = λ each room. omega (arith, is, short, wide, size_one o, room)
+measures_wide o left len is short wide = λ room. omega (arith, is, short, wide, size_one o, room)
 
 pub measures_one : (o : Op) (left len : ℕ) → len ≡ min (length (code_of o)) longest_told → len ≤ max_payload → len + 5 ≤ left → Measures (o ∷ []) left (Some (left - 5 - len))
-measures_one o left len is short fits = (((omega arith, omega (arith, is, short)), tt), omega (arith, is, short, fits, size_one o))
+measures_one o left len is short fits = omega (arith, is, short, fits, size_one o)
 
 -- One behind another.
 
 pub measures_none : (x : ℕ) → Measures [] x (Some x)
-measures_none x = (tt, omega arith)
+measures_none x = omega arith
 
 pub measures_on : (a b : List Op) (r : Option ℕ) (x y : ℕ) → Measures a x (Some y) → Measures b y r → Measures (a ++ b) x r
-measures_on a b (Some z) x y one two = (payloads_both a b one.0 two.0, omega (arith, one.1, two.1, size_append a b))
-measures_on a b None x y one two = λ each room. two (payloads_behind a b each) (omega (arith, one.1, size_append a b, room))
+measures_on a b (Some z) x y one two = omega (arith, one, two, size_append a b)
+measures_on a b None x y one two = λ room. two (omega (arith, one, size_append a b, room))
 
 pub measures_stop : (a b : List Op) (x : ℕ) → Measures a x None → Measures (a ++ b) x None
-measures_stop a b x one = λ each room. one (payloads_front a b each) (omega (arith, size_append a b, room))
+measures_stop a b x one = λ room. one (omega (arith, size_append a b, room))
 
 -- Some of these ops were measured, and the rest is left.
 pub record MeasuredSoFar (all rest : List Op) (x y : ℕ) : Type 0 where
@@ -85,11 +78,11 @@ rest_measured P all rest x y so_far holds = all_behind P so_far.done rest (subst
 
 -- whether there is room for them all
 pub no_room_anew : (room : ℕ) (sheet : Contents) → room < 11 → IsTrue false ↔ HasRoomAnew room sheet
-no_room_anew room sheet small = ((λ no. absurd (let wrong : false ≡ true = no in cc)), λ has. absurd (omega (arith, small, has.1)))
+no_room_anew room sheet small = ((λ no. absurd (let wrong : false ≡ true = no in cc)), λ has. absurd (omega (arith, small, has)))
 
 pub has_room : (room : ℕ) (sheet : Contents) (r : Option ℕ) → 11 ≤ room → Measures (rewrite_of sheet) (room - 11) r → IsTrue (is_some r) ↔ HasRoomAnew room sheet
-has_room room sheet (Some rest) wide one = ((λ _. (one.0, omega (arith, wide, one.1))), λ _. refl)
-has_room room sheet None wide one = ((λ no. absurd (let wrong : false ≡ true = no in cc)), λ has. absurd (one has.0 (omega (arith, wide, has.1))))
+has_room room sheet (Some rest) wide one = ((λ _. omega (arith, wide, one)), λ _. refl)
+has_room room sheet None wide one = ((λ no. absurd (let wrong : false ≡ true = no in cc)), λ has. absurd (one (omega (arith, wide, has))))
 
 -- A field.
 

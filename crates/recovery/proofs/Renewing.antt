@@ -1,35 +1,32 @@
 -- A store whose worksheet is written anew.
-use Rattle.std.proofs.Common.{◌≡◌, ◌≤◌, ⊎_elim, ℕ, true, false, List, [], ◌∷◌, ◌++◌, Some, Result, Ok, Err, refl, sym, ap, ◌∙◌, subst, IsTrue, arith}
+use Rattle.std.proofs.Common.{◌≡◌, ⊎_elim, ℕ, true, false, List, Some, Result, Ok, Err, refl, sym, ap, ◌∙◌, subst, IsTrue, arith}
 use Rattle.std.specs.List.{AllByRecursion}
 use Rattle.disk_model.specs.Disk.{DiskView, InModel, LeavesOnly, SameDisk}
 use Rattle.disk_model.specs.inside.Moments.{started, weakens}
 use Rattle.worksheet.specs.declared.op.Op.{Op}
 use Rattle.worksheet.specs.Contents.{Contents, SheetView}
-use Rattle.worksheet.specs.Checks.{Allowed, AllowedFrom}
-use Rattle.worksheet.proofs.Existence.{allowed_goes_on}
 use Rattle.worksheet.specs.Laws.{IsWorksheet}
 use Rattle.worksheet.specs.Rewrite.{rewrite_of}
 use Rattle.worksheet.proofs.Rewriting.{rewrite_makes_the_same}
 use Rattle.worksheet.proofs.WorksheetLaws.{ops_make_worksheets}
-use Rattle.journal.specs.Area.{ArePayloads, end_of}
-use Rattle.journal.specs.Limits.{max_payload}
+use Rattle.journal.specs.Area.{end_of}
 use Rattle.journal.specs.Kept.{EitherStands, FitsAnew, ImageStandsFor}
-use Rattle.recovery.specs.Code.{HasCode, IsTyped}
+use Rattle.recovery.specs.Code.{IsTyped}
 use Rattle.recovery.specs.Sheets.{StoreView, codes_of, IsSheetImage, IsStore, Makes, SameStore}
 use Rattle.recovery.specs.Checkpointed.{CheckpointAnswers, HasRoomAnew}
 use Rattle.recovery.specs.declared.fault.CheckpointFault.{CheckpointFault}
 use Rattle.recovery.specs.declared.fault.CheckpointFault.TheVariants as faults
 use Rattle.recovery.specs.declared.base.Base.{Base}
 use Rattle.recovery.specs.inside.Base.{disk_of, is_closed, AnewAnswers, KeepsIn, KeepsSheet, IsBaseOf, store_on}
-use Rattle.recovery.proofs.Allowed.{allowed_have_code}
 use Rattle.recovery.proofs.Kept.{outside}
+use Rattle.recovery.proofs.Lengths.{rewrites_are_short}
 
 -- the ops that make a worksheet anew make it
 pub makes_anew : (ops : List Op) (sheet : Contents) → Makes ops sheet → AllByRecursion IsTyped (rewrite_of sheet) → Makes (rewrite_of sheet) sheet
 makes_anew ops sheet makes typed =
     let is : IsWorksheet sheet = subst IsWorksheet (sym makes.is) (ops_make_worksheets ops makes.allowed) in
     let law = rewrite_makes_the_same sheet is in
-    record { typed = typed; allowed = law.0; is = sym law.1 }
+    record { typed = typed; lengths = rewrites_are_short ops sheet makes; allowed = law.0; is = sym law.1 }
 
 same_disk : (v : DiskView) → SameDisk v v
 same_disk v = record { room = refl; keeps_model = refl; later = omega arith }
@@ -77,7 +74,7 @@ module _ {D : Type 0} (view : D → DiskView) (base new : Base D) (sheet : Sheet
   )
   answered room (Err faults.Full) answers = (
     opened,
-    λ fits. answers.0 (subst (λ (l : List (List ℕ)). FitsAnew (disk_of view base).room l) (sym are) fits.1),
+    λ fits. answers.0 (subst (λ (l : List (List ℕ)). FitsAnew (disk_of view base).room l) (sym are) fits),
     subst (λ (b : Base D). SameStore (store_on view (Some base) sheet) (store_on view (Some b) sheet)) (sym answers.1)
         (record { disk = refl; end = refl; contents = refl; closed = refl }),
   )
@@ -95,28 +92,6 @@ module _ {D : Type 0} (view : D → DiskView) (base new : Base D) (sheet : Sheet
       (λ before. record { ops = kept.ops; stands = before; makes = kept.makes })
       (λ after. record { ops = rewrite_of sheet.contents; stands = subst (λ (l : List (List ℕ)). ImageStandsFor i l) are after; makes = anew }) either)
       (each model (codes_of kept.ops) kept.keeps)
-
--- Before the first write.
-
--- the ops that make a worksheet anew have payloads
-all_have_code : (before os : List Op) → Allowed before → AllowedFrom before os → AllByRecursion HasCode os
-all_have_code before [] front allowed = tt
-all_have_code before (o ∷ os) front allowed = (allowed_have_code before o front allowed.0, all_have_code (before ++ o ∷ []) os (allowed_goes_on before o front allowed.0) allowed.1)
-
-pub code_anew : (ops : List Op) (sheet : Contents) → Makes ops sheet → AllByRecursion HasCode (rewrite_of sheet)
-code_anew ops sheet makes =
-    all_have_code [] (rewrite_of sheet) tt (rewrite_makes_the_same sheet (subst IsWorksheet (sym makes.is) (ops_make_worksheets ops makes.allowed))).0
-
-pub next_some : (ops : List Op) (sheet : Contents) → Makes ops sheet → 1 ≤ sheet.next
-next_some ops sheet makes = (subst IsWorksheet (sym makes.is) (ops_make_worksheets ops makes.allowed)).from_one
-
--- a refusal before it
-pub refused_before : (store : StoreView) (fault : CheckpointFault) → store.closed ≡ false → HasRoomAnew store.disk.room store.sheet.contents
-    → (fault ≡ faults.Full → ArePayloads max_payload (codes_of (rewrite_of store.sheet.contents)) → ⊥) → (fault ≡ faults.Disk → ⊥) → (fault ≡ faults.Closed → ⊥) → CheckpointAnswers store store (Err fault)
-refused_before store faults.Full opened room full disk closed = (opened, λ fits. full refl fits.0, record { disk = refl; end = refl; contents = refl; closed = refl })
-refused_before store faults.OutOfMemory opened room full disk closed = (opened, room, record { disk = refl; end = refl; contents = refl; closed = refl })
-refused_before store faults.Disk opened room full disk closed = absurd (disk refl)
-refused_before store faults.Closed opened room full disk closed = absurd (closed refl)
 
 -- where nothing has changed each image is still one of the sheet
 pub stays_same : (store : StoreView) → IsStore store → store.closed ≡ false → InModel store.disk (LeavesOnly (IsSheetImage store.sheet.contents) store.disk.history store.disk.history)

@@ -87,7 +87,7 @@ module _ (old now : FrontView) (ops : List Op) (payloads : List (List ℕ)) (mak
   }
 
 own_sheet : (ops : List Op) (sheet : Contents) → Makes ops sheet → Makes ops (sheet_of ops)
-own_sheet ops sheet makes = record { typed = makes.typed; allowed = makes.allowed; is = refl }
+own_sheet ops sheet makes = record { typed = makes.typed; lengths = makes.lengths; allowed = makes.allowed; is = refl }
 
 -- all was given
 pub found_whole : {D : Type 0} (old now : FrontView) (sheet : SheetView) (kept : ℕ) (disk : D) (damage : Option ℕ) (payloads : List (List ℕ)) (reached : ReachedInFront old now sheet.contents kept)
@@ -151,9 +151,9 @@ longest_from before (x ∷ ops) (y ∷ others) left rest allowed fa fb ta tb sam
     (more.0, ap (λ (z : Op). z ∷ ops) first ∙ ap (λ (l : List Op). y ∷ l) more.1)
 
 pub longest_rescue : OneFront → LongestRescue
-longest_rescue fronts i ops damage others left damaged rescued makes front =
+longest_rescue fronts i ops damage others left damaged rescued typed allowed front =
     let same = fronts max_payload (omega arith) (active_of i) (codes_of ops ++ rescued.left) (codes_of others ++ left) rescued.damaged damaged rescued.front.front front.front in
-    longest_from [] ops others rescued.left left tt rescued.makes.allowed makes.allowed rescued.makes.typed makes.typed same.0 rescued.stops
+    longest_from [] ops others rescued.left left tt rescued.makes.allowed allowed rescued.makes.typed typed same.0 rescued.stops
 
 none_more : (a b : List Op) (x y : List Op) → a ≡ b ++ x → b ≡ a ++ y → a ≡ b
 none_more a b [] y one two = one ∙ append-nil b
@@ -161,8 +161,8 @@ none_more a b (o ∷ x) y one two = absurd (omega (arith, ap length one, ap leng
 
 pub one_rescue : OneFront → OneRescue
 one_rescue fronts i ops others damage again one two =
-    let first = longest_rescue fronts i ops damage others two.left two.damaged one two.makes two.front in
-    let second = longest_rescue fronts i others again ops one.left one.damaged two one.makes one.front in
+    let first = longest_rescue fronts i ops damage others two.left two.damaged one two.makes.typed two.makes.allowed two.front in
+    let second = longest_rescue fronts i others again ops one.left one.damaged two one.makes.typed one.makes.allowed one.front in
     let same : ops ≡ others = none_more ops others first.0 second.0 first.1 second.1 in
     let fronted = fronts max_payload (omega arith) (active_of i) (codes_of ops ++ one.left) (codes_of others ++ two.left) one.damaged two.damaged one.front.front two.front.front in
     let left : one.left ≡ two.left = append_cancel_left (codes_of ops) one.left two.left (fronted.0 ∙ ap (λ (l : List Op). codes_of l ++ two.left) (sym same)) in (

@@ -34,7 +34,7 @@ module _ (ops : List Op) (sheet : Contents) (makes : Makes ops sheet) (typed : A
   sheet_stands i stands = record { ops = rewrite_of sheet; stands = stands; makes = makes_anew ops sheet makes typed }
 
   empty_stands : (i : Image) → ImageStandsFor i [] → IsSheetImage (sheet_of []) i
-  empty_stands i stands = record { ops = []; stands = stands; makes = record { typed = tt; allowed = tt; is = refl } }
+  empty_stands i stands = record { ops = []; stands = stands; makes = record { typed = tt; lengths = tt; allowed = tt; is = refl } }
 
   -- what stands for them is an image of it
   pub saved_images : (payloads : List (List ℕ)) (h : History) (end : ℕ) → payloads ≡ codes_of (rewrite_of sheet) → Keeps h end payloads → Leaves (IsSheetImage sheet) h.now

@@ -50,7 +50,7 @@ refused_here now ops payloads p sheet (causes.Damaged gate) far others next here
   more = others;
   is = far.are ∙ ap (λ (l : List (List ℕ)). codes_of ops ++ l) next;
   gate_is = refuses.0 ∙ here ∙ far.given.gate_is;
-  makes = record { typed = makes.typed; allowed = makes.allowed; is = refl };
+  makes = record { typed = makes.typed; lengths = makes.lengths; allowed = makes.allowed; is = refl };
   wrong = refuses.1;
 }
 refused_here now ops payloads p sheet causes.NotASheet far others next here makes refuses = refuses

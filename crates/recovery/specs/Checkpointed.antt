@@ -1,18 +1,17 @@
 -- What a checkpoint does.
 use Rattle.std.specs.Prelude.{◌≡◌, ℕ, true, false, Result, Ok, Err}
 use Rattle.disk_model.specs.Disk.{InModel, Rises}
-use Rattle.journal.specs.Area.{ArePayloads, end_of}
+use Rattle.journal.specs.Area.{end_of}
 use Rattle.journal.specs.Kept.{FitsAnew}
-use Rattle.journal.specs.Limits.{max_payload}
 use Rattle.worksheet.specs.Contents.{Contents}
 use Rattle.worksheet.specs.Rewrite.{rewrite_of}
 use Rattle.recovery.specs.Sheets.{StoreView, SameStore, KeepsOps, codes_of}
 use Rattle.recovery.specs.declared.fault.CheckpointFault.{CheckpointFault}
 use Rattle.recovery.specs.declared.fault.CheckpointFault.TheVariants as faults
 
--- the ops that make a worksheet anew have payloads for which an area has room
+-- an area has room for the payloads of the ops that make a worksheet anew; none of them is too long (the law `RewritesAreShort`)
 abbrev pub HasRoomAnew : ℕ → Contents → Type 0
-HasRoomAnew room sheet = ArePayloads max_payload (codes_of (rewrite_of sheet)) × FitsAnew room (codes_of (rewrite_of sheet))
+HasRoomAnew room sheet = FitsAnew room (codes_of (rewrite_of sheet))
 
 -- what each answer to a checkpoint says of the store before and after it: the worksheet is the same in each case
 abbrev pub CheckpointAnswers : StoreView → StoreView → Result Unit CheckpointFault → Type 0

@@ -1,23 +1,26 @@
 -- Laws of payloads and of the images of worksheets.
 use Rattle.std.specs.Prelude.{◌≡◌, ◌≤◌, ℕ, Bool, List, ◌++◌, Option, None, length}
+use Rattle.std.specs.List.{AllByRecursion}
 use Rattle.block_tree.specs.Tree.{Tree}
 use Rattle.block_tree.specs.Output.{output}
 use Rattle.meta_format.specs.Limits.{limits}
 use Rattle.meta_format.specs.Spelling.{Spells}
 use Rattle.worksheet.specs.Limits.{longest_prompt}
+use Rattle.journal.specs.Area.{ArePayloads}
 use Rattle.journal.specs.Limits.{max_payload}
 use Rattle.worksheet.specs.declared.op.Op.{Op}
 use Rattle.worksheet.specs.declared.op.Op.TheVariants as op
 use Rattle.worksheet.specs.Ops.{sheet_of}
 use Rattle.worksheet.specs.Checks.{Allowed, first_refusal}
 use Rattle.worksheet.specs.Contents.{Contents}
+use Rattle.worksheet.specs.Rewrite.{rewrite_of}
 use Rattle.disk_model.specs.Disk.{Image}
 use Rattle.journal.specs.Open.{IsPassing}
 use Rattle.journal.specs.declared.opening.OpenCause.{OpenCause}
 use Rattle.journal.specs.declared.opening.OpenCause.TheVariants as causes
 use Rattle.journal.specs.Front.{ImageHasFront}
 use Rattle.journal.specs.Kept.{ImageStandsFor}
-use Rattle.recovery.specs.Code.{code_of, HasCode, IsPayloadOf}
+use Rattle.recovery.specs.Code.{code_of, HasCode, IsPayloadOf, IsTyped}
 use Rattle.recovery.specs.Rescued.{IsRescued}
 use Rattle.recovery.specs.Sheets.{codes_of, Makes, IsSheetImage, TellsOfSheet}
 
@@ -54,7 +57,7 @@ SheetImageOpens = (sheet : Contents) (i : Image) (cause : OpenCause) → IsSheet
 abbrev pub LongestRescue : Type 0
 LongestRescue = (i : Image) (ops : List Op) (damage : Option ℕ) (others : List Op)
     (left : List (List ℕ)) (damaged : Bool) → IsRescued i ops damage
-    → Makes others (sheet_of others) → ImageHasFront i (codes_of others ++ left) damaged
+    → AllByRecursion IsTyped others → Allowed others → ImageHasFront i (codes_of others ++ left) damaged
     → (more : List Op) × (ops ≡ others ++ more)
 
 -- an image has one rescue at most
@@ -66,6 +69,12 @@ OneRescue = (i : Image) (ops others : List Op) (damage again : Option ℕ) → I
 abbrev pub RescueOfWhole : Type 0
 RescueOfWhole = (i : Image) (sheet : Contents) (ops : List Op) (damage : Option ℕ)
     → IsSheetImage sheet i → IsRescued i ops damage → (sheet_of ops ≡ sheet) × (damage ≡ None)
+
+-- The ops that make a worksheet anew fit records, where ops that do have made it: each answer among them is that of one of those, and
+-- every other op is short.
+abbrev pub RewritesAreShort : Type 0
+RewritesAreShort = (ops : List Op) (sheet : Contents) → Makes ops sheet
+    → ArePayloads max_payload (codes_of (rewrite_of sheet))
 
 -- An answer fits a record: where the bytes of its block were no more than an outer block may have,
 -- and its prompt is one that a worksheet allows.

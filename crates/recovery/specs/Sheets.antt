@@ -6,8 +6,9 @@ use Rattle.worksheet.specs.declared.op.Op.{Op}
 use Rattle.worksheet.specs.Contents.{Contents, SheetView}
 use Rattle.worksheet.specs.Ops.{sheet_of}
 use Rattle.worksheet.specs.Checks.{Allowed, first_refusal, room_for}
-use Rattle.journal.specs.Area.{end_of}
+use Rattle.journal.specs.Area.{ArePayloads, end_of}
 use Rattle.journal.specs.Kept.{ImageStandsFor, Keeps, Fits}
+use Rattle.journal.specs.Limits.{max_payload}
 use Rattle.journal.specs.Open.{Tells}
 use Rattle.journal.specs.declared.opening.OpenCause.{OpenCause}
 use Rattle.journal.specs.declared.opening.OpenCause.TheVariants as causes
@@ -18,9 +19,10 @@ abbrev pub codes_of : List Op → List (List ℕ)
 codes_of ops = map code_of ops
 
 -- the sheet is what these ops make of an empty worksheet, which allows each of them behind those
--- before it
+-- before it; each has a payload that a record may have
 pub record Makes (ops : List Op) (sheet : Contents) : Type 0 where
   pub typed : AllByRecursion IsTyped ops
+  pub lengths : ArePayloads max_payload (codes_of ops)
   pub allowed : Allowed ops
   pub is : sheet ≡ sheet_of ops
 

@@ -5,3 +5,4 @@ pub mod Base
 pub mod Gathered
 pub mod Measured
 pub mod Rescuing
+pub mod Afters

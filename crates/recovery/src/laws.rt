@@ -1,6 +1,6 @@
 //! Laws of the definitions that the contracts cite. Each function does nothing: its contract is the
 //! law.
-ghost use Rattle.recovery.specs.Laws.{AllowedHaveCode, LongestRescue, OneListOfOps, OneOp, OneRefusal, OneRescue, OneSheet, ReceivedAnswersFit, RescueOfWhole, SheetImageOpens};
+ghost use Rattle.recovery.specs.Laws.{AllowedHaveCode, LongestRescue, OneListOfOps, OneOp, OneRefusal, OneRescue, OneSheet, ReceivedAnswersFit, RescueOfWhole, RewritesAreShort, SheetImageOpens};
 
 /// No two ops have one payload.
 pub fn one_op()
@@ -63,6 +63,11 @@ pub fn rescue_of_whole()
 {
     journal::laws::one_front();
 }
+
+/// The ops that make a worksheet anew fit records, so a checkpoint lacks nothing but room or memory.
+pub fn rewrites_are_short()
+    ensures { RewritesAreShort }
+{}
 
 /// An answer that was received within the limit of an outer block fits a record, with any prompt that
 /// a worksheet allows: its block grows to at most one and a half times its length.

@@ -2,6 +2,7 @@
 //! in memory and in a journal alike.
 #![tactic(auto)]
 
+mod afters;
 mod base;
 mod fault;
 mod laws;
@@ -19,7 +20,7 @@ mod writing;
 pub use fault::{CheckpointFault, CommitFault, PrepareFault};
 pub use laws::{
     allowed_have_code, longest_rescue, one_list_of_ops, one_op, one_refusal, one_rescue, one_sheet,
-    received_answers_fit, rescue_of_whole, sheet_image_opens,
+    received_answers_fit, rescue_of_whole, rewrites_are_short, sheet_image_opens,
 };
 pub use reading::{DecodeFault, decode};
 pub use rescuing::{Rescued, rescue};

@@ -4,13 +4,13 @@ ghost use Rattle.std.specs.List.{AllByRecursion};
 ghost use Rattle.worksheet.specs.declared.op.Op.{Op};
 ghost use Rattle.worksheet.specs.declared.field.Field.{Field};
 ghost use Rattle.worksheet.specs.Rewrite.{field_ops, fields_ops, ids_to, lost_ops, outcome_ops, rewrite_of, session_op};
-ghost use Rattle.recovery.specs.Code.{code_of, longest_told, HasCode};
+ghost use Rattle.journal.specs.Limits.{max_payload};
+ghost use Rattle.recovery.specs.Code.{code_of, longest_told};
 ghost use Rattle.recovery.specs.Checkpointed.{HasRoomAnew};
-ghost use Rattle.recovery.specs.inside.Measured.{Measures};
+ghost use Rattle.recovery.specs.inside.Measured.{HasRecord, Measures};
 
 use crate::size::{answer_len, new_len, session_len};
 use block_tree::Reason;
-use journal::MAX_PAYLOAD;
 use worksheet::{Answer, Field, Session, Sheet};
 
 // The bytes of the payload of an Ids, and of a Lost.
@@ -20,12 +20,10 @@ const LOST_LEN: u64 = 6;
 
 // What a record of a payload of so many bytes leaves of so much room, where the record fits.
 fn behind(left: u64, len: u64) -> Option<u64>
+    requires { len ≤ max_payload }
     ensures { (o : Op) → len ≡ min (length (code_of o)) longest_told
         → Measures (o ∷ []) left result }
 {
-    if len > MAX_PAYLOAD {
-        return None;
-    }
     if left < len + 5 {
         return None;
     }
@@ -33,14 +31,14 @@ fn behind(left: u64, len: u64) -> Option<u64>
 }
 
 fn behind_session(left: u64, session: &Session) -> Option<u64>
-    requires { HasCode (session_op session.now) }
+    requires { HasRecord (session_op session.now) }
     ensures { Measures (session_op session.now ∷ []) left result }
 {
     behind(left, session_len(session))
 }
 
 fn behind_sessions(left: u64, sheet: &Sheet) -> Option<u64>
-    requires { AllByRecursion HasCode (map session_op sheet.now.contents.sessions) }
+    requires { AllByRecursion HasRecord (map session_op sheet.now.contents.sessions) }
     ensures { Measures (map session_op sheet.now.contents.sessions) left result }
 {
     let mut rest = left;
@@ -76,7 +74,7 @@ fn behind_lost(left: u64, id: u32, lost: Option<Reason>) -> Option<u64>
 
 // An answer, or the reason why there is none, if there is one of them.
 fn behind_outcome(left: u64, id: u32, answer: &Option<Answer>, lost: Option<Reason>) -> Option<u64>
-    requires { AllByRecursion HasCode (outcome_ops id answer.now lost) }
+    requires { AllByRecursion HasRecord (outcome_ops id answer.now lost) }
     ensures { Measures (outcome_ops id answer.now lost) left result }
 {
     match answer {
@@ -87,7 +85,7 @@ fn behind_outcome(left: u64, id: u32, answer: &Option<Answer>, lost: Option<Reas
 
 // A field, where this is the next number. Its place takes the same room whatever it is.
 fn behind_field(left: u64, next: u32, field: &Field) -> Option<u64>
-    requires { (fields : List Field) × AllByRecursion HasCode (field_ops fields next field.now) }
+    requires { (fields : List Field) × AllByRecursion HasRecord (field_ops fields next field.now) }
     ensures { (fields : List Field) → Measures (field_ops fields next field.now) left result }
 {
     let Some(left) = behind_ids(left, next, field.id) else {
@@ -102,7 +100,7 @@ fn behind_field(left: u64, next: u32, field: &Field) -> Option<u64>
 // The fields by ascending number, and the next number.
 fn behind_fields(left: u64, sheet: &Sheet) -> Option<u64>
     requires some { 1 ≤ sheet.now.contents.next }
-    requires code { AllByRecursion HasCode
+    requires records { AllByRecursion HasRecord
         (fields_ops sheet.now.contents.fields (sheet.now.contents.next - 1) 1 1) }
     ensures { Measures (fields_ops sheet.now.contents.fields (sheet.now.contents.next - 1) 1 1)
         left result }
@@ -130,7 +128,7 @@ fn behind_fields(left: u64, sheet: &Sheet) -> Option<u64>
 // The records that make a worksheet anew.
 fn behind_all(left: u64, sheet: &Sheet) -> Option<u64>
     requires some { 1 ≤ sheet.now.contents.next }
-    requires code { AllByRecursion HasCode (rewrite_of sheet.now.contents) }
+    requires records { AllByRecursion HasRecord (rewrite_of sheet.now.contents) }
     ensures { Measures (rewrite_of sheet.now.contents) left result }
 {
     match behind_sessions(left, sheet) {
@@ -143,7 +141,7 @@ fn behind_all(left: u64, sheet: &Sheet) -> Option<u64>
 /// memory.
 pub(crate) fn has_room_anew(room: u64, sheet: &Sheet) -> bool
     requires some { 1 ≤ sheet.now.contents.next }
-    requires code { AllByRecursion HasCode (rewrite_of sheet.now.contents) }
+    requires records { AllByRecursion HasRecord (rewrite_of sheet.now.contents) }
     ensures { IsTrue result ↔ HasRoomAnew room sheet.now.contents }
 {
     // A header, and the gate behind the records.

@@ -1,42 +1,31 @@
 // The records that make a worksheet anew.
-ghost use Rattle.std.specs.Prelude.{◌≡◌, ◌≤◌, ◌-◌, ◌++◌, ◌∷◌, [], map, IfOk, IsErrOf, OnOk};
+ghost use Rattle.std.specs.Prelude.{◌≡◌, ◌≤◌, ◌-◌, ◌++◌, ◌∷◌, [], List, map, IfOk, OnOk};
 ghost use Rattle.std.specs.List.{AllByRecursion};
 ghost use Rattle.worksheet.specs.declared.op.Op.TheVariants as op;
+ghost use Rattle.worksheet.specs.declared.field.Field.{Field};
 ghost use Rattle.worksheet.specs.Checks.{numbers};
+ghost use Rattle.worksheet.specs.Edits.{HasNumbersApart};
 ghost use Rattle.worksheet.specs.Rewrite.{field_ops, fields_ops, ids_to, lost_ops, outcome_ops, rewrite_of, session_op, smaller_before};
-ghost use Rattle.journal.specs.Area.{ArePayloads};
-ghost use Rattle.journal.specs.Limits.{max_payload};
-ghost use Rattle.recovery.specs.Code.{HasCode, IsTyped};
+ghost use Rattle.recovery.specs.Code.{IsTyped};
 ghost use Rattle.recovery.specs.Sheets.{codes_of};
 ghost use Rattle.recovery.specs.inside.Gathered.{Gathers};
+ghost use Rattle.recovery.specs.inside.Measured.{HasRecord};
 
-use crate::fault::CheckpointFault;
+use crate::afters::afters_of;
 use crate::writing::encode;
 use block_tree::{Octets, OutOfMemory, Reason, Sequence};
-use journal::{Frame, MAX_PAYLOAD};
+use journal::Frame;
 use std::alloc::Global;
 use worksheet::{Answer, Field, Op, Session, Sheet};
 
 // Puts the record of an op behind the others.
-fn put_record(alloc: Global, frames: &mut Vec<Frame>, op: &Op) -> Result<(), CheckpointFault>
-    requires { HasCode op.now }
+fn put_record(alloc: Global, frames: &mut Vec<Frame>, op: &Op) -> Result<(), OutOfMemory>
+    requires { HasRecord op.now }
     ensures { Gathers (op.now ∷ []) result frames.old.items frames.new.items }
 {
-    let payload = match encode(alloc, op) {
-        Ok(payload) => payload,
-        Err(_) => return Err(CheckpointFault::OutOfMemory),
-    };
-    if payload.len() as u64 > MAX_PAYLOAD {
-        return Err(CheckpointFault::Full);
-    }
-    let frame = match Frame::new(alloc, &payload) {
-        Ok(frame) => frame,
-        Err(_) => return Err(CheckpointFault::OutOfMemory),
-    };
-    match frames.push(frame) {
-        Ok(()) => Ok(()),
-        Err(_) => Err(CheckpointFault::OutOfMemory),
-    }
+    let payload = encode(alloc, op)?;
+    frames.push(Frame::new(alloc, &payload)?)?;
+    Ok(())
 }
 
 fn copy_words(alloc: Global, words: &Sequence<Octets>) -> Result<Sequence<Octets>, OutOfMemory>
@@ -79,35 +68,23 @@ fn answer_of(id: u32, answer: &Answer) -> Result<Op, OutOfMemory>
     })
 }
 
-fn put_session(
-    alloc: Global,
-    frames: &mut Vec<Frame>,
-    session: &Session,
-) -> Result<(), CheckpointFault>
-    requires { HasCode (session_op session.now) }
+fn put_session(alloc: Global, frames: &mut Vec<Frame>, session: &Session) -> Result<(), OutOfMemory>
+    requires { HasRecord (session_op session.now) }
     ensures { Gathers (session_op session.now ∷ []) result frames.old.items frames.new.items }
 {
-    let Ok(op) = session_of(alloc, session) else {
-        return Err(CheckpointFault::OutOfMemory);
-    };
+    let op = session_of(alloc, session)?;
     put_record(alloc, frames, &op)
 }
 
 // The sessions, in order.
-fn put_sessions(
-    alloc: Global,
-    frames: &mut Vec<Frame>,
-    sheet: &Sheet,
-) -> Result<(), CheckpointFault>
-    requires { AllByRecursion HasCode (map session_op sheet.now.contents.sessions) }
+fn put_sessions(alloc: Global, frames: &mut Vec<Frame>, sheet: &Sheet) -> Result<(), OutOfMemory>
+    requires { AllByRecursion HasRecord (map session_op sheet.now.contents.sessions) }
     ensures { Gathers (map session_op sheet.now.contents.sessions) result frames.old.items
         frames.new.items }
 {
     let mut sessions = sheet.sessions();
     while let Some(session) = sessions.next() {
-        if let Err(fault) = put_session(alloc, frames, session) {
-            return Err(fault);
-        }
+        put_session(alloc, frames, session)?;
     }
     Ok(())
 }
@@ -118,7 +95,7 @@ fn put_ids(
     frames: &mut Vec<Frame>,
     next: u32,
     number: u32,
-) -> Result<(), CheckpointFault>
+) -> Result<(), OutOfMemory>
     ensures { Gathers (ids_to next number) result frames.old.items frames.new.items }
 {
     if next == number {
@@ -127,30 +104,13 @@ fn put_ids(
     put_record(alloc, frames, &Op::Ids { next: number })
 }
 
-// The nearest number in front of a field's that is smaller, or 0.
-fn smaller_in_front(sheet: &Sheet, id: u32) -> u32
-    ensures { result ≡ smaller_before 0 id (numbers sheet.now.contents.fields) }
-{
-    let mut found = 0;
-    let mut fields = sheet.fields();
-    while let Some(field) = fields.next() {
-        if field.id == id {
-            return found;
-        }
-        if field.id < id {
-            found = field.id;
-        }
-    }
-    found
-}
-
 // The reason why nothing was answered, if that is known.
 fn put_lost(
     alloc: Global,
     frames: &mut Vec<Frame>,
     id: u32,
     lost: Option<Reason>,
-) -> Result<(), CheckpointFault>
+) -> Result<(), OutOfMemory>
     ensures { Gathers (lost_ops id lost) result frames.old.items frames.new.items }
 {
     match lost {
@@ -166,57 +126,52 @@ fn put_outcome(
     id: u32,
     answer: &Option<Answer>,
     lost: Option<Reason>,
-) -> Result<(), CheckpointFault>
-    requires { AllByRecursion HasCode (outcome_ops id answer.now lost) }
+) -> Result<(), OutOfMemory>
+    requires { AllByRecursion HasRecord (outcome_ops id answer.now lost) }
     ensures { Gathers (outcome_ops id answer.now lost) result frames.old.items frames.new.items }
 {
     let Some(answer) = answer else {
         return put_lost(alloc, frames, id, lost);
     };
-    let Ok(op) = answer_of(id, answer) else {
-        return Err(CheckpointFault::OutOfMemory);
-    };
+    let op = answer_of(id, answer)?;
     put_record(alloc, frames, &op)
 }
 
-// A field, where this is the next number.
+// A field, where this is the next number and the field is made behind that one.
 fn put_field(
     alloc: Global,
     frames: &mut Vec<Frame>,
-    sheet: &Sheet,
     next: u32,
+    after: u32,
     field: &Field,
-) -> Result<(), CheckpointFault>
-    requires { AllByRecursion HasCode (field_ops sheet.now.contents.fields next field.now) }
-    ensures { Gathers (field_ops sheet.now.contents.fields next field.now) result frames.old.items
-        frames.new.items }
+) -> Result<(), OutOfMemory>
+    requires { (fields : List Field) × AllByRecursion HasRecord (field_ops fields next field.now) }
+    ensures { (fields : List Field) → after ≡ smaller_before 0 field.now.id (numbers fields)
+        → Gathers (field_ops fields next field.now) result frames.old.items frames.new.items }
 {
     put_ids(alloc, frames, next, field.id)?;
-    let after = smaller_in_front(sheet, field.id);
-    let Ok(op) = new_of(alloc, after, field) else {
-        return Err(CheckpointFault::OutOfMemory);
-    };
+    let op = new_of(alloc, after, field)?;
     put_record(alloc, frames, &op)?;
     put_outcome(alloc, frames, field.id, &field.answer, field.lost)
 }
 
 // The fields by ascending number, and the next number.
-fn put_fields(alloc: Global, frames: &mut Vec<Frame>, sheet: &Sheet) -> Result<(), CheckpointFault>
+fn put_fields(alloc: Global, frames: &mut Vec<Frame>, sheet: &Sheet) -> Result<(), OutOfMemory>
     requires some { 1 ≤ sheet.now.contents.next }
-    requires code { AllByRecursion HasCode
+    requires apart { HasNumbersApart sheet.now.contents }
+    requires records { AllByRecursion HasRecord
         (fields_ops sheet.now.contents.fields (sheet.now.contents.next - 1) 1 1) }
     ensures { Gathers (fields_ops sheet.now.contents.fields (sheet.now.contents.next - 1) 1 1)
         result frames.old.items frames.new.items }
 {
+    let afters = afters_of(alloc, sheet)?;
     let last = sheet.next_id();
     let mut id = 1;
     let mut next = 1;
     while id < last {
         match sheet.field(id) {
             Some(field) => {
-                if let Err(fault) = put_field(alloc, frames, sheet, next, field) {
-                    return Err(fault);
-                }
+                put_field(alloc, frames, next, afters[id as usize], field)?;
                 next = id + 1;
             }
             None => {}
@@ -227,31 +182,25 @@ fn put_fields(alloc: Global, frames: &mut Vec<Frame>, sheet: &Sheet) -> Result<(
 }
 
 // The records that make a worksheet anew, behind others.
-fn put_all(alloc: Global, frames: &mut Vec<Frame>, sheet: &Sheet) -> Result<(), CheckpointFault>
+fn put_all(alloc: Global, frames: &mut Vec<Frame>, sheet: &Sheet) -> Result<(), OutOfMemory>
     requires some { 1 ≤ sheet.now.contents.next }
-    requires code { AllByRecursion HasCode (rewrite_of sheet.now.contents) }
+    requires apart { HasNumbersApart sheet.now.contents }
+    requires records { AllByRecursion HasRecord (rewrite_of sheet.now.contents) }
     ensures { Gathers (rewrite_of sheet.now.contents) result frames.old.items frames.new.items }
 {
-    if let Err(fault) = put_sessions(alloc, frames, sheet) {
-        return Err(fault);
-    }
+    put_sessions(alloc, frames, sheet)?;
     put_fields(alloc, frames, sheet)
 }
 
 /// The records that make a worksheet anew.
-pub(crate) fn frames_of(alloc: Global, sheet: &Sheet) -> Result<Vec<Frame>, CheckpointFault>
+pub(crate) fn frames_of(alloc: Global, sheet: &Sheet) -> Result<Vec<Frame>, OutOfMemory>
     requires some { 1 ≤ sheet.now.contents.next }
-    requires code { AllByRecursion HasCode (rewrite_of sheet.now.contents) }
+    requires apart { HasNumbersApart sheet.now.contents }
+    requires records { AllByRecursion HasRecord (rewrite_of sheet.now.contents) }
     ensures ok { IfOk result (λ frames. frames.items ≡ codes_of (rewrite_of sheet.now.contents)) }
     ensures typed { OnOk result (AllByRecursion IsTyped (rewrite_of sheet.now.contents)) }
-    ensures full { IsErrOf result CheckpointFault.Full
-        → ArePayloads max_payload (codes_of (rewrite_of sheet.now.contents)) → ⊥ }
-    ensures disk { IsErrOf result CheckpointFault.Disk → ⊥ }
-    ensures closed { IsErrOf result CheckpointFault.Closed → ⊥ }
 {
     let mut frames = Vec::new(alloc);
-    match put_all(alloc, &mut frames, sheet) {
-        Ok(()) => Ok(frames),
-        Err(fault) => Err(fault),
-    }
+    put_all(alloc, &mut frames, sheet)?;
+    Ok(frames)
 }

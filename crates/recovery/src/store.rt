@@ -282,7 +282,7 @@ impl<D: Disk> Store<D> {
         }
         let frames = match frames_of(self.alloc, &self.sheet) {
             Ok(frames) => frames,
-            Err(fault) => return Err(fault),
+            Err(_) => return Err(CheckpointFault::OutOfMemory),
         };
         self.renew(&frames)
     }

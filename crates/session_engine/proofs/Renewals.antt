@@ -1,21 +1,16 @@
 -- A checkpoint, against the definitions.
-use Rattle.std.proofs.Common.{◌≡◌, inl, inr, ⊎_elim, ℕ, ◌+◌, List, [], ◌∷◌, length, refl, ap, sym, ◌∙◌, subst, arith, Bool, true, false, Option, Some, None, Result, Ok, Err, IsTrue}
-use Rattle.std.specs.Prelude.{nat_le, not, ◌&&◌, if◌then◌else◌, IfOk, IfErr}
-use Rattle.std.specs.List.{list_all}
+use Rattle.std.proofs.Common.{◌≡◌, inl, inr, ⊎_elim, ℕ, ◌+◌, List, refl, ap, sym, ◌∙◌, subst, arith, Bool, true, false, Option, Some, None, Result, Ok, Err, IsTrue}
+use Rattle.std.specs.Prelude.{nat_le, not, if◌then◌else◌, IfOk, IfErr}
 use Rattle.std.proofs.lemmas.Bool.Decides.{nat_tests}
 use Rattle.disk_model.specs.Disk.{DiskView, InModel, Leaves, LeavesOnly, SameDisk}
 use Rattle.disk_model.specs.inside.Moments.{at_end, started}
-use Rattle.worksheet.specs.declared.op.Op.{Op}
 use Rattle.worksheet.specs.declared.refusal.Refusal.{Refusal}
 use Rattle.worksheet.specs.declared.refusal.Refusal.TheVariants as refusal
 use Rattle.worksheet.specs.Contents.{Contents, SheetView}
 use Rattle.worksheet.specs.Ops.{sheet_of}
 use Rattle.worksheet.specs.Checks.{first_of}
-use Rattle.worksheet.specs.Rewrite.{rewrite_of}
-use Rattle.journal.specs.Area.{ArePayloads, IsPayload, end_of}
-use Rattle.journal.specs.Limits.{max_payload}
-use Rattle.recovery.specs.Code.{code_of}
-use Rattle.recovery.specs.Sheets.{IsSheetImage, StoreView, codes_of}
+use Rattle.journal.specs.Area.{end_of}
+use Rattle.recovery.specs.Sheets.{IsSheetImage, StoreView}
 use Rattle.recovery.specs.Checkpointed.{CheckpointAnswers, HasRoomAnew}
 use Rattle.recovery.specs.declared.fault.CheckpointFault.TheVariants as checkpoint
 use Rattle.session_engine.specs.declared.command.Command.TheVariants as command
@@ -36,36 +31,15 @@ use Rattle.session_engine.proofs.Tables.{numbers_are}
 
 -- Whether there is room.
 
-abbrev is_short : List ℕ → Bool
-is_short payload = nat_le (length payload) max_payload
-
-all_short : (payloads : List (List ℕ)) → ArePayloads max_payload payloads → list_all is_short payloads ≡ true
-all_short [] each = refl
-all_short (p ∷ payloads) each =
-    let short : is_short p ≡ true = grind (arith, nat_tests, each.0.1) in
-    rw (short, all_short payloads each.1) refl
-
-each_short : (os : List Op) → list_all is_short (codes_of os) ≡ true → ArePayloads max_payload (codes_of os)
-each_short [] h = tt
-each_short (o ∷ os) h = go (is_short (code_of o)) refl h (each_short os)
-  where
-    go : (b : Bool) → is_short (code_of o) ≡ b → (b && list_all is_short (codes_of os)) ≡ true → (list_all is_short (codes_of os) ≡ true → ArePayloads max_payload (codes_of os))
-        → IsPayload max_payload (code_of o) × ArePayloads max_payload (codes_of os)
-    go true e h rest = ((omega arith, grind (arith, nat_tests, e)), rest h)
-    go false e h rest = cc
-
 pub fits_with_room : (room : ℕ) (sheet : Contents) → HasRoomAnew room sheet → fits_anew_in room sheet ≡ true
-fits_with_room room sheet has =
-    let behind : nat_le (end_of (codes_anew sheet) + 1) room ≡ true = grind (arith, nat_tests, has.1) in
-    rw (all_short (codes_anew sheet) has.0, behind) refl
+fits_with_room room sheet has = grind (arith, nat_tests, has)
 
 pub fits_without_room : (room : ℕ) (sheet : Contents) → (HasRoomAnew room sheet → ⊥) → fits_anew_in room sheet ≡ false
-fits_without_room room sheet none = go (list_all is_short (codes_anew sheet)) (nat_le (end_of (codes_anew sheet) + 1) room) refl refl
+fits_without_room room sheet none = go (nat_le (end_of (codes_anew sheet) + 1) room) refl
   where
-    go : (a b : Bool) → list_all is_short (codes_anew sheet) ≡ a → nat_le (end_of (codes_anew sheet) + 1) room ≡ b → (a && b) ≡ false
-    go true true e f = absurd (none (each_short (rewrite_of sheet) e, grind (arith, nat_tests, f)))
-    go true false e f = refl
-    go false b e f = refl
+    go : (b : Bool) → nat_le (end_of (codes_anew sheet) + 1) room ≡ b → b ≡ false
+    go true e = absurd (none (grind (arith, nat_tests, e)))
+    go false e = refl
 
 -- What is done.
 

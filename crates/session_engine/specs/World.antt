@@ -1,6 +1,6 @@
 -- Where a list of events leads a host that was opened on a worksheet. (docs/HOST.md, "The world".)
 use Rattle.std.specs.Prelude.{ℕ, ◌+◌, ◌==◌, ◌&&◌, nat_le, List, [], ◌∷◌, ◌++◌, length, Bool, true, false, Option, Some, None, option_and_then, if◌then◌else◌}
-use Rattle.std.specs.List.{list_all, list_any}
+use Rattle.std.specs.List.{list_any}
 use Rattle.block_tree.specs.declared.reason.Reason.{Reason}
 use Rattle.meta_format.specs.Stream.{Outer}
 use Rattle.worksheet.specs.declared.op.Op.{Op}
@@ -99,10 +99,9 @@ if_fits room end o = if fits_in room end o then Some o else None
 abbrev pub codes_anew : Contents → List (List ℕ)
 codes_anew sheet = codes_of (rewrite_of sheet)
 
--- An area of so many bytes has room for a journal that makes the worksheet anew: none of its payloads is too long, and the gate
--- behind their records is in the area.
+-- An area of so many bytes has room for a journal that makes the worksheet anew: the gate behind its records is in the area.
 abbrev pub fits_anew_in : ℕ → Contents → Bool
-fits_anew_in room sheet = list_all (λ payload. nat_le (length payload) max_payload) (codes_anew sheet) && nat_le (end_of (codes_anew sheet) + 1) room
+fits_anew_in room sheet = nat_le (end_of (codes_anew sheet) + 1) room
 
 abbrev pub fits_anew : World → Bool
 fits_anew w = fits_anew_in w.room (sheet_in w)

@@ -27,11 +27,11 @@ use Rattle.child_edge.proofs.Timeline.{Goes, goes_on_by, follows-goes, turns-goe
 use Rattle.sheet_text.specs.Script.{line_of, wants_memory}
 use Rattle.sheet_text.specs.declared.script.ScriptLine.{ScriptLine}
 use Rattle.sheet_text.specs.declared.script.ScriptLine.TheVariants as line
-use Rattle.sheet_programs.specs.Lines.{LineDone, LinesDone, LineUpTo, LineSoFar, beats_text}
+use Rattle.sheet_programs.specs.Lines.{LineDone, LinesDone, LineUpTo, LineSoFar, LineLed, whole, up_to, so_far, beats_text, led_beats}
 use Rattle.sheet_programs.specs.Input.{IsInputFault, max_input}
 use Rattle.sheet_programs.specs.Memory.{script_lines}
-use Rattle.sheet_programs.specs.Run.{OpenedOn, LinesBefore, LinesUpTo, LinesSoFar, RunDone, RunStopped, RunSoFar, RunLed, TellsRun}
-use Rattle.sheet_programs.specs.Told.{LineFailed, StandsOrStopped}
+use Rattle.sheet_programs.specs.Run.{OpenedOn, LinesBefore, LinesUpTo, LinesSoFar, LinesLed, RunDone, RunStopped, RunSoFar, RunLed, TellsRun}
+use Rattle.sheet_programs.specs.Told.{LineFailed, LeavesFrontsAnyhow, StandsOrStopped}
 use Rattle.sheet_programs.specs.inside.Taking.{LinesFailed, LinesStopped}
 use Rattle.sheet_programs.specs.declared.fault.RunFault.{RunFault}
 use Rattle.sheet_programs.specs.declared.fault.RunFault.TheVariants as fault
@@ -217,6 +217,21 @@ lines-so-far-goes R lines s beats text t p =
     subst (λ (bs : List Beat). Goes s.world s.disk bs t.world t.disk) (sym p.took)
     (goes_on_by s.world s.disk p.earlier p.mid.world p.mid.disk p.beats t.world t.disk (lines-goes R 1 p.before.done s p.earlier p.first p.mid p.before.ran) (part-goes R (line_of p.line) p.mid p.beats t p.broke))
 
+led-goes : {C : Type 0} (R : Relation C) (l : Option ScriptLine) (s t : At C) (led : LineLed R l s t) → Goes s.world s.disk (led_beats led) t.world t.disk
+led-goes R l s t (whole number beats text done) = line-goes R number l s beats text t done
+led-goes R l s t (up_to beats e broke) = up-to-goes R l s beats e t broke
+led-goes R l s t (so_far beats so) = part-goes R l s beats t so
+
+lines-led-goes : {C : Type 0} (R : Relation C) (lines : List (List ℕ)) (s t : At C) (p : LinesLed R lines s t) → Goes s.world s.disk (p.earlier ++ led_beats p.led) t.world t.disk
+lines-led-goes R lines s t p =
+    goes_on_by s.world s.disk p.earlier p.mid.world p.mid.disk (led_beats p.led) t.world t.disk (lines-goes R 1 p.before.done s p.earlier p.first p.mid p.before.ran)
+    (led-goes R (line_of p.line) p.mid t p.led)
+
+-- A timeline at whose end the host goes on or has stopped leaves fronts.
+pub goes_anyhow : (w : World) (old : DiskView) (beats : List Beat) (v : World) (d : DiskView) (h : HostView) → HoldsSheet w old → Goes w old beats v d → StandsOrStopped h v d → LeavesFrontsAnyhow w beats old h.store.disk
+goes_anyhow w old beats v d h held goes (inl stands) = inl (subst (LeavesFronts w beats old) stands.1 (goes_leaves w old beats v d held goes))
+goes_anyhow w old beats v d h held goes (inr p) = inr (p.0, p.1, goes_up_to w old beats v d p.0 p.1 h held goes p.2)
+
 -- A disk that failed at the end of a timeline has failed since its beginning.
 
 pub goes_same : (w : World) (d : DiskView) (bs : List Beat) (v : World) (f : DiskView) → Goes w d bs v f → SameDisk d f
@@ -336,7 +351,18 @@ broken_run R stream disk now c d a b nothing fault.OutOfMemory script start h is
       wrote = p.7;
     })))
 broken_run R stream disk now c d a b nothing fault.Output script start h is short opened held same p =
-    IfSome_then stream is (λ bytes e. (subst (λ s. length s ≤ max_input) e short, subst (λ s. RunLed R s disk c d) e (record { start = start; now = now; opened = opened; leads = p.0; lines = p.1; stops = p.3 })))
+    IfSome_then stream is (λ bytes e. (subst (λ s. length s ≤ max_input) e short, subst (λ s. RunLed R s disk c d) e
+    (record {
+      start = start;
+      now = now;
+      opened = opened;
+      leads = p.0;
+      lines = p.1;
+      back = h.store.disk;
+      same = same;
+      moments = goes_anyhow start now (p.1.earlier ++ led_beats p.1.led) p.0.world p.0.disk h held (lines-led-goes R (script_lines script) (at start c now) p.0 p.1) p.2;
+      stops = p.3;
+    })))
 broken_run R stream disk now c d a b nothing fault.Input script start h is short opened held same p = absurd p
 broken_run R stream disk now c d a b nothing fault.InputTooLong script start h is short opened held same p = absurd p
 broken_run R stream disk now c d a b nothing (fault.Open why) script start h is short opened held same p = absurd p

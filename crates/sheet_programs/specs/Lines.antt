@@ -59,3 +59,9 @@ pub data LineLed {C : Type 0} (R : Relation C) (l : Option ScriptLine) (s t : At
   whole : (number : ℕ) (beats : List Beat) (text : List ℕ) → LineDone R number l s beats text t → LineLed R l s t
   up_to : (beats : List Beat) (e : Event) → LineUpTo R l s beats e t → LineLed R l s t
   so_far : (beats : List Beat) → LineSoFar R l s beats t → LineLed R l s t
+
+-- the beats of a line that led somewhere, or of that part of it
+abbrev pub led_beats : {C : Type 0} {R : Relation C} {l : Option ScriptLine} {s t : At C} → LineLed R l s t → List Beat
+led_beats (whole number beats text done) = beats
+led_beats (up_to beats e broke) = beats
+led_beats (so_far beats so) = beats

@@ -18,7 +18,8 @@ use Rattle.child_edge.specs.Stops.{Stops}
 use Rattle.sheet_text.specs.Script.{line_of}
 use Rattle.sheet_programs.specs.Input.{max_input}
 use Rattle.sheet_programs.specs.Memory.{script_lines}
-use Rattle.sheet_programs.specs.Lines.{LinesDone, LineUpTo, LineSoFar, LineLed, beats_text}
+use Rattle.sheet_programs.specs.Lines.{LinesDone, LineUpTo, LineSoFar, LineLed, beats_text, led_beats}
+use Rattle.sheet_programs.specs.Told.{LeavesFrontsAnyhow}
 use Rattle.sheet_programs.specs.declared.fault.RunFault.{RunFault}
 use Rattle.sheet_programs.specs.declared.fault.RunFault.TheVariants as fault
 
@@ -120,13 +121,16 @@ pub record RunSoFar {C : Type 0} (R : Relation C) (script : List ℕ) (disk : Di
   pub stops : Stops R (running leads.world) leads.children d
   pub wrote : Appends a b text
 
--- The writer failed. Each life that goes on was stopped.
+-- The writer failed. What was taken until then is on the disk as ever, and each life that goes on was stopped.
 pub record RunLed {C : Type 0} (R : Relation C) (script : List ℕ) (disk : DiskView) (c d : C) : Type 0 where
   pub start : World
   pub now : DiskView
   pub opened : OpenedOn disk start now
   pub leads : At C
   pub lines : LinesLed R (script_lines script) (at start c now) leads
+  pub back : DiskView
+  pub same : SameDisk disk back
+  pub moments : LeavesFrontsAnyhow start (lines.earlier ++ led_beats lines.led) now back
   pub stops : Stops R (running leads.world) leads.children d
 
 -- What a fault of a run tells, where the reader gives this stream: where the script wasn't read, or the disk not opened, nothing

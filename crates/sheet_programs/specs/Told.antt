@@ -10,6 +10,7 @@ use Rattle.child_edge.specs.declared.serving.EdgeCause.{EdgeCause}
 use Rattle.child_edge.specs.declared.serving.EdgeCause.TheVariants as cause
 use Rattle.child_edge.specs.Faithful.{Relation, At, at, Beat}
 use Rattle.child_edge.specs.Edge.{Stopped}
+use Rattle.child_edge.specs.Moments.{LeavesFronts, LeavesFrontsUpTo}
 use Rattle.sheet_text.specs.declared.script.ScriptLine.{ScriptLine}
 use Rattle.sheet_programs.specs.Lines.{LineDone, LineUpTo, LineSoFar, LineLed, beats_text}
 use Rattle.sheet_programs.specs.declared.fault.RunFault.{RunFault}
@@ -26,6 +27,11 @@ LineWrote R number l s h c a b = (beats : List Beat) × (text : List ℕ) × (t 
 -- the host goes on in this world and on this disk, or it has stopped behind them
 abbrev pub StandsOrStopped : HostView → World → DiskView → Type 0
 StandsOrStopped h t d = (IsHost h t × (d ≡ h.store.disk)) ⊎ ((e : Event) × (f : HostFault) × Stopped d h t e f)
+
+-- From this disk to that one, at every moment each image is one of the worksheet behind some of the first of these beats, or of that
+-- behind them all with the op of an event at which the disk failed.
+abbrev pub LeavesFrontsAnyhow : World → List Beat → DiskView → DiskView → Type 0
+LeavesFrontsAnyhow w beats old new = LeavesFronts w beats old new ⊎ ((e : Event) × (f : HostFault) × LeavesFrontsUpTo w beats e f old new)
 
 -- What a line's fault leaves: what was told before is written, but where the writer failed.
 abbrev pub LineFailed : {C : Type 0} → Relation C → Option ScriptLine → At C → HostView → C → Option (List ℕ) → Option (List ℕ) → RunFault → Type 0

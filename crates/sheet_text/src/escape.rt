@@ -9,7 +9,8 @@ use crate::WriteFault;
 use crate::plain::plain_end;
 use std::io::Write;
 
-fn hex_digit(n: u8) -> u8
+/// A hexadecimal digit, in lower case.
+pub fn hex_digit(n: u8) -> u8
     requires { n < 16 }
     ensures { result ≡ hex n }
 {
@@ -18,7 +19,7 @@ fn hex_digit(n: u8) -> u8
 
 /// Whether a byte is printed as itself.
 #[inline(always)]
-pub(crate) fn is_plain(byte: u8, keeps_lines: bool) -> bool
+pub fn is_plain(byte: u8, keeps_lines: bool) -> bool
     ensures { result ≡ escape.is_plain keeps_lines byte }
 {
     if byte == b'\t' || byte == b'\n' {

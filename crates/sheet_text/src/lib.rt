@@ -15,9 +15,9 @@ mod script;
 mod sheet;
 
 pub use blocks::{block_text, tree_text};
-pub use escape::{write_line, write_lines};
+pub use escape::{hex_digit, is_plain, write_line, write_lines};
 pub use fault::WriteFault;
 pub use live_line::{LiveLine, MOST_SECONDS, read_live_line};
-pub use replies::reply_text;
+pub use replies::{reason_name, reply_text};
 pub use script::{LineFault, ScriptLine, read_line};
-pub use sheet::{field_text, sheet_text};
+pub use sheet::{field_text, sheet_text, write_input, write_number, write_output};

@@ -14,7 +14,8 @@ use session_engine::{ChildReply, Closed, Reply};
 use std::io::Write;
 use worksheet::Name;
 
-pub(crate) fn reason_name(reason: Reason) -> &'static str
+/// The name of the reason why a life ended.
+pub fn reason_name(reason: Reason) -> &'static str
     ensures { result.now ≡ child.reason_name reason }
 {
     match reason {

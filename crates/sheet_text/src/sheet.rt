@@ -15,8 +15,10 @@ use std::io::Write;
 use worksheet::{Answer, Field, Sheet};
 
 /// Writes `#`, the number of a field and its session.
+///
+/// After a `WriteFault` a part of the text may have gone out, as of each of these calls.
 #[tactic(auto, using(crate::proofs::Appending::steps))]
-fn write_number<W: Write>(field: &Field, out: &mut W) -> Result<(), WriteFault>
+pub fn write_number<W: Write>(field: &Field, out: &mut W) -> Result<(), WriteFault>
     ensures { OnOk result
         (Appends (W.contents out.old) (W.contents out.new) (printed.number_line field.now)) }
 {
@@ -41,7 +43,7 @@ fn write_prompt<W: Write>(answer: &Option<Answer>, out: &mut W) -> Result<(), Wr
 
 /// Writes the prompt and the input of a field.
 #[tactic(auto, using(crate::proofs::Appending::steps))]
-fn write_input<W: Write>(field: &Field, out: &mut W) -> Result<(), WriteFault>
+pub fn write_input<W: Write>(field: &Field, out: &mut W) -> Result<(), WriteFault>
     ensures { OnOk result
         (Appends (W.contents out.old) (W.contents out.new) (printed.input_line field.now)) }
 {
@@ -63,9 +65,9 @@ fn write_no_answer<W: Write>(lost: Option<Reason>, out: &mut W) -> Result<(), Wr
     }
 }
 
-/// Writes an output in whole lines, or that there is none.
+/// Writes an output in whole lines, or `?` where there is none, with the reason behind it if it has one.
 #[tactic(auto, using(crate::proofs::Appending::steps))]
-fn write_output<W: Write>(
+pub fn write_output<W: Write>(
     answer: &Option<Answer>,
     lost: Option<Reason>,
     out: &mut W,

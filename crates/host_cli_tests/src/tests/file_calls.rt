@@ -99,12 +99,14 @@ fn a_worksheet_is_locked_before_its_second_file_is_opened(rt: HostRuntime) {
     assert!(rt; opens_by(rt.alloc(), There::All, "v/w/sheet", found, read));
 }
 
-// To write it is made, and its name is brought onto the disk.
+// To write it is made, and its name is brought onto the disk, where the first file doesn't say that the
+// worksheet lies in it.
 #[test]
 fn a_second_file_that_is_missing(rt: HostRuntime) {
     let made =
         "follow v/w/sheet\nlook for v/w/sheet\nopen v/w/sheet\nlock v/w/sheet\nidentify v/w/sheet\n\
-         look for v/w/sheet.alt\nmake v/w/sheet.alt\nopen to read v/w\nsync v/w\n\
+         look for v/w/sheet.alt\nread v/w/sheet 0 3\nread v/w/sheet 3 3\nread v/w/sheet 6 3\n\
+         read v/w/sheet 9 2\nmake v/w/sheet.alt\nopen to read v/w\nsync v/w\n\
          identify v/w/sheet\nidentify v/w/sheet.alt\n";
     assert!(rt; opens_by(rt.alloc(), There::First, "v/w/sheet", made, FIRST_READ));
 }

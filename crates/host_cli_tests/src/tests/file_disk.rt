@@ -124,6 +124,34 @@ fn opens_with(rt: &HostRuntime, second: &[u8]) -> bool {
     opens(rt, "second_made/sheet") == Ok(()) && has(rt, "second_made/sheet.alt", second)
 }
 
+// Whether a worksheet whose first file is this is refused, and gets no second file.
+fn is_refused_with(rt: &HostRuntime, first: &[u8]) -> bool {
+    fs::write(rt, "second_lost/sheet", first).is_ok()
+        && opens(rt, "second_lost/sheet") == Err(FilesFault::Disk)
+        && has(rt, "second_lost/sheet", first)
+        && !is_there(rt, "second_lost/sheet.alt")
+}
+
+// Whether one of which this is the first file gets a second one.
+fn is_given_another(rt: &HostRuntime, first: &[u8]) -> bool {
+    fs::write(rt, "second_lost/sheet", first).is_ok()
+        && opens(rt, "second_lost/sheet") == Ok(())
+        && is_there(rt, "second_lost/sheet.alt")
+        && fs::remove_file(rt, "second_lost/sheet.alt").is_ok()
+}
+
+#[test]
+fn a_second_file_that_was_lost_is_not_made(rt: HostRuntime) -> Result<(), Fail> {
+    folder(&rt, "second_lost")?;
+    assert!(rt; is_refused_with(&rt, b"TMWSHEET\x01B\0"));
+    assert!(rt; is_refused_with(&rt, b"TMWSHEET\x01BR"));
+    assert!(rt; is_given_another(&rt, b"TMWSHEET\x01B"));
+    assert!(rt; is_given_another(&rt, b"TMWSHEET\x01C\0"));
+    assert!(rt; is_given_another(&rt, b"TMWSHEET\x02B\0"));
+    fs::remove_dir_all(&rt, "second_lost")?;
+    Ok(())
+}
+
 #[test]
 fn a_missing_second_file_is_made(rt: HostRuntime) -> Result<(), Fail> {
     folder(&rt, "second_made")?;

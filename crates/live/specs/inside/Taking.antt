@@ -24,9 +24,9 @@ use Rattle.live.specs.declared.holding.Hold.{Hold}
 use Rattle.live.specs.declared.holding.Hold.TheVariants as hold
 use Rattle.live.specs.declared.stepping.Stand.{Stand}
 use Rattle.live.specs.Saying.{SaidDone, SaidUpTo, Begins, IsTimed}
-use Rattle.live.specs.Arrivals.{Arrival, line, part, life, time_over, Place, Watch, Comes, Takes, Lived, lines_in, Tells, place, woken_at}
+use Rattle.live.specs.Arrivals.{Arrival, line, part, life, time_over, LivePlace, Watch, Comes, TakesArrival, Lived, lines_in, WatchTells, place, woken_at}
 use Rattle.live.specs.Broken.{TakesUpTo, TakesSoFar, TakesLed, LivedUpTo, LivedSoFar, LivedLed}
-use Rattle.live.specs.Live.{MayHaveWatched}
+use Rattle.live.specs.Live.{AreTooMany, MayHaveWatched}
 
 -- One life was taken, and what it gave is written.
 abbrev pub Heard : {C : Type 0} → Relation C → Bool → Seat → At C → HostView → C → Option (List ℕ) → Option (List ℕ) → Type 0
@@ -92,12 +92,12 @@ StallingFailed R seats s h c a b (fault.Open why) = ⊥
 StallingFailed R seats s h c a b fault.InUse = ⊥
 
 -- An arrival was taken, and what came of it is written.
-abbrev pub Took : {C : Type 0} → Relation C → Place C → Arrival → HostView → C → Option (List ℕ) → Option (List ℕ) → ℕ → Hold → Type 0
+abbrev pub Took : {C : Type 0} → Relation C → LivePlace C → Arrival → HostView → C → Option (List ℕ) → Option (List ℕ) → ℕ → Hold → Type 0
 Took R p a h c out now number held =
-    (beats : List Beat) × (text : List ℕ) × (t : World) × Takes R p a beats text (place (at t c h.store.disk) number held) × IsHost h t × Appends out now text
+    (beats : List Beat) × (text : List ℕ) × (t : World) × TakesArrival R p a beats text (place (at t c h.store.disk) number held) × IsHost h t × Appends out now text
 
 -- what a fault of that leaves
-abbrev pub TakingFailed : {C : Type 0} → Relation C → Place C → Arrival → HostView → C → Option (List ℕ) → Option (List ℕ) → RunFault → Type 0
+abbrev pub TakingFailed : {C : Type 0} → Relation C → LivePlace C → Arrival → HostView → C → Option (List ℕ) → Option (List ℕ) → RunFault → Type 0
 TakingFailed R p a h c out now (fault.Host f) =
     (beats : List Beat) × (e : Event) × (t : World) × (d : DiskView) × TakesUpTo R p a beats e (at t c d) × Stopped d h t e f × Appends out now (beats_text beats)
 TakingFailed R p a h c out now fault.OutOfMemory =
@@ -138,19 +138,19 @@ MayTurn held woken.TimeOver = IsTimed held
 
 -- whose turn it is: a watch told it, or the clock that the time is over
 abbrev pub Turns : {C : Type 0} → Watch C → Hold → C → C → Woken → Type 0
-Turns W held c d told = MayTurn held told × (Tells W c told d ⊎ ((told ≡ woken.TimeOver) × (d ≡ c)))
+Turns W held c d told = MayTurn held told × (WatchTells W c told d ⊎ ((told ≡ woken.TimeOver) × (d ≡ c)))
 
 -- the host goes on where it did, and nothing is written
-abbrev pub Rests : {C : Type 0} → Place C → HostView → Option (List ℕ) → Option (List ℕ) → Type 0
+abbrev pub Rests : {C : Type 0} → LivePlace C → HostView → Option (List ℕ) → Option (List ℕ) → Type 0
 Rests p h out now = (h.store.disk ≡ p.run.disk) × IsHost h p.run.world × Appends out now []
 
 -- what came of a turn: an arrival was taken, or the input is at its end
-abbrev pub TurnTook : {C : Type 0} → Relation C → Place C → Woken → HostView → C → Option (List ℕ) → Option (List ℕ) → Option (List InputLine) → Option (List InputLine) → Option Stand → Type 0
+abbrev pub TurnTook : {C : Type 0} → Relation C → LivePlace C → Woken → HostView → C → Option (List ℕ) → Option (List ℕ) → Option (List InputLine) → Option (List InputLine) → Option Stand → Type 0
 TurnTook R p told h c out now old new (Some stand) = (a : Arrival) × IsBy told a × TakesLines a old new × Took R p a h c out now stand.number stand.held
 TurnTook R p told h c out now old new None = Rests p h out now × (c ≡ p.run.children) × IfSome old (λ lines. lines ≡ [])
 
 -- what a fault at a turn leaves
-abbrev pub TurnFailed : {C : Type 0} → Relation C → Place C → Woken → HostView → C → Option (List ℕ) → Option (List ℕ) → Option (List InputLine) → Option (List InputLine) → RunFault → Type 0
+abbrev pub TurnFailed : {C : Type 0} → Relation C → LivePlace C → Woken → HostView → C → Option (List ℕ) → Option (List ℕ) → Option (List InputLine) → Option (List InputLine) → RunFault → Type 0
 TurnFailed R p told h c out now old new fault.Input = Rests p h out now × (c ≡ p.run.children)
 TurnFailed R p told h c out now old new fault.InputTooLong = ⊥
 TurnFailed R p told h c out now old new (fault.Open why) = ⊥
@@ -160,12 +160,12 @@ TurnFailed R p told h c out now old new fault.OutOfMemory = (a : Arrival) × IsB
 TurnFailed R p told h c out now old new fault.Output = (a : Arrival) × IsBy told a × TakesLines a old new × TakingFailed R p a h c out now fault.Output
 
 -- An arrival came and was taken.
-abbrev pub Came : {C : Type 0} → Relation C → Watch C → Place C → HostView → C → Option (List ℕ) → Option (List ℕ) → Option (List InputLine) → Option (List InputLine) → ℕ → Hold → Type 0
+abbrev pub Came : {C : Type 0} → Relation C → Watch C → LivePlace C → HostView → C → Option (List ℕ) → Option (List ℕ) → Option (List InputLine) → Option (List InputLine) → ℕ → Hold → Type 0
 Came {C = C} R W p h c out now old new number held =
     (a : Arrival) × (mid : C) × Comes W p.run.children a mid × TakesLines a old new × Took R (woken_at p mid) a h c out now number held
 
 -- An arrival came, and at it there was this fault; or the input couldn't be read.
-abbrev pub ComingFailed : {C : Type 0} → Relation C → Watch C → Place C → HostView → C → Option (List ℕ) → Option (List ℕ) → Option (List InputLine) → Option (List InputLine) → RunFault → Type 0
+abbrev pub ComingFailed : {C : Type 0} → Relation C → Watch C → LivePlace C → HostView → C → Option (List ℕ) → Option (List ℕ) → Option (List InputLine) → Option (List InputLine) → RunFault → Type 0
 ComingFailed R W p h c out now old new fault.Input = Rests p h out now × MayHaveWatched W p.run.children c
 ComingFailed R W p h c out now old new fault.InputTooLong = ⊥
 ComingFailed R W p h c out now old new (fault.Open why) = ⊥
@@ -175,7 +175,7 @@ ComingFailed {C = C} R W p h c out now old new fault.OutOfMemory = (a : Arrival)
 ComingFailed {C = C} R W p h c out now old new fault.Output = (a : Arrival) × (mid : C) × Comes W p.run.children a mid × TakesLines a old new × TakingFailed R (woken_at p mid) a h c out now fault.Output
 
 -- what one step of a live worksheet gives: an arrival came and was taken, or the input is at its end
-abbrev pub Steps : {C : Type 0} → Relation C → Watch C → Place C → HostView → C → Option (List ℕ) → Option (List ℕ) → Option (List InputLine) → Option (List InputLine) → Option Stand → Type 0
+abbrev pub Steps : {C : Type 0} → Relation C → Watch C → LivePlace C → HostView → C → Option (List ℕ) → Option (List ℕ) → Option (List InputLine) → Option (List InputLine) → Option Stand → Type 0
 Steps R W p h c out now old new (Some stand) = Came R W p h c out now old new stand.number stand.held
 Steps R W p h c out now old new None =
     Rests p h out now × MayHaveWatched W p.run.children c × IfSome old (λ lines. lines ≡ [])
@@ -185,19 +185,19 @@ abbrev pub IsFront : Option (List InputLine) → List Arrival → Type 0
 IsFront old came = IfSome old (λ lines. (rest : List InputLine) × (lines ≡ lines_in came ++ rest))
 
 -- All came and was taken, up to the end of the input.
-abbrev pub LivedThrough : {C : Type 0} → Relation C → Watch C → Place C → HostView → C → Option (List ℕ) → Option (List ℕ) → Option (List InputLine) → Type 0
+abbrev pub LivedThrough : {C : Type 0} → Relation C → Watch C → LivePlace C → HostView → C → Option (List ℕ) → Option (List ℕ) → Option (List InputLine) → Type 0
 LivedThrough {C = C} R W p h c out now old =
-    (came : List Arrival) × (beats : List Beat) × (text : List ℕ) × (q : Place C) × Lived R W p came beats text q
+    (came : List Arrival) × (beats : List Beat) × (text : List ℕ) × (q : LivePlace C) × Lived R W p came beats text q
     × IsHost h q.run.world × (q.run.disk ≡ h.store.disk) × MayHaveWatched W q.run.children c × Appends out now text × IfSome old (λ lines. lines ≡ lines_in came)
 
 -- what a fault of that leaves
-abbrev pub LivingFailed : {C : Type 0} → Relation C → Watch C → Place C → HostView → C → Option (List ℕ) → Option (List ℕ) → Option (List InputLine) → RunFault → Type 0
+abbrev pub LivingFailed : {C : Type 0} → Relation C → Watch C → LivePlace C → HostView → C → Option (List ℕ) → Option (List ℕ) → Option (List InputLine) → RunFault → Type 0
 LivingFailed {C = C} R W p h c out now old fault.Input =
-    (came : List Arrival) × (beats : List Beat) × (text : List ℕ) × (q : Place C) × Lived R W p came beats text q
+    (came : List Arrival) × (beats : List Beat) × (text : List ℕ) × (q : LivePlace C) × Lived R W p came beats text q
     × IsHost h q.run.world × (q.run.disk ≡ h.store.disk) × MayHaveWatched W q.run.children c × Appends out now text × IsFront old came
 LivingFailed {C = C} R W p h c out now old fault.InputTooLong =
-    (came : List Arrival) × (beats : List Beat) × (text : List ℕ) × (q : Place C) × Lived R W p came beats text q
-    × IsHost h q.run.world × (q.run.disk ≡ h.store.disk) × MayHaveWatched W q.run.children c × Appends out now text × IsFront old came
+    (came : List Arrival) × (beats : List Beat) × (text : List ℕ) × (q : LivePlace C) × Lived R W p came beats text q
+    × IsHost h q.run.world × (q.run.disk ≡ h.store.disk) × MayHaveWatched W q.run.children c × Appends out now text × IsFront old came × AreTooMany came
 LivingFailed R W p h c out now old (fault.Open why) = ⊥
 LivingFailed R W p h c out now old fault.InUse = ⊥
 LivingFailed R W p h c out now old (fault.Host f) =
@@ -210,21 +210,21 @@ LivingFailed R W p h c out now old fault.Output =
     (came : List Arrival) × (t : World) × (d : DiskView) × LivedLed R W p came (at t c d) × StandsOrStopped h t d × IsFront old came
 
 -- The same, and each life that goes on was stopped behind it.
-abbrev pub Ended : {C : Type 0} → Relation C → Watch C → Place C → HostView → C → Option (List ℕ) → Option (List ℕ) → Option (List InputLine) → Type 0
+abbrev pub Ended : {C : Type 0} → Relation C → Watch C → LivePlace C → HostView → C → Option (List ℕ) → Option (List ℕ) → Option (List InputLine) → Type 0
 Ended {C = C} R W p h d out now old =
-    (came : List Arrival) × (beats : List Beat) × (text : List ℕ) × (q : Place C) × (c : C) × Lived R W p came beats text q
+    (came : List Arrival) × (beats : List Beat) × (text : List ℕ) × (q : LivePlace C) × (c : C) × Lived R W p came beats text q
     × IsHost h q.run.world × (q.run.disk ≡ h.store.disk) × MayHaveWatched W q.run.children c × Appends out now text × IfSome old (λ lines. lines ≡ lines_in came)
     × Stops R (running q.run.world) c d
 
-abbrev pub EndedBy : {C : Type 0} → Relation C → Watch C → Place C → HostView → C → Option (List ℕ) → Option (List ℕ) → Option (List InputLine) → RunFault → Type 0
+abbrev pub EndedBy : {C : Type 0} → Relation C → Watch C → LivePlace C → HostView → C → Option (List ℕ) → Option (List ℕ) → Option (List InputLine) → RunFault → Type 0
 EndedBy {C = C} R W p h d out now old fault.Input =
-    (came : List Arrival) × (beats : List Beat) × (text : List ℕ) × (q : Place C) × (c : C) × Lived R W p came beats text q
+    (came : List Arrival) × (beats : List Beat) × (text : List ℕ) × (q : LivePlace C) × (c : C) × Lived R W p came beats text q
     × IsHost h q.run.world × (q.run.disk ≡ h.store.disk) × MayHaveWatched W q.run.children c × Appends out now text × IsFront old came
     × Stops R (running q.run.world) c d
 EndedBy {C = C} R W p h d out now old fault.InputTooLong =
-    (came : List Arrival) × (beats : List Beat) × (text : List ℕ) × (q : Place C) × (c : C) × Lived R W p came beats text q
+    (came : List Arrival) × (beats : List Beat) × (text : List ℕ) × (q : LivePlace C) × (c : C) × Lived R W p came beats text q
     × IsHost h q.run.world × (q.run.disk ≡ h.store.disk) × MayHaveWatched W q.run.children c × Appends out now text × IsFront old came
-    × Stops R (running q.run.world) c d
+    × Stops R (running q.run.world) c d × AreTooMany came
 EndedBy R W p h d out now old (fault.Open why) = ⊥
 EndedBy R W p h d out now old fault.InUse = ⊥
 EndedBy {C = C} R W p h d out now old (fault.Host f) =

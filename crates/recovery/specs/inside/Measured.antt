@@ -1,12 +1,16 @@
 -- The room that the records of ops take. No public clause speaks of it.
 use Rattle.std.specs.Prelude.{◌≡◌, ℕ, ◌+◌, ◌≤◌, List, length, Option, Some, None}
 use Rattle.worksheet.specs.declared.op.Op.{Op}
-use Rattle.journal.specs.Area.{ArePayloads, records}
+use Rattle.journal.specs.Area.{records}
 use Rattle.journal.specs.Limits.{max_payload}
+use Rattle.recovery.specs.Code.{code_of, HasCode}
 use Rattle.recovery.specs.Sheets.{codes_of}
 
--- of so much room this is left behind the records of these ops; or one of their payloads is too long for a record, or there is no
--- room for them
+-- an op has a payload, and a record may have it
+abbrev pub HasRecord : Op → Type 0
+HasRecord o = HasCode o × (length (code_of o) ≤ max_payload)
+
+-- of so much room this is left behind the records of these ops, or there is no room for them
 abbrev pub Measures : List Op → ℕ → Option ℕ → Type 0
-Measures ops left (Some rest) = ArePayloads max_payload (codes_of ops) × (left ≡ length (records (codes_of ops)) + rest)
-Measures ops left None = ArePayloads max_payload (codes_of ops) → length (records (codes_of ops)) ≤ left → ⊥
+Measures ops left (Some rest) = left ≡ length (records (codes_of ops)) + rest
+Measures ops left None = length (records (codes_of ops)) ≤ left → ⊥

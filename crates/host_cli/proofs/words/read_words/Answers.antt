@@ -1,13 +1,23 @@
 use Rattle.std.proofs.Common.{ap, map, refl, subst, true, ◌≡◌, ◌∙◌, sym}
 use Rattle.std.specs.Prelude.{string_bytes}
-use Rattle.clap.specs.Words.{App, HasKind, fault_of, is_simple_and_free}
+use Rattle.clap.specs.Words.{App, HasKind, fault_of, is_simple, is_simple_and_free, subcommand_of}
 use Rattle.clap.proofs.OnLiterals.{clap_on_literals}
-use Rattle.host_cli.specs.Asked.{tmhost}
+use Rattle.host_cli.specs.Asked.{by_subcommand, tmhost}
 use Rattle.host_cli.proofs.words.read_words.Goals as goal
 
 tmhost_is_simple_and_free : is_simple_and_free tmhost ≡ true
 unfolding clap_on_literals
 tmhost_is_simple_and_free = refl
+
+tmhost_is_simple : is_simple tmhost ≡ true
+unfolding clap_on_literals
+tmhost_is_simple = refl
+
+pub returns-in-Ok-clause-task : goal.returns-in-Ok-clause-task
+returns-in-Ok-clause-task c =
+    let app_is = c.in_ok-command.ensures in
+    let rows_are = (c.in-Ok.ensures.matches (ap is_simple app_is ∙ tmhost_is_simple)).1 in
+    c.task_of.ensures ∙ ap by_subcommand (rows_are ∙ ap (λ (app : App). subcommand_of app (map string_bytes c.args.words.now)) app_is)
 
 pub returns-in-Ok-clause-kinds : goal.returns-in-Ok-clause-kinds
 returns-in-Ok-clause-kinds c =

@@ -12,5 +12,7 @@ returns c =
     let third = c.in_ok-third.ensures.shape c.in_ok-run.ensures.local ∙ ap₂ with_subcommand second (ap top_of c.in_ok-run.ensures.made) in
     let fourth = c.in_ok-fourth.ensures.shape c.in_ok-live.ensures.local ∙ ap₂ with_subcommand third (ap top_of c.in_ok-live.ensures.made) in
     let fifth = c.in_ok-fifth.ensures.shape c.in_ok-show.ensures.local ∙ ap₂ with_subcommand fourth (ap top_of c.in_ok-show.ensures.made) in
-    let sixth = c.in_ok-sixth.ensures.shape c.in_ok-rescue.ensures.local ∙ ap₂ with_subcommand fifth (ap top_of c.in_ok-rescue.ensures.made) in
-    c.in_ok-seventh.ensures.shape c.help_alone-faults.ensures.local ∙ ap₂ with_subcommand sixth (ap top_of c.help_alone-faults.ensures.made)
+    let sixth = c.in_ok-sixth.ensures.shape c.in_ok-check.ensures.local ∙ ap₂ with_subcommand fifth (ap top_of c.in_ok-check.ensures.made) in
+    let seventh = c.in_ok-seventh.ensures.shape c.in_ok-rescue.ensures.local ∙ ap₂ with_subcommand sixth (ap top_of c.in_ok-rescue.ensures.made) in
+    let eighth = c.in_ok-eighth.ensures.shape c.in_ok-export.ensures.local ∙ ap₂ with_subcommand seventh (ap top_of c.in_ok-export.ensures.made) in
+    c.in_ok-ninth.ensures.shape c.help_alone-faults.ensures.local ∙ ap₂ with_subcommand eighth (ap top_of c.help_alone-faults.ensures.made)

@@ -1,6 +1,6 @@
 use Rattle.std.proofs.Common.{◌-◌, map}
 use Rattle.worksheet.specs.Rewrite.{fields_ops, session_op}
-use Rattle.recovery.specs.Code.{HasCode}
+use Rattle.recovery.specs.inside.Measured.{HasRecord}
 use Rattle.recovery.proofs.Gathering.{all_behind, all_front}
 use Rattle.recovery.proofs.Measures.{measures_on, measures_stop}
 use Rattle.recovery.proofs.measuring.behind_all.Goals as goal
@@ -8,12 +8,12 @@ use Rattle.recovery.proofs.measuring.behind_all.Goals as goal
 pub behind_sessions-requires : goal.behind_sessions-requires
 behind_sessions-requires c =
     let sheet = c.args.sheet.now.contents in
-    all_front HasCode (map session_op sheet.sessions) (fields_ops sheet.fields (sheet.next - 1) 1 1) c.requires.code
+    all_front HasRecord (map session_op sheet.sessions) (fields_ops sheet.fields (sheet.next - 1) 1 1) c.requires.records
 
-pub behind_fields-requires-clause-code : goal.behind_fields-requires-clause-code
-behind_fields-requires-clause-code c =
+pub behind_fields-requires-clause-records : goal.behind_fields-requires-clause-records
+behind_fields-requires-clause-records c =
     let sheet = c.args.sheet.now.contents in
-    all_behind HasCode (map session_op sheet.sessions) (fields_ops sheet.fields (sheet.next - 1) 1 1) c.requires.code
+    all_behind HasRecord (map session_op sheet.sessions) (fields_ops sheet.fields (sheet.next - 1) 1 1) c.requires.records
 
 pub returns-in-Some : goal.returns-in-Some
 returns-in-Some c =

@@ -3,8 +3,7 @@ use Rattle.std.specs.List.{AllByRecursion}
 use Rattle.worksheet.specs.declared.op.Op.{Op}
 use Rattle.worksheet.specs.declared.field.Field.{Field}
 use Rattle.worksheet.specs.Rewrite.{field_ops, fields_ops, found_ops, ids_to}
-use Rattle.recovery.specs.Code.{HasCode}
-use Rattle.recovery.specs.inside.Measured.{Measures}
+use Rattle.recovery.specs.inside.Measured.{HasRecord, Measures}
 use Rattle.recovery.proofs.measuring.behind_fields.Goals.{in-Some+in-Some-behind_field, in-None}
 use Rattle.recovery.proofs.Gathering.{all_front, fields_step}
 use Rattle.recovery.proofs.Measures.{measured_ends, measured_on, measured_stops, measures_none, rest_measured}
@@ -20,7 +19,7 @@ behind_field-requires c =
     let left = fields_ops fields (last - (id + 1)) (id + 1) (id + 1) in
     let rest : fields_ops fields (last - id) id next ≡ field_ops fields next f ++ left =
     fields_step fields last id next (omega (arith, c.loop-id-test.true, c.next_id-last.ensures)) ∙ ap (λ (o : Option Field). found_ops fields next o left (fields_ops fields (last - (id + 1)) (id + 1) next)) (sym c.in-Some.ensures) in
-    (fields, all_front HasCode (field_ops fields next f) left (subst (AllByRecursion HasCode) rest (rest_measured HasCode _ _ _ _ c.loop-id.invariant.so_far c.requires.code)))
+    (fields, all_front HasRecord (field_ops fields next f) left (subst (AllByRecursion HasRecord) rest (rest_measured HasRecord _ _ _ _ c.loop-id.invariant.so_far c.requires.records)))
 
 pub returns-in-None-behind_field : goal.returns-in-None-behind_field
 returns-in-None-behind_field c =

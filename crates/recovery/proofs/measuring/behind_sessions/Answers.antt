@@ -2,14 +2,14 @@ use Rattle.std.proofs.Common.{◌≡◌, ◌++◌, ◌∷◌, [], List, map, ap,
 use Rattle.std.specs.List.{AllByRecursion}
 use Rattle.worksheet.specs.declared.field.Session.{Session}
 use Rattle.worksheet.specs.Rewrite.{session_op}
-use Rattle.recovery.specs.Code.{HasCode}
+use Rattle.recovery.specs.inside.Measured.{HasRecord}
 use Rattle.recovery.proofs.Measures.{measured_on, measured_stops, rest_measured}
 use Rattle.recovery.proofs.measuring.behind_sessions.Goals as goal
 
 pub behind_session-requires : goal.behind_session-requires
 behind_session-requires c =
     let rest : map session_op c.loop-session.sessions ≡ session_op c.in-Some.session.now ∷ map session_op c.next.new.self = ap (λ (ss : List Session). map session_op ss) c.in-Some.ensures.steps in
-    (subst (AllByRecursion HasCode) rest (rest_measured HasCode _ _ _ _ c.loop-session.invariant c.requires)).0
+    (subst (AllByRecursion HasRecord) rest (rest_measured HasRecord _ _ _ _ c.loop-session.invariant c.requires)).0
 
 pub returns-in-None : goal.returns-in-None
 returns-in-None c =

@@ -1,19 +1,22 @@
 use Rattle.std.proofs.Common.{◌∙◌}
-use Rattle.recovery.proofs.Renewing.{code_anew, next_some}
+use Rattle.recovery.proofs.Lengths.{next_some, numbers_apart, records_anew}
 use Rattle.recovery.proofs.Saves.{saved_answer, saved_moments}
 use Rattle.recovery.proofs.saving.save.Goals as goal
 
 pub has_room_anew-requires-clause-some : goal.has_room_anew-requires-clause-some
 has_room_anew-requires-clause-some g c = next_some c.requires.made.0 c.args.sheet.now.contents c.requires.made.1
 
-pub has_room_anew-requires-clause-code : goal.has_room_anew-requires-clause-code
-has_room_anew-requires-clause-code g c = code_anew c.requires.made.0 c.args.sheet.now.contents c.requires.made.1
+pub has_room_anew-requires-clause-records : goal.has_room_anew-requires-clause-records
+has_room_anew-requires-clause-records g c = records_anew c.requires.made.0 c.args.sheet.now.contents c.requires.made.1
 
 pub frames_of-requires-clause-some : goal.frames_of-requires-clause-some
 frames_of-requires-clause-some g c = next_some c.requires.made.0 c.args.sheet.now.contents c.requires.made.1
 
-pub frames_of-requires-clause-code : goal.frames_of-requires-clause-code
-frames_of-requires-clause-code g c = code_anew c.requires.made.0 c.args.sheet.now.contents c.requires.made.1
+pub frames_of-requires-clause-apart : goal.frames_of-requires-clause-apart
+frames_of-requires-clause-apart g c = numbers_apart c.requires.made.0 c.args.sheet.now.contents c.requires.made.1
+
+pub frames_of-requires-clause-records : goal.frames_of-requires-clause-records
+frames_of-requires-clause-records g c = records_anew c.requires.made.0 c.args.sheet.now.contents c.requires.made.1
 
 pub returns-in-Ok-clause-saved : goal.returns-in-Ok-clause-saved
 returns-in-Ok-clause-saved g c = λ model.

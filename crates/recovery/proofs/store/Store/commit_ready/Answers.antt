@@ -23,7 +23,7 @@ returns-in_err-result-clause-any_moment g c =
     let opened = subst (λ (b : Option (Base g.row.D.Denot)). is_closed_store b ≡ false) e (subst (λ (s : StoreView). s.closed ≡ false) (sym c.self.view_is) c.requires.fits.0) in
     subst (λ (s : StoreView). InModel s.disk ((ops : List Op) → s.sheet.contents ≡ sheet_of ops → LeavesOnly (IsEither ops o) s.disk.history (disk_of view c.with-base.result.0).history)) c.self.view_is
     (subst (λ (b : Option (Base g.row.D.Denot)). InModel (disk_in view b) ((ops : List Op) → sheet ≡ sheet_of ops → LeavesOnly (IsEither ops o) (disk_in view b).history (disk_of view c.with-base.result.0).history)) (sym e)
-    (moments view c.unwrap.result sheet o c.args.frame holds c.requires.own next opened (disk_of view c.with-base.result.0).history c.with-base.ensures.any_moment))
+    (moments view c.unwrap.result sheet o c.args.frame holds c.requires.own c.requires.fits.1.0 next opened (disk_of view c.with-base.result.0).history c.with-base.ensures.any_moment))
 
 pub invariant_of-self-2 : goal.invariant_of-self-2
 invariant_of-self-2 g c =
@@ -34,7 +34,7 @@ invariant_of-self-2 g c =
     let holds = subst (λ (b : Option (Base g.row.D.Denot)). IsStoreOf view b sheet) e c.self.invariant in
     let next = subst (λ (s : StoreView). first_refusal s.sheet.contents o ≡ None) (sym c.self.view_is) c.requires.allowed in
     let opened = subst (λ (b : Option (Base g.row.D.Denot)). is_closed_store b ≡ false) e (subst (λ (s : StoreView). s.closed ≡ false) (sym c.self.view_is) c.requires.fits.0) in
-    committed view c.unwrap.result sheet o c.args.frame holds c.requires.own next opened c.with-base.result.0 c.apply.new.self.contents c.with-base.ensures.same
+    committed view c.unwrap.result sheet o c.args.frame holds c.requires.own c.requires.fits.1.0 next opened c.with-base.result.0 c.apply.new.self.contents c.with-base.ensures.same
     (λ model payloads keeps. on_ok c.with-base.result.1 c.in_ok-result.field-0 c.in_ok-result.was (c.with-base.ensures.ok model payloads keeps)) c.in-Ok.ensures.ok
 
 pub returns-clause-any_moment : goal.returns-clause-any_moment
@@ -48,7 +48,7 @@ returns-clause-any_moment g c =
     let opened = subst (λ (b : Option (Base g.row.D.Denot)). is_closed_store b ≡ false) e (subst (λ (s : StoreView). s.closed ≡ false) (sym c.self.view_is) c.requires.fits.0) in
     subst (λ (s : StoreView). InModel s.disk ((ops : List Op) → s.sheet.contents ≡ sheet_of ops → LeavesOnly (IsEither ops o) s.disk.history (disk_of view c.with-base.result.0).history)) c.self.view_is
     (subst (λ (b : Option (Base g.row.D.Denot)). InModel (disk_in view b) ((ops : List Op) → sheet ≡ sheet_of ops → LeavesOnly (IsEither ops o) (disk_in view b).history (disk_of view c.with-base.result.0).history)) (sym e)
-    (moments view c.unwrap.result sheet o c.args.frame holds c.requires.own next opened (disk_of view c.with-base.result.0).history c.with-base.ensures.any_moment))
+    (moments view c.unwrap.result sheet o c.args.frame holds c.requires.own c.requires.fits.1.0 next opened (disk_of view c.with-base.result.0).history c.with-base.ensures.any_moment))
 
 pub returns-clause-acknowledged : goal.returns-clause-acknowledged
 returns-clause-acknowledged g c = λ model.
@@ -59,7 +59,7 @@ returns-clause-acknowledged g c = λ model.
     let holds = subst (λ (b : Option (Base g.row.D.Denot)). IsStoreOf view b sheet) e c.self.invariant in
     let next = subst (λ (s : StoreView). first_refusal s.sheet.contents o ≡ None) (sym c.self.view_is) c.requires.allowed in
     let opened = subst (λ (b : Option (Base g.row.D.Denot)). is_closed_store b ≡ false) e (subst (λ (s : StoreView). s.closed ≡ false) (sym c.self.view_is) c.requires.fits.0) in
-    let after = committed view c.unwrap.result sheet o c.args.frame holds c.requires.own next opened c.with-base.result.0 c.apply.new.self.contents c.with-base.ensures.same
+    let after = committed view c.unwrap.result sheet o c.args.frame holds c.requires.own c.requires.fits.1.0 next opened c.with-base.result.0 c.apply.new.self.contents c.with-base.ensures.same
     (λ model payloads keeps. on_ok c.with-base.result.1 c.in_ok-result.field-0 c.in_ok-result.was (c.with-base.ensures.ok model payloads keeps)) c.in-Ok.ensures.ok in
     let here = subst (λ (b : Option (Base g.row.D.Denot)). IsTrue (disk_in view b).keeps_model) e (subst (λ (s : StoreView). IsTrue s.disk.keeps_model) (sym c.self.view_is) model) in
     all_images view c.with-base.result.0 c.apply.new.self.contents
@@ -98,7 +98,7 @@ returns-clause-kept g c = λ model ops kept.
     let next = subst (λ (s : StoreView). first_refusal s.sheet.contents o ≡ None) (sym c.self.view_is) c.requires.allowed in
     let here = subst (λ (b : Option (Base g.row.D.Denot)). IsTrue (disk_in view b).keeps_model) e (subst (λ (s : StoreView). IsTrue s.disk.keeps_model) (sym c.self.view_is) model) in
     let before = subst (λ (b : Option (Base g.row.D.Denot)). KeepsOps (store_on view b sheet) ops) e (subst (λ (s : StoreView). KeepsOps s ops) (sym c.self.view_is) kept) in
-    keeps_more view c.unwrap.result sheet o c.args.frame c.requires.own c.with-base.result.0 c.apply.new.self next
+    keeps_more view c.unwrap.result sheet o c.args.frame c.requires.own c.with-base.result.0 c.apply.new.self c.requires.fits.1.0 next
     (on_ok c.with-base.result.1 c.in_ok-result.field-0 c.in_ok-result.was c.with-base.ensures.open)
     (λ model payloads keeps. on_ok c.with-base.result.1 c.in_ok-result.field-0 c.in_ok-result.was (c.with-base.ensures.ok model payloads keeps)) c.in-Ok.ensures.ok here ops before
 
@@ -125,7 +125,7 @@ returns-in_err-result-clause-others g c =
     let opened = subst (λ (b : Option (Base g.row.D.Denot)). is_closed_store b ≡ false) e (subst (λ (s : StoreView). s.closed ≡ false) (sym c.self.view_is) c.requires.fits.0) in
     subst (λ (s : StoreView). InModel s.disk (LeavesOnly (OtherUntouched s.disk.history.now) s.disk.history (disk_of view c.with-base.result.0).history)) c.self.view_is
     (subst (λ (b : Option (Base g.row.D.Denot)). InModel (disk_in view b) (LeavesOnly (OtherUntouched (disk_in view b).history.now) (disk_in view b).history (disk_of view c.with-base.result.0).history)) (sym e)
-    (others view c.unwrap.result sheet o c.args.frame holds c.requires.own next opened (disk_of view c.with-base.result.0).history c.with-base.ensures.any_moment))
+    (others view c.unwrap.result sheet o c.args.frame holds c.requires.own c.requires.fits.1.0 next opened (disk_of view c.with-base.result.0).history c.with-base.ensures.any_moment))
 
 pub returns-clause-others : goal.returns-clause-others
 returns-clause-others g c =
@@ -138,7 +138,7 @@ returns-clause-others g c =
     let opened = subst (λ (b : Option (Base g.row.D.Denot)). is_closed_store b ≡ false) e (subst (λ (s : StoreView). s.closed ≡ false) (sym c.self.view_is) c.requires.fits.0) in
     subst (λ (s : StoreView). InModel s.disk (LeavesOnly (OtherUntouched s.disk.history.now) s.disk.history (disk_of view c.with-base.result.0).history)) c.self.view_is
     (subst (λ (b : Option (Base g.row.D.Denot)). InModel (disk_in view b) (LeavesOnly (OtherUntouched (disk_in view b).history.now) (disk_in view b).history (disk_of view c.with-base.result.0).history)) (sym e)
-    (others view c.unwrap.result sheet o c.args.frame holds c.requires.own next opened (disk_of view c.with-base.result.0).history c.with-base.ensures.any_moment))
+    (others view c.unwrap.result sheet o c.args.frame holds c.requires.own c.requires.fits.1.0 next opened (disk_of view c.with-base.result.0).history c.with-base.ensures.any_moment))
 
 pub returns-in_err-result-clause-store : goal.returns-in_err-result-clause-store
 returns-in_err-result-clause-store g c = subst IsStore c.self.view_is (is_store g.D.Disk.view c.self.inside.base c.self.inside.sheet c.self.invariant)

@@ -1,0 +1,194 @@
+# Checks: worksheets as test suites, what `check` writes of each, and that the worksheet stays as it was, byte by byte.
+
+# An interpreter that answers each line with it while there is no file `again`. Then the line tells what it does: it answers another
+# output, hangs up, or answers under another prompt. Its lives stand in the file `lives`, and what it was sent in the file `sent`.
+cat >suite.sh <<'END_OF_CHILD'
+echo $$ >>lives
+echo "start $1" >>sent
+printf '\002verbatim:banner\002prompt#%s] \005\005' "$1"
+while IFS= read -r line; do
+    echo "send $1 $line" >>sent
+    if [ -e again ]; then
+        case $line in
+            differs) printf '\002verbatim:another\005'; continue ;;
+            hangs) exit ;;
+            kills) kill -9 $PPID; exit ;;
+            prompts) printf '\002verbatim:%s\002prompt#new> \005\005' "$line"; continue ;;
+            inputs) printf '\002verbatim:%s\002input#y\005\005' "$line"; continue ;;
+            longer) printf '\002verbatim:one\ntwo\nthree\n\005'; continue ;;
+            shorter) printf '\002verbatim:\005'; continue ;;
+            tagged) printf '\002latex:$x$\005'; continue ;;
+            nested) printf '\002verbatim:\002verbatim:nested\005\005'; continue ;;
+            bytes) printf '\002verbatim:\001\r\303\251\177\005'; continue ;;
+            looks) until grep -q '^+ another$' text; do sleep 0.01; done ;;
+        esac
+    fi
+    case $line in
+        longer) printf '\002verbatim:one\ntwo\005' ;;
+        *) printf '\002verbatim:%s\005' "$line" ;;
+    esac
+done
+END_OF_CHILD
+cat >count.sh <<'END_OF_CHILD'
+printf '\002verbatim:\005'
+count=0
+while IFS= read -r line; do
+    count=$((count + 1))
+    printf '\002verbatim:%s\005' "$count"
+done
+END_OF_CHILD
+
+# A new worksheet, which this script made. From then on the file `again` is there.
+made() {
+    rm -f sheet sheet.alt again
+    "$tmhost" create sheet
+    printf "$1" | "$tmhost" run sheet >/dev/null
+    touch again
+    rm -f sent lives
+}
+
+# A case of `check` over that worksheet: NAME STATUS TEXT. It stays as it was.
+checks() {
+    before="$(bytes sheet) $(bytes sheet.alt 2>/dev/null)"
+    compare "$1" "$(answer check sheet </dev/null)" "$(ending "$3" "$2")"
+    compare "$1, kept" "$(bytes sheet) $(bytes sheet.alt 2>/dev/null)" "$before"
+}
+
+# The same of a worksheet that is made first: NAME SCRIPT STATUS TEXT.
+checked() {
+    made "$2"
+    checks "$1" "$3" "$4"
+}
+
+a='session a plain sh suite.sh a\n'
+
+# What is evaluated, and in which order.
+checked 'an empty worksheet' '' 0 'same 0 differ 0 unanswered 0\n'
+checked 'fields without an answer' "$a"'new 0 a x\nnew 1 a y\n' 0 'same 0 differ 0 unanswered 0\n'
+sent 'fields without an answer' ''
+checked 'one field' "$a"'new 0 a x\neval 1\nwait\n' 0 'same 1 differ 0 unanswered 0\n'
+sent 'one field' 'start a\nsend a x'
+ended 'one field' 1
+checked 'fields of two sessions' "$a"'session b plain sh suite.sh b\nnew 0 a x\nnew 1 b y\nnew 2 a z\nnew 3 b \neval 3\neval 2\neval 1\nwait\n' 0 \
+    'same 3 differ 0 unanswered 0\n'
+sent 'fields of two sessions' 'start a\nsend a x\nstart b\nsend b y\nsend a z'
+ended 'fields of two sessions' 2
+checked 'an input that was set behind its answer' "$a"'new 0 a x\nnew 1 a y\neval 1\neval 2\nwait\nset 1 z\n' 0 'same 1 differ 0 unanswered 0\n'
+sent 'an input that was set behind its answer' 'start a\nsend a y'
+checked 'a field whose line was lost' "$a"'session b plain true\nnew 0 a x\nnew 1 b y\neval 1\neval 2\nwait\n' 0 'same 1 differ 0 unanswered 0\n'
+made 'session c plain sh count.sh\nnew 0 c x\nnew 1 c y\nnew 2 c z\neval 3\neval 2\neval 1\nwait\n'
+checks 'the order of the worksheet, and not that of the evaluations' 1 \
+    '#1 c\n> x\n- 3\n+ 1\n#3 c\n> z\n- 1\n+ 3\nsame 1 differ 2 unanswered 0\n'
+made 'session c plain sh count.sh\nnew 0 c x\nnew 1 c y\neval 2\neval 1\nwait\nmove 2 0\ncheckpoint\n'
+checks 'fields that were moved' 0 'same 2 differ 0 unanswered 0\n'
+made 'session c plain sh count.sh\nnew 0 c x\neval 1\nwait\neval 1\nwait\n'
+checks 'an interpreter of its own' 1 '#1 c\n> x\n- 2\n+ 1\nsame 0 differ 1 unanswered 0\n'
+
+# What differs.
+checked 'a suite of five' \
+    "$a"'session b plain sh gone.sh b\nnew 0 a one\nnew 1 a differs\nnew 2 a hangs\nnew 3 b four\nnew 4 a five\nnew 5 a not evaluated\neval 1\neval 2\neval 3\neval 5\nwait\n' 1 \
+    '#2 a\na] differs\n- differs\n+ another\n#3 a\na] hangs\n- hangs\n+ ?\nsame 2 differ 1 unanswered 1\n'
+sent 'a suite of five' 'start a\nsend a one\nsend a differs\nsend a hangs\nstart a\nsend a five'
+ended 'a suite of five' 2
+cp suite.sh gone.sh
+made "$a"'session b plain ./gone.sh b\nnew 0 a one\nnew 1 b two\nnew 2 a three\neval 1\neval 3\nwait\n'
+chmod 755 gone.sh
+sed -i '1i #!/bin/sh' gone.sh
+rm -f again
+printf 'eval 2\nwait\n' | "$tmhost" run sheet >/dev/null
+rm -f gone.sh
+checks 'a program that is gone' 1 '#2 b\nb] two\n- two\n+ ?\nsame 2 differ 0 unanswered 1\n'
+checked 'all that differs' "$a"'new 0 a differs\nnew 1 a hangs\nnew 2 a differs\nnew 3 a hangs\neval 1\neval 2\neval 3\neval 4\nwait\n' 1 \
+    '#1 a\na] differs\n- differs\n+ another\n#2 a\na] hangs\n- hangs\n+ ?\n#3 a\na] differs\n- differs\n+ another\n#4 a\na] hangs\n- hangs\n+ ?\nsame 0 differ 2 unanswered 2\n'
+sent 'all that differs' 'start a\nsend a differs\nsend a hangs\nstart a\nsend a differs\nsend a hangs'
+checks 'the same again' 1 \
+    '#1 a\na] differs\n- differs\n+ another\n#2 a\na] hangs\n- hangs\n+ ?\n#3 a\na] differs\n- differs\n+ another\n#4 a\na] hangs\n- hangs\n+ ?\nsame 0 differ 2 unanswered 2\n'
+checked 'prompts that differ' "$a"'new 0 a prompts\nnew 1 a y\nnew 2 a inputs\neval 1\neval 2\neval 3\nwait\n' 0 'same 3 differ 0 unanswered 0\n'
+checked 'an output of more lines' "$a"'new 0 a longer\neval 1\nwait\n' 1 '#1 a\na] longer\n- one\n- two\n+ one\n+ two\n+ three\nsame 0 differ 1 unanswered 0\n'
+checked 'an output without a byte' "$a"'new 0 a shorter\neval 1\nwait\n' 1 '#1 a\na] shorter\n- shorter\n+ \nsame 0 differ 1 unanswered 0\n'
+checked 'an output with a tag' "$a"'new 0 a tagged\neval 1\nwait\n' 1 '#1 a\na] tagged\n- tagged\n+ {latex:$x$}\nsame 0 differ 1 unanswered 0\n'
+checked 'an output that differs in what is not shown' "$a"'new 0 a nested\neval 1\nwait\n' 1 '#1 a\na] nested\n- nested\n+ nested\nsame 0 differ 1 unanswered 0\n'
+checked 'bytes that are not plain' "$a"'new 0 a bytes\neval 1\nwait\n' 1 '#1 a\na] bytes\n- bytes\n+ \\x01\\x0d\303\251\\x7f\nsame 0 differ 1 unanswered 0\n'
+checked 'the output of a question mark' "$a"'new 0 a ?\neval 1\nwait\n' 0 'same 1 differ 0 unanswered 0\n'
+
+# Each difference is written when it is known: the second field is answered once the first one's text is there.
+made "$a"'new 0 a differs\nnew 1 a looks\neval 1\neval 2\nwait\n'
+timeout 10 "$tmhost" check sheet >text 2>errors
+compare 'a difference that is read at once' "$? $(cat text errors)" "$(printf '1 #1 a\na] differs\n- differs\n+ another\nsame 1 differ 1 unanswered 0')"
+
+# A check that is killed.
+made "$a"'new 0 a differs\nnew 1 a kills\neval 1\neval 2\nwait\n'
+before="$(bytes sheet) $(bytes sheet.alt)"
+(exec "$tmhost" check sheet >text 2>errors) 2>/dev/null
+compare 'a check that is killed' "$? $(cat text errors)" "$(printf '137 #1 a\na] differs\n- differs\n+ another')"
+compare 'a check that is killed, kept' "$(bytes sheet) $(bytes sheet.alt)" "$before"
+compare 'a check that is killed, shown' "$(answer show sheet)" "$(printf '#1 a\na] differs\ndiffers\n#2 a\na] kills\nkills\nstatus 0')"
+
+# Files: a worksheet in use, beside another check, without a second file, one that can only be read, and none.
+made "$a"'new 0 a x\neval 1\nwait\n'
+talk_over() {
+    rm -f talk.in talk.out
+    mkfifo talk.in talk.out
+    timeout 10 "$tmhost" "$@" <talk.in >talk.out 2>talk.errors &
+    host=$!
+    exec 3>talk.in 4<talk.out
+}
+talk_over live sheet
+say '# held\nprint 1\n'
+hears 'a worksheet in use, held' '#1 a\na] x\nx\n'
+checks 'a worksheet in use' 1 'fault 35 InUse\n'
+exec 3>&-
+wait "$host"
+exec 4<&-
+checks 'a worksheet that was in use' 0 'same 1 differ 0 unanswered 0\n'
+made "$a"'new 0 a looks\neval 1\nwait\n'
+rm -f text
+: >text
+timeout 10 "$tmhost" check sheet >other 2>&1 &
+host=$!
+until [ -s sent ]; do sleep 0.01; done
+compare 'a show beside a check' "$(answer show sheet)" "$(printf '#1 a\na] looks\nlooks\nstatus 0')"
+compare 'a run beside a check' "$(printf 'remove 1\n' | answer run sheet)" "$(printf 'fault 35 InUse\nstatus 1')"
+echo '+ another' >text
+wait "$host"
+compare 'a check beside others' "$? $(cat other)" '0 same 1 differ 0 unanswered 0'
+made "$a"'new 0 a x\neval 1\nwait\n'
+rm -f sheet.alt
+chmod 400 sheet
+compare 'a file that can only be read' "$(answer check sheet)" "$(printf 'same 1 differ 0 unanswered 0\nstatus 0')"
+compare 'a file that can only be read, made' "$(ls sheet.alt 2>/dev/null)" ''
+chmod 600 sheet
+words 'a path without a file' 1 'fault 32 Disk\n' check nowhere
+words 'an empty path is not checked' 1 'fault 32 Disk\n' check ''
+words 'no worksheet' 1 'fault 31 NotASheet\n' check suite.sh
+printf 'TMWSHEET\001ARR' >sheet
+rm -f sheet.alt
+checks 'a damaged worksheet' 1 'fault 30 Damaged 10\n'
+
+# Outputs that can't be written: of the last line alone, and of a difference, behind which nothing is evaluated.
+made "$a"'new 0 a x\neval 1\nwait\n'
+"$tmhost" check sheet >/dev/full 2>errors
+compare 'a full output' "$? $(cat errors)" '1 fault 42 Output'
+made "$a"'new 0 a differs\nnew 1 a y\neval 1\neval 2\nwait\n'
+"$tmhost" check sheet >/dev/full 2>errors
+compare 'a difference on a full output' "$? $(cat errors)" '1 fault 42 Output'
+sent 'a difference on a full output' 'start a\nsend a differs'
+ended 'a difference on a full output' 1
+
+# A thousand fields, of which the last but one differs.
+{
+    printf "$a"
+    for id in $(seq 1000); do
+        if [ "$id" = 999 ]; then echo "new $((id - 1)) a differs"; else echo "new $((id - 1)) a $id"; fi
+        echo "eval $id"
+    done
+    echo wait
+} >many
+rm -f sheet sheet.alt again
+"$tmhost" create sheet
+"$tmhost" run sheet <many >/dev/null
+touch again
+checks 'a thousand fields' 1 '#999 a\na] differs\n- differs\n+ another\nsame 999 differ 1 unanswered 0\n'
+rm -f again sent lives many other
+
+counted checks

@@ -1,0 +1,212 @@
+# Exports: worksheets as the lines that make them anew, and as pages.
+
+header='TMWSHEET\001A'
+
+# A byte of a format of printf.
+octal() {
+    printf '\\%03o' "$1"
+}
+
+# The record of a payload that is typed in.
+record() {
+    printf "$1" >payload
+    size=$(wc -c <payload)
+    printf "R\\000\\000$(octal $((size / 256)))$(octal $((size % 256)))"
+    cat payload
+}
+
+# Begins the file `area`: a session `a` of the words `sh` and `w`, without completions. Then records follow, and a closed gate.
+begin() {
+    rm -f area area.alt
+    { printf "$header"; record '\001\001a\000\002\000\002sh\000\001w'; } >area
+}
+put() {
+    record "$1" >>area
+}
+finish() {
+    printf '\000' >>area
+}
+
+# The file `area` with one field, whose input, prompt and block of an answer are typed in.
+answered() {
+    begin
+    printf "$1" >text
+    put "\\002\\000\\000\\000\\000\\001a$(octal $(($(wc -c <text) / 256)))$(octal $(($(wc -c <text) % 256)))$1"
+    printf "$2" >text
+    put "\\007\\000\\000\\000\\001$(octal $(($(wc -c <text) / 256)))$(octal $(($(wc -c <text) % 256)))$2\\002$3\\005"
+    finish
+}
+
+# The page of the file `area`, behind its head.
+fields_of() {
+    "$tmhost" export html area 2>errors >text </dev/null
+    status=$?
+    sed '1,/^<main>$/d' text
+    cat errors
+    echo "status $status"
+}
+
+# What stands of a field on a page: NUMBER PROMPT INPUT, and then its output, or what stands in the place of one.
+field() {
+    printf '<section id="field-%s">\n<header><a href="#field-%s">#%s</a> <bdi>a</bdi></header>\n' "$1" "$1" "$1"
+    printf '<pre class="in" dir="ltr"><bdi>%s</bdi><code dir="ltr">%s</code></pre>\n' "$2" "$3"
+}
+page_end='</main>\n</body>\n</html>\nstatus 0\n'
+
+# A case of a page: NAME INPUT PROMPT BLOCK, and their texts on the page.
+page() {
+    answered "$2" "$3" "$4"
+    compare "$1" "$(fields_of)" "$(field 1 "$6" "$5"; printf "<pre class=\"out\" dir=\"ltr\">\n$7</pre>\n</section>\n$page_end")"
+}
+
+# The same of an output alone: NAME BLOCK TEXT.
+shown() {
+    page "$1" x '> ' "$2" x '&gt; ' "$3"
+}
+
+# A whole page.
+answered '1<2' '> ' 'verbatim:true & so'
+mv area 'a&b.tm'
+mkdir -p 'far <away>'
+mv 'a&b.tm' 'far <away>'
+compare 'a whole page' "$(answer export html 'far <away>/a&b.tm' </dev/null)" '<!doctype html>
+<html lang="en">
+<head>
+<meta charset="utf-8">
+<meta name="viewport" content="width=device-width, initial-scale=1">
+<meta name="color-scheme" content="light dark">
+<meta http-equiv="Content-Security-Policy" content="default-src '\''none'\''; style-src '\''unsafe-inline'\''">
+<title>a&amp;b.tm</title>
+<style>
+:root{color-scheme:light dark;--ink:#1c2733;--dim:#66727f;--page:#f6f7f9;--card:#fff;--line:#dfe4ea;--mark:#0b62c4;--warn:#a15c00}
+@media (prefers-color-scheme:dark){:root{--ink:#dce3ea;--dim:#93a0ad;--page:#11161c;--card:#19212a;--line:#2c3844;--mark:#6db3ff;--warn:#e5b567}}
+*{box-sizing:border-box}
+body{margin:0 auto;padding:2rem 1rem 4rem;max-width:52rem;background:var(--page);color:var(--ink);font:16px/1.5 system-ui,sans-serif}
+h1{margin:0 0 1.5rem;font-size:1.6rem;font-weight:650;overflow-wrap:anywhere}
+section{margin:0 0 1rem;border:1px solid var(--line);border-radius:.6rem;background:var(--card);overflow:hidden}
+section:target{border-color:var(--mark);box-shadow:0 0 0 1px var(--mark)}
+header{display:flex;gap:.6rem;padding:.35rem .9rem;border-bottom:1px solid var(--line);color:var(--dim);font-size:.8rem}
+header a{color:var(--mark);text-decoration:none}
+pre{margin:0;padding:.6rem .9rem;font:.9rem/1.5 ui-monospace,Consolas,monospace;white-space:pre-wrap;overflow-wrap:anywhere;tab-size:4}
+.in bdi{color:var(--dim);user-select:none}
+.in code{font:inherit;font-weight:600}
+.out{border-top:1px dashed var(--line)}
+.none{margin:0;padding:.6rem .9rem;border-top:1px dashed var(--line);color:var(--warn);font-size:.85rem;font-style:italic}
+@media print{:root{--ink:#000;--dim:#444;--page:#fff;--card:#fff;--line:#999;--mark:#000;--warn:#000}body{max-width:none;padding:0}section{break-inside:avoid}}
+</style>
+</head>
+<body>
+<h1 dir="ltr">a&amp;b.tm</h1>
+<main>
+<section id="field-1">
+<header><a href="#field-1">#1</a> <bdi>a</bdi></header>
+<pre class="in" dir="ltr"><bdi>&gt; </bdi><code dir="ltr">1&lt;2</code></pre>
+<pre class="out" dir="ltr">
+true &amp; so</pre>
+</section>
+</main>
+</body>
+</html>
+status 0'
+compare 'its script' "$(answer export script 'far <away>/a&b.tm' </dev/null)" 'session a plain sh w
+new 0 a 1<2
+status 0'
+
+# Outputs that could be markup.
+shown 'an element' 'verbatim:<script>alert(1)</script>' '&lt;script&gt;alert(1)&lt;/script&gt;'
+shown 'the end of the output' 'verbatim:</pre></section></main><img src=x onerror=alert(1)>' '&lt;/pre&gt;&lt;/section&gt;&lt;/main&gt;&lt;img src=x onerror=alert(1)&gt;'
+shown 'quotes' 'verbatim:"a" '"'b'" '&quot;a&quot; &#39;b&#39;'
+shown 'a reference' 'verbatim:&lt;b&gt; &amp;#60;' '&amp;lt;b&amp;gt; &amp;amp;#60;'
+shown 'the end of a section of marked text' 'verbatim:]]>' ']]&gt;'
+shown 'a remark' 'verbatim:<!-- -->' '&lt;!-- --&gt;'
+shown 'a block of HTML' 'html:<b>bold</b>' '{html:&lt;b&gt;bold&lt;/b&gt;}'
+shown 'a formula' 'latex:$x<y$' '{latex:$x&lt;y$}'
+shown 'blocks in a block' 'verbatim:one \002latex:x\005 two \002html:<i>\005' 'one {latex:x} two {html:&lt;i&gt;}'
+shown 'a channel' 'output#<i>' '&lt;i&gt;'
+shown 'a tag that is markup' '<b>:x' '{&lt;b&gt;:x}'
+shown 'lines' 'verbatim:one\ntwo\n' 'one\ntwo\n'
+shown 'a line feed at the beginning' 'verbatim:\n\nx' '\n\nx'
+shown 'a tab' 'verbatim:a\tb' 'a\tb'
+shown 'no output' 'verbatim:' ''
+shown 'byte 0' 'verbatim:a\000b' 'a\\x00b'
+shown 'control bytes' 'verbatim:\001\010\013\014\016\037\177' '\\x01\\x08\\x0b\\x0c\\x0e\\x1f\\x7f'
+shown 'a carriage return' 'verbatim:a\r\nb' 'a\\x0d\nb'
+shown 'an escape of a terminal' 'verbatim:\033\033[31mred' '\\x1b[31mred'
+
+# UTF-8, and what is none.
+shown 'two bytes' 'verbatim:gr\303\274n' 'gr\303\274n'
+shown 'three bytes' 'verbatim:\342\202\254' '\342\202\254'
+shown 'four bytes' 'verbatim:\360\237\230\200' '\360\237\230\200'
+shown 'the first and last of each length' 'verbatim:\302\200\337\277\340\240\200\357\277\277\360\220\200\200\364\217\277\277' '\302\200\337\277\340\240\200\357\277\277\360\220\200\200\364\217\277\277'
+shown 'a byte that begins none' 'verbatim:\377a\376' '\\xffa\\xfe'
+shown 'a byte that continues none' 'verbatim:\200<' '\\x80&lt;'
+shown 'one that is cut off by markup' 'verbatim:\342\202<b>' '\\xe2\\x82&lt;b&gt;'
+shown 'one that is cut off at the end' 'verbatim:x\360\237\230' 'x\\xf0\\x9f\\x98'
+shown 'one that is cut off by another' 'verbatim:\342\202\303\274' '\\xe2\\x82\303\274'
+shown 'one that is longer than it must be' 'verbatim:\300\274\340\200\274' '\\xc0\\xbc\\xe0\\x80\\xbc'
+shown 'a half of a pair' 'verbatim:\355\240\200\355\277\277' '\\xed\\xa0\\x80\\xed\\xbf\\xbf'
+shown 'one above the last' 'verbatim:\364\220\200\200' '\\xf4\\x90\\x80\\x80'
+shown 'one byte too many' 'verbatim:\303\274\274' '\303\274\\xbc'
+shown 'right to left' 'verbatim:\342\200\256evil\342\200\254' '\342\200\256evil\342\200\254'
+
+# Prompts and inputs stand on one line.
+page 'a prompt that is markup' x '<b>"&' 'verbatim:A' x '&lt;b&gt;&quot;&amp;' A
+page 'a prompt with control bytes' x '\011\012\033[0m' 'verbatim:A' x '\x09\x0a\x1b[0m' A
+page 'a prompt that is cut off' x '\342\202' 'verbatim:A' x '\xe2\x82' A
+page 'no prompt' x '' 'verbatim:A' x '' A
+page 'an input that is markup' '</code><script>' '> ' 'verbatim:A' '&lt;/code&gt;&lt;script&gt;' '&gt; ' A
+page 'an input with a tab' 'a\011b' '> ' 'verbatim:A' 'a\x09b' '&gt; ' A
+page 'an input from right to left' '\342\200\256x' '> ' 'verbatim:A' "$(printf '\342\200\256x')" '&gt; ' A
+page 'no input' '' '> ' 'verbatim:A' '' '&gt; ' A
+
+# Fields without an answer, in their order.
+begin
+put '\002\000\000\000\000\001a\000\001x'
+put '\002\000\000\000\000\001a\000\001y'
+put '\010\000\000\000\002\002'
+finish
+compare 'fields without an answer' "$(fields_of)" "$(field 2 '&gt; ' y; echo '<p class="none">no answer: Ended</p>'; echo '</section>'; field 1 '&gt; ' x; echo '<p class="none">no answer</p>'; echo '</section>'; printf "$page_end")"
+compare 'their script' "$(answer export script area </dev/null)" 'session a plain sh w
+new 0 a y
+new 1 a x
+status 0'
+
+# Scripts: NAME SCRIPT TEXT. A worksheet that is made by the script is exported as the text; run over an empty worksheet, the text makes
+# one with the same script.
+scripted() {
+    rm -f sheet sheet.alt other other.alt
+    "$tmhost" create sheet
+    "$tmhost" create other
+    printf "$2" | "$tmhost" run sheet >/dev/null
+    compare "$1" "$(answer export script sheet </dev/null)" "$(ending "$3" 0)"
+    "$tmhost" export script sheet >given
+    "$tmhost" run other <given >/dev/null
+    compare "$1, run" "$(answer export script other </dev/null)" "$(ending "$3" 0)"
+}
+scripted 'an empty worksheet' '' ''
+scripted 'sessions' 'session a plain sh\nsession b tab sh -c x\nsession a2_-Z plain gr\303\274n\n' 'session a plain sh\nsession b tab sh -c x\nsession a2_-Z plain gr\303\274n\n'
+scripted 'fields that were moved' 'session a plain sh\nnew 0 a 1\nnew 1 a 2\nnew 2 a 3\nmove 3 0\n' 'session a plain sh\nnew 0 a 3\nnew 1 a 1\nnew 2 a 2\n'
+scripted 'fields that went' 'session a plain sh\nnew 0 a 1\nnew 1 a 2\nnew 2 a 3\nremove 2\nremove 1\n' 'session a plain sh\nnew 0 a 3\n'
+scripted 'inputs with spaces' 'session a plain sh\nnew 0 a  x \nnew 1 a\nnew 2 a  \nnew 3 a #y\n' 'session a plain sh\nnew 0 a  x \nnew 1 a \nnew 2 a  \nnew 3 a #y\n'
+scripted 'inputs with a tab and characters' 'session a plain sh\nnew 0 a a\tb\nnew 1 a \342\202\254\n' 'session a plain sh\nnew 0 a a\tb\nnew 1 a \342\202\254\n'
+scripted 'fields of two sessions' 'session a plain sh\nsession b plain sh\nnew 0 b x\nnew 0 a y\n' 'session a plain sh\nsession b plain sh\nnew 0 a y\nnew 1 b x\n'
+
+# A word with a space, which only journals of other callers can have.
+begin
+put '\001\001b\000\002\000\002sh\000\003a b'
+finish
+compare 'a word with a space' "$(answer export script area </dev/null)" "$(ending 'fault 36 NoScript\n' 1)"
+compare 'its page' "$(fields_of)" "$(printf "$page_end")"
+
+# Faults: nothing is written.
+for format in script html; do
+    words "$format of a file that is missing" 1 'fault 32 Disk\n' export $format nowhere.tm
+    printf 'x' >area
+    rm -f area.alt
+    words "$format of what is no worksheet" 1 'fault 31 NotASheet\n' export $format area
+    printf "$header"'R\000\000\000\001x\000' >area
+    words "$format of a damaged worksheet" 1 'fault 30 Damaged 10\n' export $format area
+done
+words 'a format that there is none of' 2 "error: there is no such format: FORMAT is script or html\n\nFor more information, try 'tmhost export --help'.\n" export HTML area
+words 'no format' 2 "error: there is no such format: FORMAT is script or html\n\nFor more information, try 'tmhost export --help'.\n" export '' area
+counted exports

@@ -1,0 +1,88 @@
+-- Where a check ends.
+use Rattle.std.proofs.Common.{◌≡◌, inr, ℕ, List, [], Option, refl, sym, subst, append-nil}
+use Rattle.std.proofs.KnownBytes.{Appends-trans}
+use Rattle.std.specs.Io.KnownBytes.{Appends}
+use Rattle.disk_model.specs.Disk.{DiskView}
+use Rattle.worksheet.specs.declared.field.Field.{Field}
+use Rattle.worksheet.specs.Contents.{Contents}
+use Rattle.session_engine.specs.World.{World}
+use Rattle.session_engine.specs.Host.{HostView}
+use Rattle.child_edge.specs.Faithful.{Relation, At, at}
+use Rattle.sheet_programs.specs.declared.fault.RunFault.{RunFault}
+use Rattle.sheet_programs.specs.declared.fault.RunFault.TheVariants as fault
+use Rattle.sheet_programs.proofs.Runs.{StopsIn, stops_behind}
+use Rattle.sheet_check.specs.declared.verdict.Counts.{Counts}
+use Rattle.sheet_check.specs.Texts.{counts_text}
+use Rattle.sheet_check.specs.Check.{IsCopy, SheetChecked, SheetLed, TellsCheck, still}
+use Rattle.sheet_check.specs.inside.Checking.{FieldsEnded, FieldsFailed, FieldsStopped, FieldsWrote}
+
+-- The stops.
+
+pub fields_ended : {C : Type 0} (R : Relation C) (fields : List Field) (s : At C) (h : HostView) (c d : C) (a b : Option (List ℕ)) (counts : Counts) → StopsIn R h c d → FieldsWrote R fields s h c a b counts
+    → FieldsEnded R fields s d a b counts
+fields_ended R fields s h c d a b counts stops p = (p.0, p.1, at p.2 c h.store.disk, p.3, stops.0 p.2 p.4, p.5, p.6)
+
+pub fields_stopped : {C : Type 0} (R : Relation C) (fields : List Field) (s : At C) (h : HostView) (c d : C) (a b : Option (List ℕ)) (why : RunFault) → StopsIn R h c d → FieldsFailed R fields s h c a b why
+    → FieldsStopped R fields s d a b why
+fields_stopped R fields s h c d a b why stops p = record {
+  gone = p.gone;
+  left = p.left;
+  split = p.split;
+  verdicts = p.verdicts;
+  text = p.text;
+  mid = p.mid;
+  checked = p.checked;
+  leads = at p.failed.0 c p.failed.1;
+  led = p.failed.2;
+  stops = stops_behind R h c d p.failed.0 p.failed.1 stops p.failed.3;
+  wrote = p.wrote;
+}
+
+-- The whole.
+
+module _ {C : Type 0} (R : Relation C) (sheet : Contents) (w : World) (copy : DiskView) (copied : IsCopy sheet w copy) (c d : C) (a b : Option (List ℕ)) where
+  pub sheet_checked : (e : Option (List ℕ)) (counts : Counts) → FieldsEnded R sheet.fields (at w c copy) d a b counts → Appends b e (counts_text counts) → SheetChecked R sheet c d a e counts
+  sheet_checked e counts p told = record {
+    start = w;
+    copy = copy;
+    copied = copied;
+    verdicts = p.0;
+    text = p.1;
+    leads = p.2;
+    checked = p.3;
+    stops = p.4;
+    counted = p.5;
+    wrote = Appends-trans a b e p.1 (counts_text counts) p.6 told;
+  }
+
+  -- the counts couldn't be told
+  pub counts_untold : (e : Option (List ℕ)) (counts : Counts) (none : Type 0) (why : RunFault) → FieldsEnded R sheet.fields (at w c copy) d a b counts → why ≡ fault.Output → TellsCheck R sheet c d a e none why
+  counts_untold e counts none why p is = subst (TellsCheck R sheet c d a e none) (sym is) (
+    p.1,
+    record {
+      start = w;
+      copy = copy;
+      copied = copied;
+      gone = sheet.fields;
+      left = [];
+      split = sym (append-nil sheet.fields);
+      verdicts = p.0;
+      mid = p.2;
+      checked = p.3;
+      leads = p.2;
+      led = still refl;
+      stops = p.4;
+    },
+  )
+
+  led : (why : RunFault) (p : FieldsStopped R sheet.fields (at w c copy) d a b why) → SheetLed R sheet c d p.text
+  led why p = record { start = w; copy = copy; copied = copied; gone = p.gone; left = p.left; split = p.split; verdicts = p.verdicts; mid = p.mid; checked = p.checked; leads = p.leads; led = p.led; stops = p.stops }
+
+  pub stopped_tells : (none : Type 0) (why : RunFault) → FieldsStopped R sheet.fields (at w c copy) d a b why → TellsCheck R sheet c d a b none why
+  stopped_tells none (fault.Host why) p = (p.text, led (fault.Host why) p, p.wrote)
+  stopped_tells none fault.OutOfMemory p = inr (p.text, led fault.OutOfMemory p, p.wrote)
+  stopped_tells none fault.Output p = (p.text, led fault.Output p)
+  stopped_tells none fault.Input p = absurd p.wrote
+  stopped_tells none fault.InputTooLong p = absurd p.wrote
+  stopped_tells none (fault.Open why) p = absurd p.wrote
+  stopped_tells none fault.InUse p = absurd p.wrote

@@ -1,0 +1,12 @@
+use Rattle.child_edge.specs.Faithful.{at}
+use Rattle.sheet_check.proofs.Fields.{field_checked, field_passed}
+use Rattle.sheet_check.proofs.checking.check_field.Goals as goal
+
+pub returns-in-None-clause-ok : goal.returns-in-None-clause-ok
+returns-in-None-clause-ok g c = λ w h.
+    field_passed g.C.Children.after c.args.field.now w c.args.host.now c.args.children.now (g.W.Write.contents c.args.writer.now) c.args.counts c.in-None.is h
+
+pub returns-in-Ok-clause-ok : goal.returns-in-Ok-clause-ok
+returns-in-Ok-clause-ok g c = λ w h.
+    field_checked g.C.Children.after c.args.field.now c.in-Some.shown (at w c.args.children.now c.args.host.now.store.disk) c.check_shown.new.host c.check_shown.new.children (g.W.Write.contents c.args.writer.now)
+    (g.W.Write.contents c.check_shown.new.writer) c.args.counts c.with.result c.in-Ok.verdict c.in-Some.is (c.in-Ok.ensures.ok w h) c.with.ensures

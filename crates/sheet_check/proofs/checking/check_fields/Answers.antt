@@ -1,0 +1,41 @@
+use Rattle.std.proofs.Common.{ap, length, arith}
+use Rattle.child_edge.specs.Faithful.{at}
+use Rattle.sheet_check.specs.inside.Checking.{total}
+use Rattle.sheet_check.proofs.Fields.{none_checked, one_checked, all_checked, fields_failed}
+use Rattle.sheet_check.proofs.checking.check_fields.Goals as goal
+
+pub loop-field-init : goal.loop-field-init
+loop-field-init g c =
+    let all = ap length c.fields-fields.ensures in
+    let none = ap total c.none-counts.ensures in
+    record {
+      few = omega (arith, all, none);
+      runs = λ w h. none_checked g.C.Children.after c.args.sheet.now.contents.fields _ w c.args.host.now c.args.children.now (g.W.Write.contents c.args.writer.now) c.none-counts.result c.fields-fields.ensures c.none-counts.ensures h;
+    }
+
+pub check_field-requires : goal.check_field-requires
+check_field-requires g c = omega (arith, c.loop-field.invariant.few, c.requires)
+
+pub loop-field-preserved : goal.loop-field-preserved
+loop-field-preserved g c =
+    let one = ap length c.in-Some.ensures.steps in
+    record {
+      few = omega (arith, one, c.loop-field.invariant.few, c.in-Ok.ensures.bound);
+      runs = λ w h.
+          let so = c.loop-field.invariant.runs w h in
+          one_checked g.C.Children.after c.args.sheet.now.contents.fields c.loop-field.fields c.in-Some.field.now c.next.new.self (at w c.args.children.now c.args.host.now.store.disk) c.loop-field.host c.loop-field.children
+          (g.W.Write.contents c.args.writer.now) (g.W.Write.contents c.loop-field.writer) c.loop-field.counts c.check_field.new.host c.check_field.new.children (g.W.Write.contents c.check_field.new.writer)
+          c.in-Some.ensures.steps so c.in-Ok.after (c.in-Ok.ensures.ok so.leads so.stands);
+    }
+
+pub returns-clause-ok : goal.returns-clause-ok
+returns-clause-ok g c = λ w h.
+    all_checked g.C.Children.after c.args.sheet.now.contents.fields c.loop-field.fields (at w c.args.children.now c.args.host.now.store.disk) c.loop-field.host c.loop-field.children
+    (g.W.Write.contents c.args.writer.now) (g.W.Write.contents c.loop-field.writer) c.loop-field.counts c.in_default.ensures.steps.0 (c.loop-field.invariant.runs w h)
+
+pub returns-in-Err-clause-err : goal.returns-in-Err-clause-err
+returns-in-Err-clause-err g c = λ w h.
+    let so = c.loop-field.invariant.runs w h in
+    fields_failed g.C.Children.after c.args.sheet.now.contents.fields c.loop-field.fields c.in-Some.field.now c.next.new.self (at w c.args.children.now c.args.host.now.store.disk) c.loop-field.host c.loop-field.children
+    (g.W.Write.contents c.args.writer.now) (g.W.Write.contents c.loop-field.writer) c.loop-field.counts c.check_field.new.host c.check_field.new.children (g.W.Write.contents c.check_field.new.writer)
+    c.in-Some.ensures.steps so c.in-Err.fault (c.in-Err.ensures.err so.leads so.stands)

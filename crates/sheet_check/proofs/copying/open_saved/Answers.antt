@@ -1,0 +1,14 @@
+use Rattle.std.proofs.Common.{◌∙◌, refl, subst}
+use Rattle.disk_model.specs.Disk.{bytes_on, max_room}
+use Rattle.session_engine.specs.World.{world_at_opening}
+use Rattle.session_engine.specs.Host.{IsHost}
+use Rattle.sheet_check.proofs.copying.open_saved.Goals as goal
+
+pub returns-in-Ok : goal.returns-in-Ok
+returns-in-Ok g c =
+    let ops = c.requires.made.0 in
+    let makes = c.requires.made.1 in
+    let image = c.requires.saved (bytes_on (g.D.Disk.view c.args.disk)) (g.met.D.Disk.content_stays c.args.disk c.requires.model) in
+    let same = c.in-Ok.ensures.exact c.requires.model c.args.sheet.now.contents image in
+    let stands = subst (λ room. IsHost c.in-Ok.host (world_at_opening ops room c.in-Ok.host.store.end)) c.requires.room (c.in-Ok.ensures.stands ops makes.allowed (same ∙ makes.is)) in
+    (world_at_opening ops max_room c.in-Ok.host.store.end, stands, record { ops = ops; end = c.in-Ok.host.store.end; makes = makes; is = refl; holds = stands.stands.images })

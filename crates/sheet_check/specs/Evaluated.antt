@@ -1,0 +1,68 @@
+-- The fields of a worksheet evaluated anew, one behind another.
+use Rattle.std.specs.Prelude.{◌≡◌, ℕ, Bool, true, false, List, [], ◌∷◌, ◌++◌, Option, Some, None}
+use Rattle.worksheet.specs.Checks.{field_in}
+use Rattle.worksheet.specs.declared.field.Answer.{Answer}
+use Rattle.worksheet.specs.declared.field.Field.{Field}
+use Rattle.session_engine.specs.declared.command.Command.TheVariants as command
+use Rattle.session_engine.specs.declared.event.Event.{Event}
+use Rattle.session_engine.specs.declared.event.Event.TheVariants as event
+use Rattle.session_engine.specs.declared.reply.Reply.{Reply}
+use Rattle.session_engine.specs.declared.reply.Reply.TheVariants as reply
+use Rattle.session_engine.specs.World.{World, by_field, sheet_in}
+use Rattle.child_edge.specs.Limits.{most_turns}
+use Rattle.child_edge.specs.Faithful.{Relation, At, Beat, Served, Waited}
+use Rattle.child_edge.specs.Told.{told}
+use Rattle.sheet_check.specs.declared.verdict.Verdict.{Verdict}
+use Rattle.sheet_check.specs.Verdicts.{Compared}
+use Rattle.sheet_check.specs.Texts.{verdict_text}
+
+-- the event of an `eval` of this field
+abbrev pub eval_of : ℕ → Event
+eval_of id = event.Command (command.Eval id)
+
+-- the reply that a line was asked
+abbrev pub is_asked : Reply → Bool
+is_asked (reply.Asked number) = true
+is_asked reply.Done = false
+is_asked (reply.Field id) = false
+is_asked (reply.Refused why) = false
+is_asked (reply.Child one) = false
+is_asked reply.Nothing = false
+
+-- the first of these replies says that the line was asked
+abbrev pub begins_asked : List Reply → Bool
+begins_asked [] = false
+begins_asked (first ∷ others) = is_asked first
+
+-- the answer that a field shows in a world
+abbrev pub shown_in : World → ℕ → Option Answer
+shown_in w id = by_field (field_in (sheet_in w).fields id) None (λ field. field.answer)
+
+-- An answer came where the line was asked: the one that the field shows then. Else what it shows is the worksheet's, and none came.
+abbrev pub came_if : Bool → Option Answer → Option Answer
+came_if false shown = None
+came_if true shown = shown
+
+-- The field with this number was evaluated: an `eval` and all that came of it, and then a `wait`. This answer came, or none.
+pub record Evaluated {C : Type 0} (R : Relation C) (id : ℕ) (s : At C) (came : Option Answer) (t : At C) : Type 0 where
+  pub asked : At C
+  pub first : List Beat
+  pub last : List Beat
+  pub served : Served R s (eval_of id) first asked
+  pub waited : Waited R most_turns asked last t
+  pub came_is : came ≡ came_if (begins_asked (told first)) (shown_in t.world id)
+
+-- A field was checked: where it shows an answer it was evaluated, and what came was compared with that answer. What it came to, what
+-- is written of it, and where that led.
+pub data FieldChecked {C : Type 0} (R : Relation C) (field : Field) (s : At C) : List Verdict → List ℕ → At C → Type 0 where
+  passed : field.answer ≡ None → FieldChecked R field s [] [] s
+  checked : (shown : Answer) (came : Option Answer) (verdict : Verdict) (t : At C) → field.answer ≡ Some shown
+      → Evaluated R field.id s came t → Compared shown.output came verdict
+      → FieldChecked R field s (verdict ∷ []) (verdict_text field came verdict) t
+
+-- fields were checked, one behind another
+abbrev pub FieldsChecked : {C : Type 0} → Relation C → List Field → At C → List Verdict → List ℕ → At C → Type 0
+FieldsChecked R [] s verdicts text t = (verdicts ≡ []) × (text ≡ []) × (t ≡ s)
+FieldsChecked {C = C} R (field ∷ fields) s verdicts text t =
+    (mid : At C) × (one : List Verdict) × (others : List Verdict) × (first : List ℕ) × (rest : List ℕ) × FieldChecked R field s one first mid
+    × FieldsChecked R fields mid others rest t × (verdicts ≡ one ++ others) × (text ≡ first ++ rest)

@@ -1,0 +1,5 @@
+pub mod Verdicts
+pub mod Texts
+pub mod Evaluated
+pub mod Check
+pub mod inside

@@ -1,0 +1,261 @@
+//! The check of a worksheet.
+ghost use Rattle.std.specs.Prelude.{◌≡◌, ◌+◌, ◌≤◌, ◌<◌, ◌^◌, [], List, Err, IfErr, IfOk, length};
+ghost use Rattle.std.specs.Io.KnownBytes.{Appends};
+ghost use Rattle.worksheet.specs.declared.op.Op.{Op};
+ghost use Rattle.recovery.specs.Sheets.{Makes};
+ghost use Rattle.session_engine.specs.World.{World};
+ghost use Rattle.session_engine.specs.Host.{IsHost};
+ghost use Rattle.child_edge.specs.Faithful.{at};
+ghost use Rattle.disk_model.specs.Disk.{Rises};
+ghost use Rattle.sheet_programs.specs.declared.fault.RunFault.TheVariants as told;
+ghost use Rattle.journal.specs.declared.opening.OpenCause.TheVariants as opens;
+ghost use Rattle.sheet_check.specs.Verdicts.{Compared};
+ghost use Rattle.sheet_check.specs.Texts.{verdict_text};
+ghost use Rattle.sheet_check.specs.Evaluated.{came_if, shown_in};
+ghost use Rattle.sheet_check.specs.Check.{CheckAnswer, OnlyRead, SheetAnswer};
+ghost use Rattle.sheet_check.specs.inside.Checking.{FieldFailed, FieldWrote, FieldsEnded, FieldsFailed, FieldsStopped, FieldsWrote, LeavesText, ShownWrote, total};
+
+use crate::copying::open_copy;
+use crate::evaluating::{ask, wait_for_all};
+use crate::telling::{tell_counts, tell_difference};
+use crate::verdict::{Counts, Verdict, compare};
+use child_edge::{Children, stop_all};
+use disk_model::Disk;
+use journal::OpenFault;
+use recovery::Store;
+use session_engine::Host;
+use sheet_programs::RunFault;
+use std::alloc::Global;
+use std::io::Write;
+use worksheet::{Answer, Field, Sheet};
+
+/// Compares the answer that a field shows with the one that came, and tells a difference.
+fn tell_verdict<W: Write>(
+    alloc: Global,
+    field: &Field,
+    shown: &Answer,
+    came: &Option<Answer>,
+    writer: &mut W,
+) -> Result<Verdict, RunFault>
+    ensures ok { IfOk result (λ verdict. Compared shown.now.output came.now verdict
+        × Appends (W.contents writer.old) (W.contents writer.new)
+        (verdict_text field.now came.now verdict)) }
+    ensures err { IfErr result
+        (LeavesText (W.contents writer.old) (W.contents writer.new) []) }
+{
+    let verdict = compare(shown, came);
+    match verdict {
+        Verdict::Same => Ok(Verdict::Same),
+        Verdict::Differs => match tell_difference(alloc, field, came, writer) {
+            Ok(()) => Ok(Verdict::Differs),
+            Err(fault) => Err(fault),
+        },
+        Verdict::Unanswered => match tell_difference(alloc, field, came, writer) {
+            Ok(()) => Ok(Verdict::Unanswered),
+            Err(fault) => Err(fault),
+        },
+    }
+}
+
+/// The same with the answer that the field shows on the copy now, which came where its line was asked.
+fn tell_what_came<D: Disk, W: Write>(
+    alloc: Global,
+    host: &Host<D>,
+    field: &Field,
+    shown: &Answer,
+    asked: bool,
+    writer: &mut W,
+) -> Result<Verdict, RunFault>
+    ensures ok { (w : World) → IsHost host.now w → IfOk result (λ verdict.
+        Compared shown.now.output (came_if asked (shown_in w field.now.id)) verdict
+        × Appends (W.contents writer.old) (W.contents writer.new)
+        (verdict_text field.now (came_if asked (shown_in w field.now.id)) verdict)) }
+    ensures err { IfErr result
+        (LeavesText (W.contents writer.old) (W.contents writer.new) []) }
+{
+    if !asked {
+        return tell_verdict(alloc, field, shown, &None, writer);
+    }
+    match host.sheet().field(field.id) {
+        None => tell_verdict(alloc, field, shown, &None, writer),
+        Some(now) => tell_verdict(alloc, field, shown, &now.answer, writer),
+    }
+}
+
+/// Evaluates a field that shows this answer, and tells where another one came, or none.
+fn check_shown<D: Disk, C: Children, W: Write>(
+    alloc: Global,
+    host: &mut Host<D>,
+    children: &mut C,
+    field: &Field,
+    shown: &Answer,
+    writer: &mut W,
+) -> Result<Verdict, RunFault>
+    ensures ok { (w : World) → IsHost host.old w → IfOk result (ShownWrote C.after field.now shown.now
+        (at w children.old host.old.store.disk) host.new children.new
+        (W.contents writer.old) (W.contents writer.new)) }
+    ensures err { (w : World) → IsHost host.old w → IfErr result (FieldFailed C.after field.now
+        (at w children.old host.old.store.disk) host.new children.new
+        (W.contents writer.old) (W.contents writer.new)) }
+{
+    let asked = match ask(alloc, host, children, field.id) {
+        Ok(asked) => asked,
+        Err(fault) => return Err(fault),
+    };
+    if let Err(fault) = wait_for_all(alloc, host, children) {
+        return Err(fault);
+    }
+    tell_what_came(alloc, host, field, shown, asked, writer)
+}
+
+/// Checks a field, where it shows an answer. The counts with what that came to.
+fn check_field<D: Disk, C: Children, W: Write>(
+    alloc: Global,
+    host: &mut Host<D>,
+    children: &mut C,
+    field: &Field,
+    counts: Counts,
+    writer: &mut W,
+) -> Result<Counts, RunFault>
+    requires { total counts < 2 ^ 31 }
+    ensures ok { (w : World) → IsHost host.old w → IfOk result (FieldWrote C.after field.now
+        (at w children.old host.old.store.disk) host.new children.new
+        (W.contents writer.old) (W.contents writer.new) counts) }
+    ensures bound { IfOk result (λ after. total after ≤ total counts + 1) }
+    ensures err { (w : World) → IsHost host.old w → IfErr result (FieldFailed C.after field.now
+        (at w children.old host.old.store.disk) host.new children.new
+        (W.contents writer.old) (W.contents writer.new)) }
+{
+    match &field.answer {
+        None => Ok(counts),
+        Some(shown) => match check_shown(alloc, host, children, field, shown, writer) {
+            Ok(verdict) => Ok(counts.with(verdict)),
+            Err(fault) => Err(fault),
+        },
+    }
+}
+
+/// Checks the fields of a worksheet in their order.
+fn check_fields<D: Disk, C: Children, W: Write>(
+    alloc: Global,
+    sheet: &Sheet,
+    host: &mut Host<D>,
+    children: &mut C,
+    writer: &mut W,
+) -> Result<Counts, RunFault>
+    requires { length sheet.now.contents.fields < 2 ^ 31 }
+    ensures ok { (w : World) → IsHost host.old w → IfOk result (FieldsWrote C.after
+        sheet.now.contents.fields (at w children.old host.old.store.disk) host.new children.new
+        (W.contents writer.old) (W.contents writer.new)) }
+    ensures err { (w : World) → IsHost host.old w → IfErr result (FieldsFailed C.after
+        sheet.now.contents.fields (at w children.old host.old.store.disk) host.new children.new
+        (W.contents writer.old) (W.contents writer.new)) }
+{
+    let mut counts = Counts::none();
+    let mut fields = sheet.fields();
+    while let Some(field) = fields.next() {
+        match check_field(alloc, host, children, field, counts, writer) {
+            Ok(after) => counts = after,
+            Err(fault) => return Err(fault),
+        }
+    }
+    Ok(counts)
+}
+
+/// The same, and each life that goes on is stopped then.
+fn check_and_stop<D: Disk, C: Children, W: Write>(
+    alloc: Global,
+    sheet: &Sheet,
+    host: &mut Host<D>,
+    children: &mut C,
+    writer: &mut W,
+) -> Result<Counts, RunFault>
+    requires { length sheet.now.contents.fields < 2 ^ 31 }
+    ensures ok { (w : World) → IsHost host.old w → IfOk result (FieldsEnded C.after
+        sheet.now.contents.fields (at w children.old host.old.store.disk) children.new
+        (W.contents writer.old) (W.contents writer.new)) }
+    ensures err { (w : World) → IsHost host.old w → IfErr result (FieldsStopped C.after
+        sheet.now.contents.fields (at w children.old host.old.store.disk) children.new
+        (W.contents writer.old) (W.contents writer.new)) }
+{
+    let counted = check_fields(alloc, sheet, host, children, writer);
+    stop_all(host, children);
+    counted
+}
+
+/// Checks a worksheet on a copy of it, and tells the counts.
+fn check_sheet<C: Children, W: Write>(
+    alloc: Global,
+    sheet: &Sheet,
+    children: &mut C,
+    writer: &mut W,
+) -> Result<Counts, RunFault>
+    requires { (ops : List Op) × Makes ops sheet.now.contents }
+    ensures { SheetAnswer C.after sheet.now.contents children.old children.new
+        (W.contents writer.old) (W.contents writer.new)
+        ((writer.new ≡ writer.old) × (children.new ≡ children.old)) result }
+{
+    worksheet::laws::ops_make_worksheets();
+    let Some(mut host) = open_copy(alloc, sheet) else {
+        return Err(RunFault::OutOfMemory);
+    };
+    match check_and_stop(alloc, sheet, &mut host, children, writer) {
+        Ok(counts) => match tell_counts(counts, writer) {
+            Ok(()) => Ok(counts),
+            Err(fault) => Err(fault),
+        },
+        Err(fault) => Err(fault),
+    }
+}
+
+/// What a check answers, and the disk that it was given.
+#[derive(Drop)]
+pub struct Checked<D: Disk> {
+    /// The disk, on which reads alone were made.
+    pub disk: D,
+    /// How many evaluations came to what, or why the check ended early.
+    pub answer: Result<Counts, RunFault>,
+}
+
+/// Checks the worksheet on a disk: evaluates each field that shows an answer anew, in their order, on a
+/// copy of the worksheet in memory and with interpreters of its own, each `eval` with a `wait` behind
+/// it, and compares the output that came with the one that the field shows. The prompt is no part of
+/// it. Each difference is written and flushed when it is known, and the counts at the end
+/// (docs/CHECK.md). A field whose evaluation gave no answer is counted as unanswered, and the next one
+/// is checked with a new interpreter.
+///
+/// At the end and at a fault each life that goes on is stopped. The disk is only read, and the
+/// worksheet there stays as it is.
+///
+/// `Open` where the disk isn't opened: nothing was done. `OutOfMemory`, also where the copy has no
+/// room in memory, and `Host` where the host of the copy has another fault: what was told before is
+/// written. `Output` where the writer fails: a part of the text may have gone out.
+pub fn check<D: Disk, C: Children, W: Write>(
+    alloc: Global,
+    disk: D,
+    children: &mut C,
+    writer: &mut W,
+) -> Checked<D>
+    ensures checked { CheckAnswer C.after (D.view disk) children.old children.new
+        (W.contents writer.old) (W.contents writer.new)
+        ((writer.new ≡ writer.old) × (children.new ≡ children.old)) result.answer }
+    ensures read { OnlyRead (D.view disk) (D.view result.disk) }
+
+    // That the disk failed is told only where it did.
+    ensures failed { result.answer ≡ Err (told.Open opens.Disk)
+        → Rises (D.view disk).faults (D.view result.disk).faults }
+{
+    match Store::open(alloc, disk) {
+        Ok(store) => {
+            let answer = check_sheet(alloc, store.sheet(), children, writer);
+            Checked {
+                disk: store.into_disk(),
+                answer,
+            }
+        }
+        Err(OpenFault { cause, disk }) => Checked {
+            disk,
+            answer: Err(RunFault::Open(cause)),
+        },
+    }
+}

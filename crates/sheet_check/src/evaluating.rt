@@ -1,0 +1,95 @@
+//! The evaluation of a field anew.
+ghost use Rattle.std.specs.Prelude.{◌≡◌, ◌∷◌, [], List, IfErr, IfOk, OnOk, Some};
+ghost use Rattle.disk_model.specs.Disk.{DiskView};
+ghost use Rattle.session_engine.specs.World.{World};
+ghost use Rattle.session_engine.specs.Host.{IsHost};
+ghost use Rattle.session_engine.specs.declared.command.Command.TheVariants as command;
+ghost use Rattle.child_edge.specs.Faithful.{at, Beat, Served, Waited};
+ghost use Rattle.child_edge.specs.Limits.{most_turns};
+ghost use Rattle.child_edge.specs.Told.{told};
+ghost use Rattle.sheet_text.specs.declared.script.ScriptLine.TheVariants as said;
+ghost use Rattle.sheet_programs.specs.Lines.{LineLed};
+ghost use Rattle.sheet_programs.specs.Told.{StandsOrStopped};
+ghost use Rattle.sheet_check.specs.Evaluated.{begins_asked, eval_of, is_asked as says_asked};
+ghost use Rattle.sheet_check.specs.inside.Checking.{IsOfHost};
+
+use child_edge::{Children, EdgeCause, EdgeFault, serve, wait};
+use disk_model::Disk;
+use session_engine::{Command, Host, HostFault, Reply};
+use sheet_programs::RunFault;
+use std::alloc::Global;
+
+/// The fault of a check by why its edge broke off. Its disk lies in memory, so it fails for want of that
+/// alone.
+fn check_fault(cause: EdgeCause) -> RunFault
+    ensures { IsOfHost result }
+{
+    match cause {
+        EdgeCause::Host(HostFault::Disk) => RunFault::OutOfMemory,
+        EdgeCause::Host(fault) => RunFault::Host(fault),
+        EdgeCause::OutOfMemory => RunFault::OutOfMemory,
+    }
+}
+
+/// Whether a reply says that a line was asked.
+fn is_asked(reply: &Reply) -> bool
+    ensures { result ≡ says_asked reply.now }
+{
+    match reply {
+        Reply::Asked(_) => true,
+        Reply::Done | Reply::Field(_) | Reply::Refused(_) | Reply::Child(_) | Reply::Nothing =>
+            false,
+    }
+}
+
+/// Whether the first of these replies says so.
+fn was_asked(replies: &[Reply]) -> bool
+    ensures { result ≡ begins_asked replies.now }
+{
+    match replies.first() {
+        None => false,
+        Some(reply) => is_asked(reply),
+    }
+}
+
+/// Asks the line of a field. Whether it was asked.
+pub(crate) fn ask<D: Disk, C: Children>(
+    alloc: Global,
+    host: &mut Host<D>,
+    children: &mut C,
+    id: u32,
+) -> Result<bool, RunFault>
+    ensures ok { (w : World) → IsHost host.old w → IfOk result (λ asked. (beats : List Beat) × (t : World)
+        × Served C.after (at w children.old host.old.store.disk) (eval_of id) beats
+        (at t children.new host.new.store.disk)
+        × IsHost host.new t × (asked ≡ begins_asked (told beats))) }
+    ensures err { (w : World) → IsHost host.old w → IfErr result (λ why. (t : World) × (d : DiskView)
+        × LineLed C.after (Some (said.Command (command.Eval id)))
+        (at w children.old host.old.store.disk) (at t children.new d)
+        × StandsOrStopped host.new t d × IsOfHost why) }
+{
+    match serve(alloc, host, children, Command::Eval { id }) {
+        Ok(replies) => Ok(was_asked(replies.as_slice())),
+        Err(EdgeFault { replies: _, cause }) => Err(check_fault(cause)),
+    }
+}
+
+/// Waits for the answers.
+pub(crate) fn wait_for_all<D: Disk, C: Children>(
+    alloc: Global,
+    host: &mut Host<D>,
+    children: &mut C,
+) -> Result<(), RunFault>
+    ensures ok { (w : World) → IsHost host.old w → OnOk result ((beats : List Beat) × (t : World)
+        × Waited C.after most_turns (at w children.old host.old.store.disk) beats
+        (at t children.new host.new.store.disk) × IsHost host.new t) }
+    ensures err { (w : World) → IsHost host.old w → IfErr result (λ why. (t : World) × (d : DiskView)
+        × LineLed C.after (Some said.Wait)
+        (at w children.old host.old.store.disk) (at t children.new d)
+        × StandsOrStopped host.new t d × IsOfHost why) }
+{
+    match wait(alloc, host, children) {
+        Ok(_) => Ok(()),
+        Err(EdgeFault { replies: _, cause }) => Err(check_fault(cause)),
+    }
+}

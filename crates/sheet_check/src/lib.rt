@@ -1,0 +1,12 @@
+//! A worksheet as a test suite: the fields that show an answer are evaluated anew on a copy in memory, and
+//! what differs is told.
+#![tactic(auto)]
+
+mod checking;
+mod copying;
+mod evaluating;
+mod telling;
+mod verdict;
+
+pub use checking::{Checked, check};
+pub use verdict::{Counts, Verdict};

@@ -1,0 +1,62 @@
+//! What evaluations come to, and their counts.
+ghost use Rattle.std.specs.Prelude.{◌≡◌, ◌+◌, ◌<◌, ◌^◌};
+ghost use Rattle.sheet_check.specs.Verdicts.{Compared, counted_with};
+
+use worksheet::Answer;
+
+/// What an evaluation anew came to.
+#[derive(Clone, Copy, Debug, PartialEq, Eq)]
+pub enum Verdict {
+    /// The output that came is the one that the field shows.
+    Same,
+    /// Another output came.
+    Differs,
+    /// No answer came.
+    Unanswered,
+}
+
+/// How many evaluations came to what.
+#[derive(Clone, Copy, Debug, PartialEq, Eq)]
+pub struct Counts {
+    pub same: u32,
+    pub differ: u32,
+    pub unanswered: u32,
+}
+
+impl Counts {
+    /// Of no evaluation.
+    pub(crate) fn none() -> Counts
+        ensures { result ≡ record { same = 0; differ = 0; unanswered = 0 } }
+    {
+        Counts {
+            same: 0,
+            differ: 0,
+            unanswered: 0,
+        }
+    }
+
+    /// With one more.
+    pub(crate) fn with(self, verdict: Verdict) -> Counts
+        requires { self.same + self.differ + self.unanswered < 2 ^ 31 }
+        ensures { result ≡ counted_with verdict self }
+    {
+        let mut counts = self;
+        match verdict {
+            Verdict::Same => counts.same += 1,
+            Verdict::Differs => counts.differ += 1,
+            Verdict::Unanswered => counts.unanswered += 1,
+        }
+        counts
+    }
+}
+
+/// Compares the output of the answer that a field shows with that of the answer that came.
+pub(crate) fn compare(shown: &Answer, came: &Option<Answer>) -> Verdict
+    ensures { Compared shown.now.output came.now result }
+{
+    match came {
+        None => Verdict::Unanswered,
+        Some(came) if came.output == shown.output => Verdict::Same,
+        Some(_) => Verdict::Differs,
+    }
+}

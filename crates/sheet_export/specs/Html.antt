@@ -1,0 +1,77 @@
+-- The page of a worksheet: fixed parts, with texts between them.
+use Rattle.std.specs.Prelude.{ℕ, Bool, true, false, List, [], ◌∷◌, ◌++◌, Option, Some, None, cond}
+use Rattle.std.specs.Fmt.{decimal}
+use Rattle.std.specs.List.{flat_map}
+use Rattle.block_tree.specs.Tree.{Items, Tree, Piece, end, text, block, text_piece, block_piece}
+use Rattle.block_tree.specs.declared.reason.Reason.{Reason}
+use Rattle.worksheet.specs.Contents.{Contents}
+use Rattle.worksheet.specs.declared.field.Answer.{Answer}
+use Rattle.worksheet.specs.declared.field.Field.{Field}
+use Rattle.sheet_text.specs.Blocks.{sign, is_bare}
+use Rattle.sheet_text.specs.Replies.{reason_name}
+use Rattle.sheet_text.specs.Texts.{prompt_shown}
+use Rattle.sheet_export.specs.References.{html_text}
+use Rattle.sheet_export.specs.Parts as part
+
+-- '{', the tag, what stands in it, '}'
+abbrev pub framed_html : Bool → List ℕ → List ℕ → List ℕ
+framed_html channel name inside = 123 ∷ (html_text false name ++ sign channel ∷ (inside ++ 125 ∷ []))
+
+abbrev pub shown_html : Bool → List ℕ → List ℕ → List ℕ
+shown_html channel name inside = cond (is_bare channel name) inside (framed_html channel name inside)
+
+-- items as a worksheet shows them
+abbrev pub items_html : Items → List ℕ
+items_html end = []
+items_html (text t rest) = html_text true t ++ items_html rest
+items_html (block channel name inside rest) = shown_html channel name (items_html inside) ++ items_html rest
+
+-- a block as a worksheet shows it
+abbrev pub block_html : Tree → List ℕ
+block_html b = shown_html b.channel b.name (items_html b.items)
+
+abbrev pub piece_html : Piece → List ℕ
+piece_html (text_piece t) = html_text true t
+piece_html (block_piece b) = block_html b
+
+-- the anchor of a field, its number as a link to it, and its session
+abbrev pub field_head : Field → List ℕ
+field_head field = part.field_start ++ decimal field.id ++ part.anchor_end ++ decimal field.id ++ part.link_end ++ decimal field.id ++ part.number_end ++ html_text false field.session ++ part.session_end
+
+-- the prompt and the input
+abbrev pub input_html : Field → List ℕ
+input_html field = part.input_start ++ html_text false (prompt_shown field.answer) ++ part.prompt_end ++ html_text false field.input ++ part.input_end
+
+-- the output
+abbrev pub answer_html : Answer → List ℕ
+answer_html answer = part.output_start ++ block_html answer.output ++ part.output_end
+
+-- why a field lost its line
+abbrev pub reason_html : Reason → List ℕ
+reason_html reason = part.lost_start ++ reason_name reason ++ part.lost_end
+
+-- that there is no answer, with the reason if there is one
+abbrev pub no_answer_html : Option Reason → List ℕ
+no_answer_html None = part.no_answer
+no_answer_html (Some reason) = reason_html reason
+
+-- the output, or a mark that there is none
+abbrev pub output_html : Option Answer → Option Reason → List ℕ
+output_html None lost = no_answer_html lost
+output_html (Some answer) lost = answer_html answer
+
+-- a field
+unfoldable pub field_html : Field → List ℕ
+field_html field = field_head field ++ input_html field ++ output_html field.answer field.lost ++ part.field_end
+
+-- what stands in front of the first field
+abbrev pub page_head : List ℕ → List ℕ
+page_head title = part.meta ++ html_text false title ++ part.title_end ++ part.style ++ part.style_end ++ html_text false title ++ part.heading_end
+
+-- the fields in order
+abbrev pub fields_html : Contents → List ℕ
+fields_html sheet = flat_map field_html sheet.fields
+
+-- the page with this title
+abbrev pub page : List ℕ → Contents → List ℕ
+page title sheet = page_head title ++ fields_html sheet ++ part.page_end

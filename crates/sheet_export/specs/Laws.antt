@@ -1,0 +1,45 @@
+-- Laws of the definitions.
+use Rattle.std.specs.Prelude.{ℕ, Bool, List, [], ◌∷◌, ◌≡◌, ◌≤◌, ◌==◌, ◌||◌, ◌&&◌, not, nat_eq, true, Some, codes}
+use Rattle.std.specs.List.{list_all, list_any, starts_with}
+use Rattle.session_engine.specs.declared.command.Command.TheVariants as command
+use Rattle.sheet_text.specs.Script.{greatest_number, line_of}
+use Rattle.sheet_text.specs.declared.script.ScriptLine.TheVariants as line
+use Rattle.worksheet.specs.Laws.{IsSession}
+use Rattle.worksheet.specs.Names.{is_name}
+use Rattle.worksheet.specs.declared.field.Field.{Field}
+use Rattle.worksheet.specs.declared.field.Session.{Session}
+use Rattle.sheet_export.specs.References.{html_text}
+use Rattle.sheet_export.specs.Script.{field_line, has_no_space, session_line}
+
+-- '<', '>', '"' and an apostrophe: what begins or ends an element or the value of an attribute
+abbrev pub is_mark : ℕ → Bool
+is_mark byte = byte == 60 || byte == 62 || byte == 34 || byte == 39
+
+-- what stands behind the '&' of a reference
+abbrev pub reference_names : List (List ℕ)
+reference_names = codes "amp;" ∷ codes "lt;" ∷ codes "gt;" ∷ codes "quot;" ∷ codes "#39;" ∷ []
+
+-- whether one of these stands here
+abbrev pub has_reference_name : List ℕ → Bool
+has_reference_name bytes = list_any (λ name. starts_with nat_eq bytes name) reference_names
+
+-- whether each '&' begins a reference
+abbrev pub has_references_alone : List ℕ → Bool
+has_references_alone [] = true
+has_references_alone (byte ∷ rest) = (not (byte == 38) || has_reference_name rest) && has_references_alone rest
+
+-- no text of a page has a mark, and each '&' in it begins a reference
+abbrev pub TextsHaveNoMarks : Type 0
+TextsHaveNoMarks = (keeps_lines : Bool) (bytes : List ℕ)
+    → (list_all (λ byte. not (is_mark byte)) (html_text keeps_lines bytes) ≡ true)
+    × (has_references_alone (html_text keeps_lines bytes) ≡ true)
+
+-- The line of a session whose words have no space is read as the command that makes it.
+abbrev pub SessionLinesAreRead : Type 0
+SessionLinesAreRead = (session : Session) → IsSession session → list_all has_no_space session.words ≡ true
+    → line_of (session_line session) ≡ Some (line.Command (command.Session session.name session.tab session.words))
+
+-- The line of a field is read as the command that makes one of its session and input behind that number.
+abbrev pub FieldLinesAreRead : Type 0
+FieldLinesAreRead = (place : ℕ) (field : Field) → place ≤ greatest_number → is_name field.session ≡ true
+    → line_of (field_line place field) ≡ Some (line.Command (command.New place field.session field.input))

@@ -1,0 +1,165 @@
+//! A worksheet on a disk, written in a format.
+ghost use Rattle.std.specs.Prelude.{◌≡◌, IfErr, IsErrOf, OnOk, false, true, []};
+ghost use Rattle.std.specs.Io.KnownBytes.{Appends};
+ghost use Rattle.disk_model.specs.Disk.{InModel, bytes_on};
+ghost use Rattle.journal.specs.declared.opening.OpenCause.TheVariants as opens;
+ghost use Rattle.recovery.specs.Sheets.{IsSheetImage};
+ghost use Rattle.sheet_export.specs.Formats as exports;
+ghost use Rattle.sheet_export.specs.Formats.{TellsExport, TellsText};
+ghost use Rattle.sheet_export.specs.declared.fault.ExportFault.TheVariants as fault;
+ghost use Rattle.sheet_programs.specs.Faults.{FailedSince};
+ghost use Rattle.sheet_programs.specs.declared.fault.RunFault.TheVariants as run;
+ghost use Rattle.worksheet.specs.Contents.{Contents};
+
+use crate::fault::ExportFault;
+use crate::html::html_page;
+use crate::script::{has_script, write_script};
+use disk_model::Disk;
+use recovery::Store;
+use sheet_programs::RunFault;
+use std::alloc::Global;
+use std::io::Write;
+use worksheet::Sheet;
+
+/// What a worksheet is written as.
+#[derive(Clone, Copy, Debug, PartialEq, Eq)]
+pub enum Format {
+    /// The lines that make it anew, without its answers.
+    Script,
+    /// A page of HTML that stands alone.
+    Html,
+}
+
+/// The format of this name: `script` or `html`.
+pub fn format_named(name: &str) -> Option<Format>
+    ensures { result ≡ exports.format_named name.now }
+{
+    match name {
+        "script" => Some(Format::Script),
+        "html" => Some(Format::Html),
+        _ => None,
+    }
+}
+
+/// The last part of a path, which is the title of a page.
+pub fn last_part(path: &[u8]) -> &[u8]
+    ensures { result.now ≡ exports.last_part path.now }
+{
+    let mut part = path;
+    let mut rest = path;
+    while let Some((byte, others)) = rest.split_first() {
+        if *byte == b'/' {
+            part = others;
+        }
+        rest = others;
+    }
+    part
+}
+
+/// Writes the lines that make a worksheet anew: its sessions, then its fields in their order, each
+/// behind the one before it. Answers are no part of it.
+///
+/// `NoScript` where a session has a word with a space, which a line can't have: nothing was written.
+/// `Output` where the writer fails: a part of the lines may have gone out.
+pub fn script_text<W: Write>(sheet: &Sheet, out: &mut W) -> Result<(), ExportFault>
+    ensures ok { OnOk result ((exports.has_text Format.Script sheet.now.contents ≡ true)
+        × Appends (W.contents out.old) (W.contents out.new)
+        (exports.text_in Format.Script [] sheet.now.contents)) }
+    ensures err { IfErr result
+        (TellsText (exports.has_text Format.Script sheet.now.contents) (out.new ≡ out.old)) }
+{
+    if !has_script(sheet) {
+        return Err(ExportFault::NoScript);
+    }
+    match write_script(sheet, out) {
+        Ok(()) => Ok(()),
+        Err(_) => Err(ExportFault::Run(RunFault::Output)),
+    }
+}
+
+/// Writes a worksheet as a page, and tells a failure as the program does.
+fn write_page<W: Write>(title: &[u8], sheet: &Sheet, out: &mut W) -> Result<(), ExportFault>
+    ensures ok { OnOk result
+        (Appends (W.contents out.old) (W.contents out.new)
+        (exports.text_in Format.Html title.now sheet.now.contents)) }
+    ensures err { IfErr result (TellsText true (out.new ≡ out.old)) }
+{
+    match html_page(title, sheet, out) {
+        Ok(()) => Ok(()),
+        Err(_) => Err(ExportFault::Run(RunFault::Output)),
+    }
+}
+
+/// Writes a worksheet in a format.
+fn write_in<W: Write>(
+    format: Format,
+    title: &[u8],
+    sheet: &Sheet,
+    out: &mut W,
+) -> Result<(), ExportFault>
+    ensures ok { OnOk result ((exports.has_text format sheet.now.contents ≡ true)
+        × Appends (W.contents out.old) (W.contents out.new)
+        (exports.text_in format title.now sheet.now.contents)) }
+    ensures err { IfErr result
+        (TellsText (exports.has_text format sheet.now.contents) (out.new ≡ out.old)) }
+{
+    match format {
+        Format::Script => script_text(sheet, out),
+        Format::Html => write_page(title, sheet, out),
+    }
+}
+
+/// Writes the same, and brings it out.
+fn tell_in<W: Write>(
+    format: Format,
+    title: &[u8],
+    sheet: &Sheet,
+    out: &mut W,
+) -> Result<(), ExportFault>
+    ensures ok { OnOk result ((exports.has_text format sheet.now.contents ≡ true)
+        × Appends (W.contents out.old) (W.contents out.new)
+        (exports.text_in format title.now sheet.now.contents)) }
+    ensures err { IfErr result
+        (TellsText (exports.has_text format sheet.now.contents) (out.new ≡ out.old)) }
+{
+    match write_in(format, title, sheet, out) {
+        Ok(()) => match out.flush() {
+            Ok(()) => Ok(()),
+            Err(_) => Err(ExportFault::Run(RunFault::Output)),
+        },
+        Err(fault) => Err(fault),
+    }
+}
+
+/// Writes the worksheet that a disk stands for in a format, with this title where the format has one.
+/// It changes no byte of the disk.
+///
+/// `Open` where the disk isn't opened, and `NoScript` where the worksheet has no text in this format:
+/// nothing was written. `Output` where the writer fails: a part of the text may have gone out.
+pub fn export<D: Disk, W: Write>(
+    alloc: Global,
+    format: Format,
+    disk: D,
+    title: &[u8],
+    writer: &mut W,
+) -> Result<(), ExportFault>
+    ensures written { InModel (D.view disk) ((sheet : Contents)
+        → IsSheetImage sheet (bytes_on (D.view disk))
+        → OnOk result ((exports.has_text format sheet ≡ true)
+        × Appends (W.contents writer.old) (W.contents writer.new)
+        (exports.text_in format title.now sheet))) }
+    ensures found { InModel (D.view disk) (OnOk result ((sheet : Contents)
+        × IsSheetImage sheet (bytes_on (D.view disk)))) }
+    ensures without { InModel (D.view disk) (IsErrOf result fault.NoScript → (sheet : Contents)
+        × IsSheetImage sheet (bytes_on (D.view disk)) × (exports.has_text format sheet ≡ false)) }
+    ensures fault { IfErr result (TellsExport (D.view disk) (writer.new ≡ writer.old)) }
+
+    // That the disk failed is told only where it did.
+    ensures failed { IsErrOf result (fault.Run (run.Open opens.Disk)) → FailedSince D.view disk }
+{
+    let store = match Store::open(alloc, disk) {
+        Ok(store) => store,
+        Err(fault) => return Err(ExportFault::Run(RunFault::Open(fault.cause))),
+    };
+    tell_in(format, title, store.sheet(), writer)
+}

@@ -1,0 +1,247 @@
+//! The page of a worksheet.
+ghost use Rattle.std.specs.Prelude.{◌≡◌, ◌++◌, ◌∷◌, [], OnOk, false};
+ghost use Rattle.std.specs.Io.KnownBytes.{Appends};
+ghost use Rattle.block_tree.specs.View.{tree_of};
+ghost use Rattle.sheet_text.specs.Blocks.{is_bare, sign};
+ghost use Rattle.sheet_text.specs.Replies.{reason_name as reason_text};
+ghost use Rattle.sheet_text.specs.Texts as printed;
+ghost use Rattle.sheet_export.specs.References.{html_text};
+ghost use Rattle.std.specs.Fmt.{decimal};
+ghost use Rattle.sheet_export.specs.Html as html;
+
+use crate::fixed;
+use crate::fixed::write_bytes;
+use crate::references::write_text;
+use block_tree::{Block, Item, Node, Reason, Tag};
+use sheet_text::{WriteFault, reason_name};
+use std::io::Write;
+use worksheet::{Answer, Field, Sheet};
+
+/// Writes a tag behind its brace.
+#[tactic(auto, using(crate::proofs::Appending::steps))]
+fn open_tag<W: Write>(tag: &Tag, out: &mut W) -> Result<(), WriteFault>
+    ensures { OnOk result
+        (Appends (W.contents out.old) (W.contents out.new)
+        (123 ∷ (html_text false tag.now.name ++ sign tag.now.channel ∷ []))) }
+{
+    write_bytes(b"{", out)?;
+    write_text(tag.name.as_slice(), false, out)?;
+    if tag.channel {
+        write_bytes(b"#", out)
+    } else {
+        write_bytes(b":", out)
+    }
+}
+
+/// Whether the tag isn't shown.
+fn is_bare_tag(tag: &Tag) -> bool
+    ensures { result ≡ is_bare tag.now.channel tag.now.name }
+{
+    if tag.channel {
+        tag.name.as_slice() == b"output".as_slice()
+    } else {
+        tag.name.as_slice() == b"verbatim".as_slice()
+    }
+}
+
+#[tactic(auto, using(crate::proofs::Appending::block_steps))]
+fn write_shown<W: Write>(node: &Node, out: &mut W) -> Result<(), WriteFault>
+    ensures { OnOk result
+        (Appends (W.contents out.old) (W.contents out.new) (html.block_html (tree_of node.now))) }
+{
+    let bare = is_bare_tag(&node.tag);
+    if !bare {
+        open_tag(&node.tag, out)?;
+    }
+    for item in &node.items {
+        match item {
+            Item::Text(text) => write_text(text.as_slice(), true, out)?,
+            Item::Block(inner) => write_shown(inner, out)?,
+        }
+    }
+    if !bare {
+        write_bytes(b"}", out)?;
+    }
+    Ok(())
+}
+
+fn write_number<W: Write>(number: u32, out: &mut W) -> Result<(), WriteFault>
+    ensures { OnOk result (Appends (W.contents out.old) (W.contents out.new) (decimal number)) }
+{
+    write!(out, "{}", number).map_err(|_| WriteFault)
+}
+
+/// Writes the session of a field.
+fn write_session<W: Write>(field: &Field, out: &mut W) -> Result<(), WriteFault>
+    ensures { OnOk result
+        (Appends (W.contents out.old) (W.contents out.new) (html_text false field.now.session)) }
+{
+    write_text(field.session.as_slice(), false, out)
+}
+
+/// Writes the input of a field alone.
+fn write_line<W: Write>(field: &Field, out: &mut W) -> Result<(), WriteFault>
+    ensures { OnOk result
+        (Appends (W.contents out.old) (W.contents out.new) (html_text false field.now.input)) }
+{
+    write_text(field.input.as_bytes(), false, out)
+}
+
+/// Writes a block as a worksheet shows it.
+fn write_block<W: Write>(block: &Block, out: &mut W) -> Result<(), WriteFault>
+    ensures { OnOk result
+        (Appends (W.contents out.old) (W.contents out.new) (html.block_html block.now)) }
+{
+    write_shown(block.node(), out)
+}
+
+/// Writes the anchor of a field, its number and its session.
+fn write_head<W: Write>(field: &Field, out: &mut W) -> Result<(), WriteFault>
+    ensures { OnOk result
+        (Appends (W.contents out.old) (W.contents out.new) (html.field_head field.now)) }
+{
+    fixed::write_field_start(out)?;
+    write_number(field.id, out)?;
+    fixed::write_anchor_end(out)?;
+    write_number(field.id, out)?;
+    fixed::write_link_end(out)?;
+    write_number(field.id, out)?;
+    fixed::write_number_end(out)?;
+    write_session(field, out)?;
+    fixed::write_session_end(out)?;
+    Ok(())
+}
+
+/// Writes the prompt of an answer, or `> ` where there is none.
+fn write_prompt<W: Write>(answer: &Option<Answer>, out: &mut W) -> Result<(), WriteFault>
+    ensures { OnOk result
+        (Appends (W.contents out.old) (W.contents out.new)
+        (html_text false (printed.prompt_shown answer.now))) }
+{
+    match answer {
+        None => write_text(b"> ", false, out),
+        Some(answer) => write_text(answer.prompt.as_slice(), false, out),
+    }
+}
+
+/// Writes the prompt and the input of a field.
+fn write_input<W: Write>(field: &Field, out: &mut W) -> Result<(), WriteFault>
+    ensures { OnOk result
+        (Appends (W.contents out.old) (W.contents out.new) (html.input_html field.now)) }
+{
+    fixed::write_input_start(out)?;
+    write_prompt(&field.answer, out)?;
+    fixed::write_prompt_end(out)?;
+    write_line(field, out)?;
+    fixed::write_input_end(out)?;
+    Ok(())
+}
+
+/// Writes an output.
+fn write_answer<W: Write>(answer: &Answer, out: &mut W) -> Result<(), WriteFault>
+    ensures { OnOk result
+        (Appends (W.contents out.old) (W.contents out.new) (html.answer_html answer.now)) }
+{
+    fixed::write_output_start(out)?;
+    write_block(&answer.output, out)?;
+    fixed::write_output_end(out)?;
+    Ok(())
+}
+
+/// Writes the name of a reason.
+fn write_reason_name<W: Write>(reason: Reason, out: &mut W) -> Result<(), WriteFault>
+    ensures { OnOk result (Appends (W.contents out.old) (W.contents out.new) (reason_text reason)) }
+{
+    write_bytes(reason_name(reason).as_bytes(), out)
+}
+
+/// Writes why a field lost its line.
+fn write_reason<W: Write>(reason: Reason, out: &mut W) -> Result<(), WriteFault>
+    ensures { OnOk result
+        (Appends (W.contents out.old) (W.contents out.new) (html.reason_html reason)) }
+{
+    fixed::write_lost_start(out)?;
+    write_reason_name(reason, out)?;
+    fixed::write_lost_end(out)?;
+    Ok(())
+}
+
+/// Writes that there is no answer, with the reason if there is one.
+fn write_no_answer<W: Write>(lost: Option<Reason>, out: &mut W) -> Result<(), WriteFault>
+    ensures { OnOk result
+        (Appends (W.contents out.old) (W.contents out.new) (html.no_answer_html lost)) }
+{
+    match lost {
+        None => fixed::write_no_answer(out),
+        Some(reason) => write_reason(reason, out),
+    }
+}
+
+/// Writes an output, or a mark that there is none.
+fn write_output<W: Write>(
+    answer: &Option<Answer>,
+    lost: Option<Reason>,
+    out: &mut W,
+) -> Result<(), WriteFault>
+    ensures { OnOk result
+        (Appends (W.contents out.old) (W.contents out.new) (html.output_html answer.now lost)) }
+{
+    match answer {
+        None => write_no_answer(lost, out),
+        Some(answer) => write_answer(answer, out),
+    }
+}
+
+fn write_field<W: Write>(field: &Field, out: &mut W) -> Result<(), WriteFault>
+    ensures { OnOk result
+        (Appends (W.contents out.old) (W.contents out.new) (html.field_html field.now)) }
+{
+    write_head(field, out)?;
+    write_input(field, out)?;
+    write_output(&field.answer, field.lost, out)?;
+    fixed::write_field_end(out)?;
+    Ok(())
+}
+
+/// Writes the fields in order.
+#[tactic(auto, using(crate::proofs::Fields::field_steps))]
+fn write_fields<W: Write>(sheet: &Sheet, out: &mut W) -> Result<(), WriteFault>
+    ensures { OnOk result
+        (Appends (W.contents out.old) (W.contents out.new)
+        (html.fields_html sheet.now.contents)) }
+{
+    let mut fields = sheet.fields();
+    while let Some(field) = fields.next() {
+        write_field(field, out)?;
+    }
+    Ok(())
+}
+
+/// Writes what stands in front of the first field.
+fn write_page_head<W: Write>(title: &[u8], out: &mut W) -> Result<(), WriteFault>
+    ensures { OnOk result
+        (Appends (W.contents out.old) (W.contents out.new) (html.page_head title.now)) }
+{
+    fixed::write_meta(out)?;
+    write_text(title, false, out)?;
+    fixed::write_title_end(out)?;
+    fixed::write_style(out)?;
+    fixed::write_style_end(out)?;
+    write_text(title, false, out)?;
+    fixed::write_heading_end(out)?;
+    Ok(())
+}
+
+/// Writes a worksheet as a page that stands alone, with this title.
+///
+/// After a `WriteFault` a part of the page may have gone out.
+pub fn html_page<W: Write>(title: &[u8], sheet: &Sheet, out: &mut W) -> Result<(), WriteFault>
+    ensures { OnOk result
+        (Appends (W.contents out.old) (W.contents out.new)
+        (html.page title.now sheet.now.contents)) }
+{
+    write_page_head(title, out)?;
+    write_fields(sheet, out)?;
+    fixed::write_page_end(out)?;
+    Ok(())
+}

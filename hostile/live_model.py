@@ -1,0 +1,102 @@
+"""What a live worksheet may tell and leave, by docs/SCRIPT.md: the model of scripts, taken event by event in the order of what was told."""
+
+import copy
+import re
+
+from model import VERBS, Difference, Followed, Model, refused, words_of
+
+# A line that tells what came of an interpreter. That one was stopped is told by a `stop` alone.
+EVENT = re.compile(r"banner |answered |completed |ended \S+ (?!Stopped )")
+
+
+class Live:
+    """A live worksheet behind some of its lines, and what its interpreters said in between."""
+
+    def __init__(self, script, kinds):
+        self.model, self.lines, self.at = Model(kinds), script, 0
+
+    def waits(self):
+        """Whether an item waits."""
+        return any(session.waiting for session in self.model.sessions.values())
+
+    def told_by(self, number, line):
+        """Takes a line, and gives what is told of it."""
+        verb, words = words_of(line)
+        model = self.model
+        if verb == "print" and words != [""]:
+            lines = model.printed().splitlines()
+            place = model.order.index(int(words[0])) * 3 if int(words[0]) in model.fields else None
+            return [refused(2)] if place is None else lines[place : place + 3]
+        if verb == "print":
+            return model.printed().splitlines()
+        if verb not in VERBS:
+            return [f"bad line {number}"]
+        refusal = model.refusal(verb, words)
+        return [refused(refusal)] if refusal else model.do(verb, words)
+
+    def take_line(self):
+        """Takes the next line of which something is told, and gives that; nothing where there is none, or a wait holds it back."""
+        while self.at < len(self.lines):
+            line = self.lines[self.at]
+            if line.split(" ")[0] == "wait" and self.waits():
+                break
+            self.at += 1
+            told = [] if line == "" or line[0] == "#" or line.split(" ")[0] == "wait" else self.told_by(self.at, line)
+            if told:
+                return told
+        return []
+
+    def take_item(self, name):
+        """Takes what the interpreter of a session says next, and gives what is told of it."""
+        session = self.model.sessions[name]
+        if not session.is_up or not (session.waiting or not session.has_banner):
+            return []
+        if not session.has_banner:
+            session.has_banner = True
+            return [f"banner {name}"]
+        answered = self.model.answered(session)[:1]
+        if not answered:
+            return [f"ended {name} Ended lost {self.model.end(session, 'Ended')}"]
+        [(id, _, completes)] = answered
+        for id, answer in self.model.answers(session, answered):
+            self.model.fields[id][2] = answer
+        session.count, session.waiting = session.count + 1, session.waiting[1:]
+        return [f"completed {id} {session.kind.completed}" if completes else f"answered {id}"]
+
+    def child_of(self, told):
+        """The session whose interpreter may say this next, or nothing."""
+        names = (name for name in self.model.sessions if copy.deepcopy(self).take_item(name) == [told])
+        return next(names, None)
+
+    def next_sheets(self):
+        """The worksheets to which one event more may lead."""
+        sheets = {self.model.printed()}
+        for take in [Live.take_line] + [lambda live, name=name: live.take_item(name) for name in self.model.sessions]:
+            behind = copy.deepcopy(self)
+            take(behind)
+            sheets.add(behind.model.printed())
+        return sheets
+
+
+def follow_live(script, output, kinds):
+    """Follows a live worksheet by the lines that it told."""
+    live, told = Live(script, kinds), list(output)
+    while told:
+        name = live.child_of(told[0]) if EVENT.match(told[0]) else None
+        wanted = live.take_item(name) if name else live.take_line()
+        if not wanted or told[: len(wanted)] != wanted[: len(told)]:
+            raise Difference(f"behind {live.at} lines: told {told[:5]}, wanted {wanted[:5]}")
+        del told[: len(wanted)]
+    sheets = live.next_sheets()
+    return Followed(sheets, not live.waits() and not live.take_line(), 0)
+
+
+def live_script(rng, script):
+    """A script as it may be told to a live worksheet: some of its waits have a time, and some of its prints a field."""
+    for line in script:
+        if line == "wait" and rng.random() < 0.3:
+            yield "wait 1000000"
+        elif line == "print" and rng.random() < 0.5:
+            yield f"print {rng.randint(1, 12)}"
+        else:
+            yield line
