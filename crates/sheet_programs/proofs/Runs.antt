@@ -351,18 +351,21 @@ broken_run R stream disk now c d a b nothing fault.OutOfMemory script start h is
       wrote = p.7;
     })))
 broken_run R stream disk now c d a b nothing fault.Output script start h is short opened held same p =
-    IfSome_then stream is (λ bytes e. (subst (λ s. length s ≤ max_input) e short, subst (λ s. RunLed R s disk c d) e
-    (record {
-      start = start;
-      now = now;
-      opened = opened;
-      leads = p.0;
-      lines = p.1;
-      back = h.store.disk;
-      same = same;
-      moments = goes_anyhow start now (p.1.earlier ++ led_beats p.1.led) p.0.world p.0.disk h held (lines-led-goes R (script_lines script) (at start c now) p.0 p.1) p.2;
-      stops = p.3;
-    })))
+    IfSome_then stream is (λ bytes e. (
+      subst (λ s. length s ≤ max_input) e short,
+      subst (λ s. RunLed R s disk c d) e
+          (record {
+            start = start;
+            now = now;
+            opened = opened;
+            leads = p.0;
+            lines = p.1;
+            back = h.store.disk;
+            same = same;
+            moments = goes_anyhow start now (p.1.earlier ++ led_beats p.1.led) p.0.world p.0.disk h held (lines-led-goes R (script_lines script) (at start c now) p.0 p.1) p.2;
+            stops = p.3;
+          }),
+    ))
 broken_run R stream disk now c d a b nothing fault.Input script start h is short opened held same p = absurd p
 broken_run R stream disk now c d a b nothing fault.InputTooLong script start h is short opened held same p = absurd p
 broken_run R stream disk now c d a b nothing (fault.Open why) script start h is short opened held same p = absurd p

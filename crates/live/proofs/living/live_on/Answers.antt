@@ -51,15 +51,21 @@ loop-preserved g c = record {
   runs = λ w h.
       let so = (c.loop.invariant.runs w h).0 in
       let step = subst
-          (Steps g.S.Children.after g.S.Sources.wakes (place (at so.leads c.loop.sources c.loop.host.store.disk) c.loop.stand.number c.loop.stand.held) c.step.new.host c.step.new.sources (g.W.Write.contents c.loop.writer) (g.W.Write.contents c.step.new.writer)
-          (to_come c.loop.lines.held (g.R.Read.remaining c.loop.lines.reader)) (to_come c.step.new.lines.held (g.R.Read.remaining c.step.new.lines.reader)))
-          c.in-Ok-Some.field-0-is (c.in-Ok-Some.ensures.ok so.leads so.stands) in
+      (Steps g.S.Children.after g.S.Sources.wakes (place (at so.leads c.loop.sources c.loop.host.store.disk) c.loop.stand.number c.loop.stand.held) c.step.new.host c.step.new.sources (g.W.Write.contents c.loop.writer) (g.W.Write.contents c.step.new.writer)
+      (to_come c.loop.lines.held (g.R.Read.remaining c.loop.lines.reader)) (to_come c.step.new.lines.held (g.R.Read.remaining c.step.new.lines.reader)))
+      c.in-Ok-Some.field-0-is (c.in-Ok-Some.ensures.ok so.leads so.stands) in
       let behind = one_lived g.S.Children.after g.S.Sources.wakes (begin_at w c.args.sources.now c.args.host.now.store.disk) c.loop.stand c.loop.host c.step.new.host c.loop.sources c.step.new.sources
-          (g.W.Write.contents c.args.writer.now) (g.W.Write.contents c.loop.writer) (g.W.Write.contents c.step.new.writer) (to_come c.args.lines.now.held (g.R.Read.remaining c.args.lines.now.reader))
-          (to_come c.loop.lines.held (g.R.Read.remaining c.loop.lines.reader)) (to_come c.step.new.lines.held (g.R.Read.remaining c.step.new.lines.reader)) so c.in-Ok-Some.next step in
-      (behind, omega (arith, (c.loop.invariant.runs w h).1, one_came g.S.Children.after g.S.Sources.wakes (begin_at w c.args.sources.now c.args.host.now.store.disk) c.loop.stand c.loop.host c.step.new.host c.loop.sources c.step.new.sources
-          (g.W.Write.contents c.args.writer.now) (g.W.Write.contents c.loop.writer) (g.W.Write.contents c.step.new.writer) (to_come c.args.lines.now.held (g.R.Read.remaining c.args.lines.now.reader))
-          (to_come c.loop.lines.held (g.R.Read.remaining c.loop.lines.reader)) (to_come c.step.new.lines.held (g.R.Read.remaining c.step.new.lines.reader)) so c.in-Ok-Some.next step));
+      (g.W.Write.contents c.args.writer.now) (g.W.Write.contents c.loop.writer) (g.W.Write.contents c.step.new.writer) (to_come c.args.lines.now.held (g.R.Read.remaining c.args.lines.now.reader))
+      (to_come c.loop.lines.held (g.R.Read.remaining c.loop.lines.reader)) (to_come c.step.new.lines.held (g.R.Read.remaining c.step.new.lines.reader)) so c.in-Ok-Some.next step in (
+        behind,
+        omega (
+          arith,
+          (c.loop.invariant.runs w h).1,
+          one_came g.S.Children.after g.S.Sources.wakes (begin_at w c.args.sources.now c.args.host.now.store.disk) c.loop.stand c.loop.host c.step.new.host c.loop.sources c.step.new.sources
+              (g.W.Write.contents c.args.writer.now) (g.W.Write.contents c.loop.writer) (g.W.Write.contents c.step.new.writer) (to_come c.args.lines.now.held (g.R.Read.remaining c.args.lines.now.reader))
+              (to_come c.loop.lines.held (g.R.Read.remaining c.loop.lines.reader)) (to_come c.step.new.lines.held (g.R.Read.remaining c.step.new.lines.reader)) so c.in-Ok-Some.next step,
+        ),
+      );
 }
 
 pub returns-clause-same : goal.returns-clause-same
