@@ -34,7 +34,7 @@ use Rattle.live.specs.inside.Taking.{Ended, EndedBy, IsFront, LivedThrough, Livi
 -- The stops.
 
 pub ended : {C : Type 0} (R : Relation C) (W : Watch C) (p : LivePlace C) (h : HostView) (c d : C) (out now : Option (List ℕ)) (old : Option (List InputLine)) → StopsIn R h c d → LivedThrough R W p h c out now old → Ended R W p h d out now old
-ended R W p h c d out now old stops t = (t.0, t.1, t.2, t.3, c, t.4, t.5, t.6, t.7, t.8, t.9, stops.0 t.3.run.world t.5)
+ended R W p h c d out now old stops t = (t.0, t.1, t.2, t.3, c, t.4, t.5, t.6, t.7, t.8, t.9, stops.0 t.3.run.world t.5, t.10)
 
 pub ended_by : {C : Type 0} (R : Relation C) (W : Watch C) (p : LivePlace C) (h : HostView) (c d : C) (out now : Option (List ℕ)) (old : Option (List InputLine)) (f : RunFault) → StopsIn R h c d → LivingFailed R W p h c out now old f
     → EndedBy R W p h d out now old f
@@ -87,7 +87,7 @@ takes-up-to-goes R p (came.life seat) beats e t q = taken-goes R Rattle.std.spec
 takes-up-to-goes R p came.time_over beats e t q = turn-stopped-goes R (waits p.run.world) p.run beats e t q.1
 
 takes-so-far-goes : {C : Type 0} (R : Relation C) (p : LivePlace C) (a : Arrival) (beats : List Beat) (t : At C) → TakesSoFar R p a beats t → Goes p.run.world p.run.disk beats t.world t.disk
-takes-so-far-goes R p (came.line l) beats t q = no_beats p.run beats t q.0 q.1
+takes-so-far-goes R p (came.line l) beats t q = no_beats p.run beats t q.1 q.2
 takes-so-far-goes R p came.part beats t q = absurd q
 takes-so-far-goes R p (came.life seat) beats t q = no_beats p.run beats t q.0 q.1
 takes-so-far-goes R p came.time_over beats t q = stalled-goes R (waits p.run.world) q.1.whole p.run beats t q.1.are_done
@@ -149,6 +149,7 @@ module _ {C : Type 0} (R : Relation C) (W : Watch C) (stream : Option (List ℕ)
     sources = t.4;
     lived = t.5;
     lines = all-lines stream old (lines_in t.0) is t.10;
+    free = t.12;
     watched = t.8;
     stops = t.11;
     wrote = t.9;

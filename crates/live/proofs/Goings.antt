@@ -28,7 +28,7 @@ module _ {C : Type 0} (R : Relation C) (W : Watch C) (p : LivePlace C) (mid : C)
 
   pub stepped : (next : Option Stand) → TurnTook R (woken_at p mid) told h c out now old new next → Steps R W p h c out now old new next
   stepped (Some stand) t = (t.0, mid, comes_by W p.held p.run.children mid told t.0 turn t.1, t.2, t.3)
-  stepped None t = (t.0, watched t.1 turn.1, t.2)
+  stepped None t = (t.0, watched t.1 turn.1, t.2, t.3)
 
   pub step_failed : (f : RunFault) → TurnFailed R (woken_at p mid) told h c out now old new f → ComingFailed R W p h c out now old new f
   step_failed fault.Input t = (t.0, watched t.1 turn.1)
@@ -146,6 +146,7 @@ module _ {C : Type 0} (R : Relation C) (W : Watch C) (p : LivePlace C) (stand : 
     t.1,
     subst (Appends out later) (append-nil so.text) (Appends-trans out now later so.text [] so.wrote t.0.2),
     lines-end old new so.came so.lines t.2,
+    t.3,
   )
 
   before : (a : Arrival) (mid : C) → Comes W c a mid → LivedBefore R W p (so.came ++ a ∷ []) a so.beats so.text (woken_at (place (at so.leads c h.store.disk) stand.number stand.held) mid)

@@ -1,10 +1,13 @@
 -- A line that is said.
-use Rattle.std.proofs.Common.{◌≡◌, inl, ℕ, List, [], Option, Some, refl, sym, subst}
+use Rattle.std.proofs.Common.{◌≡◌, inl, ℕ, true, true≢false, List, [], Option, Some, None, refl, sym, subst}
 use Rattle.std.specs.Io.KnownBytes.{Appends}
 use Rattle.session_engine.specs.World.{World}
 use Rattle.session_engine.specs.Host.{HostView, IsHost}
 use Rattle.session_engine.specs.declared.command.Command.{Command}
 use Rattle.child_edge.specs.Faithful.{Relation, At, at, Beat}
+use Rattle.sheet_text.specs.LiveLines.{live_line_of, script_or_form}
+use Rattle.sheet_text.specs.Script.{line_of, wants_memory}
+use Rattle.sheet_text.specs.declared.script.ScriptLine.{ScriptLine}
 use Rattle.sheet_text.specs.declared.script.ScriptLine.TheVariants as line
 use Rattle.sheet_text.specs.declared.live_line.LiveLine.{LiveLine}
 use Rattle.sheet_text.specs.declared.live_line.LiveLine.TheVariants as live
@@ -15,8 +18,19 @@ use Rattle.sheet_programs.specs.declared.fault.RunFault.{RunFault}
 use Rattle.sheet_programs.specs.declared.fault.RunFault.TheVariants as fault
 use Rattle.live.specs.declared.holding.Hold.{Hold}
 use Rattle.live.specs.declared.holding.Hold.TheVariants as hold
-use Rattle.live.specs.Saying.{SaidDone, Begins}
+use Rattle.live.specs.Saying.{IsCommand, SaidDone, Begins}
 use Rattle.live.specs.inside.Taking.{Said, SaidLed, SayingFailed, all, up_to, none}
+
+-- memory is wanted for a line that says a command
+pub wants_command : (bytes : List ℕ) → wants_memory (line_of bytes) ≡ true → IsCommand (live_line_of bytes)
+wants_command bytes wants = go (line_of bytes) wants
+  where
+    go : (l : Option ScriptLine) → wants_memory l ≡ true → IsCommand (script_or_form l bytes)
+    go None e = absurd (true≢false (sym e))
+    go (Some line.Skip) e = absurd (true≢false (sym e))
+    go (Some (line.Command told)) e = tt
+    go (Some line.Wait) e = absurd (true≢false (sym e))
+    go (Some line.Print) e = absurd (true≢false (sym e))
 
 module _ {C : Type 0} (R : Relation C) where
   -- a line that no event comes of
@@ -36,12 +50,12 @@ module _ {C : Type 0} (R : Relation C) where
   led-said : (told : Command) (s t : At C) → LineLed R (Some (line.Command told)) s t → SaidLed R (Some (live.Script (line.Command told))) s t
   led-said told s t (lines.whole number beats text p) = all hold.Free refl (λ n. (beats, text, p))
   led-said told s t (lines.up_to beats e p) = up_to beats e p
-  led-said told s t (lines.so_far beats p) = none p.1
+  led-said told s t (lines.so_far beats p) = none tt p.1
 
   pub command_failed : (told : Command) (s : At C) (h : HostView) (c : C) (a b : Option (List ℕ)) (f : RunFault)
       → LineFailed R (Some (line.Command told)) s h c a b f → SayingFailed R (Some (live.Script (line.Command told))) s h c a b f
   command_failed told s h c a b (fault.Host f) p = p
-  command_failed told s h c a b fault.OutOfMemory p = (p.1, p.2.1, p.3, subst (λ (bs : List Beat). Appends a b (beats_text bs)) p.2.0 p.4)
+  command_failed told s h c a b fault.OutOfMemory p = (tt, p.1, p.2.1, p.3, subst (λ (bs : List Beat). Appends a b (beats_text bs)) p.2.0 p.4)
   command_failed told s h c a b fault.Output p = (p.0, p.1, led-said told s (at p.0 c p.1) p.2, p.3)
   command_failed told s h c a b fault.Input p = absurd p
   command_failed told s h c a b fault.InputTooLong p = absurd p

@@ -150,11 +150,11 @@ module _ {C : Type 0} (R : Relation C) (s : At C) (before : ℕ) (h : HostView) 
       let said = done (before + 1) in
       broken.all said.0 said.1 (place t (before + 1) on.0) (refl, refl, said.2, (begun, begins, on.1)) refl
   led-line l t (inside.up_to beats e q) = broken.up_to beats e q
-  led-line l t (inside.none q) = broken.so_far [] (refl, q)
+  led-line l t (inside.none is q) = broken.so_far [] (is, refl, q)
 
   pub line_failed : (l : InputLine) (f : RunFault) → SayingFailed R (said_by l) s h c a b f → TakingFailed R (place s before hold.Free) (line l) h c a b f
   line_failed l (fault.Host f) q = q
-  line_failed l fault.OutOfMemory q = ([], q.0, (refl, q.1), q.2, q.3)
+  line_failed l fault.OutOfMemory q = ([], q.1, (q.0, refl, q.2), q.3, q.4)
   line_failed l fault.Output q = (q.0, q.1, led-line l (at q.0 c q.1) q.2, q.3)
   line_failed l fault.Input q = absurd q
   line_failed l fault.InputTooLong q = absurd q

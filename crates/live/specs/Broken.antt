@@ -5,7 +5,7 @@ use Rattle.child_edge.specs.Faithful.{Relation, At, Beat, TakenUpTo}
 use Rattle.child_edge.specs.Broken.{TurnStopped, TurnSoFar}
 use Rattle.child_edge.specs.Seats.{waits}
 use Rattle.sheet_programs.specs.Lines.{beats_text}
-use Rattle.live.specs.Saying.{SaidUpTo, IsTimed}
+use Rattle.live.specs.Saying.{IsCommand, SaidUpTo, IsTimed}
 use Rattle.live.specs.Arrivals.{Arrival, line, part, life, time_over, LivePlace, Watch, Comes, TakesArrival, Lived, said_by, woken_at}
 
 -- An arrival came up to this event, at which the host had a fault: these beats of it came before.
@@ -18,7 +18,7 @@ TakesUpTo R p time_over beats e t = IsTimed p.held × TurnStopped R false (waits
 -- An arrival came so far when memory was refused: a command was not taken, of a life nothing was received, and of the lives that
 -- were to be told that they stalled the first ones were.
 abbrev pub TakesSoFar : {C : Type 0} → Relation C → LivePlace C → Arrival → List Beat → At C → Type 0
-TakesSoFar R p (line l) beats t = (beats ≡ []) × (t ≡ p.run)
+TakesSoFar R p (line l) beats t = IsCommand (said_by l) × (beats ≡ []) × (t ≡ p.run)
 TakesSoFar R p part beats t = ⊥
 TakesSoFar R p (life seat) beats t = (beats ≡ []) × (t ≡ p.run)
 TakesSoFar R p time_over beats t = IsTimed p.held × TurnSoFar R false (waits p.run.world) p.run beats t

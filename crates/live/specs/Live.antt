@@ -40,8 +40,8 @@ AreTooMany came = 2 ^ 64 ≤ length came + 1
 abbrev pub MayHaveWatched : {C : Type 0} → Watch C → C → C → Type 0
 MayHaveWatched W c d = (d ≡ c) ⊎ ((a : Asked) × (told : Option Woken) × W c a told d)
 
--- Where the input came to its end: all of its lines were taken, this text was written, then each life that goes on was stopped, and
--- each image of the disk that is given back is one of the worksheet behind all events. At every moment since the opening each image
+-- Where the input came to its end, and no wait holds back that end: all of its lines were taken, this text was written, then each life
+-- that goes on was stopped, and each image of the disk that is given back is one of the worksheet behind all events. At every moment since the opening each image
 -- was one of the worksheet behind some of the first of them.
 pub record LiveDone {C : Type 0} (R : Relation C) (W : Watch C) (stream : Option (List ℕ)) (disk : DiskView) (c d : C) (a b : Option (List ℕ)) (back : DiskView) : Type 0 where
   pub start : World
@@ -54,6 +54,7 @@ pub record LiveDone {C : Type 0} (R : Relation C) (W : Watch C) (stream : Option
   pub sources : C
   pub lived : Lived R W (begin_at start c now) arrivals beats text leads
   pub lines : IfSome stream (λ bytes. input_lines bytes ≡ lines_in arrivals)
+  pub free : leads.held ≡ hold.Free
   pub watched : MayHaveWatched W leads.run.children sources
   pub stops : Stops R (running leads.run.world) sources d
   pub wrote : Appends a b text

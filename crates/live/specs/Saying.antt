@@ -43,6 +43,16 @@ SaidUpTo R (Some (live.Script line.Print)) s beats e t = ⊥
 SaidUpTo R (Some (live.PrintField id)) s beats e t = ⊥
 SaidUpTo R (Some (live.WaitFor seconds)) s beats e t = ⊥
 
+-- a line that says a command of the host
+abbrev pub IsCommand : Option LiveLine → Type 0
+IsCommand None = ⊥
+IsCommand (Some (live.Script line.Skip)) = ⊥
+IsCommand (Some (live.Script (line.Command c))) = Unit {0}
+IsCommand (Some (live.Script line.Wait)) = ⊥
+IsCommand (Some (live.Script line.Print)) = ⊥
+IsCommand (Some (live.PrintField id)) = ⊥
+IsCommand (Some (live.WaitFor seconds)) = ⊥
+
 -- a wait that ends by its time
 abbrev pub IsTimed : Hold → Type 0
 IsTimed hold.Free = ⊥

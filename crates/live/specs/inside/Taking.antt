@@ -23,7 +23,7 @@ use Rattle.sheet_programs.specs.declared.fault.RunFault.TheVariants as fault
 use Rattle.live.specs.declared.holding.Hold.{Hold}
 use Rattle.live.specs.declared.holding.Hold.TheVariants as hold
 use Rattle.live.specs.declared.stepping.Stand.{Stand}
-use Rattle.live.specs.Saying.{SaidDone, SaidUpTo, Begins, IsTimed}
+use Rattle.live.specs.Saying.{IsCommand, SaidDone, SaidUpTo, Begins, IsTimed}
 use Rattle.live.specs.Arrivals.{Arrival, line, part, life, time_over, LivePlace, Watch, Comes, TakesArrival, Lived, lines_in, WatchTells, place, woken_at}
 use Rattle.live.specs.Broken.{TakesUpTo, TakesSoFar, TakesLed, LivedUpTo, LivedSoFar, LivedLed}
 use Rattle.live.specs.Live.{AreTooMany, MayHaveWatched}
@@ -57,13 +57,13 @@ Said R number l s h c a b begun = (beats : List Beat) × (text : List ℕ) × (t
 pub data SaidLed {C : Type 0} (R : Relation C) (l : Option LiveLine) (s t : At C) : Type 0 where
   all : (begun : Hold) → Begins l begun → ((number : ℕ) → (beats : List Beat) × (text : List ℕ) × SaidDone R number l s beats text t) → SaidLed R l s t
   up_to : (beats : List Beat) (e : Event) → SaidUpTo R l s beats e t → SaidLed R l s t
-  none : t ≡ s → SaidLed R l s t
+  none : IsCommand l → t ≡ s → SaidLed R l s t
 
 -- what a fault of that leaves
 abbrev pub SayingFailed : {C : Type 0} → Relation C → Option LiveLine → At C → HostView → C → Option (List ℕ) → Option (List ℕ) → RunFault → Type 0
 SayingFailed R l s h c a b (fault.Host f) =
     (beats : List Beat) × (e : Event) × (t : World) × (d : DiskView) × SaidUpTo R l s beats e (at t c d) × Stopped d h t e f × Appends a b (beats_text beats)
-SayingFailed R l s h c a b fault.OutOfMemory = (t : World) × (at t c h.store.disk ≡ s) × IsHost h t × Appends a b []
+SayingFailed R l s h c a b fault.OutOfMemory = IsCommand l × (t : World) × (at t c h.store.disk ≡ s) × IsHost h t × Appends a b []
 SayingFailed R l s h c a b fault.Output = (t : World) × (d : DiskView) × SaidLed R l s (at t c d) × StandsOrStopped h t d
 SayingFailed R l s h c a b fault.Input = ⊥
 SayingFailed R l s h c a b fault.InputTooLong = ⊥
@@ -144,10 +144,10 @@ Turns W held c d told = MayTurn held told × (WatchTells W c told d ⊎ ((told �
 abbrev pub Rests : {C : Type 0} → LivePlace C → HostView → Option (List ℕ) → Option (List ℕ) → Type 0
 Rests p h out now = (h.store.disk ≡ p.run.disk) × IsHost h p.run.world × Appends out now []
 
--- what came of a turn: an arrival was taken, or the input is at its end
+-- what came of a turn: an arrival was taken, or the input is at its end, and no wait holds it back
 abbrev pub TurnTook : {C : Type 0} → Relation C → LivePlace C → Woken → HostView → C → Option (List ℕ) → Option (List ℕ) → Option (List InputLine) → Option (List InputLine) → Option Stand → Type 0
 TurnTook R p told h c out now old new (Some stand) = (a : Arrival) × IsBy told a × TakesLines a old new × Took R p a h c out now stand.number stand.held
-TurnTook R p told h c out now old new None = Rests p h out now × (c ≡ p.run.children) × IfSome old (λ lines. lines ≡ [])
+TurnTook R p told h c out now old new None = Rests p h out now × (c ≡ p.run.children) × IfSome old (λ lines. lines ≡ []) × (p.held ≡ hold.Free)
 
 -- what a fault at a turn leaves
 abbrev pub TurnFailed : {C : Type 0} → Relation C → LivePlace C → Woken → HostView → C → Option (List ℕ) → Option (List ℕ) → Option (List InputLine) → Option (List InputLine) → RunFault → Type 0
@@ -178,7 +178,7 @@ ComingFailed {C = C} R W p h c out now old new fault.Output = (a : Arrival) × (
 abbrev pub Steps : {C : Type 0} → Relation C → Watch C → LivePlace C → HostView → C → Option (List ℕ) → Option (List ℕ) → Option (List InputLine) → Option (List InputLine) → Option Stand → Type 0
 Steps R W p h c out now old new (Some stand) = Came R W p h c out now old new stand.number stand.held
 Steps R W p h c out now old new None =
-    Rests p h out now × MayHaveWatched W p.run.children c × IfSome old (λ lines. lines ≡ [])
+    Rests p h out now × MayHaveWatched W p.run.children c × IfSome old (λ lines. lines ≡ []) × (p.held ≡ hold.Free)
 
 -- the lines that came are the first ones of those to come
 abbrev pub IsFront : Option (List InputLine) → List Arrival → Type 0
@@ -189,6 +189,7 @@ abbrev pub LivedThrough : {C : Type 0} → Relation C → Watch C → LivePlace 
 LivedThrough {C = C} R W p h c out now old =
     (came : List Arrival) × (beats : List Beat) × (text : List ℕ) × (q : LivePlace C) × Lived R W p came beats text q
     × IsHost h q.run.world × (q.run.disk ≡ h.store.disk) × MayHaveWatched W q.run.children c × Appends out now text × IfSome old (λ lines. lines ≡ lines_in came)
+    × (q.held ≡ hold.Free)
 
 -- what a fault of that leaves
 abbrev pub LivingFailed : {C : Type 0} → Relation C → Watch C → LivePlace C → HostView → C → Option (List ℕ) → Option (List ℕ) → Option (List InputLine) → RunFault → Type 0
@@ -214,7 +215,7 @@ abbrev pub Ended : {C : Type 0} → Relation C → Watch C → LivePlace C → H
 Ended {C = C} R W p h d out now old =
     (came : List Arrival) × (beats : List Beat) × (text : List ℕ) × (q : LivePlace C) × (c : C) × Lived R W p came beats text q
     × IsHost h q.run.world × (q.run.disk ≡ h.store.disk) × MayHaveWatched W q.run.children c × Appends out now text × IfSome old (λ lines. lines ≡ lines_in came)
-    × Stops R (running q.run.world) c d
+    × Stops R (running q.run.world) c d × (q.held ≡ hold.Free)
 
 abbrev pub EndedBy : {C : Type 0} → Relation C → Watch C → LivePlace C → HostView → C → Option (List ℕ) → Option (List ℕ) → Option (List InputLine) → RunFault → Type 0
 EndedBy {C = C} R W p h d out now old fault.Input =

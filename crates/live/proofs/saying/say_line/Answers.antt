@@ -1,10 +1,11 @@
 use Rattle.std.proofs.Common.{ap, refl, sym, subst}
 use Rattle.std.specs.Prelude.{None, Err, IfErr}
+use Rattle.std.proofs.KnownBytes.{Appends-nil}
 use Rattle.child_edge.specs.Faithful.{at}
 use Rattle.sheet_programs.specs.Memory.{bad_line}
 use Rattle.live.specs.declared.holding.Hold.TheVariants as hold
 use Rattle.live.specs.inside.Taking.{Said, SayingFailed}
-use Rattle.live.proofs.Said.{said_still, still_unwritten}
+use Rattle.live.proofs.Said.{said_still, still_unwritten, wants_command}
 use Rattle.live.proofs.saying.say_line.Goals as goal
 
 pub returns-in-Ok-clause-err : goal.returns-in-Ok-clause-err
@@ -31,3 +32,12 @@ returns-in-Err-clause-err g c = λ w h.
     (sym (c.in-Err-BadLine.ensures.bad (ap (λ e. Err e) c.in-Err-BadLine.field-0-is)))
     (still_unwritten g.S.Children.after None w c.args.host.now c.args.sources.now (g.W.Write.contents c.args.writer.now) (g.W.Write.contents c.tell_bad_line.new.writer) hold.Free c.in-Err.fault refl
     (λ number. (bad_line number, (refl, refl, refl))) h c.in-Err.ensures.err)
+
+pub returns-in-Err-OutOfMemory-clause-err : goal.returns-in-Err-OutOfMemory-clause-err
+returns-in-Err-OutOfMemory-clause-err g c = λ w h. (
+  wants_command c.args.line.now (c.in-Err-OutOfMemory.ensures.memory (ap (λ e. Err e) c.in-Err-OutOfMemory.field-0-is)),
+  w,
+  refl,
+  h,
+  Appends-nil (g.W.Write.contents c.args.writer.now),
+)
