@@ -6,7 +6,7 @@ use Rattle.std.proofs.lemmas.Bool.Decides.{nat_tests}
 use Rattle.std.proofs.lemmas.List.{drop-drop, drop-take, take-take}
 use Rattle.memchr.specs.Find.{IsFirstByte, is_byte}
 use Rattle.bstr.specs.Text.{without_terminator}
-use Rattle.arrivals.specs.Lines.{whole, too_long, longest_line, input_line}
+use Rattle.arrivals.specs.Lines.{whole, too_long, longest_line, bounded_line}
 use Rattle.arrivals.specs.inside.Buffers.{first_line}
 use Rattle.arrivals.proofs.Splitting.{over-leb}
 
@@ -32,12 +32,12 @@ pub under-leb : (a b : ℕ) → a ≤ b → nat_le a b ≡ true
 under-leb a b under = grind (arith, nat_tests)
 
 pub told-long : (d : Bool) (bytes raw : List ℕ) → d ≡ false → bytes ≡ raw → longest_line < length (without_terminator raw) → first_line d bytes ≡ too_long
-unfolding input_line
-told-long d bytes raw e f long = ap (λ x. first_line x bytes) e ∙ ap input_line f ∙ cond-false _ _ _ (over-leb _ _ long)
+unfolding bounded_line
+told-long d bytes raw e f long = ap (λ x. first_line x bytes) e ∙ ap bounded_line f ∙ cond-false _ _ _ (over-leb _ _ long)
 
 pub told-whole : (d : Bool) (bytes raw line : List ℕ) → d ≡ false → bytes ≡ raw → length (without_terminator raw) ≤ longest_line → line ≡ without_terminator raw → first_line d bytes ≡ whole line
-unfolding input_line
-told-whole d bytes raw line e f fits own = ap (λ x. first_line x bytes) e ∙ ap input_line f ∙ cond-true _ _ _ (under-leb _ _ fits) ∙ ap whole (sym own)
+unfolding bounded_line
+told-whole d bytes raw line e f fits own = ap (λ x. first_line x bytes) e ∙ ap bounded_line f ∙ cond-true _ _ _ (under-leb _ _ fits) ∙ ap whole (sym own)
 
 -- the first line feed
 pub record FirstFeed (bytes : List ℕ) (at : ℕ) : Type 0 where

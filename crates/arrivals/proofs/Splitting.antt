@@ -5,7 +5,7 @@ use Rattle.std.proofs.lemmas.Bool.Decides.{nat_tests}
 use Rattle.std.proofs.lemmas.List.{take-append-le, drop-append-le, drop-drop, drop_at, get_or_append_left}
 use Rattle.bstr.specs.Text.{line_len, no_cr, without_terminator}
 use Rattle.bstr.proofs.lemmas.LineLemmas.{line_len-at, line_len-bounds, lines-nil, lines-step}
-use Rattle.arrivals.specs.Lines.{too_long, longest_line, input_line, input_lines, behind_line}
+use Rattle.arrivals.specs.Lines.{too_long, longest_line, bounded_line, input_lines, behind_line}
 use Rattle.arrivals.specs.Held.{IsUnended, lines_from}
 use Rattle.arrivals.specs.inside.Buffers.{first_line}
 
@@ -26,11 +26,11 @@ line_len-feed bytes more at l is before =
 
 pub input-nil : input_lines [] ≡ []
 unfolding input_lines
-input-nil = ap (map input_line) lines-nil
+input-nil = ap (map bounded_line) lines-nil
 
-pub input-step : (bytes : List ℕ) → 0 < length bytes → input_lines bytes ≡ input_line (take (line_len bytes) bytes) ∷ input_lines (behind_line bytes)
+pub input-step : (bytes : List ℕ) → 0 < length bytes → input_lines bytes ≡ bounded_line (take (line_len bytes) bytes) ∷ input_lines (behind_line bytes)
 unfolding input_lines
-input-step bytes some = ap (map input_line) (lines-step bytes some)
+input-step bytes some = ap (map bounded_line) (lines-step bytes some)
 
 -- the first line is all of these bytes' own
 pub line_off : (d : Bool) (bytes more : List ℕ) (n : ℕ) → line_len (bytes ++ more) ≡ n → n ≤ length bytes → (d ≡ false → 0 < n)
@@ -38,8 +38,8 @@ pub line_off : (d : Bool) (bytes more : List ℕ) (n : ℕ) → line_len (bytes 
 line_off false bytes more n is fits some =
     let all = bytes ++ more in
     let pos : 0 < n = some refl in
-    input-step all (omega (arith, length-append bytes more)) ∙ ap (λ k. input_line (take k all) ∷ input_lines (drop k all)) is
-    ∙ ap (λ t. input_line t ∷ input_lines (drop n all)) (take-append-le n bytes more fits) ∙ ap (λ t. input_line (take n bytes) ∷ input_lines t) (drop-append-le n bytes more fits)
+    input-step all (omega (arith, length-append bytes more)) ∙ ap (λ k. bounded_line (take k all) ∷ input_lines (drop k all)) is
+    ∙ ap (λ t. bounded_line t ∷ input_lines (drop n all)) (take-append-le n bytes more fits) ∙ ap (λ t. bounded_line (take n bytes) ∷ input_lines t) (drop-append-le n bytes more fits)
 line_off true bytes more n is fits some =
     let all = bytes ++ more in
     ap (λ k. too_long ∷ input_lines (drop k all)) is ∙ ap (λ t. too_long ∷ input_lines t) (drop-append-le n bytes more fits)
@@ -67,8 +67,8 @@ without-len bytes =
 pub over-leb : (a b : ℕ) → b < a → nat_le a b ≡ false
 over-leb a b over = grind (arith, nat_tests)
 
-input-long : (bytes : List ℕ) → longest_line + 2 < length bytes → input_line bytes ≡ too_long
-unfolding input_line
+input-long : (bytes : List ℕ) → longest_line + 2 < length bytes → bounded_line bytes ≡ too_long
+unfolding bounded_line
 input-long bytes long =
     let few = without-len bytes in
     let over : longest_line < length (without_terminator bytes) = omega arith in

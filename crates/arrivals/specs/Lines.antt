@@ -12,13 +12,13 @@ abbrev pub longest_line : ℕ
 longest_line = 65536
 
 -- a line without the line feed that ends it and one carriage return before that, where it isn't too long
-unfoldable pub input_line : List ℕ → InputLine
-input_line bytes =
+unfoldable pub bounded_line : List ℕ → InputLine
+bounded_line bytes =
     if nat_le (length (without_terminator bytes)) longest_line then whole (without_terminator bytes) else too_long
 
 -- the lines of an input, each up to its line feed; the last one may lack its own
 unfoldable pub input_lines : List ℕ → List InputLine
-input_lines bytes = map input_line (lines_of bytes)
+input_lines bytes = map bounded_line (lines_of bytes)
 
 -- the bytes behind the first line
 abbrev pub behind_line : List ℕ → List ℕ

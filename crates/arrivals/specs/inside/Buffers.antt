@@ -1,6 +1,6 @@
 -- Definitions that only private contracts use: the room of a buffer, and its first line.
 use Rattle.std.specs.Prelude.{◌≡◌, ℕ, ◌+◌, ◌≤◌, Bool, true, false, List, [], length, slice_range, nat_le, if◌then◌else◌}
-use Rattle.arrivals.specs.Lines.{InputLine, whole, too_long, longest_line, input_line}
+use Rattle.arrivals.specs.Lines.{InputLine, whole, too_long, longest_line, bounded_line}
 use Rattle.arrivals.specs.Held.{Held}
 use Rattle.arrivals.specs.declared.buffer.NextLine.{NextLine}
 use Rattle.arrivals.specs.declared.buffer.NextLine.TheVariants as next
@@ -26,7 +26,7 @@ pub record IsBuffer (room : List ℕ) (start end line_start line_end : ℕ) : Ty
 
 -- the first line of some bytes, or the rest of one that is too long
 abbrev pub first_line : Bool → List ℕ → InputLine
-first_line false bytes = input_line bytes
+first_line false bytes = bounded_line bytes
 first_line true bytes = too_long
 
 -- this is told of that line
