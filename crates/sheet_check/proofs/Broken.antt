@@ -1,8 +1,9 @@
--- A wait that broke off.
-use Rattle.std.proofs.Common.{inl, inr, List, Some, refl}
-use Rattle.disk_model.specs.Disk.{DiskView}
+-- An `eval` and a `wait` that broke off.
+use Rattle.std.proofs.Common.{inl, inr, ℕ, List, None, Some, refl}
 use Rattle.session_engine.specs.World.{World}
-use Rattle.session_engine.specs.Host.{HostView}
+use Rattle.session_engine.specs.Host.{HostView, IsHost}
+use Rattle.session_engine.specs.declared.command.Command.TheVariants as command
+use Rattle.session_engine.specs.declared.outcome.HostFault.TheVariants as hosts
 use Rattle.session_engine.specs.declared.reply.Reply.{Reply}
 use Rattle.child_edge.specs.declared.serving.EdgeCause.{EdgeCause}
 use Rattle.child_edge.specs.declared.serving.EdgeCause.TheVariants as cause
@@ -12,11 +13,23 @@ use Rattle.child_edge.specs.Broken.{WaitSoFar, WaitStopped}
 use Rattle.child_edge.specs.Edge.{ByCause}
 use Rattle.child_edge.specs.Moments.{BrokeFrom, RanFrom}
 use Rattle.sheet_text.specs.declared.script.ScriptLine.TheVariants as said
-use Rattle.sheet_programs.specs.Lines.{LineLed, up_to, so_far}
-use Rattle.sheet_programs.specs.Told.{StandsOrStopped}
+use Rattle.sheet_programs.specs.declared.fault.RunFault.TheVariants as fault
+use Rattle.sheet_programs.specs.Lines.{up_to, so_far}
+use Rattle.sheet_programs.proofs.Commands.{CommandBroke, command_broke_unwritten}
+use Rattle.sheet_check.specs.inside.Checking.{PartFailed, fault_of_cause}
+
+module _ {C : Type 0} (R : Relation C) (id : ℕ) (w : World) (h g : HostView) (c d : C) (replies : List Reply) (stands : IsHost h w) where
+  pub eval_broke : (why : EdgeCause) → CommandBroke R (command.Eval id) w h g c d replies why → PartFailed R (Some (said.Command (command.Eval id))) (at w c h.store.disk) g d (fault_of_cause why)
+  eval_broke (cause.Host hosts.Disk) q = (q.broke.leads, q.broke.disk, up_to q.broke.beats q.broke.failed q.broke.form, inr (q.broke.failed, hosts.Disk, q.broke.stopped))
+  eval_broke (cause.Host hosts.OutOfMemory) q = (q.broke.beats, q.broke.failed, q.broke.leads, q.broke.disk, q.broke.form, q.broke.stopped, tt)
+  eval_broke (cause.Host hosts.JournalFull) q = (q.broke.beats, q.broke.failed, q.broke.leads, q.broke.disk, q.broke.form, q.broke.stopped, tt)
+  eval_broke (cause.Host hosts.Closed) q = (q.broke.beats, q.broke.failed, q.broke.leads, q.broke.disk, q.broke.form, q.broke.stopped, tt)
+  eval_broke cause.OutOfMemory q = command_broke_unwritten R (command.Eval id) w h g c d replies None None cause.OutOfMemory fault.Output stands q refl
 
 pub wait_broke : {C : Type 0} (R : Relation C) (s : At C) (g : HostView) (d : C) (replies : List Reply) (why : EdgeCause)
-    → ByCause why (BrokeFrom s (WaitStopped R most_turns) g d replies) (RanFrom s (WaitSoFar R most_turns) g d replies)
-    → (t : World) × (disk : DiskView) × LineLed R (Some said.Wait) s (at t d disk) × StandsOrStopped g t disk
-wait_broke R s g d replies (cause.Host f) q = (q.broke.leads, q.broke.disk, up_to q.broke.beats q.broke.failed q.broke.form, inr (q.broke.failed, f, q.broke.stopped))
+    → ByCause why (BrokeFrom s (WaitStopped R most_turns) g d replies) (RanFrom s (WaitSoFar R most_turns) g d replies) → PartFailed R (Some said.Wait) s g d (fault_of_cause why)
+wait_broke R s g d replies (cause.Host hosts.Disk) q = (q.broke.leads, q.broke.disk, up_to q.broke.beats q.broke.failed q.broke.form, inr (q.broke.failed, hosts.Disk, q.broke.stopped))
+wait_broke R s g d replies (cause.Host hosts.OutOfMemory) q = (q.broke.beats, q.broke.failed, q.broke.leads, q.broke.disk, q.broke.form, q.broke.stopped, tt)
+wait_broke R s g d replies (cause.Host hosts.JournalFull) q = (q.broke.beats, q.broke.failed, q.broke.leads, q.broke.disk, q.broke.form, q.broke.stopped, tt)
+wait_broke R s g d replies (cause.Host hosts.Closed) q = (q.broke.beats, q.broke.failed, q.broke.leads, q.broke.disk, q.broke.form, q.broke.stopped, tt)
 wait_broke R s g d replies cause.OutOfMemory q = (q.ran.leads, g.store.disk, so_far q.ran.beats q.ran.form, inl (q.ran.stands, refl))

@@ -13,14 +13,24 @@ use Rattle.sheet_programs.specs.declared.fault.RunFault.TheVariants as fault
 use Rattle.sheet_programs.proofs.Runs.{StopsIn, stops_behind}
 use Rattle.sheet_check.specs.declared.verdict.Counts.{Counts}
 use Rattle.sheet_check.specs.Texts.{counts_text}
-use Rattle.sheet_check.specs.Check.{IsCopy, SheetChecked, SheetLed, TellsCheck, still}
-use Rattle.sheet_check.specs.inside.Checking.{FieldsEnded, FieldsFailed, FieldsStopped, FieldsWrote}
+use Rattle.sheet_check.specs.Check.{IsCopy, SheetChecked, TellsCheck, still}
+use Rattle.sheet_check.specs.inside.Checking.{FieldsEnded, FieldsFailed, FieldsStopped, FieldsWrote, FirstFailed, FirstStopped}
 
 -- The stops.
 
 pub fields_ended : {C : Type 0} (R : Relation C) (fields : List Field) (s : At C) (h : HostView) (c d : C) (a b : Option (List ℕ)) (counts : Counts) → StopsIn R h c d → FieldsWrote R fields s h c a b counts
     → FieldsEnded R fields s d a b counts
 fields_ended R fields s h c d a b counts stops p = (p.0, p.1, at p.2 c h.store.disk, p.3, stops.0 p.2 p.4, p.5, p.6)
+
+module _ {C : Type 0} (R : Relation C) (fields : List Field) (s : At C) (h : HostView) (c d : C) (stops : StopsIn R h c d) where
+  first-stopped : (why : RunFault) → FirstFailed R fields s h c why → FirstStopped R fields s d why
+  first-stopped (fault.Host f) p = (p.0, at p.1 c p.2, h, p.3, p.4, p.5, stops.1 p.1 p.0 p.2 f p.4)
+  first-stopped fault.OutOfMemory p = (at p.0 c p.1, p.2, stops_behind R h c d p.0 p.1 stops p.3)
+  first-stopped fault.Output p = (at p.0 c p.1, p.2, stops_behind R h c d p.0 p.1 stops p.3)
+  first-stopped fault.Input p = absurd p
+  first-stopped fault.InputTooLong p = absurd p
+  first-stopped (fault.Open why) p = absurd p
+  first-stopped fault.InUse p = absurd p
 
 pub fields_stopped : {C : Type 0} (R : Relation C) (fields : List Field) (s : At C) (h : HostView) (c d : C) (a b : Option (List ℕ)) (why : RunFault) → StopsIn R h c d → FieldsFailed R fields s h c a b why
     → FieldsStopped R fields s d a b why
@@ -32,9 +42,7 @@ fields_stopped R fields s h c d a b why stops p = record {
   text = p.text;
   mid = p.mid;
   checked = p.checked;
-  leads = at p.failed.0 c p.failed.1;
-  led = p.failed.2;
-  stops = stops_behind R h c d p.failed.0 p.failed.1 stops p.failed.3;
+  ended = first-stopped R p.left p.mid h c d stops why p.failed;
   wrote = p.wrote;
 }
 
@@ -75,13 +83,38 @@ module _ {C : Type 0} (R : Relation C) (sheet : Contents) (w : World) (copy : Di
     },
   )
 
-  led : (why : RunFault) (p : FieldsStopped R sheet.fields (at w c copy) d a b why) → SheetLed R sheet c d p.text
-  led why p = record { start = w; copy = copy; copied = copied; gone = p.gone; left = p.left; split = p.split; verdicts = p.verdicts; mid = p.mid; checked = p.checked; leads = p.leads; led = p.led; stops = p.stops }
-
   pub stopped_tells : (none : Type 0) (why : RunFault) → FieldsStopped R sheet.fields (at w c copy) d a b why → TellsCheck R sheet c d a b none why
-  stopped_tells none (fault.Host why) p = (p.text, led (fault.Host why) p, p.wrote)
-  stopped_tells none fault.OutOfMemory p = inr (p.text, led fault.OutOfMemory p, p.wrote)
-  stopped_tells none fault.Output p = (p.text, led fault.Output p)
+  stopped_tells none (fault.Host why) p = (
+    p.text,
+    record {
+      start = w;
+      copy = copy;
+      copied = copied;
+      gone = p.gone;
+      left = p.left;
+      split = p.split;
+      verdicts = p.verdicts;
+      mid = p.mid;
+      checked = p.checked;
+      failed = p.ended.0;
+      leads = p.ended.1;
+      led = p.ended.3;
+      host = p.ended.2;
+      stopped = p.ended.4;
+      not_of_disk = p.ended.5;
+      stops = p.ended.6;
+    },
+    p.wrote,
+  )
+  stopped_tells none fault.OutOfMemory p = inr (
+    p.text,
+    record { start = w; copy = copy; copied = copied; gone = p.gone; left = p.left; split = p.split; verdicts = p.verdicts; mid = p.mid; checked = p.checked; leads = p.ended.0; led = p.ended.1; stops = p.ended.2 },
+    p.wrote,
+  )
+  stopped_tells none fault.Output p = (
+    p.text,
+    record { start = w; copy = copy; copied = copied; gone = p.gone; left = p.left; split = p.split; verdicts = p.verdicts; mid = p.mid; checked = p.checked; leads = p.ended.0; led = p.ended.1; stops = p.ended.2 },
+  )
   stopped_tells none fault.Input p = absurd p.wrote
   stopped_tells none fault.InputTooLong p = absurd p.wrote
   stopped_tells none (fault.Open why) p = absurd p.wrote

@@ -1,20 +1,26 @@
 -- Fields that are checked, one behind another.
-use Rattle.std.proofs.Common.{◌≡◌, ℕ, List, [], ◌∷◌, ◌++◌, Option, Some, None, refl, ap, sym, ◌∙◌, subst, append_assoc, append-nil}
+use Rattle.std.proofs.Common.{◌≡◌, inl, ℕ, List, [], ◌∷◌, ◌++◌, Option, Some, None, refl, ap, sym, ◌∙◌, subst, append_assoc, append-nil}
 use Rattle.std.proofs.KnownBytes.{Appends-trans, Appends-nil}
 use Rattle.std.specs.Io.KnownBytes.{Appends}
 use Rattle.worksheet.specs.declared.field.Answer.{Answer}
 use Rattle.worksheet.specs.declared.field.Field.{Field}
 use Rattle.session_engine.specs.World.{World}
 use Rattle.session_engine.specs.Host.{HostView, IsHost}
-use Rattle.child_edge.specs.Faithful.{Relation, At, at}
+use Rattle.session_engine.specs.declared.command.Command.TheVariants as command
+use Rattle.child_edge.specs.Limits.{most_turns}
+use Rattle.child_edge.specs.Faithful.{Relation, At, at, Beat, Served, Waited}
+use Rattle.sheet_text.specs.declared.script.ScriptLine.{ScriptLine}
+use Rattle.sheet_text.specs.declared.script.ScriptLine.TheVariants as said
+use Rattle.sheet_programs.specs.Lines.{beats_text, whole}
 use Rattle.sheet_programs.specs.declared.fault.RunFault.{RunFault}
 use Rattle.sheet_programs.specs.declared.fault.RunFault.TheVariants as fault
 use Rattle.sheet_check.specs.declared.verdict.Counts.{Counts}
 use Rattle.sheet_check.specs.declared.verdict.Verdict.{Verdict}
 use Rattle.sheet_check.specs.Verdicts.{counts_of}
 use Rattle.sheet_check.specs.Texts.{verdict_text}
-use Rattle.sheet_check.specs.Evaluated.{FieldChecked, FieldsChecked, passed, checked}
-use Rattle.sheet_check.specs.inside.Checking.{FieldFailed, FieldWrote, FieldsFailed, FieldsWrote, FirstFailed, IsOfHost, LeavesText, ShownWrote, counted_on}
+use Rattle.sheet_check.specs.Evaluated.{FieldChecked, FieldsChecked, eval_of, passed, checked}
+use Rattle.sheet_check.specs.Check.{FirstLed, asking, in_eval, in_wait, waiting}
+use Rattle.sheet_check.specs.inside.Checking.{FieldFailed, FieldWrote, FieldsFailed, FieldsWrote, FirstFailed, LeavesText, PartFailed, ShownWrote, Untold, counted_on}
 use Rattle.sheet_check.proofs.Counting.{counts-more}
 
 -- A field.
@@ -103,7 +109,7 @@ module _ {C : Type 0} (R : Relation C) (all left : List Field) (field : Field) (
     text = so.text;
     mid = at so.leads c h.store.disk;
     checked = so.ran;
-    failed = subst (λ x. FirstFailed R x (at so.leads c h.store.disk) g d) (sym is) (p.0 others);
+    failed = subst (λ x. FirstFailed R x (at so.leads c h.store.disk) g d why) (sym is) (p.0 others);
     wrote = leaves-on why p.1;
   }
 
@@ -113,12 +119,55 @@ all_checked R all left s h c a b counts e so =
     let same : so.gone ≡ all = sym (so.split ∙ ap (λ x. so.gone ++ x) e ∙ append-nil so.gone) in
     (so.verdicts, so.text, so.leads, subst (λ fs. FieldsChecked R fs s so.verdicts so.text (at so.leads c h.store.disk)) same so.ran, so.stands, so.counted, so.wrote)
 
--- a fault of the host, or of memory: nothing was written
-pub nothing_written : (a : Option (List ℕ)) (why : RunFault) → IsOfHost why → LeavesText a a [] why
-nothing_written a (fault.Host why) is = Appends-nil a
-nothing_written a fault.OutOfMemory is = Appends-nil a
-nothing_written a fault.Output is = absurd is
-nothing_written a fault.Input is = absurd is
-nothing_written a fault.InputTooLong is = absurd is
-nothing_written a (fault.Open why) is = absurd is
-nothing_written a fault.InUse is = absurd is
+-- Where a field's evaluation broke off, or couldn't be told.
+
+module _ {C : Type 0} (R : Relation C) (field : Field) (s : At C) (h : HostView) (c : C) where
+  eval-first : (others : List Field) (why : RunFault) → PartFailed R (Some (said.Command (command.Eval field.id))) s h c why → FirstFailed R (field ∷ others) s h c why
+  eval-first others (fault.Host f) p = (p.1, p.2, p.3, in_eval field others p.0 refl p.4, p.5, p.6)
+  eval-first others fault.OutOfMemory p = (p.0, p.1, asking field others refl p.2, p.3)
+  eval-first others fault.Output p = absurd p
+  eval-first others fault.Input p = absurd p
+  eval-first others fault.InputTooLong p = absurd p
+  eval-first others (fault.Open why) p = absurd p
+  eval-first others fault.InUse p = absurd p
+
+  wait-first : (beats : List Beat) (mid : At C) → Served R s (eval_of field.id) beats mid → (others : List Field) (why : RunFault) → PartFailed R (Some said.Wait) mid h c why → FirstFailed R (field ∷ others) s h c why
+  wait-first beats mid served others (fault.Host f) p = (p.1, p.2, p.3, in_wait field others beats mid p.0 refl served p.4, p.5, p.6)
+  wait-first beats mid served others fault.OutOfMemory p = (p.0, p.1, waiting field others beats mid refl served p.2, p.3)
+  wait-first beats mid served others fault.Output p = absurd p
+  wait-first beats mid served others fault.Input p = absurd p
+  wait-first beats mid served others fault.InputTooLong p = absurd p
+  wait-first beats mid served others (fault.Open why) p = absurd p
+  wait-first beats mid served others fault.InUse p = absurd p
+
+  nothing-written : (l : Option ScriptLine) (x : At C) (a : Option (List ℕ)) (why : RunFault) → PartFailed R l x h c why → LeavesText a a [] why
+  nothing-written l x a (fault.Host f) p = Appends-nil a
+  nothing-written l x a fault.OutOfMemory p = Appends-nil a
+  nothing-written l x a fault.Output p = absurd p
+  nothing-written l x a fault.Input p = absurd p
+  nothing-written l x a fault.InputTooLong p = absurd p
+  nothing-written l x a (fault.Open why) p = absurd p
+  nothing-written l x a fault.InUse p = absurd p
+
+  pub eval_failed : (a : Option (List ℕ)) (why : RunFault) → PartFailed R (Some (said.Command (command.Eval field.id))) s h c why → FieldFailed R field s h c a a why
+  eval_failed a why p = ((λ others. eval-first others why p), nothing-written (Some (said.Command (command.Eval field.id))) s a why p)
+
+  pub wait_failed : (beats : List Beat) (mid : At C) → Served R s (eval_of field.id) beats mid → (a : Option (List ℕ)) (why : RunFault) → PartFailed R (Some said.Wait) mid h c why → FieldFailed R field s h c a a why
+  wait_failed beats mid served a why p = ((λ others. wait-first beats mid served others why p), nothing-written (Some said.Wait) mid a why p)
+
+  -- the field was evaluated, and what came of it couldn't be told
+  pub tell_failed : (beats : List Beat) (mid : At C) (last : List Beat) (t : World) (a b : Option (List ℕ)) (why : RunFault) → Served R s (eval_of field.id) beats mid → Waited R most_turns mid last (at t c h.store.disk) → IsHost h t
+      → Untold a b why → FieldFailed R field s h c a b why
+  tell_failed beats mid last t a b why served waited stands p = go why p
+    where
+      led : (others : List Field) → FirstLed R (field ∷ others) s (at t c h.store.disk)
+      led others = waiting field others beats mid refl served (whole 0 last (beats_text last) (waited, refl))
+
+      go : (x : RunFault) → Untold a b x → FieldFailed R field s h c a b x
+      go fault.OutOfMemory q = ((λ others. (t, h.store.disk, led others, inl (stands, refl))), q)
+      go fault.Output q = ((λ others. (t, h.store.disk, led others, inl (stands, refl))), tt)
+      go (fault.Host f) q = absurd q
+      go fault.Input q = absurd q
+      go fault.InputTooLong q = absurd q
+      go (fault.Open x) q = absurd q
+      go fault.InUse q = absurd q

@@ -8,9 +8,16 @@ use Rattle.worksheet.specs.Contents.{Contents}
 use Rattle.journal.specs.declared.opening.OpenCause.{OpenCause}
 use Rattle.recovery.specs.Sheets.{IsSheetImage, Makes, TellsOfSheet}
 use Rattle.session_engine.specs.declared.command.Command.TheVariants as command
+use Rattle.session_engine.specs.declared.event.Event.{Event}
+use Rattle.session_engine.specs.declared.outcome.HostFault.{HostFault}
+use Rattle.session_engine.specs.declared.outcome.HostFault.TheVariants as hosts
+use Rattle.session_engine.specs.Host.{HostView}
 use Rattle.session_engine.specs.World.{World, world_at_opening}
-use Rattle.child_edge.specs.Faithful.{Relation, At, at, Beat, Served}
+use Rattle.child_edge.specs.Broken.{WaitStopped}
+use Rattle.child_edge.specs.Edge.{Stopped}
+use Rattle.child_edge.specs.Faithful.{Relation, At, at, Beat, Served, ServedUpTo}
 use Rattle.child_edge.specs.Kept.{HoldsSheet}
+use Rattle.child_edge.specs.Limits.{most_turns}
 use Rattle.child_edge.specs.Seats.{running}
 use Rattle.child_edge.specs.Stops.{Stops}
 use Rattle.sheet_text.specs.declared.script.ScriptLine.TheVariants as line
@@ -69,10 +76,43 @@ pub record SheetLed {C : Type 0} (R : Relation C) (sheet : Contents) (c d : C) (
   pub led : FirstLed R left mid leads
   pub stops : Stops R (running leads.world) leads.children d
 
+-- The first of these fields was evaluated up to this event, which its `eval` or its `wait` came to.
+pub data FirstUpTo {C : Type 0} (R : Relation C) (fields : List Field) (s : At C) (e : Event) (t : At C) : Type 0 where
+  in_eval : (field : Field) (others : List Field) (beats : List Beat) → fields ≡ field ∷ others → ServedUpTo R s (eval_of field.id) beats e t → FirstUpTo R fields s e t
+  in_wait : (field : Field) (others : List Field) (beats : List Beat) (mid : At C) (last : List Beat) → fields ≡ field ∷ others → Served R s (eval_of field.id) beats mid
+      → WaitStopped R most_turns mid last e t → FirstUpTo R fields s e t
+
+-- a fault that isn't one of the disk: the copy lies in memory, and that its disk failed is told as want of memory
+abbrev pub NotOfDisk : HostFault → Type 0
+NotOfDisk hosts.Disk = ⊥
+NotOfDisk hosts.OutOfMemory = Unit {0}
+NotOfDisk hosts.JournalFull = Unit {0}
+NotOfDisk hosts.Closed = Unit {0}
+
+-- The first fields were checked, of which this is the text, and the next one up to this event, at which the host had this fault. Then
+-- each life that goes on was stopped.
+pub record SheetStopped {C : Type 0} (R : Relation C) (sheet : Contents) (c d : C) (text : List ℕ) (f : HostFault) : Type 0 where
+  pub start : World
+  pub copy : DiskView
+  pub copied : IsCopy sheet start copy
+  pub gone : List Field
+  pub left : List Field
+  pub split : sheet.fields ≡ gone ++ left
+  pub verdicts : List Verdict
+  pub mid : At C
+  pub checked : FieldsChecked R gone (at start c copy) verdicts text mid
+  pub failed : Event
+  pub leads : At C
+  pub led : FirstUpTo R left mid failed leads
+  pub host : HostView
+  pub stopped : Stopped leads.disk host leads.world failed f
+  pub not_of_disk : NotOfDisk f
+  pub stops : Stops R (running leads.world) leads.children d
+
 -- What a fault of a check of this worksheet leaves: what was told is written, but where the writer failed. That there is no memory may
 -- be told before the copy is there.
 abbrev pub TellsCheck : {C : Type 0} → Relation C → Contents → C → C → Option (List ℕ) → Option (List ℕ) → Type 0 → RunFault → Type 0
-TellsCheck R sheet c d a b nothing (fault.Host why) = (text : List ℕ) × SheetLed R sheet c d text × Appends a b text
+TellsCheck R sheet c d a b nothing (fault.Host why) = (text : List ℕ) × SheetStopped R sheet c d text why × Appends a b text
 TellsCheck R sheet c d a b nothing fault.OutOfMemory = nothing ⊎ ((text : List ℕ) × SheetLed R sheet c d text × Appends a b text)
 TellsCheck R sheet c d a b nothing fault.Output = (text : List ℕ) × SheetLed R sheet c d text
 TellsCheck R sheet c d a b nothing fault.Input = ⊥

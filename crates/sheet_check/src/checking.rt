@@ -1,5 +1,5 @@
 //! The check of a worksheet.
-ghost use Rattle.std.specs.Prelude.{◌≡◌, ◌+◌, ◌≤◌, ◌<◌, ◌^◌, [], List, Err, IfErr, IfOk, length};
+ghost use Rattle.std.specs.Prelude.{◌≡◌, ◌+◌, ◌≤◌, ◌<◌, ◌^◌, List, Err, IfErr, IfOk, length};
 ghost use Rattle.std.specs.Io.KnownBytes.{Appends};
 ghost use Rattle.worksheet.specs.declared.op.Op.{Op};
 ghost use Rattle.recovery.specs.Sheets.{Makes};
@@ -13,7 +13,7 @@ ghost use Rattle.sheet_check.specs.Verdicts.{Compared};
 ghost use Rattle.sheet_check.specs.Texts.{verdict_text};
 ghost use Rattle.sheet_check.specs.Evaluated.{came_if, shown_in};
 ghost use Rattle.sheet_check.specs.Check.{CheckAnswer, OnlyRead, SheetAnswer};
-ghost use Rattle.sheet_check.specs.inside.Checking.{FieldFailed, FieldWrote, FieldsEnded, FieldsFailed, FieldsStopped, FieldsWrote, LeavesText, ShownWrote, total};
+ghost use Rattle.sheet_check.specs.inside.Checking.{FieldFailed, FieldWrote, FieldsEnded, FieldsFailed, FieldsStopped, FieldsWrote, ShownWrote, Untold, total};
 
 use crate::copying::open_copy;
 use crate::evaluating::{ask, wait_for_all};
@@ -40,8 +40,7 @@ fn tell_verdict<W: Write>(
     ensures ok { IfOk result (λ verdict. Compared shown.now.output came.now verdict
         × Appends (W.contents writer.old) (W.contents writer.new)
         (verdict_text field.now came.now verdict)) }
-    ensures err { IfErr result
-        (LeavesText (W.contents writer.old) (W.contents writer.new) []) }
+    ensures err { IfErr result (Untold (W.contents writer.old) (W.contents writer.new)) }
 {
     let verdict = compare(shown, came);
     match verdict {
@@ -70,8 +69,7 @@ fn tell_what_came<D: Disk, W: Write>(
         Compared shown.now.output (came_if asked (shown_in w field.now.id)) verdict
         × Appends (W.contents writer.old) (W.contents writer.new)
         (verdict_text field.now (came_if asked (shown_in w field.now.id)) verdict)) }
-    ensures err { IfErr result
-        (LeavesText (W.contents writer.old) (W.contents writer.new) []) }
+    ensures err { IfErr result (Untold (W.contents writer.old) (W.contents writer.new)) }
 {
     if !asked {
         return tell_verdict(alloc, field, shown, &None, writer);

@@ -1,6 +1,5 @@
 //! The evaluation of a field anew.
 ghost use Rattle.std.specs.Prelude.{◌≡◌, ◌∷◌, [], List, IfErr, IfOk, OnOk, Some};
-ghost use Rattle.disk_model.specs.Disk.{DiskView};
 ghost use Rattle.session_engine.specs.World.{World};
 ghost use Rattle.session_engine.specs.Host.{IsHost};
 ghost use Rattle.session_engine.specs.declared.command.Command.TheVariants as command;
@@ -8,10 +7,8 @@ ghost use Rattle.child_edge.specs.Faithful.{at, Beat, Served, Waited};
 ghost use Rattle.child_edge.specs.Limits.{most_turns};
 ghost use Rattle.child_edge.specs.Told.{told};
 ghost use Rattle.sheet_text.specs.declared.script.ScriptLine.TheVariants as said;
-ghost use Rattle.sheet_programs.specs.Lines.{LineLed};
-ghost use Rattle.sheet_programs.specs.Told.{StandsOrStopped};
 ghost use Rattle.sheet_check.specs.Evaluated.{begins_asked, eval_of, is_asked as says_asked};
-ghost use Rattle.sheet_check.specs.inside.Checking.{IsOfHost};
+ghost use Rattle.sheet_check.specs.inside.Checking.{PartFailed, fault_of_cause};
 
 use child_edge::{Children, EdgeCause, EdgeFault, serve, wait};
 use disk_model::Disk;
@@ -22,11 +19,13 @@ use std::alloc::Global;
 /// The fault of a check by why its edge broke off. Its disk lies in memory, so it fails for want of that
 /// alone.
 fn check_fault(cause: EdgeCause) -> RunFault
-    ensures { IsOfHost result }
+    ensures { result ≡ fault_of_cause cause }
 {
     match cause {
         EdgeCause::Host(HostFault::Disk) => RunFault::OutOfMemory,
-        EdgeCause::Host(fault) => RunFault::Host(fault),
+        EdgeCause::Host(HostFault::OutOfMemory) => RunFault::Host(HostFault::OutOfMemory),
+        EdgeCause::Host(HostFault::JournalFull) => RunFault::Host(HostFault::JournalFull),
+        EdgeCause::Host(HostFault::Closed) => RunFault::Host(HostFault::Closed),
         EdgeCause::OutOfMemory => RunFault::OutOfMemory,
     }
 }
@@ -63,10 +62,9 @@ pub(crate) fn ask<D: Disk, C: Children>(
         × Served C.after (at w children.old host.old.store.disk) (eval_of id) beats
         (at t children.new host.new.store.disk)
         × IsHost host.new t × (asked ≡ begins_asked (told beats))) }
-    ensures err { (w : World) → IsHost host.old w → IfErr result (λ why. (t : World) × (d : DiskView)
-        × LineLed C.after (Some (said.Command (command.Eval id)))
-        (at w children.old host.old.store.disk) (at t children.new d)
-        × StandsOrStopped host.new t d × IsOfHost why) }
+    ensures err { (w : World) → IsHost host.old w → IfErr result (PartFailed C.after
+        (Some (said.Command (command.Eval id))) (at w children.old host.old.store.disk)
+        host.new children.new) }
 {
     match serve(alloc, host, children, Command::Eval { id }) {
         Ok(replies) => Ok(was_asked(replies.as_slice())),
@@ -83,10 +81,8 @@ pub(crate) fn wait_for_all<D: Disk, C: Children>(
     ensures ok { (w : World) → IsHost host.old w → OnOk result ((beats : List Beat) × (t : World)
         × Waited C.after most_turns (at w children.old host.old.store.disk) beats
         (at t children.new host.new.store.disk) × IsHost host.new t) }
-    ensures err { (w : World) → IsHost host.old w → IfErr result (λ why. (t : World) × (d : DiskView)
-        × LineLed C.after (Some said.Wait)
-        (at w children.old host.old.store.disk) (at t children.new d)
-        × StandsOrStopped host.new t d × IsOfHost why) }
+    ensures err { (w : World) → IsHost host.old w → IfErr result (PartFailed C.after
+        (Some said.Wait) (at w children.old host.old.store.disk) host.new children.new) }
 {
     match wait(alloc, host, children) {
         Ok(_) => Ok(()),

@@ -3,7 +3,7 @@ ghost use Rattle.std.specs.Prelude.{◌≡◌, ◌++◌, [], None, codes, IfOk, 
 ghost use Rattle.std.specs.Io.KnownBytes.{Appends};
 ghost use Rattle.sheet_text.specs.Texts.{input_line, number_line, output_lines};
 ghost use Rattle.sheet_check.specs.Texts as printed;
-ghost use Rattle.sheet_check.specs.inside.Checking.{LeavesText};
+ghost use Rattle.sheet_check.specs.inside.Checking.{Untold};
 
 use crate::verdict::Counts;
 use bstr::ByteSlice;
@@ -67,8 +67,7 @@ pub(crate) fn tell_difference<W: Write>(
 ) -> Result<(), RunFault>
     ensures ok { OnOk result (Appends (W.contents writer.old) (W.contents writer.new)
         (printed.difference_text field.now came.now)) }
-    ensures err { IfErr result
-        (LeavesText (W.contents writer.old) (W.contents writer.new) []) }
+    ensures err { IfErr result (Untold (W.contents writer.old) (W.contents writer.new)) }
 {
     let Ok(old) = output_in_memory(alloc, &field.answer) else {
         return Err(RunFault::OutOfMemory);

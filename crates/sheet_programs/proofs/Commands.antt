@@ -1,6 +1,6 @@
 -- A command that is taken, and what is written of it.
 use Rattle.std.proofs.Common.{◌≡◌, inl, inr, ℕ, List, [], Option, Some, refl, ap, sym, subst}
-use Rattle.std.specs.Prelude.{Result, Ok, Err, OnOk, IfErr}
+use Rattle.std.specs.List.{list_any}
 use Rattle.std.specs.Io.KnownBytes.{Appends}
 use Rattle.session_engine.specs.World.{World}
 use Rattle.session_engine.specs.Host.{HostView, IsHost}
@@ -15,13 +15,23 @@ use Rattle.child_edge.specs.Edge.{ByCause}
 use Rattle.sheet_text.specs.declared.script.ScriptLine.TheVariants as line
 use Rattle.sheet_text.specs.declared.script.ScriptLine.{ScriptLine}
 use Rattle.sheet_programs.specs.Lines.{LineDone, whole, up_to, so_far, beats_text, replies_text}
-use Rattle.sheet_programs.specs.Told.{LineWrote, LineFailed, fault_of_cause}
+use Rattle.sheet_programs.specs.Strict.{goes_wrong, is_wrong}
+use Rattle.sheet_programs.specs.Told.{LineFailed, fault_of_cause}
+use Rattle.sheet_programs.specs.inside.Taking.{LineTook}
 use Rattle.sheet_programs.specs.declared.fault.RunFault.{RunFault}
 use Rattle.sheet_programs.specs.declared.fault.RunFault.TheVariants as fault
 
 module _ {C : Type 0} (R : Relation C) (told : Command) (s : At C) (g : HostView) (d : C) (replies : List Reply) (a b : Option (List ℕ)) where
-  pub command_done : (number : ℕ) → RanFrom s (λ x. Served R x (event.Command told)) g d replies → Appends a b (replies_text replies) → LineWrote R number (Some (line.Command told)) s g d a b
-  command_done number p wrote = (p.ran.beats, beats_text p.ran.beats, p.ran.leads, (p.ran.form, refl), p.ran.stands, subst (λ (l : List Reply). Appends a b (replies_text l)) p.ran.replied wrote)
+  pub command_done : (number : ℕ) → RanFrom s (λ x. Served R x (event.Command told)) g d replies → Appends a b (replies_text replies) → LineTook R number (Some (line.Command told)) s g d a b (list_any is_wrong replies)
+  command_done number p wrote = (
+    p.ran.beats,
+    beats_text p.ran.beats,
+    p.ran.leads,
+    (p.ran.form, refl),
+    p.ran.stands,
+    subst (λ (l : List Reply). Appends a b (replies_text l)) p.ran.replied wrote,
+    ap (λ (l : List Reply). list_any is_wrong l) p.ran.replied,
+  )
 
   pub command_unwritten : (f : RunFault) → RanFrom s (λ x. Served R x (event.Command told)) g d replies → f ≡ fault.Output → LineFailed R (Some (line.Command told)) s g d a b f
   command_unwritten f p is = subst (LineFailed R (Some (line.Command told)) s g d a b) (sym is)
@@ -52,19 +62,10 @@ module _ {C : Type 0} (R : Relation C) (told : Command) (w : World) (h g : HostV
 
 -- A line that no event comes of.
 
-on_ok_then : {T E P Q : Type 0} (r : Result T E) → (P → Q) → OnOk r P → OnOk r Q
-on_ok_then (Ok x) f p = f p
-on_ok_then (Err e) f p = p
-
-if_err_then : {T E : Type 0} (r : Result T E) (P Q : E → Type 0) → ((e : E) → P e → Q e) → IfErr r P → IfErr r Q
-if_err_then (Ok x) P Q f p = p
-if_err_then (Err e) P Q f p = f e p
-
 module _ {C : Type 0} (R : Relation C) (number : ℕ) (l : Option ScriptLine) (w : World) (h : HostView) (c : C) (a b : Option (List ℕ)) (text : List ℕ)
-    (done : LineDone R number l (at w c h.store.disk) [] text (at w c h.store.disk)) (stands : IsHost h w) (r : Result (Unit {0}) RunFault) where
-  pub still_done : OnOk r (Appends a b text) → OnOk r (LineWrote R number l (at w c h.store.disk) h c a b)
-  still_done p = on_ok_then r (λ wrote. ([], text, w, done, stands, wrote)) p
+    (done : LineDone R number l (at w c h.store.disk) [] text (at w c h.store.disk)) (stands : IsHost h w) where
+  pub still_done : Appends a b text → LineTook R number l (at w c h.store.disk) h c a b (goes_wrong l [])
+  still_done wrote = ([], text, w, done, stands, wrote, refl)
 
-  pub still_failed : IfErr r (λ f. f ≡ fault.Output) → IfErr r (LineFailed R l (at w c h.store.disk) h c a b)
-  still_failed p = if_err_then r (λ f. f ≡ fault.Output) (LineFailed R l (at w c h.store.disk) h c a b)
-      (λ f is. subst (LineFailed R l (at w c h.store.disk) h c a b) (sym is) (w, h.store.disk, whole number [] text done, inl (stands, refl))) p
+  pub still_failed : (f : RunFault) → f ≡ fault.Output → LineFailed R l (at w c h.store.disk) h c a b f
+  still_failed f is = subst (LineFailed R l (at w c h.store.disk) h c a b) (sym is) (w, h.store.disk, whole number [] text done, inl (stands, refl))

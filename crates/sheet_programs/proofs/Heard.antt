@@ -1,7 +1,8 @@
 -- A wait that is told step by step.
 use Rattle.std.proofs.Common.{◌≡◌, true, false, inl, inr, ℕ, List, [], ◌∷◌, ◌++◌, Option, Some, refl, ap, sym, ◌∙◌, subst, append_assoc, append-nil}
 use Rattle.std.proofs.KnownBytes.{Appends-trans, Appends-nil}
-use Rattle.std.specs.Prelude.{Bool, IfOk, IfErr, Result, Ok, Err}
+use Rattle.std.specs.Prelude.{Bool, ◌||◌, IfOk, IfErr, Result, Ok, Err}
+use Rattle.std.specs.List.{list_any}
 use Rattle.std.specs.Io.KnownBytes.{Appends}
 use Rattle.session_engine.specs.World.{World}
 use Rattle.session_engine.specs.Host.{HostView, IsHost}
@@ -19,18 +20,22 @@ use Rattle.child_edge.proofs.Chains.{told-append}
 use Rattle.child_edge.proofs.Stepping.{came_begun, came_so_far}
 use Rattle.sheet_text.specs.Texts.{reply_text}
 use Rattle.sheet_text.specs.declared.script.ScriptLine.TheVariants as line
-use Rattle.sheet_programs.specs.Lines.{LineDone, whole, up_to, so_far, beats_text, replies_text}
+use Rattle.sheet_programs.specs.Lines.{whole, up_to, so_far, beats_text, replies_text}
+use Rattle.sheet_programs.specs.Strict.{is_wrong}
 use Rattle.sheet_programs.specs.Told.{LineFailed, fault_of_cause}
+use Rattle.sheet_programs.specs.inside.Taking.{LineTook}
+use Rattle.sheet_programs.proofs.Stricts.{wrong_on}
 use Rattle.sheet_programs.specs.declared.fault.RunFault.{RunFault}
 use Rattle.sheet_programs.specs.declared.fault.RunFault.TheVariants as fault
 
--- The wait came so far, and all of it is written.
-pub record HeardSoFar {C : Type 0} (R : Relation C) (wait : Waiting) (s : At C) (h : HostView) (c : C) (a b : Option (List ℕ)) : Type 0 where
+-- The wait came so far, all of it is written, and this says whether it went wrong.
+pub record HeardSoFar {C : Type 0} (R : Relation C) (wait : Waiting) (s : At C) (h : HostView) (c : C) (a b : Option (List ℕ)) (wrong : Bool) : Type 0 where
   pub beats : List Beat
   pub leads : World
   pub came : Came R wait s beats (at leads c h.store.disk)
   pub stands : IsHost h leads
   pub wrote : Appends a b (beats_text beats)
+  pub goes : wrong ≡ list_any is_wrong (told beats)
 
 -- what a step gives, by what it answered
 abbrev pub StepGave : {C : Type 0} → Relation C → Waiting → At C → List Beat → World → HostView → HostView → C → C → List Reply → List Reply → Result Bool EdgeCause → Type 0
@@ -46,15 +51,23 @@ pub text_on : (bs cs : List Beat) (replies : List Reply) → replies ≡ told cs
 text_on bs cs replies e = ap (λ (l : List Reply). beats_text bs ++ replies_text l) e ∙ sym (replies-append (told bs) (told cs)) ∙ ap (λ (l : List Reply). replies_text l) (sym (told-append bs cs))
 
 module _ {C : Type 0} (R : Relation C) where
-  pub none_heard : (wait : Waiting) (w : World) (h : HostView) (c : C) (a : Option (List ℕ)) → IsBegun wait w → IsHost h w → HeardSoFar R wait (at w c h.store.disk) h c a a
-  none_heard wait w h c a begun stands = record { beats = []; leads = w; came = came_begun R wait w c h.store.disk begun; stands = stands; wrote = Appends-nil a }
+  pub none_heard : (wait : Waiting) (w : World) (h : HostView) (c : C) (a : Option (List ℕ)) → IsBegun wait w → IsHost h w → HeardSoFar R wait (at w c h.store.disk) h c a a false
+  none_heard wait w h c a begun stands = record { beats = []; leads = w; came = came_begun R wait w c h.store.disk begun; stands = stands; wrote = Appends-nil a; goes = refl }
 
-  module _ (old wait : Waiting) (s : At C) (h g : HostView) (c d : C) (a b e : Option (List ℕ)) (replies : List Reply) (so : HeardSoFar R old s h c a b) where
+  module _ (old wait : Waiting) (s : At C) (h g : HostView) (c d : C) (a b e : Option (List ℕ)) (replies : List Reply) (wrong : Bool) (so : HeardSoFar R old s h c a b wrong) where
     wrote-on : (cs : List Beat) → replies ≡ told cs → Appends b e (replies_text replies) → Appends a e (beats_text (so.beats ++ cs))
     wrote-on cs is wrote = subst (Appends a e) (text_on so.beats cs replies is) (Appends-trans a b e (beats_text so.beats) (replies_text replies) so.wrote wrote)
 
-    pub one_heard : Stepped R wait s so.beats so.leads h g c d [] replies true → Appends b e (replies_text replies) → HeardSoFar R wait s g d a e
-    one_heard p wrote = record { beats = so.beats ++ p.beats; leads = p.leads; came = p.form; stands = p.stands; wrote = wrote-on p.beats p.replied wrote }
+    pub one_heard : (after : Bool) → Stepped R wait s so.beats so.leads h g c d [] replies true → Appends b e (replies_text replies) → after ≡ (wrong || list_any is_wrong replies)
+        → HeardSoFar R wait s g d a e after
+    one_heard after p wrote is = record {
+      beats = so.beats ++ p.beats;
+      leads = p.leads;
+      came = p.form;
+      stands = p.stands;
+      wrote = wrote-on p.beats p.replied wrote;
+      goes = is ∙ ap (λ b. b || list_any is_wrong replies) so.goes ∙ ap (λ (l : List Reply). list_any is_wrong (told so.beats) || list_any is_wrong l) p.replied ∙ wrong_on so.beats p.beats;
+    }
 
     -- nothing has changed
     unmoved : (P : At C → Type 0) → g ≡ h → d ≡ c → P (at so.leads c h.store.disk) → P (at so.leads d g.store.disk)
@@ -64,7 +77,7 @@ module _ {C : Type 0} (R : Relation C) where
     wrote-same is wrote = subst (Appends a e) (append-nil (beats_text so.beats)) (Appends-trans a b e (beats_text so.beats) [] so.wrote (subst (λ (l : List Reply). Appends b e (replies_text l)) is wrote))
 
     pub all_heard : (number : ℕ) → Stepped R wait s so.beats so.leads h g c d [] replies false → Appends b e (replies_text replies)
-        → (beats : List Beat) × (text : List ℕ) × (t : World) × LineDone R number (Some line.Wait) s beats text (at t d g.store.disk) × IsHost g t × Appends a e text
+        → LineTook R number (Some line.Wait) s g d a e wrong
     all_heard number p wrote = (
       so.beats,
       beats_text so.beats,
@@ -72,6 +85,7 @@ module _ {C : Type 0} (R : Relation C) where
       (unmoved (λ t. Waited R most_turns s so.beats t) p.1 p.2 p.0, refl),
       subst (λ (y : HostView). IsHost y so.leads) (sym p.1) so.stands,
       wrote-same p.3 wrote,
+      so.goes,
     )
 
     pub wait_failed : (why : EdgeCause) → ByCause why

@@ -1,4 +1,5 @@
 pub mod Scripting
+pub mod Stricts
 pub mod Runs
 pub mod Commands
 pub mod Heard

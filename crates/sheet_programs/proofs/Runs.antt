@@ -1,8 +1,8 @@
 -- Lines of a script over a worksheet on a disk, one after another.
-use Rattle.std.proofs.Common.{◌≡◌, ◌+◌, ◌≤◌, ◌<◌, inl, inr, ℕ, true, List, [], ◌∷◌, ◌++◌, Option, Some, None, refl, ap, sym, ◌∙◌, subst, append_assoc, append-nil, length, arith}
+use Rattle.std.proofs.Common.{◌≡◌, ◌+◌, ◌≤◌, ◌<◌, inl, inr, ℕ, true, false, List, [], ◌∷◌, ◌++◌, Option, Some, None, refl, ap, sym, ◌∙◌, subst, append_assoc, append-nil, length, arith}
 use Rattle.std.proofs.KnownBytes.{Appends-trans, Appends-nil}
 use Rattle.std.proofs.lemmas.Bool.{false≢true}
-use Rattle.std.specs.Prelude.{IfSome, IfErr, OnOk, Result, Ok, Err, min}
+use Rattle.std.specs.Prelude.{Bool, ◌&&◌, IfSome, IfOk, IfErr, OnOk, Result, Ok, Err, min}
 use Rattle.std.specs.Io.KnownBytes.{Appends}
 use Rattle.std.proofs.lemmas.Option.{IfSome_then}
 use Rattle.std.proofs.Math.Nat.{le-min, min-le_left, min-le_right}
@@ -30,9 +30,11 @@ use Rattle.sheet_text.specs.declared.script.ScriptLine.TheVariants as line
 use Rattle.sheet_programs.specs.Lines.{LineDone, LinesDone, LineUpTo, LineSoFar, LineLed, whole, up_to, so_far, beats_text, led_beats}
 use Rattle.sheet_programs.specs.Input.{IsInputFault, max_input}
 use Rattle.sheet_programs.specs.Memory.{script_lines}
-use Rattle.sheet_programs.specs.Run.{OpenedOn, LinesBefore, LinesUpTo, LinesSoFar, LinesLed, RunDone, RunStopped, RunSoFar, RunLed, TellsRun}
+use Rattle.sheet_programs.specs.Run.{OpenedOn, LinesBefore, LinesUpTo, LinesSoFar, LinesLed, RunOf, RunStopped, RunSoFar, RunLed}
 use Rattle.sheet_programs.specs.Told.{LineFailed, LeavesFrontsAnyhow, StandsOrStopped}
-use Rattle.sheet_programs.specs.inside.Taking.{LinesFailed, LinesStopped}
+use Rattle.sheet_programs.specs.Strict.{GoRight, goes_wrong}
+use Rattle.sheet_programs.specs.inside.Taking.{LinesFailed, LinesStopped, LinesTaken, RightIf, TellsBy}
+use Rattle.sheet_programs.proofs.Stricts.{is_strict, none_wrong, right_more, went_wrong}
 use Rattle.sheet_programs.specs.declared.fault.RunFault.{RunFault}
 use Rattle.sheet_programs.specs.declared.fault.RunFault.TheVariants as fault
 
@@ -75,8 +77,8 @@ lines-more R number (x ∷ xs) line s beats text mid more last t h p =
       ap (λ y. y ++ last) h.8 ∙ append_assoc h.3 h.4 last,
     )
 
--- The first lines of a script were done, as many as this number, and these are left.
-pub record DoneSoFar {C : Type 0} (R : Relation C) (all : List (List ℕ)) (number : ℕ) (left : List (List ℕ)) (s : At C) (h : HostView) (c : C) (a b : Option (List ℕ)) : Type 0 where
+-- The first lines of a script were done, as many as this number, and these are left. In a strict run none of them went wrong.
+pub record DoneSoFar {C : Type 0} (R : Relation C) (strict : Bool) (all : List (List ℕ)) (number : ℕ) (left : List (List ℕ)) (s : At C) (h : HostView) (c : C) (a b : Option (List ℕ)) : Type 0 where
   pub done : List (List ℕ)
   pub beats : List Beat
   pub text : List ℕ
@@ -86,15 +88,16 @@ pub record DoneSoFar {C : Type 0} (R : Relation C) (all : List (List ℕ)) (numb
   pub ran : LinesDone R 1 done s beats text (at leads c h.store.disk)
   pub stands : IsHost h leads
   pub wrote : Appends a b text
+  pub right : RightIf strict done beats
 
-pub none_done : {C : Type 0} (R : Relation C) (all : List (List ℕ)) (left : List (List ℕ)) (w : World) (h : HostView) (c : C) (a : Option (List ℕ)) → left ≡ all → IsHost h w → DoneSoFar R all 0 left (at w c h.store.disk) h c a a
-none_done R all left w h c a e stands = record { done = []; beats = []; text = []; leads = w; split = sym e; count = refl; ran = (refl, refl, refl); stands = stands; wrote = Appends-nil a }
+pub none_done : {C : Type 0} (R : Relation C) (strict : Bool) (all : List (List ℕ)) (left : List (List ℕ)) (w : World) (h : HostView) (c : C) (a : Option (List ℕ)) → left ≡ all → IsHost h w → DoneSoFar R strict all 0 left (at w c h.store.disk) h c a a
+none_done R strict all left w h c a e stands = record { done = []; beats = []; text = []; leads = w; split = sym e; count = refl; ran = (refl, refl, refl); stands = stands; wrote = Appends-nil a; right = none_wrong strict }
 
-pub one_done : {C : Type 0} (R : Relation C) (all : List (List ℕ)) (number : ℕ) (left : List (List ℕ)) (line : List ℕ) (others : List (List ℕ)) (s : At C) (h : HostView) (c : C) (a b : Option (List ℕ))
-    (g : HostView) (d : C) (e : Option (List ℕ)) (more : List Beat) (last : List ℕ) (t : World)
-    → left ≡ line ∷ others → (so : DoneSoFar R all number left s h c a b) → LineDone R (number + 1) (line_of line) (at so.leads c h.store.disk) more last (at t d g.store.disk) → IsHost g t → Appends b e last
-    → DoneSoFar R all (number + 1) others s g d a e
-one_done R all number left line others s h c a b g d e more last t is so p stands wrote =
+pub one_done : {C : Type 0} (R : Relation C) (strict : Bool) (all : List (List ℕ)) (number : ℕ) (left : List (List ℕ)) (line : List ℕ) (others : List (List ℕ)) (s : At C) (h : HostView) (c : C) (a b : Option (List ℕ))
+    (g : HostView) (d : C) (e : Option (List ℕ)) (more : List Beat) (last : List ℕ) (t : World) (wrong : Bool)
+    → left ≡ line ∷ others → (so : DoneSoFar R strict all number left s h c a b) → LineDone R (number + 1) (line_of line) (at so.leads c h.store.disk) more last (at t d g.store.disk) → IsHost g t → Appends b e last → wrong ≡ goes_wrong (line_of line) more → (strict && wrong) ≡ false
+    → DoneSoFar R strict all (number + 1) others s g d a e
+one_done R strict all number left line others s h c a b g d e more last t wrong is so p stands wrote goes on =
     let same : number + 1 ≡ 1 + length so.done = omega (arith, so.count) in
     record {
       done = so.done ++ line ∷ [];
@@ -107,53 +110,90 @@ one_done R all number left line others s h c a b g d e more last t is so p stand
           (subst (λ n. LineDone R n (line_of line) (at so.leads c h.store.disk) more last (at t d g.store.disk)) same p);
       stands = stands;
       wrote = Appends-trans a b e so.text last so.wrote wrote;
+      right = right_more strict wrong so.done line so.beats more so.right on goes;
     }
   where
     length-snoc : {A : Type 0} (xs : List A) (x : A) → length (xs ++ x ∷ []) ≡ length xs + 1
     length-snoc [] x = refl
     length-snoc (y ∷ ys) x = omega (arith, length-snoc ys x)
 
-pub all_done : {C : Type 0} (R : Relation C) (all : List (List ℕ)) (number : ℕ) (left : List (List ℕ)) (s : At C) (h : HostView) (c : C) (a b : Option (List ℕ))
-    → left ≡ [] → (so : DoneSoFar R all number left s h c a b)
-    → (beats : List Beat) × (text : List ℕ) × (t : World) × LinesDone R 1 all s beats text (at t c h.store.disk) × IsHost h t × Appends a b text
-all_done R all number left s h c a b e so =
-    let same : so.done ≡ all = sym (so.split ∙ ap (λ x. so.done ++ x) e ∙ append-nil so.done) in
-    (so.beats, so.text, so.leads, subst (λ ls. LinesDone R 1 ls s so.beats so.text (at so.leads c h.store.disk)) same so.ran, so.stands, so.wrote)
+pub all_done : {C : Type 0} (R : Relation C) (strict : Bool) (all : List (List ℕ)) (number : ℕ) (left : List (List ℕ)) (s : At C) (h : HostView) (c : C) (a b : Option (List ℕ))
+    → left ≡ [] → (so : DoneSoFar R strict all number left s h c a b)
+    → (beats : List Beat) × (text : List ℕ) × (t : World) × LinesTaken R strict all None s beats text (at t c h.store.disk) × IsHost h t × Appends a b text
+all_done {C = C} R strict all number left s h c a b e so = (so.beats, so.text, so.leads, whole strict so.right, so.stands, so.wrote)
+  where
+    same : so.done ≡ all
+    same = sym (so.split ∙ ap (λ x. so.done ++ x) e ∙ append-nil so.done)
+
+    ran : LinesDone R 1 all s so.beats so.text (at so.leads c h.store.disk)
+    ran = subst (λ ls. LinesDone R 1 ls s so.beats so.text (at so.leads c h.store.disk)) same so.ran
+
+    whole : (x : Bool) → RightIf x so.done so.beats → LinesTaken R x all None s so.beats so.text (at so.leads c h.store.disk)
+    whole false right = ran
+    whole true right = (ran, subst (λ ls. GoRight ls so.beats) same right)
 
 -- Where a line broke off, the lines did.
 
-lines-before : {C : Type 0} (R : Relation C) (all : List (List ℕ)) (number : ℕ) (left : List (List ℕ)) (line : List ℕ) (others : List (List ℕ)) (s : At C) (h : HostView) (c : C) (a b : Option (List ℕ))
-    → left ≡ line ∷ others → (so : DoneSoFar R all number left s h c a b) → LinesBefore R all line s so.beats so.text (at so.leads c h.store.disk)
-lines-before R all number left line others s h c a b is so = record { done = so.done; rest = others; split = so.split ∙ ap (λ x. so.done ++ x) is; ran = so.ran }
+abbrev lines-before : {C : Type 0} (R : Relation C) (strict : Bool) (all : List (List ℕ)) (number : ℕ) (left : List (List ℕ)) (line : List ℕ) (others : List (List ℕ)) (s : At C) (h : HostView) (c : C) (a b : Option (List ℕ))
+    → left ≡ line ∷ others → (so : DoneSoFar R strict all number left s h c a b) → LinesBefore R all line s so.beats so.text (at so.leads c h.store.disk)
+lines-before R strict all number left line others s h c a b is so = record { done = so.done; rest = others; split = so.split ∙ ap (λ x. so.done ++ x) is; ran = so.ran }
 
-pub lines_failed : {C : Type 0} (R : Relation C) (all : List (List ℕ)) (number : ℕ) (left : List (List ℕ)) (line : List ℕ) (others : List (List ℕ)) (s : At C) (h : HostView) (c : C) (a b : Option (List ℕ))
+pub line_stopped : {C : Type 0} (R : Relation C) (strict : Bool) (all : List (List ℕ)) (number : ℕ) (left : List (List ℕ)) (line : List ℕ) (others : List (List ℕ)) (s : At C) (h : HostView) (c : C) (a b : Option (List ℕ))
+    (g : HostView) (d : C) (e : Option (List ℕ)) (more : List Beat) (last : List ℕ) (t : World) (wrong : Bool)
+    → left ≡ line ∷ others → (so : DoneSoFar R strict all number left s h c a b) → LineDone R (number + 1) (line_of line) (at so.leads c h.store.disk) more last (at t d g.store.disk) → IsHost g t → Appends b e last
+    → wrong ≡ goes_wrong (line_of line) more → (strict && wrong) ≡ true
+    → (beats : List Beat) × (text : List ℕ) × (t : World) × LinesTaken R strict all (Some (number + 1)) s beats text (at t d g.store.disk) × IsHost g t × Appends a e text
+line_stopped R strict all number left line others s h c a b g d e more last t wrong is so p stands wrote goes stops =
+    (so.beats ++ more, so.text ++ last, t, taken strict (is_strict strict wrong stops) so.right, stands, Appends-trans a b e so.text last so.wrote wrote)
+  where
+    taken : (x : Bool) → x ≡ true → RightIf x so.done so.beats → LinesTaken R x all (Some (number + 1)) s (so.beats ++ more) (so.text ++ last) (at t d g.store.disk)
+    taken false e right = absurd (false≢true e)
+    taken true e right = record {
+      line = line;
+      mid = at so.leads c h.store.disk;
+      earlier = so.beats;
+      first = so.text;
+      before = lines-before R strict all number left line others s h c a b is so;
+      right = right;
+      count = omega (arith, so.count);
+      last = more;
+      rest = last;
+      ran = p;
+      wrong = sym goes ∙ went_wrong strict wrong stops;
+      took = refl;
+      wrote = refl;
+    }
+
+pub lines_failed : {C : Type 0} (R : Relation C) (strict : Bool) (all : List (List ℕ)) (number : ℕ) (left : List (List ℕ)) (line : List ℕ) (others : List (List ℕ)) (s : At C) (h : HostView) (c : C) (a b : Option (List ℕ))
     (g : HostView) (d : C) (e : Option (List ℕ)) (f : RunFault)
-    → left ≡ line ∷ others → (so : DoneSoFar R all number left s h c a b) → LineFailed R (line_of line) (at so.leads c h.store.disk) g d b e f
-    → LinesFailed R all s g d a e f
-lines_failed R all number left line others s h c a b g d e (fault.Host f) is so p = (
+    → left ≡ line ∷ others → (so : DoneSoFar R strict all number left s h c a b) → LineFailed R (line_of line) (at so.leads c h.store.disk) g d b e f
+    → LinesFailed R strict all s g d a e f
+lines_failed R strict all number left line others s h c a b g d e (fault.Host f) is so p = (
   so.beats ++ p.0,
   so.text ++ beats_text p.0,
   p.1,
   p.2,
   p.3,
-  record { line = line; mid = at so.leads c h.store.disk; earlier = so.beats; first = so.text; beats = p.0; before = lines-before R all number left line others s h c a b is so; broke = p.4; took = refl; wrote = refl },
+  record { line = line; mid = at so.leads c h.store.disk; earlier = so.beats; first = so.text; beats = p.0; before = lines-before R strict all number left line others s h c a b is so; broke = p.4; took = refl; wrote = refl },
   p.5,
   Appends-trans a b e so.text (beats_text p.0) so.wrote p.6,
+  so.right,
 )
-lines_failed R all number left line others s h c a b g d e fault.OutOfMemory is so p = (
+lines_failed R strict all number left line others s h c a b g d e fault.OutOfMemory is so p = (
   so.beats ++ p.0,
   so.text ++ beats_text p.0,
   p.1,
-  record { line = line; mid = at so.leads c h.store.disk; earlier = so.beats; first = so.text; beats = p.0; before = lines-before R all number left line others s h c a b is so; broke = p.2; took = refl; wrote = refl },
+  record { line = line; mid = at so.leads c h.store.disk; earlier = so.beats; first = so.text; beats = p.0; before = lines-before R strict all number left line others s h c a b is so; broke = p.2; took = refl; wrote = refl },
   p.3,
   Appends-trans a b e so.text (beats_text p.0) so.wrote p.4,
+  so.right,
 )
-lines_failed R all number left line others s h c a b g d e fault.Output is so p =
-    (p.0, p.1, record { line = line; mid = at so.leads c h.store.disk; earlier = so.beats; first = so.text; before = lines-before R all number left line others s h c a b is so; led = p.2 }, p.3)
-lines_failed R all number left line others s h c a b g d e fault.Input is so p = absurd p
-lines_failed R all number left line others s h c a b g d e fault.InputTooLong is so p = absurd p
-lines_failed R all number left line others s h c a b g d e (fault.Open why) is so p = absurd p
-lines_failed R all number left line others s h c a b g d e fault.InUse is so p = absurd p
+lines_failed R strict all number left line others s h c a b g d e fault.Output is so p =
+    (p.0, p.1, record { line = line; mid = at so.leads c h.store.disk; earlier = so.beats; first = so.text; before = lines-before R strict all number left line others s h c a b is so; led = p.2 }, p.3, so.right)
+lines_failed R strict all number left line others s h c a b g d e fault.Input is so p = absurd p
+lines_failed R strict all number left line others s h c a b g d e fault.InputTooLong is so p = absurd p
+lines_failed R strict all number left line others s h c a b g d e (fault.Open why) is so p = absurd p
+lines_failed R strict all number left line others s h c a b g d e fault.InUse is so p = absurd p
 
 -- The stops behind it.
 
@@ -165,15 +205,15 @@ pub stops_behind : {C : Type 0} (R : Relation C) (h : HostView) (c d : C) (t : W
 stops_behind R h c d t disk stops (inl stands) = stops.0 t stands.0
 stops_behind R h c d t disk stops (inr p) = stops.1 t p.0 disk p.1 p.2
 
-pub lines_stopped : {C : Type 0} (R : Relation C) (lines : List (List ℕ)) (s : At C) (h : HostView) (c d : C) (a b : Option (List ℕ)) (f : RunFault)
-    → StopsIn R h c d → LinesFailed R lines s h c a b f → LinesStopped R lines s h d a b f
-lines_stopped R lines s h c d a b (fault.Host f) stops p = (p.0, p.1, p.2, at p.3 c p.4, p.5, p.6, stops.1 p.3 p.2 p.4 f p.6, p.7)
-lines_stopped R lines s h c d a b fault.OutOfMemory stops p = (p.0, p.1, at p.2 c h.store.disk, p.3, p.4, refl, stops.0 p.2 p.4, p.5)
-lines_stopped R lines s h c d a b fault.Output stops p = (at p.0 c p.1, p.2, p.3, stops_behind R h c d p.0 p.1 stops p.3)
-lines_stopped R lines s h c d a b fault.Input stops p = absurd p
-lines_stopped R lines s h c d a b fault.InputTooLong stops p = absurd p
-lines_stopped R lines s h c d a b (fault.Open why) stops p = absurd p
-lines_stopped R lines s h c d a b fault.InUse stops p = absurd p
+pub lines_stopped : {C : Type 0} (R : Relation C) (strict : Bool) (lines : List (List ℕ)) (s : At C) (h : HostView) (c d : C) (a b : Option (List ℕ)) (f : RunFault)
+    → StopsIn R h c d → LinesFailed R strict lines s h c a b f → LinesStopped R strict lines s h d a b f
+lines_stopped R strict lines s h c d a b (fault.Host f) stops p = (p.0, p.1, p.2, at p.3 c p.4, p.5, p.6, stops.1 p.3 p.2 p.4 f p.6, p.7, p.8)
+lines_stopped R strict lines s h c d a b fault.OutOfMemory stops p = (p.0, p.1, at p.2 c h.store.disk, p.3, p.4, refl, stops.0 p.2 p.4, p.5, p.6)
+lines_stopped R strict lines s h c d a b fault.Output stops p = (at p.0 c p.1, p.2, p.3, stops_behind R h c d p.0 p.1 stops p.3, p.4)
+lines_stopped R strict lines s h c d a b fault.Input stops p = absurd p
+lines_stopped R strict lines s h c d a b fault.InputTooLong stops p = absurd p
+lines_stopped R strict lines s h c d a b (fault.Open why) stops p = absurd p
+lines_stopped R strict lines s h c d a b fault.InUse stops p = absurd p
 
 -- Lines are a timeline of the disk.
 
@@ -244,10 +284,10 @@ min_since most a b c later rises =
     let both : min (a + 1) most ≤ min (b + 1) most = le-min (omega (arith, first, later)) (min-le_right (a + 1) most) in
     omega (arith, both, rises)
 
-pub failed_since : {C : Type 0} (R : Relation C) (lines : List (List ℕ)) (disk now : DiskView) (start : World) (c d : C) (h : HostView) (a b : Option (List ℕ)) (f : RunFault)
-    → SameDisk disk now → LinesStopped R lines (at start c now) h d a b f → f ≡ fault.Host hosts.Disk → Rises disk.faults h.store.disk.faults
-failed_since R lines disk now start c d h a b f same p e =
-    let q = subst (λ x. LinesStopped R lines (at start c now) h d a b x) e p in
+pub failed_since : {C : Type 0} (R : Relation C) (strict : Bool) (lines : List (List ℕ)) (disk now : DiskView) (start : World) (c d : C) (h : HostView) (a b : Option (List ℕ)) (f : RunFault)
+    → SameDisk disk now → LinesStopped R strict lines (at start c now) h d a b f → f ≡ fault.Host hosts.Disk → Rises disk.faults h.store.disk.faults
+failed_since R strict lines disk now start c d h a b f same p e =
+    let q = subst (λ x. LinesStopped R strict lines (at start c now) h d a b x) e p in
     let goes = goes_same start now q.0 q.3.world q.3.disk (lines-up-to-goes R lines (at start c now) q.0 q.1 q.2 q.3 q.4) in
     min_since max_faults disk.faults q.3.disk.faults h.store.disk.faults (omega (arith, same.later, goes.later)) q.5.cause.0
 
@@ -255,6 +295,9 @@ failed_since R lines disk now start c d h a b f same p e =
 
 pub on_ok_is : {T E P : Type 0} (r : Result T E) (x : T) → r ≡ Ok x → OnOk r P → P
 on_ok_is {P = P} r x is p = subst (λ s. OnOk s P) is p
+
+pub if_ok_is : {T E : Type 0} (r : Result T E) (P : T → Type 0) (x : T) → r ≡ Ok x → IfOk r P → P x
+if_ok_is r P x is p = subst (λ s. IfOk s P) is p
 
 pub if_err_is : {T E : Type 0} (r : Result T E) (P : E → Type 0) (e : E) → r ≡ Err e → IfErr r P → P e
 if_err_is r P e is p = subst (λ s. IfErr s P) is p
@@ -267,6 +310,10 @@ pub err_same : {T E : Type 0} (r : Result T E) (e d : E) → r ≡ Err e → r �
 err_same r e d is also = ap (error_or e) (sym is ∙ also)
 
 -- The run.
+
+pub if_ok_then : {T E : Type 0} (r : Result T E) (P Q : T → Type 0) → ((x : T) → P x → Q x) → IfOk r P → IfOk r Q
+if_ok_then (Ok x) P Q f h = f x h
+if_ok_then (Err e) P Q f h = h
 
 pub if_err_then : {T E : Type 0} (r : Result T E) (P Q : E → Type 0) → ((e : E) → P e → Q e) → IfErr r P → IfErr r Q
 if_err_then (Ok x) P Q f h = h
@@ -284,12 +331,22 @@ opened_on disk h ops stands found ends looks = record {
   looks = looks;
 }
 
-pub done_run : {C : Type 0} (R : Relation C) (stream : Option (List ℕ)) (disk now : DiskView) (c d : C) (a b : Option (List ℕ)) (back : DiskView) (script : List ℕ) (start : World) (beats : List Beat) (text : List ℕ) (t : At C) (h : HostView)
-    → IfSome stream (λ bytes. script ≡ bytes) → OpenedOn disk start now → HoldsSheet start now → LinesDone R 1 (script_lines script) (at start c now) beats text t → Stops R (running t.world) t.children d → IsHost h t.world
-    → t.disk ≡ h.store.disk → Appends a b text → back ≡ h.store.disk → IfSome stream (λ bytes. RunDone R bytes disk c d a b back)
-done_run R stream disk now c d a b back script start beats text t h is opened held lines stops stands there wrote same =
-    let whole = goes_leaves start now beats t.world t.disk held (lines-goes R 1 (script_lines script) (at start c now) beats text t lines) in
-    IfSome_then stream is (λ bytes e. subst (λ s. RunDone R s disk c d a b back) e
+-- where a run stands that took its lines is known by its beats
+taken-goes : {C : Type 0} (R : Relation C) (strict : Bool) (lines : List (List ℕ)) (stopped : Option ℕ) (s : At C) (beats : List Beat) (text : List ℕ) (t : At C) → LinesTaken R strict lines stopped s beats text t
+    → Goes s.world s.disk beats t.world t.disk
+taken-goes R false lines stopped s beats text t p = lines-goes R 1 lines s beats text t p
+taken-goes R true lines None s beats text t p = lines-goes R 1 lines s beats text t p.0
+taken-goes R true lines (Some number) s beats text t p =
+    subst (λ (bs : List Beat). Goes s.world s.disk bs t.world t.disk) (sym p.took)
+    (goes_on_by s.world s.disk p.earlier p.mid.world p.mid.disk p.last t.world t.disk (lines-goes R 1 p.before.done s p.earlier p.first p.mid p.before.ran)
+    (line-goes R number (line_of p.line) p.mid p.last p.rest t p.ran))
+
+pub done_run : {C : Type 0} (R : Relation C) (strict : Bool) (stopped : Option ℕ) (stream : Option (List ℕ)) (disk now : DiskView) (c d : C) (a b : Option (List ℕ)) (back : DiskView) (script : List ℕ) (start : World) (beats : List Beat) (text : List ℕ) (t : At C) (h : HostView)
+    → IfSome stream (λ bytes. script ≡ bytes) → OpenedOn disk start now → HoldsSheet start now → LinesTaken R strict (script_lines script) stopped (at start c now) beats text t → Stops R (running t.world) t.children d → IsHost h t.world
+    → t.disk ≡ h.store.disk → Appends a b text → back ≡ h.store.disk → IfSome stream (λ bytes. RunOf R (LinesTaken R strict (script_lines bytes) stopped) disk c d a b back)
+done_run R strict stopped stream disk now c d a b back script start beats text t h is opened held lines stops stands there wrote same =
+    let whole = goes_leaves start now beats t.world t.disk held (taken-goes R strict (script_lines script) stopped (at start c now) beats text t lines) in
+    IfSome_then stream is (λ bytes e. subst (λ s. RunOf R (LinesTaken R strict (script_lines s) stopped) disk c d a b back) e
     (record {
       start = start;
       now = now;
@@ -305,68 +362,90 @@ done_run R stream disk now c d a b back script start beats text t h is opened he
       moments = subst (LeavesFronts start beats now) (there ∙ sym same) whole;
     }))
 
-pub unread_script : {C : Type 0} (R : Relation C) (stream : Option (List ℕ)) (disk : DiskView) (c d : C) (a b : Option (List ℕ)) (nothing : Type 0) (f : RunFault)
-    → IsInputFault f → (f ≡ fault.InputTooLong → IfSome stream (λ script. max_input < length script)) → nothing → TellsRun R stream disk c d a b nothing f
-unread_script R stream disk c d a b nothing fault.Input is long none = none
-unread_script R stream disk c d a b nothing fault.InputTooLong is long none = (none, long refl)
-unread_script R stream disk c d a b nothing fault.OutOfMemory is long none = inl none
-unread_script R stream disk c d a b nothing fault.Output is long none = absurd is
-unread_script R stream disk c d a b nothing (fault.Host why) is long none = absurd is
-unread_script R stream disk c d a b nothing (fault.Open why) is long none = absurd is
-unread_script R stream disk c d a b nothing fault.InUse is long none = absurd is
+pub unread_script : {C : Type 0} (strict : Bool) (R : Relation C) (stream : Option (List ℕ)) (disk : DiskView) (c d : C) (a b : Option (List ℕ)) (nothing : Type 0) (f : RunFault)
+    → IsInputFault f → (f ≡ fault.InputTooLong → IfSome stream (λ script. max_input < length script)) → nothing → TellsBy strict R stream disk c d a b nothing f
+unread_script false R stream disk c d a b nothing fault.Input is long none = none
+unread_script false R stream disk c d a b nothing fault.InputTooLong is long none = (none, long refl)
+unread_script false R stream disk c d a b nothing fault.OutOfMemory is long none = inl none
+unread_script false R stream disk c d a b nothing fault.Output is long none = absurd is
+unread_script false R stream disk c d a b nothing (fault.Host why) is long none = absurd is
+unread_script false R stream disk c d a b nothing (fault.Open why) is long none = absurd is
+unread_script false R stream disk c d a b nothing fault.InUse is long none = absurd is
+unread_script true R stream disk c d a b nothing fault.Input is long none = none
+unread_script true R stream disk c d a b nothing fault.InputTooLong is long none = (none, long refl)
+unread_script true R stream disk c d a b nothing fault.OutOfMemory is long none = inl none
+unread_script true R stream disk c d a b nothing fault.Output is long none = absurd is
+unread_script true R stream disk c d a b nothing (fault.Host why) is long none = absurd is
+unread_script true R stream disk c d a b nothing (fault.Open why) is long none = absurd is
+unread_script true R stream disk c d a b nothing fault.InUse is long none = absurd is
 
-pub broken_run : {C : Type 0} (R : Relation C) (stream : Option (List ℕ)) (disk now : DiskView) (c d : C) (a b : Option (List ℕ)) (nothing : Type 0) (f : RunFault) (script : List ℕ) (start : World) (h : HostView)
-    → IfSome stream (λ bytes. script ≡ bytes) → length script ≤ max_input → OpenedOn disk start now → HoldsSheet start now → SameDisk disk h.store.disk → LinesStopped R (script_lines script) (at start c now) h d a b f
-    → TellsRun R stream disk c d a b nothing f
-broken_run R stream disk now c d a b nothing (fault.Host f) script start h is short opened held same p =
-    IfSome_then stream is (λ bytes e. subst (λ s. RunStopped R s disk c d a b f) e
-    (record {
-      start = start;
-      now = now;
-      opened = opened;
-      beats = p.0;
-      text = p.1;
-      failed = p.2;
-      leads = p.3;
-      lines = p.4;
-      host = h;
-      same = same;
-      stopped = p.5;
-      moments = goes_up_to start now p.0 p.3.world p.3.disk p.2 f h held (lines-up-to-goes R (script_lines script) (at start c now) p.0 p.1 p.2 p.3 p.4) p.5;
-      stops = p.6;
-      wrote = p.7;
-    }))
-broken_run R stream disk now c d a b nothing fault.OutOfMemory script start h is short opened held same p =
-    inr (IfSome_then stream is (λ bytes e. subst (λ s. RunSoFar R s disk c d a b) e
-    (record {
-      start = start;
-      now = now;
-      opened = opened;
-      beats = p.0;
-      text = p.1;
-      leads = p.2;
-      lines = p.3;
-      moments = goes_leaves start now p.0 p.2.world p.2.disk held (lines-so-far-goes R (script_lines script) (at start c now) p.0 p.1 p.2 p.3);
-      stops = p.6;
-      wrote = p.7;
-    })))
-broken_run R stream disk now c d a b nothing fault.Output script start h is short opened held same p =
-    IfSome_then stream is (λ bytes e. (
-      subst (λ s. length s ≤ max_input) e short,
-      subst (λ s. RunLed R s disk c d) e
-          (record {
-            start = start;
-            now = now;
-            opened = opened;
-            leads = p.0;
-            lines = p.1;
-            back = h.store.disk;
-            same = same;
-            moments = goes_anyhow start now (p.1.earlier ++ led_beats p.1.led) p.0.world p.0.disk h held (lines-led-goes R (script_lines script) (at start c now) p.0 p.1) p.2;
-            stops = p.3;
-          }),
-    ))
-broken_run R stream disk now c d a b nothing fault.Input script start h is short opened held same p = absurd p
-broken_run R stream disk now c d a b nothing fault.InputTooLong script start h is short opened held same p = absurd p
-broken_run R stream disk now c d a b nothing (fault.Open why) script start h is short opened held same p = absurd p
-broken_run R stream disk now c d a b nothing fault.InUse script start h is short opened held same p = absurd p
+module _ {C : Type 0} (R : Relation C) (disk now : DiskView) (c d : C) (a b : Option (List ℕ)) (script : List ℕ) (start : World) (h : HostView) (opened : OpenedOn disk start now) (held : HoldsSheet start now) (same : SameDisk disk h.store.disk) (strict : Bool) where
+  abbrev run-stopped : (f : HostFault) → LinesStopped R strict (script_lines script) (at start c now) h d a b (fault.Host f) → RunStopped R script disk c d a b f
+  run-stopped f p = record {
+    start = start;
+    now = now;
+    opened = opened;
+    beats = p.0;
+    text = p.1;
+    failed = p.2;
+    leads = p.3;
+    lines = p.4;
+    host = h;
+    same = same;
+    stopped = p.5;
+    moments = goes_up_to start now p.0 p.3.world p.3.disk p.2 f h held (lines-up-to-goes R (script_lines script) (at start c now) p.0 p.1 p.2 p.3 p.4) p.5;
+    stops = p.6;
+    wrote = p.7;
+  }
+
+  abbrev run-so-far : LinesStopped R strict (script_lines script) (at start c now) h d a b fault.OutOfMemory → RunSoFar R script disk c d a b
+  run-so-far p = record {
+    start = start;
+    now = now;
+    opened = opened;
+    beats = p.0;
+    text = p.1;
+    leads = p.2;
+    lines = p.3;
+    moments = goes_leaves start now p.0 p.2.world p.2.disk held (lines-so-far-goes R (script_lines script) (at start c now) p.0 p.1 p.2 p.3);
+    stops = p.6;
+    wrote = p.7;
+  }
+
+  abbrev run-led : LinesStopped R strict (script_lines script) (at start c now) h d a b fault.Output → RunLed R script disk c d
+  run-led p = record {
+    start = start;
+    now = now;
+    opened = opened;
+    leads = p.0;
+    lines = p.1;
+    back = h.store.disk;
+    same = same;
+    moments = goes_anyhow start now (p.1.earlier ++ led_beats p.1.led) p.0.world p.0.disk h held (lines-led-goes R (script_lines script) (at start c now) p.0 p.1) p.2;
+    stops = p.3;
+  }
+
+-- what a fault tells of a script, for the stream that gives it
+told-of : (stream : Option (List ℕ)) (script : List ℕ) (P : List ℕ → Type 0) → IfSome stream (λ bytes. script ≡ bytes) → P script → IfSome stream P
+told-of stream script P is p = IfSome_then stream is (λ bytes e. subst P e p)
+
+module _ {C : Type 0} (R : Relation C) (stream : Option (List ℕ)) (disk now : DiskView) (c d : C) (a b : Option (List ℕ)) (nothing : Type 0) (script : List ℕ) (start : World) (h : HostView)
+    (is : IfSome stream (λ bytes. script ≡ bytes)) (short : length script ≤ max_input) (opened : OpenedOn disk start now) (held : HoldsSheet start now) (same : SameDisk disk h.store.disk) where
+  pub broken_run : (strict : Bool) (f : RunFault) → LinesStopped R strict (script_lines script) (at start c now) h d a b f → TellsBy strict R stream disk c d a b nothing f
+  broken_run false (fault.Host f) p = told-of stream script (λ s. RunStopped R s disk c d a b f) is (run-stopped R disk now c d a b script start h opened held same false f p)
+  broken_run false fault.OutOfMemory p = inr (told-of stream script (λ s. RunSoFar R s disk c d a b) is (run-so-far R disk now c d a b script start h opened held same false p))
+  broken_run false fault.Output p = told-of stream script (λ s. (length s ≤ max_input) × RunLed R s disk c d) is (short, run-led R disk now c d a b script start h opened held same false p)
+  broken_run true (fault.Host f) p =
+      told-of stream script (λ s. (q : RunStopped R s disk c d a b f) × GoRight q.lines.before.done q.lines.earlier) is (run-stopped R disk now c d a b script start h opened held same true f p, p.8)
+  broken_run true fault.OutOfMemory p =
+      inr (told-of stream script (λ s. (q : RunSoFar R s disk c d a b) × GoRight q.lines.before.done q.lines.earlier) is (run-so-far R disk now c d a b script start h opened held same true p, p.8))
+  broken_run true fault.Output p =
+      told-of stream script (λ s. (length s ≤ max_input) × ((q : RunLed R s disk c d) × GoRight q.lines.before.done q.lines.earlier)) is (short, (run-led R disk now c d a b script start h opened held same true p, p.4))
+  broken_run false fault.Input p = absurd p
+  broken_run false fault.InputTooLong p = absurd p
+  broken_run false (fault.Open why) p = absurd p
+  broken_run false fault.InUse p = absurd p
+  broken_run true fault.Input p = absurd p
+  broken_run true fault.InputTooLong p = absurd p
+  broken_run true (fault.Open why) p = absurd p
+  broken_run true fault.InUse p = absurd p

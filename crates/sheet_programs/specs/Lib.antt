@@ -4,5 +4,6 @@ pub mod Memory
 pub mod Lines
 pub mod Told
 pub mod Run
+pub mod Strict
 pub mod Rescue
 pub mod inside

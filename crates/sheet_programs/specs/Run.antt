@@ -73,22 +73,26 @@ pub record LinesLed {C : Type 0} (R : Relation C) (lines : List (List ℕ)) (s t
   pub before : LinesBefore R lines line s earlier first mid
   pub led : LineLed R (line_of line) mid t
 
--- What a run leaves, that came to the end of its script: it wrote this text, then it stopped each life that goes on, and each
--- image of the disk that it gives back is one of the worksheet behind all its events. At every moment since the opening each
--- image was one of the worksheet behind some of its first events.
-pub record RunDone {C : Type 0} (R : Relation C) (script : List ℕ) (disk : DiskView) (c d : C) (a b : Option (List ℕ)) (back : DiskView) : Type 0 where
+-- What a run leaves whose lines were done so, from where the worksheet was opened: it wrote this text, then it stopped each life
+-- that goes on, and each image of the disk that it gives back is one of the worksheet behind all its events. At every moment since
+-- the opening each image was one of the worksheet behind some of its first events.
+pub record RunOf {C : Type 0} (R : Relation C) (Done : At C → List Beat → List ℕ → At C → Type 0) (disk : DiskView) (c d : C) (a b : Option (List ℕ)) (back : DiskView) : Type 0 where
   pub start : World
   pub now : DiskView
   pub opened : OpenedOn disk start now
   pub beats : List Beat
   pub text : List ℕ
   pub leads : At C
-  pub lines : LinesDone R 1 (script_lines script) (at start c now) beats text leads
+  pub lines : Done (at start c now) beats text leads
   pub stops : Stops R (running leads.world) leads.children d
   pub wrote : Appends a b text
   pub back_is : back ≡ leads.disk
   pub holds : HoldsSheet leads.world back
   pub moments : LeavesFronts start beats now back
+
+-- What a run leaves that came to the end of its script.
+abbrev pub RunDone : {C : Type 0} → Relation C → List ℕ → DiskView → C → C → Option (List ℕ) → Option (List ℕ) → DiskView → Type 0
+RunDone R script disk c d a b back = RunOf R (LinesDone R 1 (script_lines script)) disk c d a b back
 
 -- At an event the host had this fault, and its disk was left as told. What was told before is written, and each life that goes on
 -- was stopped.

@@ -16,6 +16,6 @@ pub use input::{MAX_INPUT, read_input};
 pub use memory::run_memory;
 pub use printing::show;
 pub use rescuing::{RescueFault, read_front, save_rescued};
-pub use running::run;
+pub use running::{Ran, run, run_strict};
 pub use taking::{run_command, run_fault, run_line};
 pub use writing::{tell_bad_line, tell_replies, tell_sheet};

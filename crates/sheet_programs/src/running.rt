@@ -1,5 +1,5 @@
 //! A script over a worksheet on a disk, with interpreters.
-ghost use Rattle.std.specs.Prelude.{◌≡◌, ◌<◌, ◌≤◌, ◌^◌, ℕ, List, IfErr, IfOk, IfSome, IsErrOf, OnOk, length};
+ghost use Rattle.std.specs.Prelude.{◌≡◌, ◌<◌, ◌≤◌, ◌^◌, ℕ, List, IfErr, IfOk, IfSome, IsErrOf, OnOk, false, length, true};
 ghost use Rattle.std.specs.Io.KnownBytes.{Appends};
 ghost use Rattle.disk_model.specs.Disk.{SameDisk};
 ghost use Rattle.session_engine.specs.World.{World};
@@ -10,9 +10,9 @@ ghost use Rattle.child_edge.specs.Stops.{Stops};
 ghost use Rattle.sheet_programs.specs.Faults.{FailedSince};
 ghost use Rattle.sheet_programs.specs.Input.{max_input};
 ghost use Rattle.sheet_programs.specs.Memory.{script_lines};
-ghost use Rattle.sheet_programs.specs.Lines.{LinesDone};
-ghost use Rattle.sheet_programs.specs.Run.{RunDone, TellsRun};
-ghost use Rattle.sheet_programs.specs.inside.Taking.{LinesStopped};
+ghost use Rattle.sheet_programs.specs.Run.{RunDone, RunOf, TellsRun};
+ghost use Rattle.sheet_programs.specs.Strict.{StrictDone, TellsStrict};
+ghost use Rattle.sheet_programs.specs.inside.Taking.{LinesStopped, LinesTaken, TellsBy};
 ghost use Rattle.sheet_programs.specs.declared.fault.RunFault.TheVariants as told;
 ghost use Rattle.journal.specs.declared.opening.OpenCause.TheVariants as opens;
 ghost use Rattle.session_engine.specs.declared.outcome.HostFault.TheVariants as hosts;
@@ -25,28 +25,83 @@ use session_engine::Host;
 use std::alloc::Global;
 use std::io::{Read, Write};
 
+/// A run that had no fault.
+#[derive(Drop)]
+pub struct Ran<D: Disk> {
+    /// The disk, with what was told.
+    pub disk: D,
+    /// The number of the line behind which it stopped, where it is strict and did.
+    pub stopped_at: Option<u64>,
+}
+
 /// Does the lines of a script, and stops each life that goes on then.
 fn run_on_host<D: Disk, C: Children, W: Write>(
     alloc: Global,
     host: &mut Host<D>,
     children: &mut C,
     script: &[u8],
+    strict: bool,
     writer: &mut W,
-) -> Result<(), RunFault>
+) -> Result<Option<u64>, RunFault>
     requires { length (script_lines script.now) < 2 ^ 32 }
     ensures same { SameDisk host.old.store.disk host.new.store.disk }
-    ensures ok { (w : World) → IsHost host.old w → OnOk result ((beats : List Beat) × (text : List ℕ) × (t : At C)
-        × LinesDone C.after 1 (script_lines script.now) (at w children.old host.old.store.disk) beats text t
+    ensures ok { (w : World) → IsHost host.old w → IfOk result (λ stopped. (beats : List Beat) × (text : List ℕ)
+        × (t : At C) × LinesTaken C.after strict (script_lines script.now) stopped
+        (at w children.old host.old.store.disk) beats text t
         × Stops C.after (running t.world) t.children children.new
         × IsHost host.new t.world × (t.disk ≡ host.new.store.disk)
         × Appends (W.contents writer.old) (W.contents writer.new) text) }
-    ensures err { (w : World) → IsHost host.old w → IfErr result (LinesStopped C.after
+    ensures err { (w : World) → IsHost host.old w → IfErr result (LinesStopped C.after strict
         (script_lines script.now) (at w children.old host.old.store.disk) host.new
         children.new (W.contents writer.old) (W.contents writer.new)) }
 {
-    let done = run_lines(alloc, host, children, script, writer);
+    let done = run_lines(alloc, host, children, script, strict, writer);
     stop_all(host, children);
     done
+}
+
+/// Runs a script, strictly or not.
+fn run_script<R: Read, W: Write, D: Disk, C: Children>(
+    alloc: Global,
+    reader: &mut R,
+    writer: &mut W,
+    disk: D,
+    children: &mut C,
+    strict: bool,
+) -> Result<Ran<D>, RunFault>
+    ensures ran { IfOk result (λ ran. IfSome (R.remaining reader.old) (λ script.
+        RunOf C.after (LinesTaken C.after strict (script_lines script) ran.stopped_at) (D.view disk)
+        children.old children.new (W.contents writer.old) (W.contents writer.new) (D.view ran.disk))) }
+    ensures same { IfOk result (λ ran. SameDisk (D.view disk) (D.view ran.disk)) }
+    ensures short { OnOk result (IfSome (R.remaining reader.old)
+        (λ script. length script ≤ max_input)) }
+    ensures fault { IfErr result (TellsBy strict C.after (R.remaining reader.old) (D.view disk)
+        children.old children.new (W.contents writer.old) (W.contents writer.new)
+        ((writer.new ≡ writer.old) × (children.new ≡ children.old))) }
+    ensures unopened { IsErrOf result (told.Open opens.Disk) → FailedSince D.view disk }
+    ensures failed { IsErrOf result (told.Host hosts.Disk) → FailedSince D.view disk }
+{
+    let script = match read_input(alloc, reader) {
+        Ok(script) => script,
+        Err(fault) => return Err(fault),
+    };
+    let mut host = match Host::open(alloc, disk) {
+        Ok(host) => host,
+        Err(fault) => return Err(RunFault::Open(fault.cause)),
+    };
+    let done = run_on_host(
+        alloc,
+        &mut host,
+        children,
+        script.as_slice(),
+        strict,
+        writer,
+    );
+    let disk = host.close();
+    match done {
+        Ok(stopped_at) => Ok(Ran { disk, stopped_at }),
+        Err(fault) => Err(fault),
+    }
 }
 
 /// Runs a script over the worksheet on a disk, with its interpreters as children, and writes what its
@@ -86,18 +141,35 @@ pub fn run<R: Read, W: Write, D: Disk, C: Children>(
     ensures unopened { IsErrOf result (told.Open opens.Disk) → FailedSince D.view disk }
     ensures failed { IsErrOf result (told.Host hosts.Disk) → FailedSince D.view disk }
 {
-    let script = match read_input(alloc, reader) {
-        Ok(script) => script,
-        Err(fault) => return Err(fault),
-    };
-    let mut host = match Host::open(alloc, disk) {
-        Ok(host) => host,
-        Err(fault) => return Err(RunFault::Open(fault.cause)),
-    };
-    let done = run_on_host(alloc, &mut host, children, script.as_slice(), writer);
-    let disk = host.close();
-    match done {
-        Ok(()) => Ok(disk),
+    match run_script(alloc, reader, writer, disk, children, false) {
+        Ok(Ran { disk, .. }) => Ok(disk),
         Err(fault) => Err(fault),
     }
+}
+
+/// Runs a script as `run` does, and stops behind the first line that goes wrong: one that isn't known, one
+/// that is refused, and one by which lines or requests were lost, since an interpreter ended. What that line
+/// gives is written, and what was told is on the disk.
+///
+/// Faults are those of `run`.
+pub fn run_strict<R: Read, W: Write, D: Disk, C: Children>(
+    alloc: Global,
+    reader: &mut R,
+    writer: &mut W,
+    disk: D,
+    children: &mut C,
+) -> Result<Ran<D>, RunFault>
+    ensures ran { IfOk result (λ ran. IfSome (R.remaining reader.old) (λ script.
+        StrictDone C.after script (D.view disk) children.old children.new
+        (W.contents writer.old) (W.contents writer.new) (D.view ran.disk) ran.stopped_at)) }
+    ensures same { IfOk result (λ ran. SameDisk (D.view disk) (D.view ran.disk)) }
+    ensures short { OnOk result (IfSome (R.remaining reader.old)
+        (λ script. length script ≤ max_input)) }
+    ensures fault { IfErr result (TellsStrict C.after (R.remaining reader.old) (D.view disk)
+        children.old children.new (W.contents writer.old) (W.contents writer.new)
+        ((writer.new ≡ writer.old) × (children.new ≡ children.old))) }
+    ensures unopened { IsErrOf result (told.Open opens.Disk) → FailedSince D.view disk }
+    ensures failed { IsErrOf result (told.Host hosts.Disk) → FailedSince D.view disk }
+{
+    run_script(alloc, reader, writer, disk, children, true)
 }

@@ -1,5 +1,6 @@
 //! The lines of a script over a worksheet on a disk and its interpreters.
-ghost use Rattle.std.specs.Prelude.{◌≡◌, ◌<◌, ◌^◌, ℕ, List, IfErr, OnOk, Some, length};
+ghost use Rattle.std.specs.Prelude.{◌≡◌, ◌<◌, ◌^◌, ◌&&◌, ◌||◌, ℕ, List, IfErr, IfOk, OnOk, Some, length};
+ghost use Rattle.std.specs.List.{list_any};
 ghost use Rattle.std.specs.Io.KnownBytes.{Appends};
 ghost use Rattle.disk_model.specs.Disk.{SameDisk};
 ghost use Rattle.session_engine.specs.World.{World};
@@ -8,16 +9,17 @@ ghost use Rattle.child_edge.specs.Faithful.{at, Beat};
 ghost use Rattle.sheet_text.specs.Script.{line_of};
 ghost use Rattle.sheet_text.specs.declared.script.ScriptLine.TheVariants as said;
 ghost use Rattle.sheet_programs.specs.Memory.{script_lines};
-ghost use Rattle.sheet_programs.specs.Lines.{LinesDone};
+ghost use Rattle.sheet_programs.specs.Strict as strictly;
 ghost use Rattle.sheet_programs.specs.Told.{LineFailed, LineWrote, fault_of_cause};
-ghost use Rattle.sheet_programs.specs.inside.Taking.{LinesFailed};
+ghost use Rattle.sheet_programs.specs.inside.Taking.{LineTook, LinesFailed, LinesTaken};
 
 use crate::RunFault;
 use crate::writing::{tell_bad_line, tell_replies, tell_sheet};
 use bstr::ByteSlice;
 use child_edge::{Children, EdgeCause, EdgeFault, Waiting, serve};
 use disk_model::Disk;
-use session_engine::{Command, Host};
+use plugin_core::Ended;
+use session_engine::{Command, Host, Reply};
 use sheet_text::{LineFault, ScriptLine, read_line};
 use std::alloc::Global;
 use std::io::Write;
@@ -29,6 +31,69 @@ pub fn run_fault(cause: EdgeCause) -> RunFault
     match cause {
         EdgeCause::Host(fault) => RunFault::Host(fault),
         EdgeCause::OutOfMemory => RunFault::OutOfMemory,
+    }
+}
+
+/// Whether items were lost at the end of a life.
+fn has_lost(ended: &Option<Ended>) -> bool
+    ensures { result ≡ strictly.has_lost ended.now }
+{
+    match ended {
+        None => false,
+        Some(ended) => ended.lost.len() != 0,
+    }
+}
+
+/// Whether a reply is one by which a line goes wrong.
+fn is_wrong(reply: &Reply) -> bool
+    ensures { result ≡ strictly.is_wrong reply.now }
+{
+    match reply {
+        Reply::Refused(_) => true,
+        Reply::Child(told) => has_lost(&told.ended),
+        Reply::Done | Reply::Field(_) | Reply::Asked(_) | Reply::Nothing => false,
+    }
+}
+
+/// Whether one of these replies is.
+fn any_wrong(replies: &[Reply]) -> bool
+    ensures { result ≡ list_any strictly.is_wrong replies.now }
+{
+    replies.iter().any(|reply| is_wrong(reply))
+}
+
+/// Whether a line went wrong already, or goes wrong by these replies.
+fn goes_wrong(already: bool, replies: &[Reply]) -> bool
+    ensures { result ≡ (already || list_any strictly.is_wrong replies.now) }
+{
+    already || any_wrong(replies)
+}
+
+/// Takes a command and all that comes of it, and writes and flushes the replies. Whether it went wrong.
+fn take_command<D: Disk, C: Children, W: Write>(
+    alloc: Global,
+    host: &mut Host<D>,
+    children: &mut C,
+    command: Command,
+    writer: &mut W,
+) -> Result<bool, RunFault>
+    ensures same { SameDisk host.old.store.disk host.new.store.disk }
+    ensures ok { (number : ℕ) (w : World) → IsHost host.old w → IfOk result (LineTook C.after number
+        (Some (said.Command command)) (at w children.old host.old.store.disk) host.new children.new
+        (W.contents writer.old) (W.contents writer.new)) }
+    ensures err { (w : World) → IsHost host.old w → IfErr result (LineFailed C.after
+        (Some (said.Command command)) (at w children.old host.old.store.disk) host.new children.new
+        (W.contents writer.old) (W.contents writer.new)) }
+{
+    match serve(alloc, host, children, command) {
+        Ok(replies) => match tell_replies(replies.as_slice(), writer) {
+            Ok(()) => Ok(any_wrong(replies.as_slice())),
+            Err(fault) => Err(fault),
+        },
+        Err(EdgeFault { replies, cause }) => match tell_replies(replies.as_slice(), writer) {
+            Ok(()) => Err(run_fault(cause)),
+            Err(fault) => Err(fault),
+        },
     }
 }
 
@@ -51,27 +116,22 @@ pub fn run_command<D: Disk, C: Children, W: Write>(
         (Some (said.Command command)) (at w children.old host.old.store.disk) host.new children.new
         (W.contents writer.old) (W.contents writer.new)) }
 {
-    match serve(alloc, host, children, command) {
-        Ok(replies) => match tell_replies(replies.as_slice(), writer) {
-            Ok(()) => Ok(()),
-            Err(fault) => Err(fault),
-        },
-        Err(EdgeFault { replies, cause }) => match tell_replies(replies.as_slice(), writer) {
-            Ok(()) => Err(run_fault(cause)),
-            Err(fault) => Err(fault),
-        },
+    match take_command(alloc, host, children, command, writer) {
+        Ok(_) => Ok(()),
+        Err(fault) => Err(fault),
     }
 }
 
 /// Waits for the answers, and writes what came of each child before the next one is received from.
+/// Whether it went wrong.
 fn run_wait<D: Disk, C: Children, W: Write>(
     alloc: Global,
     host: &mut Host<D>,
     children: &mut C,
     writer: &mut W,
-) -> Result<(), RunFault>
+) -> Result<bool, RunFault>
     ensures same { SameDisk host.old.store.disk host.new.store.disk }
-    ensures ok { (number : ℕ) (w : World) → IsHost host.old w → OnOk result (LineWrote C.after number
+    ensures ok { (number : ℕ) (w : World) → IsHost host.old w → IfOk result (LineTook C.after number
         (Some said.Wait) (at w children.old host.old.store.disk) host.new children.new
         (W.contents writer.old) (W.contents writer.new)) }
     ensures err { (w : World) → IsHost host.old w → IfErr result (LineFailed C.after
@@ -81,6 +141,7 @@ fn run_wait<D: Disk, C: Children, W: Write>(
     let Ok(mut wait) = Waiting::begin(alloc, host) else {
         return Err(RunFault::OutOfMemory);
     };
+    let mut wrong = false;
     loop {
         let mut replies = Vec::new(alloc);
         let stepped = wait.next(alloc, host, children, &mut replies);
@@ -88,23 +149,23 @@ fn run_wait<D: Disk, C: Children, W: Write>(
             return Err(fault);
         }
         match stepped {
-            Ok(true) => {}
-            Ok(false) => return Ok(()),
+            Ok(true) => wrong = goes_wrong(wrong, replies.as_slice()),
+            Ok(false) => return Ok(wrong),
             Err(cause) => return Err(run_fault(cause)),
         }
     }
 }
 
-/// Does what a line says, and writes what it gave.
+/// Does what a line says, and writes what it gave. Whether it went wrong.
 fn run_said<D: Disk, C: Children, W: Write>(
     alloc: Global,
     host: &mut Host<D>,
     children: &mut C,
     line: ScriptLine,
     writer: &mut W,
-) -> Result<(), RunFault>
+) -> Result<bool, RunFault>
     ensures same { SameDisk host.old.store.disk host.new.store.disk }
-    ensures ok { (number : ℕ) (w : World) → IsHost host.old w → OnOk result (LineWrote C.after number
+    ensures ok { (number : ℕ) (w : World) → IsHost host.old w → IfOk result (LineTook C.after number
         (Some line) (at w children.old host.old.store.disk) host.new children.new
         (W.contents writer.old) (W.contents writer.new)) }
     ensures err { (w : World) → IsHost host.old w → IfErr result (LineFailed C.after
@@ -112,15 +173,19 @@ fn run_said<D: Disk, C: Children, W: Write>(
         (W.contents writer.old) (W.contents writer.new)) }
 {
     match line {
-        ScriptLine::Skip => Ok(()),
-        ScriptLine::Print => tell_sheet(host.sheet(), writer),
+        ScriptLine::Skip => Ok(false),
+        ScriptLine::Print => match tell_sheet(host.sheet(), writer) {
+            Ok(()) => Ok(false),
+            Err(fault) => Err(fault),
+        },
         ScriptLine::Wait => run_wait(alloc, host, children, writer),
-        ScriptLine::Command(command) => run_command(alloc, host, children, command, writer),
+        ScriptLine::Command(command) => take_command(alloc, host, children, command, writer),
     }
 }
 
 /// Does what a line says, and writes and flushes what it gave: of a `wait` what came of each child before
 /// the next one is received from. What it wrote is of events that every image of the disk has from then on.
+/// Whether the line went wrong: it is bad, it was refused, or items were lost by it.
 ///
 /// `Host` and `OutOfMemory`: what was told before is written. `Output`: a part may have gone out.
 pub fn run_line<D: Disk, C: Children, W: Write>(
@@ -130,9 +195,9 @@ pub fn run_line<D: Disk, C: Children, W: Write>(
     line: &[u8],
     number: u64,
     writer: &mut W,
-) -> Result<(), RunFault>
+) -> Result<bool, RunFault>
     ensures same { SameDisk host.old.store.disk host.new.store.disk }
-    ensures ok { (w : World) → IsHost host.old w → OnOk result (LineWrote C.after number
+    ensures ok { (w : World) → IsHost host.old w → IfOk result (LineTook C.after number
         (line_of line.now) (at w children.old host.old.store.disk) host.new children.new
         (W.contents writer.old) (W.contents writer.new)) }
     ensures err { (w : World) → IsHost host.old w → IfErr result (LineFailed C.after
@@ -141,25 +206,38 @@ pub fn run_line<D: Disk, C: Children, W: Write>(
 {
     match read_line(alloc, line) {
         Ok(read) => run_said(alloc, host, children, read, writer),
-        Err(LineFault::BadLine) => tell_bad_line(number, writer),
+        Err(LineFault::BadLine) => match tell_bad_line(number, writer) {
+            Ok(()) => Ok(true),
+            Err(fault) => Err(fault),
+        },
         Err(LineFault::OutOfMemory) => Err(RunFault::OutOfMemory),
     }
 }
 
-/// Does the lines of a script, one after another.
+/// Whether a run stops behind a line.
+fn is_last(strict: bool, wrong: bool) -> bool
+    ensures { result ≡ (strict && wrong) }
+{
+    strict && wrong
+}
+
+/// Does the lines of a script, one after another. A strict run stops behind the first one that goes wrong,
+/// and gives its number.
 pub(crate) fn run_lines<D: Disk, C: Children, W: Write>(
     alloc: Global,
     host: &mut Host<D>,
     children: &mut C,
     script: &[u8],
+    strict: bool,
     writer: &mut W,
-) -> Result<(), RunFault>
+) -> Result<Option<u64>, RunFault>
     requires { length (script_lines script.now) < 2 ^ 32 }
     ensures same { SameDisk host.old.store.disk host.new.store.disk }
-    ensures ok { (w : World) → IsHost host.old w → OnOk result ((beats : List Beat) × (text : List ℕ) × (t : World)
-        × LinesDone C.after 1 (script_lines script.now) (at w children.old host.old.store.disk) beats text (at t children.new host.new.store.disk)
+    ensures ok { (w : World) → IsHost host.old w → IfOk result (λ stopped. (beats : List Beat) × (text : List ℕ)
+        × (t : World) × LinesTaken C.after strict (script_lines script.now) stopped
+        (at w children.old host.old.store.disk) beats text (at t children.new host.new.store.disk)
         × IsHost host.new t × Appends (W.contents writer.old) (W.contents writer.new) text) }
-    ensures err { (w : World) → IsHost host.old w → IfErr result (LinesFailed C.after
+    ensures err { (w : World) → IsHost host.old w → IfErr result (LinesFailed C.after strict
         (script_lines script.now) (at w children.old host.old.store.disk) host.new
         children.new (W.contents writer.old) (W.contents writer.new)) }
 {
@@ -167,9 +245,14 @@ pub(crate) fn run_lines<D: Disk, C: Children, W: Write>(
     let mut number: u64 = 0;
     while let Some(line) = lines.next() {
         number += 1;
-        if let Err(fault) = run_line(alloc, host, children, line, number, writer) {
-            return Err(fault);
+        match run_line(alloc, host, children, line, number, writer) {
+            Ok(wrong) => {
+                if is_last(strict, wrong) {
+                    return Ok(Some(number));
+                }
+            }
+            Err(fault) => return Err(fault),
         }
     }
-    Ok(())
+    Ok(None)
 }

@@ -1,12 +1,19 @@
 -- What the functions of a check promise each other. No public contract names this.
 use Rattle.std.specs.Prelude.{◌≡◌, ◌+◌, ℕ, List, [], ◌∷◌, ◌++◌, Option}
+use Rattle.session_engine.specs.declared.event.Event.{Event}
+use Rattle.session_engine.specs.declared.outcome.HostFault.TheVariants as hosts
+use Rattle.child_edge.specs.declared.serving.EdgeCause.{EdgeCause}
+use Rattle.child_edge.specs.declared.serving.EdgeCause.TheVariants as cause
+use Rattle.child_edge.specs.Edge.{Stopped}
+use Rattle.sheet_text.specs.declared.script.ScriptLine.{ScriptLine}
+use Rattle.sheet_programs.specs.Lines.{LineLed, LineUpTo}
 use Rattle.std.specs.Io.KnownBytes.{Appends}
 use Rattle.disk_model.specs.Disk.{DiskView}
 use Rattle.worksheet.specs.declared.field.Answer.{Answer}
 use Rattle.worksheet.specs.declared.field.Field.{Field}
 use Rattle.session_engine.specs.World.{World}
 use Rattle.session_engine.specs.Host.{HostView, IsHost}
-use Rattle.child_edge.specs.Faithful.{Relation, At, at}
+use Rattle.child_edge.specs.Faithful.{Relation, At, at, Beat}
 use Rattle.child_edge.specs.Seats.{running}
 use Rattle.child_edge.specs.Stops.{Stops}
 use Rattle.sheet_programs.specs.Told.{StandsOrStopped}
@@ -17,17 +24,36 @@ use Rattle.sheet_check.specs.declared.verdict.Verdict.{Verdict}
 use Rattle.sheet_check.specs.Verdicts.{Compared, counted_with, counts_of}
 use Rattle.sheet_check.specs.Texts.{verdict_text}
 use Rattle.sheet_check.specs.Evaluated.{Evaluated, FieldChecked, FieldsChecked}
-use Rattle.sheet_check.specs.Check.{FirstLed}
+use Rattle.sheet_check.specs.Check.{FirstLed, FirstUpTo, NotOfDisk}
 
--- a fault of the host, or of memory
-abbrev pub IsOfHost : RunFault → Type 0
-IsOfHost (fault.Host why) = Unit {0}
-IsOfHost fault.OutOfMemory = Unit {0}
-IsOfHost fault.Output = ⊥
-IsOfHost fault.Input = ⊥
-IsOfHost fault.InputTooLong = ⊥
-IsOfHost (fault.Open why) = ⊥
-IsOfHost fault.InUse = ⊥
+-- the fault of a check by why its edge broke off
+abbrev pub fault_of_cause : EdgeCause → RunFault
+fault_of_cause (cause.Host hosts.Disk) = fault.OutOfMemory
+fault_of_cause (cause.Host hosts.OutOfMemory) = fault.Host hosts.OutOfMemory
+fault_of_cause (cause.Host hosts.JournalFull) = fault.Host hosts.JournalFull
+fault_of_cause (cause.Host hosts.Closed) = fault.Host hosts.Closed
+fault_of_cause cause.OutOfMemory = fault.OutOfMemory
+
+-- An `eval` or a `wait` broke off: up to the event at which the host had a fault, or for want of memory.
+abbrev pub PartFailed : {C : Type 0} → Relation C → Option ScriptLine → At C → HostView → C → RunFault → Type 0
+PartFailed R l s h c (fault.Host f) =
+    (beats : List Beat) × (e : Event) × (t : World) × (d : DiskView) × LineUpTo R l s beats e (at t c d) × Stopped d h t e f × NotOfDisk f
+PartFailed R l s h c fault.OutOfMemory = (t : World) × (d : DiskView) × LineLed R l s (at t c d) × StandsOrStopped h t d
+PartFailed R l s h c fault.Output = ⊥
+PartFailed R l s h c fault.Input = ⊥
+PartFailed R l s h c fault.InputTooLong = ⊥
+PartFailed R l s h c (fault.Open why) = ⊥
+PartFailed R l s h c fault.InUse = ⊥
+
+-- A difference couldn't be told: there was no memory for it, and nothing was written, or the writer failed.
+abbrev pub Untold : Option (List ℕ) → Option (List ℕ) → RunFault → Type 0
+Untold a b fault.OutOfMemory = Appends a b []
+Untold a b fault.Output = Unit {0}
+Untold a b (fault.Host why) = ⊥
+Untold a b fault.Input = ⊥
+Untold a b fault.InputTooLong = ⊥
+Untold a b (fault.Open why) = ⊥
+Untold a b fault.InUse = ⊥
 
 -- What a fault that comes behind the opening leaves of the output: this text, but where the writer failed.
 abbrev pub LeavesText : Option (List ℕ) → Option (List ℕ) → List ℕ → RunFault → Type 0
@@ -58,12 +84,30 @@ abbrev pub FieldWrote : {C : Type 0} → Relation C → Field → At C → HostV
 FieldWrote R field s h c a b counts after = (verdicts : List Verdict) × (text : List ℕ) × (t : World) × FieldChecked R field s verdicts text (at t c h.store.disk)
     × IsHost h t × (after ≡ counted_on verdicts counts) × Appends a b text
 
--- The first of these fields was evaluated up to where the host stands, or has stopped; of it nothing is written.
-abbrev pub FirstFailed : {C : Type 0} → Relation C → List Field → At C → HostView → C → Type 0
-FirstFailed R fields s h c = (t : World) × (d : DiskView) × FirstLed R fields s (at t c d) × StandsOrStopped h t d
+-- The first of these fields was evaluated up to the event at which the host had a fault, or to where the host stands, or has stopped; of
+-- it nothing is written.
+abbrev pub FirstFailed : {C : Type 0} → Relation C → List Field → At C → HostView → C → RunFault → Type 0
+FirstFailed R fields s h c (fault.Host f) = (e : Event) × (t : World) × (d : DiskView) × FirstUpTo R fields s e (at t c d) × Stopped d h t e f × NotOfDisk f
+FirstFailed R fields s h c fault.OutOfMemory = (t : World) × (d : DiskView) × FirstLed R fields s (at t c d) × StandsOrStopped h t d
+FirstFailed R fields s h c fault.Output = (t : World) × (d : DiskView) × FirstLed R fields s (at t c d) × StandsOrStopped h t d
+FirstFailed R fields s h c fault.Input = ⊥
+FirstFailed R fields s h c fault.InputTooLong = ⊥
+FirstFailed R fields s h c (fault.Open why) = ⊥
+FirstFailed R fields s h c fault.InUse = ⊥
+
+-- The same, and each life that goes on was stopped.
+abbrev pub FirstStopped : {C : Type 0} → Relation C → List Field → At C → C → RunFault → Type 0
+FirstStopped {C = C} R fields s d (fault.Host f) =
+    (e : Event) × (t : At C) × (h : HostView) × FirstUpTo R fields s e t × Stopped t.disk h t.world e f × NotOfDisk f × Stops R (running t.world) t.children d
+FirstStopped {C = C} R fields s d fault.OutOfMemory = (t : At C) × FirstLed R fields s t × Stops R (running t.world) t.children d
+FirstStopped {C = C} R fields s d fault.Output = (t : At C) × FirstLed R fields s t × Stops R (running t.world) t.children d
+FirstStopped R fields s d fault.Input = ⊥
+FirstStopped R fields s d fault.InputTooLong = ⊥
+FirstStopped R fields s d (fault.Open why) = ⊥
+FirstStopped R fields s d fault.InUse = ⊥
 
 abbrev pub FieldFailed : {C : Type 0} → Relation C → Field → At C → HostView → C → Option (List ℕ) → Option (List ℕ) → RunFault → Type 0
-FieldFailed R field s h c a b why = ((others : List Field) → FirstFailed R (field ∷ others) s h c) × LeavesText a b [] why
+FieldFailed R field s h c a b why = ((others : List Field) → FirstFailed R (field ∷ others) s h c why) × LeavesText a b [] why
 
 -- These fields were checked, and what is to be told is written.
 abbrev pub FieldsWrote : {C : Type 0} → Relation C → List Field → At C → HostView → C → Option (List ℕ) → Option (List ℕ) → Counts → Type 0
@@ -79,7 +123,7 @@ pub record FieldsFailed {C : Type 0} (R : Relation C) (fields : List Field) (s :
   pub text : List ℕ
   pub mid : At C
   pub checked : FieldsChecked R gone s verdicts text mid
-  pub failed : FirstFailed R left mid h c
+  pub failed : FirstFailed R left mid h c why
   pub wrote : LeavesText a b text why
 
 -- The same, and each life that goes on was stopped.
@@ -95,7 +139,5 @@ pub record FieldsStopped {C : Type 0} (R : Relation C) (fields : List Field) (s 
   pub text : List ℕ
   pub mid : At C
   pub checked : FieldsChecked R gone s verdicts text mid
-  pub leads : At C
-  pub led : FirstLed R left mid leads
-  pub stops : Stops R (running leads.world) leads.children d
+  pub ended : FirstStopped R left mid d why
   pub wrote : LeavesText a b text why

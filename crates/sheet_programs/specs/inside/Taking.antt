@@ -1,5 +1,5 @@
 -- What the functions of a script's run promise each other. No public contract names this.
-use Rattle.std.specs.Prelude.{◌≡◌, ℕ, List, Option}
+use Rattle.std.specs.Prelude.{◌≡◌, ℕ, Bool, true, false, List, Option}
 use Rattle.std.specs.Io.KnownBytes.{Appends}
 use Rattle.disk_model.specs.Disk.{DiskView}
 use Rattle.session_engine.specs.declared.event.Event.{Event}
@@ -9,31 +9,59 @@ use Rattle.child_edge.specs.Faithful.{Relation, At, at, Beat}
 use Rattle.child_edge.specs.Edge.{Stopped}
 use Rattle.child_edge.specs.Seats.{running}
 use Rattle.child_edge.specs.Stops.{Stops}
+use Rattle.sheet_text.specs.declared.script.ScriptLine.{ScriptLine}
+use Rattle.sheet_programs.specs.Lines.{LineDone, LinesDone}
 use Rattle.sheet_programs.specs.Told.{StandsOrStopped}
-use Rattle.sheet_programs.specs.Run.{LinesUpTo, LinesSoFar, LinesLed}
+use Rattle.sheet_programs.specs.Run.{LinesUpTo, LinesSoFar, LinesLed, TellsRun}
+use Rattle.sheet_programs.specs.Strict.{GoRight, StrictLines, TellsStrict, goes_wrong}
 use Rattle.sheet_programs.specs.declared.fault.RunFault.{RunFault}
 use Rattle.sheet_programs.specs.declared.fault.RunFault.TheVariants as fault
 
+-- The line was done, what it gave is written, and this says whether it went wrong.
+abbrev pub LineTook : {C : Type 0} → Relation C → ℕ → Option ScriptLine → At C → HostView → C → Option (List ℕ) → Option (List ℕ) → Bool → Type 0
+LineTook R number l s h c a b wrong =
+    (beats : List Beat) × (text : List ℕ) × (t : World) × LineDone R number l s beats text (at t c h.store.disk) × IsHost h t × Appends a b text × (wrong ≡ goes_wrong l beats)
+
+-- In a strict run none of these lines went wrong.
+abbrev pub RightIf : Bool → List (List ℕ) → List Beat → Type 0
+RightIf false lines beats = Unit {0}
+RightIf true lines beats = GoRight lines beats
+
+-- The lines of a run, which is strict or not, up to where it stopped.
+abbrev pub LinesTaken : {C : Type 0} → Relation C → Bool → List (List ℕ) → Option ℕ → At C → List Beat → List ℕ → At C → Type 0
+LinesTaken R false lines stopped s beats text t = LinesDone R 1 lines s beats text t
+LinesTaken R true lines stopped s beats text t = StrictLines R lines stopped s beats text t
+
+-- What a fault of a run tells, which is strict or not.
+abbrev pub TellsBy : {C : Type 0} → Bool → Relation C → Option (List ℕ) → DiskView → C → C → Option (List ℕ) → Option (List ℕ) → Type 0 → RunFault → Type 0
+TellsBy false R stream disk c d a b nothing f = TellsRun R stream disk c d a b nothing f
+TellsBy true R stream disk c d a b nothing f = TellsStrict R stream disk c d a b nothing f
+
 -- What a fault of the lines of a script leaves.
-abbrev pub LinesFailed : {C : Type 0} → Relation C → List (List ℕ) → At C → HostView → C → Option (List ℕ) → Option (List ℕ) → RunFault → Type 0
-LinesFailed R lines s h c a b (fault.Host f) =
-    (beats : List Beat) × (text : List ℕ) × (e : Event) × (t : World) × (d : DiskView) × LinesUpTo R lines s beats text e (at t c d) × Stopped d h t e f × Appends a b text
-LinesFailed R lines s h c a b fault.OutOfMemory =
-    (beats : List Beat) × (text : List ℕ) × (t : World) × LinesSoFar R lines s beats text (at t c h.store.disk) × IsHost h t × Appends a b text
-LinesFailed R lines s h c a b fault.Output = (t : World) × (d : DiskView) × LinesLed R lines s (at t c d) × StandsOrStopped h t d
-LinesFailed R lines s h c a b fault.Input = ⊥
-LinesFailed R lines s h c a b fault.InputTooLong = ⊥
-LinesFailed R lines s h c a b (fault.Open why) = ⊥
-LinesFailed R lines s h c a b fault.InUse = ⊥
+abbrev pub LinesFailed : {C : Type 0} → Relation C → Bool → List (List ℕ) → At C → HostView → C → Option (List ℕ) → Option (List ℕ) → RunFault → Type 0
+LinesFailed R strict lines s h c a b (fault.Host f) =
+    (beats : List Beat) × (text : List ℕ) × (e : Event) × (t : World) × (d : DiskView) × (p : LinesUpTo R lines s beats text e (at t c d)) × Stopped d h t e f × Appends a b text
+    × RightIf strict p.before.done p.earlier
+LinesFailed R strict lines s h c a b fault.OutOfMemory =
+    (beats : List Beat) × (text : List ℕ) × (t : World) × (p : LinesSoFar R lines s beats text (at t c h.store.disk)) × IsHost h t × Appends a b text
+    × RightIf strict p.before.done p.earlier
+LinesFailed R strict lines s h c a b fault.Output = (t : World) × (d : DiskView) × (p : LinesLed R lines s (at t c d)) × StandsOrStopped h t d × RightIf strict p.before.done p.earlier
+LinesFailed R strict lines s h c a b fault.Input = ⊥
+LinesFailed R strict lines s h c a b fault.InputTooLong = ⊥
+LinesFailed R strict lines s h c a b (fault.Open why) = ⊥
+LinesFailed R strict lines s h c a b fault.InUse = ⊥
 
 -- The same, and each life that goes on was stopped behind it.
-abbrev pub LinesStopped : {C : Type 0} → Relation C → List (List ℕ) → At C → HostView → C → Option (List ℕ) → Option (List ℕ) → RunFault → Type 0
-LinesStopped {C = C} R lines s h d a b (fault.Host f) =
-    (beats : List Beat) × (text : List ℕ) × (e : Event) × (t : At C) × LinesUpTo R lines s beats text e t × Stopped t.disk h t.world e f × Stops R (running t.world) t.children d × Appends a b text
-LinesStopped {C = C} R lines s h d a b fault.OutOfMemory =
-    (beats : List Beat) × (text : List ℕ) × (t : At C) × LinesSoFar R lines s beats text t × IsHost h t.world × (t.disk ≡ h.store.disk) × Stops R (running t.world) t.children d × Appends a b text
-LinesStopped {C = C} R lines s h d a b fault.Output = (t : At C) × LinesLed R lines s t × StandsOrStopped h t.world t.disk × Stops R (running t.world) t.children d
-LinesStopped R lines s h d a b fault.Input = ⊥
-LinesStopped R lines s h d a b fault.InputTooLong = ⊥
-LinesStopped R lines s h d a b (fault.Open why) = ⊥
-LinesStopped R lines s h d a b fault.InUse = ⊥
+abbrev pub LinesStopped : {C : Type 0} → Relation C → Bool → List (List ℕ) → At C → HostView → C → Option (List ℕ) → Option (List ℕ) → RunFault → Type 0
+LinesStopped {C = C} R strict lines s h d a b (fault.Host f) =
+    (beats : List Beat) × (text : List ℕ) × (e : Event) × (t : At C) × (p : LinesUpTo R lines s beats text e t) × Stopped t.disk h t.world e f × Stops R (running t.world) t.children d × Appends a b text
+    × RightIf strict p.before.done p.earlier
+LinesStopped {C = C} R strict lines s h d a b fault.OutOfMemory =
+    (beats : List Beat) × (text : List ℕ) × (t : At C) × (p : LinesSoFar R lines s beats text t) × IsHost h t.world × (t.disk ≡ h.store.disk) × Stops R (running t.world) t.children d × Appends a b text
+    × RightIf strict p.before.done p.earlier
+LinesStopped {C = C} R strict lines s h d a b fault.Output =
+    (t : At C) × (p : LinesLed R lines s t) × StandsOrStopped h t.world t.disk × Stops R (running t.world) t.children d × RightIf strict p.before.done p.earlier
+LinesStopped R strict lines s h d a b fault.Input = ⊥
+LinesStopped R strict lines s h d a b fault.InputTooLong = ⊥
+LinesStopped R strict lines s h d a b (fault.Open why) = ⊥
+LinesStopped R strict lines s h d a b fault.InUse = ⊥

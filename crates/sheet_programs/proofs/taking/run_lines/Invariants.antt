@@ -12,7 +12,7 @@ invariant-loop-line g l = record {
   count : l.number + length l.lines ≡ length (script_lines l.fn.script);
   same : SameDisk l.fn.host.store.disk l.host.store.disk;
   runs : (w : World) → IsHost l.fn.host w
-      → DoneSoFar g.C.Children.after (script_lines l.fn.script) l.number l.lines (at w l.fn.children l.fn.host.store.disk) l.host l.children (g.W.Write.contents l.fn.writer) (g.W.Write.contents l.writer);
+      → DoneSoFar g.C.Children.after l.fn.strict (script_lines l.fn.script) l.number l.lines (at w l.fn.children l.fn.host.store.disk) l.host l.children (g.W.Write.contents l.fn.writer) (g.W.Write.contents l.writer);
 }
 
 abbrev pub decreases-loop-line : goal.decreases-loop-line

@@ -1,4 +1,6 @@
-use Rattle.std.proofs.Common.{◌≡◌, true, false, [], ◌++◌, refl, sym, subst, arith}
+use Rattle.std.proofs.Common.{◌≡◌, true, false, [], ◌++◌, refl, sym, ◌∙◌, subst, ap, arith}
+use Rattle.std.specs.Prelude.{◌||◌}
+use Rattle.std.specs.List.{list_any}
 use Rattle.std.proofs.KnownBytes.{Appends-nil}
 use Rattle.std.specs.Io.KnownBytes.{Appends}
 use Rattle.child_edge.specs.Faithful.{at}
@@ -8,6 +10,7 @@ use Rattle.child_edge.specs.Edge.{BrokeOff, ByCause}
 use Rattle.child_edge.specs.Steps.{Came, Stepped}
 use Rattle.child_edge.proofs.Faulting.{same-at, same-on}
 use Rattle.sheet_programs.specs.Lines.{replies_text}
+use Rattle.sheet_programs.specs.Strict.{is_wrong}
 use Rattle.sheet_programs.specs.Told.{LineFailed}
 use Rattle.sheet_programs.proofs.Heard.{StepGave, none_heard, one_heard, all_heard, wait_failed, wait_unwritten}
 use Rattle.sheet_programs.proofs.taking.run_wait.Goals as goal
@@ -39,7 +42,7 @@ loop-fault-init g c = record {
 pub returns-in-Err-clause-err : goal.returns-in-Err-clause-err
 returns-in-Err-clause-err g c = λ w h.
     let so = c.loop-fault.invariant.runs w h in
-    wait_unwritten g.C.Children.after c.loop-fault.wait c.next-stepped.new.self (at w c.args.children.now c.args.host.now.store.disk) c.loop-fault.host c.next-stepped.new.host c.loop-fault.children c.next-stepped.new.children (g.W.Write.contents c.args.writer.now) (g.W.Write.contents c.loop-fault.writer) (g.W.Write.contents c.tell_replies.new.writer) c.next-stepped.new.replies.items so c.next-stepped.result c.in-Err.fault
+    wait_unwritten g.C.Children.after c.loop-fault.wait c.next-stepped.new.self (at w c.args.children.now c.args.host.now.store.disk) c.loop-fault.host c.next-stepped.new.host c.loop-fault.children c.next-stepped.new.children (g.W.Write.contents c.args.writer.now) (g.W.Write.contents c.loop-fault.writer) (g.W.Write.contents c.tell_replies.new.writer) c.next-stepped.new.replies.items c.loop-fault.wrong so c.next-stepped.result c.in-Err.fault
     (subst (λ x. StepGave g.C.Children.after c.next-stepped.new.self (at w c.args.children.now c.args.host.now.store.disk) so.beats so.leads c.loop-fault.host c.next-stepped.new.host c.loop-fault.children c.next-stepped.new.children x c.next-stepped.new.replies.items c.next-stepped.result) c.new-replies.ensures.items
     (c.next-stepped.ensures.ok (at w c.args.children.now c.args.host.now.store.disk) so.beats so.leads so.stands so.came, c.next-stepped.ensures.err (at w c.args.children.now c.args.host.now.store.disk) so.beats so.leads so.stands so.came))
     c.in-Err.ensures.err
@@ -53,7 +56,9 @@ loop-fault-preserved g c = record {
       let step = subst (λ x. Stepped g.C.Children.after c.next-stepped.new.self (at w c.args.children.now c.args.host.now.store.disk) so.beats so.leads c.loop-fault.host c.next-stepped.new.host c.loop-fault.children c.next-stepped.new.children x c.next-stepped.new.replies.items true) c.new-replies.ensures.items
       (subst (Stepped g.C.Children.after c.next-stepped.new.self (at w c.args.children.now c.args.host.now.store.disk) so.beats so.leads c.loop-fault.host c.next-stepped.new.host c.loop-fault.children c.next-stepped.new.children c.new-replies.result.items c.next-stepped.new.replies.items) test
       (c.in-Ok-true.ensures.ok (at w c.args.children.now c.args.host.now.store.disk) so.beats so.leads so.stands so.came)) in
-      one_heard g.C.Children.after c.loop-fault.wait c.next-stepped.new.self (at w c.args.children.now c.args.host.now.store.disk) c.loop-fault.host c.next-stepped.new.host c.loop-fault.children c.next-stepped.new.children (g.W.Write.contents c.args.writer.now) (g.W.Write.contents c.loop-fault.writer) (g.W.Write.contents c.tell_replies.new.writer) c.next-stepped.new.replies.items so step (subst (λ x. Appends (g.W.Write.contents c.loop-fault.writer) (g.W.Write.contents c.tell_replies.new.writer) (replies_text x)) c.as_slice.ensures.value c.in_default-tell_replies.ensures.ok);
+      one_heard g.C.Children.after c.loop-fault.wait c.next-stepped.new.self (at w c.args.children.now c.args.host.now.store.disk) c.loop-fault.host c.next-stepped.new.host c.loop-fault.children c.next-stepped.new.children (g.W.Write.contents c.args.writer.now) (g.W.Write.contents c.loop-fault.writer) (g.W.Write.contents c.tell_replies.new.writer) c.next-stepped.new.replies.items c.loop-fault.wrong so c.goes_wrong-wrong.result step
+      (subst (λ x. Appends (g.W.Write.contents c.loop-fault.writer) (g.W.Write.contents c.tell_replies.new.writer) (replies_text x)) c.as_slice.ensures.value c.in_default-tell_replies.ensures.ok)
+      (c.goes_wrong-wrong.ensures ∙ ap (λ x. c.loop-fault.wrong || list_any is_wrong x) c.as_slice-in-Ok-true.ensures.value);
 }
 
 pub returns-in-Ok-false-clause-ok : goal.returns-in-Ok-false-clause-ok
@@ -63,13 +68,13 @@ returns-in-Ok-false-clause-ok g c = λ number w h.
     let step = subst (λ x. Stepped g.C.Children.after c.next-stepped.new.self (at w c.args.children.now c.args.host.now.store.disk) so.beats so.leads c.loop-fault.host c.next-stepped.new.host c.loop-fault.children c.next-stepped.new.children x c.next-stepped.new.replies.items false) c.new-replies.ensures.items
     (subst (Stepped g.C.Children.after c.next-stepped.new.self (at w c.args.children.now c.args.host.now.store.disk) so.beats so.leads c.loop-fault.host c.next-stepped.new.host c.loop-fault.children c.next-stepped.new.children c.new-replies.result.items c.next-stepped.new.replies.items) test
     (c.in-Ok-false.ensures.ok (at w c.args.children.now c.args.host.now.store.disk) so.beats so.leads so.stands so.came)) in
-    all_heard g.C.Children.after c.loop-fault.wait c.next-stepped.new.self (at w c.args.children.now c.args.host.now.store.disk) c.loop-fault.host c.next-stepped.new.host c.loop-fault.children c.next-stepped.new.children (g.W.Write.contents c.args.writer.now) (g.W.Write.contents c.loop-fault.writer) (g.W.Write.contents c.tell_replies.new.writer) c.next-stepped.new.replies.items so number step (subst (λ x. Appends (g.W.Write.contents c.loop-fault.writer) (g.W.Write.contents c.tell_replies.new.writer) (replies_text x)) c.as_slice.ensures.value c.in_default-tell_replies.ensures.ok)
+    all_heard g.C.Children.after c.loop-fault.wait c.next-stepped.new.self (at w c.args.children.now c.args.host.now.store.disk) c.loop-fault.host c.next-stepped.new.host c.loop-fault.children c.next-stepped.new.children (g.W.Write.contents c.args.writer.now) (g.W.Write.contents c.loop-fault.writer) (g.W.Write.contents c.tell_replies.new.writer) c.next-stepped.new.replies.items c.loop-fault.wrong so number step (subst (λ x. Appends (g.W.Write.contents c.loop-fault.writer) (g.W.Write.contents c.tell_replies.new.writer) (replies_text x)) c.as_slice.ensures.value c.in_default-tell_replies.ensures.ok)
 
 pub returns-in-Err-stepped-clause-err : goal.returns-in-Err-stepped-clause-err
 returns-in-Err-stepped-clause-err g c = λ w h.
     let so = c.loop-fault.invariant.runs w h in
     subst (LineFailed g.C.Children.after _ (at w c.args.children.now c.args.host.now.store.disk) c.next-stepped.new.host c.next-stepped.new.children (g.W.Write.contents c.args.writer.now) (g.W.Write.contents c.tell_replies.new.writer)) (sym c.run_fault.ensures)
-    (wait_failed g.C.Children.after c.loop-fault.wait c.next-stepped.new.self (at w c.args.children.now c.args.host.now.store.disk) c.loop-fault.host c.next-stepped.new.host c.loop-fault.children c.next-stepped.new.children (g.W.Write.contents c.args.writer.now) (g.W.Write.contents c.loop-fault.writer) (g.W.Write.contents c.tell_replies.new.writer) c.next-stepped.new.replies.items so c.in-Err-stepped.cause
+    (wait_failed g.C.Children.after c.loop-fault.wait c.next-stepped.new.self (at w c.args.children.now c.args.host.now.store.disk) c.loop-fault.host c.next-stepped.new.host c.loop-fault.children c.next-stepped.new.children (g.W.Write.contents c.args.writer.now) (g.W.Write.contents c.loop-fault.writer) (g.W.Write.contents c.tell_replies.new.writer) c.next-stepped.new.replies.items c.loop-fault.wrong so c.in-Err-stepped.cause
     (subst (λ x. ByCause c.in-Err-stepped.cause
     (BrokeOff (λ cs e t. WaitStopped g.C.Children.after most_turns (at w c.args.children.now c.args.host.now.store.disk) (so.beats ++ cs) e t) x c.next-stepped.new.host c.next-stepped.new.children c.next-stepped.new.replies.items)
     (Came g.C.Children.after c.next-stepped.new.self (at w c.args.children.now c.args.host.now.store.disk) so.beats (at so.leads c.loop-fault.children c.loop-fault.host.store.disk) × (c.next-stepped.new.host ≡ c.loop-fault.host) × (c.next-stepped.new.children ≡ c.loop-fault.children) × (c.next-stepped.new.replies.items ≡ x)))

@@ -9,8 +9,8 @@ use Rattle.sheet_programs.specs.Memory.{script_lines}
 use Rattle.sheet_programs.specs.declared.fault.RunFault.TheVariants as told
 use Rattle.session_engine.specs.declared.outcome.HostFault.TheVariants as hosts
 use Rattle.disk_model.specs.Disk.{DiskView, Rises, SameDisk}
-use Rattle.sheet_programs.proofs.Runs.{unread_script, opened_on, done_run, broken_run, failed_since, if_err_is, on_ok_is, err_same}
-use Rattle.sheet_programs.proofs.running.run.Goals as goal
+use Rattle.sheet_programs.proofs.Runs.{unread_script, opened_on, done_run, broken_run, failed_since, if_err_is, if_ok_is, err_same}
+use Rattle.sheet_programs.proofs.running.run_script.Goals as goal
 
 pub run_on_host-done-requires : goal.run_on_host-done-requires
 run_on_host-done-requires g c =
@@ -20,7 +20,7 @@ run_on_host-done-requires g c =
 
 pub returns-in-Err-clause-fault : goal.returns-in-Err-clause-fault
 returns-in-Err-clause-fault g c =
-    unread_script g.C.Children.after (g.R.Read.remaining c.args.reader.now) (g.D.Disk.view c.args.disk) c.args.children.now c.args.children.now (g.W.Write.contents c.args.writer.now) (g.W.Write.contents c.args.writer.now) _
+    unread_script c.args.strict g.C.Children.after (g.R.Read.remaining c.args.reader.now) (g.D.Disk.view c.args.disk) c.args.children.now c.args.children.now (g.W.Write.contents c.args.writer.now) (g.W.Write.contents c.args.writer.now) _
     c.in-Err.fault c.in-Err.ensures.faults (λ e. c.in-Err.ensures.long (ap (λ f. Err f) e)) (refl, refl)
 
 pub returns-in-Ok-done-clause-ran : goal.returns-in-Ok-done-clause-ran
@@ -28,8 +28,8 @@ returns-in-Ok-done-clause-ran g c =
     let o = c.in-Ok-open.ensures.opens in
     let disk = g.D.Disk.view c.args.disk in
     let start = world_at_opening o.0 disk.room c.in-Ok-open.host.store.end in
-    let p = on_ok_is c.run_on_host-done.result _ c.in-Ok-done.is (c.run_on_host-done.ensures.ok start o.1) in
-    done_run g.C.Children.after (g.R.Read.remaining c.args.reader.now) disk c.in-Ok-open.host.store.disk c.args.children.now c.run_on_host-done.new.children (g.W.Write.contents c.args.writer.now) (g.W.Write.contents c.run_on_host-done.new.writer)
+    let p = if_ok_is c.run_on_host-done.result _ c.in-Ok-done.stopped_at c.in-Ok-done.is (c.run_on_host-done.ensures.ok start o.1) in
+    done_run g.C.Children.after c.args.strict c.in-Ok-done.stopped_at (g.R.Read.remaining c.args.reader.now) disk c.in-Ok-open.host.store.disk c.args.children.now c.run_on_host-done.new.children (g.W.Write.contents c.args.writer.now) (g.W.Write.contents c.run_on_host-done.new.writer)
     (g.D.Disk.view c.close-disk.result) c.as_slice.result.now start p.0 p.1 p.2 c.run_on_host-done.new.host (IfSome_then (g.R.Read.remaining c.args.reader.now) c.in-Ok.ensures.whole (λ bytes e. c.as_slice.ensures.value ∙ e))
     (opened_on disk c.in-Ok-open.host o.0 o.1 c.in-Ok-open.ensures.found c.in-Ok-open.ensures.ends c.in-Ok-open.ensures.looks) o.1.stands.images p.3 p.4 p.5 p.6 p.7 c.close-disk.ensures
 
@@ -39,10 +39,10 @@ returns-clause-fault g c =
     let disk = g.D.Disk.view c.args.disk in
     let start = world_at_opening o.0 disk.room c.in-Ok-open.host.store.end in
     broken_run g.C.Children.after (g.R.Read.remaining c.args.reader.now) disk c.in-Ok-open.host.store.disk c.args.children.now c.run_on_host-done.new.children (g.W.Write.contents c.args.writer.now) (g.W.Write.contents c.run_on_host-done.new.writer) _
-    c.in-Err-done.fault c.as_slice.result.now start c.run_on_host-done.new.host (IfSome_then (g.R.Read.remaining c.args.reader.now) c.in-Ok.ensures.whole (λ bytes e. c.as_slice.ensures.value ∙ e))
+    c.as_slice.result.now start c.run_on_host-done.new.host (IfSome_then (g.R.Read.remaining c.args.reader.now) c.in-Ok.ensures.whole (λ bytes e. c.as_slice.ensures.value ∙ e))
     (subst (λ xs. length xs ≤ max_input) (sym c.as_slice.ensures.value) c.in-Ok.ensures.short) (opened_on disk c.in-Ok-open.host o.0 o.1 c.in-Ok-open.ensures.found c.in-Ok-open.ensures.ends c.in-Ok-open.ensures.looks) o.1.stands.images
     (same-on disk c.in-Ok-open.host.store.disk c.run_on_host-done.new.host.store.disk c.in-Ok-open.ensures.same c.run_on_host-done.ensures.same)
-    (if_err_is c.run_on_host-done.result _ c.in-Err-done.fault c.in-Err-done.is (c.run_on_host-done.ensures.err start o.1))
+    c.args.strict c.in-Err-done.fault (if_err_is c.run_on_host-done.result _ c.in-Err-done.fault c.in-Err-done.is (c.run_on_host-done.ensures.err start o.1))
 
 pub returns-clause-failed : goal.returns-clause-failed
 returns-clause-failed g c = λ e.
@@ -52,6 +52,6 @@ returns-clause-failed g c = λ e.
     let start = world_at_opening o.0 disk.room c.in-Ok-open.host.store.end in
     let same = same-on disk c.in-Ok-open.host.store.disk host.store.disk c.in-Ok-open.ensures.same c.run_on_host-done.ensures.same in
     let stopped = if_err_is c.run_on_host-done.result _ c.in-Err-done.fault c.in-Err-done.is (c.run_on_host-done.ensures.err start o.1) in
-    let rises = failed_since g.C.Children.after (script_lines c.as_slice.result.now) disk c.in-Ok-open.host.store.disk start c.args.children.now c.run_on_host-done.new.children host
+    let rises = failed_since g.C.Children.after c.args.strict (script_lines c.as_slice.result.now) disk c.in-Ok-open.host.store.disk start c.args.children.now c.run_on_host-done.new.children host
     (g.W.Write.contents c.args.writer.now) (g.W.Write.contents c.run_on_host-done.new.writer) c.in-Err-done.fault c.in-Ok-open.ensures.same stopped (err_same _ c.in-Err-done.fault (told.Host hosts.Disk) refl e) in
     (c.close-disk.result, subst (λ v. SameDisk disk v) (sym c.close-disk.ensures) same, subst (λ (v : DiskView). Rises disk.faults v.faults) (sym c.close-disk.ensures) rises)
