@@ -224,7 +224,7 @@ module _ {C : Type 0} (R : Relation C) (W : Watch C) (stream : Option (List ℕ)
     leads = t.1;
     lived = t.2;
     lines = first-lines stream old t.0 is t.4;
-    back = h.store.disk;
+    host = h;
     same = same;
     moments = goes_anyhow start now (t.2.earlier ++ taken_beats t.2.led) t.1.world t.1.disk h held (led-goes R W (begin_at start c now) t.0 t.1 t.2) t.3;
     stops = t.5;

@@ -123,9 +123,9 @@ pub record LiveLed {C : Type 0} (R : Relation C) (W : Watch C) (stream : Option 
   pub leads : At C
   pub lived : LivedLed R W (begin_at start c now) arrivals leads
   pub lines : AreFirst stream arrivals
-  pub back : DiskView
-  pub same : SameDisk disk back
-  pub moments : LeavesFrontsAnyhow start (lived.earlier ++ taken_beats lived.led) now back
+  pub host : HostView
+  pub same : SameDisk disk host.store.disk
+  pub moments : LeavesFrontsAnyhow start (lived.earlier ++ taken_beats lived.led) now host leads.world leads.disk
   pub stops : Stops R (running leads.world) leads.children d
 
 -- What a fault tells, where the reader gives this stream: where the disk wasn't opened, nothing was done.

@@ -19,7 +19,7 @@ use Rattle.sheet_check.specs.declared.verdict.Verdict.{Verdict}
 use Rattle.sheet_check.specs.Verdicts.{counts_of}
 use Rattle.sheet_check.specs.Texts.{verdict_text}
 use Rattle.sheet_check.specs.Evaluated.{FieldChecked, FieldsChecked, eval_of, passed, checked}
-use Rattle.sheet_check.specs.Check.{FirstLed, asking, in_eval, in_wait, waiting}
+use Rattle.sheet_check.specs.Check.{FirstLed, FirstShows, asking, in_eval, in_wait, waiting}
 use Rattle.sheet_check.specs.inside.Checking.{FieldFailed, FieldWrote, FieldsFailed, FieldsWrote, FirstFailed, LeavesText, PartFailed, ShownWrote, Untold, counted_on}
 use Rattle.sheet_check.proofs.Counting.{counts-more}
 
@@ -121,10 +121,13 @@ all_checked R all left s h c a b counts e so =
 
 -- Where a field's evaluation broke off, or couldn't be told.
 
-module _ {C : Type 0} (R : Relation C) (field : Field) (s : At C) (h : HostView) (c : C) where
+module _ {C : Type 0} (R : Relation C) (field : Field) (shown : Answer) (shows : field.answer ≡ Some shown) (s : At C) (h : HostView) (c : C) where
+  first : (others : List Field) → FirstShows (field ∷ others) field
+  first others = record { others = others; is = refl; shown = shown; shows = shows }
+
   eval-first : (others : List Field) (why : RunFault) → PartFailed R (Some (said.Command (command.Eval field.id))) s h c why → FirstFailed R (field ∷ others) s h c why
-  eval-first others (fault.Host f) p = (p.1, p.2, p.3, in_eval field others p.0 refl p.4, p.5, p.6)
-  eval-first others fault.OutOfMemory p = (p.0, p.1, asking field others refl p.2, p.3)
+  eval-first others (fault.Host f) p = (p.1, p.2, p.3, in_eval field p.0 (first others) p.4, p.5, p.6)
+  eval-first others fault.OutOfMemory p = (p.0, p.1, asking field (first others) p.2, p.3)
   eval-first others fault.Output p = absurd p
   eval-first others fault.Input p = absurd p
   eval-first others fault.InputTooLong p = absurd p
@@ -132,8 +135,8 @@ module _ {C : Type 0} (R : Relation C) (field : Field) (s : At C) (h : HostView)
   eval-first others fault.InUse p = absurd p
 
   wait-first : (beats : List Beat) (mid : At C) → Served R s (eval_of field.id) beats mid → (others : List Field) (why : RunFault) → PartFailed R (Some said.Wait) mid h c why → FirstFailed R (field ∷ others) s h c why
-  wait-first beats mid served others (fault.Host f) p = (p.1, p.2, p.3, in_wait field others beats mid p.0 refl served p.4, p.5, p.6)
-  wait-first beats mid served others fault.OutOfMemory p = (p.0, p.1, waiting field others beats mid refl served p.2, p.3)
+  wait-first beats mid served others (fault.Host f) p = (p.1, p.2, p.3, in_wait field beats mid p.0 (first others) served p.4, p.5, p.6)
+  wait-first beats mid served others fault.OutOfMemory p = (p.0, p.1, waiting field beats mid (first others) served p.2, p.3)
   wait-first beats mid served others fault.Output p = absurd p
   wait-first beats mid served others fault.Input p = absurd p
   wait-first beats mid served others fault.InputTooLong p = absurd p
@@ -161,7 +164,7 @@ module _ {C : Type 0} (R : Relation C) (field : Field) (s : At C) (h : HostView)
   tell_failed beats mid last t a b why served waited stands p = go why p
     where
       led : (others : List Field) → FirstLed R (field ∷ others) s (at t c h.store.disk)
-      led others = waiting field others beats mid refl served (whole 0 last (beats_text last) (waited, refl))
+      led others = waiting field beats mid (first others) served (whole 0 last (beats_text last) (waited, refl))
 
       go : (x : RunFault) → Untold a b x → FieldFailed R field s h c a b x
       go fault.OutOfMemory q = ((λ others. (t, h.store.disk, led others, inl (stands, refl))), q)

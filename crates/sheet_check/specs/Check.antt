@@ -1,18 +1,18 @@
 -- What `check` leaves: on the copy a faithful run of the evaluations, of the disk that was given reads alone.
-use Rattle.std.specs.Prelude.{◌≡◌, ◌⊎◌, ℕ, List, ◌∷◌, ◌++◌, Option, Some, Result, Ok, Err}
+use Rattle.std.specs.Prelude.{◌≡◌, ◌⊎◌, IsTrue, ℕ, List, ◌∷◌, ◌++◌, Option, Some, Result, Ok, Err}
 use Rattle.std.specs.Io.KnownBytes.{Appends}
 use Rattle.disk_model.specs.Disk.{DiskView, InModel, Looks, SameDisk, bytes_on, max_room}
+use Rattle.worksheet.specs.declared.field.Answer.{Answer}
 use Rattle.worksheet.specs.declared.field.Field.{Field}
-use Rattle.worksheet.specs.declared.op.Op.{Op}
 use Rattle.worksheet.specs.Contents.{Contents}
 use Rattle.journal.specs.declared.opening.OpenCause.{OpenCause}
-use Rattle.recovery.specs.Sheets.{IsSheetImage, Makes, TellsOfSheet}
+use Rattle.recovery.specs.Sheets.{IsSheetImage, TellsOfSheet}
 use Rattle.session_engine.specs.declared.command.Command.TheVariants as command
 use Rattle.session_engine.specs.declared.event.Event.{Event}
 use Rattle.session_engine.specs.declared.outcome.HostFault.{HostFault}
 use Rattle.session_engine.specs.declared.outcome.HostFault.TheVariants as hosts
 use Rattle.session_engine.specs.Host.{HostView}
-use Rattle.session_engine.specs.World.{World, world_at_opening}
+use Rattle.session_engine.specs.World.{World}
 use Rattle.child_edge.specs.Broken.{WaitStopped}
 use Rattle.child_edge.specs.Edge.{Stopped}
 use Rattle.child_edge.specs.Faithful.{Relation, At, at, Beat, Served, ServedUpTo}
@@ -22,6 +22,7 @@ use Rattle.child_edge.specs.Seats.{running}
 use Rattle.child_edge.specs.Stops.{Stops}
 use Rattle.sheet_text.specs.declared.script.ScriptLine.TheVariants as line
 use Rattle.sheet_programs.specs.Lines.{LineLed}
+use Rattle.sheet_programs.specs.Run.{OpenedOn}
 use Rattle.sheet_programs.specs.declared.fault.RunFault.{RunFault}
 use Rattle.sheet_programs.specs.declared.fault.RunFault.TheVariants as fault
 use Rattle.sheet_check.specs.declared.verdict.Counts.{Counts}
@@ -30,13 +31,14 @@ use Rattle.sheet_check.specs.Verdicts.{counts_of}
 use Rattle.sheet_check.specs.Texts.{counts_text}
 use Rattle.sheet_check.specs.Evaluated.{FieldsChecked, eval_of}
 
--- A disk is a copy of this worksheet, and this is the world of a host that was just opened on it: no life goes on, and there is as
--- much room as a disk may have.
+-- A disk that keeps the model and has as much room as one may have was made an image of this worksheet, and a host was opened on it: this
+-- is its world, in which no life goes on, and its disk.
 pub record IsCopy (sheet : Contents) (w : World) (copy : DiskView) : Type 0 where
-  pub ops : List Op
-  pub end : ℕ
-  pub makes : Makes ops sheet
-  pub is : w ≡ world_at_opening ops max_room end
+  pub made : DiskView
+  pub keeps : IsTrue made.keeps_model
+  pub room : made.room ≡ max_room
+  pub is : IsSheetImage sheet (bytes_on made)
+  pub opened : OpenedOn made w copy
   pub holds : HoldsSheet w copy
 
 -- All fields of the worksheet were checked on a copy of it, in their order, and then each life that goes on was stopped. This was
@@ -53,11 +55,19 @@ pub record SheetChecked {C : Type 0} (R : Relation C) (sheet : Contents) (c d : 
   pub counted : counts ≡ counts_of verdicts
   pub wrote : Appends a b (text ++ counts_text counts)
 
--- The first of these fields was evaluated up to here: nothing was done, or its `eval`, or its `wait`, in whole or in part.
+-- The first of these fields shows an answer.
+pub record FirstShows (fields : List Field) (field : Field) : Type 0 where
+  pub others : List Field
+  pub is : fields ≡ field ∷ others
+  pub shown : Answer
+  pub shows : field.answer ≡ Some shown
+
+-- The first of these fields, which shows an answer, was evaluated up to here: nothing was done, or its `eval`, or its `wait`, in whole or
+-- in part.
 pub data FirstLed {C : Type 0} (R : Relation C) (fields : List Field) (s t : At C) : Type 0 where
   still : t ≡ s → FirstLed R fields s t
-  asking : (field : Field) (others : List Field) → fields ≡ field ∷ others → LineLed R (Some (line.Command (command.Eval field.id))) s t → FirstLed R fields s t
-  waiting : (field : Field) (others : List Field) (beats : List Beat) (mid : At C) → fields ≡ field ∷ others → Served R s (eval_of field.id) beats mid
+  asking : (field : Field) → FirstShows fields field → LineLed R (Some (line.Command (command.Eval field.id))) s t → FirstLed R fields s t
+  waiting : (field : Field) (beats : List Beat) (mid : At C) → FirstShows fields field → Served R s (eval_of field.id) beats mid
       → LineLed R (Some line.Wait) mid t → FirstLed R fields s t
 
 -- The first fields were checked, of which this is the text, and perhaps a part of the next one. Then each life that goes on was
@@ -76,10 +86,10 @@ pub record SheetLed {C : Type 0} (R : Relation C) (sheet : Contents) (c d : C) (
   pub led : FirstLed R left mid leads
   pub stops : Stops R (running leads.world) leads.children d
 
--- The first of these fields was evaluated up to this event, which its `eval` or its `wait` came to.
+-- The first of these fields, which shows an answer, was evaluated up to this event, which its `eval` or its `wait` came to.
 pub data FirstUpTo {C : Type 0} (R : Relation C) (fields : List Field) (s : At C) (e : Event) (t : At C) : Type 0 where
-  in_eval : (field : Field) (others : List Field) (beats : List Beat) → fields ≡ field ∷ others → ServedUpTo R s (eval_of field.id) beats e t → FirstUpTo R fields s e t
-  in_wait : (field : Field) (others : List Field) (beats : List Beat) (mid : At C) (last : List Beat) → fields ≡ field ∷ others → Served R s (eval_of field.id) beats mid
+  in_eval : (field : Field) (beats : List Beat) → FirstShows fields field → ServedUpTo R s (eval_of field.id) beats e t → FirstUpTo R fields s e t
+  in_wait : (field : Field) (beats : List Beat) (mid : At C) (last : List Beat) → FirstShows fields field → Served R s (eval_of field.id) beats mid
       → WaitStopped R most_turns mid last e t → FirstUpTo R fields s e t
 
 -- a fault that isn't one of the disk: the copy lies in memory, and that its disk failed is told as want of memory

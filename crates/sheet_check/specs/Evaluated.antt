@@ -3,6 +3,7 @@ use Rattle.std.specs.Prelude.{◌≡◌, ℕ, Bool, true, false, List, [], ◌�
 use Rattle.worksheet.specs.Checks.{field_in}
 use Rattle.worksheet.specs.declared.field.Answer.{Answer}
 use Rattle.worksheet.specs.declared.field.Field.{Field}
+use Rattle.worksheet.specs.declared.refusal.Refusal.TheVariants as refusal
 use Rattle.session_engine.specs.declared.command.Command.TheVariants as command
 use Rattle.session_engine.specs.declared.event.Event.{Event}
 use Rattle.session_engine.specs.declared.event.Event.TheVariants as event
@@ -34,6 +35,16 @@ abbrev pub begins_asked : List Reply → Bool
 begins_asked [] = false
 begins_asked (first ∷ others) = is_asked first
 
+-- a reply that there was no memory for the line
+abbrev pub is_for_memory : Reply → Bool
+is_for_memory (reply.Refused refusal.OutOfMemory) = true
+is_for_memory _ = false
+
+-- the first of these replies says so
+abbrev pub begins_for_memory : List Reply → Bool
+begins_for_memory [] = false
+begins_for_memory (first ∷ others) = is_for_memory first
+
 -- the answer that a field shows in a world
 abbrev pub shown_in : World → ℕ → Option Answer
 shown_in w id = by_field (field_in (sheet_in w).fields id) None (λ field. field.answer)
@@ -43,13 +54,15 @@ abbrev pub came_if : Bool → Option Answer → Option Answer
 came_if false shown = None
 came_if true shown = shown
 
--- The field with this number was evaluated: an `eval` and all that came of it, and then a `wait`. This answer came, or none.
+-- The field with this number was evaluated: an `eval`, for which there was memory, and all that came of it, and then a `wait`. This
+-- answer came, or none.
 pub record Evaluated {C : Type 0} (R : Relation C) (id : ℕ) (s : At C) (came : Option Answer) (t : At C) : Type 0 where
   pub asked : At C
   pub first : List Beat
   pub last : List Beat
   pub served : Served R s (eval_of id) first asked
   pub waited : Waited R most_turns asked last t
+  pub remembered : begins_for_memory (told first) ≡ false
   pub came_is : came ≡ came_if (begins_asked (told first)) (shown_in t.world id)
 
 -- A field was checked: where it shows an answer it was evaluated, and what came was compared with that answer. What it came to, what

@@ -1,5 +1,5 @@
 //! The check of a worksheet.
-ghost use Rattle.std.specs.Prelude.{◌≡◌, ◌+◌, ◌≤◌, ◌<◌, ◌^◌, List, Err, IfErr, IfOk, length};
+ghost use Rattle.std.specs.Prelude.{◌≡◌, ◌+◌, ◌≤◌, ◌<◌, ◌^◌, List, Err, IfErr, IfOk, Some, length};
 ghost use Rattle.std.specs.Io.KnownBytes.{Appends};
 ghost use Rattle.worksheet.specs.declared.op.Op.{Op};
 ghost use Rattle.recovery.specs.Sheets.{Makes};
@@ -89,6 +89,7 @@ fn check_shown<D: Disk, C: Children, W: Write>(
     shown: &Answer,
     writer: &mut W,
 ) -> Result<Verdict, RunFault>
+    requires { field.now.answer ≡ Some shown.now }
     ensures ok { (w : World) → IsHost host.old w → IfOk result (ShownWrote C.after field.now shown.now
         (at w children.old host.old.store.disk) host.new children.new
         (W.contents writer.old) (W.contents writer.new)) }

@@ -268,9 +268,9 @@ lines-led-goes R lines s t p =
     (led-goes R (line_of p.line) p.mid t p.led)
 
 -- A timeline at whose end the host goes on or has stopped leaves fronts.
-pub goes_anyhow : (w : World) (old : DiskView) (beats : List Beat) (v : World) (d : DiskView) (h : HostView) → HoldsSheet w old → Goes w old beats v d → StandsOrStopped h v d → LeavesFrontsAnyhow w beats old h.store.disk
-goes_anyhow w old beats v d h held goes (inl stands) = inl (subst (LeavesFronts w beats old) stands.1 (goes_leaves w old beats v d held goes))
-goes_anyhow w old beats v d h held goes (inr p) = inr (p.0, p.1, goes_up_to w old beats v d p.0 p.1 h held goes p.2)
+pub goes_anyhow : (w : World) (old : DiskView) (beats : List Beat) (v : World) (d : DiskView) (h : HostView) → HoldsSheet w old → Goes w old beats v d → StandsOrStopped h v d → LeavesFrontsAnyhow w beats old h v d
+goes_anyhow w old beats v d h held goes (inl stands) = inl (stands.0, stands.1, subst (LeavesFronts w beats old) stands.1 (goes_leaves w old beats v d held goes))
+goes_anyhow w old beats v d h held goes (inr p) = inr (p.0, p.1, p.2, goes_up_to w old beats v d p.0 p.1 h held goes p.2)
 
 -- A disk that failed at the end of a timeline has failed since its beginning.
 
@@ -419,7 +419,7 @@ module _ {C : Type 0} (R : Relation C) (disk now : DiskView) (c d : C) (a b : Op
     opened = opened;
     leads = p.0;
     lines = p.1;
-    back = h.store.disk;
+    host = h;
     same = same;
     moments = goes_anyhow start now (p.1.earlier ++ led_beats p.1.led) p.0.world p.0.disk h held (lines-led-goes R (script_lines script) (at start c now) p.0 p.1) p.2;
     stops = p.3;

@@ -132,9 +132,9 @@ pub record RunLed {C : Type 0} (R : Relation C) (script : List ℕ) (disk : Disk
   pub opened : OpenedOn disk start now
   pub leads : At C
   pub lines : LinesLed R (script_lines script) (at start c now) leads
-  pub back : DiskView
-  pub same : SameDisk disk back
-  pub moments : LeavesFrontsAnyhow start (lines.earlier ++ led_beats lines.led) now back
+  pub host : HostView
+  pub same : SameDisk disk host.store.disk
+  pub moments : LeavesFrontsAnyhow start (lines.earlier ++ led_beats lines.led) now host leads.world leads.disk
   pub stops : Stops R (running leads.world) leads.children d
 
 -- What a fault of a run tells, where the reader gives this stream: where the script wasn't read, or the disk not opened, nothing

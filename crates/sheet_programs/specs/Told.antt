@@ -28,10 +28,13 @@ LineWrote R number l s h c a b = (beats : List Beat) × (text : List ℕ) × (t 
 abbrev pub StandsOrStopped : HostView → World → DiskView → Type 0
 StandsOrStopped h t d = (IsHost h t × (d ≡ h.store.disk)) ⊎ ((e : Event) × (f : HostFault) × Stopped d h t e f)
 
--- From this disk to that one, at every moment each image is one of the worksheet behind some of the first of these beats, or of that
--- behind them all with the op of an event at which the disk failed.
-abbrev pub LeavesFrontsAnyhow : World → List Beat → DiskView → DiskView → Type 0
-LeavesFrontsAnyhow w beats old new = LeavesFronts w beats old new ⊎ ((e : Event) × (f : HostFault) × LeavesFrontsUpTo w beats e f old new)
+-- From this disk to that of the host, at every moment each image is one of the worksheet behind some of the first of these beats, which
+-- led to this world and disk. The host goes on there; or at an event behind them it had a fault, and where its disk failed an image may
+-- have the op of that event, too.
+abbrev pub LeavesFrontsAnyhow : World → List Beat → DiskView → HostView → World → DiskView → Type 0
+LeavesFrontsAnyhow w beats old h t d =
+    (IsHost h t × (d ≡ h.store.disk) × LeavesFronts w beats old h.store.disk)
+    ⊎ ((e : Event) × (f : HostFault) × Stopped d h t e f × LeavesFrontsUpTo w beats e f old h.store.disk)
 
 -- What a line's fault leaves: what was told before is written, but where the writer failed.
 abbrev pub LineFailed : {C : Type 0} → Relation C → Option ScriptLine → At C → HostView → C → Option (List ℕ) → Option (List ℕ) → RunFault → Type 0

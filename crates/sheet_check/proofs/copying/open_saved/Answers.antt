@@ -2,6 +2,8 @@ use Rattle.std.proofs.Common.{◌∙◌, refl, subst}
 use Rattle.disk_model.specs.Disk.{bytes_on, max_room}
 use Rattle.session_engine.specs.World.{world_at_opening}
 use Rattle.session_engine.specs.Host.{IsHost}
+use Rattle.sheet_programs.specs.Run.{OpenedOn}
+use Rattle.sheet_programs.proofs.Runs.{opened_on}
 use Rattle.sheet_check.proofs.copying.open_saved.Goals as goal
 
 pub returns-in-Ok : goal.returns-in-Ok
@@ -10,5 +12,17 @@ returns-in-Ok g c =
     let makes = c.requires.made.1 in
     let image = c.requires.saved (bytes_on (g.D.Disk.view c.args.disk)) (g.met.D.Disk.content_stays c.args.disk c.requires.model) in
     let same = c.in-Ok.ensures.exact c.requires.model c.args.sheet.now.contents image in
-    let stands = subst (λ room. IsHost c.in-Ok.host (world_at_opening ops room c.in-Ok.host.store.end)) c.requires.room (c.in-Ok.ensures.stands ops makes.allowed (same ∙ makes.is)) in
-    (world_at_opening ops max_room c.in-Ok.host.store.end, stands, record { ops = ops; end = c.in-Ok.host.store.end; makes = makes; is = refl; holds = stands.stands.images })
+    let at_room = c.in-Ok.ensures.stands ops makes.allowed (same ∙ makes.is) in
+    let stands = subst (λ room. IsHost c.in-Ok.host (world_at_opening ops room c.in-Ok.host.store.end)) c.requires.room at_room in (
+      world_at_opening ops max_room c.in-Ok.host.store.end,
+      stands,
+      record {
+        made = g.D.Disk.view c.args.disk;
+        keeps = c.requires.model;
+        room = c.requires.room;
+        is = image;
+        opened = subst (λ room. OpenedOn (g.D.Disk.view c.args.disk) (world_at_opening ops room c.in-Ok.host.store.end) c.in-Ok.host.store.disk) c.requires.room
+            (opened_on (g.D.Disk.view c.args.disk) c.in-Ok.host ops at_room c.in-Ok.ensures.found c.in-Ok.ensures.ends c.in-Ok.ensures.looks);
+        holds = stands.stands.images;
+      },
+    )
