@@ -50,4 +50,4 @@ ExportEnds view files format title written a b said old new ending =
 
 -- what is told of a format that there isn't
 abbrev pub no_format_text : List ℕ
-no_format_text = codes "error: there is no such format: FORMAT is script or html\n\nFor more information, try 'tmhost export --help'.\n"
+no_format_text = codes "error: there is no such format: FORMAT is script, markdown or html\n\nFor more information, try 'tmhost export --help'.\n"

@@ -13,6 +13,7 @@ ghost use Rattle.worksheet.specs.Contents.{Contents};
 
 use crate::fault::ExportFault;
 use crate::html::html_page;
+use crate::markdown::markdown_text;
 use crate::script::{has_script, write_script};
 use disk_model::Disk;
 use recovery::Store;
@@ -26,16 +27,19 @@ use worksheet::Sheet;
 pub enum Format {
     /// The lines that make it anew, without its answers.
     Script,
+    /// Markdown, with its answers as code.
+    Markdown,
     /// A page of HTML that stands alone.
     Html,
 }
 
-/// The format of this name: `script` or `html`.
+/// The format of this name: `script`, `markdown` or `html`.
 pub fn format_named(name: &str) -> Option<Format>
     ensures { result ≡ exports.format_named name.now }
 {
     match name {
         "script" => Some(Format::Script),
+        "markdown" => Some(Format::Markdown),
         "html" => Some(Format::Html),
         _ => None,
     }
@@ -77,6 +81,19 @@ pub fn script_text<W: Write>(sheet: &Sheet, out: &mut W) -> Result<(), ExportFau
     }
 }
 
+/// Writes a worksheet as Markdown, and tells a failure as the program does.
+fn write_markdown<W: Write>(sheet: &Sheet, out: &mut W) -> Result<(), ExportFault>
+    ensures ok { OnOk result
+        (Appends (W.contents out.old) (W.contents out.new)
+        (exports.text_in Format.Markdown [] sheet.now.contents)) }
+    ensures err { IfErr result (TellsText true (out.new ≡ out.old)) }
+{
+    match markdown_text(sheet, out) {
+        Ok(()) => Ok(()),
+        Err(_) => Err(ExportFault::Run(RunFault::Output)),
+    }
+}
+
 /// Writes a worksheet as a page, and tells a failure as the program does.
 fn write_page<W: Write>(title: &[u8], sheet: &Sheet, out: &mut W) -> Result<(), ExportFault>
     ensures ok { OnOk result
@@ -105,6 +122,7 @@ fn write_in<W: Write>(
 {
     match format {
         Format::Script => script_text(sheet, out),
+        Format::Markdown => write_markdown(sheet, out),
         Format::Html => write_page(title, sheet, out),
     }
 }
