@@ -14,6 +14,6 @@ mod script;
 mod style;
 
 pub use fault::{ExportFault, export_fault_text};
-pub use formats::{Format, export, format_named, last_part, script_text};
+pub use formats::{Exported, Format, export, format_named, last_part, script_text};
 pub use html::html_page;
 pub use markdown::markdown_text;
