@@ -1,14 +1,13 @@
 -- How the program `export` ends: what it writes of its files, what it tells on which stream, and the exit status.
 use Rattle.std.specs.Prelude.{◌≡◌, ℕ, Bool, true, false, List, Option, Result, Ok, Err, IfOk, IfErr, IsErrOf, OnOk, codes}
 use Rattle.std.specs.Io.KnownBytes.{Appends}
-use Rattle.disk_model.specs.Disk.{DiskView, InModel, bytes_on}
+use Rattle.disk_model.specs.Disk.{DiskView, InModel, Looks, Rises, SameDisk, bytes_on}
 use Rattle.journal.specs.declared.opening.OpenCause.TheVariants as opens
 use Rattle.recovery.specs.Sheets.{IsSheetImage}
 use Rattle.sheet_export.specs.Formats.{TellsExport, export_fault_text, has_text, text_in}
 use Rattle.sheet_export.specs.declared.fault.ExportFault.{ExportFault}
 use Rattle.sheet_export.specs.declared.fault.ExportFault.TheVariants as exports
 use Rattle.sheet_export.specs.declared.formats.Format.{Format}
-use Rattle.sheet_programs.specs.Faults.{FailedSince}
 use Rattle.sheet_programs.specs.declared.fault.RunFault.TheVariants as fault
 use Rattle.worksheet.specs.Contents.{Contents}
 use Rattle.host_cli.specs.Faults.{no_files}
@@ -28,20 +27,27 @@ abbrev pub TellsExported : {E : Type 0} → (E → Option (List ℕ)) → E → 
 TellsExported contents old new told (Ok u) = new ≡ old
 TellsExported contents old new told (Err why) = told ≡ true → Appends (contents old) (contents new) (export_fault_text why)
 
--- What `export` answers on its files, or on why they weren't opened, and what it has written then: its
--- clauses. `contents` are the bytes that the writer holds.
-pub record Exports {D W : Type 0} (view : D → DiskView) (contents : W → Option (List ℕ)) (format : Format) (title : List ℕ)
-    (files : Result D FilesFault) (old new : W) (answer : ExportAnswer) : Type 0 where
-  pub unopened : IfErr files (λ why. (answer ≡ Err (exports.Run (no_files why))) × (new ≡ old))
-  pub written : IfOk files (λ disk. InModel (view disk) ((sheet : Contents) → IsSheetImage sheet (bytes_on (view disk))
-      → OnOk answer ((has_text format sheet ≡ true) × Appends (contents old) (contents new) (text_in format title sheet))))
-  pub found : IfOk files (λ disk. InModel (view disk) (OnOk answer ((sheet : Contents) × IsSheetImage sheet (bytes_on (view disk)))))
+-- What `export` answers on a disk, and what it has written then: its clauses. `contents` are the bytes that the writer holds.
+pub record ExportedFrom {D W : Type 0} (view : D → DiskView) (contents : W → Option (List ℕ)) (format : Format) (title : List ℕ)
+    (disk : D) (old new : W) (answer : ExportAnswer) : Type 0 where
+  -- the disk, on which reads alone were made
+  pub later : D
+  pub written : InModel (view disk) ((sheet : Contents) → IsSheetImage sheet (bytes_on (view disk))
+      → OnOk answer ((has_text format sheet ≡ true) × Appends (contents old) (contents new) (text_in format title sheet)))
+  pub found : InModel (view disk) (OnOk answer ((sheet : Contents) × IsSheetImage sheet (bytes_on (view disk))))
   -- that there is no script is told only of a worksheet that has none
-  pub without : IfOk files (λ disk. InModel (view disk) (IsErrOf answer exports.NoScript
-      → (sheet : Contents) × IsSheetImage sheet (bytes_on (view disk)) × (has_text format sheet ≡ false)))
+  pub without : InModel (view disk) (IsErrOf answer exports.NoScript → (sheet : Contents) × IsSheetImage sheet (bytes_on (view disk)) × (has_text format sheet ≡ false))
+  pub same : SameDisk (view disk) (view later)
+  pub looks : InModel (view disk) (Looks (view disk).history (view later).history)
   -- that the disk failed is told only where it did
-  pub failed : IfOk files (λ disk. IsErrOf answer (exports.Run (fault.Open opens.Disk)) → FailedSince view disk)
-  pub fault : IfOk files (λ disk. IfErr answer (TellsExport (view disk) (new ≡ old)))
+  pub failed : IsErrOf answer (exports.Run (fault.Open opens.Disk)) → Rises (view disk).faults (view later).faults
+  pub fault : IfErr answer (TellsExport (view disk) (new ≡ old))
+
+-- what `export` answers on its files, or on why they weren't opened
+abbrev pub Exports : {D W : Type 0} → (D → DiskView) → (W → Option (List ℕ)) → Format → List ℕ → Result D FilesFault → W → W → ExportAnswer → Type 0
+Exports view contents format title files old new answer =
+    IfErr files (λ why. (answer ≡ Err (exports.Run (no_files why))) × (new ≡ old))
+    × IfOk files (λ disk. ExportedFrom view contents format title disk old new answer)
 
 -- how `export` ends on its files, or on why they weren't opened
 abbrev pub ExportEnds : {D W E : Type 0} → (D → DiskView) → Result D FilesFault → Format → List ℕ → (W → Option (List ℕ)) → W → W → (E → Option (List ℕ)) → E → E → Ending → Type 0
@@ -50,4 +56,4 @@ ExportEnds view files format title written a b said old new ending =
 
 -- what is told of a format that there isn't
 abbrev pub no_format_text : List ℕ
-no_format_text = codes "error: there is no such format: FORMAT is script or html\n\nFor more information, try 'tmhost export --help'.\n"
+no_format_text = codes "error: there is no such format: FORMAT is script, markdown or html\n\nFor more information, try 'tmhost export --help'.\n"

@@ -1,15 +1,29 @@
 //! The program `export` over a worksheet's files, from its files on.
 ghost use Rattle.std.specs.Prelude.{◌≡◌, true};
 ghost use Rattle.std.specs.Io.KnownBytes.{Appends};
-ghost use Rattle.host_cli.specs.ExportProgram.{ExportEnds, Exports, TellsExported, export_status, no_format_text};
+ghost use Rattle.host_cli.specs.ExportProgram.{ExportEnds, ExportedFrom, Exports, TellsExported, export_status, no_format_text};
 
 use crate::ending::ended;
 use crate::files_fault::no_files;
 use crate::{Ending, FilesFault};
 use disk_model::Disk;
-use sheet_export::{ExportFault, Format, export, export_fault_text};
+use sheet_export::{ExportFault, Exported, Format, export, export_fault_text};
 use std::alloc::Global;
 use std::io::Write;
+
+/// Writes the worksheet of a disk in a format, and drops the disk at the end.
+fn export_disk<D: Disk, W: Write>(
+    alloc: Global,
+    format: Format,
+    disk: D,
+    title: &[u8],
+    output: &mut W,
+) -> Result<(), ExportFault>
+    ensures { ExportedFrom D.view W.contents format title.now disk output.old output.new result }
+{
+    let Exported { disk: _, answer } = export(alloc, format, disk, title, output);
+    answer
+}
 
 /// Writes the worksheet of a disk in a format, where there is one.
 fn export_files<D: Disk, W: Write>(
@@ -23,7 +37,7 @@ fn export_files<D: Disk, W: Write>(
 {
     match files {
         Err(why) => Err(ExportFault::Run(no_files(why))),
-        Ok(disk) => export(alloc, format, disk, title, output),
+        Ok(disk) => export_disk(alloc, format, disk, title, output),
     }
 }
 
@@ -63,7 +77,7 @@ pub(crate) fn refuse_format<E: Write>(errors: &mut E) -> Ending
         → Appends (E.contents errors.old) (E.contents errors.new) no_format_text }
 {
     let told = errors.write_all(
-        b"error: there is no such format: FORMAT is script or html\n\n\
+        b"error: there is no such format: FORMAT is script, markdown or html\n\n\
         For more information, try 'tmhost export --help'.\n",
     );
     ended(2, told.is_ok())

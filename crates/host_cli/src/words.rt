@@ -110,6 +110,8 @@ script    the lines that make the worksheet anew, for `run` on an empty one: its
 \x20         sessions, and a `new` for each field. Answers are no part of it. A\n\
 \x20         session with a space in a word has no such line: that is the fault\n\
 \x20         36 NoScript, and nothing is written\n\
+markdown  each input and each output as a block of code; an output that is one\n\
+\x20         formula between dollars as that formula\n\
 html      one page that stands alone, without scripts: prompts, inputs and outputs,\n\
 \x20         all of them as texts\n\n\
 It reads PATH as `show` does, and writes and makes no file.\n\n\
@@ -196,7 +198,7 @@ fn with_format<'a>(
 {
     plain(alloc, name, about, notes).arg(
         Arg::new(alloc, "FORMAT")
-            .help("What the worksheet is written as: script or html")
+            .help("What the worksheet is written as: script, markdown or html")
             .required(true),
     )
 }
@@ -267,7 +269,7 @@ fn tmhost_command<'a>(alloc: Global) -> Result<Command<'a>, AllocError>
     let export = with_format_and_path(
         alloc,
         "export",
-        "Write a worksheet as a script or a page",
+        "Write a worksheet as a script, as Markdown or as a page",
         EXPORT_NOTES,
     )?;
     let faults = help_alone(alloc, "faults", "What each fault means", FAULTS_NOTES);

@@ -1,4 +1,4 @@
-# Exports: worksheets as the lines that make them anew, and as pages.
+# Exports: worksheets as the lines that make them anew, as Markdown and as pages.
 
 header='TMWSHEET\001A'
 
@@ -159,6 +159,77 @@ page 'an input with a tab' 'a\011b' '> ' 'verbatim:A' 'a\x09b' '&gt; ' A
 page 'an input from right to left' '\342\200\256x' '> ' 'verbatim:A' "$(printf '\342\200\256x')" '&gt; ' A
 page 'no input' '' '> ' 'verbatim:A' '' '&gt; ' A
 
+# Markdown: NAME INPUT BLOCK TEXT, of one field.
+marked() {
+    answered "$2" '> ' "$3"
+    compare "$1" "$(answer export markdown area </dev/null)" "$(ending "$4" 0)"
+}
+
+# The same of an output as code, behind an input `x`: NAME BLOCK FENCE TEXT.
+coded() {
+    marked "$1" x "$2" "\`\`\`a\nx\n\`\`\`\n\n$3\n$4\n$3\n"
+}
+
+# The same of an output that is a formula: NAME FORMULA.
+formula() {
+    marked "$1" x "latex:$2" "\`\`\`a\nx\n\`\`\`\n\n$2\n"
+}
+
+# The same of one that is none: NAME TEXT FENCE.
+no_formula() {
+    coded "$1" "latex:$2" "${3-\`\`\`}" "{latex:$2}"
+}
+
+marked 'Markdown' '1<2' 'verbatim:true & so' '```a\n1<2\n```\n\n```\ntrue & so\n```\n'
+marked 'an input with a fence' 'a```' 'verbatim:A' '````a\na```\n````\n\n```\nA\n```\n'
+marked 'an input of backquotes' '`````' 'verbatim:A' '``````a\n`````\n``````\n\n```\nA\n```\n'
+marked 'an input with two runs' '``` ````x``' 'verbatim:A' '`````a\n``` ````x``\n`````\n\n```\nA\n```\n'
+marked 'no input in Markdown' '' 'verbatim:A' '```a\n\n```\n\n```\nA\n```\n'
+marked 'an input with a tab in Markdown' 'a\011b' 'verbatim:A' '```a\na\\x09b\n```\n\n```\nA\n```\n'
+coded 'an output with a fence' 'verbatim:```\n</pre>' '````' '```\n</pre>'
+coded 'an output that closes a longer fence' 'verbatim:x\n````\n# y' '`````' 'x\n````\n# y'
+coded 'two backquotes' 'verbatim:``' '```' '``'
+coded 'backquotes on two lines' 'verbatim:``\n``' '```' '``\n``'
+coded 'a run through two blocks' 'verbatim:``\002verbatim:``\005`' '``````' '`````'
+coded 'a run that a brace cuts' 'verbatim:``\002latex:``\005``' '```' '``{latex:``}``'
+coded 'a run behind a tag' 'verbatim:\002html:```\005' '````' '{html:```}'
+coded 'a run in a tag' '```:x' '````' '{```:x}'
+coded 'a run that a control byte cuts' 'verbatim:``\001``' '```' '``\\x01``'
+coded 'tildes' 'verbatim:~~~\n~~~' '```' '~~~\n~~~'
+coded 'a channel in Markdown' 'output#x' '```' 'x'
+coded 'no output in Markdown' 'verbatim:' '```' ''
+coded 'control bytes and a stray byte in Markdown' 'verbatim:a\000\r\177\377b' '```' 'a\\x00\\x0d\\x7f\377b'
+marked 'a line feed at the end' x 'verbatim:a\n' '```a\nx\n```\n\n```\na\n```\n'
+formula 'a formula in Markdown' '$x^2$'
+formula 'a formula on its own' '$$\\frac{1}{2}$$'
+formula 'a formula of characters' '$\316\261>0$'
+no_formula 'no dollars' 'x'
+no_formula 'a dollar in front' '$x'
+no_formula 'a dollar behind' 'x$'
+no_formula 'one dollar' '$'
+no_formula 'two dollars' '$$'
+no_formula 'three dollars' '$$$'
+no_formula 'four dollars' '$$$$'
+no_formula 'two dollars and one' '$$x$'
+no_formula 'one dollar and two' '$x$$'
+no_formula 'three dollars at each end' '$$$x$$$'
+no_formula 'two formulas' '$x$ and $y$'
+no_formula 'a formula with text behind it' '$x$ y'
+no_formula 'an element in a formula' '$x<b$'
+no_formula 'a reference in a formula' '$x&lt;$'
+no_formula 'a backquote in a formula' '$x`$'
+no_formula 'a fence in a formula' '$```$' '````'
+no_formula 'a backslash at the end of a formula' '$x\\$'
+no_formula 'a line feed in a formula' '$x\ny$'
+no_formula 'an image in a formula' '$![x](http://a.example/b)$'
+coded 'a tab in a formula' 'latex:$x\ty$' '```' '{latex:$x\ty$}'
+coded 'a control byte in a formula' 'latex:$x\001$' '```' '{latex:$x\\x01$}'
+coded 'a formula in a block' 'verbatim:\002latex:$x$\005' '```' '{latex:$x$}'
+coded 'a block in a formula' 'latex:$\002verbatim:x\005$' '```' '{latex:$x$}'
+coded 'a formula and a block' 'latex:$x$\002verbatim:y\005' '```' '{latex:$x$y}'
+coded 'a channel latex' 'latex#$x$' '```' '{latex#$x$}'
+coded 'a formula that is no latex' 'html:$x$' '```' '{html:$x$}'
+
 # Fields without an answer, in their order.
 begin
 put '\002\000\000\000\000\001a\000\001x'
@@ -166,6 +237,18 @@ put '\002\000\000\000\000\001a\000\001y'
 put '\010\000\000\000\002\002'
 finish
 compare 'fields without an answer' "$(fields_of)" "$(field 2 '&gt; ' y; echo '<p class="none">no answer: Ended</p>'; echo '</section>'; field 1 '&gt; ' x; echo '<p class="none">no answer</p>'; echo '</section>'; printf "$page_end")"
+compare 'their Markdown' "$(answer export markdown area </dev/null)" '```a
+y
+```
+
+*no answer: Ended*
+
+```a
+x
+```
+
+*no answer*
+status 0'
 compare 'their script' "$(answer export script area </dev/null)" 'session a plain sh w
 new 0 a y
 new 1 a x
@@ -197,9 +280,10 @@ put '\001\001b\000\002\000\002sh\000\003a b'
 finish
 compare 'a word with a space' "$(answer export script area </dev/null)" "$(ending 'fault 36 NoScript\n' 1)"
 compare 'its page' "$(fields_of)" "$(printf "$page_end")"
+compare 'its Markdown' "$(answer export markdown area </dev/null)" 'status 0'
 
 # Faults: nothing is written.
-for format in script html; do
+for format in script markdown html; do
     words "$format of a file that is missing" 1 'fault 32 Disk\n' export $format nowhere.tm
     printf 'x' >area
     rm -f area.alt
@@ -207,6 +291,6 @@ for format in script html; do
     printf "$header"'R\000\000\000\001x\000' >area
     words "$format of a damaged worksheet" 1 'fault 30 Damaged 10\n' export $format area
 done
-words 'a format that there is none of' 2 "error: there is no such format: FORMAT is script or html\n\nFor more information, try 'tmhost export --help'.\n" export HTML area
-words 'no format' 2 "error: there is no such format: FORMAT is script or html\n\nFor more information, try 'tmhost export --help'.\n" export '' area
+words 'a format that there is none of' 2 "error: there is no such format: FORMAT is script, markdown or html\n\nFor more information, try 'tmhost export --help'.\n" export HTML area
+words 'no format' 2 "error: there is no such format: FORMAT is script, markdown or html\n\nFor more information, try 'tmhost export --help'.\n" export '' area
 counted exports

@@ -5,3 +5,7 @@ pub mod Fields
 pub mod Lines
 pub mod NoMarks
 pub mod ReadLines
+pub mod Scans
+pub mod FencesHold
+pub mod FieldsBehind
+pub mod Pieces

@@ -6,6 +6,7 @@ use Rattle.sheet_programs.specs.Faults.{TellsShow, fault_text}
 use Rattle.sheet_programs.specs.declared.fault.RunFault.TheVariants as run
 use Rattle.worksheet.specs.Contents.{Contents}
 use Rattle.sheet_export.specs.Html.{page}
+use Rattle.sheet_export.specs.Markdown.{markdown}
 use Rattle.sheet_export.specs.Script.{has_script, script_text}
 use Rattle.sheet_export.specs.declared.fault.ExportFault.{ExportFault}
 use Rattle.sheet_export.specs.declared.fault.ExportFault.TheVariants as fault
@@ -15,17 +16,20 @@ use Rattle.sheet_export.specs.declared.formats.Format.TheVariants as format
 -- whether a worksheet has a text in this format
 abbrev pub has_text : Format → Contents → Bool
 has_text format.Script sheet = has_script sheet
+has_text format.Markdown sheet = true
 has_text format.Html sheet = true
 
 -- its text, with this title where the format has one
 abbrev pub text_in : Format → List ℕ → Contents → List ℕ
 text_in format.Script title sheet = script_text sheet
+text_in format.Markdown title sheet = markdown sheet
 text_in format.Html title sheet = page title sheet
 
 -- the format of this name
 abbrev pub format_named : List ℕ → Option Format
 format_named name = if bytes_eq name (codes "script") then Some format.Script
-    else (if bytes_eq name (codes "html") then Some format.Html else None)
+    else (if bytes_eq name (codes "markdown") then Some format.Markdown
+    else (if bytes_eq name (codes "html") then Some format.Html else None))
 
 -- what stands behind the last slash of these bytes, and this part where they have none
 abbrev pub behind_slash : List ℕ → List ℕ → List ℕ

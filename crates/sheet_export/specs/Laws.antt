@@ -1,5 +1,5 @@
 -- Laws of the definitions.
-use Rattle.std.specs.Prelude.{ℕ, Bool, List, [], ◌∷◌, ◌≡◌, ◌≤◌, ◌==◌, ◌||◌, ◌&&◌, not, nat_eq, true, Some, codes}
+use Rattle.std.specs.Prelude.{ℕ, Bool, List, [], ◌∷◌, ◌++◌, ◌≡◌, ◌≤◌, ◌==◌, ◌||◌, ◌&&◌, not, nat_eq, true, Some, codes}
 use Rattle.std.specs.List.{list_all, list_any, starts_with}
 use Rattle.session_engine.specs.declared.command.Command.TheVariants as command
 use Rattle.sheet_text.specs.Script.{greatest_number, line_of}
@@ -8,6 +8,7 @@ use Rattle.worksheet.specs.Laws.{IsSession}
 use Rattle.worksheet.specs.Names.{is_name}
 use Rattle.worksheet.specs.declared.field.Field.{Field}
 use Rattle.worksheet.specs.declared.field.Session.{Session}
+use Rattle.sheet_export.specs.Fences.{fence_length, fence_of}
 use Rattle.sheet_export.specs.References.{html_text}
 use Rattle.sheet_export.specs.Script.{field_line, has_no_space, session_line}
 
@@ -43,3 +44,7 @@ SessionLinesAreRead = (session : Session) → IsSession session → list_all has
 abbrev pub FieldLinesAreRead : Type 0
 FieldLinesAreRead = (place : ℕ) (field : Field) → place ≤ greatest_number → is_name field.session ≡ true
     → line_of (field_line place field) ≡ Some (line.Command (command.New place field.session field.input))
+
+-- Nowhere in a text stand as many backquotes as its fence has. (A line ends a code block only where it has at least as many.)
+abbrev pub NoTextClosesItsFence : Type 0
+NoTextClosesItsFence = (lines front behind : List ℕ) → lines ≡ front ++ (fence_of (fence_length lines) ++ behind) → ⊥

@@ -2,5 +2,9 @@ pub mod References
 pub mod Parts
 pub mod Html
 pub mod Script
+pub mod Fences
+pub mod Formulas
+pub mod Markdown
+pub mod inside
 pub mod Laws
 pub mod Formats

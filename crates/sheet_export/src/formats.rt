@@ -1,20 +1,21 @@
 //! A worksheet on a disk, written in a format.
 ghost use Rattle.std.specs.Prelude.{◌≡◌, IfErr, IsErrOf, OnOk, false, true, []};
 ghost use Rattle.std.specs.Io.KnownBytes.{Appends};
-ghost use Rattle.disk_model.specs.Disk.{InModel, bytes_on};
+ghost use Rattle.disk_model.specs.Disk.{InModel, Looks, Rises, SameDisk, bytes_on};
 ghost use Rattle.journal.specs.declared.opening.OpenCause.TheVariants as opens;
 ghost use Rattle.recovery.specs.Sheets.{IsSheetImage};
 ghost use Rattle.sheet_export.specs.Formats as exports;
 ghost use Rattle.sheet_export.specs.Formats.{TellsExport, TellsText};
 ghost use Rattle.sheet_export.specs.declared.fault.ExportFault.TheVariants as fault;
-ghost use Rattle.sheet_programs.specs.Faults.{FailedSince};
 ghost use Rattle.sheet_programs.specs.declared.fault.RunFault.TheVariants as run;
 ghost use Rattle.worksheet.specs.Contents.{Contents};
 
 use crate::fault::ExportFault;
 use crate::html::html_page;
+use crate::markdown::markdown_text;
 use crate::script::{has_script, write_script};
 use disk_model::Disk;
+use journal::OpenFault;
 use recovery::Store;
 use sheet_programs::RunFault;
 use std::alloc::Global;
@@ -26,16 +27,19 @@ use worksheet::Sheet;
 pub enum Format {
     /// The lines that make it anew, without its answers.
     Script,
+    /// Markdown, with its answers as code.
+    Markdown,
     /// A page of HTML that stands alone.
     Html,
 }
 
-/// The format of this name: `script` or `html`.
+/// The format of this name: `script`, `markdown` or `html`.
 pub fn format_named(name: &str) -> Option<Format>
     ensures { result ≡ exports.format_named name.now }
 {
     match name {
         "script" => Some(Format::Script),
+        "markdown" => Some(Format::Markdown),
         "html" => Some(Format::Html),
         _ => None,
     }
@@ -77,6 +81,19 @@ pub fn script_text<W: Write>(sheet: &Sheet, out: &mut W) -> Result<(), ExportFau
     }
 }
 
+/// Writes a worksheet as Markdown, and tells a failure as the program does.
+fn write_markdown<W: Write>(sheet: &Sheet, out: &mut W) -> Result<(), ExportFault>
+    ensures ok { OnOk result
+        (Appends (W.contents out.old) (W.contents out.new)
+        (exports.text_in Format.Markdown [] sheet.now.contents)) }
+    ensures err { IfErr result (TellsText true (out.new ≡ out.old)) }
+{
+    match markdown_text(sheet, out) {
+        Ok(()) => Ok(()),
+        Err(_) => Err(ExportFault::Run(RunFault::Output)),
+    }
+}
+
 /// Writes a worksheet as a page, and tells a failure as the program does.
 fn write_page<W: Write>(title: &[u8], sheet: &Sheet, out: &mut W) -> Result<(), ExportFault>
     ensures ok { OnOk result
@@ -105,6 +122,7 @@ fn write_in<W: Write>(
 {
     match format {
         Format::Script => script_text(sheet, out),
+        Format::Markdown => write_markdown(sheet, out),
         Format::Html => write_page(title, sheet, out),
     }
 }
@@ -131,8 +149,17 @@ fn tell_in<W: Write>(
     }
 }
 
+/// What an export answers, and the disk that it was given.
+#[derive(Drop)]
+pub struct Exported<D: Disk> {
+    /// The disk, on which reads alone were made.
+    pub disk: D,
+    /// Nothing, or why the worksheet wasn't written.
+    pub answer: Result<(), ExportFault>,
+}
+
 /// Writes the worksheet that a disk stands for in a format, with this title where the format has one.
-/// It changes no byte of the disk.
+/// The disk is only read: no byte of it changes.
 ///
 /// `Open` where the disk isn't opened, and `NoScript` where the worksheet has no text in this format:
 /// nothing was written. `Output` where the writer fails: a part of the text may have gone out.
@@ -142,24 +169,39 @@ pub fn export<D: Disk, W: Write>(
     disk: D,
     title: &[u8],
     writer: &mut W,
-) -> Result<(), ExportFault>
+) -> Exported<D>
     ensures written { InModel (D.view disk) ((sheet : Contents)
         → IsSheetImage sheet (bytes_on (D.view disk))
-        → OnOk result ((exports.has_text format sheet ≡ true)
+        → OnOk result.answer ((exports.has_text format sheet ≡ true)
         × Appends (W.contents writer.old) (W.contents writer.new)
         (exports.text_in format title.now sheet))) }
-    ensures found { InModel (D.view disk) (OnOk result ((sheet : Contents)
+    ensures found { InModel (D.view disk) (OnOk result.answer ((sheet : Contents)
         × IsSheetImage sheet (bytes_on (D.view disk)))) }
-    ensures without { InModel (D.view disk) (IsErrOf result fault.NoScript → (sheet : Contents)
+    ensures without { InModel (D.view disk)
+        (IsErrOf result.answer fault.NoScript → (sheet : Contents)
         × IsSheetImage sheet (bytes_on (D.view disk)) × (exports.has_text format sheet ≡ false)) }
-    ensures fault { IfErr result (TellsExport (D.view disk) (writer.new ≡ writer.old)) }
+    ensures fault { IfErr result.answer (TellsExport (D.view disk) (writer.new ≡ writer.old)) }
+
+    // It changes no byte, and at every moment each image is one that a crash could leave at the start.
+    ensures same { SameDisk (D.view disk) (D.view result.disk) }
+    ensures looks { InModel (D.view disk)
+        (Looks (D.view disk).history (D.view result.disk).history) }
 
     // That the disk failed is told only where it did.
-    ensures failed { IsErrOf result (fault.Run (run.Open opens.Disk)) → FailedSince D.view disk }
+    ensures failed { IsErrOf result.answer (fault.Run (run.Open opens.Disk))
+        → Rises (D.view disk).faults (D.view result.disk).faults }
 {
-    let store = match Store::open(alloc, disk) {
-        Ok(store) => store,
-        Err(fault) => return Err(ExportFault::Run(RunFault::Open(fault.cause))),
-    };
-    tell_in(format, title, store.sheet(), writer)
+    match Store::open(alloc, disk) {
+        Ok(store) => {
+            let answer = tell_in(format, title, store.sheet(), writer);
+            Exported {
+                disk: store.into_disk(),
+                answer,
+            }
+        }
+        Err(OpenFault { cause, disk }) => Exported {
+            disk,
+            answer: Err(ExportFault::Run(RunFault::Open(cause))),
+        },
+    }
 }

@@ -34,7 +34,7 @@ fn open_tag<W: Write>(tag: &Tag, out: &mut W) -> Result<(), WriteFault>
 }
 
 /// Whether the tag isn't shown.
-fn is_bare_tag(tag: &Tag) -> bool
+pub(crate) fn is_bare_tag(tag: &Tag) -> bool
     ensures { result ≡ is_bare tag.now.channel tag.now.name }
 {
     if tag.channel {
@@ -149,7 +149,7 @@ fn write_answer<W: Write>(answer: &Answer, out: &mut W) -> Result<(), WriteFault
 }
 
 /// Writes the name of a reason.
-fn write_reason_name<W: Write>(reason: Reason, out: &mut W) -> Result<(), WriteFault>
+pub(crate) fn write_reason_name<W: Write>(reason: Reason, out: &mut W) -> Result<(), WriteFault>
     ensures { OnOk result (Appends (W.contents out.old) (W.contents out.new) (reason_text reason)) }
 {
     write_bytes(reason_name(reason).as_bytes(), out)

@@ -1,6 +1,6 @@
 //! Laws of the definitions that the contracts cite. Each function does nothing: its contract is the
 //! law.
-ghost use Rattle.sheet_export.specs.Laws.{FieldLinesAreRead, SessionLinesAreRead, TextsHaveNoMarks};
+ghost use Rattle.sheet_export.specs.Laws.{FieldLinesAreRead, NoTextClosesItsFence, SessionLinesAreRead, TextsHaveNoMarks};
 
 /// No text of a page has `<`, `>`, `"` or an apostrophe, and each `&` in it begins a reference.
 pub fn texts_have_no_marks()
@@ -18,3 +18,9 @@ pub fn field_lines_are_read()
 {
     sheet_text::laws::numbers_are_decimals();
 }
+
+/// Nowhere in a text of Markdown stand as many backquotes as its fence has, so no line of it ends its
+/// code block.
+pub fn no_text_closes_its_fence()
+    ensures { NoTextClosesItsFence }
+{}

@@ -1,15 +1,19 @@
-//! A worksheet as it leaves the host: as a page, and as the script that makes it anew.
+//! A worksheet as it leaves the host: as a page, as Markdown, and as the script that makes it anew.
 #![tactic(auto)]
 
 mod fault;
+mod fences;
 mod fixed;
 mod formats;
+mod formulas;
 mod html;
 pub mod laws;
+mod markdown;
 mod references;
 mod script;
 mod style;
 
 pub use fault::{ExportFault, export_fault_text};
-pub use formats::{Format, export, format_named, last_part, script_text};
+pub use formats::{Exported, Format, export, format_named, last_part, script_text};
 pub use html::html_page;
+pub use markdown::markdown_text;

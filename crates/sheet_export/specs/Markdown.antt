@@ -1,0 +1,48 @@
+-- A worksheet as Markdown.
+use Rattle.std.specs.Prelude.{ℕ, List, [], ◌∷◌, ◌++◌, Option, Some, None, codes}
+use Rattle.std.specs.List.{flat_map}
+use Rattle.block_tree.specs.declared.reason.Reason.{Reason}
+use Rattle.worksheet.specs.Contents.{Contents}
+use Rattle.worksheet.specs.declared.field.Answer.{Answer}
+use Rattle.worksheet.specs.declared.field.Field.{Field}
+use Rattle.sheet_text.specs.Blocks.{block_text}
+use Rattle.sheet_text.specs.Escape.{on_line}
+use Rattle.sheet_text.specs.Replies.{reason_name}
+use Rattle.sheet_text.specs.Texts.{in_lines}
+use Rattle.sheet_export.specs.Fences.{fenced}
+use Rattle.sheet_export.specs.Formulas.{formula_of}
+
+-- the input, as code of its session
+abbrev pub input_markdown : Field → List ℕ
+input_markdown field = fenced field.session (on_line field.input ++ 10 ∷ [])
+
+-- a formula on a line, or an output as `print` shows it
+abbrev pub answer_markdown : Option (List ℕ) → Answer → List ℕ
+answer_markdown (Some formula) answer = formula ++ 10 ∷ []
+answer_markdown None answer = fenced [] (in_lines (block_text answer.output))
+
+-- that there is no answer, with the reason if there is one
+abbrev pub no_answer_markdown : Option Reason → List ℕ
+no_answer_markdown None = codes "*no answer*\n"
+no_answer_markdown (Some reason) = codes "*no answer: " ++ reason_name reason ++ codes "*\n"
+
+-- the output, or that there is none
+abbrev pub output_markdown : Option Answer → Option Reason → List ℕ
+output_markdown None lost = no_answer_markdown lost
+output_markdown (Some answer) lost = answer_markdown (formula_of answer.output) answer
+
+-- a field
+unfoldable pub field_markdown : Field → List ℕ
+field_markdown field = input_markdown field ++ 10 ∷ [] ++ output_markdown field.answer field.lost
+
+-- fields, each behind an empty line
+abbrev pub fields_behind : List Field → List ℕ
+fields_behind fields = flat_map (λ field. 10 ∷ field_markdown field) fields
+
+-- the fields in order, with an empty line between each two
+abbrev pub fields_markdown : List Field → List ℕ
+fields_markdown [] = []
+fields_markdown (field ∷ fields) = field_markdown field ++ fields_behind fields
+
+abbrev pub markdown : Contents → List ℕ
+markdown sheet = fields_markdown sheet.fields

@@ -1,0 +1,174 @@
+//! A worksheet as Markdown.
+ghost use Rattle.std.specs.Prelude.{◌≡◌, ◌++◌, ◌∷◌, [], OnOk};
+ghost use Rattle.std.specs.Io.KnownBytes.{Appends};
+ghost use Rattle.sheet_export.specs.Fences.{fenced_by};
+ghost use Rattle.sheet_export.specs.Markdown as markdown;
+ghost use Rattle.sheet_text.specs.Escape.{on_line};
+ghost use Rattle.sheet_text.specs.Texts.{output_lines};
+
+use crate::fences::{line_fence, output_fence, write_fence};
+use crate::fixed::write_bytes;
+use crate::formulas::formula_of;
+use crate::html::write_reason_name;
+use block_tree::Reason;
+use sheet_text::{WriteFault, write_line, write_output as write_lines};
+use std::io::Write;
+use worksheet::{Answer, Field, Sheet};
+
+/// Writes the session of a field.
+fn write_session<W: Write>(field: &Field, out: &mut W) -> Result<(), WriteFault>
+    ensures { OnOk result
+        (Appends (W.contents out.old) (W.contents out.new) field.now.session) }
+{
+    write_bytes(field.session.as_slice(), out)
+}
+
+/// Writes the input of a field alone.
+fn write_given<W: Write>(field: &Field, out: &mut W) -> Result<(), WriteFault>
+    ensures { OnOk result
+        (Appends (W.contents out.old) (W.contents out.new) (on_line field.now.input)) }
+{
+    write_line(field.input.as_bytes(), out)
+}
+
+/// Writes an input between fences of this length.
+fn write_code<W: Write>(length: usize, field: &Field, out: &mut W) -> Result<(), WriteFault>
+    ensures { OnOk result
+        (Appends (W.contents out.old) (W.contents out.new)
+        (fenced_by length field.now.session (on_line field.now.input ++ 10 ∷ []))) }
+{
+    write_fence(length, out)?;
+    write_session(field, out)?;
+    write_bytes(b"\n", out)?;
+    write_given(field, out)?;
+    write_bytes(b"\n", out)?;
+    write_fence(length, out)?;
+    write_bytes(b"\n", out)?;
+    Ok(())
+}
+
+fn write_input<W: Write>(field: &Field, out: &mut W) -> Result<(), WriteFault>
+    ensures { OnOk result
+        (Appends (W.contents out.old) (W.contents out.new) (markdown.input_markdown field.now)) }
+{
+    let length = line_fence(field.input.as_bytes())?;
+    write_code(length, field, out)?;
+    Ok(())
+}
+
+/// Writes an output between fences of this length.
+#[tactic(auto, using(crate::proofs::Appending::steps))]
+fn write_shown<W: Write>(
+    length: usize,
+    answer: &Option<Answer>,
+    lost: Option<Reason>,
+    out: &mut W,
+) -> Result<(), WriteFault>
+    ensures { OnOk result
+        (Appends (W.contents out.old) (W.contents out.new)
+        (fenced_by length [] (output_lines answer.now lost))) }
+{
+    write_fence(length, out)?;
+    write_bytes(b"\n", out)?;
+    write_lines(answer, lost, out)?;
+    write_fence(length, out)?;
+    write_bytes(b"\n", out)?;
+    Ok(())
+}
+
+/// Writes a formula on a line.
+#[tactic(auto, using(crate::proofs::Appending::steps))]
+fn write_formula<W: Write>(formula: &[u8], out: &mut W) -> Result<(), WriteFault>
+    ensures { OnOk result
+        (Appends (W.contents out.old) (W.contents out.new) (formula.now ++ 10 ∷ [])) }
+{
+    write_bytes(formula, out)?;
+    write_bytes(b"\n", out)?;
+    Ok(())
+}
+
+/// Writes why a field lost its line.
+fn write_reason<W: Write>(reason: Reason, out: &mut W) -> Result<(), WriteFault>
+    ensures { OnOk result
+        (Appends (W.contents out.old) (W.contents out.new)
+        (markdown.no_answer_markdown (Some reason))) }
+{
+    write_bytes(b"*no answer: ", out)?;
+    write_reason_name(reason, out)?;
+    write_bytes(b"*\n", out)?;
+    Ok(())
+}
+
+/// Writes that there is no answer, with the reason if there is one.
+fn write_no_answer<W: Write>(lost: Option<Reason>, out: &mut W) -> Result<(), WriteFault>
+    ensures { OnOk result
+        (Appends (W.contents out.old) (W.contents out.new) (markdown.no_answer_markdown lost)) }
+{
+    match lost {
+        None => write_bytes(b"*no answer*\n", out),
+        Some(reason) => write_reason(reason, out),
+    }
+}
+
+/// Writes an output, or that there is none.
+fn write_output<W: Write>(
+    answer: &Option<Answer>,
+    lost: Option<Reason>,
+    out: &mut W,
+) -> Result<(), WriteFault>
+    ensures { OnOk result
+        (Appends (W.contents out.old) (W.contents out.new)
+        (markdown.output_markdown answer.now lost)) }
+{
+    let Some(given) = answer else {
+        return write_no_answer(lost, out);
+    };
+    if let Some(formula) = formula_of(&given.output) {
+        return write_formula(formula, out);
+    }
+    let length = output_fence(&given.output)?;
+    write_shown(length, answer, lost, out)
+}
+
+/// Writes a field.
+fn write_field<W: Write>(field: &Field, out: &mut W) -> Result<(), WriteFault>
+    ensures { OnOk result
+        (Appends (W.contents out.old) (W.contents out.new) (markdown.field_markdown field.now)) }
+{
+    write_input(field, out)?;
+    write_bytes(b"\n", out)?;
+    write_output(&field.answer, field.lost, out)?;
+    Ok(())
+}
+
+/// Writes a field behind an empty line.
+#[tactic(auto, using(crate::proofs::Appending::steps))]
+fn write_next<W: Write>(field: &Field, out: &mut W) -> Result<(), WriteFault>
+    ensures { OnOk result
+        (Appends (W.contents out.old) (W.contents out.new)
+        (10 ∷ markdown.field_markdown field.now)) }
+{
+    write_bytes(b"\n", out)?;
+    write_field(field, out)?;
+    Ok(())
+}
+
+/// Writes a worksheet as Markdown: for each field its input as code of its session, and its output as
+/// code, or as the formula that it is, or a note that there is none.
+///
+/// After a `WriteFault` a part of the text may have gone out.
+#[tactic(auto, using(crate::proofs::FieldsBehind::markdown_steps))]
+pub fn markdown_text<W: Write>(sheet: &Sheet, out: &mut W) -> Result<(), WriteFault>
+    ensures { OnOk result
+        (Appends (W.contents out.old) (W.contents out.new) (markdown.markdown sheet.now.contents)) }
+{
+    let mut fields = sheet.fields();
+    let Some(first) = fields.next() else {
+        return Ok(());
+    };
+    write_field(first, out)?;
+    while let Some(field) = fields.next() {
+        write_next(field, out)?;
+    }
+    Ok(())
+}
