@@ -1,5 +1,5 @@
 -- No text closes its fence.
-use Rattle.std.proofs.Common.{◌≡◌, ◌≤◌, ◌+◌, ℕ, zero, suc, List, [], ◌∷◌, ◌++◌, refl, ap, sym, ◌∙◌, subst, arith, max}
+use Rattle.std.proofs.Common.{◌≡◌, ◌≤◌, ℕ, zero, suc, List, [], ◌∷◌, ◌++◌, ap, arith}
 use Rattle.sheet_export.specs.Fences.{fence_length, fence_of, longest_run, run_at_start}
 use Rattle.sheet_export.specs.Laws.{NoTextClosesItsFence}
 

@@ -9,3 +9,5 @@ pub mod Scans
 pub mod FencesHold
 pub mod FieldsBehind
 pub mod Pieces
+pub mod Replays
+pub mod SaysOps

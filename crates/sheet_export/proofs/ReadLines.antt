@@ -22,7 +22,7 @@ use Rattle.sheet_export.specs.Script.{field_line, flag_text, has_no_space, sessi
 
 -- Bytes without a space, up to one.
 
-both_of : (a b : Bool) → (a && b) ≡ true → (a ≡ true) × (b ≡ true)
+pub both_of : (a b : Bool) → (a && b) ≡ true → (a ≡ true) × (b ≡ true)
 both_of true true h = (refl, refl)
 both_of true false h = cc
 both_of false b h = cc

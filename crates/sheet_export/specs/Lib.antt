@@ -2,6 +2,7 @@ pub mod References
 pub mod Parts
 pub mod Html
 pub mod Script
+pub mod Replay
 pub mod Fences
 pub mod Formulas
 pub mod Markdown

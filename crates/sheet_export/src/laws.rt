@@ -1,5 +1,6 @@
 //! Laws of the definitions that the contracts cite. Each function does nothing: its contract is the
 //! law.
+ghost use Rattle.sheet_export.specs.Replay.{ScriptsMakeThemAnew, ScriptsSayTheirOps};
 ghost use Rattle.sheet_export.specs.Laws.{FieldLinesAreRead, NoTextClosesItsFence, SessionLinesAreRead, TextsHaveNoMarks};
 
 /// No text of a page has `<`, `>`, `"` or an apostrophe, and each `&` in it begins a reference.
@@ -24,3 +25,18 @@ pub fn field_lines_are_read()
 pub fn no_text_closes_its_fence()
     ensures { NoTextClosesItsFence }
 {}
+
+/// The ops of a script's lines are allowed from an empty worksheet on, and make the same sessions, and
+/// fields of the same sessions and inputs in the same order, numbered from 1.
+pub fn scripts_make_them_anew()
+    ensures { ScriptsMakeThemAnew }
+{
+    worksheet::laws::rewrite_makes_the_same();
+}
+
+/// The lines of a script are read as commands that give these ops.
+pub fn scripts_say_their_ops()
+    ensures { ScriptsSayTheirOps }
+{
+    sheet_text::laws::numbers_are_decimals();
+}

@@ -1,0 +1,52 @@
+-- What the lines of a script make of an empty worksheet.
+use Rattle.std.specs.Prelude.{◌≡◌, ℕ, ◌+◌, true, List, [], ◌∷◌, ◌++◌, Some, None, length, map}
+use Rattle.session_engine.specs.Commands.{op_of}
+use Rattle.session_engine.specs.declared.command.Command.{Command}
+use Rattle.sheet_text.specs.Script.{line_of}
+use Rattle.sheet_text.specs.declared.script.ScriptLine.TheVariants as line
+use Rattle.worksheet.specs.Checks.{Allowed}
+use Rattle.worksheet.specs.Contents.{Contents}
+use Rattle.worksheet.specs.Laws.{IsWorksheet}
+use Rattle.worksheet.specs.Ops.{sheet_of}
+use Rattle.worksheet.specs.Rewrite.{session_op}
+use Rattle.worksheet.specs.declared.field.Field.{Field}
+use Rattle.worksheet.specs.declared.op.Op.{Op}
+use Rattle.worksheet.specs.declared.op.Op.TheVariants as op
+use Rattle.sheet_export.specs.Script.{has_script, script_of}
+
+-- the ops of the lines of these fields, in front of which stand so many others
+abbrev pub field_ops : ℕ → List Field → List Op
+field_ops place [] = []
+field_ops place (field ∷ fields) = op.New place field.session field.input ∷ field_ops (place + 1) fields
+
+-- the ops of all lines
+abbrev pub script_ops : Contents → List Op
+script_ops sheet = map session_op sheet.sessions ++ field_ops 0 sheet.fields
+
+-- the same fields with the numbers from this one on, and without answers
+abbrev pub numbered : ℕ → List Field → List Field
+numbered number [] = []
+numbered number (field ∷ fields) = record { id = number; session = field.session; input = field.input; answer = None; lost = None } ∷ numbered (number + 1) fields
+
+-- the same sessions, and fields of the same sessions and inputs in the same order
+abbrev pub anew : Contents → Contents
+anew sheet = record { fields = numbered 1 sheet.fields; sessions = sheet.sessions; next = length sheet.fields + 1 }
+
+-- The ops of a worksheet's script are allowed from an empty worksheet on, and make that.
+abbrev pub ScriptsMakeThemAnew : Type 0
+ScriptsMakeThemAnew = (sheet : Contents) → IsWorksheet sheet → Allowed (script_ops sheet) × (sheet_of (script_ops sheet) ≡ anew sheet)
+
+-- a line is read as a command that gives this op
+abbrev pub SaysOp : List ℕ → Op → Type 0
+SaysOp text o = (told : Command) × (line_of text ≡ Some (line.Command told)) × (op_of told ≡ Some o)
+
+-- each of these lines is, one for each op
+abbrev pub SayOps : List (List ℕ) → List Op → Type 0
+SayOps [] [] = Unit {0}
+SayOps [] (o ∷ os) = ⊥
+SayOps (text ∷ lines) [] = ⊥
+SayOps (text ∷ lines) (o ∷ os) = SaysOp text o × SayOps lines os
+
+-- The lines of a worksheet's script are read as commands that give these ops.
+abbrev pub ScriptsSayTheirOps : Type 0
+ScriptsSayTheirOps = (sheet : Contents) → IsWorksheet sheet → has_script sheet ≡ true → SayOps (script_of sheet) (script_ops sheet)
