@@ -1,4 +1,5 @@
 pub mod Sizes
+pub mod PlainRuns
 pub mod Fields
 pub mod Words
 pub mod Again

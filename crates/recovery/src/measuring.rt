@@ -9,14 +9,9 @@ ghost use Rattle.recovery.specs.Code.{code_of, longest_told};
 ghost use Rattle.recovery.specs.Checkpointed.{HasRoomAnew};
 ghost use Rattle.recovery.specs.inside.Measured.{HasRecord, Measures};
 
-use crate::size::{answer_len, new_len, session_len};
+use crate::size::{IDS_LEN, LOST_LEN, answer_len, new_len, session_len};
 use block_tree::Reason;
 use worksheet::{Answer, Field, Session, Sheet};
-
-// The bytes of the payload of an Ids, and of a Lost.
-const IDS_LEN: u64 = 5;
-
-const LOST_LEN: u64 = 6;
 
 // What a record of a payload of so many bytes leaves of so much room, where the record fits.
 fn behind(left: u64, len: u64) -> Option<u64>

@@ -17,7 +17,7 @@ use crate::measuring::has_room_anew;
 use crate::opening::take_all;
 use crate::rewriting::frames_of;
 use crate::size::code_len;
-use crate::writing::encode;
+use crate::writing::frame_of;
 use disk_model::{Disk, DiskFault};
 use journal::{Frame, OpenCause, OpenFault, Opening};
 use std::alloc::Global;
@@ -146,8 +146,7 @@ impl<D: Disk> Store<D> {
             return Err(PrepareFault::Full);
         }
         self.sheet.make_room(op)?;
-        let payload = encode(self.alloc, op)?;
-        Ok(Frame::new(self.alloc, &payload)?)
+        Ok(frame_of(self.alloc, op)?)
     }
 
     /// Puts an op that was prepared on the disk, and then into the worksheet. It takes no memory. At
