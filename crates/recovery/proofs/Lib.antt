@@ -17,3 +17,4 @@ pub mod InFront
 pub mod Measures
 pub mod Rescues
 pub mod Saves
+pub mod Sourcing

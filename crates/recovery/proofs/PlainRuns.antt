@@ -18,4 +18,4 @@ spelled_plain (c ∷ s) (suc r) none =
 
 pub ruleset text_rules = (flat_map-append, append_assoc, append-nil, length-append)
 
-pub ruleset node_rules = (append_assoc, append-nil, tree_out, piece_text, piece_block)
+pub ruleset node_rules = (length-append, append_assoc, append-nil, tree_out, piece_text, piece_block)

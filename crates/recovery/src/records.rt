@@ -1,5 +1,8 @@
 //! The records that make a worksheet anew, before they are written.
-ghost use Rattle.std.specs.Prelude.{◌≡◌, ◌++◌, min, length, IfOk, OnOk};
+ghost use Rattle.std.specs.Prelude.{◌≡◌, ◌<◌, ◌≤◌, ◌+◌, ◌++◌, map, min, length, OnErr, OnOk, vec_capacity, vec_len};
+ghost use Rattle.std.specs.List.{AllByRecursion};
+ghost use Rattle.journal.specs.Area.{record_of};
+ghost use Rattle.recovery.specs.Sheets.{codes_of};
 ghost use Rattle.recovery.specs.Code.{code_of, longest_told, HasCode};
 ghost use Rattle.recovery.specs.inside.Measured.{HasRecord};
 ghost use Rattle.recovery.specs.inside.Records.{op_in};
@@ -7,9 +10,12 @@ ghost use Rattle.recovery.specs.inside.Records.{op_in};
 use crate::size::{IDS_LEN, LOST_LEN, answer_len, new_len, session_len};
 use crate::writing::{put_answer, put_ids, put_lost, put_new, put_session};
 use block_tree::{OutOfMemory, Reason};
-use journal::Frame;
-use std::alloc::Global;
+use journal::Source;
+use std::marker::Model;
 use worksheet::{Answer, Field, Session};
+
+// A gate behind which a record stands.
+const OPEN_GATE: u8 = 0x52;
 
 /// An op that makes a part of a worksheet anew, with the part where it stands in the worksheet.
 #[derive(Clone, Copy)]
@@ -43,7 +49,10 @@ impl<'a> Record<'a> {
     // Puts its payload behind other bytes.
     fn put(&self, out: &mut Vec<u8>) -> Result<(), OutOfMemory>
         requires { HasCode (op_in self.now) }
-        ensures { OnOk result (out.new.items ≡ out.old.items ++ code_of (op_in self.now)) }
+        ensures code { OnOk result (out.new.items ≡ out.old.items ++ code_of (op_in self.now)) }
+        ensures room { OnErr result
+            (vec_capacity out.old < vec_len out.old + length (code_of (op_in self.now))) }
+        ensures capacity { vec_capacity out.old ≤ vec_capacity out.new }
     {
         match self {
             Record::Session(session) => put_session(
@@ -66,13 +75,60 @@ impl<'a> Record<'a> {
         }
     }
 
-    /// Its bytes. The payload is written into them once.
-    pub(crate) fn frame(&self, alloc: Global) -> Result<Frame, OutOfMemory>
+    // Puts an open gate, the payload's length and the payload behind other bytes.
+    #[tactic(auto, using(crate::proofs::Sizes::size_rules))]
+    fn put_record(&self, out: &mut Vec<u8>) -> Result<(), OutOfMemory>
         requires { HasRecord (op_in self.now) }
-        ensures { IfOk result (λ frame. frame ≡ code_of (op_in self.now)) }
+        ensures record { OnOk result
+            (out.new.items ≡ out.old.items ++ record_of (code_of (op_in self.now))) }
+        ensures room { OnErr result
+            (vec_capacity out.old < vec_len out.old + 5 + length (code_of (op_in self.now))) }
+        ensures capacity { vec_capacity out.old ≤ vec_capacity out.new }
     {
-        let mut bytes = Frame::begin(alloc, self.payload_len())?;
-        self.put(&mut bytes)?;
-        Frame::closed(bytes)
+        out.push(OPEN_GATE)?;
+        out.extend_from_slice(&(self.payload_len() as u32).to_be_bytes())?;
+        self.put(out)
+    }
+}
+
+/// The payloads of records, each of which is made when it is written. Contracts see the payloads.
+#[derive(Drop)]
+pub(crate) struct Anew<'a> {
+    records: Vec<Record<'a>>,
+}
+
+impl<'a> Model for Anew<'a> {
+    ghost use Rattle.std.specs.Prelude.{List, ℕ, map};
+    ghost use Rattle.std.specs.List.{AllByRecursion};
+    ghost use Rattle.recovery.specs.Sheets.{codes_of};
+    ghost use Rattle.recovery.specs.inside.Measured.{HasRecord};
+    ghost use Rattle.recovery.specs.inside.Records.{op_in};
+
+    ghost Value = { List (List ℕ) };
+
+    ghost view = { λ a. codes_of (map op_in a.records.items) };
+
+    ghost invariant = { λ a. AllByRecursion HasRecord (map op_in a.records.items) };
+}
+
+impl<'a> Anew<'a> {
+    /// Those of these records.
+    pub(crate) fn new(records: Vec<Record<'a>>) -> Anew<'a>
+        requires { AllByRecursion HasRecord (map op_in records.items) }
+        ensures { result ≡ codes_of (map op_in records.entry.items) }
+    {
+        Anew { records }
+    }
+}
+
+impl<'a> Source for Anew<'a> {
+    ghost payloads = { λ all. all };
+
+    fn count(&self) -> usize {
+        self.records.len()
+    }
+
+    fn put_record(&self, index: usize, out: &mut Vec<u8>) -> Result<(), OutOfMemory> {
+        self.records[index].put_record(out)
     }
 }

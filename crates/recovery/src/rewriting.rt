@@ -1,10 +1,11 @@
 // The records that make a worksheet anew.
-ghost use Rattle.std.specs.Prelude.{◌≡◌, ◌≤◌, ◌-◌, ◌++◌, ◌∷◌, [], List, map, IfOk, OnOk};
+ghost use Rattle.std.specs.Prelude.{◌≡◌, ◌≤◌, ◌-◌, ◌++◌, ◌∷◌, ◌+◌, [], List, map, min, IfOk, OnOk, vec_capacity};
 ghost use Rattle.std.specs.List.{AllByRecursion};
 ghost use Rattle.worksheet.specs.declared.field.Field.{Field};
 ghost use Rattle.worksheet.specs.Checks.{numbers};
 ghost use Rattle.worksheet.specs.Edits.{HasNumbersApart};
 ghost use Rattle.worksheet.specs.Rewrite.{field_ops, fields_ops, ids_to, lost_ops, outcome_ops, rewrite_of, session_op, smaller_before};
+ghost use Rattle.journal.specs.Limits.{batch_len, max_payload};
 ghost use Rattle.recovery.specs.Code.{IsTyped};
 ghost use Rattle.recovery.specs.Sheets.{codes_of};
 ghost use Rattle.recovery.specs.inside.Gathered.{Gathers};
@@ -12,9 +13,9 @@ ghost use Rattle.recovery.specs.inside.Measured.{HasRecord};
 ghost use Rattle.recovery.specs.inside.Records.{op_in};
 
 use crate::afters::afters_of;
-use crate::records::Record;
+use crate::records::{Anew, Record};
 use block_tree::{OutOfMemory, Reason};
-use journal::Frame;
+use journal::{BATCH_LEN, MAX_PAYLOAD};
 use std::alloc::Global;
 use worksheet::{Answer, Field, Sheet};
 
@@ -135,18 +136,22 @@ pub(crate) fn records_of<'a>(
     Ok(records)
 }
 
-/// The frames of the records that make a worksheet anew.
-pub(crate) fn frames_of(alloc: Global, sheet: &Sheet) -> Result<Vec<Frame>, OutOfMemory>
+/// The payloads of the ops that make a worksheet anew.
+pub(crate) fn anew_of<'a>(alloc: Global, sheet: &'a Sheet) -> Result<Anew<'a>, OutOfMemory>
     requires some { 1 ≤ sheet.now.contents.next }
     requires apart { HasNumbersApart sheet.now.contents }
     requires records { AllByRecursion HasRecord (rewrite_of sheet.now.contents) }
-    ensures ok { IfOk result (λ frames. frames.items ≡ codes_of (rewrite_of sheet.now.contents)) }
+    ensures ok { IfOk result (λ anew. anew ≡ codes_of (rewrite_of sheet.now.contents)) }
     ensures typed { OnOk result (AllByRecursion IsTyped (rewrite_of sheet.now.contents)) }
 {
     let records = records_of(alloc, sheet)?;
-    let mut frames = Vec::with_capacity(alloc, records.len())?;
-    for record in &records {
-        frames.push(record.frame(alloc)?)?;
-    }
-    Ok(frames)
+    Ok(Anew::new(records))
+}
+
+/// Memory for the batches in which payloads are written whose records have so many bytes together.
+pub(crate) fn batch_of(alloc: Global, len: u64) -> Result<Vec<u8>, OutOfMemory>
+    ensures { IfOk result (λ batch. batch_len + 6 + min len max_payload ≤ vec_capacity batch) }
+{
+    let longest = len.min(MAX_PAYLOAD) as usize;
+    Ok(Vec::with_capacity(alloc, BATCH_LEN + 6 + longest)?)
 }

@@ -1,5 +1,5 @@
 //! Ops as payloads.
-ghost use Rattle.std.specs.Prelude.{◌≡◌, ◌++◌, true, OnOk, IfOk};
+ghost use Rattle.std.specs.Prelude.{◌≡◌, ◌++◌, ◌<◌, ◌≤◌, ◌+◌, length, true, OnErr, OnOk, IfOk, vec_capacity, vec_len};
 ghost use Rattle.std.specs.List.{flat_map, AllByRecursion};
 ghost use Rattle.block_tree.specs.Shape.{is_block};
 ghost use Rattle.block_tree.specs.View.{tree_of};
@@ -16,27 +16,36 @@ use journal::Frame;
 use std::alloc::Global;
 use worksheet::Op;
 
+#[tactic(auto, using(crate::proofs::Sizes::size_rules))]
 fn put_short(bytes: &[u8], out: &mut Vec<u8>) -> Result<(), OutOfMemory>
     requires { IsShort bytes.now }
-    ensures { OnOk result (out.new.items ≡ out.old.items ++ short bytes.now) }
+    ensures code { OnOk result (out.new.items ≡ out.old.items ++ short bytes.now) }
+    ensures room { OnErr result (vec_capacity out.old < vec_len out.old + length (short bytes.now)) }
+    ensures capacity { vec_capacity out.old ≤ vec_capacity out.new }
 {
     out.push(bytes.len() as u8)?;
     out.extend_from_slice(bytes)?;
     Ok(())
 }
 
+#[tactic(auto, using(crate::proofs::Sizes::size_rules))]
 fn put_long(bytes: &[u8], out: &mut Vec<u8>) -> Result<(), OutOfMemory>
     requires { IsLong bytes.now }
-    ensures { OnOk result (out.new.items ≡ out.old.items ++ long bytes.now) }
+    ensures code { OnOk result (out.new.items ≡ out.old.items ++ long bytes.now) }
+    ensures room { OnErr result (vec_capacity out.old < vec_len out.old + length (long bytes.now)) }
+    ensures capacity { vec_capacity out.old ≤ vec_capacity out.new }
 {
     out.extend_from_slice(&(bytes.len() as u16).to_be_bytes())?;
     out.extend_from_slice(bytes)?;
     Ok(())
 }
 
+#[tactic(auto, using(crate::proofs::Sizes::size_rules))]
 fn put_words(words: &[Octets], out: &mut Vec<u8>) -> Result<(), OutOfMemory>
     requires { AllByRecursion IsLong words.now }
-    ensures { OnOk result (out.new.items ≡ out.old.items ++ flat_map long words.now) }
+    ensures code { OnOk result (out.new.items ≡ out.old.items ++ flat_map long words.now) }
+    ensures room { OnErr result (vec_capacity out.old < vec_len out.old + length (flat_map long words.now)) }
+    ensures capacity { vec_capacity out.old ≤ vec_capacity out.new }
 {
     for word in words {
         put_long(word.as_slice(), out)?;
@@ -46,7 +55,9 @@ fn put_words(words: &[Octets], out: &mut Vec<u8>) -> Result<(), OutOfMemory>
 
 // A byte of a text.
 fn put_byte(byte: u8, out: &mut Vec<u8>) -> Result<(), OutOfMemory>
-    ensures { OnOk result (out.new.items ≡ out.old.items ++ escape byte) }
+    ensures code { OnOk result (out.new.items ≡ out.old.items ++ escape byte) }
+    ensures room { OnErr result (vec_capacity out.old < vec_len out.old + length (escape byte)) }
+    ensures capacity { vec_capacity out.old ≤ vec_capacity out.new }
 {
     if is_special(byte) {
         out.push(27)?;
@@ -57,7 +68,9 @@ fn put_byte(byte: u8, out: &mut Vec<u8>) -> Result<(), OutOfMemory>
 
 #[tactic(auto, using(crate::proofs::PlainRuns::text_rules))]
 fn put_text(text: &[u8], out: &mut Vec<u8>) -> Result<(), OutOfMemory>
-    ensures { OnOk result (out.new.items ≡ out.old.items ++ flat_map escape text.now) }
+    ensures code { OnOk result (out.new.items ≡ out.old.items ++ flat_map escape text.now) }
+    ensures room { OnErr result (vec_capacity out.old < vec_len out.old + length (flat_map escape text.now)) }
+    ensures capacity { vec_capacity out.old ≤ vec_capacity out.new }
 {
     let mut rest = text;
     while !rest.is_empty() {
@@ -74,7 +87,9 @@ fn put_text(text: &[u8], out: &mut Vec<u8>) -> Result<(), OutOfMemory>
 
 #[tactic(auto, using(crate::proofs::PlainRuns::node_rules))]
 fn put_node(node: &Node, out: &mut Vec<u8>) -> Result<(), OutOfMemory>
-    ensures { OnOk result (out.new.items ≡ out.old.items ++ canonical (tree_of node.now)) }
+    ensures code { OnOk result (out.new.items ≡ out.old.items ++ canonical (tree_of node.now)) }
+    ensures room { OnErr result (vec_capacity out.old < vec_len out.old + length (canonical (tree_of node.now))) }
+    ensures capacity { vec_capacity out.old ≤ vec_capacity out.new }
 {
     out.push(2)?;
     out.extend_from_slice(node.tag.name.as_slice())?;
@@ -106,6 +121,7 @@ fn number_of(reason: Reason) -> u8
 }
 
 /// The payload of the op that makes a session, behind other bytes.
+#[tactic(auto, using(crate::proofs::Sizes::size_rules))]
 pub(crate) fn put_session(
     name: &[u8],
     tab: bool,
@@ -113,8 +129,10 @@ pub(crate) fn put_session(
     out: &mut Vec<u8>,
 ) -> Result<(), OutOfMemory>
     requires { HasCode (op.Session name.now tab words.now) }
-    ensures { OnOk result
+    ensures code { OnOk result
         (out.new.items ≡ out.old.items ++ code_of (op.Session name.now tab words.now)) }
+    ensures room { OnErr result (vec_capacity out.old < vec_len out.old + length (code_of (op.Session name.now tab words.now))) }
+    ensures capacity { vec_capacity out.old ≤ vec_capacity out.new }
 {
     out.push(1)?;
     put_short(name, out)?;
@@ -124,6 +142,7 @@ pub(crate) fn put_session(
 }
 
 /// That of the op that makes a field.
+#[tactic(auto, using(crate::proofs::Sizes::size_rules))]
 pub(crate) fn put_new(
     after: u32,
     session: &[u8],
@@ -131,8 +150,10 @@ pub(crate) fn put_new(
     out: &mut Vec<u8>,
 ) -> Result<(), OutOfMemory>
     requires { HasCode (op.New after session.now input.now) }
-    ensures { OnOk result
+    ensures code { OnOk result
         (out.new.items ≡ out.old.items ++ code_of (op.New after session.now input.now)) }
+    ensures room { OnErr result (vec_capacity out.old < vec_len out.old + length (code_of (op.New after session.now input.now))) }
+    ensures capacity { vec_capacity out.old ≤ vec_capacity out.new }
 {
     out.push(2)?;
     out.extend_from_slice(&after.to_be_bytes())?;
@@ -141,6 +162,7 @@ pub(crate) fn put_new(
 }
 
 /// That of the op that gives a field an answer.
+#[tactic(auto, using(crate::proofs::Sizes::size_rules))]
 pub(crate) fn put_answer(
     id: u32,
     prompt: &[u8],
@@ -151,6 +173,8 @@ pub(crate) fn put_answer(
     ensures code { OnOk result
         (out.new.items ≡ out.old.items ++ code_of (op.Answer id prompt.now output.now)) }
     ensures right { OnOk result (is_block output.now ≡ true) }
+    ensures room { OnErr result (vec_capacity out.old < vec_len out.old + length (code_of (op.Answer id prompt.now output.now))) }
+    ensures capacity { vec_capacity out.old ≤ vec_capacity out.new }
 {
     out.push(7)?;
     out.extend_from_slice(&id.to_be_bytes())?;
@@ -160,7 +184,9 @@ pub(crate) fn put_answer(
 
 /// That of the op that says why a field has no answer.
 pub(crate) fn put_lost(id: u32, reason: Reason, out: &mut Vec<u8>) -> Result<(), OutOfMemory>
-    ensures { OnOk result (out.new.items ≡ out.old.items ++ code_of (op.Lost id reason)) }
+    ensures code { OnOk result (out.new.items ≡ out.old.items ++ code_of (op.Lost id reason)) }
+    ensures room { OnErr result (vec_capacity out.old < vec_len out.old + length (code_of (op.Lost id reason))) }
+    ensures capacity { vec_capacity out.old ≤ vec_capacity out.new }
 {
     out.push(8)?;
     out.extend_from_slice(&id.to_be_bytes())?;
@@ -170,7 +196,9 @@ pub(crate) fn put_lost(id: u32, reason: Reason, out: &mut Vec<u8>) -> Result<(),
 
 /// That of the op that names the next number.
 pub(crate) fn put_ids(next: u32, out: &mut Vec<u8>) -> Result<(), OutOfMemory>
-    ensures { OnOk result (out.new.items ≡ out.old.items ++ code_of (op.Ids next)) }
+    ensures code { OnOk result (out.new.items ≡ out.old.items ++ code_of (op.Ids next)) }
+    ensures room { OnErr result (vec_capacity out.old < vec_len out.old + length (code_of (op.Ids next))) }
+    ensures capacity { vec_capacity out.old ≤ vec_capacity out.new }
 {
     out.push(9)?;
     out.extend_from_slice(&next.to_be_bytes())?;
