@@ -13,7 +13,7 @@ use Rattle.journal.specs.declared.walk.Payload.{Payload}
 use Rattle.journal.proofs.Bytes.{end-push}
 use Rattle.journal.proofs.Loads.{keeps_on}
 
-records-append : (a b : List (List ℕ)) → records (a ++ b) ≡ records a ++ records b
+pub records-append : (a b : List (List ℕ)) → records (a ++ b) ≡ records a ++ records b
 records-append [] b = refl
 records-append (p ∷ a) b = ap (λ (l : List ℕ). record_of p ++ l) (records-append a b) ∙ sym (append_assoc (record_of p) (records a) (records b))
 

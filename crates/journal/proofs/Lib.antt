@@ -9,3 +9,4 @@ pub mod Walks
 pub mod Windows
 pub mod Creating
 pub mod Anew
+pub mod Batches

@@ -1,5 +1,5 @@
 -- The bytes of a journal's areas (docs/FORMAT.md, "The journal").
-use Rattle.std.specs.Prelude.{◌≡◌, ◌≢◌, ◌==◌, ℕ, ◌+◌, ◌<◌, ◌≤◌, List, [], ◌∷◌, ◌++◌, length, if◌then◌else◌}
+use Rattle.std.specs.Prelude.{◌≡◌, ◌≢◌, ◌==◌, ℕ, ◌+◌, ◌<◌, ◌≤◌, List, [], ◌∷◌, ◌++◌, drop, length, if◌then◌else◌}
 use Rattle.std.specs.Int.{to_be_bytes, w32}
 use Rattle.disk_model.specs.Disk.{overwritten}
 use Rattle.disk_model.specs.declared.disk.Area.{Area}
@@ -48,6 +48,11 @@ records (payload ∷ payloads) = record_of payload ++ records payloads
 -- a payload has at least one byte, and at most the limit
 abbrev pub IsPayload : ℕ → List ℕ → Type 0
 IsPayload limit payload = (1 ≤ length payload) × (length payload ≤ limit)
+
+-- a payload behind its length
+pub record IsBody (limit : ℕ) (bytes : List ℕ) : Type 0 where
+  pub is : bytes ≡ body_of (drop 4 bytes)
+  pub payload : IsPayload limit (drop 4 bytes)
 
 abbrev pub ArePayloads : ℕ → List (List ℕ) → Type 0
 ArePayloads limit [] = Unit {0}

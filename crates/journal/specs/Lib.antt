@@ -3,6 +3,7 @@ pub mod Area
 pub mod Damage
 pub mod Kept
 pub mod Journal
+pub mod Sources
 pub mod Open
 pub mod Opening
 pub mod Next

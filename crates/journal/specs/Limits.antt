@@ -4,3 +4,7 @@ use Rattle.std.specs.Prelude.{ℕ}
 -- the most bytes of a payload
 abbrev pub max_payload : ℕ
 max_payload = 33554432
+
+-- the length at which records that are written together are written
+abbrev pub batch_len : ℕ
+batch_len = 65536

@@ -5,3 +5,4 @@ pub mod Standing
 pub mod Anew
 pub mod Walk
 pub mod Window
+pub mod Batches

@@ -1,6 +1,7 @@
 // The bytes of a record behind its gate, and the closed gate after it.
-ghost use Rattle.std.specs.Prelude.{◌≡◌, ◌<◌, ◌≤◌, ◌+◌, ◌++◌, ◌∷◌, [], List, ℕ, length, IfOk};
-ghost use Rattle.journal.specs.Area.{body_of, closed_gate, IsPayload};
+ghost use Rattle.std.specs.Prelude.{◌≡◌, ◌<◌, ◌≤◌, ◌+◌, ◌++◌, ◌∷◌, [], List, ℕ, drop, length, IfOk};
+ghost use Rattle.std.specs.Int.{to_be_bytes, w32};
+ghost use Rattle.journal.specs.Area.{body_of, closed_gate, IsBody, IsPayload};
 ghost use Rattle.journal.specs.Limits.{max_payload};
 
 use crate::OutOfMemory;
@@ -35,8 +36,28 @@ impl Frame {
         requires { IsPayload max_payload payload.now }
         ensures { IfOk result (λ frame. frame ≡ payload.now) }
     {
-        let mut bytes = (payload.len() as u32).to_be_bytes().to_vec(alloc)?;
+        let mut bytes = Frame::begin(alloc, payload.len() as u64)?;
         bytes.extend_from_slice(payload)?;
+        Frame::closed(bytes)
+    }
+
+    /// The front of a frame, with memory for a payload of so many bytes and what else a frame has: the
+    /// payload is to be written behind it, for [`Frame::closed`].
+    pub fn begin(alloc: Global, payload_len: u64) -> Result<Vec<u8>, OutOfMemory>
+        requires { payload_len ≤ max_payload }
+        ensures { IfOk result (λ front. front.items ≡ to_be_bytes w32 payload_len) }
+    {
+        let mut front = Vec::with_capacity(alloc, payload_len as usize + 5)?;
+        front.extend_from_slice(&(payload_len as u32).to_be_bytes())?;
+        Ok(front)
+    }
+
+    /// The frame of these bytes, of which each but the first four is one of the payload.
+    pub fn closed(bytes: Vec<u8>) -> Result<Frame, OutOfMemory>
+        requires { IsBody max_payload bytes.items }
+        ensures { IfOk result (λ frame. frame ≡ drop 4 bytes.items) }
+    {
+        let mut bytes = bytes;
         bytes.push(0)?;
         Ok(Frame { bytes })
     }

@@ -1,16 +1,18 @@
 // A journal on a disk that it owns.
-ghost use Rattle.std.specs.Prelude.{◌≡◌, ◌<◌, ◌≤◌, ◌+◌, ◌++◌, ◌∷◌, ◌↔◌, [], List, ℕ, length, IfOk, IfErr, IsTrue, MatchResult};
+ghost use Rattle.std.specs.Prelude.{◌≡◌, ◌<◌, ◌≤◌, ◌+◌, ◌++◌, ◌∷◌, ◌↔◌, [], List, ℕ, length, IfOk, IfErr, IsTrue, MatchResult, vec_capacity};
 ghost use Rattle.disk_model.specs.Disk.{ChangesArea, InModel, LeavesOnly, Looks, Reaches, SameDisk, Torn, Rises, bytes_on, max_room, other_area};
 ghost use Rattle.journal.specs.Payloads.{payloads_in, AreGates};
 ghost use Rattle.journal.specs.Open.{AreEmpty, Tells};
 ghost use Rattle.journal.specs.Kept.{BeforeOrAfter, EitherStands, Fits, FitsAnew, Keeps, ImageStandsFor, active_area, active_of, other_of};
 ghost use Rattle.journal.specs.Area.{added_at, end_of, first_gate};
+ghost use Rattle.journal.specs.Sources.{HoldsEach};
 ghost use Rattle.journal.specs.inside.Active.{HasEnd};
 
 use crate::append::add;
+use crate::renewal::write_from;
 use crate::rewrite::{end_of_frames, other, write_anew};
 use crate::{
-    CreateCause, CreateFault, Frame, MAX_PAYLOAD, Next, OpenCause, Opening, Payload, create,
+    CreateCause, CreateFault, Frame, MAX_PAYLOAD, Next, OpenCause, Opening, Payload, Source, create,
 };
 use disk_model::{Area, Disk, DiskFault};
 use std::alloc::Global;
@@ -284,6 +286,57 @@ impl<D: Disk> Journal<D> {
             active: area,
             end,
         })
+    }
+
+    /// The same by the payloads of a source, which are made a batch at a time. An area has room for them,
+    /// and `batch` has memory for a batch and any of their records, so it takes none.
+    pub fn rewrite_from<S: Source>(
+        self,
+        source: &S,
+        batch: &mut Vec<u8>,
+    ) -> Result<Journal<D>, AppendFault<D>>
+        requires room { FitsAnew self.disk.room (S.payloads source.now) }
+        requires memory { HoldsEach (vec_capacity batch.old) (S.payloads source.now) }
+
+        ensures same { SameDisk self.disk (disk_after D.view result) }
+
+        ensures ok { InModel self.disk
+            ((payloads : List (List ℕ)) → Keeps self.disk.history self.end payloads
+            → IfOk result (λ journal. Keeps journal.disk.history journal.end
+            (S.payloads source.now))) }
+
+        // A crash at any moment of the call leaves the payloads from before it, or these.
+        ensures any_moment { InModel self.disk
+            ((payloads : List (List ℕ)) → Keeps self.disk.history self.end payloads
+            → LeavesOnly (EitherStands payloads (S.payloads source.now)) self.disk.history
+            (disk_after D.view result).history) }
+
+        // The area that wasn't active is it then.
+        ensures turned { InModel self.disk
+            (IfOk result (λ journal. active_area (bytes_on journal.disk)
+            ≡ other_area (active_area (bytes_on self.disk)))) }
+
+        ensures ends { IfOk result (λ journal. journal.end ≡ end_of (S.payloads source.now)) }
+        ensures fits { IsFull result → ⊥ }
+        ensures faulty { IsFaulty result
+            → Rises self.disk.faults (disk_after D.view result).faults }
+        ensures steady { (IsFaulty result → ⊥)
+            → (disk_after D.view result).faults ≡ self.disk.faults }
+    {
+        let Journal {
+            mut disk,
+            active,
+            end: _,
+        } = self;
+        let area = other(active);
+        match write_from(&mut disk, area, source, batch) {
+            Ok(end) => Ok(Journal {
+                disk,
+                active: area,
+                end,
+            }),
+            Err(DiskFault) => Err(AppendFault::Disk(disk)),
+        }
     }
 
     /// The disk, as it stands.

@@ -11,7 +11,9 @@ mod journal;
 pub mod laws;
 mod opening;
 mod payloads;
+mod renewal;
 mod rewrite;
+mod source;
 mod walk;
 mod window;
 
@@ -21,4 +23,5 @@ pub use front::{Front, InFront};
 pub use journal::{AppendFault, Journal, OpenFault};
 pub use opening::{CreateCause, CreateFault, OpenCause, create};
 pub use payloads::{Next, Opening};
+pub use source::{BATCH_LEN, Source};
 pub use walk::Payload;

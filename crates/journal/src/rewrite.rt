@@ -41,8 +41,8 @@ pub(crate) fn end_of_frames(room: u64, frames: &[Frame]) -> Option<u64>
     Some(end)
 }
 
-// Lays no record into an area: a closed gate, behind the header of area First, or a header in area Second.
-fn lay_none<D: Disk>(disk: &mut D, area: Area) -> Result<(), DiskFault>
+/// Lays no record into an area: a closed gate, behind the header of area First, or a header in area Second.
+pub(crate) fn lay_none<D: Disk>(disk: &mut D, area: Area) -> Result<(), DiskFault>
     requires room { InModel (D.view disk.old) (first_gate + 1 ≤ (D.view disk.old).room) }
     requires headed { InModel (D.view disk.old) (first_gate < length (bytes_on (D.view disk.old)).first) }
     ensures called { Called result (D.view disk.old) (D.view disk.new) }
@@ -137,8 +137,8 @@ fn selector_naming(area: Area) -> u8
     }
 }
 
-// Names an area as the active one.
-fn turn<D: Disk>(disk: &mut D, area: Area) -> Result<(), DiskFault>
+/// Names an area as the active one.
+pub(crate) fn turn<D: Disk>(disk: &mut D, area: Area) -> Result<(), DiskFault>
     requires room { InModel (D.view disk.old) (first_gate ≤ (D.view disk.old).room) }
     requires headed { InModel (D.view disk.old) (first_gate < length (bytes_on (D.view disk.old)).first) }
     ensures called { Called result (D.view disk.old) (D.view disk.new) }

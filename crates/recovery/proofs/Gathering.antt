@@ -1,5 +1,5 @@
 -- Records that are gathered, one behind another.
-use Rattle.std.proofs.Common.{◌≡◌, ℕ, List, [], ◌∷◌, ◌++◌, Result, Ok, Err, ◌+◌, ◌-◌, ◌<◌, suc, refl, sym, ap, ◌∙◌, subst, arith, append_assoc, append-nil}
+use Rattle.std.proofs.Common.{◌≡◌, ℕ, List, [], ◌∷◌, ◌++◌, Result, Ok, Err, ◌+◌, ◌-◌, ◌<◌, suc, refl, sym, ap, ◌∙◌, subst, arith, append_assoc, append-nil, map}
 use Rattle.std.specs.List.{AllByRecursion}
 use Rattle.worksheet.specs.declared.op.Op.{Op}
 use Rattle.worksheet.specs.declared.field.Field.{Field}
@@ -7,7 +7,9 @@ use Rattle.worksheet.specs.Checks.{field_in}
 use Rattle.worksheet.specs.Rewrite.{fields_ops, found_ops}
 use Rattle.recovery.specs.Code.{code_of, IsTyped}
 use Rattle.recovery.specs.Sheets.{codes_of}
+use Rattle.recovery.specs.declared.records.Record.{Record}
 use Rattle.recovery.specs.inside.Gathered.{Gathered, Gathers}
+use Rattle.recovery.specs.inside.Records.{op_in}
 
 pub codes_append : (a b : List Op) → codes_of (a ++ b) ≡ codes_of a ++ codes_of b
 codes_append [] b = refl
@@ -25,30 +27,37 @@ pub all_behind : (P : Op → Type 0) (a b : List Op) → AllByRecursion P (a ++ 
 all_behind P [] b all = all
 all_behind P (o ∷ a) b all = all_behind P a b all.1
 
+ops_append : (a b : List Record) → map op_in (a ++ b) ≡ map op_in a ++ map op_in b
+ops_append [] b = refl
+ops_append (r ∷ a) b = ap (λ (l : List Op). op_in r ∷ l) (ops_append a b)
+
 -- more behind those that were gathered
-pub gathered_on : (a b : List Op) (x y z : List (List ℕ)) → Gathered a x y → Gathered b y z → Gathered (a ++ b) x z
+pub gathered_on : (a b : List Op) (x y z : List Record) → Gathered a x y → Gathered b y z → Gathered (a ++ b) x z
 gathered_on a b x y z one two = (
-  two.0 ∙ ap (λ (l : List (List ℕ)). l ++ codes_of b) one.0 ∙ append_assoc x (codes_of a) (codes_of b) ∙ ap (λ (l : List (List ℕ)). x ++ l) (sym (codes_append a b)),
+  two.0 ∙ ap (λ (l : List Op). l ++ b) one.0 ∙ append_assoc (map op_in x) a b,
   all_append IsTyped a b one.1 two.1,
 )
 
-pub gathers_on : {E : Type 0} (a b : List Op) (r : Result Unit E) (x y z : List (List ℕ)) → Gathered a x y → Gathers b r y z → Gathers (a ++ b) r x z
+pub gathers_on : {E : Type 0} (a b : List Op) (r : Result Unit E) (x y z : List Record) → Gathered a x y → Gathers b r y z → Gathers (a ++ b) r x z
 gathers_on a b (Ok u) x y z one two = gathered_on a b x y z one two
 gathers_on a b (Err e) x y z one two = tt
 
-pub gathered_none : (x : List (List ℕ)) → Gathered [] x x
-gathered_none x = (sym (append-nil x), tt)
+pub gathered_none : (x : List Record) → Gathered [] x x
+gathered_none x = (sym (append-nil (map op_in x)), tt)
+
+pub gathered_one : (x y : List Record) (r : Record) → y ≡ x ++ r ∷ [] → IsTyped (op_in r) → Gathered (op_in r ∷ []) x y
+gathered_one x y r is typed = (ap (λ (l : List Record). map op_in l) is ∙ ops_append x (r ∷ []), (typed, tt))
 
 -- Some of these ops were gathered, and the rest is left.
-pub record GatheredSoFar (all rest : List Op) (x y : List (List ℕ)) : Type 0 where
+pub record GatheredSoFar (all rest : List Op) (x y : List Record) : Type 0 where
   pub done : List Op
   pub split : done ++ rest ≡ all
   pub gathered : Gathered done x y
 
-pub so_far_none : (all : List Op) (x : List (List ℕ)) → GatheredSoFar all all x x
+pub so_far_none : (all : List Op) (x : List Record) → GatheredSoFar all all x x
 so_far_none all x = record { done = []; split = refl; gathered = gathered_none x }
 
-pub so_far_on : (all rest more left : List Op) (x y z : List (List ℕ)) → GatheredSoFar all rest x y → rest ≡ more ++ left → Gathered more y z → GatheredSoFar all left x z
+pub so_far_on : (all rest more left : List Op) (x y z : List Record) → GatheredSoFar all rest x y → rest ≡ more ++ left → Gathered more y z → GatheredSoFar all left x z
 so_far_on all rest more left x y z so_far is one = record {
   done = so_far.done ++ more;
   split = append_assoc so_far.done more left ∙ ap (λ (l : List Op). so_far.done ++ l) (sym is) ∙ so_far.split;
@@ -56,12 +65,8 @@ so_far_on all rest more left x y z so_far is one = record {
 }
 
 -- what becomes of the rest becomes of them all
-pub so_far_ends : {E : Type 0} (all rest : List Op) (r : Result Unit E) (x y z : List (List ℕ)) → GatheredSoFar all rest x y → Gathers rest r y z → Gathers all r x z
+pub so_far_ends : {E : Type 0} (all rest : List Op) (r : Result Unit E) (x y z : List Record) → GatheredSoFar all rest x y → Gathers rest r y z → Gathers all r x z
 so_far_ends all rest r x y z so_far last = subst (λ (l : List Op). Gathers l r x z) so_far.split (gathers_on so_far.done rest r x y z so_far.gathered last)
-
--- what holds of them all holds of the rest
-pub of_rest : (P : Op → Type 0) (all rest : List Op) (x y : List (List ℕ)) → GatheredSoFar all rest x y → AllByRecursion P all → AllByRecursion P rest
-of_rest P all rest x y so_far holds = all_behind P so_far.done rest (subst (AllByRecursion P) (sym so_far.split) holds)
 
 -- the next of the fields that are left, if there is one
 pub fields_step : (fields : List Field) (last id next : ℕ) → id < last

@@ -1,4 +1,5 @@
 pub mod Sizes
+pub mod PlainRuns
 pub mod Fields
 pub mod Words
 pub mod Again
@@ -16,3 +17,4 @@ pub mod InFront
 pub mod Measures
 pub mod Rescues
 pub mod Saves
+pub mod Sourcing

@@ -3,6 +3,7 @@ pub mod Codes
 pub mod Taken
 pub mod Base
 pub mod Gathered
+pub mod Records
 pub mod Measured
 pub mod Rescuing
 pub mod Afters

@@ -1,11 +1,12 @@
 // What a store stands on.
-ghost use Rattle.std.specs.Prelude.{◌≡◌, ◌+◌, ◌++◌, ◌∷◌, ◌↔◌, [], List, ℕ, length, false, true, OnOk, OnErr, IsTrue};
+ghost use Rattle.std.specs.Prelude.{◌≡◌, ◌+◌, ◌++◌, ◌∷◌, ◌↔◌, [], List, ℕ, length, false, true, OnOk, OnErr, IsTrue, vec_capacity};
 ghost use Rattle.disk_model.specs.Disk.{InModel, LeavesOnly, SameDisk, Rises, bytes_on};
-ghost use Rattle.journal.specs.Kept.{BeforeOrAfter, EitherStands, Fits, other_of};
+ghost use Rattle.journal.specs.Kept.{BeforeOrAfter, EitherStands, Fits, FitsAnew, other_of};
+ghost use Rattle.journal.specs.Sources.{HoldsEach};
 
 use crate::fault::CheckpointFault;
 use disk_model::{Disk, DiskFault};
-use journal::{AppendFault, Frame, Journal};
+use journal::{AppendFault, Frame, Journal, Source};
 
 /// A journal, or a disk that has failed and is written no more.
 #[derive(Drop)]
@@ -52,23 +53,27 @@ impl<D: Disk> Base<D> {
     }
 
     /// Writes these payloads in place of its own. A failure of the disk closes it.
-    pub(crate) fn anew(self, frames: &[Frame]) -> (Base<D>, Result<(), CheckpointFault>)
-        requires { is_closed self ≡ false }
+    pub(crate) fn anew<S: Source>(
+        self,
+        source: &S,
+        batch: &mut Vec<u8>,
+    ) -> (Base<D>, Result<(), CheckpointFault>)
+        requires open { is_closed self ≡ false }
+        requires room { FitsAnew (disk_of D.view self).room (S.payloads source.now) }
+        requires memory { HoldsEach (vec_capacity batch.old) (S.payloads source.now) }
 
         ensures same { SameDisk (disk_of D.view self) (disk_of D.view result.0) }
-        ensures answers { AnewAnswers D.view self result.0 frames.now result.1 }
+        ensures answers { AnewAnswers D.view self result.0 (S.payloads source.now) result.1 }
         ensures any_moment { InModel (disk_of D.view self)
             ((payloads : List (List ℕ)) → KeepsIn self payloads
-            → LeavesOnly (EitherStands payloads frames.now) (disk_of D.view self).history
+            → LeavesOnly (EitherStands payloads (S.payloads source.now)) (disk_of D.view self).history
             (disk_of D.view result.0).history) }
     {
         match self {
-            Base::Open(journal) => match journal.rewrite(frames) {
+            Base::Open(journal) => match journal.rewrite_from(source, batch) {
                 Ok(journal) => (Base::Open(journal), Ok(())),
                 Err(AppendFault::Disk(disk)) => (Base::Closed(disk), Err(CheckpointFault::Disk)),
-                Err(AppendFault::JournalFull(journal)) => {
-                    (Base::Open(journal), Err(CheckpointFault::Full))
-                }
+                Err(AppendFault::JournalFull(_)) => unreachable!(),
             },
             Base::Closed(_) => unreachable!(),
         }

@@ -1,22 +1,19 @@
 //! The room that the records which make a worksheet anew take, told without making them.
-ghost use Rattle.std.specs.Prelude.{◌≡◌, ◌↔◌, ◌≤◌, ◌-◌, ◌∷◌, [], ℕ, List, map, min, length, IsTrue};
+ghost use Rattle.std.specs.Prelude.{◌≡◌, ◌↔◌, ◌≤◌, ◌-◌, ◌∷◌, [], ℕ, List, map, min, length, is_some, IfSome, IsTrue};
 ghost use Rattle.std.specs.List.{AllByRecursion};
 ghost use Rattle.worksheet.specs.declared.op.Op.{Op};
 ghost use Rattle.worksheet.specs.declared.field.Field.{Field};
 ghost use Rattle.worksheet.specs.Rewrite.{field_ops, fields_ops, ids_to, lost_ops, outcome_ops, rewrite_of, session_op};
+ghost use Rattle.journal.specs.Area.{records};
 ghost use Rattle.journal.specs.Limits.{max_payload};
 ghost use Rattle.recovery.specs.Code.{code_of, longest_told};
 ghost use Rattle.recovery.specs.Checkpointed.{HasRoomAnew};
+ghost use Rattle.recovery.specs.Sheets.{codes_of};
 ghost use Rattle.recovery.specs.inside.Measured.{HasRecord, Measures};
 
-use crate::size::{answer_len, new_len, session_len};
+use crate::size::{IDS_LEN, LOST_LEN, answer_len, new_len, session_len};
 use block_tree::Reason;
 use worksheet::{Answer, Field, Session, Sheet};
-
-// The bytes of the payload of an Ids, and of a Lost.
-const IDS_LEN: u64 = 5;
-
-const LOST_LEN: u64 = 6;
 
 // What a record of a payload of so many bytes leaves of so much room, where the record fits.
 fn behind(left: u64, len: u64) -> Option<u64>
@@ -137,16 +134,21 @@ fn behind_all(left: u64, sheet: &Sheet) -> Option<u64>
     }
 }
 
-/// Whether an area of so many bytes has room for the records that make a worksheet anew. It takes no
-/// memory.
-pub(crate) fn has_room_anew(room: u64, sheet: &Sheet) -> bool
+/// The bytes of the records that make a worksheet anew, where an area of so many bytes has room for
+/// them. It takes no memory.
+pub(crate) fn len_anew(room: u64, sheet: &Sheet) -> Option<u64>
     requires some { 1 ≤ sheet.now.contents.next }
     requires records { AllByRecursion HasRecord (rewrite_of sheet.now.contents) }
-    ensures { IsTrue result ↔ HasRoomAnew room sheet.now.contents }
+    ensures room { IsTrue (is_some result) ↔ HasRoomAnew room sheet.now.contents }
+    ensures len { IfSome result (λ len. len
+        ≡ length (records (codes_of (rewrite_of sheet.now.contents)))) }
 {
     // A header, and the gate behind the records.
     if room < 11 {
-        return false;
+        return None;
     }
-    behind_all(room - 11, sheet).is_some()
+    match behind_all(room - 11, sheet) {
+        Some(rest) => Some(room - 11 - rest),
+        None => None,
+    }
 }

@@ -1,9 +1,10 @@
 //! A worksheet that is written to an empty disk.
-ghost use Rattle.std.specs.Prelude.{◌≡◌, ◌≤◌, [], List, ℕ, IfErr, IfOk, MatchResult};
+ghost use Rattle.std.specs.Prelude.{◌≡◌, ◌≤◌, [], List, ℕ, IfErr, IfOk, MatchResult, vec_capacity};
 ghost use Rattle.disk_model.specs.Disk.{InModel, Leaves, LeavesOnly, Looks, Rises, SameDisk, bytes_on};
 ghost use Rattle.worksheet.specs.declared.op.Op.{Op};
 ghost use Rattle.worksheet.specs.Rewrite.{rewrite_of};
 ghost use Rattle.journal.specs.Kept.{FitsAnew, Keeps};
+ghost use Rattle.journal.specs.Sources.{HoldsEach};
 ghost use Rattle.journal.specs.Open.{AreEmpty};
 ghost use Rattle.recovery.specs.Checkpointed.{HasRoomAnew};
 ghost use Rattle.recovery.specs.Saved.{IsBeingSaved, disk_saved};
@@ -11,10 +12,10 @@ ghost use Rattle.recovery.specs.Sheets.{IsSheetImage, Makes};
 ghost use Rattle.recovery.specs.inside.Rescuing.{IsBeingLaid, IsOfDisk, created_cause};
 ghost use Rattle.recovery.specs.declared.saving.SaveCause.TheVariants as causes;
 
-use crate::measuring::has_room_anew;
-use crate::rewriting::frames_of;
+use crate::measuring::len_anew;
+use crate::rewriting::{anew_of, batch_of};
 use disk_model::Disk;
-use journal::{AppendFault, CreateCause, CreateFault, Frame, Journal};
+use journal::{AppendFault, CreateCause, CreateFault, Journal, Source};
 use std::alloc::Global;
 use worksheet::Sheet;
 
@@ -49,20 +50,21 @@ fn cause_of(cause: CreateCause) -> SaveCause
     }
 }
 
-// Lays an empty journal on an empty disk, and these records in its place.
-fn lay_frames<D: Disk>(disk: D, frames: &[Frame]) -> Result<D, SaveFault<D>>
+// Lays an empty journal on an empty disk, and the payloads of a source in its place.
+fn lay_anew<D: Disk, S: Source>(disk: D, source: &S, batch: &mut Vec<u8>) -> Result<D, SaveFault<D>>
     requires room { 11 ≤ (D.view disk).room }
-    requires fits { FitsAnew (D.view disk).room frames.now }
+    requires fits { FitsAnew (D.view disk).room (S.payloads source.now) }
+    requires memory { HoldsEach (vec_capacity batch.old) (S.payloads source.now) }
     ensures same { SameDisk (D.view disk) (disk_saved D.view result) }
     ensures ok { InModel (D.view disk) (IfOk result (λ new. AreEmpty (bytes_on (D.view disk))
-        × ((end : ℕ) × Keeps (D.view new).history end frames.now))) }
+        × ((end : ℕ) × Keeps (D.view new).history end (S.payloads source.now)))) }
     ensures not_empty { InModel (D.view disk)
         (IfErr result (λ e. e.cause ≡ causes.NotEmpty → AreEmpty (bytes_on (D.view disk)) → ⊥)) }
     ensures untouched { InModel (D.view disk)
         (IfErr result (λ e. (AreEmpty (bytes_on (D.view disk)) → ⊥)
         → Looks (D.view disk).history (D.view e.disk).history)) }
     ensures any_moment { InModel (D.view disk)
-        (LeavesOnly (IsBeingLaid (D.view disk).history.now frames.now)
+        (LeavesOnly (IsBeingLaid (D.view disk).history.now (S.payloads source.now))
         (D.view disk).history (disk_saved D.view result).history) }
     ensures cause { IfErr result (λ e. IsOfDisk e.cause) }
     ensures faulty { IfErr result
@@ -78,7 +80,7 @@ fn lay_frames<D: Disk>(disk: D, frames: &[Frame]) -> Result<D, SaveFault<D>>
             return Err(SaveFault { cause, disk });
         }
     };
-    match journal.rewrite(frames) {
+    match journal.rewrite_from(source, batch) {
         Ok(journal) => Ok(journal.into_disk()),
         Err(AppendFault::Disk(disk)) => Err(SaveFault {
             cause: SaveCause::Disk,
@@ -128,17 +130,23 @@ pub fn save<D: Disk>(alloc: Global, disk: D, sheet: &Sheet) -> Result<D, SaveFau
         (λ new. (D.view new).faults ≡ (D.view disk).faults)
         (λ e. (e.cause ≡ causes.Disk → ⊥) → (D.view e.disk).faults ≡ (D.view disk).faults) }
 {
-    if !has_room_anew(disk.room(), sheet) {
+    let Some(len) = len_anew(disk.room(), sheet) else {
         return Err(SaveFault {
             cause: SaveCause::Full,
             disk,
         });
-    }
-    match frames_of(alloc, sheet) {
-        Ok(frames) => lay_frames(disk, &frames),
-        Err(_) => Err(SaveFault {
+    };
+    let Ok(anew) = anew_of(alloc, sheet) else {
+        return Err(SaveFault {
             cause: SaveCause::OutOfMemory,
             disk,
-        }),
-    }
+        });
+    };
+    let Ok(mut batch) = batch_of(alloc, len) else {
+        return Err(SaveFault {
+            cause: SaveCause::OutOfMemory,
+            disk,
+        });
+    };
+    lay_anew(disk, &anew, &mut batch)
 }

@@ -7,11 +7,18 @@ ghost use Rattle.worksheet.specs.declared.op.Op.TheVariants as op;
 ghost use Rattle.worksheet.specs.Rewrite.{session_op};
 ghost use Rattle.recovery.specs.Code.{code_of, long, longest_told, HasCode};
 
+use crate::runs::{is_special, split_plain};
 use block_tree::{Item, Node, Octets};
 use worksheet::{Answer, Field, Op, Session};
 
 // The greatest length that `code_len` tells, in bytes.
 const LONGEST_TOLD: u64 = 4_294_967_295;
+
+/// The bytes of the payload of an Ids.
+pub(crate) const IDS_LEN: u64 = 5;
+
+/// The bytes of the payload of a Lost.
+pub(crate) const LOST_LEN: u64 = 6;
 
 // A length with so many bytes more, up to the greatest that is told.
 fn longer(len: u64, more: u64) -> u64
@@ -31,9 +38,15 @@ fn with_text(before: u64, text: &[u8]) -> u64
     ensures { result ≡ min (before + length (flat_map escape text.now)) longest_told }
 {
     let mut len = before;
-    for byte in text {
-        let is_special = *byte == 2 || *byte == 5 || *byte == 27;
-        len = longer(len, if is_special { 2 } else { 1 });
+    let mut rest = text;
+    while !rest.is_empty() {
+        let (plain, behind) = split_plain(rest);
+        len = longer(len, plain.len() as u64);
+        rest = behind;
+        if let [byte, more @ ..] = behind {
+            len = longer(len, if is_special(*byte) { 2 } else { 1 });
+            rest = more;
+        }
     }
     len
 }

@@ -13,11 +13,11 @@ ghost use Rattle.recovery.specs.Sheets.{codes_of, IsSheetImage, IsEither, KeepsO
 
 use crate::base::Base;
 use crate::fault::{CheckpointFault, CommitFault, PrepareFault};
-use crate::measuring::has_room_anew;
+use crate::measuring::len_anew;
 use crate::opening::take_all;
-use crate::rewriting::frames_of;
+use crate::rewriting::{anew_of, batch_of};
 use crate::size::code_len;
-use crate::writing::encode;
+use crate::writing::frame_of;
 use disk_model::{Disk, DiskFault};
 use journal::{Frame, OpenCause, OpenFault, Opening};
 use std::alloc::Global;
@@ -146,8 +146,7 @@ impl<D: Disk> Store<D> {
             return Err(PrepareFault::Full);
         }
         self.sheet.make_room(op)?;
-        let payload = encode(self.alloc, op)?;
-        Ok(Frame::new(self.alloc, &payload)?)
+        Ok(frame_of(self.alloc, op)?)
     }
 
     /// Puts an op that was prepared on the disk, and then into the worksheet. It takes no memory. At
@@ -277,34 +276,18 @@ impl<D: Disk> Store<D> {
         if base.is_closed() {
             return Err(CheckpointFault::Closed);
         }
-        if !has_room_anew(base.room(), &self.sheet) {
+        let Some(len) = len_anew(base.room(), &self.sheet) else {
             return Err(CheckpointFault::Full);
-        }
-        let frames = match frames_of(self.alloc, &self.sheet) {
-            Ok(frames) => frames,
+        };
+        let anew = match anew_of(self.alloc, &self.sheet) {
+            Ok(anew) => anew,
             Err(_) => return Err(CheckpointFault::OutOfMemory),
         };
-        self.renew(&frames)
-    }
-
-    /// Writes these records, which make the worksheet anew, in place of the journal's own.
-    fn renew(&mut self, frames: &[Frame]) -> Result<(), CheckpointFault>
-        requires open { self.old.closed ≡ false }
-        requires room { HasRoomAnew self.old.disk.room self.old.sheet.contents }
-        requires frames { frames.now ≡ codes_of (rewrite_of self.old.sheet.contents) }
-        requires typed { AllByRecursion IsTyped (rewrite_of self.old.sheet.contents) }
-
-        ensures store { IsStore self.old }
-        ensures same { SameDisk self.old.disk self.new.disk }
-        ensures sheet { self.new.sheet ≡ self.old.sheet }
-        ensures answers { CheckpointAnswers self.old self.new result }
-
-        // A crash at any moment of the call leaves the same worksheet.
-        ensures any_moment { InModel self.old.disk
-            (LeavesOnly (IsSheetImage self.old.sheet.contents) self.old.disk.history
-            self.new.disk.history) }
-    {
-        let (renewed, result) = self.base.take().unwrap().anew(frames);
+        let mut batch = match batch_of(self.alloc, len) {
+            Ok(batch) => batch,
+            Err(_) => return Err(CheckpointFault::OutOfMemory),
+        };
+        let (renewed, result) = self.base.take().unwrap().anew(&anew, &mut batch);
         self.base = Some(renewed);
         result
     }

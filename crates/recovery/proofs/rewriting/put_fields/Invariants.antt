@@ -9,7 +9,7 @@ invariant-loop-id l =
     let last = l.sheet.contents.next in
     record {
       within : l.id ≤ last;
-      so_far : GatheredSoFar (fields_ops fields (last - 1) 1 1) (fields_ops fields (last - l.id) l.id l.next) l.fn.frames.items l.frames.items;
+      so_far : GatheredSoFar (fields_ops fields (last - 1) 1 1) (fields_ops fields (last - l.id) l.id l.next) l.fn.records.items l.records.items;
     }
 
 abbrev pub decreases-loop-id : goal.decreases-loop-id

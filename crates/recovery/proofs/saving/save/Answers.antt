@@ -1,29 +1,42 @@
-use Rattle.std.proofs.Common.{◌∙◌}
-use Rattle.recovery.proofs.Lengths.{next_some, numbers_apart, records_anew}
+use Rattle.std.proofs.Common.{◌+◌, ◌≤◌, ℕ, List, min, sym, subst, vec_capacity}
+use Rattle.journal.specs.Limits.{batch_len, max_payload}
+use Rattle.journal.specs.Sources.{HoldsEach}
+use Rattle.worksheet.specs.Rewrite.{rewrite_of}
+use Rattle.recovery.specs.Sheets.{codes_of}
+use Rattle.recovery.proofs.Lengths.{next_some, numbers_apart, records_anew, rewrites_are_short}
 use Rattle.recovery.proofs.Saves.{saved_answer, saved_moments}
+use Rattle.recovery.proofs.Sourcing.{holds_each}
 use Rattle.recovery.proofs.saving.save.Goals as goal
 
-pub has_room_anew-requires-clause-some : goal.has_room_anew-requires-clause-some
-has_room_anew-requires-clause-some g c = next_some c.requires.made.0 c.args.sheet.now.contents c.requires.made.1
+pub len_anew-requires-clause-some : goal.len_anew-requires-clause-some
+len_anew-requires-clause-some g c = next_some c.requires.made.0 c.args.sheet.now.contents c.requires.made.1
 
-pub has_room_anew-requires-clause-records : goal.has_room_anew-requires-clause-records
-has_room_anew-requires-clause-records g c = records_anew c.requires.made.0 c.args.sheet.now.contents c.requires.made.1
+pub len_anew-requires-clause-records : goal.len_anew-requires-clause-records
+len_anew-requires-clause-records g c = records_anew c.requires.made.0 c.args.sheet.now.contents c.requires.made.1
 
-pub frames_of-requires-clause-some : goal.frames_of-requires-clause-some
-frames_of-requires-clause-some g c = next_some c.requires.made.0 c.args.sheet.now.contents c.requires.made.1
+pub anew_of-requires-clause-some : goal.anew_of-requires-clause-some
+anew_of-requires-clause-some g c = next_some c.requires.made.0 c.args.sheet.now.contents c.requires.made.1
 
-pub frames_of-requires-clause-apart : goal.frames_of-requires-clause-apart
-frames_of-requires-clause-apart g c = numbers_apart c.requires.made.0 c.args.sheet.now.contents c.requires.made.1
+pub anew_of-requires-clause-apart : goal.anew_of-requires-clause-apart
+anew_of-requires-clause-apart g c = numbers_apart c.requires.made.0 c.args.sheet.now.contents c.requires.made.1
 
-pub frames_of-requires-clause-records : goal.frames_of-requires-clause-records
-frames_of-requires-clause-records g c = records_anew c.requires.made.0 c.args.sheet.now.contents c.requires.made.1
+pub anew_of-requires-clause-records : goal.anew_of-requires-clause-records
+anew_of-requires-clause-records g c = records_anew c.requires.made.0 c.args.sheet.now.contents c.requires.made.1
 
-pub returns-in-Ok-clause-saved : goal.returns-in-Ok-clause-saved
-returns-in-Ok-clause-saved g c = λ model.
-    saved_answer c.requires.made.0 c.args.sheet.now.contents c.requires.made.1 c.in-Ok.ensures.typed g.D.Disk.view _ c.deref.result.now c.lay_frames.result
-    (c.deref.ensures.value ∙ c.in-Ok.ensures.ok) (c.lay_frames.ensures.ok model)
+pub lay_anew-requires-clause-memory : goal.lay_anew-requires-clause-memory
+lay_anew-requires-clause-memory g c =
+    let sheet = c.args.sheet.now.contents in
+    let capacity = vec_capacity c.in-Ok-batch_of.batch in
+    subst (λ (l : List (List ℕ)). HoldsEach capacity l) (sym c.in-Ok.ensures.ok)
+    (holds_each capacity (codes_of (rewrite_of sheet)) (rewrites_are_short c.requires.made.0 sheet c.requires.made.1)
+    (subst (λ (n : ℕ). batch_len + 6 + min n max_payload ≤ capacity) c.in-Some.ensures.len c.in-Ok-batch_of.ensures))
 
-pub returns-in-Ok-clause-any_moment : goal.returns-in-Ok-clause-any_moment
-returns-in-Ok-clause-any_moment g c = λ model.
-    saved_moments c.requires.made.0 c.args.sheet.now.contents c.requires.made.1 c.in-Ok.ensures.typed c.deref.result.now (g.D.Disk.view c.args.disk).history.now _ _
-    (c.deref.ensures.value ∙ c.in-Ok.ensures.ok) (c.lay_frames.ensures.any_moment model)
+pub returns-clause-saved : goal.returns-clause-saved
+returns-clause-saved g c = λ model.
+    saved_answer c.requires.made.0 c.args.sheet.now.contents c.requires.made.1 c.in-Ok.ensures.typed g.D.Disk.view _ c.in-Ok.anew c.lay_anew.result
+    c.in-Ok.ensures.ok (c.lay_anew.ensures.ok model)
+
+pub returns-clause-any_moment : goal.returns-clause-any_moment
+returns-clause-any_moment g c = λ model.
+    saved_moments c.requires.made.0 c.args.sheet.now.contents c.requires.made.1 c.in-Ok.ensures.typed c.in-Ok.anew (g.D.Disk.view c.args.disk).history.now _ _
+    c.in-Ok.ensures.ok (c.lay_anew.ensures.any_moment model)

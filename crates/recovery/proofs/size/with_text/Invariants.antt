@@ -1,11 +1,14 @@
-use Rattle.std.proofs.Common.{◌≡◌, ◌+◌, ◌≤◌, min, length, drop}
+use Rattle.std.proofs.Common.{◌≡◌, ◌+◌, ◌≤◌, min, length}
 use Rattle.std.specs.List.{flat_map}
 use Rattle.meta_format.specs.Canonical.{escape}
 use Rattle.recovery.specs.Code.{longest_told}
 use Rattle.recovery.proofs.size.with_text.Given as goal
 
-abbrev pub invariant-loop-byte : goal.invariant-loop-byte
-invariant-loop-byte l = record {
+abbrev pub invariant-loop-rest : goal.invariant-loop-rest
+invariant-loop-rest l = record {
   capped : l.len ≤ longest_told;
-  rest : min (l.len + length (flat_map escape (drop l.byte-index l.text))) longest_told ≡ min (l.before + length (flat_map escape l.text)) longest_told;
+  rest : min (l.len + length (flat_map escape l.rest)) longest_told ≡ min (l.before + length (flat_map escape l.text)) longest_told;
 }
+
+abbrev pub decreases-loop-rest : goal.decreases-loop-rest
+decreases-loop-rest l = length l.rest

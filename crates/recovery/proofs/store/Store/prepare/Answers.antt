@@ -1,4 +1,4 @@
-use Rattle.std.proofs.Common.{◌≡◌, length, sym, ◌∙◌, subst, false, None, Option}
+use Rattle.std.proofs.Common.{◌≡◌, length, sym, subst, false, None, Option}
 use Rattle.worksheet.specs.Contents.{Contents}
 use Rattle.worksheet.specs.Checks.{first_refusal}
 use Rattle.journal.specs.Kept.{Fits}
@@ -16,10 +16,13 @@ code_len-requires g c =
     let made = made_in g.D.Disk.view c.self.inside.base c.self.inside.sheet.contents c.self.invariant in
     code_on made.0 c.self.inside.sheet.contents c.args.op.now made.1 (subst (λ (s : StoreView). first_refusal s.sheet.contents c.args.op.now ≡ None) (sym c.self.view_is) c.requires)
 
-pub encode-requires : goal.encode-requires
-encode-requires g c =
+pub frame_of-requires : goal.frame_of-requires
+frame_of-requires g c =
     let made = made_in g.D.Disk.view c.self.inside.base c.self.inside.sheet.contents c.self.invariant in
-    code_on made.0 c.self.inside.sheet.contents c.args.op.now made.1 (subst (λ (s : StoreView). first_refusal s.sheet.contents c.args.op.now ≡ None) (sym c.self.view_is) c.requires)
+    let place = c.has_place.ensures.0 c.if-not-has_place.false in (
+      code_on made.0 c.self.inside.sheet.contents c.args.op.now made.1 (subst (λ (s : StoreView). first_refusal s.sheet.contents c.args.op.now ≡ None) (sym c.self.view_is) c.requires),
+      (fits_uncapped (disk_of g.D.Disk.view c.in-Some.base).room (end_in c.in-Some.base) (length (code_of c.args.op.now)) (rw c.code_len.ensures at place.1)).0,
+    )
 
 pub returns-clause-ready : goal.returns-clause-ready
 returns-clause-ready g c =
@@ -32,9 +35,9 @@ returns-clause-ready g c =
           (place.0, fits_uncapped (disk_of g.D.Disk.view c.in-Some.base).room (end_in c.in-Some.base) (length (code_of c.args.op.now)) (rw c.code_len.ensures at place.1)));
       room = c.in_ok-make_room.ensures.ok;
       own = record {
-        typed = c.in_ok-payload.ensures.typed;
+        typed = c.in_ok-frame_of.ensures.typed;
         fits = code_on made.0 c.self.inside.sheet.contents c.args.op.now made.1 allowed;
-        is = c.in_ok-new.ensures ∙ c.deref.ensures.value ∙ c.in_ok-payload.ensures.code;
+        is = c.in_ok-frame_of.ensures.code;
       };
     }
 
@@ -47,8 +50,5 @@ returns-then-not-has_place-clause-store g c = subst IsStore c.self.view_is (is_s
 pub returns-in_err-make_room-clause-store : goal.returns-in_err-make_room-clause-store
 returns-in_err-make_room-clause-store g c = subst IsStore c.self.view_is (is_store g.D.Disk.view c.self.inside.base c.self.inside.sheet c.self.invariant)
 
-pub returns-in_err-payload-clause-store : goal.returns-in_err-payload-clause-store
-returns-in_err-payload-clause-store g c = subst IsStore c.self.view_is (is_store g.D.Disk.view c.self.inside.base c.self.inside.sheet c.self.invariant)
-
-pub returns-in_err-new-clause-store : goal.returns-in_err-new-clause-store
-returns-in_err-new-clause-store g c = subst IsStore c.self.view_is (is_store g.D.Disk.view c.self.inside.base c.self.inside.sheet c.self.invariant)
+pub returns-in_err-frame_of-clause-store : goal.returns-in_err-frame_of-clause-store
+returns-in_err-frame_of-clause-store g c = subst IsStore c.self.view_is (is_store g.D.Disk.view c.self.inside.base c.self.inside.sheet c.self.invariant)

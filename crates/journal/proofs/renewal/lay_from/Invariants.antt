@@ -1,0 +1,25 @@
+use Rattle.std.proofs.Common.{◌≡◌, ◌<◌, ◌≤◌, ◌-◌, length, take, vec_capacity}
+use Rattle.disk_model.specs.Disk.{InModel, LeavesOnly, area_of, bytes_on}
+use Rattle.journal.specs.Area.{HasHeader, StandsFor, end_of}
+use Rattle.journal.specs.Limits.{max_payload}
+use Rattle.journal.specs.inside.Anew.{SparedBy, Spares, Went}
+use Rattle.journal.proofs.renewal.lay_from.Given as goal
+
+abbrev pub invariant-loop-next : goal.invariant-loop-next
+invariant-loop-next g l =
+    let old = g.D.Disk.view l.fn.disk in
+    let new = g.D.Disk.view l.disk in
+    let payloads = g.S.Source.payloads l.source in
+    record {
+      within : l.next ≤ length payloads;
+      capacity : vec_capacity l.fn.batch ≤ vec_capacity l.batch;
+      end : l.end ≡ end_of (take l.next payloads);
+      went : Went old new;
+      moments : InModel old (LeavesOnly (Spares l.area old.history.now) old.history new.history);
+      spared : InModel old (SparedBy l.area (bytes_on old) (bytes_on new));
+      inside : InModel old (l.end < length (area_of l.area (bytes_on new)));
+      laid : InModel old (HasHeader (bytes_on old).first → StandsFor max_payload (area_of l.area (bytes_on new)) (take l.next payloads));
+    }
+
+abbrev pub decreases-loop-next : goal.decreases-loop-next
+decreases-loop-next g l = length (g.S.Source.payloads l.source) - l.next
