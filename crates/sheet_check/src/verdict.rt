@@ -15,11 +15,14 @@ pub enum Verdict {
     Unanswered,
 }
 
-/// How many evaluations came to what.
+/// How many evaluations came to what: one for each field that shows an answer, so 10,000 at most.
 #[derive(Clone, Copy, Debug, PartialEq, Eq)]
 pub struct Counts {
+    /// Those whose output is the one that the field shows.
     pub same: u32,
+    /// Those whose output is another.
     pub differ: u32,
+    /// Those to which no answer came.
     pub unanswered: u32,
 }
 

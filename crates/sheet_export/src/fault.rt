@@ -12,11 +12,12 @@ use thiserror::Error;
 /// Why a worksheet wasn't written in a format.
 #[derive(Clone, Copy, Debug, PartialEq, Eq, Error)]
 pub enum ExportFault {
-    /// 36: a session has a word with a space, and no line of a script makes it. Nothing was written.
+    /// 36: a session has a word with a space, and no line of a script makes it, or there are more than
+    /// 10,000 fields. Nothing was written.
     #[error("no script makes the worksheet")]
     NoScript,
-    /// 30 to 33: the worksheet's disk was not opened, and nothing was written. 42: the writer failed; a
-    /// part of the text may have gone out.
+    /// 30 to 33, and 35 where another program has the worksheet: its disk was not opened, and nothing was
+    /// written. 42: the writer failed; a part of the text may have gone out.
     #[error("the worksheet was not written")]
     Run(RunFault),
 }

@@ -33,7 +33,7 @@ pub enum Format {
     Html,
 }
 
-/// The format of this name: `script`, `markdown` or `html`.
+/// The format of this name: `script`, `markdown` or `html`. None where there is none of it.
 pub fn format_named(name: &str) -> Option<Format>
     ensures { result ≡ exports.format_named name.now }
 {
