@@ -8,3 +8,4 @@ pub mod RescueProgram
 pub mod CheckProgram
 pub mod ExportProgram
 pub mod Tasks
+pub mod StrictProgram

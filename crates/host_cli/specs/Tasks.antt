@@ -1,5 +1,5 @@
 -- Which program runs for which words, over which streams and files.
-use Rattle.std.specs.Prelude.{◌≡◌, ◌≢◌, ◌⊎◌, ℕ, true, List, [], Option, Result, Ok, Err, IfOk, IfErr, MatchOption, MatchResult}
+use Rattle.std.specs.Prelude.{◌≡◌, ◌≢◌, ◌⊎◌, ℕ, true, List, [], Option, Result, Ok, Err, IfOk, IfErr, MatchOption, MatchResult, Bool, false}
 use Rattle.std.specs.Io.KnownBytes.{Appends}
 use Rattle.std.specs.Io.Buffered.{writer_buffer, writer_contents, writer_inner}
 use Rattle.std.specs.declared.alloc.Global.{Global}
@@ -20,6 +20,7 @@ use Rattle.live.specs.Arrivals.{Watch}
 use Rattle.host_cli.specs.CheckProgram.{CheckEnds}
 use Rattle.host_cli.specs.Programs.{CreateAnswer, Creates, LiveAnswer, RunAnswer, ShowAnswer, TellsCreate, TellsMake, create_status}
 use Rattle.host_cli.specs.RescueProgram.{FilesAreRead, RescueEnds}
+use Rattle.host_cli.specs.StrictProgram.{StrictEnded}
 use Rattle.recovery.specs.declared.rescuing.Rescued.{Rescued}
 use Rattle.host_cli.specs.declared.ending.Ending.{Ending}
 use Rattle.host_cli.specs.declared.files_fault.FilesFault.{FilesFault}
@@ -65,6 +66,17 @@ RunEnds view R unread stream files c d written a b said old new ending =
     × IfOk files (λ disk. (answer : ProgramAnswer)
     × RunAnswer view R stream disk c d (written a) (written b) ((b ≡ a) × (d ≡ c)) answer
     × (ending.status ≡ status_of answer) × TellsFault said old new ending.told answer)
+
+-- how `run` ends that is strict
+abbrev pub StrictEnds : {D C W E : Type 0} → (D → DiskView) → Relation C → Type 0 → Option (List ℕ) → Result D FilesFault → C → C → (W → Option (List ℕ)) → W → W → (E → Option (List ℕ)) → E → E → Ending → Type 0
+StrictEnds view R unread stream files c d written a b said old new ending =
+    IfErr files (λ why. unread × (b ≡ a) × (d ≡ c) × (ending.status ≡ 1) × TellsFault said old new ending.told (Err (no_files why)))
+    × IfOk files (λ disk. StrictEnded view R stream disk c d (written a) (written b) ((b ≡ a) × (d ≡ c)) said old new ending)
+
+-- how `run` ends, which is strict or not
+abbrev pub RunEndsBy : {D C W E : Type 0} → Bool → (D → DiskView) → Relation C → Type 0 → Option (List ℕ) → Result D FilesFault → C → C → (W → Option (List ℕ)) → W → W → (E → Option (List ℕ)) → E → E → Ending → Type 0
+RunEndsBy false view R unread stream files c d written a b said old new ending = RunEnds view R unread stream files c d written a b said old new ending
+RunEndsBy true view R unread stream files c d written a b said old new ending = StrictEnds view R unread stream files c d written a b said old new ending
 
 -- how `live` ends on its files, or on why they weren't opened, from children c to d; then no line is read
 abbrev pub LiveEnds : {D C W E : Type 0} → (D → DiskView) → Relation C → Watch C → Type 0 → Option (List ℕ) → Result D FilesFault → C → C → (W → Option (List ℕ)) → W → W → (E → Option (List ℕ)) → E → E → Ending → Type 0
@@ -112,17 +124,17 @@ CheckAt {D = D} holds reads view R p q c d written output said old new ending pa
     (λ held. (files : Result D FilesFault) × reads held path files q × CheckTo view R files c d written output said old new ending)
 
 -- `run` over files of the script of a stream, to the buffered output
-abbrev pub RunTo : {D C W E : Type 0} → (D → DiskView) → Relation C → Type 0 → Option (List ℕ) → Result D FilesFault → C → C → (W → Option (List ℕ)) → W → (E → Option (List ℕ)) → E → E → Ending → Type 0
-RunTo view R unread stream files c d written output said old new ending =
-    Buffered output (λ first last. RunEnds view R unread stream files c d (writer_contents written) first last said old new ending)
+abbrev pub RunTo : {D C W E : Type 0} → Bool → (D → DiskView) → Relation C → Type 0 → Option (List ℕ) → Result D FilesFault → C → C → (W → Option (List ℕ)) → W → (E → Option (List ℕ)) → E → E → Ending → Type 0
+RunTo strict view R unread stream files c d written output said old new ending =
+    Buffered output (λ first last. RunEndsBy strict view R unread stream files c d (writer_contents written) first last said old new ending)
     ((d ≡ c) × EndsWith said old new ending (Err fault.OutOfMemory))
 
 -- `run` over what the places open at a path
-abbrev pub RunAt : {P D C W E : Type 0} → (P → Result Unit RunFault → P → Type 0) → (P → List ℕ → Result D FilesFault → P → Type 0) → (D → DiskView) → Relation C → Type 0 → Option (List ℕ)
+abbrev pub RunAt : {P D C W E : Type 0} → Bool → (P → Result Unit RunFault → P → Type 0) → (P → List ℕ → Result D FilesFault → P → Type 0) → (D → DiskView) → Relation C → Type 0 → Option (List ℕ)
     → P → P → C → C → (W → Option (List ℕ)) → W → (E → Option (List ℕ)) → E → E → Ending → Text → Type 0
-RunAt {D = D} holds opens view R unread stream p q c d written output said old new ending path =
+RunAt {D = D} strict holds opens view R unread stream p q c d written output said old new ending path =
     HeldFirst holds p q (λ why. (d ≡ c) × EndsWith said old new ending (Err why))
-    (λ held. (files : Result D FilesFault) × opens held path files q × RunTo view R unread stream files c d written output said old new ending)
+    (λ held. (files : Result D FilesFault) × opens held path files q × RunTo strict view R unread stream files c d written output said old new ending)
 
 -- `rescue` of files, or of why they weren't opened, to what the places make at a new path: they make
 -- nothing where nothing was found
@@ -176,15 +188,16 @@ LiveAt {D = D} holds opens view R watch unread stream p q c d written output sai
     (λ held. (files : Result D FilesFault) × opens held path files q × LiveTo view R watch unread stream files c d written output said old new ending)
 
 -- what is done, by the task
-abbrev pub ByTask : Type 0 → (Text → Type 0) → (Text → Type 0) → (Text → Type 0) → (Text → Type 0) → (Text → Type 0) → (Text → Text → Type 0) → (Text → Text → Type 0) → TaskView → Type 0
-ByTask blocks create run live show check rescue export asked.blocks = blocks
-ByTask blocks create run live show check rescue export (asked.create path) = create path
-ByTask blocks create run live show check rescue export (asked.run path) = run path
-ByTask blocks create run live show check rescue export (asked.live path) = live path
-ByTask blocks create run live show check rescue export (asked.show path) = show path
-ByTask blocks create run live show check rescue export (asked.check path) = check path
-ByTask blocks create run live show check rescue export (asked.rescue path new) = rescue path new
-ByTask blocks create run live show check rescue export (asked.export format path) = export format path
+abbrev pub ByTask : Type 0 → (Text → Type 0) → (Text → Type 0) → (Text → Type 0) → (Text → Type 0) → (Text → Type 0) → (Text → Type 0) → (Text → Text → Type 0) → (Text → Text → Type 0) → TaskView → Type 0
+ByTask blocks create run strictly live show check rescue export asked.blocks = blocks
+ByTask blocks create run strictly live show check rescue export (asked.create path) = create path
+ByTask blocks create run strictly live show check rescue export (asked.run path) = run path
+ByTask blocks create run strictly live show check rescue export (asked.run_strictly path) = strictly path
+ByTask blocks create run strictly live show check rescue export (asked.live path) = live path
+ByTask blocks create run strictly live show check rescue export (asked.show path) = show path
+ByTask blocks create run strictly live show check rescue export (asked.check path) = check path
+ByTask blocks create run strictly live show check rescue export (asked.rescue path new) = rescue path new
+ByTask blocks create run strictly live show check rescue export (asked.export format path) = export format path
 
 -- How the program ends where `clap` gave no task, by the kind of its error.
 pub record Refuses {W E : Type 0} (a b : W) (said : E → Option (List ℕ)) (old new : E) (ending : Ending) (k : ErrorKind) : Type 0 where

@@ -14,6 +14,7 @@ mod places;
 mod programs;
 mod rescue_program;
 mod sheet_file;
+mod strict_program;
 mod tasks;
 mod words;
 
@@ -28,5 +29,6 @@ pub use places::{FilePlaces, Places};
 pub use programs::{run_create, run_live, run_script, run_show};
 pub use rescue_program::{read_rescued, run_rescue};
 pub use sheet_file::{Identity, Lock, SheetFile};
+pub use strict_program::run_strictly;
 pub use tasks::{do_task, run_words};
 pub use words::{Task, read_words};

@@ -1,5 +1,5 @@
 //! Which program runs for which words, over which streams and files.
-ghost use Rattle.std.specs.Prelude.{◌≡◌, ◌≢◌, List, IfErr, IfOk, MatchResult, Result, map, string_bytes};
+ghost use Rattle.std.specs.Prelude.{◌≡◌, ◌≢◌, List, IfErr, IfOk, MatchResult, Result, false, map, string_bytes, true};
 ghost use Rattle.std.specs.declared.io.ErrorKind.TheVariants as io_kind;
 ghost use Rattle.clap.specs.Words.{FailsBy, fault_of, kind_of};
 ghost use Rattle.clap.specs.declared.error.Error.{Error};
@@ -17,7 +17,7 @@ use crate::export_program::refuse_format;
 use crate::{
     Ending, FilesFault, Places, Task, end_program, read_rescued, read_words, refuse_unread_words,
     refuse_words, run_blocks, run_check, run_create, run_export, run_live, run_rescue, run_script,
-    run_show,
+    run_show, run_strictly,
 };
 use arrivals::Sources;
 use child_edge::Children;
@@ -127,27 +127,35 @@ fn check_at<D: Disk, P: Places<D>, C: Children, W: Write + Drop, E: Write>(
     }
 }
 
-/// `run` of the script on the input over a worksheet's files.
+/// `run` of the script on the input over a worksheet's files, strictly or not.
 fn run_over<R: Read, W: Write + Drop, E: Write, D: Disk, C: Children>(
     alloc: Global,
+    strict: bool,
     input: &mut R,
     output: W,
     errors: &mut E,
     files: Result<D, FilesFault>,
     children: &mut C,
 ) -> Ending
-    ensures { RunTo D.view C.after (input.new ≡ input.old) (R.remaining input.old) files
+    ensures { RunTo strict D.view C.after (input.new ≡ input.old) (R.remaining input.old) files
         children.old children.new W.contents output E.contents errors.old errors.new result }
 {
     match BufWriter::with_capacity(alloc, BUFFER, output) {
-        Ok(mut output) => run_script(alloc, input, &mut output, errors, files, children),
+        Ok(mut output) => {
+            if strict {
+                run_strictly(alloc, input, &mut output, errors, files, children)
+            } else {
+                run_script(alloc, input, &mut output, errors, files, children)
+            }
+        }
         Err(_) => end_program(Err(RunFault::OutOfMemory), errors),
     }
 }
 
-/// `run` of the script on the input over the worksheet at a path.
+/// `run` of the script on the input over the worksheet at a path, strictly or not.
 fn run_at<D: Disk, P: Places<D>, R: Read, W: Write + Drop, E: Write, C: Children>(
     alloc: Global,
+    strict: bool,
     places: &mut P,
     path: &str,
     children: &mut C,
@@ -155,12 +163,20 @@ fn run_at<D: Disk, P: Places<D>, R: Read, W: Write + Drop, E: Write, C: Children
     output: W,
     errors: &mut E,
 ) -> Ending
-    ensures { RunAt P.holds P.opens D.view C.after (input.new ≡ input.old) (R.remaining input.old)
+    ensures { RunAt strict P.holds P.opens D.view C.after (input.new ≡ input.old) (R.remaining input.old)
         places.old places.new children.old children.new W.contents output
         E.contents errors.old errors.new result path.now }
 {
     match places.hold() {
-        Ok(()) => run_over(alloc, input, output, errors, places.open(path), children),
+        Ok(()) => run_over(
+            alloc,
+            strict,
+            input,
+            output,
+            errors,
+            places.open(path),
+            children,
+        ),
         Err(fault) => end_program(Err(fault), errors),
     }
 }
@@ -354,7 +370,10 @@ pub fn do_task<D: Disk, P: Places<D>, R: Read, W: Write + Drop, E: Write, S: Sou
         E.contents errors.old errors.new result)
         (CreateAt P.holds P.creates D.view places.old places.new
         E.contents errors.old errors.new result)
-        (RunAt P.holds P.opens D.view S.after (input.new ≡ input.old) (R.remaining input.old)
+        (RunAt false P.holds P.opens D.view S.after (input.new ≡ input.old) (R.remaining input.old)
+        places.old places.new sources.old sources.new W.contents output
+        E.contents errors.old errors.new result)
+        (RunAt true P.holds P.opens D.view S.after (input.new ≡ input.old) (R.remaining input.old)
         places.old places.new sources.old sources.new W.contents output
         E.contents errors.old errors.new result)
         (LiveAt P.holds P.opens D.view S.after S.wakes (input.new ≡ input.old) (R.remaining input.old)
@@ -373,7 +392,10 @@ pub fn do_task<D: Disk, P: Places<D>, R: Read, W: Write + Drop, E: Write, S: Sou
     match task {
         Task::Blocks => blocks_between(alloc, input, output, errors),
         Task::Create(path) => create_at(places, path, errors),
-        Task::Run(path) => run_at(alloc, places, path, sources, input, output, errors),
+        Task::Run(path) => run_at(alloc, false, places, path, sources, input, output, errors),
+        Task::RunStrictly(path) => run_at(
+            alloc, true, places, path, sources, input, output, errors,
+        ),
         Task::Live(path) => live_at(alloc, places, path, sources, input, output, errors),
         Task::Show(path) => show_at(alloc, places, path, output, errors),
         Task::Check(path) => check_at(alloc, places, path, sources, output, errors),
@@ -389,6 +411,51 @@ fn refuse<W: Write + Drop, E: Write>(error: &Error, output: W, errors: &mut E) -
 {
     let mut output = output;
     refuse_words(error, &mut output, errors)
+}
+
+/// Does the task that these words ask for, or tells why there is none.
+fn do_words<D: Disk, P: Places<D>, R: Read, W: Write + Drop, E: Write, S: Sources>(
+    alloc: Global,
+    words: Vec<String>,
+    places: &mut P,
+    sources: &mut S,
+    input: &mut R,
+    output: W,
+    errors: &mut E,
+) -> Ending
+    ensures { (read : Result Task Error)
+        × FailsBy (fault_of tmhost (map string_bytes words.items)) read
+        × IfOk read (λ task. task_view task ≡ asked_by (map string_bytes words.items))
+        × MatchResult read (λ task. ByTask
+        (BlocksTo (R.remaining input.old) W.contents output
+        E.contents errors.old errors.new result)
+        (CreateAt P.holds P.creates D.view places.old places.new
+        E.contents errors.old errors.new result)
+        (RunAt false P.holds P.opens D.view S.after (input.new ≡ input.old) (R.remaining input.old)
+        places.old places.new sources.old sources.new W.contents output
+        E.contents errors.old errors.new result)
+        (RunAt true P.holds P.opens D.view S.after (input.new ≡ input.old) (R.remaining input.old)
+        places.old places.new sources.old sources.new W.contents output
+        E.contents errors.old errors.new result)
+        (LiveAt P.holds P.opens D.view S.after S.wakes (input.new ≡ input.old) (R.remaining input.old)
+        places.old places.new sources.old sources.new W.contents output
+        E.contents errors.old errors.new result)
+        (ShowAt P.holds P.reads D.view places.old places.new W.contents output
+        E.contents errors.old errors.new result)
+        (CheckAt P.holds P.reads D.view S.after places.old places.new sources.old sources.new
+        W.contents output E.contents errors.old errors.new result)
+        (RescueAt P.holds P.reads P.creates D.view places.old places.new W.contents output
+        E.contents errors.old errors.new result)
+        (ExportAt P.holds P.reads D.view places.old places.new W.contents output
+        E.contents errors.old errors.new result)
+        (task_view task))
+        (λ error. (last : W)
+        × Refuses output last E.contents errors.old errors.new result (kind_of error)) }
+{
+    match read_words(alloc, words.as_slice()) {
+        Ok(task) => do_task(alloc, task, places, sources, input, output, errors),
+        Err(error) => refuse(&error, output, errors),
+    }
 }
 
 /// The whole program: does the task that its words ask for, or tells why there is none. The words may
@@ -416,7 +483,10 @@ pub fn run_words<D: Disk, P: Places<D>, R: Read, W: Write + Drop, E: Write, S: S
         E.contents errors.old errors.new result)
         (CreateAt P.holds P.creates D.view places.old places.new
         E.contents errors.old errors.new result)
-        (RunAt P.holds P.opens D.view S.after (input.new ≡ input.old) (R.remaining input.old)
+        (RunAt false P.holds P.opens D.view S.after (input.new ≡ input.old) (R.remaining input.old)
+        places.old places.new sources.old sources.new W.contents output
+        E.contents errors.old errors.new result)
+        (RunAt true P.holds P.opens D.view S.after (input.new ≡ input.old) (R.remaining input.old)
         places.old places.new sources.old sources.new W.contents output
         E.contents errors.old errors.new result)
         (LiveAt P.holds P.opens D.view S.after S.wakes (input.new ≡ input.old) (R.remaining input.old)
@@ -434,12 +504,8 @@ pub fn run_words<D: Disk, P: Places<D>, R: Read, W: Write + Drop, E: Write, S: S
         (λ error. (last : W)
         × Refuses output last E.contents errors.old errors.new result (kind_of error))) }
 {
-    let words = match words {
-        Ok(words) => words,
-        Err(kind) => return refuse_unread_words(kind, errors),
-    };
-    match read_words(alloc, words.as_slice()) {
-        Ok(task) => do_task(alloc, task, places, sources, input, output, errors),
-        Err(error) => refuse(&error, output, errors),
+    match words {
+        Ok(words) => do_words(alloc, words, places, sources, input, output, errors),
+        Err(kind) => refuse_unread_words(kind, errors),
     }
 }

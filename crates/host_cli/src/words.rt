@@ -1,11 +1,11 @@
 //! The words of a command line.
-ghost use Rattle.std.specs.Prelude.{◌≡◌, IfOk, None, Option, Some, false, map, string_bytes};
+ghost use Rattle.std.specs.Prelude.{◌≡◌, Bool, IfOk, None, Option, Some, false, map, option_map, string_bytes};
 ghost use Rattle.clap.specs.Words.{FailsBy, Text, app_of, fault_of, new_app, subcommand_rows_of};
 ghost use Rattle.clap.specs.declared.builder.command.Command.TheViews.{out-Command as fields_of};
 ghost use Rattle.host_cli.specs.Asked.{asked_by, by_subcommand, by_words, tmhost, task_view};
 ghost use Rattle.host_cli.specs.Asked as asked;
 
-use clap::{Arg, ArgMatches, Command, Error};
+use clap::{Arg, ArgAction, ArgMatches, Command, Error};
 use std::alloc::{AllocError, Global};
 
 /// What the program is asked to do. A path is one of the words.
@@ -17,6 +17,8 @@ pub enum Task<'a> {
     Create(&'a str),
     /// Run the script that comes in on standard input over the worksheet at the path.
     Run(&'a str),
+    /// The same, up to the first line that goes wrong.
+    RunStrictly(&'a str),
     /// Hold the worksheet at the path open for the lines that come in on standard input.
     Live(&'a str),
     /// Write the worksheet at the path.
@@ -34,7 +36,8 @@ pub enum Task<'a> {
 const NOTES: &str = "Without a command it is `blocks`.\n\n\
 Status: 0 where all was done, or help was shown; 1 at a fault, which is told on\n\
 standard error as `fault N NAME`, where the stream of `blocks` has a fault or an\n\
-open block, and where `check` finds a difference; 2 where the words are refused.\n\
+open block, and where `check` finds a difference; 2 where the words are refused; 3\n\
+where `run --strict` stops.\n\
 `tmhost help faults` says what each fault means.\n\n\
 Example: tmhost create sheet.tm && tmhost run sheet.tm <script.txt";
 
@@ -58,8 +61,12 @@ const RUN_NOTES: &str =
 written before the next one is taken, and what is told as done is on the disk.\n\
 Where another program has the worksheet the script isn't read and nothing is\n\
 done: that is the fault 35 InUse.\n\n\
-Status: 0 where the script ran to its end, also where it has bad lines and refused\n\
-commands; 1 at a fault; 2 where the words are refused.\n\n\
+With --strict it stops behind the first line that is bad or refused, or by which\n\
+lines were lost since an interpreter ended: what that line gives is written, what\n\
+was told is on the disk, and standard error tells `stopped at line N`.\n\n\
+Status: 0 where the script ran to its end, without --strict also where it has bad\n\
+lines and refused commands; 1 at a fault; 2 where the words are refused; 3 where\n\
+--strict stopped it.\n\n\
 Example: tmhost run sheet.tm <script.txt";
 
 const LIVE_NOTES: &str =
@@ -168,6 +175,25 @@ fn with_path<'a>(
     plain(alloc, name, about, notes).arg(path)
 }
 
+/// A subcommand with a path, and with a flag that makes it strict.
+fn with_strict<'a>(
+    alloc: Global,
+    name: &'a str,
+    about: &'a str,
+    notes: &'a str,
+) -> Result<Command<'a>, AllocError>
+    ensures made { IfOk result (λ command. app_of command ≡ asked.with_strict name.entry.now) }
+    ensures local { IfOk result (λ command. (fields_of command).has_globals ≡ false) }
+{
+    let first = with_path(alloc, name, about, notes)?;
+    first.arg(
+        Arg::new(alloc, "strict")
+            .long("strict")
+            .help("Stop behind the first line that goes wrong")
+            .action(ArgAction::SetTrue),
+    )
+}
+
 /// A subcommand with a path, and with that of a new worksheet behind it.
 fn with_paths<'a>(
     alloc: Global,
@@ -241,7 +267,7 @@ fn tmhost_command<'a>(alloc: Global) -> Result<Command<'a>, AllocError>
         BLOCKS_NOTES,
     );
     let create = with_path(alloc, "create", "Make an empty worksheet", CREATE_NOTES)?;
-    let run = with_path(
+    let run = with_strict(
         alloc,
         "run",
         "Run the script on standard input over a worksheet",
@@ -291,13 +317,34 @@ fn tmhost_command<'a>(alloc: Global) -> Result<Command<'a>, AllocError>
     Ok(ninth)
 }
 
+/// Whether a flag is given, by its value.
+fn is_set(value: Option<&str>) -> bool
+    ensures { result ≡ asked.is_set (option_map (λ text. text.now) value.entry) }
+{
+    match value {
+        Some(text) => text == "true",
+        None => false,
+    }
+}
+
+/// The task of `run`.
+fn task_of_run<'a>(path: &'a str, strict: bool) -> Task<'a>
+    ensures { task_view result ≡ asked.run_by strict path.entry.now }
+{
+    if strict {
+        Task::RunStrictly(path)
+    } else {
+        Task::Run(path)
+    }
+}
+
 /// The task of a subcommand with a path.
-fn task_with_path<'a>(name: &str, path: &'a str) -> Task<'a>
-    ensures { task_view result ≡ by_words name.now path.entry.now None None }
+fn task_with_path<'a>(name: &str, path: &'a str, strict: bool) -> Task<'a>
+    ensures { task_view result ≡ by_words name.now path.entry.now None None strict }
 {
     match name {
         "create" => Task::Create(path),
-        "run" => Task::Run(path),
+        "run" => task_of_run(path, strict),
         "live" => Task::Live(path),
         "show" => Task::Show(path),
         "check" => Task::Check(path),
@@ -307,8 +354,8 @@ fn task_with_path<'a>(name: &str, path: &'a str) -> Task<'a>
 
 /// The task of a subcommand with two paths.
 fn task_with_paths<'a>(name: &str, path: &'a str, new: &'a str) -> Task<'a>
-    ensures { (format : Option Text)
-        → task_view result ≡ by_words name.now path.entry.now (Some new.entry.now) format }
+    ensures { (format : Option Text) (strict : Bool)
+        → task_view result ≡ by_words name.now path.entry.now (Some new.entry.now) format strict }
 {
     match name {
         "rescue" => Task::Rescue(path, new),
@@ -318,7 +365,8 @@ fn task_with_paths<'a>(name: &str, path: &'a str, new: &'a str) -> Task<'a>
 
 /// The task of a subcommand with a format and a path.
 fn task_with_format<'a>(name: &str, format: &'a str, path: &'a str) -> Task<'a>
-    ensures { task_view result ≡ by_words name.now path.entry.now None (Some format.entry.now) }
+    ensures { (strict : Bool)
+        → task_view result ≡ by_words name.now path.entry.now None (Some format.entry.now) strict }
 {
     match name {
         "export" => Task::Export(format, path),
@@ -341,7 +389,7 @@ fn task_of<'a>(matches: &ArgMatches<'a>) -> Task<'a>
     }
     match inner.get_str("FORMAT") {
         Some(format) => task_with_format(name, format, path),
-        None => task_with_path(name, path),
+        None => task_with_path(name, path, is_set(inner.get_str("strict"))),
     }
 }
 

@@ -28,6 +28,10 @@ for task in create run live show check; do
     told "$task with two paths" "error: unexpected argument 'b' found" "$task" a b
     told "$task with a flag" "error: unexpected argument '-w' found" "$task" -w
 done
+told 'run with a flag alone' 'error: the following required arguments were not provided:' run --strict
+told 'run with a flag twice' "error: the argument '--strict' cannot be used multiple times" run --strict --strict a
+told 'run with a flag that has a value' "error: unexpected value 'yes' for '--strict' found; no more were expected" run --strict=yes a
+told 'show with the flag of run' "error: unexpected argument '--strict' found" show --strict a
 told 'rescue without a path' 'error: the following required arguments were not provided:' rescue
 told 'rescue with one path' 'error: the following required arguments were not provided:' rescue a
 told 'rescue with three paths' "error: unexpected argument 'c' found" rescue a b c
@@ -58,7 +62,7 @@ helps() {
 }
 helps blocks 'Write the blocks of the stream on standard input, a line each' "Usage: ${tmhost##*/} blocks" "Example: printf '\\002verbatim:Hi\\005' | tmhost blocks" 0
 helps create 'Make an empty worksheet' "Usage: ${tmhost##*/} create <PATH>" 'Example: tmhost create sheet.tm' 3
-helps run 'Run the script on standard input over a worksheet' "Usage: ${tmhost##*/} run <PATH>" 'Example: tmhost run sheet.tm <script.txt' 1
+helps run 'Run the script on standard input over a worksheet' "Usage: ${tmhost##*/} run [OPTIONS] <PATH>" 'Example: tmhost run sheet.tm <script.txt' 1
 helps live 'Hold a worksheet open for lines that come on standard input' "Usage: ${tmhost##*/} live <PATH>" "Example: printf 'print\\n' | tmhost live sheet.tm" 1
 helps show 'Write a worksheet' "Usage: ${tmhost##*/} show <PATH>" 'Example: tmhost show sheet.tm' 1
 helps check 'Evaluate a worksheet anew, and write what differs' "Usage: ${tmhost##*/} check <PATH>" 'Example: tmhost check sheet.tm' 1

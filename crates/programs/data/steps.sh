@@ -378,3 +378,4 @@ counted 'cases that must differ'
 . ./rescues.sh
 . ./exports.sh
 . ./check.sh
+. ./strict.sh

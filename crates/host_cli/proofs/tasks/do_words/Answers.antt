@@ -1,0 +1,22 @@
+use Rattle.std.proofs.Common.{◌≡◌, map, subst}
+use Rattle.std.specs.Prelude.{Ok, Err, string_bytes}
+use Rattle.clap.specs.Words.{FailsBy, fault_of}
+use Rattle.host_cli.specs.Asked.{asked_by, task_view, tmhost}
+use Rattle.host_cli.specs.declared.words.Task.{Task}
+use Rattle.host_cli.proofs.tasks.do_words.Goals as goal
+
+pub returns-in-Ok : goal.returns-in-Ok
+returns-in-Ok g c = (
+  Ok c.in-Ok.task,
+  subst (λ x. FailsBy (fault_of tmhost (map string_bytes x)) (Ok c.in-Ok.task)) c.as_slice.ensures.value c.in-Ok.ensures.kinds,
+  subst (λ x. task_view c.in-Ok.task ≡ asked_by (map string_bytes x)) c.as_slice.ensures.value c.in-Ok.ensures.task,
+  c.do_task.ensures,
+)
+
+pub returns : goal.returns
+returns g c = (
+  Err c.in-Err.error,
+  subst (λ x. FailsBy {T = Task} (fault_of tmhost (map string_bytes x)) (Err c.in-Err.error)) c.as_slice.ensures.value c.in-Err.ensures.kinds,
+  tt,
+  c.refuse.ensures,
+)
