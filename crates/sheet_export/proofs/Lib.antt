@@ -11,3 +11,4 @@ pub mod FieldsBehind
 pub mod Pieces
 pub mod Replays
 pub mod SaysOps
+pub mod ScriptRuns

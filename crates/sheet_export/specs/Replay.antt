@@ -1,8 +1,10 @@
 -- What the lines of a script make of an empty worksheet.
-use Rattle.std.specs.Prelude.{◌≡◌, ℕ, ◌+◌, true, List, [], ◌∷◌, ◌++◌, Some, None, length, map}
+use Rattle.std.specs.Prelude.{◌≡◌, ℕ, ◌+◌, true, List, [], ◌∷◌, ◌++◌, Some, None, codes, length, map}
 use Rattle.session_engine.specs.Commands.{op_of}
 use Rattle.session_engine.specs.declared.command.Command.{Command}
+use Rattle.sheet_programs.specs.Memory.{LinesRan}
 use Rattle.sheet_text.specs.Script.{line_of}
+use Rattle.sheet_text.specs.Texts.{sheet_text}
 use Rattle.sheet_text.specs.declared.script.ScriptLine.TheVariants as line
 use Rattle.worksheet.specs.Checks.{Allowed}
 use Rattle.worksheet.specs.Contents.{Contents}
@@ -50,3 +52,9 @@ SayOps (text ∷ lines) (o ∷ os) = SaysOp text o × SayOps lines os
 -- The lines of a worksheet's script are read as commands that give these ops.
 abbrev pub ScriptsSayTheirOps : Type 0
 ScriptsSayTheirOps = (sheet : Contents) → IsWorksheet sheet → has_script sheet ≡ true → SayOps (script_of sheet) (script_ops sheet)
+
+-- There is a run of the lines of a worksheet's script over an empty worksheet, in which no memory is wanted, and `print` behind them
+-- prints what they make.
+abbrev pub ScriptsRun : Type 0
+ScriptsRun = (sheet : Contents) → IsWorksheet sheet → has_script sheet ≡ true
+    → (told : List ℕ) × LinesRan 1 [] (script_of sheet ++ codes "print" ∷ []) (told ++ sheet_text (anew sheet))
