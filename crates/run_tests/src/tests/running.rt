@@ -1,8 +1,8 @@
-//! Runs of scripts over a disk, where the reader or the writer fails.
+//! Runs of scripts over a disk, where the reader or the writer fails, and strict ones.
 use super::failing::{Full, Parts, Unflushed};
 use child_edge::Scripted;
 use disk_model::MemoryDisk;
-use sheet_programs::{RunFault, run};
+use sheet_programs::{RunFault, run, run_strict};
 use std::alloc::Global;
 use std::io::{Read, Write};
 
@@ -43,4 +43,24 @@ fn a_writer_that_fails(rt: HostRuntime) {
 #[test]
 fn a_flush_that_fails(rt: HostRuntime) {
     assert!(rt; writer_fault(rt.alloc(), &mut Unflushed) == Some(RunFault::Output));
+}
+
+// The line behind which a strict run of a script over an empty worksheet stops, if it does.
+fn stopped(alloc: Global, script: &[u8]) -> Option<Option<u64>> {
+    let disk = journal::create(MemoryDisk::new(alloc, 1_000)).ok()?;
+    let mut children = Scripted::new(alloc, Vec::new(alloc));
+    let mut reader = script;
+    let mut text: Vec<u8> = Vec::new(alloc);
+    let ran = run_strict(alloc, &mut reader, &mut text, disk, &mut children).ok()?;
+    Some(ran.stopped_at)
+}
+
+#[test]
+fn a_strict_run_to_its_end(rt: HostRuntime) {
+    assert!(rt; stopped(rt.alloc(), b"session a plain p\n#\n") == Some(None));
+}
+
+#[test]
+fn a_strict_run_that_stops(rt: HostRuntime) {
+    assert!(rt; stopped(rt.alloc(), b"session a plain p\nfoo\nbar\n") == Some(Some(2)));
 }
