@@ -17,7 +17,7 @@ use Rattle.worksheet.specs.declared.field.Field.{Field}
 use Rattle.worksheet.specs.declared.field.Session.{Session}
 use Rattle.worksheet.specs.declared.op.Op.{Op}
 use Rattle.sheet_export.specs.Laws.{FieldLinesAreRead}
-use Rattle.sheet_export.specs.Replay.{field_ops, SayOps, ScriptsSayTheirOps}
+use Rattle.sheet_export.specs.Replay.{new_ops, SayOps, ScriptsSayTheirOps}
 use Rattle.sheet_export.specs.Script.{field_lines, has_few_fields, has_no_space, have_lines, session_line}
 use Rattle.sheet_export.proofs.ReadLines.{both_of, field_lines_read, session_lines}
 
@@ -37,7 +37,7 @@ named_so (s ∷ ss) name is h = go (bytes_eq s.name name) refl (named_so ss name
     go false e again = let rest : is_some (session_named ss name) ≡ true = rw e at h in again rest
 
 say_fields : FieldLinesAreRead → (sheet : Contents) → AllByRecursion IsSession sheet.sessions → (place : ℕ) (fs : List Field) → place + length fs ≤ most_fields
-    → AllByRecursion (λ field. has_session sheet field.session ≡ true) fs → SayOps (field_lines place fs) (field_ops place fs)
+    → AllByRecursion (λ field. has_session sheet field.session ≡ true) fs → SayOps (field_lines place fs) (new_ops place fs)
 say_fields read sheet is place [] few belong = tt
 say_fields read sheet is place (f ∷ fs) few belong =
     let named = named_so sheet.sessions f.session is belong.0 in
@@ -47,5 +47,5 @@ pub scripts_say : NumbersAreDecimals → ScriptsSayTheirOps
 scripts_say decimals sheet is has =
     let lines = (both_of (have_lines sheet.sessions) (has_few_fields sheet) has).0 in
     let few = is.few_fields in
-    say_sessions sheet.sessions (field_lines 0 sheet.fields) (field_ops 0 sheet.fields) is.sessions lines
+    say_sessions sheet.sessions (field_lines 0 sheet.fields) (new_ops 0 sheet.fields) is.sessions lines
     (say_fields (field_lines_read decimals) sheet is.sessions 0 sheet.fields (omega (arith, few)) is.belongs)

@@ -17,22 +17,22 @@ use Rattle.worksheet.specs.declared.op.Op.TheVariants as op
 use Rattle.sheet_export.specs.Script.{has_script, script_of}
 
 -- the ops of the lines of these fields, in front of which stand so many others
-abbrev pub field_ops : ℕ → List Field → List Op
-field_ops place [] = []
-field_ops place (field ∷ fields) = op.New place field.session field.input ∷ field_ops (place + 1) fields
+abbrev pub new_ops : ℕ → List Field → List Op
+new_ops place [] = []
+new_ops place (field ∷ fields) = op.New place field.session field.input ∷ new_ops (place + 1) fields
 
 -- the ops of all lines
 abbrev pub script_ops : Contents → List Op
-script_ops sheet = map session_op sheet.sessions ++ field_ops 0 sheet.fields
+script_ops sheet = map session_op sheet.sessions ++ new_ops 0 sheet.fields
 
 -- the same fields with the numbers from this one on, and without answers
-abbrev pub numbered : ℕ → List Field → List Field
-numbered number [] = []
-numbered number (field ∷ fields) = record { id = number; session = field.session; input = field.input; answer = None; lost = None } ∷ numbered (number + 1) fields
+abbrev pub fields_anew : ℕ → List Field → List Field
+fields_anew number [] = []
+fields_anew number (field ∷ fields) = record { id = number; session = field.session; input = field.input; answer = None; lost = None } ∷ fields_anew (number + 1) fields
 
 -- the same sessions, and fields of the same sessions and inputs in the same order
 abbrev pub anew : Contents → Contents
-anew sheet = record { fields = numbered 1 sheet.fields; sessions = sheet.sessions; next = length sheet.fields + 1 }
+anew sheet = record { fields = fields_anew 1 sheet.fields; sessions = sheet.sessions; next = length sheet.fields + 1 }
 
 -- The ops of a worksheet's script are allowed from an empty worksheet on, and make that.
 abbrev pub ScriptsMakeThemAnew : Type 0
