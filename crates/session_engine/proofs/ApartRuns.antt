@@ -8,7 +8,7 @@ use Rattle.session_engine.specs.declared.event.Event.TheVariants as event
 use Rattle.session_engine.specs.declared.outcome.Outcome.{Outcome}
 use Rattle.session_engine.specs.World.{World}
 use Rattle.session_engine.specs.Does.{Gives, Runs}
-use Rattle.session_engine.specs.Apart.{AreAlike, SessionsAreApart, Told, told_to, session_tells, life_numbers, NoneRefused, kept, is_kept, concerns, begins, is_refusal, added}
+use Rattle.session_engine.specs.Apart.{AreAlike, SessionsAreIndependent, Told, told_to, session_tells, life_numbers, NoneRefused, kept, is_kept, concerns, begins, is_refusal, added}
 use Rattle.session_engine.proofs.ByParts.{by_parts}
 use Rattle.session_engine.proofs.ApartLives.{same_name}
 use Rattle.session_engine.proofs.ApartSteps.{alike_back, alike_on, other_child, own_child}
@@ -122,5 +122,5 @@ law one n (e ∷ es) (o ∷ os) w x fs ps v u = go (is_kept n e) refl (λ y z gs
     go false k ih = skip_left n w x es fs e os ps o v u k (λ y. ih y x fs ps u)
     go true k ih = catch_up one n e es o os w v k ih fs ps x u
 
-pub sessions_are_apart : OneReading → SessionsAreApart
-sessions_are_apart one name w x es fs os ps v u a run other q r h m = law one name es os w x fs ps v u a run other q r h m
+pub sessions_are_independent : OneReading → SessionsAreIndependent
+sessions_are_independent one name w x es fs os ps v u a run other q r h m = law one name es os w x fs ps v u a run other q r h m

@@ -23,7 +23,7 @@ use Rattle.session_engine.proofs.ApartOwners.{OpOwned, child_grows}
 use Rattle.session_engine.proofs.ApartAdds.{Adds, adds, lost_none, opened_waits}
 use Rattle.session_engine.proofs.ApartSteps.{none_told}
 use Rattle.session_engine.proofs.InFlight.{Waits, waits_step}
-use Rattle.session_engine.proofs.ApartRuns.{sessions_are_apart}
+use Rattle.session_engine.proofs.ApartRuns.{sessions_are_independent}
 
 -- all ops that are told of
 abbrev pub ops_told : List Told → List Op
@@ -98,7 +98,7 @@ look_alike n v u s = record {
 pub sessions_see_their_own : OneReading → SessionsSeeTheirOwn
 sessions_see_their_own one name w x es fs os ps v u opened opens ops run other q r h m =
     let alike : AreAlike name w x = record { ops = ap commanded ops; lives = ap (named name) opened.0 ∙ sym (ap (named name) opens.0) } in
-    let same = (sessions_are_apart one name w x es fs os ps v u alike run other q r h m).0 in
+    let same = (sessions_are_independent one name w x es fs os ps v u alike run other q r h m).0 in
     let left = seen_run name w es os v run w.ops (opened_waits w opened) (seen_itself name w.ops) in
     let right : Seen name u.ops (w.ops ++ ops_told (session_tells name x fs ps u other)) = subst (λ (b : List Op). Seen name u.ops (b ++ ops_told (session_tells name x fs ps u other))) (sym ops) (seen_run name x fs ps u other x.ops (opened_waits x opens) (seen_itself name x.ops)) in (
       same,

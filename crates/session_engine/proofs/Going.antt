@@ -22,55 +22,78 @@ use Rattle.session_engine.specs.World.{World, world_at_opening, sheet_in}
 use Rattle.session_engine.specs.Does.{Does, MayDo, Runs, behind}
 use Rattle.session_engine.specs.Host.{EndsAt, HostView}
 use Rattle.session_engine.specs.Crash.{HasPlayed, LeftAmong, StoppedAt}
-use Rattle.session_engine.specs.Turns.{Has, Stays, Answered, HostTurn, Turned, EachTurned, WentOn, StaysThrough, AnsweredByOne, LivesInTurn, EvaluatedAnew, LeftByTurn, PlaysAreTurns}
+use Rattle.session_engine.specs.Turns.{Has, HostStep, StepsOf, no_step, step_first, KeepField, AnsweredIn, HostTurn, Turned, EachTurned, WentOn, no_host, host_first, LeftInTurn, HostsInTurn, EvaluatedAnew, LeftByTurn, PlaysAreTurns}
 use Rattle.session_engine.proofs.FieldLaws.{cleared}
 use Rattle.session_engine.proofs.Playing.{EitherSheet, either_sheet, run_on}
 use Rattle.session_engine.proofs.Living.{Sound}
 use Rattle.session_engine.proofs.Showing.{stepped}
 use Rattle.session_engine.proofs.Same.{by_ops, runs}
 
-has_first : (f : Field) (w : World) (es : List Event) (os : List Outcome) (v : World) → Stays f w es os v → Has (sheet_in w) f
-has_first f w [] [] v h = h.1
-has_first f w [] (o ∷ os) v h = absurd h
-has_first f w (e ∷ es) [] v h = absurd h
-has_first f w (e ∷ es) (o ∷ os) v h = h.0
+-- a run has its steps
+steps_of : (w : World) (es : List Event) (os : List Outcome) (v : World) → Runs w es os v → (steps : List HostStep) × StepsOf w es os steps v
+steps_of w [] [] v run = ([], subst (λ (u : World). StepsOf w [] [] [] u) (sym run) no_step)
+steps_of w [] (o ∷ os) v run = absurd run
+steps_of w (e ∷ es) [] v run = absurd run
+steps_of w (e ∷ es) (o ∷ os) v run =
+    let more = steps_of run.0 es os v run.2 in
+    (record { before = w; event = e; behind = run.0 } ∷ more.0, step_first run.1 more.1)
+
+-- a field that stays through these steps and those
+keeps_both : (f : Field) (steps more : List HostStep) → KeepField f steps → KeepField f more → KeepField f (steps ++ more)
+keeps_both f [] more h k = k
+keeps_both f (s ∷ steps) more h k = (h.0, keeps_both f steps more h.1 k)
+
+-- an answer that one of the first steps closed, and that stayed through the others
+behind_more : (f : Field) (steps more : List HostStep) → AnsweredIn steps f → KeepField f more → AnsweredIn (steps ++ more) f
+behind_more f steps more a stays = record {
+  earlier = a.earlier;
+  step = a.step;
+  later = a.later ++ more;
+  split = ap (λ (l : List HostStep). l ++ more) a.split ∙ append_assoc a.earlier (a.step ∷ a.later) more;
+  closes = a.closes;
+  stays = keeps_both f (a.step ∷ a.later) more a.stays stays;
+}
+
+-- an answer that one of the later steps closed
+in_later : (f : Field) (steps more : List HostStep) → AnsweredIn more f → AnsweredIn (steps ++ more) f
+in_later f steps more a = record {
+  earlier = steps ++ a.earlier;
+  step = a.step;
+  later = a.later;
+  split = ap (λ (l : List HostStep). steps ++ l) a.split ∙ sym (append_assoc steps a.earlier (a.step ∷ a.later));
+  closes = a.closes;
+  stays = a.stays;
+}
+
+-- A field was there before these steps and stayed as it is, or one of them closed its answer.
+abbrev IsShown : Contents → List HostStep → Field → Type 0
+IsShown sheet steps f = (Has sheet f × KeepField f steps) ⊎ AnsweredIn steps f
 
 -- what a field shows in the end
-shown : (w : World) (es : List Event) (os : List Outcome) (v : World) → Sound w → Runs w es os v → (f : Field) (a : Answer) → f.answer ≡ Some a → Has (sheet_in v) f → Stays f w es os v ⊎ Answered f w es os v
-shown w [] [] v h run f a some has = inl (run, subst (λ (u : World). Has (sheet_in u) f) run has)
-shown w [] (o ∷ os) v h run f a some has = absurd run
-shown w (e ∷ es) [] v h run f a some has = absurd run
-shown w (e ∷ es) (o ∷ os) v h run f a some has =
-    let s = stepped w e o run.0 h run.1 in
+shown : {w v : World} {es : List Event} {os : List Outcome} {steps : List HostStep} → StepsOf w es os steps v → Sound w
+    → (f : Field) (a : Answer) → f.answer ≡ Some a → Has (sheet_in v) f → IsShown (sheet_in w) steps f
+shown no_step h f a some has = inl (has, tt)
+shown (step_first {w} {mid} {v} {e} {o} {es} {os} {steps} gives more) h f a some has =
+    let s = stepped w e o mid h gives in
     ⊎_elim
     (λ stays. ⊎_elim
-    (λ before. inl (before, (run.0, run.1, stays)))
-    (λ closes. inr (run.0, run.1, inl (closes, stays)))
-    (s.shown f a some (has_first f run.0 es os v stays)))
-    (λ later. inr (run.0, run.1, inr later))
-    (shown run.0 es os v s.sound run.2 f a some has)
+    (λ before. inl (before, stays))
+    (λ closes. inr (record { earlier = []; step = record { before = w; event = e; behind = mid }; later = steps; split = refl; closes = closes; stays = stays }))
+    (s.shown f a some stays.0))
+    (λ later. inr (in_later f (record { before = w; event = e; behind = mid } ∷ []) steps later))
+    (shown more s.sound f a some has)
 
 pub sound : (ops : List Op) (room end : ℕ) → Allowed ops → Sound (world_at_opening ops room end)
 sound ops room end allowed = record { allowed = allowed; lives = tt }
 
--- what the law says of these turns
-record Went (room : ℕ) (first : List Op) (before : Image) (turns : List HostTurn) (after : Image) : Type 0 where
-  kept : List Op
-  went : WentOn room before first turns after kept
-  image : IsSheetImage (sheet_of kept) after
-  fields : (f : Field) (a : Answer) → Has (sheet_of kept) f → f.answer ≡ Some a → StaysThrough f room before first turns after kept went ⊎ AnsweredByOne f room before first turns after kept went
-
-has_through : (f : Field) (room : ℕ) (before : Image) (found : List Op) (turns : List HostTurn) (after : Image) (kept : List Op) (went : WentOn room before found turns after kept)
-    → StaysThrough f room before found turns after kept went → Has (sheet_of found) f
-has_through f room before found [] after kept went h = h
-has_through f room before found (turn ∷ turns) after kept went h = has_first f (world_at_opening found room went.2.end) went.2.taken (turn.told ++ went.2.untold) went.2.leads h.0
-
-go_on : OneSheet → (room : ℕ) (first : List Op) (before : Image) (turns : List HostTurn) (after : Image) → Allowed first → IsSheetImage (sheet_of first) before → EachTurned room before turns after → Went room first before turns after
-go_on one room first before [] after allowed image each = record {
+go_on : OneSheet → (room : ℕ) (first : List Op) (before : Image) (turns : List HostTurn) (after : Image) → Allowed first → IsSheetImage (sheet_of first) before
+    → EachTurned room before turns after → LeftInTurn room first before after turns
+go_on one room first before [] after allowed image each = subst (λ (i : Image). LeftInTurn room first before i []) (sym each) record {
   kept = first;
-  went = (each, refl);
-  image = subst (λ (i : Image). IsSheetImage (sheet_of first) i) (sym each) image;
-  fields = λ f a has some. inl has;
+  steps = [];
+  went = no_host;
+  image = image;
+  shows = λ f a has some. inl (has, tt);
 }
 go_on one room first before (turn ∷ turns) after allowed image each =
     let mid = each.0 in
@@ -94,22 +117,24 @@ go_on one room first before (turn ∷ turns) after allowed image each =
       ops = refl;
       leaves = leaves;
     } in
+    let did = steps_of (world_at_opening first room t.end) t.taken outcomes (by_ops r.ops t.leads) r.run in
     let more = go_on one room r.ops mid turns after r.allowed leaves each.2 in
     record {
       kept = more.kept;
-      went = (mid, r.ops, now, more.went);
+      steps = did.0 ++ more.steps;
+      went = host_first now did.1 more.went;
       image = more.image;
-      fields = λ f a has some. ⊎_elim
-          (λ through. ⊎_elim
-          (λ stays. inl (stays, through))
-          (λ answered. inr (inl (answered, through)))
-          (shown (world_at_opening first room t.end) t.taken outcomes (by_ops r.ops t.leads) (sound first room t.end allowed) r.run f a some (has_through f room mid r.ops turns after more.kept more.went through)))
-          (λ later. inr (inr later))
-          (more.fields f a has some);
+      shows = λ f a has some. ⊎_elim
+          (λ stays. ⊎_elim
+          (λ before. inl (before.0, keeps_both f did.0 more.steps before.1 stays.1))
+          (λ answered. inr (behind_more f did.0 more.steps answered stays.1))
+          (shown did.1 (sound first room t.end allowed) f a some stays.0))
+          (λ later. inr (in_later f did.0 more.steps later))
+          (more.shows f a has some);
     }
 
-pub lives_in_turn : OneSheet → LivesInTurn
-lives_in_turn one room first before after turns allowed image each = let g = go_on one room first before turns after allowed image each in (g.kept, g.went, g.image, g.fields)
+pub hosts_in_turn : OneSheet → HostsInTurn
+hosts_in_turn one room first before after turns allowed image each = go_on one room first before turns after allowed image each
 
 sounds : (w : World) (es : List Event) (os : List Outcome) (v : World) → Sound w → Runs w es os v → Sound v
 sounds w [] [] v h run = subst Sound (sym run) h
@@ -118,18 +143,18 @@ sounds w (e ∷ es) [] v h run = absurd run
 sounds w (e ∷ es) (o ∷ os) v h run = sounds run.0 es os v (stepped w e o run.0 h run.1).sound run.2
 
 pub evaluated_anew : EvaluatedAnew
-evaluated_anew found room end es os w allowed run id o mid given clears later told v more f a number has some =
+evaluated_anew found room end es os w allowed run id o mid given clears later told steps v more f a number has some =
     let before = sounds (world_at_opening found room end) es os w (sound found room end allowed) run in
     let after = (stepped w (event.Command (command.Eval id)) o mid before given).sound in
     ⊎_elim
     (λ stays.
     let here : field_in (sheet_of (w.ops ++ op.Clear id ∷ [])).fields id ≡ Some f =
     ap (λ (n : ℕ). field_in (sheet_of (w.ops ++ op.Clear id ∷ [])).fields n) (sym number)
-    ∙ subst (λ (ops : List Op). Has (sheet_of ops) f) clears (has_first f mid later told v stays) in
+    ∙ subst (λ (ops : List Op). Has (sheet_of ops) f) clears stays.0 in
     let none = cleared w.ops id f (subst Allowed clears after.allowed) here in
     absurd (let no : None ≡ Some a = sym none ∙ some in cc))
     (λ answered. answered)
-    (shown mid later told v after more f a some has)
+    (shown more after f a some has)
 
 -- Plays behind other events.
 

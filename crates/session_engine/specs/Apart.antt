@@ -147,8 +147,8 @@ pub record AreAlike (name : List ℕ) (w x : World) : Type 0 where
 
 -- Two histories from worlds alike for a session, without refusals, that agree in the merged list of all commands and this session's
 -- child events, and in the numbers of its lives, tell it the same, and lead to worlds alike for it.
-abbrev pub SessionsAreApart : Type 0
-SessionsAreApart = (name : List ℕ) (w x : World) (es fs : List Event) (os ps : List Outcome) (v u : World) → AreAlike name w x
+abbrev pub SessionsAreIndependent : Type 0
+SessionsAreIndependent = (name : List ℕ) (w x : World) (es fs : List Event) (os ps : List Outcome) (v u : World) → AreAlike name w x
     → (run : Runs w es os v) (other : Runs x fs ps u) → NoneRefused os → NoneRefused ps
     → kept name es ≡ kept name fs → life_numbers name w es os v run ≡ life_numbers name x fs ps u other
     → (session_tells name w es os v run ≡ session_tells name x fs ps u other) × AreAlike name v u

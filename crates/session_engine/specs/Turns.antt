@@ -1,5 +1,6 @@
 -- Hosts one after another on one disk, each from its opening to a crash, and what their worksheets show. (docs/HOST.md.)
 use Rattle.std.specs.Prelude.{◌≡◌, ◌⊎◌, ℕ, suc, List, [], ◌∷◌, ◌++◌, length, Option, Some, drop, slice_get, Result, IfOk, IfErr}
+use Rattle.std.specs.List.{AllByRecursion}
 use Rattle.block_tree.specs.Output.{output}
 use Rattle.meta_format.specs.Stream.{Outer}
 use Rattle.meta_format.specs.Faults.{Kind}
@@ -59,18 +60,31 @@ pub record ClosesAnswer (w : World) (e : Event) (f : Field) : Type 0 where
   pub closes : ClosesIn (life.past ++ received piece ∷ []) (length life.past) block
   pub shows : f.answer ≡ Some (record { prompt = prompt_of life.past life.blocks; output = output block.block })
 
--- events one behind another, and before and behind each the worksheet has this field
-abbrev pub Stays : Field → World → List Event → List Outcome → World → Type 0
-Stays f w [] [] v = (v ≡ w) × Has (sheet_in w) f
-Stays f w (e ∷ es) (o ∷ os) v = Has (sheet_in w) f × ((mid : World) × Gives w e o mid × Stays f mid es os v)
-Stays f w [] (o ∷ os) v = ⊥
-Stays f w (e ∷ es) [] v = ⊥
+-- One event that a host took: the world before it, the event, and the world behind it.
+pub record HostStep : Type 0 where
+  pub before : World
+  pub event : Event
+  pub behind : World
 
--- One of these events closed the answer that the field shows, and behind it the field stayed as it is.
-abbrev pub Answered : Field → World → List Event → List Outcome → World → Type 0
-Answered f w (e ∷ es) (o ∷ os) v = (mid : World) × Gives w e o mid × ((ClosesAnswer w e f × Stays f mid es os v) ⊎ Answered f mid es os v)
-Answered f w [] os v = ⊥
-Answered f w (e ∷ es) [] v = ⊥
+-- These are the steps of these events, which told these outcomes, one behind another from this world to that one.
+pub data StepsOf : World → List Event → List Outcome → List HostStep → World → Type 0 where
+  no_step : {w : World} → StepsOf w [] [] [] w
+  step_first : {w mid v : World} {e : Event} {o : Outcome} {es : List Event} {os : List Outcome} {steps : List HostStep}
+      → Gives w e o mid → StepsOf mid es os steps v
+      → StepsOf w (e ∷ es) (o ∷ os) (record { before = w; event = e; behind = mid } ∷ steps) v
+
+-- behind each of these steps the worksheet has exactly this field
+abbrev pub KeepField : Field → List HostStep → Type 0
+KeepField f steps = AllByRecursion (λ s. Has (sheet_in s.behind) f) steps
+
+-- One of these steps closed the answer that the field shows, and behind it and behind each later one the worksheet has the field so.
+pub record AnsweredIn (steps : List HostStep) (f : Field) : Type 0 where
+  pub earlier : List HostStep
+  pub step : HostStep
+  pub later : List HostStep
+  pub split : steps ≡ earlier ++ step ∷ later
+  pub closes : ClosesAnswer step.before step.event f
+  pub stays : KeepField f (step ∷ later)
 
 -- Hosts one after another.
 
@@ -149,36 +163,38 @@ abbrev pub EachTurned : ℕ → Image → List HostTurn → Image → Type 0
 EachTurned room before [] after = after ≡ before
 EachTurned room before (turn ∷ turns) after = (mid : Image) × ((found : List Op) × (kept : List Op) × Turned room before found turn mid kept) × EachTurned room mid turns after
 
--- Each of them went on with the ops of the one before it, from these first ones to those last.
-abbrev pub WentOn : ℕ → Image → List Op → List HostTurn → Image → List Op → Type 0
-WentOn room before found [] after kept = (after ≡ before) × (kept ≡ found)
-WentOn room before found (turn ∷ turns) after kept = (mid : Image) × (ops : List Op) × Turned room before found turn mid ops × WentOn room mid ops turns after kept
+-- Each of these hosts went on with the ops of the one before it, from these first ones to those last; and these are the steps of all
+-- of them, in turn.
+pub data WentOn (room : ℕ) : Image → List Op → List HostTurn → List HostStep → Image → List Op → Type 0 where
+  no_host : {i : Image} {ops : List Op} → WentOn room i ops [] [] i ops
+  host_first : {before mid after : Image} {found ops kept : List Op} {turn : HostTurn} {turns : List HostTurn} {steps more : List HostStep}
+      → (t : Turned room before found turn mid ops)
+      → StepsOf (world_at_opening found room t.end) t.taken (turn.told ++ t.untold) steps t.leads
+      → WentOn room mid ops turns more after kept
+      → WentOn room before found (turn ∷ turns) (steps ++ more) after kept
 
--- Through all of them the worksheet had this field.
-abbrev pub StaysThrough : Field → (room : ℕ) (before : Image) (found : List Op) (turns : List HostTurn) (after : Image) (kept : List Op) → WentOn room before found turns after kept → Type 0
-StaysThrough f room before found [] after kept went = Has (sheet_of found) f
-StaysThrough f room before found (turn ∷ turns) after kept went =
-    Stays f (world_at_opening found room went.2.end) went.2.taken (turn.told ++ went.2.untold) went.2.leads × StaysThrough f room went.0 went.1 turns after kept went.3
+-- What these hosts have left in the end: the worksheet of the first ops and of those of a prefix of each host's events in turn, where
+-- each prefix has all that was told. A field of it that shows an answer was there in the worksheet that was found first and has stayed
+-- as it was; or it shows the output of a whole block that answered its line in one of the steps, and has stayed so since.
+pub record LeftInTurn (room : ℕ) (first : List Op) (before after : Image) (turns : List HostTurn) : Type 0 where
+  pub kept : List Op
+  pub steps : List HostStep
+  pub went : WentOn room before first turns steps after kept
+  pub image : IsSheetImage (sheet_of kept) after
+  pub shows : (f : Field) (answer : Answer) → Has (sheet_of kept) f → f.answer ≡ Some answer
+      → (Has (sheet_of first) f × KeepField f steps) ⊎ AnsweredIn steps f
 
--- One of them closed the answer that the field shows, and behind it the field stayed as it is.
-abbrev pub AnsweredByOne : Field → (room : ℕ) (before : Image) (found : List Op) (turns : List HostTurn) (after : Image) (kept : List Op) → WentOn room before found turns after kept → Type 0
-AnsweredByOne f room before found [] after kept went = ⊥
-AnsweredByOne f room before found (turn ∷ turns) after kept went =
-    (Answered f (world_at_opening found room went.2.end) went.2.taken (turn.told ++ went.2.untold) went.2.leads × StaysThrough f room went.0 went.1 turns after kept went.3)
-    ⊎ AnsweredByOne f room went.0 went.1 turns after kept went.3
-
--- Hosts one after another, the first on a disk with the worksheet of these ops. In the end the disk has the worksheet of these
--- ops and of those of a prefix of each host's events in turn, where each prefix has all that was told; and a field of it that
--- shows an answer was there in the worksheet that was found first and has stayed as it was, or shows the output of a whole block that answered its line.
-abbrev pub LivesInTurn : Type 0
-LivesInTurn = (room : ℕ) (first : List Op) (before after : Image) (turns : List HostTurn) → Allowed first → IsSheetImage (sheet_of first) before → EachTurned room before turns after
-    → (kept : List Op) × (went : WentOn room before first turns after kept) × IsSheetImage (sheet_of kept) after
-    × ((f : Field) (answer : Answer) → Has (sheet_of kept) f → f.answer ≡ Some answer → StaysThrough f room before first turns after kept went ⊎ AnsweredByOne f room before first turns after kept went)
+-- Hosts one after another, each from its opening to a crash, the first on a disk with the worksheet of these ops.
+abbrev pub HostsInTurn : Type 0
+HostsInTurn = (room : ℕ) (first : List Op) (before after : Image) (turns : List HostTurn)
+    → Allowed first → IsSheetImage (sheet_of first) before → EachTurned room before turns after
+    → LeftInTurn room first before after turns
 
 -- Where an evaluation was accepted, what its field shows from there on is what a whole block answered to a line behind it, or
 -- nothing: not where it was Stopped, nor where its interpreter ended before.
 abbrev pub EvaluatedAnew : Type 0
-EvaluatedAnew = (found : List Op) (room end : ℕ) (es : List Event) (os : List Outcome) (w : World) → Allowed found → Runs (world_at_opening found room end) es os w
+EvaluatedAnew = (found : List Op) (room end : ℕ) (es : List Event) (os : List Outcome) (w : World)
+    → Allowed found → Runs (world_at_opening found room end) es os w
     → (id : ℕ) (o : Outcome) (mid : World) → Gives w (event.Command (command.Eval id)) o mid → mid.ops ≡ w.ops ++ op.Clear id ∷ []
-    → (later : List Event) (told : List Outcome) (v : World) → Runs mid later told v
-    → (f : Field) (answer : Answer) → f.id ≡ id → Has (sheet_in v) f → f.answer ≡ Some answer → Answered f mid later told v
+    → (later : List Event) (told : List Outcome) (steps : List HostStep) (v : World) → StepsOf mid later told steps v
+    → (f : Field) (answer : Answer) → f.id ≡ id → Has (sheet_in v) f → f.answer ≡ Some answer → AnsweredIn steps f

@@ -1,13 +1,13 @@
 //! Laws of the definitions that the contracts cite (docs/HOST.md, "Laws"). Each function does nothing: its contract is the law.
-ghost use Rattle.session_engine.specs.Apart.{OthersAreSilent, SessionsAreApart, SessionsSeeTheirOwn};
-ghost use Rattle.session_engine.specs.Turns.{EvaluatedAnew, LivesInTurn, PlaysAreTurns, StepsAreTurns};
+ghost use Rattle.session_engine.specs.Apart.{OthersAreSilent, SessionsAreIndependent, SessionsSeeTheirOwn};
+ghost use Rattle.session_engine.specs.Turns.{EvaluatedAnew, HostsInTurn, PlaysAreTurns, StepsAreTurns};
 ghost use Rattle.session_engine.specs.Laws.{AnEventDoesOneThing, EachEventHasAnOutcome, NothingIsShownInFlight, NothingOfAnEndedLife, NumbersAreGivenOnce, OutcomesLeadToOneWorld};
 
 /// A session is told the same whatever others' interpreters do: two histories without refusals from
 /// worlds alike for it that agree in the merged list of all commands and this session's child events, and
 /// in the numbers of its lives, give it equal replies, effects and answers.
-pub fn sessions_are_apart()
-    ensures { SessionsAreApart }
+pub fn sessions_are_independent()
+    ensures { SessionsAreIndependent }
 {
     plugin_core::one_reading();
 }
@@ -27,8 +27,8 @@ pub fn others_are_silent()
 /// Hosts one after another on one disk, each from its opening to a crash: the worksheet is the one found
 /// first with the ops of a prefix of each host's events in turn, and each prefix has all that was told. A
 /// field that shows an answer shows what was found first, or the whole block that answered its line.
-pub fn lives_in_turn()
-    ensures { LivesInTurn }
+pub fn hosts_in_turn()
+    ensures { HostsInTurn }
 {
     recovery::one_sheet();
 }
