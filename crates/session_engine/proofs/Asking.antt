@@ -22,8 +22,8 @@ use Rattle.session_engine.specs.Host.{Lives, HasField, HaveFields, EngineStandsF
 use Rattle.session_engine.proofs.Tables.{found, not_found, pushed, numbers_are}
 use Rattle.session_engine.proofs.Standing.{all_at, put}
 use Rattle.session_engine.specs.World.{World, Going, life_of, session_of_field, sheet_in, waiting_in, fits, fits_in}
-use Rattle.session_engine.specs.Refused.{full, lives_are_spent}
-use Rattle.session_engine.specs.inside.Parts.{queue_refusals, eval_refusals, start_words, asks, with_item}
+use Rattle.session_engine.specs.Refused.{full, lives_are_spent, queue_refusals}
+use Rattle.session_engine.specs.inside.Parts.{eval_refusals, start_words, asks, with_item}
 use Rattle.session_engine.specs.Does.{starting_words, begun_with, joined_by}
 use Rattle.std.specs.Str.{bytes_eq}
 use Rattle.std.proofs.lemmas.Slice.Eq.{bytes_eq-Decides}

@@ -24,8 +24,7 @@ use Rattle.session_engine.specs.declared.reply.Reply.TheVariants as reply
 use Rattle.session_engine.specs.declared.table.Running.{Running}
 use Rattle.session_engine.proofs.Tables.{numbers_are}
 use Rattle.session_engine.specs.World.{World, Going, waiting_in, waits_in, in_flight, sheet_in, fits}
-use Rattle.session_engine.specs.inside.Parts.{second, checks, op_refusals}
-use Rattle.session_engine.specs.Refused.{full, command_refusals, command_takes_memory}
+use Rattle.session_engine.specs.Refused.{full, command_refusals, command_takes_memory, second, refusals_but_room, op_refusals}
 use Rattle.session_engine.specs.Does.{changes, does, tells, CommandDoes, MayDo}
 use Rattle.session_engine.specs.Faults.{CauseOf, Failed}
 use Rattle.session_engine.specs.Host.{HostView, EngineStandsFor, OnDisk, number_in}
@@ -78,7 +77,7 @@ none_second r (q ∷ rs) h = go q.1 r.1 refl h
     go false true e h = cc
     go false false e h = (e, h)
 
-pub allowed_by : (w : World) (o : Op) → first_of (checks w o) ≡ None → first_refusal (sheet_in w) o ≡ None
+pub allowed_by : (w : World) (o : Op) → first_of (refusals_but_room w o) ≡ None → first_refusal (sheet_in w) o ≡ None
 allowed_by w (op.Session name tab words) h = h
 allowed_by w (op.New place session input) h = h
 allowed_by w (op.Set id input) h = (none_second (refusal.InFlight, in_flight w id) (sheet_refusals (sheet_in w) (op.Set id input)) h).1
@@ -121,7 +120,7 @@ no_matter : (o : Op) → ((id : ℕ) → Spares id o) → (i : Item) → SparesI
 no_matter o all (item.Line id text) = all id
 no_matter o all (item.Complete id text cursor) = tt
 
-pub spares : (w : World) (o : Op) → first_of (checks w o) ≡ None → AllByRecursion (SparesLife o) w.lives
+pub spares : (w : World) (o : Op) → first_of (refusals_but_room w o) ≡ None → AllByRecursion (SparesLife o) w.lives
 spares w (op.Session name tab words) h = all_lives (op.Session name tab words) w.lives (no_matter (op.Session name tab words) (λ id. tt))
 spares w (op.New place session input) h = all_lives (op.New place session input) w.lives (no_matter (op.New place session input) (λ id. tt))
 spares w (op.Set other input) h = all_lives (op.Set other input) w.lives (no_matter (op.Set other input) (λ id. tt))
@@ -133,31 +132,31 @@ spares w (op.Lost other why) h = all_lives (op.Lost other why) w.lives (no_matte
 spares w (op.Ids number) h = all_lives (op.Ids number) w.lives (no_matter (op.Ids number) (λ id. tt))
 
 module _ (w : World) (c : Command) (o : Op) (is : op_of c ≡ Some o) where
-  pub gives_refusal : (r : Refusal) → first_of (checks w o) ≡ Some r → MayDo w (event.Command c) (tells w (reply.Refused r))
+  pub gives_refusal : (r : Refusal) → first_of (refusals_but_room w o) ≡ Some r → MayDo w (event.Command c) (tells w (reply.Refused r))
   gives_refusal r e =
-      let first : first_of (command_refusals w c) ≡ Some r = ap first_of (as_op w c o is).refusals_are ∙ first_before (checks w o) (full w o ∷ []) r e in
+      let first : first_of (command_refusals w c) ≡ Some r = ap first_of (as_op w c o is).refusals_are ∙ first_before (refusals_but_room w o) (full w o ∷ []) r e in
       subst (λ (x : Option Refusal). CommandDoes w c x (tells w (reply.Refused r))) (sym first) refl
 
-  first_is : first_of (checks w o) ≡ None → first_of (command_refusals w c) ≡ (if not (fits w o) then Some refusal.JournalFull else None)
-  first_is e = ap first_of (as_op w c o is).refusals_are ∙ first_behind (checks w o) (full w o ∷ []) e
+  first_is : first_of (refusals_but_room w o) ≡ None → first_of (command_refusals w c) ≡ (if not (fits w o) then Some refusal.JournalFull else None)
+  first_is e = ap first_of (as_op w c o is).refusals_are ∙ first_behind (refusals_but_room w o) (full w o ∷ []) e
 
-  pub gives_full : first_of (checks w o) ≡ None → fits w o ≡ false → MayDo w (event.Command c) (tells w (reply.Refused refusal.JournalFull))
+  pub gives_full : first_of (refusals_but_room w o) ≡ None → fits w o ≡ false → MayDo w (event.Command c) (tells w (reply.Refused refusal.JournalFull))
   gives_full e f =
       let first : first_of (command_refusals w c) ≡ Some refusal.JournalFull = first_is e ∙ ap (λ (b : Bool). if not b then Some refusal.JournalFull else None) f in
       subst (λ (x : Option Refusal). CommandDoes w c x (tells w (reply.Refused refusal.JournalFull))) (sym first) refl
 
-  pub gives_no_memory : first_of (checks w o) ≡ None → fits w o ≡ true → MayDo w (event.Command c) (tells w (reply.Refused refusal.OutOfMemory))
+  pub gives_no_memory : first_of (refusals_but_room w o) ≡ None → fits w o ≡ true → MayDo w (event.Command c) (tells w (reply.Refused refusal.OutOfMemory))
   gives_no_memory e f =
       let first : first_of (command_refusals w c) ≡ None = first_is e ∙ ap (λ (b : Bool). if not b then Some refusal.JournalFull else None) f in
       subst (λ (x : Option Refusal). CommandDoes w c x (tells w (reply.Refused refusal.OutOfMemory))) (sym first) (inr ((as_op w c o is).takes, refl))
 
-  pub gives_done : first_of (checks w o) ≡ None → fits w o ≡ true → MayDo w (event.Command c) (changes w o)
+  pub gives_done : first_of (refusals_but_room w o) ≡ None → fits w o ≡ true → MayDo w (event.Command c) (changes w o)
   gives_done e f =
       let first : first_of (command_refusals w c) ≡ None = first_is e ∙ ap (λ (b : Bool). if not b then Some refusal.JournalFull else None) f in
       subst (λ (x : Option Refusal). CommandDoes w c x (changes w o)) (sym first) (inl (sym (as_op w c o is).does_is))
 
   -- the disk's fault at a command that only changes the worksheet
-  pub change_fails : (old new : HostView) (r : Result Outcome HostFault) → EngineStandsFor old.store old.lives old.begun w → first_of (checks w o) ≡ None → new.lives ≡ old.lives
+  pub change_fails : (old new : HostView) (r : Result Outcome HostFault) → EngineStandsFor old.store old.lives old.begun w → first_of (refusals_but_room w o) ≡ None → new.lives ≡ old.lives
       → IfErr r (λ fault. (fault ≡ faults.Disk) × (new.store.sheet.contents ≡ old.store.sheet.contents) × Rises old.store.disk.faults new.store.disk.faults)
       → OnErr r (fits w o ≡ true) → OnDisk w.ops false (Some o) old.store.disk new.store.disk → IfErr r (Failed w (event.Command c) old new)
   change_fails old new (Ok x) h none lives fault fit disk = tt

@@ -21,7 +21,8 @@ use Rattle.plugin_core.proofs.OneMore.{waiting_of-accepted}
 use Rattle.plugin_core.proofs.ByAskPoints.{reads_lie}
 use Rattle.session_engine.specs.Named.{without_named, replace_named}
 use Rattle.session_engine.specs.World.{World, Going, sheet_in, waiting_in, waits_in, life_of, with_op}
-use Rattle.session_engine.specs.inside.Parts.{with_life, without_life, with_item, checks}
+use Rattle.session_engine.specs.Refused.{refusals_but_room}
+use Rattle.session_engine.specs.inside.Parts.{with_life, without_life, with_item}
 use Rattle.session_engine.specs.Does.{with_piece, joined_by, begun_with}
 use Rattle.session_engine.proofs.Fields.{waiting_still}
 use Rattle.session_engine.proofs.Standing.{all_at}
@@ -151,11 +152,11 @@ other_lives id o all (l ∷ ls) h = go (list_any (λ i. is_line_of id i) (waitin
     go true e h rest = cc
     go false e h rest = (other_items id o all (waiting_in l) e, rest h)
 
-pub checked : (w : World) (o : Op) → first_of (checks w o) ≡ None → KeepsLines o w
+pub checked : (w : World) (o : Op) → first_of (refusals_but_room w o) ≡ None → KeepsLines o w
 checked w (op.Session name tab words) h = every_line (op.Session name tab words) w (λ id. tt)
 checked w (op.New place session input) h = every_line (op.New place session input) w (λ id. tt)
-checked w (op.Set id input) h = other_lives id (op.Set id input) (λ other e. e) w.lives (none_applies (checks w (op.Set id input)) h).1.0
-checked w (op.Remove id) h = other_lives id (op.Remove id) (λ other e. e) w.lives (none_applies (checks w (op.Remove id)) h).1.0
+checked w (op.Set id input) h = other_lives id (op.Set id input) (λ other e. e) w.lives (none_applies (refusals_but_room w (op.Set id input)) h).1.0
+checked w (op.Remove id) h = other_lives id (op.Remove id) (λ other e. e) w.lives (none_applies (refusals_but_room w (op.Remove id)) h).1.0
 checked w (op.Move id place) h = every_line (op.Move id place) w (λ id. tt)
 checked w (op.Clear id) h = every_line (op.Clear id) w (λ id. tt)
 checked w (op.Answer id prompt output) h = every_line (op.Answer id prompt output) w (λ id. tt)

@@ -29,9 +29,9 @@ use Rattle.session_engine.specs.declared.reply.Reply.TheVariants as reply
 use Rattle.session_engine.specs.Commands.{op_of}
 use Rattle.session_engine.specs.inside.Commits.{AllowedIf}
 use Rattle.session_engine.specs.World.{World, Going, kept_at_end, sheet_in, life_of, session_of_field, line_of_field, by_field, in_flight, with_number, with_op, with_op_if, request_of_field, codes_anew, fits_anew_in}
-use Rattle.session_engine.specs.inside.Parts.{with_item, without_life, goes_on, second, checks, op_refusals, queue_refusals, asks}
+use Rattle.session_engine.specs.inside.Parts.{with_item, without_life, goes_on, asks}
 use Rattle.session_engine.specs.Does.{op_by, with_piece, starting_words, replies, Runs}
-use Rattle.session_engine.specs.Refused.{full, command_refusals, takes_tab, is_cursor}
+use Rattle.session_engine.specs.Refused.{full, command_refusals, takes_tab, is_cursor, second, refusals_but_room, op_refusals, queue_refusals}
 use Rattle.session_engine.specs.inside.Given.{outcome_of, after, Commanded, Ended_by, Pieced, GivesByParts}
 use Rattle.session_engine.proofs.ByParts.{by_parts, by_rows, op_after}
 use Rattle.session_engine.proofs.Changing.{as_op, allowed_by}
@@ -54,7 +54,7 @@ module _ (w : World) (b : List Op) (same : sheet_of w.ops ≡ sheet_of b) where
   x : World
   x = by_ops b w
 
-  checks_same : (o : Op) → checks w o ≡ checks (by_ops b w) o
+  checks_same : (o : Op) → refusals_but_room w o ≡ refusals_but_room (by_ops b w) o
   checks_same (op.Session name tab words) = ap (λ (s : Contents). sheet_refusals s (op.Session name tab words)) same
   checks_same (op.New place session input) = ap (λ (s : Contents). sheet_refusals s (op.New place session input)) same
   checks_same (op.Set id input) = ap (λ (s : Contents). second (refusal.InFlight, in_flight w id) (sheet_refusals s (op.Set id input))) same
@@ -151,7 +151,7 @@ module _ (w : World) (b : List Op) (h : Sound w) (allowed : Allowed b) (same : s
   by_op c o is first =
       let a = as_op w c o is in
       let z = as_op (by_ops b w) c o is in
-      let next : first_refusal (sheet_in w) o ≡ None = allowed_by w o (first_part (checks w o) (full w o ∷ []) (sym (ap first_of a.refusals_are) ∙ first)) in
+      let next : first_refusal (sheet_in w) o ≡ None = allowed_by w o (first_part (refusals_but_room w o) (full w o ∷ []) (sym (ap first_of a.refusals_are) ∙ first)) in
       record {
         ops = b ++ o ∷ [];
         is = op_after (by_ops b w) c o is ∙ sym (ap (by_ops (b ++ o ∷ [])) (op_after w c o is));

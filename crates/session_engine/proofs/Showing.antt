@@ -39,9 +39,9 @@ use Rattle.session_engine.specs.declared.outcome.Outcome.{Outcome}
 use Rattle.session_engine.specs.Commands.{op_of}
 use Rattle.session_engine.specs.Host.{HasField}
 use Rattle.session_engine.specs.World.{World, Going, kept_at_end, sheet_in, waiting_in, life_of, session_of_field, line_of_field, with_number, with_op, with_op_if, request_of_field}
-use Rattle.session_engine.specs.inside.Parts.{with_life, without_life, with_item, goes_on, checks}
+use Rattle.session_engine.specs.inside.Parts.{with_life, without_life, with_item, goes_on}
 use Rattle.session_engine.specs.Does.{op_by, with_piece}
-use Rattle.session_engine.specs.Refused.{full, command_refusals}
+use Rattle.session_engine.specs.Refused.{full, command_refusals, refusals_but_room}
 use Rattle.session_engine.specs.inside.Given.{after, Commanded, Ended_by, Pieced, GivesByParts}
 use Rattle.session_engine.specs.inside.Commits.{AllowedIf, HasFieldIf, LosesField, answer_op, kept_for}
 use Rattle.session_engine.specs.Does.{Gives}
@@ -72,7 +72,7 @@ first_part rs qs h = go (first_of rs) refl
     go None e = e
     go (Some r) e = absurd (let no : Some r ≡ None = sym (first_before rs qs r e) ∙ h in cc)
 
-with_command_op : (w : World) (e : Event) (o : Op) → Sound w → first_of (checks w o) ≡ None → ((id : ℕ) (prompt : List ℕ) (out : Tree) → o ≡ op.Answer id prompt out → ⊥) → Stepped w e (with_op o w)
+with_command_op : (w : World) (e : Event) (o : Op) → Sound w → first_of (refusals_but_room w o) ≡ None → ((id : ℕ) (prompt : List ℕ) (out : Tree) → o ≡ op.Answer id prompt out → ⊥) → Stepped w e (with_op o w)
 with_command_op w e o h free other = record {
   sound = committed o w h (allowed_by w o free) (checked w o free);
   shown = λ f a some has. ⊎_elim (λ same. inl same) (λ by. absurd (other f.id by.prompt by.output by.is)) (by_op w.ops f a h.allowed some o (allowed_by w o free) has);
@@ -276,7 +276,7 @@ no_answer command.Checkpoint o e id prompt out is = cc
 as_done : (w : World) (c : Command) (o : Op) → op_of c ≡ Some o → Sound w → first_of (command_refusals w c) ≡ None → Stepped w (event.Command c) (after w c)
 as_done w c o is h first =
     let a = as_op w c o is in
-    let free : first_of (checks w o) ≡ None = first_part (checks w o) (full w o ∷ []) (sym (ap first_of a.refusals_are) ∙ first) in
+    let free : first_of (refusals_but_room w o) ≡ None = first_part (refusals_but_room w o) (full w o ∷ []) (sym (ap first_of a.refusals_are) ∙ first) in
     subst (λ (v : World). Stepped w (event.Command c) v) (sym (op_after w c o is)) (with_command_op w (event.Command c) o h free (no_answer c o is))
 
 -- the field whose line is asked

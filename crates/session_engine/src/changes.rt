@@ -19,14 +19,14 @@ impl<D: Disk> Engine<D> {
     ghost use Rattle.session_engine.specs.declared.outcome.HostFault.TheVariants as faults;
     ghost use Rattle.session_engine.specs.Commands.{op_of, reply_to as reply_to_op};
     ghost use Rattle.session_engine.specs.World.{World, fits, sheet_in};
-    ghost use Rattle.session_engine.specs.inside.Parts.{checks};
+    ghost use Rattle.session_engine.specs.Refused.{refusals_but_room};
     ghost use Rattle.session_engine.specs.inside.Engines.{StandsAt, Works, TookAt, FailedAt};
     ghost use Rattle.session_engine.specs.inside.Commits.{SparesLife, Changes};
 
     /// Whether an op is allowed: by the worksheet, and while lines wait. A full journal isn't asked for.
     pub(crate) fn check(&self, op: &Op) -> Result<(), Refusal>
         ensures { (w : World) → StandsAt self.now w
-            → result_err result ≡ first_of (checks w op.now) }
+            → result_err result ≡ first_of (refusals_but_room w op.now) }
     {
         let checked = self.store.sheet().check(op);
         match op {

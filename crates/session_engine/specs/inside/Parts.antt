@@ -5,7 +5,6 @@ use Rattle.worksheet.specs.declared.op.Op.TheVariants as op
 use Rattle.worksheet.specs.declared.refusal.Refusal.{Refusal}
 use Rattle.worksheet.specs.declared.refusal.Refusal.TheVariants as refusal
 use Rattle.worksheet.specs.Checks.{session_named}
-use Rattle.worksheet.specs.Checks.{refusals as sheet_refusals}
 use Rattle.plugin_core.specs.declared.item.Item.{Item}
 use Rattle.plugin_core.specs.declared.step.Ended.{Ended}
 use Rattle.block_tree.specs.declared.reason.Reason.{Reason}
@@ -17,34 +16,9 @@ use Rattle.session_engine.specs.declared.event.ChildEvent.TheVariants as child
 use Rattle.session_engine.specs.declared.outcome.Effect.TheVariants as effect
 use Rattle.session_engine.specs.declared.outcome.Outcome.{Outcome}
 use Rattle.session_engine.specs.declared.reply.Reply.TheVariants as reply
-use Rattle.session_engine.specs.World.{World, Going, sheet_in, in_flight, life_of, session_of_field}
-use Rattle.session_engine.specs.Refused.{full, queue_is_full, lives_are_spent}
+use Rattle.session_engine.specs.World.{World, Going, sheet_in, life_of, session_of_field}
+use Rattle.session_engine.specs.Refused.{full, queue_refusals}
 use Rattle.session_engine.specs.Does.{put_back, taken_out, starting_words, begun_with, joined_by}
-
--- a refusal directly behind the first
-abbrev pub second : Refusal × Bool → List (Refusal × Bool) → List (Refusal × Bool)
-second r [] = r ∷ []
-second r (first ∷ rs) = first ∷ r ∷ rs
-
--- the refusals of an op but those of a full journal and of want of memory: those of the worksheet, where the field's line waits
--- behind the field that isn't there
-abbrev pub checks : World → Op → List (Refusal × Bool)
-checks w (op.Session name tab words) = sheet_refusals (sheet_in w) (op.Session name tab words)
-checks w (op.New after session input) = sheet_refusals (sheet_in w) (op.New after session input)
-checks w (op.Set id input) = second (refusal.InFlight, in_flight w id) (sheet_refusals (sheet_in w) (op.Set id input))
-checks w (op.Remove id) = second (refusal.InFlight, in_flight w id) (sheet_refusals (sheet_in w) (op.Remove id))
-checks w (op.Move id after) = sheet_refusals (sheet_in w) (op.Move id after)
-checks w (op.Clear id) = second (refusal.InFlight, in_flight w id) (sheet_refusals (sheet_in w) (op.Clear id))
-checks w (op.Answer id prompt output) = sheet_refusals (sheet_in w) (op.Answer id prompt output)
-checks w (op.Lost id reason) = sheet_refusals (sheet_in w) (op.Lost id reason)
-checks w (op.Ids number) = sheet_refusals (sheet_in w) (op.Ids number)
-
-abbrev pub op_refusals : World → Op → List (Refusal × Bool)
-op_refusals w o = checks w o ++ full w o ∷ []
-
--- those of an Eval for the sake of its session, where this life of it goes on
-abbrev pub queue_refusals : World → Option Going → List (Refusal × Bool)
-queue_refusals w l = (refusal.QueueFull, queue_is_full l) ∷ (refusal.LivesSpent, lives_are_spent w.begun l) ∷ []
 
 -- those of an Eval behind its field and its line
 abbrev pub eval_refusals : World → ℕ → List (Refusal × Bool)

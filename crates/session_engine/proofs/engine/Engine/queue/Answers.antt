@@ -7,7 +7,7 @@ use Rattle.plugin_core.specs.Limits.{most_waiting}
 use Rattle.session_engine.specs.Limits.{most_lives}
 use Rattle.session_engine.specs.declared.table.Running.{Running}
 use Rattle.session_engine.specs.World.{Going, life_of, waiting_in}
-use Rattle.session_engine.specs.inside.Parts.{queue_refusals}
+use Rattle.session_engine.specs.Refused.{queue_refusals}
 use Rattle.session_engine.specs.Host.{name_of, life_in}
 use Rattle.session_engine.proofs.Tables.{placed, none, found, not_found}
 use Rattle.session_engine.proofs.engine.Engine.queue.Goals as goal
