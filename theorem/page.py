@@ -22,6 +22,19 @@ LISTED = re.compile(r"use Rattle\.([\w.]+?)\.specs\.([\w.]+?)\.\{(.*)\}")
 RENAMED = re.compile(r"use Rattle\.([\w.]+?)\.specs\.([\w.]+) as (\w+)")
 WORD = re.compile(r"[A-Za-z_][\w'.]*")
 
+# Relations that calls hand on from one to the next, whose own words no reader needs, and why.
+HANDED_ON = {
+    ("session_engine.Host", "IsHost"): "`open` gives it, and each `step` and `play` takes it and gives it again for the world behind the events; "
+    "a relation that meant less would make the contracts promise more. What is seen of a host, its replies, its worksheet and its disk, "
+    "is said in the other words of this page.",
+}
+
+# Values that are computed, and the law that says what each one is: who reads the law needs no line of how.
+BY_LAW = {
+    ("scheme_text.Told", "told_by"): ("scheme_text.Laws", "ToldAsAValue", "told_as_a_value"),
+    ("plugin_core.Answers", "answers_of"): ("plugin_core.AskPoints", "AnswersByAskPoints", "answers_by_ask_points"),
+}
+
 
 @dataclasses.dataclass
 class Definition:
@@ -108,6 +121,11 @@ class Tree:
     def words(self, definition):
         """The words of a definition that name others, each with that."""
         named = {}
+        if definition.key in HANDED_ON:
+            return named
+        if definition.key in BY_LAW:
+            module, law, _ = BY_LAW[definition.key]
+            return {law: (module, law)}
         for line in definition.code():
             for word in WORD.findall(line):
                 key = self.meaning(definition.key[0], word)
@@ -150,7 +168,22 @@ def linked(tree, definition):
 def entry(tree, definition):
     told = " ".join(definition.sentences) or "(its name says it)"
     place = f"../{definition.file}#L{definition.line}"
-    return f'<a id="{anchor(definition.key)}"></a>\n**{definition.key[1]}** ([{definition.key[0]}]({place})): {told}\n<pre>{linked(tree, definition)}</pre>\n'
+    if definition.key in HANDED_ON:
+        told += f". Its words are left out: {HANDED_ON[definition.key]}"
+        return entry_of(definition, place, told, html.escape(definition.lines[0]))
+    if definition.key in BY_LAW:
+        module, law, function = BY_LAW[definition.key]
+        told += f". The law `{function}` says what it is: [{law}](#{anchor((module, law))})"
+        return entry_of(definition, place, told, html.escape(definition.lines[0]))
+    return entry_of(definition, place, told, linked(tree, definition))
+
+
+def entry_of(definition, place, told, code):
+    return f'<a id="{anchor(definition.key)}"></a>\n**{definition.key[1]}** ([{definition.key[0]}]({place})): {told}\n<pre>{code}</pre>\n'
+
+
+def closed(definition):
+    return definition.key in HANDED_ON or definition.key in BY_LAW
 
 
 def page():
@@ -170,9 +203,9 @@ def page():
 
     head = re.sub(r"\{(\w+\.[\w.]+)\}", link, head)
     definitions = tree.order(roots)
-    lines = sum(len(definition.lines) for definition in definitions)
+    lines = sum(1 if closed(definition) else len(definition.lines) for definition in definitions)
     inside = sum(".inside." in definition.key[0] for definition in definitions)
-    counts = f"{len(definitions)} definitions, {lines} lines; {inside} of them are inside of a crate"
+    counts = f"{len(definitions)} definitions, {lines} lines; {inside or 'none'} of them inside of a crate"
     head = head.replace("{counts}", counts)
     return head + "\n" + "\n".join(entry(tree, definition) for definition in definitions), counts
 
