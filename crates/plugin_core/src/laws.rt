@@ -19,7 +19,7 @@ pub fn sends_what_is_asked()
 {}
 
 /// A stream has one reading: its blocks before its fault, and that fault.
-pub fn one_reading()
+pub fn streams_read_one_way()
     ensures { OneReading }
 {
     meta_format::one_reading();
@@ -30,7 +30,7 @@ pub fn one_reading()
 pub fn one_step()
     ensures { OneStep }
 {
-    one_reading();
+    streams_read_one_way();
 }
 
 /// The prompt after any past has at most 1,024 bytes.

@@ -9,14 +9,14 @@ ghost use Rattle.session_engine.specs.Laws.{AnEventDoesOneThing, EachEventHasAnO
 pub fn sessions_are_independent()
     ensures { SessionsAreIndependent }
 {
-    plugin_core::one_reading();
+    plugin_core::streams_read_one_way();
 }
 
 /// So they lead to worksheets that differ in answers of other sessions' fields alone.
 pub fn sessions_see_their_own()
     ensures { SessionsSeeTheirOwn }
 {
-    plugin_core::one_reading();
+    plugin_core::streams_read_one_way();
 }
 
 /// An event that isn't of a session tells nothing of its lives, and has no effect on its child.
@@ -59,14 +59,14 @@ pub fn each_event_has_an_outcome()
 pub fn an_event_does_one_thing()
     ensures { AnEventDoesOneThing }
 {
-    plugin_core::one_reading();
+    plugin_core::streams_read_one_way();
 }
 
 /// What was told of a list of events settles the world that they have led to.
 pub fn outcomes_lead_to_one_world()
     ensures { OutcomesLeadToOneWorld }
 {
-    plugin_core::one_reading();
+    plugin_core::streams_read_one_way();
 }
 
 /// The lives that a host starts are numbered 1, 2 and so on. Of one session at most one goes on.
