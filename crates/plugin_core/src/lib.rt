@@ -12,7 +12,7 @@ mod step;
 
 pub use item::Item;
 pub use laws::{
-    answers_by_ask_points, streams_read_one_way, one_step, sends_what_is_asked, short_prompts,
+    answers_by_ask_points, one_step, sends_what_is_asked, short_prompts, streams_read_one_way,
     tells_the_answer, tells_the_completion, waits_what_is_unanswered,
 };
 pub use life::{AcceptFault, Life};
