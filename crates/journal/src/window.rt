@@ -7,6 +7,7 @@ ghost use Rattle.journal.specs.inside.Reads.{Begins, Fails, Reads, longest_read}
 use crate::OpenCause;
 use disk_model::{Area, Disk, DiskFault};
 use std::alloc::{AllocError, Global};
+use std::mem;
 
 // The most bytes that are read at once.
 const LONGEST_READ: u64 = 65_536;
@@ -23,13 +24,28 @@ pub(crate) struct Window {
     ghost inside: { start + vec_len bytes ≤ limit },
 }
 
-// So many bytes of an area, in one read.
+// Room for so many bytes: that of the buffer, where it has as many.
+fn room_in(alloc: Global, buffer: Vec<u8>, len: u64) -> Result<Vec<u8>, OpenCause>
+    ensures len { IfOk result (λ room. vec_len room ≡ len) }
+    ensures memory { IfErr result (λ cause. cause ≡ OpenCause.OutOfMemory) }
+{
+    if buffer.len() as u64 == len {
+        return Ok(buffer);
+    }
+    match vec![in alloc; 0u8; len as usize] {
+        Ok(room) => Ok(room),
+        Err(_) => Err(OpenCause::OutOfMemory),
+    }
+}
+
+// So many bytes of an area, in one read. They take the buffer's room where it is as long.
 fn read_part<D: Disk>(
     alloc: Global,
     disk: &mut D,
     area: Area,
     at: u64,
     len: u64,
+    buffer: Vec<u8>,
 ) -> Result<Vec<u8>, OpenCause>
     requires short { len ≤ longest_read }
     requires inside { InModel (D.view disk.old)
@@ -41,8 +57,9 @@ fn read_part<D: Disk>(
         (IfOk result (λ bytes. Begins bytes.items
         (drop at (area_of area (bytes_on (D.view disk.old)))))) }
 {
-    let Ok(mut bytes) = vec![in alloc; 0u8; len as usize] else {
-        return Err(OpenCause::OutOfMemory);
+    let mut bytes = match room_in(alloc, buffer, len) {
+        Ok(bytes) => bytes,
+        Err(cause) => return Err(cause),
     };
     match disk.read(area, at, &mut bytes) {
         Ok(()) => Ok(bytes),
@@ -104,12 +121,20 @@ impl Window {
             return Ok(());
         }
         let len = (self.limit - at).min(LONGEST_READ);
-        match read_part(self.alloc, disk, self.area, at, len) {
+        // The bytes that were shown are read over, so that no further read takes fresh memory.
+        let Window {
+            alloc,
+            area,
+            limit,
+            start: _,
+            bytes: buffer,
+        } = mem::replace(self, Window::new(self.alloc, self.area, self.limit));
+        match read_part(alloc, disk, area, at, len, buffer) {
             Ok(bytes) => {
                 *self = Window {
-                    alloc: self.alloc,
-                    area: self.area,
-                    limit: self.limit,
+                    alloc,
+                    area,
+                    limit,
                     start: at,
                     bytes,
                 };

@@ -34,7 +34,12 @@ pub fn is_input(bytes: &[u8]) -> bool
 fn are_input_bytes(bytes: &[u8]) -> bool
     ensures { result ≡ list_all input_byte_test bytes.now }
 {
-    bytes.iter().all(|byte| *byte >= b' ' || *byte == b'\t')
+    // Each byte is looked at, since a loop that stops at the first wrong one takes one after another.
+    let mut are = true;
+    for byte in bytes {
+        are &= *byte >= b' ' || *byte == b'\t';
+    }
+    are
 }
 
 /// Whether these are words to start a session with: 1 to 16, each 1 to 1,024 bytes of UTF-8 with no
