@@ -9,7 +9,7 @@ use crate::files_fault::no_files;
 use crate::{Ending, FilesFault, end_program};
 use child_edge::Children;
 use disk_model::Disk;
-use sheet_check::{Checked, Counts, check};
+use sheet_check::{Checked, Counts, Progress, check};
 use sheet_programs::RunFault;
 use std::alloc::Global;
 use std::io::Write;
@@ -33,26 +33,29 @@ fn end_check<E: Write>(answer: Result<Counts, RunFault>, errors: &mut E) -> Endi
 }
 
 /// Checks the worksheet on a disk, and drops the disk at the end.
-fn check_on<D: Disk, C: Children, W: Write, E: Write>(
+fn check_on<D: Disk, C: Children, P: Progress, W: Write, E: Write>(
     alloc: Global,
     disk: D,
     children: &mut C,
+    progress: &mut P,
     output: &mut W,
     errors: &mut E,
 ) -> Ending
     ensures { CheckDone D.view C.after disk children.old children.new W.contents output.old output.new
         E.contents errors.old errors.new result }
 {
-    let Checked { disk: _, answer } = check(alloc, disk, children, output);
+    let Checked { disk: _, answer } = check(alloc, disk, children, progress, output);
     end_check(answer, errors)
 }
 
 /// The whole program `check` on its files, or on why they weren't opened: what differs and the counts
-/// go to `output`, each difference flushed, and the line of a fault to `errors`.
-pub fn run_check<D: Disk, C: Children, W: Write, E: Write>(
+/// go to `output`, each difference flushed, and the line of a fault to `errors`. `progress` shows how far
+/// it is, and nothing at its end.
+pub fn run_check<D: Disk, C: Children, P: Progress, W: Write, E: Write>(
     alloc: Global,
     files: Result<D, FilesFault>,
     children: &mut C,
+    progress: &mut P,
     output: &mut W,
     errors: &mut E,
 ) -> Ending
@@ -60,7 +63,7 @@ pub fn run_check<D: Disk, C: Children, W: Write, E: Write>(
         E.contents errors.old errors.new result }
 {
     match files {
-        Ok(disk) => check_on(alloc, disk, children, output, errors),
+        Ok(disk) => check_on(alloc, disk, children, progress, output, errors),
         Err(why) => end_program(Err(no_files(why)), errors),
     }
 }

@@ -24,6 +24,7 @@ use child_edge::Children;
 use clap::Error;
 use disk_model::Disk;
 use recovery::Rescued;
+use sheet_check::Progress;
 use sheet_export::{Format, format_named, last_part};
 use sheet_programs::RunFault;
 use std::alloc::Global;
@@ -93,10 +94,11 @@ fn show_at<D: Disk, P: Places<D>, W: Write + Drop, E: Write>(
 }
 
 /// `check` of a worksheet's files to the output.
-fn check_over<D: Disk, C: Children, W: Write + Drop, E: Write>(
+fn check_over<D: Disk, C: Children, Q: Progress, W: Write + Drop, E: Write>(
     alloc: Global,
     files: Result<D, FilesFault>,
     children: &mut C,
+    progress: &mut Q,
     output: W,
     errors: &mut E,
 ) -> Ending
@@ -104,17 +106,18 @@ fn check_over<D: Disk, C: Children, W: Write + Drop, E: Write>(
         E.contents errors.old errors.new result }
 {
     match BufWriter::with_capacity(alloc, BUFFER, output) {
-        Ok(mut output) => run_check(alloc, files, children, &mut output, errors),
+        Ok(mut output) => run_check(alloc, files, children, progress, &mut output, errors),
         Err(_) => end_program(Err(RunFault::OutOfMemory), errors),
     }
 }
 
 /// `check` of the worksheet at a path to the output.
-fn check_at<D: Disk, P: Places<D>, C: Children, W: Write + Drop, E: Write>(
+fn check_at<D: Disk, P: Places<D>, C: Children, Q: Progress, W: Write + Drop, E: Write>(
     alloc: Global,
     places: &mut P,
     path: &str,
     children: &mut C,
+    progress: &mut Q,
     output: W,
     errors: &mut E,
 ) -> Ending
@@ -122,7 +125,14 @@ fn check_at<D: Disk, P: Places<D>, C: Children, W: Write + Drop, E: Write>(
         W.contents output E.contents errors.old errors.new result path.now }
 {
     match places.hold() {
-        Ok(()) => check_over(alloc, places.open_to_read(path), children, output, errors),
+        Ok(()) => check_over(
+            alloc,
+            places.open_to_read(path),
+            children,
+            progress,
+            output,
+            errors,
+        ),
         Err(fault) => end_program(Err(fault), errors),
     }
 }
@@ -355,12 +365,13 @@ fn export_at<D: Disk, P: Places<D>, W: Write + Drop, E: Write>(
 
 /// Does a task: `blocks` reads the input, `run` its script and `live` its lines from it; `create`,
 /// `run`, `live`, `show`, `check`, `rescue` and `export` work on the worksheet at the path, once the places of closed streams are held. What they give goes to the
-/// output, and the line of a fault to the errors.
-pub fn do_task<D: Disk, P: Places<D>, R: Read, W: Write + Drop, E: Write, S: Sources>(
+/// output, and the line of a fault to the errors. `check` alone has `progress` show something.
+pub fn do_task<D: Disk, P: Places<D>, R: Read, W: Write + Drop, E: Write, S: Sources, Q: Progress>(
     alloc: Global,
     task: Task<'_>,
     places: &mut P,
     sources: &mut S,
+    progress: &mut Q,
     input: &mut R,
     output: W,
     errors: &mut E,
@@ -398,7 +409,7 @@ pub fn do_task<D: Disk, P: Places<D>, R: Read, W: Write + Drop, E: Write, S: Sou
         ),
         Task::Live(path) => live_at(alloc, places, path, sources, input, output, errors),
         Task::Show(path) => show_at(alloc, places, path, output, errors),
-        Task::Check(path) => check_at(alloc, places, path, sources, output, errors),
+        Task::Check(path) => check_at(alloc, places, path, sources, progress, output, errors),
         Task::Rescue(path, new) => rescue_at(alloc, places, path, new, output, errors),
         Task::Export(format, path) => export_at(alloc, places, format, path, output, errors),
     }
@@ -414,11 +425,12 @@ fn refuse<W: Write + Drop, E: Write>(error: &Error, output: W, errors: &mut E) -
 }
 
 /// Does the task that these words ask for, or tells why there is none.
-fn do_words<D: Disk, P: Places<D>, R: Read, W: Write + Drop, E: Write, S: Sources>(
+fn do_words<D: Disk, P: Places<D>, R: Read, W: Write + Drop, E: Write, S: Sources, Q: Progress>(
     alloc: Global,
     words: Vec<String>,
     places: &mut P,
     sources: &mut S,
+    progress: &mut Q,
     input: &mut R,
     output: W,
     errors: &mut E,
@@ -453,18 +465,29 @@ fn do_words<D: Disk, P: Places<D>, R: Read, W: Write + Drop, E: Write, S: Source
         × Refuses output last E.contents errors.old errors.new result (kind_of error)) }
 {
     match read_words(alloc, words.as_slice()) {
-        Ok(task) => do_task(alloc, task, places, sources, input, output, errors),
+        Ok(task) => do_task(
+            alloc, task, places, sources, progress, input, output, errors,
+        ),
         Err(error) => refuse(&error, output, errors),
     }
 }
 
 /// The whole program: does the task that its words ask for, or tells why there is none. The words may
 /// be missing for this kind of error.
-pub fn run_words<D: Disk, P: Places<D>, R: Read, W: Write + Drop, E: Write, S: Sources>(
+pub fn run_words<
+    D: Disk,
+    P: Places<D>,
+    R: Read,
+    W: Write + Drop,
+    E: Write,
+    S: Sources,
+    Q: Progress,
+>(
     alloc: Global,
     words: Result<Vec<String>, io::ErrorKind>,
     places: &mut P,
     sources: &mut S,
+    progress: &mut Q,
     input: &mut R,
     output: W,
     errors: &mut E,
@@ -505,7 +528,9 @@ pub fn run_words<D: Disk, P: Places<D>, R: Read, W: Write + Drop, E: Write, S: S
         × Refuses output last E.contents errors.old errors.new result (kind_of error))) }
 {
     match words {
-        Ok(words) => do_words(alloc, words, places, sources, input, output, errors),
+        Ok(words) => do_words(
+            alloc, words, places, sources, progress, input, output, errors,
+        ),
         Err(kind) => refuse_unread_words(kind, errors),
     }
 }

@@ -378,4 +378,5 @@ counted 'cases that must differ'
 . ./rescues.sh
 . ./exports.sh
 . ./check.sh
+. ./progress.sh
 . ./strict.sh

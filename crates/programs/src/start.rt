@@ -4,8 +4,9 @@
 use arrivals::Polled;
 use child_edge::Processes;
 use host_cli::{Closed, FilePlaces, end_program, run_words};
+use sheet_check::ProgressLine;
 use sheet_programs::RunFault;
-use std::io::ErrorKind;
+use std::io::{ErrorKind, IsTerminal};
 use std::os::fd::AsRawFd;
 
 /// The words that the program was started with, its own name first.
@@ -23,12 +24,14 @@ pub fn start(rt: &HostRuntime, words: Result<Vec<String>, ErrorKind>) -> u8 {
     let closed = Closed::find(&rt.stdin(), &rt.stdout(), &rt.stderr());
     let children = Processes::new(rt, rt.alloc());
     let input = rt.stdin().as_raw_fd();
+    let terminal = Some(rt.stderr()).filter(|errors| errors.is_terminal());
     let ending = match Polled::new(rt.alloc(), children, input, rt) {
         Ok(mut sources) => run_words(
             rt.alloc(),
             words,
             &mut FilePlaces::new(rt, rt.alloc(), closed),
             &mut sources,
+            &mut ProgressLine::on(rt.alloc(), terminal),
             &mut rt.stdin(),
             rt.stdout(),
             &mut rt.stderr(),

@@ -3,3 +3,4 @@ pub mod Fields
 pub mod Ends
 pub mod Marking
 pub mod Broken
+pub mod Showing

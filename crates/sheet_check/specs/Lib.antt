@@ -2,4 +2,6 @@ pub mod Verdicts
 pub mod Texts
 pub mod Evaluated
 pub mod Check
+pub mod Screen
+pub mod Progress
 pub mod inside

@@ -1,5 +1,5 @@
 //! The check of a worksheet.
-ghost use Rattle.std.specs.Prelude.{◌≡◌, ◌+◌, ◌≤◌, ◌<◌, ◌^◌, List, Err, IfErr, IfOk, Some, length};
+ghost use Rattle.std.specs.Prelude.{◌≡◌, ◌+◌, ◌≤◌, ◌<◌, ◌^◌, List, Err, IfErr, IfOk, OnOk, Some, length};
 ghost use Rattle.std.specs.Io.KnownBytes.{Appends};
 ghost use Rattle.worksheet.specs.declared.op.Op.{Op};
 ghost use Rattle.recovery.specs.Sheets.{Makes};
@@ -10,13 +10,16 @@ ghost use Rattle.disk_model.specs.Disk.{Rises};
 ghost use Rattle.sheet_programs.specs.declared.fault.RunFault.TheVariants as told;
 ghost use Rattle.journal.specs.declared.opening.OpenCause.TheVariants as opens;
 ghost use Rattle.sheet_check.specs.Verdicts.{Compared};
-ghost use Rattle.sheet_check.specs.Texts.{verdict_text};
+ghost use Rattle.sheet_check.specs.Texts.{difference_text, verdict_text};
 ghost use Rattle.sheet_check.specs.Evaluated.{came_if, shown_in};
 ghost use Rattle.sheet_check.specs.Check.{CheckAnswer, OnlyRead, SheetAnswer};
-ghost use Rattle.sheet_check.specs.inside.Checking.{FieldFailed, FieldWrote, FieldsEnded, FieldsFailed, FieldsStopped, FieldsWrote, ShownWrote, Untold, total};
+ghost use Rattle.sheet_check.specs.Progress.{CheckShows, FieldsLeft, FieldsShow, LeavesLine, MakesRoom, SheetShows, answered};
+ghost use Rattle.sheet_check.specs.declared.progress.Sight.TheVariants as sight;
+ghost use Rattle.sheet_check.specs.inside.Checking.{FieldFailed, FieldShown, FieldWrote, FieldsEnded, FieldsFailed, FieldsStopped, FieldsWrote, ShownWrote, Untold, total};
 
 use crate::copying::open_copy;
 use crate::evaluating::{ask, wait_for_all};
+use crate::progress::{Progress, Sight};
 use crate::telling::{tell_counts, tell_difference};
 use crate::verdict::{Counts, Verdict, compare};
 use child_edge::{Children, stop_all};
@@ -29,27 +32,47 @@ use std::alloc::Global;
 use std::io::Write;
 use worksheet::{Answer, Field, Sheet};
 
+/// Takes the line of progress away, and tells a difference.
+fn tell_in_its_place<W: Write, P: Progress>(
+    alloc: Global,
+    field: &Field,
+    came: &Option<Answer>,
+    progress: &mut P,
+    writer: &mut W,
+) -> Result<(), RunFault>
+    ensures ok { OnOk result (Appends (W.contents writer.old) (W.contents writer.new)
+        (difference_text field.now came.now)) }
+    ensures err { IfErr result (Untold (W.contents writer.old) (W.contents writer.new)) }
+    ensures shown { P.shows progress.old sight.Nothing progress.new }
+{
+    progress.show(Sight::Nothing);
+    tell_difference(alloc, field, came, writer)
+}
+
 /// Compares the answer that a field shows with the one that came, and tells a difference.
-fn tell_verdict<W: Write>(
+fn tell_verdict<W: Write, P: Progress>(
     alloc: Global,
     field: &Field,
     shown: &Answer,
     came: &Option<Answer>,
+    progress: &mut P,
     writer: &mut W,
 ) -> Result<Verdict, RunFault>
     ensures ok { IfOk result (λ verdict. Compared shown.now.output came.now verdict
         × Appends (W.contents writer.old) (W.contents writer.new)
         (verdict_text field.now came.now verdict)) }
     ensures err { IfErr result (Untold (W.contents writer.old) (W.contents writer.new)) }
+    ensures room { IfOk result (λ verdict. MakesRoom P.shows verdict progress.old progress.new) }
+    ensures left { IfErr result (λ _. LeavesLine P.shows progress.old progress.new) }
 {
     let verdict = compare(shown, came);
     match verdict {
         Verdict::Same => Ok(Verdict::Same),
-        Verdict::Differs => match tell_difference(alloc, field, came, writer) {
+        Verdict::Differs => match tell_in_its_place(alloc, field, came, progress, writer) {
             Ok(()) => Ok(Verdict::Differs),
             Err(fault) => Err(fault),
         },
-        Verdict::Unanswered => match tell_difference(alloc, field, came, writer) {
+        Verdict::Unanswered => match tell_in_its_place(alloc, field, came, progress, writer) {
             Ok(()) => Ok(Verdict::Unanswered),
             Err(fault) => Err(fault),
         },
@@ -57,12 +80,13 @@ fn tell_verdict<W: Write>(
 }
 
 /// The same with the answer that the field shows on the copy now, which came where its line was asked.
-fn tell_what_came<D: Disk, W: Write>(
+fn tell_what_came<D: Disk, W: Write, P: Progress>(
     alloc: Global,
     host: &Host<D>,
     field: &Field,
     shown: &Answer,
     asked: bool,
+    progress: &mut P,
     writer: &mut W,
 ) -> Result<Verdict, RunFault>
     ensures ok { (w : World) → IsHost host.now w → IfOk result (λ verdict.
@@ -70,23 +94,26 @@ fn tell_what_came<D: Disk, W: Write>(
         × Appends (W.contents writer.old) (W.contents writer.new)
         (verdict_text field.now (came_if asked (shown_in w field.now.id)) verdict)) }
     ensures err { IfErr result (Untold (W.contents writer.old) (W.contents writer.new)) }
+    ensures room { IfOk result (λ verdict. MakesRoom P.shows verdict progress.old progress.new) }
+    ensures left { IfErr result (λ _. LeavesLine P.shows progress.old progress.new) }
 {
     if !asked {
-        return tell_verdict(alloc, field, shown, &None, writer);
+        return tell_verdict(alloc, field, shown, &None, progress, writer);
     }
     match host.sheet().field(field.id) {
-        None => tell_verdict(alloc, field, shown, &None, writer),
-        Some(now) => tell_verdict(alloc, field, shown, &now.answer, writer),
+        None => tell_verdict(alloc, field, shown, &None, progress, writer),
+        Some(now) => tell_verdict(alloc, field, shown, &now.answer, progress, writer),
     }
 }
 
 /// Evaluates a field that shows this answer, and tells where another one came, or none.
-fn check_shown<D: Disk, C: Children, W: Write>(
+fn check_shown<D: Disk, C: Children, W: Write, P: Progress>(
     alloc: Global,
     host: &mut Host<D>,
     children: &mut C,
     field: &Field,
     shown: &Answer,
+    progress: &mut P,
     writer: &mut W,
 ) -> Result<Verdict, RunFault>
     requires { field.now.answer ≡ Some shown.now }
@@ -96,6 +123,8 @@ fn check_shown<D: Disk, C: Children, W: Write>(
     ensures err { (w : World) → IsHost host.old w → IfErr result (FieldFailed C.after field.now
         (at w children.old host.old.store.disk) host.new children.new
         (W.contents writer.old) (W.contents writer.new)) }
+    ensures room { IfOk result (λ verdict. MakesRoom P.shows verdict progress.old progress.new) }
+    ensures left { IfErr result (λ _. LeavesLine P.shows progress.old progress.new) }
 {
     let asked = match ask(alloc, host, children, field.id) {
         Ok(asked) => asked,
@@ -104,16 +133,27 @@ fn check_shown<D: Disk, C: Children, W: Write>(
     if let Err(fault) = wait_for_all(alloc, host, children) {
         return Err(fault);
     }
-    tell_what_came(alloc, host, field, shown, asked, writer)
+    tell_what_came(alloc, host, field, shown, asked, progress, writer)
 }
 
-/// Checks a field, where it shows an answer. The counts with what that came to.
-fn check_field<D: Disk, C: Children, W: Write>(
+/// Shows the counts behind a field that was checked, and hands them out.
+fn show_counts<P: Progress>(counts: Counts, all: u32, progress: &mut P) -> Counts
+    ensures same { result ≡ counts }
+    ensures shown { P.shows progress.old (sight.Line counts all) progress.new }
+{
+    progress.show(Sight::Line { counts, all });
+    counts
+}
+
+/// Checks a field, where it shows an answer. The counts with what that came to, which are shown.
+fn check_field<D: Disk, C: Children, W: Write, P: Progress>(
     alloc: Global,
     host: &mut Host<D>,
     children: &mut C,
     field: &Field,
     counts: Counts,
+    all: u32,
+    progress: &mut P,
     writer: &mut W,
 ) -> Result<Counts, RunFault>
     requires { total counts < 2 ^ 31 }
@@ -124,22 +164,26 @@ fn check_field<D: Disk, C: Children, W: Write>(
     ensures err { (w : World) → IsHost host.old w → IfErr result (FieldFailed C.after field.now
         (at w children.old host.old.store.disk) host.new children.new
         (W.contents writer.old) (W.contents writer.new)) }
+    ensures shown { IfOk result (λ after. FieldShown P.shows all counts after progress.old progress.new) }
+    ensures left { IfErr result (λ _. LeavesLine P.shows progress.old progress.new) }
 {
     match &field.answer {
         None => Ok(counts),
-        Some(shown) => match check_shown(alloc, host, children, field, shown, writer) {
-            Ok(verdict) => Ok(counts.with(verdict)),
+        Some(shown) => match check_shown(alloc, host, children, field, shown, progress, writer) {
+            Ok(verdict) => Ok(show_counts(counts.with(verdict), all, progress)),
             Err(fault) => Err(fault),
         },
     }
 }
 
 /// Checks the fields of a worksheet in their order.
-fn check_fields<D: Disk, C: Children, W: Write>(
+fn check_fields<D: Disk, C: Children, W: Write, P: Progress>(
     alloc: Global,
     sheet: &Sheet,
     host: &mut Host<D>,
     children: &mut C,
+    all: u32,
+    progress: &mut P,
     writer: &mut W,
 ) -> Result<Counts, RunFault>
     requires { length sheet.now.contents.fields < 2 ^ 31 }
@@ -149,11 +193,14 @@ fn check_fields<D: Disk, C: Children, W: Write>(
     ensures err { (w : World) → IsHost host.old w → IfErr result (FieldsFailed C.after
         sheet.now.contents.fields (at w children.old host.old.store.disk) host.new children.new
         (W.contents writer.old) (W.contents writer.new)) }
+    ensures shown { IfOk result (λ counts.
+        FieldsShow P.shows all progress.old counts progress.new) }
+    ensures left { IfErr result (λ _. FieldsLeft P.shows all progress.old progress.new) }
 {
     let mut counts = Counts::none();
     let mut fields = sheet.fields();
     while let Some(field) = fields.next() {
-        match check_field(alloc, host, children, field, counts, writer) {
+        match check_field(alloc, host, children, field, counts, all, progress, writer) {
             Ok(after) => counts = after,
             Err(fault) => return Err(fault),
         }
@@ -161,12 +208,28 @@ fn check_fields<D: Disk, C: Children, W: Write>(
     Ok(counts)
 }
 
-/// The same, and each life that goes on is stopped then.
-fn check_and_stop<D: Disk, C: Children, W: Write>(
+/// How many fields of a worksheet show an answer.
+fn count_answered(sheet: &Sheet) -> u32
+    requires { length sheet.now.contents.fields < 2 ^ 31 }
+    ensures { result ≡ answered sheet.now.contents.fields }
+{
+    let mut count: u32 = 0;
+    let mut fields = sheet.fields();
+    while let Some(field) = fields.next() {
+        if field.answer.is_some() {
+            count += 1;
+        }
+    }
+    count
+}
+
+/// The same, and then the line of progress is taken away, and each life that goes on is stopped.
+fn check_and_stop<D: Disk, C: Children, W: Write, P: Progress>(
     alloc: Global,
     sheet: &Sheet,
     host: &mut Host<D>,
     children: &mut C,
+    progress: &mut P,
     writer: &mut W,
 ) -> Result<Counts, RunFault>
     requires { length sheet.now.contents.fields < 2 ^ 31 }
@@ -176,29 +239,37 @@ fn check_and_stop<D: Disk, C: Children, W: Write>(
     ensures err { (w : World) → IsHost host.old w → IfErr result (FieldsStopped C.after
         sheet.now.contents.fields (at w children.old host.old.store.disk) children.new
         (W.contents writer.old) (W.contents writer.new)) }
+    ensures shown { SheetShows P.shows (answered sheet.now.contents.fields)
+        progress.old progress.new result }
 {
-    let counted = check_fields(alloc, sheet, host, children, writer);
+    let all = count_answered(sheet);
+    let counted = check_fields(alloc, sheet, host, children, all, progress, writer);
+    progress.show(Sight::Nothing);
     stop_all(host, children);
     counted
 }
 
 /// Checks a worksheet on a copy of it, and tells the counts.
-fn check_sheet<C: Children, W: Write>(
+fn check_sheet<C: Children, W: Write, P: Progress>(
     alloc: Global,
     sheet: &Sheet,
     children: &mut C,
+    progress: &mut P,
     writer: &mut W,
 ) -> Result<Counts, RunFault>
     requires { (ops : List Op) × Makes ops sheet.now.contents }
-    ensures { SheetAnswer C.after sheet.now.contents children.old children.new
+    ensures checked { SheetAnswer C.after sheet.now.contents children.old children.new
         (W.contents writer.old) (W.contents writer.new)
         ((writer.new ≡ writer.old) × (children.new ≡ children.old)) result }
+    ensures shown { SheetShows P.shows (answered sheet.now.contents.fields)
+        progress.old progress.new result }
 {
     worksheet::laws::ops_make_worksheets();
     let Some(mut host) = open_copy(alloc, sheet) else {
+        progress.show(Sight::Nothing);
         return Err(RunFault::OutOfMemory);
     };
-    match check_and_stop(alloc, sheet, &mut host, children, writer) {
+    match check_and_stop(alloc, sheet, &mut host, children, progress, writer) {
         Ok(counts) => match tell_counts(counts, writer) {
             Ok(()) => Ok(counts),
             Err(fault) => Err(fault),
@@ -223,16 +294,20 @@ pub struct Checked<D: Disk> {
 /// (docs/CHECK.md). A field whose evaluation gave no answer is counted as unanswered, and the next one
 /// is checked with a new interpreter.
 ///
+/// Behind each field that was checked `progress` shows how far the check is. That is taken away before a
+/// difference is written, at the end, before the counts, and at a fault.
+///
 /// At the end and at a fault each life that goes on is stopped. The disk is only read, and the
 /// worksheet there stays as it is.
 ///
 /// `Open` where the disk isn't opened: nothing was done. `OutOfMemory`, also where the copy has no
 /// room in memory, and `Host` where the host of the copy has another fault: what was told before is
 /// written. `Output` where the writer fails: a part of the text may have gone out.
-pub fn check<D: Disk, C: Children, W: Write>(
+pub fn check<D: Disk, C: Children, W: Write, P: Progress>(
     alloc: Global,
     disk: D,
     children: &mut C,
+    progress: &mut P,
     writer: &mut W,
 ) -> Checked<D>
     ensures checked { CheckAnswer C.after (D.view disk) children.old children.new
@@ -240,13 +315,15 @@ pub fn check<D: Disk, C: Children, W: Write>(
         ((writer.new ≡ writer.old) × (children.new ≡ children.old)) result.answer }
     ensures read { OnlyRead (D.view disk) (D.view result.disk) }
 
+    ensures shown { CheckShows P.shows (D.view disk) progress.old progress.new result.answer }
+
     // That the disk failed is told only where it did.
     ensures failed { result.answer ≡ Err (told.Open opens.Disk)
         → Rises (D.view disk).faults (D.view result.disk).faults }
 {
     match Store::open(alloc, disk) {
         Ok(store) => {
-            let answer = check_sheet(alloc, store.sheet(), children, writer);
+            let answer = check_sheet(alloc, store.sheet(), children, progress, writer);
             Checked {
                 disk: store.into_disk(),
                 answer,

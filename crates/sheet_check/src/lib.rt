@@ -5,8 +5,10 @@
 mod checking;
 mod copying;
 mod evaluating;
+mod progress;
 mod telling;
 mod verdict;
 
 pub use checking::{Checked, check};
+pub use progress::{NoProgress, Progress, ProgressLine, Sight};
 pub use verdict::{Counts, Verdict};

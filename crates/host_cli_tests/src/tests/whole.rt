@@ -5,6 +5,7 @@ use super::words::words;
 use arrivals::ScriptedSources;
 use child_edge::Scripted;
 use host_cli::{Closed, Ending, FilePlaces, hold_closed, run_words};
+use sheet_check::NoProgress;
 use sheet_programs::RunFault;
 use std::alloc::Global;
 use std::fs;
@@ -94,6 +95,7 @@ fn ends(rt: &HostRuntime, texts: &[&str], script: &[u8], text: &[u8]) -> bool {
         words(alloc, texts).map_err(|_| ErrorKind::OutOfMemory),
         &mut places,
         &mut sources,
+        &mut NoProgress,
         &mut input,
         &mut output,
         &mut errors,

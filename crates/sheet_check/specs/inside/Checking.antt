@@ -1,5 +1,5 @@
 -- What the functions of a check promise each other. No public contract names this.
-use Rattle.std.specs.Prelude.{◌≡◌, ◌+◌, ℕ, List, [], ◌∷◌, ◌++◌, Option}
+use Rattle.std.specs.Prelude.{◌≡◌, ◌+◌, ◌⊎◌, ℕ, List, [], ◌∷◌, ◌++◌, Option}
 use Rattle.session_engine.specs.declared.event.Event.{Event}
 use Rattle.session_engine.specs.declared.outcome.HostFault.TheVariants as hosts
 use Rattle.child_edge.specs.declared.serving.EdgeCause.{EdgeCause}
@@ -25,6 +25,9 @@ use Rattle.sheet_check.specs.Verdicts.{Compared, counted_with, counts_of}
 use Rattle.sheet_check.specs.Texts.{verdict_text}
 use Rattle.sheet_check.specs.Evaluated.{Evaluated, FieldChecked, FieldsChecked}
 use Rattle.sheet_check.specs.Check.{FirstLed, FirstUpTo, NotOfDisk}
+use Rattle.sheet_check.specs.declared.progress.Sight.{Sight}
+use Rattle.sheet_check.specs.declared.progress.Sight.TheVariants as sight
+use Rattle.sheet_check.specs.Progress.{MakesRoom}
 
 -- the fault of a check by why its edge broke off
 abbrev pub fault_of_cause : EdgeCause → RunFault
@@ -141,3 +144,8 @@ pub record FieldsStopped {C : Type 0} (R : Relation C) (fields : List Field) (s 
   pub checked : FieldsChecked R gone s verdicts text mid
   pub ended : FirstStopped R left mid d why
   pub wrote : LeavesText a b text why
+
+-- A field was passed over, and nothing shown, or it came to a verdict, and the line stands with the counts behind it.
+abbrev pub FieldShown : {P : Type 0} → (P → Sight → P → Type 0) → ℕ → Counts → Counts → P → P → Type 0
+FieldShown {P = P} S all counts after p q = ((after ≡ counts) × (q ≡ p))
+    ⊎ ((one : Verdict) × (free : P) × (after ≡ counted_with one counts) × MakesRoom S one p free × S free (sight.Line after all) q)

@@ -1,6 +1,9 @@
+use Rattle.std.proofs.Common.{subst}
 use Rattle.std.proofs.lemmas.Result.{IfErr-weaker, IfOk-weaker}
 use Rattle.child_edge.specs.Faithful.{at}
+use Rattle.sheet_check.specs.Progress.{SheetShows}
 use Rattle.sheet_check.proofs.Ends.{fields_ended, fields_stopped}
+use Rattle.sheet_check.proofs.Showing.{sheet_shows}
 use Rattle.sheet_check.proofs.checking.check_and_stop.Goals as goal
 
 pub returns-clause-ok : goal.returns-clause-ok
@@ -16,3 +19,8 @@ returns-clause-err g c = λ w h.
     (λ why p. fields_stopped g.C.Children.after c.args.sheet.now.contents.fields (at w c.args.children.now c.args.host.now.store.disk) c.check_fields-counted.new.host c.check_fields-counted.new.children c.stop_all.new.children
     (g.W.Write.contents c.args.writer.now) (g.W.Write.contents c.check_fields-counted.new.writer) why (c.stop_all.ensures.working, c.stop_all.ensures.stopped) p)
     (c.check_fields-counted.ensures.err w h)
+
+pub returns-clause-shown : goal.returns-clause-shown
+returns-clause-shown g c =
+    subst (λ all. SheetShows g.P.Progress.shows all c.args.progress.now c.show.new.self c.check_fields-counted.result) c.count_answered-all.ensures
+    (sheet_shows g.P.Progress.shows c.count_answered-all.result c.args.progress.now c.check_fields-counted.result c.check_fields-counted.new.progress c.show.new.self c.check_fields-counted.ensures.shown c.check_fields-counted.ensures.left c.show.ensures)

@@ -1,4 +1,6 @@
+use Rattle.std.proofs.Common.{◌∙◌, inr, subst, sym}
 use Rattle.child_edge.specs.Faithful.{at}
+use Rattle.sheet_check.specs.declared.progress.Sight.TheVariants as sight
 use Rattle.sheet_check.proofs.Fields.{field_checked, field_passed}
 use Rattle.sheet_check.proofs.checking.check_field.Goals as goal
 
@@ -9,4 +11,13 @@ returns-in-None-clause-ok g c = λ w h.
 pub returns-in-Ok-clause-ok : goal.returns-in-Ok-clause-ok
 returns-in-Ok-clause-ok g c = λ w h.
     field_checked g.C.Children.after c.args.field.now c.in-Some.shown (at w c.args.children.now c.args.host.now.store.disk) c.check_shown.new.host c.check_shown.new.children (g.W.Write.contents c.args.writer.now)
-    (g.W.Write.contents c.check_shown.new.writer) c.args.counts c.with.result c.in-Ok.verdict c.in-Some.is (c.in-Ok.ensures.ok w h) c.with.ensures
+    (g.W.Write.contents c.check_shown.new.writer) c.args.counts c.show_counts.result c.in-Ok.verdict c.in-Some.is (c.in-Ok.ensures.ok w h) (c.show_counts.ensures.same ∙ c.with.ensures)
+
+pub returns-in-Ok-clause-shown : goal.returns-in-Ok-clause-shown
+returns-in-Ok-clause-shown g c = inr (
+  c.in-Ok.verdict,
+  c.check_shown.new.progress,
+  c.show_counts.ensures.same ∙ c.with.ensures,
+  c.in-Ok.ensures.room,
+  subst (λ x. g.P.Progress.shows c.check_shown.new.progress (sight.Line x c.args.all) c.show_counts.new.progress) (sym c.show_counts.ensures.same) c.show_counts.ensures.shown,
+)

@@ -1,4 +1,4 @@
-use Rattle.std.proofs.Common.{◌∙◌, refl, subst}
+use Rattle.std.proofs.Common.{◌∙◌, subst}
 use Rattle.disk_model.specs.Disk.{bytes_on, max_room}
 use Rattle.session_engine.specs.World.{world_at_opening}
 use Rattle.session_engine.specs.Host.{IsHost}

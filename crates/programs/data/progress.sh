@@ -1,0 +1,50 @@
+# The line of progress: what `check` shows on standard error where that is a terminal, and that nothing else shows it. The worksheets are
+# made as in check.sh.
+
+# A case of what a terminal is sent that is standard error of the program: NAME STATUS TEXT WORDS. A terminal has a carriage return before
+# each end of a line.
+sends() {
+    name=$1 want=$(printf "$3"; echo "status $2")
+    shift 3
+    compare "$name" "$(python3 screen.py sent text "$tmhost" "$@"; echo "status $?")" "$want"
+}
+
+# Five fields: one is answered as before, one differs, one's interpreter hangs up, the next one's is gone, and the last is as before.
+cp suite.sh gone.sh
+chmod 755 gone.sh
+sed -i '1i #!/bin/sh' gone.sh
+made "$a"'session b plain ./gone.sh b\nnew 0 a one\nnew 1 a differs\nnew 2 a hangs\nnew 3 b four\nnew 4 a five\nnew 5 a not evaluated\neval 1\neval 2\neval 3\neval 4\neval 5\nwait\n'
+rm -f gone.sh
+told='#2 a\na] differs\n- differs\n+ another\n#3 a\na] hangs\n- hangs\n+ ?\n#4 b\nb] four\n- four\n+ ?\nsame 2 differ 1 unanswered 2\n'
+sends 'a suite on a terminal' 1 \
+    '\r1 of 5\033[K\r\033[K\r2 of 5, 1 differs\033[K\r\033[K\r3 of 5, 1 differs, 1 unanswered\033[K\r\033[K\r4 of 5, 1 differs, 2 unanswered\033[K\r5 of 5, 1 differs, 2 unanswered\033[K\r\033[K' \
+    check sheet
+compare 'a suite on a terminal, told' "$(cat text)" "$(printf "$told")"
+compare 'a suite and its progress on one terminal' "$(python3 screen.py left - "$tmhost" check sheet; echo "status $?")" "$(ending "$told" 1)"
+"$tmhost" check sheet >text 2>errors
+compare 'no progress in a file' "$? $(wc -c <errors) $(cat text)" "$(printf "1 0 $told")"
+compare 'no progress in a pipe' "$({ "$tmhost" check sheet 2>&1 >text; } | wc -c) $(cat text)" "$(printf "0 $told")"
+compare 'no progress where the output alone is a terminal' "$(python3 screen.py sent - sh -c '"$0" check sheet 2>errors' "$tmhost" | tr -d '\r'; wc -c <errors)" \
+    "$(printf "$told"; echo 0)"
+
+# Fields that differ more than once, and lines that are longer than the next.
+checked 'two that differ' "$a"'new 0 a differs\nnew 1 a differs\neval 1\neval 2\nwait\n' 1 \
+    '#1 a\na] differs\n- differs\n+ another\n#2 a\na] differs\n- differs\n+ another\nsame 0 differ 2 unanswered 0\n'
+sends 'two that differ, on a terminal' 1 '\r\033[K\r1 of 2, 1 differs\033[K\r\033[K\r2 of 2, 2 differ\033[K\r\033[K' check sheet
+
+# Where no field shows an answer, and at faults: the output can't be written, and there is no worksheet.
+made ''
+sends 'an empty worksheet on a terminal' 0 '\r\033[K' check sheet
+made "$a"'new 0 a one\nnew 1 a differs\neval 1\neval 2\nwait\n'
+compare 'a fault on a terminal' "$(python3 screen.py sent /dev/full "$tmhost" check sheet; echo "status $?")" \
+    "$(printf '\r1 of 2\033[K\r\033[K\r\033[Kfault 42 Output\r\n'; echo 'status 1')"
+compare 'a fault on a screen' "$(python3 screen.py left /dev/full "$tmhost" check sheet; echo "status $?")" "$(printf 'fault 42 Output\n'; echo 'status 1')"
+sends 'no worksheet, on a terminal' 1 'fault 32 Disk\r\n' check nowhere
+
+# No other program shows it.
+sends 'show on a terminal' 0 '' show sheet
+sends 'run on a terminal' 0 '' run sheet
+sends 'live on a terminal' 0 '' live sheet
+rm -f again sent lives
+
+counted progress

@@ -1,0 +1,48 @@
+"""Runs a program whose standard error is a terminal: `screen.py HOW OUTPUT WORD ..`. Its standard output is the file OUTPUT, or that
+terminal too where OUTPUT is `-`. What the terminal was sent is written where HOW is `sent`, and where it is `left`, the lines that stand
+on its screen at the end. The status is the program's."""
+
+import os
+import re
+import subprocess
+import sys
+
+
+def sent_to_terminal(output, words):
+    """What a terminal was sent by a program, and the program's status."""
+    ours, terminal = os.openpty()
+    with os.fdopen(terminal, "wb") as errors, open(os.devnull if output == "-" else output, "wb") as file:
+        child = subprocess.Popen(words, stdin=subprocess.DEVNULL, stdout=errors if output == "-" else file, stderr=errors)
+    sent = b""
+    while True:
+        try:
+            piece = os.read(ours, 65536)
+        except OSError:  # the system's word for a terminal that nobody writes to any more
+            break
+        if not piece:
+            break
+        sent += piece
+    return sent, child.wait()
+
+
+def left_on_screen(sent):
+    """The lines of a screen that was sent this: text, carriage returns, new lines, and what clears the rest of a line."""
+    lines, column = [""], 0
+    for part in re.findall(r"\r|\n|\x1b\[K|.", sent):
+        if part == "\r":
+            column = 0
+        elif part == "\n":
+            lines.append("")
+        elif part == "\x1b[K":
+            lines[-1] = lines[-1][:column]
+        else:
+            lines[-1] = lines[-1][:column] + part + lines[-1][column + 1 :]
+            column += 1
+    return "\n".join(lines)
+
+
+how, output, *words = sys.argv[1:]
+sent, status = sent_to_terminal(output, words)
+sys.stdout.buffer.write(left_on_screen(sent.decode()).encode() if how == "left" else sent)
+sys.stdout.flush()
+sys.exit(status)

@@ -1,0 +1,12 @@
+use Rattle.std.proofs.Common.{ap, length, arith}
+use Rattle.sheet_check.specs.Progress.{answered}
+use Rattle.sheet_check.proofs.checking.count_answered.Goals as goal
+
+pub loop-field-init : goal.loop-field-init
+loop-field-init c =
+    let all = ap length c.fields-fields.ensures in
+    let sum = ap answered c.fields-fields.ensures in
+    record { few = omega (arith, all); sum = omega (arith, sum) }
+
+pub overflow_add-count : goal.overflow_add-count
+overflow_add-count c = omega (arith, ap length c.in-Some.ensures.steps, c.loop-field.invariant.few, c.requires)

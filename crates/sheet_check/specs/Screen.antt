@@ -1,0 +1,29 @@
+-- What the line of progress looks like: the bytes that go to a terminal.
+use Rattle.std.specs.Prelude.{◌≡◌, ◌+◌, ◌⊎◌, ℕ, List, [], ◌∷◌, ◌++◌, Option, Some, None, codes, nat_eq, if◌then◌else◌}
+use Rattle.std.specs.Fmt.{decimal}
+use Rattle.std.specs.Io.KnownBytes.{Appends}
+use Rattle.sheet_check.specs.declared.progress.Sight.{Sight}
+use Rattle.sheet_check.specs.declared.progress.Sight.TheVariants as sight
+
+-- how many differ, where some do
+abbrev pub differ_part : ℕ → List ℕ
+differ_part n = if nat_eq n 0 then [] else (if nat_eq n 1 then codes ", 1 differs" else codes ", " ++ decimal n ++ codes " differ")
+
+-- how many were left unanswered, where some were
+abbrev pub unanswered_part : ℕ → List ℕ
+unanswered_part n = if nat_eq n 0 then [] else codes ", " ++ decimal n ++ codes " unanswered"
+
+-- what clears the rest of a terminal's line
+abbrev pub clear_rest : List ℕ
+clear_rest = 27 ∷ codes "[K"
+
+-- What is written: back to the beginning of the line (13), there how far the check is, and the rest of the line is cleared; where nothing
+-- is to be seen, all of it.
+abbrev pub sight_text : Sight → List ℕ
+sight_text (sight.Line counts all) =
+    13 ∷ decimal (counts.same + counts.differ + counts.unanswered) ++ codes " of " ++ decimal all ++ differ_part counts.differ ++ unanswered_part counts.unanswered ++ clear_rest
+sight_text sight.Nothing = 13 ∷ clear_rest
+
+-- A line over a writer showed this: its bytes went out. Where there is no writer, or it was given up, nothing did.
+abbrev pub LineShows : {W : Type 0} → (W → Option (List ℕ)) → Option W → Sight → Option W → Type 0
+LineShows {W = W} contents old seen new = (new ≡ None) ⊎ ((a : W) × (b : W) × (old ≡ Some a) × (new ≡ Some b) × Appends (contents a) (contents b) (sight_text seen))
