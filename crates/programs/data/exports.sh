@@ -293,4 +293,17 @@ for format in script markdown html; do
 done
 words 'a format that there is none of' 2 "error: there is no such format: FORMAT is script, markdown or html\n\nFor more information, try 'tmhost export --help'.\n" export HTML area
 words 'no format' 2 "error: there is no such format: FORMAT is script, markdown or html\n\nFor more information, try 'tmhost export --help'.\n" export '' area
+
+# A worksheet that another has, and outputs that can't be written.
+talk
+say 'session a plain sh\nnew 0 a x\n# held\nprint 1\n'
+hears 'a worksheet in use, held' 'ok\nfield 1\n#1 a\n> x\n?\n'
+for format in script markdown html; do
+    words "$format of a worksheet in use" 1 'fault 35 InUse\n' export $format sheet
+done
+hang_up 'a worksheet in use' '' '#1 a\n> x\n?\n'
+for format in script markdown html; do
+    "$tmhost" export $format sheet >/dev/full 2>errors
+    compare "$format on a full output" "$? $(cat errors)" '1 fault 42 Output'
+done
 counted exports
