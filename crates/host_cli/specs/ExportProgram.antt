@@ -4,7 +4,7 @@ use Rattle.std.specs.Io.KnownBytes.{Appends}
 use Rattle.disk_model.specs.Disk.{DiskView, InModel, Looks, Rises, SameDisk, bytes_on}
 use Rattle.journal.specs.declared.opening.OpenCause.TheVariants as opens
 use Rattle.recovery.specs.Sheets.{IsSheetImage}
-use Rattle.sheet_export.specs.Formats.{TellsExport, export_fault_text, has_text, text_in}
+use Rattle.sheet_export.specs.Formats.{ReadsBack, TellsExport, export_fault_text, has_text, text_in}
 use Rattle.sheet_export.specs.declared.fault.ExportFault.{ExportFault}
 use Rattle.sheet_export.specs.declared.fault.ExportFault.TheVariants as exports
 use Rattle.sheet_export.specs.declared.formats.Format.{Format}
@@ -34,6 +34,7 @@ pub record ExportedFrom {D W : Type 0} (view : D → DiskView) (contents : W →
   pub later : D
   pub written : InModel (view disk) ((sheet : Contents) → IsSheetImage sheet (bytes_on (view disk))
       → OnOk answer ((has_text format sheet ≡ true) × Appends (contents old) (contents new) (text_in format title sheet)))
+  pub reads : InModel (view disk) ((sheet : Contents) → IsSheetImage sheet (bytes_on (view disk)) → OnOk answer (ReadsBack format sheet))
   pub found : InModel (view disk) (OnOk answer ((sheet : Contents) × IsSheetImage sheet (bytes_on (view disk))))
   -- that there is no script is told only of a worksheet that has none
   pub without : InModel (view disk) (IsErrOf answer exports.NoScript → (sheet : Contents) × IsSheetImage sheet (bytes_on (view disk)) × (has_text format sheet ≡ false))
@@ -41,7 +42,7 @@ pub record ExportedFrom {D W : Type 0} (view : D → DiskView) (contents : W →
   pub looks : InModel (view disk) (Looks (view disk).history (view later).history)
   -- that the disk failed is told only where it did
   pub failed : IsErrOf answer (exports.Run (fault.Open opens.Disk)) → Rises (view disk).faults (view later).faults
-  pub fault : IfErr answer (TellsExport (view disk) (new ≡ old))
+  pub fault : IfErr answer (TellsExport format (view disk) (new ≡ old))
 
 -- what `export` answers on its files, or on why they weren't opened
 abbrev pub Exports : {D W : Type 0} → (D → DiskView) → (W → Option (List ℕ)) → Format → List ℕ → Result D FilesFault → W → W → ExportAnswer → Type 0
@@ -56,4 +57,4 @@ ExportEnds view files format title written a b said old new ending =
 
 -- what is told of a format that there isn't
 abbrev pub no_format_text : List ℕ
-no_format_text = codes "error: there is no such format: FORMAT is script, markdown or html\n\nFor more information, try 'tmhost export --help'.\n"
+no_format_text = codes "error: there is no such format: FORMAT is script, markdown, html or notebook\n\nFor more information, try 'tmhost export --help'.\n"

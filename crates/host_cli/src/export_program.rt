@@ -77,7 +77,7 @@ pub(crate) fn refuse_format<E: Write>(errors: &mut E) -> Ending
         → Appends (E.contents errors.old) (E.contents errors.new) no_format_text }
 {
     let told = errors.write_all(
-        b"error: there is no such format: FORMAT is script, markdown or html\n\n\
+        b"error: there is no such format: FORMAT is script, markdown, html or notebook\n\n\
         For more information, try 'tmhost export --help'.\n",
     );
     ended(2, told.is_ok())

@@ -120,7 +120,9 @@ script    the lines that make the worksheet anew, for `run` on an empty one: its
 markdown  each input and each output as a block of code; an output that is one\n\
 \x20         formula between dollars as that formula\n\
 html      one page that stands alone, without scripts: prompts, inputs and outputs,\n\
-\x20         all of them as texts\n\n\
+\x20         all of them as texts\n\
+notebook  a notebook of Jupyter: each field as a cell of code, with its output as\n\
+\x20         text, and beside it as the formula where it is one\n\n\
 It reads PATH as `show` does, and writes and makes no file.\n\n\
 Status: 0 where all was written; 1 at a fault; 2 where the words are refused.\n\n\
 Example: tmhost export html sheet.tm >sheet.html";
@@ -224,7 +226,7 @@ fn with_format<'a>(
 {
     plain(alloc, name, about, notes).arg(
         Arg::new(alloc, "FORMAT")
-            .help("What the worksheet is written as: script, markdown or html")
+            .help("What the worksheet is written as: script, markdown, html or notebook")
             .required(true),
     )
 }
@@ -295,7 +297,7 @@ fn tmhost_command<'a>(alloc: Global) -> Result<Command<'a>, AllocError>
     let export = with_format_and_path(
         alloc,
         "export",
-        "Write a worksheet as a script, as Markdown or as a page",
+        "Write a worksheet as a script, Markdown, a page or a notebook",
         EXPORT_NOTES,
     )?;
     let faults = help_alone(alloc, "faults", "What each fault means", FAULTS_NOTES);

@@ -68,7 +68,7 @@ helps show 'Write a worksheet' "Usage: ${tmhost##*/} show <PATH>" 'Example: tmho
 helps check 'Evaluate a worksheet anew, and write what differs' "Usage: ${tmhost##*/} check <PATH>" 'Example: tmhost check sheet.tm' 1
 helps rescue 'Write what stands before a damage to a new worksheet' "Usage: ${tmhost##*/} rescue <PATH> <NEW>" 'Example: tmhost rescue sheet.tm new.tm' 1
 
-helps export 'Write a worksheet as a script, as Markdown or as a page' "Usage: ${tmhost##*/} export <FORMAT> <PATH>" 'Example: tmhost export html sheet.tm >sheet.html' 1
+helps export 'Write a worksheet as a script, Markdown, a page or a notebook' "Usage: ${tmhost##*/} export <FORMAT> <PATH>" 'Example: tmhost export html sheet.tm >sheet.html' 1
 
 # What `help faults` has of each fault that a program tells: its number and its name.
 "$tmhost" help faults >text 2>errors

@@ -1,4 +1,4 @@
-# Exports: worksheets as the lines that make them anew, as Markdown and as pages.
+# Exports: worksheets as the lines that make them anew, as Markdown, as pages and as notebooks.
 
 header='TMWSHEET\001A'
 
@@ -230,6 +230,39 @@ coded 'a formula and a block' 'latex:$x$\002verbatim:y\005' '```' '{latex:$x$y}'
 coded 'a channel latex' 'latex#$x$' '```' '{latex#$x$}'
 coded 'a formula that is no latex' 'html:$x$' '```' '{html:$x$}'
 
+# A cell of a notebook: NUMBER SOURCE OUTPUTS.
+cell() {
+    printf '%s' '{"cell_type":"code","execution_count":null,"id":"field-'"$1"'","metadata":{"tmhost":{"session":"a"}},"outputs":['"$3"'],"source":"'"$2"'"}'
+}
+
+# What stands behind the cells of a notebook, and its status.
+cells_end='],"metadata":{},"nbformat":4,"nbformat_minor":5}status 0'
+
+# A case of a notebook of one field: NAME INPUT BLOCK, the source and the texts of the output in JSON.
+noted() {
+    answered "$2" '> ' "$3"
+    result='{"data":{'"$5"'},"execution_count":null,"metadata":{},"output_type":"execute_result"}'
+    compare "$1" "$(answer export notebook area </dev/null)" '{"cells":['"$(cell 1 "$4" "$result")$cells_end"
+}
+
+noted 'a notebook' '1<2' 'verbatim:true & so' '1<2' '"text/plain":"true & so"'
+noted 'no input in a notebook' '' 'verbatim:A' '' '"text/plain":"A"'
+noted 'no output in a notebook' x 'verbatim:' x '"text/plain":""'
+noted 'an input with a tab in a notebook' 'a\011b' 'verbatim:A' 'a\tb' '"text/plain":"A"'
+noted 'quotes in a notebook' '"a"' 'verbatim:"\\b"' '\"a\"' '"text/plain":"\"\\b\""'
+noted 'lines in a notebook' x 'verbatim:one\n\ttwo\n' x '"text/plain":"one\n\ttwo\n"'
+noted 'control bytes in a notebook' x 'verbatim:a\000\r\033\033\177b' x '"text/plain":"a\\x00\\x0d\\x1b\\x7fb"'
+noted 'stray bytes in a notebook' x 'verbatim:\377a\342\202b\355\240\200' x '"text/plain":"\\xffa\\xe2\\x82b\\xed\\xa0\\x80"'
+noted 'a character that is cut off in a notebook' x 'verbatim:x\360\237\230' x '"text/plain":"x\\xf0\\x9f\\x98"'
+noted 'characters in a notebook' "$(printf 'gr\303\274n')" 'verbatim:\342\202\254\360\237\230\200' "$(printf 'gr\303\274n')" "$(printf '"text/plain":"\342\202\254\360\237\230\200"')"
+noted 'a formula in a notebook' x 'latex:$x^2$' x '"text/latex":"$x^2$","text/plain":"{latex:$x^2$}"'
+noted 'a formula on its own in a notebook' x 'latex:$$\\frac{1}{2}$$' x '"text/latex":"$$\\frac{1}{2}$$","text/plain":"{latex:$$\\frac{1}{2}$$}"'
+noted 'a stray byte in a formula' x 'latex:$\377$' x '"text/latex":"$\\xff$","text/plain":"{latex:$\\xff$}"'
+noted 'an element in a formula in a notebook' x 'latex:$x<b$' x '"text/plain":"{latex:$x<b$}"'
+noted 'a formula and text in a notebook' x 'verbatim:is \002latex:$x$\005' x '"text/plain":"is {latex:$x$}"'
+noted 'a block of HTML in a notebook' x 'html:<b>bold</b>' x '"text/plain":"{html:<b>bold</b>}"'
+noted 'a tag that is markup in a notebook' x '<b>:x' x '"text/plain":"{<b>:x}"'
+
 # Fields without an answer, in their order.
 begin
 put '\002\000\000\000\000\001a\000\001x'
@@ -253,6 +286,7 @@ compare 'their script' "$(answer export script area </dev/null)" 'session a plai
 new 0 a y
 new 1 a x
 status 0'
+compare 'their notebook' "$(answer export notebook area </dev/null)" '{"cells":['"$(cell 2 y ''),$(cell 1 x '')$cells_end"
 
 # Scripts: NAME SCRIPT TEXT. A worksheet that is made by the script is exported as the text; run over an empty worksheet, the text makes
 # one with the same script.
@@ -281,9 +315,10 @@ finish
 compare 'a word with a space' "$(answer export script area </dev/null)" "$(ending 'fault 36 NoScript\n' 1)"
 compare 'its page' "$(fields_of)" "$(printf "$page_end")"
 compare 'its Markdown' "$(answer export markdown area </dev/null)" 'status 0'
+compare 'its notebook' "$(answer export notebook area </dev/null)" '{"cells":['"$cells_end"
 
 # Faults: nothing is written.
-for format in script markdown html; do
+for format in script markdown html notebook; do
     words "$format of a file that is missing" 1 'fault 32 Disk\n' export $format nowhere.tm
     printf 'x' >area
     rm -f area.alt
@@ -291,18 +326,18 @@ for format in script markdown html; do
     printf "$header"'R\000\000\000\001x\000' >area
     words "$format of a damaged worksheet" 1 'fault 30 Damaged 10\n' export $format area
 done
-words 'a format that there is none of' 2 "error: there is no such format: FORMAT is script, markdown or html\n\nFor more information, try 'tmhost export --help'.\n" export HTML area
-words 'no format' 2 "error: there is no such format: FORMAT is script, markdown or html\n\nFor more information, try 'tmhost export --help'.\n" export '' area
+words 'a format that there is none of' 2 "error: there is no such format: FORMAT is script, markdown, html or notebook\n\nFor more information, try 'tmhost export --help'.\n" export HTML area
+words 'no format' 2 "error: there is no such format: FORMAT is script, markdown, html or notebook\n\nFor more information, try 'tmhost export --help'.\n" export '' area
 
 # A worksheet that another has, and outputs that can't be written.
 talk
 say 'session a plain sh\nnew 0 a x\n# held\nprint 1\n'
 hears 'a worksheet in use, held' 'ok\nfield 1\n#1 a\n> x\n?\n'
-for format in script markdown html; do
+for format in script markdown html notebook; do
     words "$format of a worksheet in use" 1 'fault 35 InUse\n' export $format sheet
 done
 hang_up 'a worksheet in use' '' '#1 a\n> x\n?\n'
-for format in script markdown html; do
+for format in script markdown html notebook; do
     "$tmhost" export $format sheet >/dev/full 2>errors
     compare "$format on a full output" "$? $(cat errors)" '1 fault 42 Output'
 done

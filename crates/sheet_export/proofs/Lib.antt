@@ -8,7 +8,7 @@ pub mod ReadLines
 pub mod Scans
 pub mod FencesHold
 pub mod FieldsBehind
-pub mod Pieces
 pub mod Replays
 pub mod SaysOps
 pub mod ScriptRuns
+pub mod Faults

@@ -4,7 +4,6 @@ pub mod Html
 pub mod Script
 pub mod Replay
 pub mod Fences
-pub mod Formulas
 pub mod Markdown
 pub mod inside
 pub mod Laws

@@ -10,7 +10,7 @@ use Rattle.sheet_text.specs.Escape.{on_line}
 use Rattle.sheet_text.specs.Replies.{reason_name}
 use Rattle.sheet_text.specs.Texts.{in_lines}
 use Rattle.sheet_export.specs.Fences.{fenced}
-use Rattle.sheet_export.specs.Formulas.{formula_of}
+use Rattle.sheet_notebook.specs.Formulas.{formula_of}
 
 -- the input, as code of its session
 abbrev pub input_markdown : Field → List ℕ

@@ -5,18 +5,20 @@ ghost use Rattle.disk_model.specs.Disk.{InModel, Looks, Rises, SameDisk, bytes_o
 ghost use Rattle.journal.specs.declared.opening.OpenCause.TheVariants as opens;
 ghost use Rattle.recovery.specs.Sheets.{IsSheetImage};
 ghost use Rattle.sheet_export.specs.Formats as exports;
-ghost use Rattle.sheet_export.specs.Formats.{TellsExport, TellsText};
+ghost use Rattle.sheet_export.specs.Formats.{ReadsBack, TellsExport, TellsText};
 ghost use Rattle.sheet_export.specs.declared.fault.ExportFault.TheVariants as fault;
 ghost use Rattle.sheet_programs.specs.declared.fault.RunFault.TheVariants as run;
 ghost use Rattle.worksheet.specs.Contents.{Contents};
 
 use crate::fault::ExportFault;
+use crate::fixed::write_bytes;
 use crate::html::html_page;
 use crate::markdown::markdown_text;
 use crate::script::{has_script, write_script};
 use disk_model::Disk;
 use journal::OpenFault;
 use recovery::Store;
+use sheet_notebook::notebook_bytes;
 use sheet_programs::RunFault;
 use std::alloc::Global;
 use std::io::Write;
@@ -31,9 +33,11 @@ pub enum Format {
     Markdown,
     /// A page of HTML that stands alone.
     Html,
+    /// A notebook of nbformat 4.5, with its answers as outputs.
+    Notebook,
 }
 
-/// The format of this name: `script`, `markdown` or `html`. None where there is none of it.
+/// The format of this name: `script`, `markdown`, `html` or `notebook`. None where there is none of it.
 pub fn format_named(name: &str) -> Option<Format>
     ensures { result ≡ exports.format_named name.now }
 {
@@ -41,6 +45,7 @@ pub fn format_named(name: &str) -> Option<Format>
         "script" => Some(Format::Script),
         "markdown" => Some(Format::Markdown),
         "html" => Some(Format::Html),
+        "notebook" => Some(Format::Notebook),
         _ => None,
     }
 }
@@ -70,7 +75,7 @@ pub fn script_text<W: Write>(sheet: &Sheet, out: &mut W) -> Result<(), ExportFau
         × Appends (W.contents out.old) (W.contents out.new)
         (exports.text_in Format.Script [] sheet.now.contents)) }
     ensures err { IfErr result
-        (TellsText (exports.has_text Format.Script sheet.now.contents) (out.new ≡ out.old)) }
+        (TellsText Format.Script sheet.now.contents (out.new ≡ out.old)) }
 {
     if !has_script(sheet) {
         return Err(ExportFault::NoScript);
@@ -86,7 +91,7 @@ fn write_markdown<W: Write>(sheet: &Sheet, out: &mut W) -> Result<(), ExportFaul
     ensures ok { OnOk result
         (Appends (W.contents out.old) (W.contents out.new)
         (exports.text_in Format.Markdown [] sheet.now.contents)) }
-    ensures err { IfErr result (TellsText true (out.new ≡ out.old)) }
+    ensures err { IfErr result (TellsText Format.Markdown sheet.now.contents (out.new ≡ out.old)) }
 {
     match markdown_text(sheet, out) {
         Ok(()) => Ok(()),
@@ -99,7 +104,7 @@ fn write_page<W: Write>(title: &[u8], sheet: &Sheet, out: &mut W) -> Result<(), 
     ensures ok { OnOk result
         (Appends (W.contents out.old) (W.contents out.new)
         (exports.text_in Format.Html title.now sheet.now.contents)) }
-    ensures err { IfErr result (TellsText true (out.new ≡ out.old)) }
+    ensures err { IfErr result (TellsText Format.Html sheet.now.contents (out.new ≡ out.old)) }
 {
     match html_page(title, sheet, out) {
         Ok(()) => Ok(()),
@@ -107,8 +112,35 @@ fn write_page<W: Write>(title: &[u8], sheet: &Sheet, out: &mut W) -> Result<(), 
     }
 }
 
+/// Writes a worksheet as a notebook of nbformat 4.5, whose text is made whole before its first byte is
+/// written.
+///
+/// `OutOfMemory` where there is no memory for it: nothing was written. `Output` where the writer fails: a
+/// part of the text may have gone out.
+pub fn write_notebook<W: Write>(
+    alloc: Global,
+    sheet: &Sheet,
+    out: &mut W,
+) -> Result<(), ExportFault>
+    ensures ok { OnOk result
+        (Appends (W.contents out.old) (W.contents out.new)
+        (exports.text_in Format.Notebook [] sheet.now.contents)) }
+    ensures reads { OnOk result (ReadsBack Format.Notebook sheet.now.contents) }
+    ensures err { IfErr result
+        (TellsText Format.Notebook sheet.now.contents (out.new ≡ out.old)) }
+{
+    match notebook_bytes(alloc, sheet) {
+        Err(_) => Err(ExportFault::Run(RunFault::OutOfMemory)),
+        Ok(bytes) => match write_bytes(bytes.as_slice(), out) {
+            Ok(()) => Ok(()),
+            Err(_) => Err(ExportFault::Run(RunFault::Output)),
+        },
+    }
+}
+
 /// Writes a worksheet in a format.
 fn write_in<W: Write>(
+    alloc: Global,
     format: Format,
     title: &[u8],
     sheet: &Sheet,
@@ -117,18 +149,21 @@ fn write_in<W: Write>(
     ensures ok { OnOk result ((exports.has_text format sheet.now.contents ≡ true)
         × Appends (W.contents out.old) (W.contents out.new)
         (exports.text_in format title.now sheet.now.contents)) }
+    ensures reads { OnOk result (ReadsBack format sheet.now.contents) }
     ensures err { IfErr result
-        (TellsText (exports.has_text format sheet.now.contents) (out.new ≡ out.old)) }
+        (TellsText format sheet.now.contents (out.new ≡ out.old)) }
 {
     match format {
         Format::Script => script_text(sheet, out),
         Format::Markdown => write_markdown(sheet, out),
         Format::Html => write_page(title, sheet, out),
+        Format::Notebook => write_notebook(alloc, sheet, out),
     }
 }
 
 /// Writes the same, and brings it out.
 fn tell_in<W: Write>(
+    alloc: Global,
     format: Format,
     title: &[u8],
     sheet: &Sheet,
@@ -137,10 +172,11 @@ fn tell_in<W: Write>(
     ensures ok { OnOk result ((exports.has_text format sheet.now.contents ≡ true)
         × Appends (W.contents out.old) (W.contents out.new)
         (exports.text_in format title.now sheet.now.contents)) }
+    ensures reads { OnOk result (ReadsBack format sheet.now.contents) }
     ensures err { IfErr result
-        (TellsText (exports.has_text format sheet.now.contents) (out.new ≡ out.old)) }
+        (TellsText format sheet.now.contents (out.new ≡ out.old)) }
 {
-    match write_in(format, title, sheet, out) {
+    match write_in(alloc, format, title, sheet, out) {
         Ok(()) => match out.flush() {
             Ok(()) => Ok(()),
             Err(_) => Err(ExportFault::Run(RunFault::Output)),
@@ -161,8 +197,8 @@ pub struct Exported<D: Disk> {
 /// Writes the worksheet that a disk stands for in a format, with this title where the format has one.
 /// The disk is only read: no byte of it changes.
 ///
-/// `Open` where the disk isn't opened, and `NoScript` where the worksheet has no text in this format:
-/// nothing was written. `Output` where the writer fails: a part of the text may have gone out.
+/// `Open` where the disk isn't opened, `NoScript` where the worksheet has no text in this format, and
+/// `OutOfMemory` where there is no memory for a notebook: nothing was written. `Output` where the writer fails: a part of the text may have gone out.
 pub fn export<D: Disk, W: Write>(
     alloc: Global,
     format: Format,
@@ -175,12 +211,15 @@ pub fn export<D: Disk, W: Write>(
         → OnOk result.answer ((exports.has_text format sheet ≡ true)
         × Appends (W.contents writer.old) (W.contents writer.new)
         (exports.text_in format title.now sheet))) }
+    ensures reads { InModel (D.view disk) ((sheet : Contents)
+        → IsSheetImage sheet (bytes_on (D.view disk))
+        → OnOk result.answer (ReadsBack format sheet)) }
     ensures found { InModel (D.view disk) (OnOk result.answer ((sheet : Contents)
         × IsSheetImage sheet (bytes_on (D.view disk)))) }
     ensures without { InModel (D.view disk)
         (IsErrOf result.answer fault.NoScript → (sheet : Contents)
         × IsSheetImage sheet (bytes_on (D.view disk)) × (exports.has_text format sheet ≡ false)) }
-    ensures fault { IfErr result.answer (TellsExport (D.view disk) (writer.new ≡ writer.old)) }
+    ensures fault { IfErr result.answer (TellsExport format (D.view disk) (writer.new ≡ writer.old)) }
 
     // It changes no byte, and at every moment each image is one that a crash could leave at the start.
     ensures same { SameDisk (D.view disk) (D.view result.disk) }
@@ -193,7 +232,7 @@ pub fn export<D: Disk, W: Write>(
 {
     match Store::open(alloc, disk) {
         Ok(store) => {
-            let answer = tell_in(format, title, store.sheet(), writer);
+            let answer = tell_in(alloc, format, title, store.sheet(), writer);
             Exported {
                 disk: store.into_disk(),
                 answer,

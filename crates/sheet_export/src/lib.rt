@@ -1,11 +1,10 @@
-//! A worksheet as it leaves the host: as a page, as Markdown, and as the script that makes it anew.
+//! A worksheet as it leaves the host: as a page, as Markdown, as a notebook, and as the script that makes it anew.
 #![tactic(auto)]
 
 mod fault;
 mod fences;
 mod fixed;
 mod formats;
-mod formulas;
 mod html;
 pub mod laws;
 mod markdown;
@@ -14,6 +13,6 @@ mod script;
 mod style;
 
 pub use fault::{ExportFault, export_fault_text};
-pub use formats::{Exported, Format, export, format_named, last_part, script_text};
+pub use formats::{Exported, Format, export, format_named, last_part, script_text, write_notebook};
 pub use html::html_page;
 pub use markdown::markdown_text;

@@ -8,9 +8,9 @@ ghost use Rattle.sheet_text.specs.Texts.{output_lines};
 
 use crate::fences::{line_fence, output_fence, write_fence};
 use crate::fixed::write_bytes;
-use crate::formulas::formula_of;
 use crate::html::write_reason_name;
 use block_tree::Reason;
+use sheet_notebook::formula_of;
 use sheet_text::{WriteFault, write_line, write_output as write_lines};
 use std::io::Write;
 use worksheet::{Answer, Field, Sheet};

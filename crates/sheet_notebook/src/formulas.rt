@@ -4,7 +4,7 @@ ghost use Rattle.std.specs.List.{list_all};
 ghost use Rattle.std.specs.Option.{option_copied};
 ghost use Rattle.block_tree.specs.Tree.{items_from};
 ghost use Rattle.block_tree.specs.View.{piece_of, tree_of};
-ghost use Rattle.sheet_export.specs.Formulas as formula;
+ghost use Rattle.sheet_notebook.specs.Formulas as formula;
 
 use block_tree::{Block, Item, Node};
 use sheet_text::is_plain;
@@ -120,7 +120,7 @@ fn formula_of_node(node: &Node) -> Option<&[u8]>
 
 /// The formula that an output is, if it is one: a block of the format `latex` with one text, between
 /// single or double dollars, that stays a formula wherever Markdown is read.
-pub(crate) fn formula_of(output: &Block) -> Option<&[u8]>
+pub fn formula_of(output: &Block) -> Option<&[u8]>
     ensures { option_copied result ≡ formula.formula_of output.now }
 {
     formula_of_node(output.node())

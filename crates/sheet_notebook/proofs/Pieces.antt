@@ -2,7 +2,7 @@
 use Rattle.std.proofs.Common.{◌≡◌, ℕ, List, refl, None}
 use Rattle.block_tree.specs.Tree.{Items, Piece, text_piece, block_piece, put, text}
 use Rattle.block_tree.specs.View.{tree_out, piece_text, piece_block}
-use Rattle.sheet_export.specs.Formulas.{formula_in}
+use Rattle.sheet_notebook.specs.Formulas.{formula_in}
 
 pub two_texts : (t : List ℕ) (p : Piece) (rest : Items) → formula_in (text t (put p rest)) ≡ None
 two_texts t (text_piece u) rest = refl

@@ -1,0 +1,5 @@
+pub mod Pieces
+pub mod Adding
+pub mod Blocks
+pub mod Cells
+pub mod Shallow

@@ -1,0 +1,4 @@
+pub mod inside
+pub mod Formulas
+pub mod Strings
+pub mod Notebook

@@ -1,0 +1,9 @@
+//! A worksheet as a notebook, and which of its outputs are formulas.
+#![tactic(auto)]
+
+mod formulas;
+mod notebook;
+mod strings;
+
+pub use formulas::formula_of;
+pub use notebook::notebook_bytes;

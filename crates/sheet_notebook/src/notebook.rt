@@ -1,0 +1,122 @@
+//! A worksheet as a notebook.
+ghost use Rattle.std.specs.Prelude.{◌≡◌, ◌++◌, IfOk, Some, IsUtf8, codes, string_bytes};
+ghost use Rattle.std.specs.Fmt.{decimal};
+ghost use Rattle.serde_json.specs.Read.{read};
+ghost use Rattle.serde_json.specs.View.{view};
+ghost use Rattle.sheet_notebook.specs.Formulas.{formula_of as formula_in};
+ghost use Rattle.sheet_notebook.specs.Notebook as notebook;
+
+use crate::formulas::formula_of;
+use crate::strings::{block_string, string_of};
+use block_tree::Block;
+use serde_json::{Value, json};
+use std::alloc::{AllocError, Global};
+use worksheet::{Answer, Field, Sheet};
+
+/// The id of a cell.
+fn id_of(alloc: Global, number: u32) -> Result<String, AllocError>
+    ensures { IfOk result (λ text. string_bytes text ≡ codes "field-" ++ decimal number) }
+{
+    format!(in alloc; "field-{}", number)
+}
+
+/// A formula where an output is one, and beside it the output as text.
+fn bundle_of(alloc: Global, output: &Block) -> Result<Value, AllocError>
+    ensures { IfOk result (λ value. view value ≡ notebook.bundle (formula_in output.now) output.now) }
+{
+    let plain = block_string(alloc, output)?;
+    match formula_of(output) {
+        None => json!(in alloc; {"text/plain": plain}),
+        Some(formula) => {
+            let latex = string_of(alloc, formula, true)?;
+            json!(in alloc; {"text/latex": latex, "text/plain": plain})
+        }
+    }
+}
+
+/// What an interpreter answered.
+fn result_of(alloc: Global, answer: &Answer) -> Result<Value, AllocError>
+    ensures { IfOk result (λ value. view value ≡ notebook.result_of answer.now) }
+{
+    let bundle = bundle_of(alloc, &answer.output)?;
+    json!(in alloc; {
+        "data": bundle,
+        "execution_count": null,
+        "metadata": {},
+        "output_type": "execute_result"
+    })
+}
+
+/// The outputs of a cell: one, or none of a field without an answer.
+fn outputs_of(alloc: Global, answer: &Option<Answer>) -> Result<Value, AllocError>
+    ensures { IfOk result (λ value. view value ≡ notebook.outputs_of answer.now) }
+{
+    match answer {
+        None => json!(in alloc; []),
+        Some(answer) => {
+            let given = result_of(alloc, answer)?;
+            json!(in alloc; [given])
+        }
+    }
+}
+
+/// The session of a field, under the name of this program.
+fn metadata_of(alloc: Global, field: &Field) -> Result<Value, AllocError>
+    ensures { IfOk result (λ value. view value ≡ notebook.cell_metadata field.now) }
+{
+    let session = string_of(alloc, field.session.as_slice(), true)?;
+    json!(in alloc; {"tmhost": {"session": session}})
+}
+
+/// A field as a cell of code.
+#[tactic(auto, unfolding(crate::specs::Notebook::cell_of))]
+fn cell_of(alloc: Global, field: &Field) -> Result<Value, AllocError>
+    ensures { IfOk result (λ value. view value ≡ notebook.cell_of field.now) }
+{
+    let id = id_of(alloc, field.id)?;
+    let metadata = metadata_of(alloc, field)?;
+    let outputs = outputs_of(alloc, &field.answer)?;
+    let source = string_of(alloc, field.input.as_bytes(), true)?;
+    json!(in alloc; {
+        "cell_type": "code",
+        "execution_count": null,
+        "id": id,
+        "metadata": metadata,
+        "outputs": outputs,
+        "source": source
+    })
+}
+
+/// The cells of the fields, in their order.
+#[tactic(auto, using(crate::proofs::Cells::cell_steps))]
+fn cells_of(alloc: Global, sheet: &Sheet) -> Result<Value, AllocError>
+    ensures { IfOk result (λ value. view value ≡ notebook.cells_of sheet.now.contents.fields) }
+{
+    let mut cells = Vec::new(alloc);
+    let mut fields = sheet.fields();
+    while let Some(field) = fields.next() {
+        let cell = cell_of(alloc, field)?;
+        cells.push(cell)?;
+    }
+    Ok(Value::Array(cells))
+}
+
+/// The notebook of a worksheet.
+fn notebook_of(alloc: Global, sheet: &Sheet) -> Result<Value, AllocError>
+    ensures { IfOk result (λ value. view value ≡ notebook.notebook sheet.now.contents) }
+{
+    let cells = cells_of(alloc, sheet)?;
+    json!(in alloc; {"cells": cells, "metadata": {}, "nbformat": 4, "nbformat_minor": 5})
+}
+
+/// The text of a worksheet as a notebook of nbformat 4.5, whole in memory. What it reads as is the
+/// notebook, by the reader of `serde_json`.
+pub fn notebook_bytes(alloc: Global, sheet: &Sheet) -> Result<Vec<u8>, AllocError>
+    ensures text { IfOk result (λ bytes. bytes.items ≡ notebook.notebook_text sheet.now.contents) }
+    ensures utf8 { IfOk result (λ bytes. IsUtf8 bytes.items) }
+    ensures reads { IfOk result
+        (λ bytes. read bytes.items ≡ Some (notebook.notebook sheet.now.contents)) }
+{
+    let notebook = notebook_of(alloc, sheet)?;
+    notebook.to_vec(alloc)
+}
