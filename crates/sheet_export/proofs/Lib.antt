@@ -11,4 +11,5 @@ pub mod FieldsBehind
 pub mod Replays
 pub mod SaysOps
 pub mod ScriptRuns
+pub mod ScriptsAlike
 pub mod Faults

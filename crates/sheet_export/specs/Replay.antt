@@ -1,10 +1,11 @@
 -- What the lines of a script make of an empty worksheet.
-use Rattle.std.specs.Prelude.{◌≡◌, ℕ, ◌+◌, true, List, [], ◌∷◌, ◌++◌, Some, None, codes, length, map}
-use Rattle.session_engine.specs.Commands.{op_of}
+use Rattle.std.specs.Prelude.{◌≡◌, ◌⊎◌, ℕ, ◌+◌, true, List, [], ◌∷◌, ◌++◌, Some, None, codes, length, map}
+use Rattle.session_engine.specs.Commands.{op_of, reply_to}
 use Rattle.session_engine.specs.declared.command.Command.{Command}
+use Rattle.session_engine.specs.declared.reply.Reply.TheVariants as reply
 use Rattle.sheet_programs.specs.Memory.{LinesRan}
 use Rattle.sheet_text.specs.Script.{line_of}
-use Rattle.sheet_text.specs.Texts.{sheet_text}
+use Rattle.sheet_text.specs.Texts.{reply_text, sheet_text}
 use Rattle.sheet_text.specs.declared.script.ScriptLine.TheVariants as line
 use Rattle.worksheet.specs.Checks.{Allowed}
 use Rattle.worksheet.specs.Contents.{Contents}
@@ -14,6 +15,7 @@ use Rattle.worksheet.specs.Rewrite.{session_op}
 use Rattle.worksheet.specs.declared.field.Field.{Field}
 use Rattle.worksheet.specs.declared.op.Op.{Op}
 use Rattle.worksheet.specs.declared.op.Op.TheVariants as op
+use Rattle.worksheet.specs.declared.refusal.Refusal.TheVariants as refusal
 use Rattle.sheet_export.specs.Script.{has_script, script_of}
 
 -- the ops of the lines of these fields, in front of which stand so many others
@@ -58,3 +60,19 @@ ScriptsSayTheirOps = (sheet : Contents) → IsWorksheet sheet → has_script she
 abbrev pub ScriptsRun : Type 0
 ScriptsRun = (sheet : Contents) → IsWorksheet sheet → has_script sheet ≡ true
     → (told : List ℕ) × LinesRan 1 [] (script_of sheet ++ codes "print" ∷ []) (told ++ sheet_text (anew sheet))
+
+-- what is replied to these ops behind those, where each is done
+abbrev pub replies_of : List Op → List Op → List ℕ
+replies_of before [] = []
+replies_of before (o ∷ os) = reply_text (reply_to (sheet_of before) o) ++ replies_of (before ++ o ∷ []) os
+
+-- The first of these ops were done behind those, and at the next one memory was wanted.
+abbrev pub WantsMemory : List Op → List Op → List ℕ → Type 0
+WantsMemory before ops text = (first : List Op) × (o : Op) × (later : List Op) × (behind : List ℕ) × (ops ≡ first ++ o ∷ later)
+    × (text ≡ replies_of before first ++ (reply_text (reply.Refused refusal.OutOfMemory) ++ behind))
+
+-- Each run of these lines tells that its ops were done, and prints what they make; or at one of them memory was wanted.
+abbrev pub ScriptsRunAlike : Type 0
+ScriptsRunAlike = (sheet : Contents) → IsWorksheet sheet → has_script sheet ≡ true
+    → (text : List ℕ) → LinesRan 1 [] (script_of sheet ++ codes "print" ∷ []) text
+    → (text ≡ replies_of [] (script_ops sheet) ++ sheet_text (anew sheet)) ⊎ WantsMemory [] (script_ops sheet) text

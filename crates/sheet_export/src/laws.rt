@@ -1,6 +1,6 @@
 //! Laws of the definitions that the contracts cite. Each function does nothing: its contract is the
 //! law.
-ghost use Rattle.sheet_export.specs.Replay.{ScriptsMakeThemAnew, ScriptsRun, ScriptsSayTheirOps};
+ghost use Rattle.sheet_export.specs.Replay.{ScriptsMakeThemAnew, ScriptsRun, ScriptsRunAlike, ScriptsSayTheirOps};
 ghost use Rattle.sheet_export.specs.Laws.{FieldLinesAreRead, NoTextClosesItsFence, SessionLinesAreRead, TextsHaveNoMarks};
 
 /// No text of a page has `<`, `>`, `"` or an apostrophe, and each `&` in it begins a reference.
@@ -39,6 +39,15 @@ pub fn scripts_say_their_ops()
     ensures { ScriptsSayTheirOps }
 {
     sheet_text::laws::numbers_are_decimals();
+}
+
+/// Each run of a script's lines over an empty worksheet replies that they were done, and `print` behind
+/// them prints what they make; or memory was wanted at one of them.
+pub fn scripts_run_alike()
+    ensures { ScriptsRunAlike }
+{
+    scripts_make_them_anew();
+    scripts_say_their_ops();
 }
 
 /// A run of a script's lines over an empty worksheet, in which no memory is wanted, makes these, and
