@@ -1,11 +1,3 @@
-pub mod Faults
 pub mod Asked
-pub mod Printed
-pub mod Ending
-pub mod Files
-pub mod Programs
-pub mod RescueProgram
-pub mod CheckProgram
-pub mod ExportProgram
+pub mod Refused
 pub mod Tasks
-pub mod StrictProgram

@@ -11,20 +11,22 @@ use Rattle.disk_model.specs.Disk.{DiskView}
 use Rattle.child_edge.specs.Faithful.{Relation}
 use Rattle.host_cli.specs.Asked.{TaskView}
 use Rattle.host_cli.specs.Asked as asked
+use Rattle.host_cli.specs.Refused.{ShowsText, no_format_text}
 use Rattle.sheet_export.specs.Formats.{format_named, last_part}
 use Rattle.sheet_export.specs.declared.formats.Format.{Format}
-use Rattle.host_cli.specs.ExportProgram.{ExportEnds, no_format_text}
-use Rattle.host_cli.specs.Ending.{BlocksAnswer, ProgramAnswer, ShowsText, TellsFault, status_of}
-use Rattle.host_cli.specs.Faults.{no_files}
+use Rattle.program_endings.specs.ExportProgram.{ExportEnds}
+use Rattle.program_endings.specs.Ending.{BlocksAnswer, ProgramAnswer, TellsFault, status_of}
+use Rattle.program_endings.specs.Faults.{no_files, no_place}
 use Rattle.live.specs.Arrivals.{Watch}
-use Rattle.host_cli.specs.CheckProgram.{CheckEnds}
-use Rattle.host_cli.specs.Programs.{CreateAnswer, Creates, LiveAnswer, RunAnswer, ShowAnswer, TellsCreate, TellsMake, create_status}
-use Rattle.host_cli.specs.RescueProgram.{FilesAreRead, RescueEnds}
-use Rattle.host_cli.specs.StrictProgram.{StrictEnded}
+use Rattle.program_endings.specs.CheckProgram.{CheckEnds}
+use Rattle.program_endings.specs.Programs.{CreateAnswer, Creates, LiveAnswer, RunAnswer, ShowAnswer, TellsCreate, TellsMake, create_status}
+use Rattle.program_endings.specs.RescueProgram.{FilesAreRead, RescueEnds}
+use Rattle.program_endings.specs.StrictProgram.{StrictEnded}
 use Rattle.recovery.specs.declared.rescuing.Rescued.{Rescued}
-use Rattle.host_cli.specs.declared.ending.Ending.{Ending}
-use Rattle.host_cli.specs.declared.files_fault.FilesFault.{FilesFault}
-use Rattle.host_cli.specs.declared.files_fault.MakeFault.{MakeFault}
+use Rattle.program_endings.specs.declared.ending.Ending.{Ending}
+use Rattle.sheet_files.specs.declared.files_fault.FilesFault.{FilesFault}
+use Rattle.sheet_files.specs.declared.files_fault.HoldFault.{HoldFault}
+use Rattle.sheet_files.specs.declared.files_fault.MakeFault.{MakeFault}
 use Rattle.sheet_programs.specs.declared.fault.RunFault.{RunFault}
 use Rattle.sheet_programs.specs.declared.fault.RunFault.TheVariants as fault
 
@@ -33,9 +35,9 @@ abbrev pub EndsWith : {E : Type 0} → (E → Option (List ℕ)) → E → E →
 EndsWith said old new ending answer = (ending.status ≡ status_of answer) × TellsFault said old new ending.told answer
 
 -- The places of the standard streams are held before anything else is done. Where they can't be, that is the fault.
-abbrev pub HeldFirst : {P : Type 0} → (P → Result Unit RunFault → P → Type 0) → P → P → (RunFault → Type 0) → (P → Type 0) → Type 0
+abbrev pub HeldFirst : {P : Type 0} → (P → Result Unit HoldFault → P → Type 0) → P → P → (RunFault → Type 0) → (P → Type 0) → Type 0
 HeldFirst {P = P} holds old new faulted then =
-    ((f : RunFault) × holds old (Err f) new × faulted f) ⊎ ((held : P) × holds old (Ok tt) held × then held)
+    ((f : HoldFault) × holds old (Err f) new × faulted (no_place f)) ⊎ ((held : P) × holds old (Ok tt) held × then held)
 
 -- The program ran with an empty buffer before its output, or memory for that was refused.
 abbrev pub Buffered : {W : Type 0} → W → (BufWriter W Global → BufWriter W Global → Type 0) → Type 0 → Type 0
@@ -92,7 +94,7 @@ BlocksTo stream written output said old new ending =
     Buffered output (λ first last. BlocksEnds stream (writer_contents written) first last said old new ending) (EndsWith said old new ending (Err fault.OutOfMemory))
 
 -- `create` of what the places make at a path
-abbrev pub CreateAt : {P D E : Type 0} → (P → Result Unit RunFault → P → Type 0) → (P → List ℕ → Result D MakeFault → P → Type 0) → (D → DiskView)
+abbrev pub CreateAt : {P D E : Type 0} → (P → Result Unit HoldFault → P → Type 0) → (P → List ℕ → Result D MakeFault → P → Type 0) → (D → DiskView)
     → P → P → (E → Option (List ℕ)) → E → E → Ending → Text → Type 0
 CreateAt {D = D} holds creates view p q said old new ending path =
     HeldFirst holds p q (λ why. EndsWith said old new ending (Err why))
@@ -104,7 +106,7 @@ ShowTo view files written output said old new ending =
     Buffered output (λ first last. ShowEnds view files (writer_contents written) first last said old new ending) (EndsWith said old new ending (Err fault.OutOfMemory))
 
 -- `show` of what the places open to read at a path
-abbrev pub ShowAt : {P D W E : Type 0} → (P → Result Unit RunFault → P → Type 0) → (P → List ℕ → Result D FilesFault → P → Type 0) → (D → DiskView)
+abbrev pub ShowAt : {P D W E : Type 0} → (P → Result Unit HoldFault → P → Type 0) → (P → List ℕ → Result D FilesFault → P → Type 0) → (D → DiskView)
     → P → P → (W → Option (List ℕ)) → W → (E → Option (List ℕ)) → E → E → Ending → Text → Type 0
 ShowAt {D = D} holds reads view p q written output said old new ending path =
     HeldFirst holds p q (λ why. EndsWith said old new ending (Err why))
@@ -117,7 +119,7 @@ CheckTo view R files c d written output said old new ending =
     ((d ≡ c) × EndsWith said old new ending (Err fault.OutOfMemory))
 
 -- `check` of what the places open to read at a path
-abbrev pub CheckAt : {P D C W E : Type 0} → (P → Result Unit RunFault → P → Type 0) → (P → List ℕ → Result D FilesFault → P → Type 0) → (D → DiskView) → Relation C
+abbrev pub CheckAt : {P D C W E : Type 0} → (P → Result Unit HoldFault → P → Type 0) → (P → List ℕ → Result D FilesFault → P → Type 0) → (D → DiskView) → Relation C
     → P → P → C → C → (W → Option (List ℕ)) → W → (E → Option (List ℕ)) → E → E → Ending → Text → Type 0
 CheckAt {D = D} holds reads view R p q c d written output said old new ending path =
     HeldFirst holds p q (λ why. (d ≡ c) × EndsWith said old new ending (Err why))
@@ -130,7 +132,7 @@ RunTo strict view R unread stream files c d written output said old new ending =
     ((d ≡ c) × EndsWith said old new ending (Err fault.OutOfMemory))
 
 -- `run` over what the places open at a path
-abbrev pub RunAt : {P D C W E : Type 0} → Bool → (P → Result Unit RunFault → P → Type 0) → (P → List ℕ → Result D FilesFault → P → Type 0) → (D → DiskView) → Relation C → Type 0 → Option (List ℕ)
+abbrev pub RunAt : {P D C W E : Type 0} → Bool → (P → Result Unit HoldFault → P → Type 0) → (P → List ℕ → Result D FilesFault → P → Type 0) → (D → DiskView) → Relation C → Type 0 → Option (List ℕ)
     → P → P → C → C → (W → Option (List ℕ)) → W → (E → Option (List ℕ)) → E → E → Ending → Text → Type 0
 RunAt {D = D} strict holds opens view R unread stream p q c d written output said old new ending path =
     HeldFirst holds p q (λ why. (d ≡ c) × EndsWith said old new ending (Err why))
@@ -146,7 +148,7 @@ RescueFrom {D = D} {W = W} creates view files p q written output said old new en
     (λ why. (q ≡ p) × EndsWith said old new ending (Err why))
 
 -- `rescue` of what the places open to read at a path, to a new one
-abbrev pub RescueAt : {P D W E : Type 0} → (P → Result Unit RunFault → P → Type 0) → (P → List ℕ → Result D FilesFault → P → Type 0) → (P → List ℕ → Result D MakeFault → P → Type 0) → (D → DiskView)
+abbrev pub RescueAt : {P D W E : Type 0} → (P → Result Unit HoldFault → P → Type 0) → (P → List ℕ → Result D FilesFault → P → Type 0) → (P → List ℕ → Result D MakeFault → P → Type 0) → (D → DiskView)
     → P → P → (W → Option (List ℕ)) → W → (E → Option (List ℕ)) → E → E → Ending → Text → Text → Type 0
 RescueAt {P = P} {D = D} holds reads creates view p q written output said old new ending path to =
     HeldFirst holds p q (λ why. EndsWith said old new ending (Err why))
@@ -158,7 +160,7 @@ ExportTo view files format title written output said old new ending =
     Buffered output (λ first last. ExportEnds view files format title (writer_contents written) first last said old new ending) (EndsWith said old new ending (Err fault.OutOfMemory))
 
 -- `export` of what the places open to read at a path, whose last part is the title
-abbrev pub ExportFrom : {P D W E : Type 0} → (P → Result Unit RunFault → P → Type 0) → (P → List ℕ → Result D FilesFault → P → Type 0) → (D → DiskView)
+abbrev pub ExportFrom : {P D W E : Type 0} → (P → Result Unit HoldFault → P → Type 0) → (P → List ℕ → Result D FilesFault → P → Type 0) → (D → DiskView)
     → P → P → (W → Option (List ℕ)) → W → (E → Option (List ℕ)) → E → E → Ending → Text → Format → Type 0
 ExportFrom {D = D} holds reads view p q written output said old new ending path format =
     HeldFirst holds p q (λ why. EndsWith said old new ending (Err why))
@@ -169,7 +171,7 @@ abbrev pub RefusesFormat : {P E : Type 0} → P → P → (E → Option (List �
 RefusesFormat p q said old new ending = (q ≡ p) × (ending.status ≡ 2) × (ending.told ≡ true → Appends (said old) (said new) no_format_text)
 
 -- `export` in the format of this name
-abbrev pub ExportAt : {P D W E : Type 0} → (P → Result Unit RunFault → P → Type 0) → (P → List ℕ → Result D FilesFault → P → Type 0) → (D → DiskView)
+abbrev pub ExportAt : {P D W E : Type 0} → (P → Result Unit HoldFault → P → Type 0) → (P → List ℕ → Result D FilesFault → P → Type 0) → (D → DiskView)
     → P → P → (W → Option (List ℕ)) → W → (E → Option (List ℕ)) → E → E → Ending → Text → Text → Type 0
 ExportAt holds reads view p q written output said old new ending name path =
     MatchOption (format_named name) (RefusesFormat p q said old new ending) (ExportFrom holds reads view p q written output said old new ending path)
@@ -181,7 +183,7 @@ LiveTo view R watch unread stream files c d written output said old new ending =
     ((d ≡ c) × EndsWith said old new ending (Err fault.OutOfMemory))
 
 -- `live` over what the places open at a path
-abbrev pub LiveAt : {P D C W E : Type 0} → (P → Result Unit RunFault → P → Type 0) → (P → List ℕ → Result D FilesFault → P → Type 0) → (D → DiskView) → Relation C → Watch C → Type 0 → Option (List ℕ)
+abbrev pub LiveAt : {P D C W E : Type 0} → (P → Result Unit HoldFault → P → Type 0) → (P → List ℕ → Result D FilesFault → P → Type 0) → (D → DiskView) → Relation C → Watch C → Type 0 → Option (List ℕ)
     → P → P → C → C → (W → Option (List ℕ)) → W → (E → Option (List ℕ)) → E → E → Ending → Text → Type 0
 LiveAt {D = D} holds opens view R watch unread stream p q c d written output said old new ending path =
     HeldFirst holds p q (λ why. (d ≡ c) × EndsWith said old new ending (Err why))

@@ -7,25 +7,26 @@ ghost use Rattle.host_cli.specs.Asked.{asked_by, task_view, tmhost};
 ghost use Rattle.host_cli.specs.Tasks.{BlocksTo, ByTask, CheckAt, CheckTo, CreateAt, EndsWith, ExportAt, ExportFrom, ExportTo, LiveAt, LiveTo, Refuses, RescueAt, RescueFrom, RunAt, RunTo, ShowAt, ShowTo};
 ghost use Rattle.sheet_export.specs.Formats.{last_part as last_part_of};
 ghost use Rattle.sheet_programs.specs.declared.fault.RunFault.TheVariants as fault;
-ghost use Rattle.host_cli.specs.RescueProgram.{RescueEnds};
-ghost use Rattle.host_cli.specs.declared.files_fault.MakeFault.{MakeFault};
+ghost use Rattle.program_endings.specs.RescueProgram.{RescueEnds};
+ghost use Rattle.sheet_files.specs.declared.files_fault.MakeFault.{MakeFault};
 ghost use Rattle.host_cli.specs.declared.words.Task.{Task};
 ghost use Rattle.recovery.specs.Sheets.{Makes};
 ghost use Rattle.worksheet.specs.declared.op.Op.{Op};
 
-use crate::export_program::refuse_format;
-use crate::{
-    Ending, FilesFault, Places, Task, end_program, read_rescued, read_words, refuse_unread_words,
-    refuse_words, run_blocks, run_check, run_create, run_export, run_live, run_rescue, run_script,
-    run_show, run_strictly,
-};
+use crate::refusing::refuse_format;
+use crate::{Task, read_words, refuse_unread_words, refuse_words};
 use arrivals::Sources;
 use child_edge::Children;
 use clap::Error;
 use disk_model::Disk;
+use program_endings::{
+    Ending, end_program, end_unheld, read_rescued, run_blocks, run_check, run_create, run_export,
+    run_live, run_rescue, run_script, run_show, run_strictly,
+};
 use recovery::Rescued;
 use sheet_check::Progress;
 use sheet_export::{Format, format_named, last_part};
+use sheet_files::{FilesFault, Places};
 use sheet_programs::RunFault;
 use std::alloc::Global;
 use std::io;
@@ -57,7 +58,7 @@ fn create_at<D: Disk, P: Places<D>, E: Write>(places: &mut P, path: &str, errors
 {
     match places.hold() {
         Ok(()) => run_create(places.create(path), errors),
-        Err(fault) => end_program(Err(fault), errors),
+        Err(why) => end_unheld(why, errors),
     }
 }
 
@@ -89,7 +90,7 @@ fn show_at<D: Disk, P: Places<D>, W: Write + Drop, E: Write>(
 {
     match places.hold() {
         Ok(()) => show_on(alloc, places.open_to_read(path), output, errors),
-        Err(fault) => end_program(Err(fault), errors),
+        Err(why) => end_unheld(why, errors),
     }
 }
 
@@ -133,7 +134,7 @@ fn check_at<D: Disk, P: Places<D>, C: Children, Q: Progress, W: Write + Drop, E:
             output,
             errors,
         ),
-        Err(fault) => end_program(Err(fault), errors),
+        Err(why) => end_unheld(why, errors),
     }
 }
 
@@ -187,7 +188,7 @@ fn run_at<D: Disk, P: Places<D>, R: Read, W: Write + Drop, E: Write, C: Children
             places.open(path),
             children,
         ),
-        Err(fault) => end_program(Err(fault), errors),
+        Err(why) => end_unheld(why, errors),
     }
 }
 
@@ -225,7 +226,7 @@ fn live_at<D: Disk, P: Places<D>, R: Read, W: Write + Drop, E: Write, S: Sources
 {
     match places.hold() {
         Ok(()) => live_over(alloc, input, output, errors, places.open(path), sources),
-        Err(fault) => end_program(Err(fault), errors),
+        Err(why) => end_unheld(why, errors),
     }
 }
 
@@ -282,7 +283,7 @@ fn rescue_at<D: Disk, P: Places<D>, W: Write + Drop, E: Write>(
             let files = places.open_to_read(path);
             rescue_from(alloc, places, files, new, output, errors)
         }
-        Err(fault) => end_program(Err(fault), errors),
+        Err(why) => end_unheld(why, errors),
     }
 }
 
@@ -341,7 +342,7 @@ fn export_from<D: Disk, P: Places<D>, W: Write + Drop, E: Write>(
             output,
             errors,
         ),
-        Err(fault) => end_program(Err(fault), errors),
+        Err(why) => end_unheld(why, errors),
     }
 }
 

@@ -1,4 +1,4 @@
-//! The tests of `host_cli`.
+//! The tests of `host_cli`, `program_endings` and `sheet_files`.
 #![tactic(auto)]
 
 #[cfg(test)]

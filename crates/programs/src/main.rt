@@ -7,7 +7,7 @@
 
 mod start;
 
-use host_cli::end_program;
+use program_endings::end_program;
 use sheet_programs::run_memory;
 use std::io;
 use std::process::{Command, ExitCode};

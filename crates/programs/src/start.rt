@@ -3,8 +3,10 @@
 //! `.ci/run` compares the two.
 use arrivals::Polled;
 use child_edge::Processes;
-use host_cli::{Closed, FilePlaces, end_program, run_words};
+use host_cli::run_words;
+use program_endings::end_program;
 use sheet_check::ProgressLine;
+use sheet_files::{Closed, FilePlaces};
 use sheet_programs::RunFault;
 use std::io::{ErrorKind, IsTerminal};
 use std::os::fd::AsRawFd;

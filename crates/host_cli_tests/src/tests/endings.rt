@@ -2,7 +2,8 @@
 use super::failing::{Full, Parts, Unflushed};
 use super::words::refusal;
 use clap::Error;
-use host_cli::{Ending, refuse_unread_words, refuse_words, run_blocks};
+use host_cli::{refuse_unread_words, refuse_words};
+use program_endings::{Ending, run_blocks};
 use std::alloc::Global;
 use std::io;
 use std::io::Write;

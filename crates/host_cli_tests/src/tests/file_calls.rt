@@ -1,8 +1,8 @@
 //! The calls that a disk of two files makes on them.
 use super::made_up::{Calls, Locks, MadeUp, There};
 use disk_model::{Area, Disk};
-use host_cli::{FileDisk, FilesFault, MakeFault};
 use journal::CreateCause;
+use sheet_files::{FileDisk, FilesFault, MakeFault};
 use std::alloc::Global;
 use std::io::ErrorKind;
 

@@ -1,7 +1,8 @@
 //! The two files of a worksheet, in folders of the tests' own.
 use super::programs::{has, shows_path};
-use host_cli::{Ending, FileDisk, FilesFault, MakeFault, run_create};
 use journal::CreateCause;
+use program_endings::{Ending, run_create};
+use sheet_files::{FileDisk, FilesFault, MakeFault};
 use std::fs::{File, Permissions};
 use std::os::unix::fs::{PermissionsExt, symlink};
 use std::test::Fail;

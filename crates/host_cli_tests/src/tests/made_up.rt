@@ -1,5 +1,5 @@
 //! Files that are made up: each call on them is listed, and they hold nothing.
-use host_cli::{Identity, Lock, SheetFile};
+use sheet_files::{Identity, Lock, SheetFile};
 use std::alloc::{Allocator, Global};
 use std::cell::{Cell, RefCell};
 use std::fmt::Write;

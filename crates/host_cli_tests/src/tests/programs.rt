@@ -1,8 +1,9 @@
 //! How `create` and `show` end, over disks in memory and over files.
 use super::failing::{Full, Unflushed};
 use disk_model::{FuseDisk, FuseMode, MemoryDisk};
-use host_cli::{Ending, FileDisk, FilesFault, MakeFault, run_create, run_show};
 use journal::CreateCause;
+use program_endings::{Ending, run_create, run_show};
+use sheet_files::{FileDisk, FilesFault, MakeFault};
 use std::alloc::Global;
 use std::fs;
 use std::io::Write;

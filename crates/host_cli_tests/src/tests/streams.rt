@@ -1,6 +1,6 @@
 //! Streams that are read in parts of three bytes, and readers and writers that fail.
 use super::failing::{Full, InterruptedOnce, Parts, Unflushed};
-use host_cli::blocks;
+use program_endings::blocks;
 use sheet_programs::RunFault;
 use std::alloc::Global;
 use std::io::{Read, Write};

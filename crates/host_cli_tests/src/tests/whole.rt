@@ -4,9 +4,10 @@ use super::programs::has;
 use super::words::words;
 use arrivals::ScriptedSources;
 use child_edge::Scripted;
-use host_cli::{Closed, Ending, FilePlaces, hold_closed, run_words};
+use host_cli::run_words;
+use program_endings::Ending;
 use sheet_check::NoProgress;
-use sheet_programs::RunFault;
+use sheet_files::{Closed, FilePlaces, HoldFault, hold_closed};
 use std::alloc::Global;
 use std::fs;
 use std::io::ErrorKind;
@@ -43,7 +44,7 @@ const ALL: Closed = Closed {
 };
 
 // What comes of it to hold the places of closed streams, where the first opens fail, by these calls.
-fn holds(alloc: Global, closed: Closed, shut: u32, lines: &str) -> Option<Result<(), RunFault>> {
+fn holds(alloc: Global, closed: Closed, shut: u32, lines: &str) -> Option<Result<(), HoldFault>> {
     let calls = Calls::new(alloc);
     calls.shut.set(shut);
     let runtime = MadeUp {
@@ -76,9 +77,9 @@ fn a_place_is_held_by_what_there_is(rt: HostRuntime) {
     assert!(rt; holds(rt.alloc(), OUTPUT, 1, here) == Some(Ok(())));
     assert!(rt; holds(rt.alloc(), INPUT, 2, write) == Some(Ok(())));
     assert!(rt; holds(rt.alloc(), OUTPUT, 2, read) == Some(Ok(())));
-    assert!(rt; holds(rt.alloc(), INPUT, 3, write) == Some(Err(RunFault::Input)));
-    assert!(rt; holds(rt.alloc(), OUTPUT, 3, read) == Some(Err(RunFault::Output)));
-    assert!(rt; holds(rt.alloc(), ERRORS, 3, read) == Some(Err(RunFault::Output)));
+    assert!(rt; holds(rt.alloc(), INPUT, 3, write) == Some(Err(HoldFault::Input)));
+    assert!(rt; holds(rt.alloc(), OUTPUT, 3, read) == Some(Err(HoldFault::Output)));
+    assert!(rt; holds(rt.alloc(), ERRORS, 3, read) == Some(Err(HoldFault::Output)));
 }
 
 // Whether the program ends so over real files, with this script, and writes this on its output.

@@ -1,0 +1,85 @@
+//! How the program ends where its words ask for nothing that there is.
+ghost use Rattle.std.specs.Prelude.{◌≡◌, ◌≢◌, ◌⊎◌, Err, true};
+ghost use Rattle.std.specs.Io.KnownBytes.{Appends};
+ghost use Rattle.std.specs.declared.io.ErrorKind.TheVariants as io_kind;
+ghost use Rattle.clap.specs.Words.{kind_of};
+ghost use Rattle.clap.specs.declared.error.kind.ErrorKind.TheVariants as kind;
+ghost use Rattle.host_cli.specs.Refused.{ShowsText, no_format_text};
+ghost use Rattle.program_endings.specs.Ending.{TellsFault};
+ghost use Rattle.sheet_programs.specs.declared.fault.RunFault.TheVariants as fault;
+
+use clap::error::ErrorKind;
+use program_endings::{Ending, end_program};
+use sheet_programs::RunFault;
+use std::io;
+use std::io::Write;
+
+/// The end of a program whose words are refused.
+fn refused(told: bool) -> Ending
+    ensures { result ≡ record { status = 2; told = told } }
+{
+    Ending { status: 2, told }
+}
+
+/// Ends the program where `clap` gave no task for its words: help that was asked for goes to `output`,
+/// and why the words are refused to `errors`. Help that can't be written is `Output`, and want of
+/// memory is told as the program's own.
+pub fn refuse_words<W: Write, E: Write>(
+    error: &clap::Error,
+    output: &mut W,
+    errors: &mut E,
+) -> Ending
+    ensures memory { kind_of error.now ≡ kind.OutOfMemory
+        → (output.new ≡ output.old) × (result.status ≡ 1)
+        × TellsFault E.contents errors.old errors.new result.told (Err fault.OutOfMemory) }
+    ensures shown { ShowsText (kind_of error.now)
+        → ((result.status ≡ 0) × (errors.new ≡ errors.old))
+        ⊎ ((result.status ≡ 1)
+        × TellsFault E.contents errors.old errors.new result.told (Err fault.Output)) }
+
+    // Whatever becomes of the text.
+    ensures refused { kind_of error.now ≢ kind.OutOfMemory → (ShowsText (kind_of error.now) → ⊥)
+        → (output.new ≡ output.old) × (result.status ≡ 2) }
+{
+    match error.kind() {
+        ErrorKind::OutOfMemory => end_program(Err(RunFault::OutOfMemory), errors),
+        ErrorKind::DisplayHelp | ErrorKind::DisplayVersion => {
+            if write!(output, "{error}").is_err() || output.flush().is_err() {
+                return end_program(Err(RunFault::Output), errors);
+            }
+            Ending {
+                status: 0,
+                told: true,
+            }
+        }
+        _ => refused(write!(errors, "{error}").is_ok()),
+    }
+}
+
+/// Ends the program where its words can't be had: a word that is not UTF-8 gives status 2 without a
+/// text, and want of memory is told.
+pub fn refuse_unread_words<E: Write>(kind: io::ErrorKind, errors: &mut E) -> Ending
+    ensures memory { kind ≡ io_kind.OutOfMemory
+        → (result.status ≡ 1)
+        × TellsFault E.contents errors.old errors.new result.told (Err fault.OutOfMemory) }
+    ensures refused { kind ≢ io_kind.OutOfMemory
+        → (errors.new ≡ errors.old) × (result.status ≡ 2) }
+{
+    match kind {
+        io::ErrorKind::OutOfMemory => end_program(Err(RunFault::OutOfMemory), errors),
+        _ => refused(true),
+    }
+}
+
+/// Refuses words that ask for a format that there isn't.
+pub(crate) fn refuse_format<E: Write>(errors: &mut E) -> Ending
+    ensures status { result.status ≡ 2 }
+    ensures told { result.told ≡ true
+        → Appends (E.contents errors.old) (E.contents errors.new) no_format_text }
+{
+    let told = errors.write_all(
+        b"error: there is no such format: FORMAT is script, markdown, html or notebook\n\n\
+        For more information, try 'tmhost export --help'.\n",
+    );
+    refused(told.is_ok())
+}

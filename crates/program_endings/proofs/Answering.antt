@@ -1,0 +1,35 @@
+-- What a program answers, by what its call answered.
+use Rattle.std.proofs.Common.{◌≡◌, ℕ, List, Option, refl, ap, true}
+use Rattle.std.specs.Prelude.{Result, Ok, Err, IfOk, IfErr, IsErrOf}
+use Rattle.disk_model.specs.Disk.{DiskView, SameDisk}
+use Rattle.journal.specs.declared.opening.OpenCause.TheVariants as opens
+use Rattle.session_engine.specs.declared.outcome.HostFault.TheVariants as hosts
+use Rattle.child_edge.specs.Faithful.{Relation}
+use Rattle.live.specs.Arrivals.{Watch}
+use Rattle.live.specs.Live.{LiveDone, TellsLive}
+use Rattle.sheet_programs.specs.Faults.{FailedSince}
+use Rattle.sheet_programs.specs.declared.fault.RunFault.{RunFault}
+use Rattle.sheet_programs.specs.declared.fault.RunFault.TheVariants as fault
+use Rattle.sheet_programs.proofs.Runs.{err_same}
+use Rattle.program_endings.specs.Ending.{ProgramAnswer}
+use Rattle.program_endings.specs.Programs.{LiveAnswer, answer_of}
+
+module _ {D C : Type 0} (view : D → DiskView) (R : Relation C) (W : Watch C) (stream : Option (List ℕ)) (disk : D) (c d : C) (a b : Option (List ℕ)) (nothing : Type 0) where
+  pub live_answered : (r : Result D RunFault) → IfOk r (λ back. LiveDone R W stream (view disk) c d a b (view back)) → IfOk r (λ back. SameDisk (view disk) (view back))
+      → IfErr r (TellsLive R W stream (view disk) c d a b nothing) → (IsErrOf r (fault.Open opens.Disk) → FailedSince view disk) → (IsErrOf r (fault.Host hosts.Disk) → FailedSince view disk)
+      → LiveAnswer view R W stream disk c d a b nothing (answer_of r)
+  live_answered (Ok back) lived same told unopened failed = record {
+    lived = (refl, (back, same, lived));
+    unopened = λ e. no-error (fault.Open opens.Disk) e;
+    failed = λ e. no-error (fault.Host hosts.Disk) e;
+    fault = tt;
+  }
+    where
+      no-error : {P : Type 0} (why : RunFault) → IsErrOf {T = Rattle.std.specs.Prelude.Bool} (Ok true) why → P
+      no-error why e = absurd cc
+  live_answered (Err why) lived same told unopened failed = record {
+    lived = tt;
+    unopened = λ e. unopened (ap (λ x. Err x) (err_same _ why (fault.Open opens.Disk) refl e));
+    failed = λ e. failed (ap (λ x. Err x) (err_same _ why (fault.Host hosts.Disk) refl e));
+    fault = told;
+  }

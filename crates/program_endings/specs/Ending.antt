@@ -1,0 +1,36 @@
+-- How a program ends: its exit status, and what it says on which stream.
+use Rattle.std.specs.Prelude.{◌≡◌, ◌<◌, ◌≤◌, ℕ, Bool, true, false, List, Option, Result, Ok, Err, IfOk, IfErr, IfSome, IsErrOf, length}
+use Rattle.std.specs.Io.KnownBytes.{Appends}
+use Rattle.meta_format.specs.Limits.{limits}
+use Rattle.sheet_programs.specs.Faults.{fault_text}
+use Rattle.sheet_programs.specs.Input.{IsStreamFault, max_input}
+use Rattle.program_endings.specs.Printed.{Printed, PrintsFront}
+use Rattle.sheet_programs.specs.declared.fault.RunFault.{RunFault}
+use Rattle.sheet_programs.specs.declared.fault.RunFault.TheVariants as fault
+
+-- what a program answers: whether all is well, or its fault
+abbrev pub ProgramAnswer : Type 0
+ProgramAnswer = Result Bool RunFault
+
+-- 0 where all is well, and 1 where the stream has a fault or an open block, or the program met a fault
+abbrev pub status_of : ProgramAnswer → ℕ
+status_of (Ok true) = 0
+status_of (Ok false) = 1
+status_of (Err fault) = 1
+
+-- a fault is a line on the stream of errors, where that takes it; nothing else stands there
+abbrev pub TellsFault : {E : Type 0} → (E → Option (List ℕ)) → E → E → Bool → ProgramAnswer → Type 0
+TellsFault contents old new told (Ok whole) = new ≡ old
+TellsFault contents old new told (Err fault) = told ≡ true → Appends (contents old) (contents new) (fault_text fault)
+
+-- What `blocks` answers, and what it has written then: its clauses. The stream is what the reader gives,
+-- where it is known; `contents` are the bytes that the writer holds.
+pub record BlocksAnswer {W : Type 0} (stream : Option (List ℕ)) (contents : W → Option (List ℕ)) (old new : W) (answer : ProgramAnswer) : Type 0 where
+  pub printed : IfOk answer (λ whole. IfSome stream (λ bytes. (text : List ℕ) × Printed limits bytes text whole × Appends (contents old) (contents new) text))
+  pub short : IfOk answer (λ whole. IfSome stream (λ bytes. length bytes ≤ max_input))
+  pub output_short : IsErrOf answer fault.Output → IfSome stream (λ bytes. length bytes ≤ max_input)
+  pub too_long : IsErrOf answer fault.InputTooLong → IfSome stream (λ bytes. max_input < length bytes)
+  pub faults : IfErr answer IsStreamFault
+  pub nothing_at_input : IsErrOf answer fault.Input → new ≡ old
+  pub nothing_at_too_long : IsErrOf answer fault.InputTooLong → new ≡ old
+  pub front_at_memory : IsErrOf answer fault.OutOfMemory → IfSome stream (λ bytes. PrintsFront limits bytes (contents old) (contents new))

@@ -1,0 +1,56 @@
+-- How the program `export` ends: what it writes of its files, what it tells on which stream, and the exit status.
+use Rattle.std.specs.Prelude.{◌≡◌, ℕ, Bool, true, false, List, Option, Result, Ok, Err, IfOk, IfErr, IsErrOf, OnOk}
+use Rattle.std.specs.Io.KnownBytes.{Appends}
+use Rattle.disk_model.specs.Disk.{DiskView, InModel, Looks, Rises, SameDisk, bytes_on}
+use Rattle.journal.specs.declared.opening.OpenCause.TheVariants as opens
+use Rattle.recovery.specs.Sheets.{IsSheetImage}
+use Rattle.sheet_export.specs.Formats.{ReadsBack, TellsExport, export_fault_text, has_text, text_in}
+use Rattle.sheet_export.specs.declared.fault.ExportFault.{ExportFault}
+use Rattle.sheet_export.specs.declared.fault.ExportFault.TheVariants as exports
+use Rattle.sheet_export.specs.declared.formats.Format.{Format}
+use Rattle.sheet_programs.specs.declared.fault.RunFault.TheVariants as fault
+use Rattle.worksheet.specs.Contents.{Contents}
+use Rattle.program_endings.specs.Faults.{no_files}
+use Rattle.program_endings.specs.declared.ending.Ending.{Ending}
+use Rattle.sheet_files.specs.declared.files_fault.FilesFault.{FilesFault}
+
+-- what `export` answers: nothing, or why the worksheet wasn't written
+abbrev pub ExportAnswer : Type 0
+ExportAnswer = Result Unit ExportFault
+
+abbrev pub export_status : ExportAnswer → ℕ
+export_status (Ok u) = 0
+export_status (Err why) = 1
+
+-- a fault is a line on the stream of errors, where that takes it; nothing else stands there
+abbrev pub TellsExported : {E : Type 0} → (E → Option (List ℕ)) → E → E → Bool → ExportAnswer → Type 0
+TellsExported contents old new told (Ok u) = new ≡ old
+TellsExported contents old new told (Err why) = told ≡ true → Appends (contents old) (contents new) (export_fault_text why)
+
+-- What `export` answers on a disk, and what it has written then: its clauses. `contents` are the bytes that the writer holds.
+pub record ExportedFrom {D W : Type 0} (view : D → DiskView) (contents : W → Option (List ℕ)) (format : Format) (title : List ℕ)
+    (disk : D) (old new : W) (answer : ExportAnswer) : Type 0 where
+  -- the disk, on which reads alone were made
+  pub later : D
+  pub written : InModel (view disk) ((sheet : Contents) → IsSheetImage sheet (bytes_on (view disk))
+      → OnOk answer ((has_text format sheet ≡ true) × Appends (contents old) (contents new) (text_in format title sheet)))
+  pub reads : InModel (view disk) ((sheet : Contents) → IsSheetImage sheet (bytes_on (view disk)) → OnOk answer (ReadsBack format sheet))
+  pub found : InModel (view disk) (OnOk answer ((sheet : Contents) × IsSheetImage sheet (bytes_on (view disk))))
+  -- that there is no script is told only of a worksheet that has none
+  pub without : InModel (view disk) (IsErrOf answer exports.NoScript → (sheet : Contents) × IsSheetImage sheet (bytes_on (view disk)) × (has_text format sheet ≡ false))
+  pub same : SameDisk (view disk) (view later)
+  pub looks : InModel (view disk) (Looks (view disk).history (view later).history)
+  -- that the disk failed is told only where it did
+  pub failed : IsErrOf answer (exports.Run (fault.Open opens.Disk)) → Rises (view disk).faults (view later).faults
+  pub fault : IfErr answer (TellsExport format (view disk) (new ≡ old))
+
+-- what `export` answers on its files, or on why they weren't opened
+abbrev pub Exports : {D W : Type 0} → (D → DiskView) → (W → Option (List ℕ)) → Format → List ℕ → Result D FilesFault → W → W → ExportAnswer → Type 0
+Exports view contents format title files old new answer =
+    IfErr files (λ why. (answer ≡ Err (exports.Run (no_files why))) × (new ≡ old))
+    × IfOk files (λ disk. ExportedFrom view contents format title disk old new answer)
+
+-- how `export` ends on its files, or on why they weren't opened
+abbrev pub ExportEnds : {D W E : Type 0} → (D → DiskView) → Result D FilesFault → Format → List ℕ → (W → Option (List ℕ)) → W → W → (E → Option (List ℕ)) → E → E → Ending → Type 0
+ExportEnds view files format title written a b said old new ending =
+    (answer : ExportAnswer) × Exports view written format title files a b answer × (ending.status ≡ export_status answer) × TellsExported said old new ending.told answer

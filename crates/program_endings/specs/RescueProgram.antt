@@ -1,0 +1,65 @@
+-- How the program `rescue` ends: what it reads and writes, what it tells on which stream, and the exit
+-- status.
+use Rattle.std.specs.Prelude.{◌≡◌, ℕ, Bool, List, Option, Result, Ok, Err, IfOk, IfErr}
+use Rattle.std.specs.Io.KnownBytes.{Appends}
+use Rattle.disk_model.specs.Disk.{DiskView}
+use Rattle.journal.specs.declared.opening.CreateCause.TheVariants as creates
+use Rattle.recovery.specs.declared.rescuing.Rescued.{Rescued}
+use Rattle.sheet_programs.specs.Rescue.{FrontIsRead, RescueIsSaved, kept_text}
+use Rattle.sheet_programs.specs.declared.fault.RunFault.{RunFault}
+use Rattle.sheet_programs.specs.declared.fault.RunFault.TheVariants as fault
+use Rattle.sheet_programs.specs.declared.rescuing.RescueFault.{RescueFault}
+use Rattle.sheet_programs.specs.declared.rescuing.RescueFault.TheVariants as rescues
+use Rattle.program_endings.specs.Ending.{TellsFault}
+use Rattle.program_endings.specs.Faults.{no_files}
+use Rattle.program_endings.specs.Programs.{TellsMake}
+use Rattle.program_endings.specs.declared.ending.Ending.{Ending}
+use Rattle.sheet_files.specs.declared.files_fault.FilesFault.{FilesFault}
+use Rattle.sheet_files.specs.declared.files_fault.MakeFault.{MakeFault}
+use Rattle.sheet_files.specs.declared.files_fault.MakeFault.TheVariants as makes
+
+-- What `rescue` reads of its files, or answers where they weren't opened.
+abbrev pub FilesAreRead : {D : Type 0} → (D → DiskView) → Result D FilesFault
+    → Result (Rescued D) RunFault → Type 0
+FilesAreRead {D = D} view files answer = IfErr files (λ why. answer ≡ Err (no_files why))
+    × IfOk files (λ disk. (after : D) × FrontIsRead view disk after answer)
+
+abbrev pub rescue_status : Result Unit RescueFault → ℕ
+rescue_status (Ok u) = 0
+rescue_status (Err why) = 1
+
+-- why nothing was rescued is a line on the stream of errors, where that takes it
+abbrev pub TellsRescueFault : {E : Type 0} → (E → Option (List ℕ)) → E → E → Bool → RescueFault → Type 0
+TellsRescueFault contents old new told rescues.NotEmpty =
+    TellsMake contents old new told (makes.Create creates.NotEmpty)
+TellsRescueFault contents old new told (rescues.Run why) = TellsFault contents old new told (Err why)
+
+-- nothing stands there where it went well
+abbrev pub TellsRescued : {E : Type 0} → (E → Option (List ℕ)) → E → E → Bool
+    → Result Unit RescueFault → Type 0
+TellsRescued contents old new told (Ok u) = new ≡ old
+TellsRescued contents old new told (Err why) = TellsRescueFault contents old new told why
+
+-- how much was kept is a line on the output; a fault but for that of the output has written nothing
+abbrev pub WritesKept : {W : Type 0} → (W → Option (List ℕ)) → W → W → ℕ → Option ℕ
+    → Result Unit RescueFault → Type 0
+WritesKept contents old new kept damage (Ok u) =
+    Appends (contents old) (contents new) (kept_text kept damage)
+WritesKept contents old new kept damage (Err why) =
+    (why ≡ rescues.Run fault.Output → ⊥) → new ≡ old
+
+-- How `rescue` ends on a new disk: what becomes of the disk, what is written and told, and the status.
+abbrev pub RescueDone : {D N W E : Type 0} → (N → DiskView) → N → Rescued D
+    → (W → Option (List ℕ)) → W → W → (E → Option (List ℕ)) → E → E → Ending → Type 0
+RescueDone {N = N} view disk found written a b said old new ending =
+    (later : N) × (answer : Result Unit RescueFault)
+    × RescueIsSaved (view disk) (view later) found.sheet.contents answer
+    × WritesKept written a b found.kept found.damage answer
+    × (ending.status ≡ rescue_status answer) × TellsRescued said old new ending.told answer
+
+-- So on the files of the new worksheet, or on why they weren't made.
+abbrev pub RescueEnds : {D N W E : Type 0} → (N → DiskView) → Result N MakeFault → Rescued D
+    → (W → Option (List ℕ)) → W → W → (E → Option (List ℕ)) → E → E → Ending → Type 0
+RescueEnds view files found written a b said old new ending =
+    IfErr files (λ why. (b ≡ a) × (ending.status ≡ 1) × TellsMake said old new ending.told why)
+    × IfOk files (λ disk. RescueDone view disk found written a b said old new ending)

@@ -1,0 +1,53 @@
+//! How the program ends: its exit status, and what it says on which stream.
+ghost use Rattle.std.specs.Prelude.{◌≡◌};
+ghost use Rattle.program_endings.specs.Ending.{BlocksAnswer, ProgramAnswer, TellsFault, status_of};
+
+use crate::blocks;
+use sheet_programs::{RunFault, fault_text};
+use std::alloc::Global;
+use std::io::{Read, Write};
+
+/// How the program ended.
+#[derive(Clone, Copy, Debug, PartialEq, Eq)]
+pub struct Ending {
+    /// The exit status: 0 where all was done or help was shown; 1 where the stream has a fault or an
+    /// open block, or where the program met a fault; 2 where the words ask for nothing that there is; 3
+    /// where a strict run stopped.
+    pub status: u8,
+    /// Whether all that it had to say on standard error went out.
+    pub told: bool,
+}
+
+pub(crate) fn ended(status: u8, told: bool) -> Ending
+    ensures { result ≡ record { status = status; told = told } }
+{
+    Ending { status, told }
+}
+
+/// Ends a program by what it answered, whether all is well or its fault, which is told on a line.
+pub fn end_program<E: Write>(answer: Result<bool, RunFault>, errors: &mut E) -> Ending
+    ensures status { result.status ≡ status_of answer }
+    ensures told { TellsFault E.contents errors.old errors.new result.told answer }
+{
+    match answer {
+        Ok(true) => ended(0, true),
+        Ok(false) => ended(1, true),
+        Err(fault) => ended(1, fault_text(fault, errors).is_ok()),
+    }
+}
+
+/// The whole program `blocks`: from `input` to `output`, with the line of its fault on `errors`.
+pub fn run_blocks<R: Read, W: Write, E: Write>(
+    alloc: Global,
+    input: &mut R,
+    output: &mut W,
+    errors: &mut E,
+) -> Ending
+    ensures { (answer : ProgramAnswer)
+        × BlocksAnswer (R.remaining input.old) W.contents output.old output.new answer
+        × (result.status ≡ status_of answer)
+        × TellsFault E.contents errors.old errors.new result.told answer }
+{
+    let answer = blocks(alloc, input, output);
+    end_program(answer, errors)
+}

@@ -1,0 +1,71 @@
+//! The program `export` over a worksheet's files, from its files on.
+ghost use Rattle.std.specs.Prelude.{◌≡◌};
+ghost use Rattle.program_endings.specs.ExportProgram.{ExportEnds, ExportedFrom, Exports, TellsExported, export_status};
+
+use crate::Ending;
+use crate::ending::ended;
+use crate::telling::no_files;
+use disk_model::Disk;
+use sheet_export::{ExportFault, Exported, Format, export, export_fault_text};
+use sheet_files::FilesFault;
+use std::alloc::Global;
+use std::io::Write;
+
+/// Writes the worksheet of a disk in a format, and drops the disk at the end.
+fn export_disk<D: Disk, W: Write>(
+    alloc: Global,
+    format: Format,
+    disk: D,
+    title: &[u8],
+    output: &mut W,
+) -> Result<(), ExportFault>
+    ensures { ExportedFrom D.view W.contents format title.now disk output.old output.new result }
+{
+    let Exported { disk: _, answer } = export(alloc, format, disk, title, output);
+    answer
+}
+
+/// Writes the worksheet of a disk in a format, where there is one.
+fn export_files<D: Disk, W: Write>(
+    alloc: Global,
+    format: Format,
+    files: Result<D, FilesFault>,
+    title: &[u8],
+    output: &mut W,
+) -> Result<(), ExportFault>
+    ensures { Exports D.view W.contents format title.now files output.old output.new result }
+{
+    match files {
+        Err(why) => Err(ExportFault::Run(no_files(why))),
+        Ok(disk) => export_disk(alloc, format, disk, title, output),
+    }
+}
+
+/// Ends the program by what an export answered.
+fn end_export<E: Write>(answer: Result<(), ExportFault>, errors: &mut E) -> Ending
+    ensures { (result.status ≡ export_status answer)
+        × TellsExported E.contents errors.old errors.new result.told answer }
+{
+    match answer {
+        Ok(()) => ended(0, true),
+        Err(fault) => ended(1, export_fault_text(fault, errors).is_ok()),
+    }
+}
+
+/// The whole program `export` on its files, or on why they weren't opened: the worksheet goes to
+/// `output` in this format, with this title where the format has one, and the line of a fault to
+/// `errors`.
+pub fn run_export<D: Disk, W: Write, E: Write>(
+    alloc: Global,
+    format: Format,
+    files: Result<D, FilesFault>,
+    title: &[u8],
+    output: &mut W,
+    errors: &mut E,
+) -> Ending
+    ensures { ExportEnds D.view files format title.now W.contents output.old output.new
+        E.contents errors.old errors.new result }
+{
+    let answer = export_files(alloc, format, files, title, output);
+    end_export(answer, errors)
+}

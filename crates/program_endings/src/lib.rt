@@ -1,0 +1,22 @@
+//! How each program ends over a disk and interpreters: its exit status, and what it says on which stream.
+//! What the programs do stands in `sheet_programs`, `live`, `sheet_check` and `sheet_export`, and which of
+//! them runs for which words in `host_cli`.
+#![tactic(auto)]
+
+mod block_lines;
+mod check_program;
+mod ending;
+mod export_program;
+mod programs;
+mod rescue_program;
+mod strict_program;
+mod telling;
+
+pub use block_lines::blocks;
+pub use check_program::run_check;
+pub use ending::{Ending, end_program, run_blocks};
+pub use export_program::run_export;
+pub use programs::{run_create, run_live, run_script, run_show};
+pub use rescue_program::{read_rescued, run_rescue};
+pub use strict_program::run_strictly;
+pub use telling::{create_fault_text, end_unheld};

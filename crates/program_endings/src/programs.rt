@@ -1,0 +1,235 @@
+//! The programs over a worksheet's files, from their files on: how each ends, and what it says on
+//! which stream.
+ghost use Rattle.std.specs.Prelude.{◌≡◌, ◌≤◌, Err, IfErr, IfOk};
+ghost use Rattle.program_endings.specs.Ending.{ProgramAnswer, TellsFault, status_of};
+ghost use Rattle.program_endings.specs.Faults as printed;
+ghost use Rattle.program_endings.specs.Programs.{CreateAnswer, Creates, LiveAnswer, RunAnswer, answer_of, ShowAnswer, TellsCreate, TellsMake, create_status};
+
+use crate::ending::ended;
+use crate::telling::no_files;
+use crate::{Ending, create_fault_text, end_program};
+use arrivals::Sources;
+use child_edge::Children;
+use disk_model::Disk;
+use live::live;
+use sheet_files::{FilesFault, MakeFault};
+use sheet_programs::{RunFault, run, show};
+use std::alloc::Global;
+use std::io::{Read, Write};
+
+/// Tells on a line why no worksheet was made.
+pub(crate) fn end_create<E: Write>(why: MakeFault, errors: &mut E) -> Ending
+    ensures { (result.status ≡ 1)
+        × TellsMake E.contents errors.old errors.new result.told why }
+{
+    ended(1, create_fault_text(why, errors).is_ok())
+}
+
+/// Lays an empty worksheet on a disk, and tells where that failed why.
+fn create_on<D: Disk, E: Write>(disk: D, errors: &mut E) -> Ending
+    requires { 11 ≤ (D.view disk).room }
+    ensures { (new : D) × (answer : CreateAnswer)
+        × Creates (D.view disk) (D.view new) answer
+        × (result.status ≡ create_status answer)
+        × TellsCreate E.contents errors.old errors.new result.told answer }
+{
+    match journal::create(disk) {
+        Ok(_) => ended(0, true),
+        Err(fault) => end_create(MakeFault::Create(fault.cause), errors),
+    }
+}
+
+/// The whole program `create` on its files, or on why they weren't made: lays an empty worksheet,
+/// and tells on a line of `errors` why there is none.
+pub fn run_create<D: Disk, E: Write>(files: Result<D, MakeFault>, errors: &mut E) -> Ending
+    requires { IfOk files (λ disk. 11 ≤ (D.view disk).room) }
+
+    ensures no_files { IfErr files (λ why. (result.status ≡ 1)
+        × TellsMake E.contents errors.old errors.new result.told why) }
+
+    // What becomes of the disk, and what is said of it.
+    ensures files { IfOk files (λ disk. (new : D) × (answer : CreateAnswer)
+        × Creates (D.view disk) (D.view new) answer
+        × (result.status ≡ create_status answer)
+        × TellsCreate E.contents errors.old errors.new result.told answer) }
+{
+    match files {
+        Ok(disk) => create_on(disk, errors),
+        Err(why) => end_create(why, errors),
+    }
+}
+
+/// Writes the worksheet of a disk, where there is one.
+fn show_files<D: Disk, W: Write>(
+    alloc: Global,
+    files: Result<D, FilesFault>,
+    output: &mut W,
+) -> Result<bool, RunFault>
+    ensures { ShowAnswer D.view W.contents files output.old output.new result }
+{
+    match files {
+        Err(why) => Err(no_files(why)),
+        Ok(disk) => match show(alloc, disk, output) {
+            Ok(()) => Ok(true),
+            Err(fault) => Err(fault),
+        },
+    }
+}
+
+/// The whole program `show` on its files, or on why they weren't opened: the worksheet goes to
+/// `output`, and the line of a fault to `errors`.
+pub fn run_show<D: Disk, W: Write, E: Write>(
+    alloc: Global,
+    files: Result<D, FilesFault>,
+    output: &mut W,
+    errors: &mut E,
+) -> Ending
+    ensures { (answer : ProgramAnswer)
+        × ShowAnswer D.view W.contents files output.old output.new answer
+        × (result.status ≡ status_of answer)
+        × TellsFault E.contents errors.old errors.new result.told answer }
+{
+    let answer = show_files(alloc, files, output);
+    end_program(answer, errors)
+}
+
+/// Runs a script over a disk, and drops the disk at its end.
+fn run_on<R: Read, W: Write, D: Disk, C: Children>(
+    alloc: Global,
+    input: &mut R,
+    output: &mut W,
+    disk: D,
+    children: &mut C,
+) -> Result<bool, RunFault>
+    ensures { RunAnswer D.view C.after (R.remaining input.old) disk children.old children.new
+        (W.contents output.old) (W.contents output.new)
+        ((output.new ≡ output.old) × (children.new ≡ children.old)) result }
+{
+    match run(alloc, input, output, disk, children) {
+        Ok(_) => Ok(true),
+        Err(fault) => Err(fault),
+    }
+}
+
+/// Runs a script over a disk, and tells its fault.
+fn end_run<R: Read, W: Write, E: Write, D: Disk, C: Children>(
+    alloc: Global,
+    input: &mut R,
+    output: &mut W,
+    errors: &mut E,
+    disk: D,
+    children: &mut C,
+) -> Ending
+    ensures { (answer : ProgramAnswer)
+        × RunAnswer D.view C.after (R.remaining input.old) disk children.old children.new
+        (W.contents output.old) (W.contents output.new)
+        ((output.new ≡ output.old) × (children.new ≡ children.old)) answer
+        × (result.status ≡ status_of answer)
+        × TellsFault E.contents errors.old errors.new result.told answer }
+{
+    let answer = run_on(alloc, input, output, disk, children);
+    end_program(answer, errors)
+}
+
+/// The whole program `run` on its files, or on why they weren't opened: the script comes from `input`,
+/// which is read only where there are files, and what its lines give goes to `output`, each line flushed.
+/// The line of a fault goes to `errors`.
+pub fn run_script<R: Read, W: Write, E: Write, D: Disk, C: Children>(
+    alloc: Global,
+    input: &mut R,
+    output: &mut W,
+    errors: &mut E,
+    files: Result<D, FilesFault>,
+    children: &mut C,
+) -> Ending
+    // It is told before the script is read.
+    ensures unopened { IfErr files (λ why. (input.new ≡ input.old) × (output.new ≡ output.old)
+        × (children.new ≡ children.old) × (result.status ≡ 1)
+        × TellsFault E.contents errors.old errors.new result.told (Err (printed.no_files why))) }
+
+    ensures files { IfOk files (λ disk. (answer : ProgramAnswer)
+        × RunAnswer D.view C.after (R.remaining input.old) disk children.old children.new
+        (W.contents output.old) (W.contents output.new)
+        ((output.new ≡ output.old) × (children.new ≡ children.old)) answer
+        × (result.status ≡ status_of answer)
+        × TellsFault E.contents errors.old errors.new result.told answer) }
+{
+    match files {
+        Ok(disk) => end_run(alloc, input, output, errors, disk, children),
+        Err(why) => end_program(Err(no_files(why)), errors),
+    }
+}
+
+/// The answer of a program that gave its disk back, which is dropped, or had a fault.
+fn answered<D: Drop>(done: Result<D, RunFault>) -> Result<bool, RunFault>
+    ensures { result ≡ answer_of done }
+{
+    match done {
+        Ok(_) => Ok(true),
+        Err(fault) => Err(fault),
+    }
+}
+
+/// Holds the worksheet on a disk open, and drops the disk at the end.
+fn live_on<R: Read, W: Write, D: Disk, S: Sources>(
+    alloc: Global,
+    input: &mut R,
+    output: &mut W,
+    disk: D,
+    sources: &mut S,
+) -> Result<bool, RunFault>
+    ensures { LiveAnswer D.view S.after S.wakes (R.remaining input.old) disk sources.old sources.new
+        (W.contents output.old) (W.contents output.new)
+        ((output.new ≡ output.old) × (sources.new ≡ sources.old)) result }
+{
+    answered(live(alloc, input, output, disk, sources))
+}
+
+/// Holds the worksheet on a disk open, and tells the fault.
+fn end_live<R: Read, W: Write, E: Write, D: Disk, S: Sources>(
+    alloc: Global,
+    input: &mut R,
+    output: &mut W,
+    errors: &mut E,
+    disk: D,
+    sources: &mut S,
+) -> Ending
+    ensures { (answer : ProgramAnswer)
+        × LiveAnswer D.view S.after S.wakes (R.remaining input.old) disk sources.old sources.new
+        (W.contents output.old) (W.contents output.new)
+        ((output.new ≡ output.old) × (sources.new ≡ sources.old)) answer
+        × (result.status ≡ status_of answer)
+        × TellsFault E.contents errors.old errors.new result.told answer }
+{
+    let answer = live_on(alloc, input, output, disk, sources);
+    end_program(answer, errors)
+}
+
+/// The whole program `live` on its files, or on why they weren't opened: its lines come from `input`,
+/// which is read only where there are files, and what comes of them and of interpreters goes to `output`,
+/// flushed at once. The line of a fault goes to `errors`.
+pub fn run_live<R: Read, W: Write, E: Write, D: Disk, S: Sources>(
+    alloc: Global,
+    input: &mut R,
+    output: &mut W,
+    errors: &mut E,
+    files: Result<D, FilesFault>,
+    sources: &mut S,
+) -> Ending
+    // It is told before a line is read.
+    ensures unopened { IfErr files (λ why. (input.new ≡ input.old) × (output.new ≡ output.old)
+        × (sources.new ≡ sources.old) × (result.status ≡ 1)
+        × TellsFault E.contents errors.old errors.new result.told (Err (printed.no_files why))) }
+
+    ensures files { IfOk files (λ disk. (answer : ProgramAnswer)
+        × LiveAnswer D.view S.after S.wakes (R.remaining input.old) disk sources.old sources.new
+        (W.contents output.old) (W.contents output.new)
+        ((output.new ≡ output.old) × (sources.new ≡ sources.old)) answer
+        × (result.status ≡ status_of answer)
+        × TellsFault E.contents errors.old errors.new result.told answer) }
+{
+    match files {
+        Ok(disk) => end_live(alloc, input, output, errors, disk, sources),
+        Err(fault) => end_program(Err(no_files(fault)), errors),
+    }
+}

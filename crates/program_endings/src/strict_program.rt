@@ -1,0 +1,73 @@
+//! The program `run --strict` over a worksheet's files, from its files on.
+ghost use Rattle.std.specs.Prelude.{◌≡◌, Err, IfErr, IfOk};
+ghost use Rattle.program_endings.specs.Ending.{TellsFault};
+ghost use Rattle.program_endings.specs.Faults as printed;
+ghost use Rattle.program_endings.specs.StrictProgram.{StrictEnded, TellsStop, answer_of_strict, strict_status};
+
+use crate::ending::ended;
+use crate::telling::no_files;
+use crate::{Ending, end_program};
+use child_edge::Children;
+use disk_model::Disk;
+use sheet_files::FilesFault;
+use sheet_programs::{Ran, RunFault, run_strict};
+use std::alloc::Global;
+use std::io::{Read, Write};
+
+/// Ends the program by where a strict run stopped, which is told on a line, or by its fault.
+fn end_strict<D: Disk, E: Write>(answer: Result<Ran<D>, RunFault>, errors: &mut E) -> Ending
+    ensures status { result.status ≡ strict_status (answer_of_strict answer) }
+    ensures told { TellsStop E.contents errors.old errors.new result.told (answer_of_strict answer) }
+{
+    match answer {
+        Ok(ran) => match ran.stopped_at {
+            None => ended(0, true),
+            Some(number) => ended(3, writeln!(errors, "stopped at line {number}").is_ok()),
+        },
+        Err(fault) => end_program(Err(fault), errors),
+    }
+}
+
+/// Runs a script strictly over a disk, and drops the disk at its end.
+fn run_strict_on<R: Read, W: Write, E: Write, D: Disk, C: Children>(
+    alloc: Global,
+    input: &mut R,
+    output: &mut W,
+    errors: &mut E,
+    disk: D,
+    children: &mut C,
+) -> Ending
+    ensures { StrictEnded D.view C.after (R.remaining input.old) disk children.old children.new
+        (W.contents output.old) (W.contents output.new)
+        ((output.new ≡ output.old) × (children.new ≡ children.old))
+        E.contents errors.old errors.new result }
+{
+    let answer = run_strict(alloc, input, output, disk, children);
+    end_strict(answer, errors)
+}
+
+/// The whole program `run --strict` on its files, or on why they weren't opened: as `run_script`, but it
+/// stops behind the first line that goes wrong, whose number is told on a line of `errors`.
+pub fn run_strictly<R: Read, W: Write, E: Write, D: Disk, C: Children>(
+    alloc: Global,
+    input: &mut R,
+    output: &mut W,
+    errors: &mut E,
+    files: Result<D, FilesFault>,
+    children: &mut C,
+) -> Ending
+    // It is told before the script is read.
+    ensures unopened { IfErr files (λ why. (input.new ≡ input.old) × (output.new ≡ output.old)
+        × (children.new ≡ children.old) × (result.status ≡ 1)
+        × TellsFault E.contents errors.old errors.new result.told (Err (printed.no_files why))) }
+
+    ensures files { IfOk files (λ disk. StrictEnded D.view C.after (R.remaining input.old) disk
+        children.old children.new (W.contents output.old) (W.contents output.new)
+        ((output.new ≡ output.old) × (children.new ≡ children.old))
+        E.contents errors.old errors.new result) }
+{
+    match files {
+        Ok(disk) => run_strict_on(alloc, input, output, errors, disk, children),
+        Err(why) => end_program(Err(no_files(why)), errors),
+    }
+}
