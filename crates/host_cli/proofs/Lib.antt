@@ -1,4 +1,3 @@
 pub mod Lines
 pub mod Subcommands
-pub mod Fronts
 pub mod Answering

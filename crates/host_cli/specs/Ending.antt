@@ -6,7 +6,7 @@ use Rattle.clap.specs.declared.error.kind.ErrorKind.{ErrorKind}
 use Rattle.clap.specs.declared.error.kind.ErrorKind.TheVariants as kind
 use Rattle.sheet_programs.specs.Faults.{fault_text}
 use Rattle.sheet_programs.specs.Input.{IsStreamFault, max_input}
-use Rattle.host_cli.specs.Printed.{Printed, PrintsFront}
+use Rattle.host_cli.specs.Printed.{Printed}
 use Rattle.sheet_programs.specs.declared.fault.RunFault.{RunFault}
 use Rattle.sheet_programs.specs.declared.fault.RunFault.TheVariants as fault
 
@@ -39,4 +39,4 @@ pub record BlocksAnswer {W : Type 0} (stream : Option (List ℕ)) (contents : W 
   pub faults : IfErr answer IsStreamFault
   pub nothing_at_input : IsErrOf answer fault.Input → new ≡ old
   pub nothing_at_too_long : IsErrOf answer fault.InputTooLong → new ≡ old
-  pub front_at_memory : IsErrOf answer fault.OutOfMemory → IfSome stream (λ bytes. PrintsFront limits bytes (contents old) (contents new))
+  pub nothing_at_memory : IsErrOf answer fault.OutOfMemory → new ≡ old
