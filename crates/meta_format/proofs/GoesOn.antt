@@ -13,7 +13,7 @@ abbrev pub GoesOn : Limits → List ℕ → List ℕ → List Outer → Type 0
 GoesOn most s p blocks = (more : List Outer) × CloseWithin (length s) (length (s ++ p)) more
     × (((tail : List ℕ) × Stream most (s ++ p) (blocks ++ more) tail × IsSound most (s ++ p)) ⊎ ((at : ℕ) × (kind : Kind) × Faults most (s ++ p) at kind (blocks ++ more)))
 
-sound_alive : (most : Limits) → IsRoomy most → (s : List ℕ) → IsSound most s → IsAlive (run most start_state s).mode
+pub sound_alive : (most : Limits) → IsRoomy most → (s : List ℕ) → IsSound most s → IsAlive (run most start_state s).mode
 sound_alive most fit s sound = let r = reach most fit s in by_reach r.0 r.1
   where
     by_reach : (blocks : List Outer) → Reached most s blocks (run most start_state s) → IsAlive (run most start_state s).mode

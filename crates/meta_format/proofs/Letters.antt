@@ -98,7 +98,7 @@ placed_text block old new t h there stays start at name marks count right free =
 pub passed_noise : (s : List ℕ) (r : ℕ) → Nowhere (Passes (is_byte 2) s) 0 r → (k : ℕ) → k < r → nat_eq (get_or s k 0) 2 ≡ false
 passed_noise s r h k less = false_from_ne_true _ (h k (omega arith) less)
 
-noise_run : (most : Limits) (out : List Outer) (s : List ℕ) (at : ℕ) (t : List ℕ) → ((k : ℕ) → k < length s → nat_eq (get_or s k 0) 2 ≡ false) → at + length s ≤ most.stream
+pub noise_run : (most : Limits) (out : List Outer) (s : List ℕ) (at : ℕ) (t : List ℕ) → ((k : ℕ) → k < length s → nat_eq (get_or s k 0) 2 ≡ false) → at + length s ≤ most.stream
     → run most record { at = at; out = out; mode = outside } (s ++ t) ≡ run most record { at = at + length s; out = out; mode = outside } t
 noise_run most out [] at t silent early = ap (λ n. run most record { at = n; out = out; mode = outside } t) (sym (add-zero at))
 noise_run most out (c ∷ s) at t silent early =

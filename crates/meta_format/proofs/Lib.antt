@@ -21,5 +21,8 @@ pub mod Held
 pub mod EveryStream
 pub mod Lengths
 pub mod Letters
+pub mod Flat
+pub mod Cursor
+pub mod Finding
 pub mod FaultOrNone
 pub mod GoesOn

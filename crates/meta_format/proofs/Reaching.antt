@@ -98,7 +98,7 @@ going_open most a out tail q g = record {
       absurd (omega arith);
 }
 
-first_byte : (most : Limits) (a : ℕ) (out : List Outer) → IsRoomy most → a < most.stream → Going most a out (2 ∷ []) (next most (begin a out) 2)
+pub first_byte : (most : Limits) (a : ℕ) (out : List Outer) → IsRoomy most → a < most.stream → Going most a out (2 ∷ []) (next most (begin a out) 2)
 first_byte most a out fit free =
     let e = cond-false (nat_le most.stream a) (halts too_long) (turns (tag_of a [] 0 [])) (lt-leb most.stream a free) in
     let made : Going most a out (2 ∷ []) (apply (begin a out) (turns (tag_of a [] 0 []))) = record {

@@ -72,7 +72,7 @@ test_from_bad most name c h = ⊎_elim
     (⊎_elim (λ f. or_left _ _ (or_right (nat_lt c 32) _ (and_from (is_separator c) (nat_eq (length name) 0) f.0 (eq-eqb (length name) 0 (ap length f.1)))))
     (λ f. or_right _ _ (and_from (not (is_separator c)) (nat_eq (length name) most.tag) (not_from_false (is_separator c) f.0) (eq-eqb (length name) most.tag f.1)))) h
 
-separator_at : (b : Bool) (c : ℕ) → nat_eq c 35 ≡ b → is_separator c ≡ true → c ≡ separator b
+pub separator_at : (b : Bool) (c : ℕ) → nat_eq c 35 ≡ b → is_separator c ≡ true → c ≡ separator b
 separator_at true c e h = eqb-true c 35 e
 separator_at false c e h = ⊎_elim (λ f. eqb-true c 58 f) (λ f. let no : true ≡ false = sym f ∙ e in absurd (true≢false no)) (or_cases (nat_eq c 58) (nat_eq c 35) h)
 

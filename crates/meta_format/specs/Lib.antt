@@ -5,4 +5,5 @@ pub mod Stream
 pub mod Faults
 pub mod Reader
 pub mod Found
+pub mod Ahead
 pub mod inside

@@ -4,9 +4,11 @@
 //! default input.)
 #![tactic(auto)]
 
+mod ahead;
 mod bounds;
 mod laws;
 mod level;
+mod outer;
 mod piece;
 mod read;
 mod reader;
@@ -14,6 +16,7 @@ mod runs;
 mod scan;
 mod write;
 
+pub use ahead::{Seen, next_outer};
 pub use laws::{
     a_fault_or_none, a_reading, blocks_stay, canonical_growth, canonical_spelling, no_front,
     one_block, one_fault, one_reading, output_length,

@@ -8,7 +8,7 @@ use memchr::{memchr, memchr3};
 
 /// How many of the first bytes spell themselves in a body.
 #[tactic(auto, using(crate::proofs::Letters::passed))]
-fn text_run(bytes: &[u8]) -> usize
+pub fn text_run(bytes: &[u8]) -> usize
     ensures bound { result ≤ length bytes.now }
     ensures plain { (k : ℕ) → k < result → is_special (slice_index bytes.now k) ≡ false }
 {
@@ -58,8 +58,24 @@ pub fn free_run(bounds: Bounds, start: u64, at: u64, bytes: &[u8]) -> usize
     }
 }
 
-/// How many of the first bytes can be skipped at once outside blocks.
+/// How many of the first bytes stand before the first 2.
 #[tactic(auto, using(crate::proofs::Letters::passed_noise))]
+pub fn before_two(bytes: &[u8]) -> usize
+    ensures bound { result ≤ length bytes.now }
+    ensures silent { (k : ℕ) → k < result → nat_eq (slice_index bytes.now k) 2 ≡ false }
+    ensures two { result < length bytes.now → slice_index bytes.now result ≡ 2 }
+{
+    // A search takes longer than this where one block follows another.
+    if !bytes.is_empty() && bytes[0] == 2 {
+        return 0;
+    }
+    match memchr(2, bytes) {
+        Some(run) => run,
+        None => bytes.len(),
+    }
+}
+
+/// How many of the first bytes can be skipped at once outside blocks.
 pub fn noise_run(bounds: Bounds, at: u64, bytes: &[u8]) -> usize
     ensures bound { result ≤ length bytes.now }
     ensures silent { (k : ℕ) → k < result → nat_eq (slice_index bytes.now k) 2 ≡ false }
@@ -69,10 +85,7 @@ pub fn noise_run(bounds: Bounds, at: u64, bytes: &[u8]) -> usize
         return 0;
     }
     let free = bounds.stream - at;
-    let run = match memchr(2, bytes) {
-        Some(run) => run,
-        None => bytes.len(),
-    };
+    let run = before_two(bytes);
     if run as u64 <= free {
         run
     } else {

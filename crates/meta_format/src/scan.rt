@@ -84,7 +84,7 @@ impl<T: Drop> From<AllocFailed<T>> for Stop {
     }
 }
 
-fn is_separator(c: u8) -> bool
+pub fn is_separator(c: u8) -> bool
     ensures { result ≡ separates c }
 {
     c == b':' || c == b'#'

@@ -1,4 +1,4 @@
-use meta_format::{FeedFault, Found, ReadFault, Reader, read_block, write_block};
+use meta_format::{FeedFault, Found, ReadFault, Reader, Seen, next_outer, read_block, write_block};
 use std::alloc::Global;
 use std::process::Abort;
 use std::test::Fail;
@@ -80,7 +80,43 @@ fn expect(
     Ok(())
 }
 
-/// Reads a stream whole, in single bytes, and cut at each place.
+/// What is seen from there on in a stream that is held whole.
+fn seen(stream: &[u8], from: usize) -> Option<Seen> {
+    if from > stream.len() || stream.len() > 1 << 62 {
+        return None;
+    }
+    Some(next_outer(stream, from))
+}
+
+/// How the stream ends by what is seen behind its last block.
+fn end_of(seen: Option<Seen>) -> End {
+    match seen {
+        Some(Seen::End) => End::Whole,
+        Some(Seen::Open { start }) => End::Open(start as u64),
+        Some(Seen::BadTag { offset }) => End::BadTag(offset as u64),
+        Some(Seen::TooDeep { offset }) => End::TooDeep(offset as u64),
+        Some(Seen::TooLong { offset }) => End::TooLong(offset as u64),
+        Some(Seen::Outer { .. }) | None => End::Other,
+    }
+}
+
+/// Checks the offsets that are seen in a stream, one block after another, and how it ends.
+fn expect_seen(rt: &impl Abort, stream: &[u8], want: &[(u64, u64, &[u8])], end: End) {
+    let mut from = 0;
+    for w in want {
+        match seen(stream, from) {
+            Some(Seen::Outer { start, stop }) => {
+                assert_eq!(rt; start as u64, w.0);
+                assert_eq!(rt; stop as u64, w.1);
+                from = stop;
+            }
+            _ => panic!(rt; "no block"),
+        }
+    }
+    assert_eq!(rt; end_of(seen(stream, from)), end);
+}
+
+/// Looks through a stream, and reads it in single bytes, and cut at each place.
 fn expect_all(
     rt: &impl Abort,
     alloc: Global,
@@ -88,6 +124,7 @@ fn expect_all(
     want: &[(u64, u64, &[u8])],
     end: End,
 ) -> Result<(), Fail> {
+    expect_seen(rt, stream, want, end);
     expect(rt, alloc, read(alloc, stream, 1)?, want, end)?;
     for at in 0..=stream.len() {
         expect(rt, alloc, read_cut(alloc, stream, at)?, want, end)?;
@@ -182,6 +219,9 @@ fn longest_block(rt: HostRuntime) -> Result<(), Fail> {
     let mut longer = stream.as_slice().to_vec(alloc)?;
     stream.push(5)?;
     longer.extend_from_slice(b"x\x05")?;
+    let whole = [(0, 16_777_216, stream.as_slice())];
+    expect_seen(&rt, stream.as_slice(), &whole, End::Whole);
+    expect_seen(&rt, longer.as_slice(), &[], End::TooLong(16_777_215));
     for size in [20_000_000, 65_536, 4_099, 1] {
         let block = stream.as_slice();
         let got = read(alloc, block, size)?;

@@ -4,7 +4,7 @@ use Rattle.std.specs.Io.KnownBytes.{Appends}
 use Rattle.meta_format.specs.Limits.{limits}
 use Rattle.sheet_programs.specs.Faults.{fault_text}
 use Rattle.sheet_programs.specs.Input.{IsStreamFault, max_input}
-use Rattle.program_endings.specs.Printed.{Printed, PrintsFront}
+use Rattle.program_endings.specs.Printed.{Printed}
 use Rattle.sheet_programs.specs.declared.fault.RunFault.{RunFault}
 use Rattle.sheet_programs.specs.declared.fault.RunFault.TheVariants as fault
 
@@ -33,4 +33,4 @@ pub record BlocksAnswer {W : Type 0} (stream : Option (List ℕ)) (contents : W 
   pub faults : IfErr answer IsStreamFault
   pub nothing_at_input : IsErrOf answer fault.Input → new ≡ old
   pub nothing_at_too_long : IsErrOf answer fault.InputTooLong → new ≡ old
-  pub front_at_memory : IsErrOf answer fault.OutOfMemory → IfSome stream (λ bytes. PrintsFront limits bytes (contents old) (contents new))
+  pub nothing_at_memory : IsErrOf answer fault.OutOfMemory → new ≡ old

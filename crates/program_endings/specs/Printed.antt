@@ -1,8 +1,7 @@
 -- What `blocks` writes of a stream: a line for each outer block, and one for its fault or its open tail.
-use Rattle.std.specs.Prelude.{◌≡◌, ◌+◌, ◌<◌, ℕ, Bool, true, false, List, [], ◌∷◌, ◌++◌, length, codes, Option}
+use Rattle.std.specs.Prelude.{◌≡◌, ◌+◌, ◌<◌, ℕ, Bool, true, false, List, [], ◌∷◌, ◌++◌, length, codes}
 use Rattle.std.specs.List.{flat_map}
 use Rattle.std.specs.Fmt.{decimal}
-use Rattle.std.specs.Io.KnownBytes.{Appends}
 use Rattle.meta_format.specs.Limits.{Limits}
 use Rattle.meta_format.specs.Stream.{Outer, Stream}
 use Rattle.meta_format.specs.Faults.{Kind, bad_tag, too_deep, too_long, FirstFault, IsSound}
@@ -44,14 +43,3 @@ pub data Printed (most : Limits) (stream text : List ℕ) : Bool → Type 0 wher
   faulty : (blocks : List Outer) (kind : Kind) (offset : ℕ) (front rest tail : List ℕ) → FirstFault most stream offset kind
       → stream ≡ front ++ rest → offset ≡ length front → Stream most front blocks tail
       → text ≡ outer_lines blocks ++ fault_line kind offset → Printed most stream text false
-
--- what was written is the lines of the outer blocks of a front of the stream, which has no fault
-pub record PrintsFront (most : Limits) (stream : List ℕ) (before after : Option (List ℕ)) : Type 0 where
-  pub front : List ℕ
-  pub rest : List ℕ
-  pub blocks : List Outer
-  pub tail : List ℕ
-  pub is : stream ≡ front ++ rest
-  pub sound : IsSound most front
-  pub has : Stream most front blocks tail
-  pub text : Appends before after (outer_lines blocks)

@@ -1,1 +1,2 @@
 pub mod PlainRuns
+pub mod Spelled

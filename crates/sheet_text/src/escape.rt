@@ -40,7 +40,11 @@ pub(crate) fn last_printed(byte: u8, keeps_lines: bool) -> u8
     }
 }
 
-fn write_byte<W: Write>(byte: u8, keeps_lines: bool, out: &mut W) -> Result<(), WriteFault>
+pub(crate) fn write_byte<W: Write>(
+    byte: u8,
+    keeps_lines: bool,
+    out: &mut W,
+) -> Result<(), WriteFault>
     ensures { OnOk result
         (Appends (W.contents out.old) (W.contents out.new) (printed_byte keeps_lines byte)) }
 {
@@ -55,7 +59,7 @@ fn write_byte<W: Write>(byte: u8, keeps_lines: bool, out: &mut W) -> Result<(), 
 
 /// Writes a run of bytes as they are; most runs between bytes that aren't printed as themselves are empty.
 #[inline(always)]
-fn write_run<W: Write>(run: &[u8], out: &mut W) -> Result<(), WriteFault>
+pub(crate) fn write_run<W: Write>(run: &[u8], out: &mut W) -> Result<(), WriteFault>
     ensures { OnOk result (Appends (W.contents out.old) (W.contents out.new) run.now) }
 {
     if run.is_empty() {

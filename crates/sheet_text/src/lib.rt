@@ -13,6 +13,7 @@ mod plain;
 mod replies;
 mod script;
 mod sheet;
+mod spelled;
 
 pub use blocks::{block_text, tree_text};
 pub use escape::{hex_digit, is_plain, write_line, write_lines};
@@ -21,3 +22,4 @@ pub use live_line::{LiveLine, MOST_SECONDS, read_live_line};
 pub use replies::{reason_name, reply_text};
 pub use script::{LineFault, ScriptLine, read_line};
 pub use sheet::{field_text, sheet_text, write_input, write_number, write_output};
+pub use spelled::spelled_text;

@@ -2,7 +2,9 @@
 use block_tree::{Block, Octets, OutOfMemory, Sequence};
 use meta_format::read_block;
 use session_engine::{Command, Reply};
-use sheet_text::{LineFault, ScriptLine, block_text, read_line, reply_text, sheet_text, tree_text};
+use sheet_text::{
+    LineFault, ScriptLine, block_text, read_line, reply_text, sheet_text, spelled_text, tree_text,
+};
 use std::alloc::Global;
 use std::test::Fail;
 use tests_desk::exhausted;
@@ -102,5 +104,28 @@ fn texts_take_no_memory(rt: HostRuntime) -> Result<(), Fail> {
     let output = block(rt.alloc(), b"\x02verbatim:\x02prompt#a\tb\x7f\n\x05\"\x05")?;
     let sheet = filled(rt.alloc())?;
     assert!(rt; take_no_memory(rt.alloc(), &output, &sheet)?);
+    Ok(())
+}
+
+const SPELLING: &[u8] = b"\x02verbatim:a\tb\x1b\x05\x1b\x1b\x1b[\x02prompt#> \x7f\x05\x05";
+
+const SPELLED: &[u8] = b"{verbatim:a\\x09b\\x05\\x1b\\x1b[{prompt#> \\x7f}}";
+
+// Whether the block is written from its bytes while no memory is left.
+fn is_written_from_bytes(alloc: Global) -> Result<bool, Fail> {
+    let Ok(block) = read_block(alloc, SPELLING) else {
+        return Ok(false);
+    };
+    let mut out: Vec<u8> = Vec::with_capacity(alloc, 100)?;
+    let held = exhausted(alloc)?;
+    let done = spelled_text(SPELLING, &mut out).is_ok();
+    drop(held);
+    drop(block);
+    Ok(done && out.as_slice() == SPELLED)
+}
+
+#[test]
+fn a_spelling_takes_no_memory(rt: HostRuntime) -> Result<(), Fail> {
+    assert!(rt; is_written_from_bytes(rt.alloc())?);
     Ok(())
 }

@@ -1,97 +1,48 @@
-use Rattle.std.proofs.Common.{rules, ◌++◌, ◌-◌, take, drop, sym, ◌∙◌, subst, arith}
-use Rattle.std.proofs.lemmas.List.{take_all}
-use Rattle.std.specs.Io.KnownBytes.{Appends}
-use Rattle.std.proofs.KnownBytes.{Appends-trans}
+use Rattle.std.proofs.Common.{◌∷◌, ◌++◌, []}
+use Rattle.std.proofs.KnownBytes.{Appends-nil}
 use Rattle.meta_format.specs.Limits.{limits}
+use Rattle.meta_format.specs.Stream.{Outer}
 use Rattle.meta_format.specs.Faults.{bad_tag, too_deep, too_long}
-use Rattle.meta_format.specs.Reader.{ReaderHasRead, Explains}
-use Rattle.meta_format.specs.Found.{outers}
-use Rattle.program_endings.specs.Printed.{outer_lines, unfinished_line, fault_line}
-use Rattle.program_endings.proofs.Lines.{whole_printed, unfinished_printed}
-use Rattle.program_endings.proofs.Fronts.{up_to, lines_more, faulty_piece, front_printed}
+use Rattle.program_endings.proofs.Lines.{nothing_read, line_more, end_printed, open_printed, fault_printed}
 use Rattle.program_endings.proofs.block_lines.write_stream.Goals as goal
 
-pub returns-in-Err-BadTag-clause-printed : goal.returns-in-Err-BadTag-clause-printed
-returns-in-Err-BadTag-clause-printed g c =
-    let so = c.loop-at.invariant in
-    let s = c.args.stream.now in
-    let at = c.loop-at.at in
-    let end = c.piece_end-end.result in
-    let on = c.piece_end-end.ensures.goes_on in
-    let piece = take (end - at) (drop at s) in
-    let new = outers c.in-Err-BadTag.found.items in
-    let offset = c.in-Err-BadTag.offset in
-    let faults = subst (Explains limits (take at s ++ piece) so.0) c.in-Err-BadTag.field-0-is (c.in-Err-BadTag.ensures.fault (take at s) so.0 so.2) in
-    let put = subst (λ xs. Appends (g.W.Write.contents c.loop-at.out) (g.W.Write.contents c.write_faulty.new.out) (outer_lines (outers xs) ++ fault_line bad_tag offset))
-    c.as_slice-in-Err-BadTag.ensures.value c.in_ok-write_faulty-in-Err-BadTag.ensures.ok in
-    faulty_piece limits s at end offset bad_tag so.0 new _ _ _ (omega (arith, on)) faults so.3 put
+pub loop-start-init : goal.loop-start-init
+loop-start-init g c = ([], nothing_read limits c.args.stream.now, Appends-nil (g.W.Write.contents c.args.out.now))
 
-pub returns-in-Err-TooDeep-clause-printed : goal.returns-in-Err-TooDeep-clause-printed
-returns-in-Err-TooDeep-clause-printed g c =
-    let so = c.loop-at.invariant in
-    let s = c.args.stream.now in
-    let at = c.loop-at.at in
-    let end = c.piece_end-end.result in
-    let on = c.piece_end-end.ensures.goes_on in
-    let piece = take (end - at) (drop at s) in
-    let new = outers c.in-Err-TooDeep.found.items in
-    let offset = c.in-Err-TooDeep.offset in
-    let faults = subst (Explains limits (take at s ++ piece) so.0) c.in-Err-TooDeep.field-0-is (c.in-Err-TooDeep.ensures.fault (take at s) so.0 so.2) in
-    let put = subst (λ xs. Appends (g.W.Write.contents c.loop-at.out) (g.W.Write.contents c.write_faulty-in-Err-TooDeep.new.out) (outer_lines (outers xs) ++ fault_line too_deep offset))
-    c.as_slice-in-Err-TooDeep.ensures.value c.in_ok-write_faulty-in-Err-TooDeep.ensures.ok in
-    faulty_piece limits s at end offset too_deep so.0 new _ _ _ (omega (arith, on)) faults so.3 put
+pub write_outer-requires : goal.write_outer-requires
+write_outer-requires g c =
+    let so = c.loop-start.invariant in
+    let next = c.in-Outer.ensures.next so.0 so.1 in
+    (next.0, next.2.spelled)
 
-pub returns-in-Err-TooLong-clause-printed : goal.returns-in-Err-TooLong-clause-printed
-returns-in-Err-TooLong-clause-printed g c =
-    let so = c.loop-at.invariant in
-    let s = c.args.stream.now in
-    let at = c.loop-at.at in
-    let end = c.piece_end-end.result in
-    let on = c.piece_end-end.ensures.goes_on in
-    let piece = take (end - at) (drop at s) in
-    let new = outers c.in-Err-TooLong.found.items in
-    let offset = c.in-Err-TooLong.offset in
-    let faults = subst (Explains limits (take at s ++ piece) so.0) c.in-Err-TooLong.field-0-is (c.in-Err-TooLong.ensures.fault (take at s) so.0 so.2) in
-    let put = subst (λ xs. Appends (g.W.Write.contents c.loop-at.out) (g.W.Write.contents c.write_faulty-in-Err-TooLong.new.out) (outer_lines (outers xs) ++ fault_line too_long offset))
-    c.as_slice-in-Err-TooLong.ensures.value c.in_ok-write_faulty-in-Err-TooLong.ensures.ok in
-    faulty_piece limits s at end offset too_long so.0 new _ _ _ (omega (arith, on)) faults so.3 put
+pub loop-start-preserved : goal.loop-start-preserved
+loop-start-preserved g c =
+    let so = c.loop-start.invariant in
+    let next = c.in-Outer.ensures.next so.0 so.1 in
+    let one : Outer = record { start = c.in-Outer.start; stop = c.in-Outer.stop; block = next.0 } in
+    (so.0 ++ one ∷ [], next.1, line_more so.0 one _ _ _ so.2 (c.in_ok-write_outer-in-Outer.ensures.ok next.0 next.2.spelled))
 
-pub returns-in-Err-OutOfMemory-clause-front_at_memory : goal.returns-in-Err-OutOfMemory-clause-front_at_memory
-returns-in-Err-OutOfMemory-clause-front_at_memory g c is =
-    let so = c.loop-at.invariant in
-    front_printed limits c.loop-at.reader c.args.stream.now c.loop-at.at so.0 _ _ so.2 so.3
+pub returns-in-Open-clause-printed : goal.returns-in-Open-clause-printed
+returns-in-Open-clause-printed g c =
+    let so = c.loop-start.invariant in
+    open_printed limits c.args.stream.now so.0 c.in-Open.start _ _ _ (c.in-Open.ensures.next so.0 so.1) so.2 c.in_ok-write_unfinished-in-Open.ensures.ok
 
-pub loop-at-preserved : goal.loop-at-preserved
-loop-at-preserved g c =
-    let so = c.loop-at.invariant in
-    let s = c.args.stream.now in
-    let at = c.loop-at.at in
-    let end = c.piece_end-end.result in
-    let on = c.piece_end-end.ensures.goes_on in
-    let new = outers c.in-Ok.found.items in
-    let stands = c.in-Ok.ensures.ok (take at s) so.0 so.2 in
-    let put = subst (λ xs. Appends (g.W.Write.contents c.loop-at.out) (g.W.Write.contents c.write_outers.new.out) (outer_lines (outers xs)))
-    c.as_slice.ensures.value c.in_ok-write_outers-in-Ok.ensures.ok in (
-      so.0 ++ new,
-      c.piece_end-end.ensures.within,
-      subst (λ l. ReaderHasRead limits c.feed.new.self l (so.0 ++ new)) (up_to s at end (omega (arith, on))) stands,
-      lines_more so.0 new _ _ _ so.3 put,
-    )
+pub returns-in-End-clause-printed : goal.returns-in-End-clause-printed
+returns-in-End-clause-printed g c =
+    let so = c.loop-start.invariant in
+    end_printed limits c.args.stream.now so.0 _ _ (c.in-End.ensures.next so.0 so.1) so.2
 
-pub returns-in-None-clause-printed : goal.returns-in-None-clause-printed
-returns-in-None-clause-printed g c =
-    let so = c.loop-at.invariant in
-    let s = c.args.stream.now in
-    let stands = subst (λ l. ReaderHasRead limits c.loop-at.reader l so.0) (take_all c.loop-at.at s (omega (arith, c.loop-at-test.false))) so.2 in
-    (outer_lines so.0, whole_printed limits c.loop-at.reader s so.0 stands (sym c.pending.ensures ∙ c.in-None.is), so.3)
+pub returns-in-BadTag-clause-printed : goal.returns-in-BadTag-clause-printed
+returns-in-BadTag-clause-printed g c =
+    let so = c.loop-start.invariant in
+    fault_printed limits c.args.stream.now c.in-BadTag.offset bad_tag so.0 _ _ _ (c.in-BadTag.ensures.next so.0 so.1) so.2 c.in_ok-write_fault-in-BadTag.ensures.ok
 
-pub returns-clause-printed : goal.returns-clause-printed
-returns-clause-printed g c =
-    let so = c.loop-at.invariant in
-    let s = c.args.stream.now in
-    let stands = subst (λ l. ReaderHasRead limits c.loop-at.reader l so.0) (take_all c.loop-at.at s (omega (arith, c.loop-at-test.false))) so.2 in
-    let last : Appends (g.W.Write.contents c.loop-at.out) (g.W.Write.contents c.write_unfinished.new.out) (unfinished_line c.in-Some.start) = search rules in (
-      outer_lines so.0 ++ unfinished_line c.in-Some.start,
-      unfinished_printed limits c.loop-at.reader s so.0 c.in-Some.start stands (sym c.pending.ensures ∙ c.in-Some.is),
-      Appends-trans _ _ _ (outer_lines so.0) (unfinished_line c.in-Some.start) so.3 last,
-    )
+pub returns-in-TooDeep-clause-printed : goal.returns-in-TooDeep-clause-printed
+returns-in-TooDeep-clause-printed g c =
+    let so = c.loop-start.invariant in
+    fault_printed limits c.args.stream.now c.in-TooDeep.offset too_deep so.0 _ _ _ (c.in-TooDeep.ensures.next so.0 so.1) so.2 c.in_ok-write_fault-in-TooDeep.ensures.ok
+
+pub returns-in-TooLong-clause-printed : goal.returns-in-TooLong-clause-printed
+returns-in-TooLong-clause-printed g c =
+    let so = c.loop-start.invariant in
+    fault_printed limits c.args.stream.now c.in-TooLong.offset too_long so.0 _ _ _ (c.in-TooLong.ensures.next so.0 so.1) so.2 c.in_ok-write_fault-in-TooLong.ensures.ok

@@ -1,0 +1,72 @@
+//! Blocks as they are printed, from the bytes that spell them.
+ghost use Rattle.std.specs.Prelude.{◌≡◌, ◌<◌, ◌≤◌, ℕ, List, OnOk, IfOk, length};
+ghost use Rattle.std.specs.Io.KnownBytes.{Appends};
+ghost use Rattle.block_tree.specs.Tree.{Tree};
+ghost use Rattle.meta_format.specs.Limits.{limits};
+ghost use Rattle.meta_format.specs.Spelling.{Spells};
+ghost use Rattle.sheet_text.specs.Blocks.{tree_text};
+ghost use Rattle.sheet_text.specs.inside.Spelled.{behind_escape, spelled_byte, PrintsTo};
+
+use crate::WriteFault;
+use crate::escape::{write_byte, write_run};
+use crate::plain::plain_end;
+use std::io::Write;
+
+/// Writes what a byte stands for that isn't 27.
+fn write_spelled<W: Write>(byte: u8, out: &mut W) -> Result<(), WriteFault>
+    ensures { OnOk result
+        (Appends (W.contents out.old) (W.contents out.new) (spelled_byte byte)) }
+{
+    match byte {
+        2 => out.write_all(b"{").map_err(|_| WriteFault),
+        5 => out.write_all(b"}").map_err(|_| WriteFault),
+        _ => write_byte(byte, false, out),
+    }
+}
+
+/// Writes what a 27 and the byte behind it stand for.
+#[tactic(auto, using(crate::proofs::Appending::steps))]
+fn write_escaped<W: Write>(byte: u8, out: &mut W) -> Result<(), WriteFault>
+    ensures { OnOk result
+        (Appends (W.contents out.old) (W.contents out.new) (behind_escape byte)) }
+{
+    if byte != 2 && byte != 5 && byte != 27 {
+        write_byte(27, false, out)?;
+    }
+    write_byte(byte, false, out)
+}
+
+/// Writes what stands there, one byte or a 27 with the byte behind it, and tells where the next stands.
+fn write_one<W: Write>(bytes: &[u8], at: usize, out: &mut W) -> Result<usize, WriteFault>
+    requires { at < length bytes.now }
+    ensures { IfOk result (λ to. (at < to) × (to ≤ length bytes.now) × (text : List ℕ)
+        × Appends (W.contents out.old) (W.contents out.new) text × PrintsTo bytes.now at to text) }
+{
+    if bytes[at] != 27 {
+        write_spelled(bytes[at], out)?;
+        return Ok(at + 1);
+    }
+    if bytes.len() - at < 2 {
+        return Ok(at + 1);
+    }
+    write_escaped(bytes[at + 1], out)?;
+    Ok(at + 2)
+}
+
+/// Writes a block like `tree_text`, from bytes that spell it. No memory is taken.
+pub fn spelled_text<W: Write>(bytes: &[u8], out: &mut W) -> Result<(), WriteFault>
+    requires { (b : Tree) × Spells limits b bytes.now }
+    ensures { OnOk result ((b : Tree) → Spells limits b bytes.now
+        → Appends (W.contents out.old) (W.contents out.new) (tree_text b)) }
+{
+    let mut at = 0;
+    while at < bytes.len() {
+        let end = plain_end(bytes, at, false);
+        write_run(&bytes[at..end], out)?;
+        if end == bytes.len() {
+            return Ok(());
+        }
+        at = write_one(bytes, end, out)?;
+    }
+    Ok(())
+}
