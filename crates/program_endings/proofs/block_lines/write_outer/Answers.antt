@@ -5,8 +5,8 @@ use Rattle.block_tree.specs.Tree.{Tree}
 use Rattle.meta_format.specs.Limits.{limits}
 use Rattle.meta_format.specs.Spelling.{Spells}
 use Rattle.sheet_text.specs.Blocks.{tree_text}
-use Rattle.host_cli.proofs.Lines.{line_of}
-use Rattle.host_cli.proofs.block_lines.write_outer.Goals as goal
+use Rattle.program_endings.proofs.Lines.{line_of}
+use Rattle.program_endings.proofs.block_lines.write_outer.Goals as goal
 
 pub returns-clause-ok : goal.returns-clause-ok
 returns-clause-ok g c b spelled =
