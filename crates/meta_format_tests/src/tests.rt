@@ -1,3 +1,5 @@
+mod random;
+
 use meta_format::{FeedFault, Found, ReadFault, Reader, Seen, next_outer, read_block, write_block};
 use std::alloc::Global;
 use std::process::Abort;
