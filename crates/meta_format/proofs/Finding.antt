@@ -77,12 +77,6 @@ pub open_in_name : (most : Limits) (s : List ℕ) (start name levels : ℕ) → 
     → Finds most s start (seen.Open start)
 open_in_name most s start name levels short early there so = (_, in_name most s start name levels (length s) so short early there, tt, refl)
 
-pub open_in_body : (most : Limits) (s : List ℕ) (start d : ℕ) → InBody most s start (length s) d → Finds most s start (seen.Open start)
-open_in_body most s start d there = (_, there.1, tt, refl)
-
-pub open_in_escape : (most : Limits) (s : List ℕ) (start d : ℕ) → InEscape most s start (length s) d → Finds most s start (seen.Open start)
-open_in_escape most s start d there = (_, there.1, tt, refl)
-
 -- the bytes of a block that is found spell it
 
 no_bytes : (t : List ℕ) → length t ≡ 0 → t ≡ []

@@ -128,7 +128,8 @@ fn noise_end(stream: &[u8], from: usize) -> usize
     from + before_two(&stream[from..])
 }
 
-/// What comes next in a stream behind a front of it that is read. No memory is taken.
+/// What comes next in a stream behind a front of it that is read: at `from` no block is open, as at 0, and
+/// as behind each block that this call gives. No memory is taken, and no byte before `from` is looked at.
 pub fn next_outer(stream: &[u8], from: usize) -> Seen
     requires within { from ≤ length stream.now }
     requires early { length stream.now ≤ limits.stream }

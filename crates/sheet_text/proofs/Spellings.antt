@@ -1,7 +1,7 @@
 -- What is printed of a spelling is the text of its block.
 use Rattle.std.proofs.Common.{◌≡◌, ◌<◌, ◌≤◌, ◌+◌, ◌-◌, ℕ, suc, nat_eq, nat_le, not, ◌||◌, ◌&&◌, Bool, true, false, List, [], ◌∷◌, ◌++◌, length, take, drop, get_or, refl, sym, ap, ◌∙◌, append_assoc, append-nil, arith}
 use Rattle.std.proofs.lemmas.Bool.{cond-true, cond-false, or_parts, or_from, and_parts, ne_eqb, leb-true, true≢false}
-use Rattle.std.proofs.lemmas.List.{at_drop_more, drop-drop, take-append-drop, length-take-le, length-drop, get_or-take, get_or-drop, drop_all}
+use Rattle.std.proofs.lemmas.List.{drop-drop, take-append-drop, length-take-le, length-drop, get_or-take, get_or-drop, drop_all}
 use Rattle.std.specs.List.{list_all}
 use Rattle.block_tree.specs.Tree.{Items, Tree}
 use Rattle.block_tree.specs.Shape.{is_proper, is_tag_name, is_tag_byte, begins_with_text, depth}
@@ -10,7 +10,7 @@ use Rattle.meta_format.specs.Spelling.{is_special, separator, SpellsText, nothin
 use Rattle.sheet_text.specs.Escape.{is_plain, printed_byte, escaped_byte, on_line}
 use Rattle.sheet_text.specs.Blocks.{sign, framed, items_tree_text, tree_text}
 use Rattle.sheet_text.specs.inside.PlainRuns.{AllPassBetween}
-use Rattle.sheet_text.specs.inside.Spelled.{spelled_byte, behind_escape, spelled_text, PrintsTo}
+use Rattle.sheet_text.specs.inside.Spelled.{spelled_text, PrintsTo}
 
 no_special : (c : ℕ) → nat_eq c 2 ≡ false → nat_eq c 5 ≡ false → nat_eq c 27 ≡ false → is_special c ≡ false
 no_special c two five escape = or_from (nat_eq c 2 || nat_eq c 5) (nat_eq c 27) (or_from (nat_eq c 2) (nat_eq c 5) two five) escape
@@ -88,31 +88,11 @@ spelling_printed most b s p =
 
 -- by offsets
 
-pub prints_nothing : (bytes : List ℕ) (at : ℕ) → PrintsTo bytes at at []
-prints_nothing bytes at = refl
-
 pub prints_more : (bytes : List ℕ) (from at to : ℕ) (t u : List ℕ) → PrintsTo bytes from at t → PrintsTo bytes at to u → PrintsTo bytes from to (t ++ u)
 prints_more bytes from at to t u e f = e ∙ ap (λ r. t ++ r) f ∙ sym (append_assoc t u (spelled_text false (drop to bytes)))
 
 pub prints_all : (bytes : List ℕ) (at : ℕ) (t : List ℕ) → length bytes ≤ at → PrintsTo bytes 0 at t → t ≡ spelled_text false bytes
 prints_all bytes at t end e = sym (append-nil t) ∙ ap (λ r. t ++ spelled_text false r) (sym (drop_all at bytes end)) ∙ sym e
-
--- one byte
-pub prints_byte : (bytes : List ℕ) (at : ℕ) → at < length bytes → (get_or bytes at 0 ≡ 27 → ⊥) → PrintsTo bytes at (at + 1) (spelled_byte (get_or bytes at 0))
-prints_byte bytes at some other = at_drop_more (spelled_text false) bytes at 0 some ∙ cond-false (nat_eq (get_or bytes at 0) 27) _ _ (ne_eqb (get_or bytes at 0) 27 other)
-
--- a 27
-from_27 : (bytes : List ℕ) (at : ℕ) → at < length bytes → get_or bytes at 0 ≡ 27 → spelled_text false (drop at bytes) ≡ spelled_text true (drop (at + 1) bytes)
-from_27 bytes at some byte = at_drop_more (spelled_text false) bytes at 0 some ∙ ap (λ c. spelled_text false (c ∷ drop (at + 1) bytes)) byte
-
-pub prints_last : (bytes : List ℕ) (at : ℕ) → at < length bytes → get_or bytes at 0 ≡ 27 → length bytes ≤ at + 1 → PrintsTo bytes at (at + 1) []
-prints_last bytes at some byte end =
-    from_27 bytes at some byte ∙ ap (spelled_text true) (drop_all (at + 1) bytes end) ∙ ap (spelled_text false) (sym (drop_all (at + 1) bytes end))
-
-pub prints_two : (bytes : List ℕ) (at : ℕ) → at + 1 < length bytes → get_or bytes at 0 ≡ 27 → PrintsTo bytes at (at + 2) (behind_escape (get_or bytes (at + 1) 0))
-prints_two bytes at some byte =
-    from_27 bytes at (omega arith) byte ∙ at_drop_more (spelled_text true) bytes (at + 1) 0 some
-    ∙ ap (λ n. behind_escape (get_or bytes (at + 1) 0) ++ spelled_text false (drop n bytes)) (omega arith)
 
 -- bytes that are printed as themselves
 

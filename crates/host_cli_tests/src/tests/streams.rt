@@ -1,9 +1,10 @@
-//! Streams that are read in parts of three bytes, and readers and writers that fail.
-use super::failing::{Full, InterruptedOnce, Parts, Unflushed};
+//! Streams that are read in parts of three bytes, readers and writers that fail, and one that takes all memory.
+use super::failing::{Exhausting, Full, InterruptedOnce, Parts, Unflushed};
 use program_endings::blocks;
 use sheet_programs::RunFault;
 use std::alloc::Global;
 use std::io::{Read, Write};
+use std::test::Fail;
 
 // Whether `blocks` prints this text of the stream, and gives this answer.
 fn prints(alloc: Global, stream: &[u8], text: &[u8], whole: bool) -> bool {
@@ -59,4 +60,31 @@ fn a_flush_that_fails_is_told_whatever_the_stream(rt: HostRuntime) {
         let fault = writer_fault(rt.alloc(), stream, &mut Unflushed);
         assert!(rt; fault == Some(RunFault::Output));
     }
+}
+
+// What `blocks` writes of a stream whose reader takes all memory at its end, where it did and all was written.
+fn without_memory(alloc: Global, stream: &[u8]) -> Option<Vec<u8>> {
+    let mut out: Vec<u8> = Vec::with_capacity(alloc, 1_000).ok()?;
+    let mut reader = Exhausting {
+        alloc,
+        rest: stream,
+        held: Vec::new(alloc),
+    };
+    let answer = blocks(alloc, &mut reader, &mut out);
+    let is_held = !reader.held.is_empty();
+    drop(reader);
+    if is_held && answer == Ok(false) {
+        Some(out)
+    } else {
+        None
+    }
+}
+
+#[test]
+fn without_memory_a_stream_is_printed(rt: HostRuntime) -> Result<(), Fail> {
+    let stream = b"\x02a:\x02b#\x1b\x05\x05\x05noise\x02c:x\x05\x02d";
+    let expected = b"0 10 {a:{b#\\x05}}\n15 20 {c:x}\nunfinished 20\n";
+    let out = without_memory(rt.alloc(), stream).ok_or("a fault, or memory")?;
+    assert!(rt; out.as_slice() == expected.as_slice());
+    Ok(())
 }

@@ -55,7 +55,6 @@ loop-at-init c =
 
 pub loop-at-preserved-in-Whole-name_end : goal.loop-at-preserved-in-Whole-name_end
 loop-at-preserved-in-Whole-name_end c =
-    let some = c.requires.some in
     let high = c.requires.high in
     let short = c.requires.short in
     let early = c.requires.early in
@@ -66,7 +65,6 @@ loop-at-preserved-in-Whole-name_end c =
     let on = c.loop-at-test.true in
     let so = c.loop-at.invariant.3 in
     let low = c.loop-at.invariant.0 in
-    let few = c.loop-at.invariant.2 in
     let shallow = c.if-depth.false in
     let byte : slice_index s at ≡ 2 = search rules in
     let two = body_two limits s start at d (omega (arith, on, high)) byte (omega (arith, short, on)) (omega (arith, early, on, high)) (omega (arith, shallow)) so in
@@ -78,7 +76,6 @@ loop-at-preserved-in-Whole-name_end c =
 
 pub returns-in-Bad-name_end : goal.returns-in-Bad-name_end
 returns-in-Bad-name_end c =
-    let some = c.requires.some in
     let high = c.requires.high in
     let short = c.requires.short in
     let early = c.requires.early in
@@ -88,8 +85,6 @@ returns-in-Bad-name_end c =
     let d = c.loop-at.depth in
     let on = c.loop-at-test.true in
     let so = c.loop-at.invariant.3 in
-    let low = c.loop-at.invariant.0 in
-    let few = c.loop-at.invariant.2 in
     let shallow = c.if-depth.false in
     let byte : slice_index s at ≡ 2 = search rules in
     let two = body_two limits s start at d (omega (arith, on, high)) byte (omega (arith, short, on)) (omega (arith, early, on, high)) (omega (arith, shallow)) so in
@@ -99,7 +94,6 @@ returns-in-Bad-name_end c =
 
 pub returns-in-Cut-name_end : goal.returns-in-Cut-name_end
 returns-in-Cut-name_end c =
-    let some = c.requires.some in
     let high = c.requires.high in
     let short = c.requires.short in
     let early = c.requires.early in
@@ -109,8 +103,6 @@ returns-in-Cut-name_end c =
     let d = c.loop-at.depth in
     let on = c.loop-at-test.true in
     let so = c.loop-at.invariant.3 in
-    let low = c.loop-at.invariant.0 in
-    let few = c.loop-at.invariant.2 in
     let shallow = c.if-depth.false in
     let byte : slice_index s at ≡ 2 = search rules in
     let two = body_two limits s start at d (omega (arith, on, high)) byte (omega (arith, short, on)) (omega (arith, early, on, high)) (omega (arith, shallow)) so in
@@ -119,9 +111,7 @@ returns-in-Cut-name_end c =
 
 pub returns-then-depth-eq0 : goal.returns-then-depth-eq0
 returns-then-depth-eq0 c =
-    let some = c.requires.some in
     let high = c.requires.high in
-    let short = c.requires.short in
     let early = c.requires.early in
     let s = c.args.stream.now in
     let start = c.args.start in
@@ -130,14 +120,12 @@ returns-then-depth-eq0 c =
     let on = c.loop-at-test.true in
     let so = c.loop-at.invariant.3 in
     let low = c.loop-at.invariant.0 in
-    let few = c.loop-at.invariant.2 in
     let byte : slice_index s at ≡ 5 = search rules in
     let none : d ≡ 0 = search rules in
     (omega (arith, low), omega (arith, on), _, whole limits s start at (omega (arith, on, high)) byte (omega (arith, early, on, high)) (subst (λ n. InBody limits s start at n) none so))
 
 pub loop-at-preserved-then-c-eq5 : goal.loop-at-preserved-then-c-eq5
 loop-at-preserved-then-c-eq5 c =
-    let some = c.requires.some in
     let high = c.requires.high in
     let short = c.requires.short in
     let early = c.requires.early in
@@ -155,7 +143,6 @@ loop-at-preserved-then-c-eq5 c =
 
 pub returns-then-limit-at-lt2 : goal.returns-then-limit-at-lt2
 returns-then-limit-at-lt2 c =
-    let some = c.requires.some in
     let high = c.requires.high in
     let short = c.requires.short in
     let early = c.requires.early in
@@ -165,8 +152,6 @@ returns-then-limit-at-lt2 c =
     let d = c.loop-at.depth in
     let on = c.loop-at-test.true in
     let so = c.loop-at.invariant.3 in
-    let low = c.loop-at.invariant.0 in
-    let few = c.loop-at.invariant.2 in
     let byte : slice_index s at ≡ 27 = search rules in
     let escape = body_27 limits s start at d (omega (arith, on, high)) byte (omega (arith, short, on)) (omega (arith, early, on, high)) so in
     let last = c.if-limit-at-lt2.true in
@@ -175,7 +160,6 @@ returns-then-limit-at-lt2 c =
 
 pub loop-at-preserved-then-c-eq27 : goal.loop-at-preserved-then-c-eq27
 loop-at-preserved-then-c-eq27 c =
-    let some = c.requires.some in
     let high = c.requires.high in
     let short = c.requires.short in
     let early = c.requires.early in
@@ -195,7 +179,6 @@ loop-at-preserved-then-c-eq27 c =
 
 pub loop-at-preserved : goal.loop-at-preserved
 loop-at-preserved c =
-    let some = c.requires.some in
     let high = c.requires.high in
     let short = c.requires.short in
     let early = c.requires.early in
