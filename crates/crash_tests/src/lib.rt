@@ -1,5 +1,5 @@
-//! Crashes at every moment, disks that fail at every call, and hosts one after another on one disk: the
-//! worked example of docs/FORMAT.md, event by event.
+//! The tests of `session_engine`: hosts by their events, crashes at every moment, disks that fail at every
+//! call, and hosts one after another on one disk.
 #![tactic(auto)]
 
 #[cfg(test)]

@@ -1,7 +1,12 @@
-//! The worked example, with what a crash or a failing disk may leave of it typed in.
-mod checkpoints;
+//! Worked examples, by their events: what is told, what is to be done with the children, what the worksheet and
+//! the disk have then, and what crashes and failing disks leave of them.
 mod desk;
+mod events;
 mod failing;
+mod hosts;
+mod lives;
 mod moments;
-mod reasons;
+mod scripts;
+mod stories;
+mod told;
 mod turns;

@@ -1,7 +1,4 @@
-//! What no clause says: worked examples, and refused memory.
+//! What no clause says: worked examples, the limits, and refused memory.
 mod answers;
-mod completions;
 mod desk;
-mod limits;
 mod memory;
-mod waiting;

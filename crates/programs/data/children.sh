@@ -94,6 +94,51 @@ for length in 1024 1025 3000 100000; do
     script "a default input of $length bytes" "$one" "ok\nfield 1\nasked\nbanner a\nanswered 1\ndefault a $(repeated $length y)\n" '#1 a\n> x\nA\n'
 done
 
+# Prompts are cut to their first 1,024 bytes.
+for length in 1023 1024 1025; do
+    kept=$length
+    if [ $length = 1025 ]; then kept=1024; fi
+    interpreter p '\002verbatim:\002prompt#'"$(repeated $length p)"'\005\005' '\002verbatim:A\005'
+    script "a prompt of $length bytes" "$one" 'ok\nfield 1\nasked\nbanner a\nanswered 1\n' "#1 a\n$(repeated $kept p)x\nA\n"
+done
+
+# Blocks of 32 levels in one another, and then one of 33.
+levels=$(repeated 32 x | sed 's/x/\\002a:/g')$(repeated 32 x | sed 's/x/\\005/g')
+interpreter p "$levels" "$levels" "$(repeated 33 x | sed 's/x/\\002a:/g')"
+script 'blocks of 32 levels and more' "$two" 'ok\nfield 1\nfield 2\nasked\nasked\nbanner a\nanswered 1\nended a TooDeep lost 1\n' \
+    "#1 a\n> x\n$(repeated 32 '{a:')$(repeated 32 '}')\n#2 a\n> y\n? TooDeep\n"
+
+# An answer of 16,777,216 bytes, which is the longest, and one of a byte more.
+answers_of() {
+    {
+        printf '%s\n' "printf '$banner'" 'read -r line' "printf '\\002verbatim:'"
+        printf '%s\n' "head -c $1 /dev/zero | tr '\\0' a" "printf '\\005'" 'read -r line' "printf '$banner'" 'read -r line'
+    } >p.sh
+    rm -f sheet sheet.alt
+    "$tmhost" create sheet
+    printf "$two" >given
+}
+answers_of 16777205
+compare 'the longest answer' "$(answer run sheet <given)" \
+    "$(ending 'ok\nfield 1\nfield 2\nasked\nasked\nbanner a\nanswered 1\nanswered 2\n' 0)"
+compare 'the longest answer, shown' "$("$tmhost" show sheet | cksum)" \
+    "$({ printf '#1 a\n> x\n'; head -c 16777205 /dev/zero | tr '\0' a; printf '\n#2 a\n> y\n\n'; } | cksum)"
+answers_of 16777206
+compare 'an answer that is too long' "$(answer run sheet <given)" \
+    "$(ending 'ok\nfield 1\nfield 2\nasked\nasked\nbanner a\nended a TooLong lost 2\n' 0)"
+compare 'an answer that is too long, shown' "$(answer show sheet)" "$(ending '#1 a\n> x\n? TooLong\n#2 a\n> y\n?\n' 0)"
+
+# 1,024 lines wait in a session, and no more.
+printf 'read -r line\n' >p.sh
+{
+    echo 'session a plain sh p.sh'
+    seq 0 1024 | sed 's/.*/new & a x/'
+    seq 1025 | sed 's/.*/eval &/'
+} >given
+runs 'so many lines wait and no more' \
+    "$(printf 'ok\\n'; seq 1025 | sed 's/.*/field &\\n/' | tr -d '\n'; repeated 1024 'asked@' | sed 's/@/\\n/g')"'refused 14 QueueFull\n' \
+    "$(seq 1025 | sed 's/.*/#& a\\n> x\\n?\\n/' | tr -d '\n')" <given
+
 # Fields whose line waits, and lines that are evaluated again.
 interpreter p "$banner" '\002verbatim:A\005'
 script 'a field in flight' 'session a plain sh p.sh\nnew 0 a x\neval 1\nnew 1 a y\nset 1 z\nremove 1\nclear 1\neval 1\nmove 1 0\nmove 1 2\nwait\n' \
@@ -195,6 +240,13 @@ then_runs 'another input takes the reason away' 'set 1 z\n' 'ok\n' '#1 a\n> z\n?
 script 'a reason once more' "$one" 'ok\nfield 1\nasked\nbanner a\nended a Ended lost 1\n' '#1 a\n> x\n? Ended\n'
 then_runs 'a clear takes the reason away' 'clear 1\n' 'ok\n' '#1 a\n> x\n?\n'
 then='read -r line'
+
+# A checkpoint keeps a reason, in the second file.
+script 'a reason behind a checkpoint' 'session a plain true\nnew 0 a x\nremove 1\nnew 0 a y\neval 2\nwait\ncheckpoint\n' \
+    'ok\nfield 1\nok\nfield 2\nasked\nended a Ended lost 1\nok\n' '#2 a\n> y\n? Ended\n'
+compare 'its selector' "$(head -c 10 sheet | tail -c 1)" B
+compare 'its records' "$(bytes sheet.alt)" \
+    544d5753484545540100520000000b010161000100047472756552000000050900000002520000000a02000000000161000179520000000608000000020200
 
 # Two interpreters at a time. Which of them is heard first is not said.
 cat >p.sh <<'END_OF_CHILD'

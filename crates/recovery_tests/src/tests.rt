@@ -1,5 +1,4 @@
 //! What no clause says: the worked examples, byte by byte, and what happens where a disk or memory fails.
-mod checkpoints;
 mod codes;
 mod commits;
 mod desk;

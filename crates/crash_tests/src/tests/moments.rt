@@ -1,50 +1,61 @@
 //! A crash at each moment, with each choice of what the pending writes left.
-use super::desk::{
-    CHOICES, EVENTS, Shown, behind, calls_behind, calls_of_create, choice, created, disk_of, event,
-    open, shown_left,
-};
-use disk_model::MemoryDisk;
+use super::desk::{CHOICES, choice, created, left, open};
+use super::stories::{Story, calls_behind, disk_behind, disk_of, shows};
+use disk_model::{Choice, MemoryDisk};
 use session_engine::{Event, Host};
 use std::alloc::Global;
 
-// What the worksheets are that crashes may leave: that behind so many events, or behind so many.
-#[derive(Clone, Copy)]
-struct Between {
-    start: u32,
-    stop: u32,
+fn shows_either(
+    alloc: Global,
+    host: &Host<MemoryDisk>,
+    story: Story,
+    (start, stop): (u32, u32),
+) -> bool {
+    shows(alloc, host, story.behind(start)) || shows(alloc, host, story.behind(stop))
 }
 
-impl Between {
-    fn has(&self, shown: Shown) -> bool {
-        shown == behind(self.start) || shown == behind(self.stop)
+// Whether this crash leaves the worksheet behind one of two counts of events.
+fn is_left(
+    alloc: Global,
+    disk: &MemoryDisk,
+    choice: &Choice,
+    story: Story,
+    counts: (u32, u32),
+) -> bool {
+    let Some(left) = left(disk, choice) else {
+        return false;
+    };
+    match open(alloc, left) {
+        Some(host) => shows_either(alloc, &host, story, counts),
+        None => false,
     }
 }
 
-// Whether a crash at this moment leaves one of them, whatever the pending writes left.
-fn each_choice_leaves(alloc: Global, disk: &MemoryDisk, moment: u64, wanted: Between) -> bool {
+fn each_choice_leaves(
+    alloc: Global,
+    disk: &MemoryDisk,
+    moment: u64,
+    story: Story,
+    counts: (u32, u32),
+) -> bool {
     for number in 0..CHOICES {
-        let shown = shown_left(alloc, disk, &choice(moment, number));
-        if !wanted.has(shown) {
+        if !is_left(alloc, disk, &choice(moment, number), story, counts) {
             return false;
         }
     }
     true
 }
 
-// The same of each moment from one to the last.
-fn each_moment_leaves(alloc: Global, disk: &MemoryDisk, first: u64, wanted: Between) -> bool {
-    moments_leave(alloc, disk, (first, disk.calls()), wanted)
-}
-
-// The same of each moment from one to another.
+// Whether each crash from this moment to that one leaves one of two worksheets.
 fn moments_leave(
     alloc: Global,
     disk: &MemoryDisk,
     (first, last): (u64, u64),
-    wanted: Between,
+    story: Story,
+    counts: (u32, u32),
 ) -> bool {
     for moment in first..last.saturating_add(1) {
-        if !each_choice_leaves(alloc, disk, moment, wanted) {
+        if !each_choice_leaves(alloc, disk, moment, story, counts) {
             return false;
         }
     }
@@ -52,88 +63,84 @@ fn moments_leave(
 }
 
 // A crash within this event leaves the worksheet before it, or with it; behind its `Ok` with it alone.
-fn is_whole_or_absent(alloc: Global, number: u32) -> Option<bool> {
-    let start = number;
-    let stop = number.saturating_add(1);
-    let first = calls_behind(alloc, start)?;
-    let disk = disk_of(alloc, stop)?;
-    let within = each_moment_leaves(alloc, &disk, first, Between { start, stop });
-    let with = Between { start: stop, stop };
-    Some(within && each_choice_leaves(alloc, &disk, disk.calls(), with))
+fn is_whole_or_absent(alloc: Global, story: Story, number: u32) -> Option<bool> {
+    let end = number.saturating_add(1);
+    let first = calls_behind(alloc, story, number)?;
+    let disk = disk_behind(alloc, story, end)?;
+    let last = disk.calls();
+    let within = moments_leave(alloc, &disk, (first, last), story, (number, end));
+    Some(within && each_choice_leaves(alloc, &disk, last, story, (end, end)))
+}
+
+// The first event at which a crash leaves something else.
+fn first_torn(alloc: Global, story: Story) -> Option<u32> {
+    for number in 0..story.len() {
+        if is_whole_or_absent(alloc, story, number) != Some(true) {
+            return Some(number);
+        }
+    }
+    None
 }
 
 #[test]
 fn a_crash_within_each_event(rt: HostRuntime) {
-    for number in 0..EVENTS {
-        let is_kept = is_whole_or_absent(rt.alloc(), number);
-        assert!(rt; is_kept == Some(true), "event {number}");
+    for story in [Story::Example, Story::Lost, Story::Fields, Story::Line] {
+        assert_eq!(rt; first_torn(rt.alloc(), story), None);
     }
 }
 
 // How many calls so many events make behind the opening.
-fn calls_of(alloc: Global, count: u32) -> Option<u64> {
-    let start = calls_behind(alloc, 0)?;
-    let stop = calls_behind(alloc, count)?;
-    if stop >= start {
-        Some(stop - start)
-    } else {
-        None
-    }
+fn calls_of(alloc: Global, story: Story, count: u32) -> Option<u64> {
+    let start = calls_behind(alloc, story, 0)?;
+    calls_behind(alloc, story, count)?.checked_sub(start)
 }
 
-// A record is written and synced, and then its gate is; the banner makes no call.
+// A record is written and synced, and then its gate is; the banner makes no call, nor does half an answer, and the
+// end that keeps a reason is a change.
 #[test]
 fn each_change_is_four_calls(rt: HostRuntime) {
     let alloc = rt.alloc();
     for (count, calls) in [(1, 4), (2, 8), (3, 12), (4, 12), (5, 16)] {
-        assert!(rt; calls_of(alloc, count) == Some(calls), "{count} events");
+        assert!(rt;
+            calls_of(alloc, Story::Example, count) == Some(calls),
+            "{count} events"
+        );
+    }
+    for (count, calls) in [(5, 12), (6, 16)] {
+        assert!(rt;
+            calls_of(alloc, Story::Lost, count) == Some(calls),
+            "{count} events"
+        );
     }
 }
 
-// Whether the disk has calls behind the first ones, so many, and crashes from there on leave this.
-fn has_more_and_leaves(alloc: Global, disk: &MemoryDisk, first: u64, wanted: Between) -> bool {
-    disk.calls() > first && each_moment_leaves(alloc, disk, first, wanted)
-}
-
-fn is_empty_in_the_opening(alloc: Global) -> Option<bool> {
-    let first = calls_of_create(alloc)?;
-    let disk = disk_of(alloc, 0)?;
-    let empty = Between { start: 0, stop: 0 };
-    Some(has_more_and_leaves(alloc, &disk, first, empty))
-}
-
-#[test]
-fn a_crash_within_the_opening(rt: HostRuntime) {
-    assert!(rt; is_empty_in_the_opening(rt.alloc()) == Some(true));
-}
-
-fn opened_and_closed(alloc: Global, disk: MemoryDisk) -> Option<MemoryDisk> {
-    let host = open(alloc, disk)?;
-    Some(host.close())
-}
-
-fn is_answered_in_the_opening(alloc: Global) -> Option<bool> {
-    let disk = disk_of(alloc, EVENTS)?;
+// Whether an opening of the worksheet behind so many events makes calls, and a crash at each of their
+// moments takes nothing away.
+fn is_kept_in_the_opening(alloc: Global, disk: MemoryDisk, count: u32) -> Option<bool> {
     let first = disk.calls();
-    let disk = opened_and_closed(alloc, disk)?;
-    let answered = Between {
-        start: EVENTS,
-        stop: EVENTS,
-    };
-    Some(has_more_and_leaves(alloc, &disk, first, answered))
+    let disk = disk_of(alloc, disk, Story::Example, (0, 0))?;
+    let last = disk.calls();
+    let counts = (count, count);
+    Some(last > first && moments_leave(alloc, &disk, (first, last), Story::Example, counts))
 }
 
-// A worksheet that has the answer is opened again: no crash takes it away.
+fn openings_keep(alloc: Global) -> Option<bool> {
+    let empty = is_kept_in_the_opening(alloc, created(alloc)?, 0)?;
+    let answered = disk_behind(alloc, Story::Example, 5)?;
+    Some(empty && is_kept_in_the_opening(alloc, answered, 5)?)
+}
+
+// The opening of a new worksheet, and one of a worksheet that has the answer.
 #[test]
-fn a_crash_within_a_later_opening(rt: HostRuntime) {
-    assert!(rt; is_answered_in_the_opening(rt.alloc()) == Some(true));
+fn a_crash_within_an_opening(rt: HostRuntime) {
+    assert!(rt; openings_keep(rt.alloc()) == Some(true));
 }
 
 // Those for which there is no memory are left out, and then fewer outcomes come.
 fn events(alloc: Global) -> Vec<Event> {
     let mut events = Vec::new(alloc);
-    for number in 0..EVENTS {
-        if let Some(event) = event(alloc, number) {
+    for number in 0..5u32 {
+        if let Some(event) = Story::Example.event(alloc, number) {
             let _ = events.push(event);
         }
     }
@@ -159,20 +166,18 @@ fn disk_of_play(alloc: Global) -> Option<MemoryDisk> {
 }
 
 // Which worksheets the moments of an event's calls lie between. Each change is four calls.
-fn within_change(number: u32) -> Between {
+fn within_change(number: u32) -> (u32, u32) {
     match number {
-        0 => Between { start: 0, stop: 1 },
-        1 => Between { start: 1, stop: 2 },
-        2 => Between { start: 2, stop: 3 },
-        _ => Between { start: 4, stop: 5 },
+        3 => (4, 5),
+        _ => (number, number.saturating_add(1)),
     }
 }
 
 fn each_change_leaves(alloc: Global, disk: &MemoryDisk, start: u64) -> bool {
     for number in 0..4u32 {
         let first = start.saturating_add(4 * number as u64);
-        let last = first.saturating_add(4);
-        if !moments_leave(alloc, disk, (first, last), within_change(number)) {
+        let moments = (first, first.saturating_add(4));
+        if !moments_leave(alloc, disk, moments, Story::Example, within_change(number)) {
             return false;
         }
     }
@@ -180,7 +185,7 @@ fn each_change_leaves(alloc: Global, disk: &MemoryDisk, start: u64) -> bool {
 }
 
 fn is_whole_in_a_play(alloc: Global) -> Option<bool> {
-    let start = calls_behind(alloc, 0)?;
+    let start = calls_behind(alloc, Story::Example, 0)?;
     let disk = disk_of_play(alloc)?;
     Some(each_change_leaves(alloc, &disk, start))
 }

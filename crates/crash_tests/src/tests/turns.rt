@@ -1,50 +1,17 @@
 //! Hosts one after another on one disk.
-use super::desk::{
-    CHOICES, EVENTS, Shown, Step, answer, calls_of_create, choice, disk_of, left, line, open,
-    shown_left, shows, take_from,
-};
+use super::desk::{CHOICES, answer, calls_of_create, choice, left, line, open};
+use super::stories::{Story, Told, disk_behind, disk_of, shows, tells};
 use disk_model::{Choice, MemoryDisk};
-use session_engine::{Event, Host, Reply};
+use session_engine::Host;
 use std::alloc::Global;
-
-// What a host tells of an event, in short.
-#[derive(Clone, Copy, Debug, PartialEq, Eq)]
-enum Told {
-    Nothing,
-    /// The life with this number has the line.
-    Asked(u32),
-    Other,
-}
-
-fn told_by(reply: &Reply) -> Told {
-    match reply {
-        Reply::Nothing => Told::Nothing,
-        Reply::Asked(life) => Told::Asked(*life),
-        _ => Told::Other,
-    }
-}
-
-fn gives(host: &mut Host<MemoryDisk>, event: Event) -> Told {
-    match host.step(event) {
-        Ok(outcome) => told_by(&outcome.reply),
-        Err(_) => Told::Other,
-    }
-}
-
-fn tells(host: &mut Host<MemoryDisk>, event: Option<Event>) -> Told {
-    match event {
-        Some(event) => gives(host, event),
-        None => Told::Other,
-    }
-}
 
 // An answer that the earlier interpreter gave counts for nothing, and the line can be evaluated anew, by the
 // first life of this host.
 fn begins_anew(alloc: Global, host: &mut Host<MemoryDisk>) -> bool {
-    let stale = tells(host, answer(alloc));
-    let found = shows(alloc, host);
-    let anew = tells(host, line(alloc, b"eval 1"));
-    stale == Told::Nothing && found == Shown::Field && anew == Told::Asked(1)
+    let is_stale = tells(host, answer(alloc), Told::Nothing);
+    let is_open = shows(alloc, host, Story::Example.behind(4));
+    let is_asked = tells(host, line(alloc, b"eval 1"), Told::Asked);
+    is_stale && is_open && is_asked
 }
 
 fn begins_anew_on(alloc: Global, disk: MemoryDisk) -> bool {
@@ -73,51 +40,36 @@ fn each_forgets(alloc: Global, disk: &MemoryDisk) -> bool {
 
 #[test]
 fn a_crash_between_the_banner_and_the_answer(rt: HostRuntime) {
-    let forgets = match disk_of(rt.alloc(), 4) {
+    let forgets = match disk_behind(rt.alloc(), Story::Example, 4) {
         Some(disk) => each_forgets(rt.alloc(), &disk),
         None => false,
     };
     assert!(rt; forgets);
 }
 
-// How many of the events a worksheet shows at least: what a host that finds it has to do is the rest.
-fn found(shown: Shown) -> Option<u32> {
-    match shown {
-        Shown::Empty => Some(0),
-        Shown::Session => Some(1),
-        Shown::Field => Some(2),
-        Shown::Answer => Some(EVENTS),
-        Shown::Reason | Shown::Other => None,
+// How many of the events of the example a worksheet shows at least: what a host that finds it has to do is
+// the rest.
+fn found(alloc: Global, host: &Host<MemoryDisk>) -> Option<u32> {
+    for count in 0..6u32 {
+        if shows(alloc, host, Story::Example.behind(count)) {
+            return Some(count);
+        }
     }
+    None
 }
 
-fn plays_the_rest(alloc: Global, host: &mut Host<MemoryDisk>, first: u32) -> bool {
-    take_from(alloc, host, first, EVENTS).last == Step::Taken
-}
-
-// The disk of a host that found so many events on this one and played what was missing.
-fn played(alloc: Global, disk: MemoryDisk, first: u32) -> Option<MemoryDisk> {
-    let mut host = open(alloc, disk)?;
-    if plays_the_rest(alloc, &mut host, first) {
-        Some(host.close())
-    } else {
-        None
-    }
-}
-
-fn is_at_least(shown: Shown, count: u32) -> bool {
-    match found(shown) {
-        Some(found) => found >= count,
-        None => false,
-    }
+// The same of what a crash leaves.
+fn found_behind(alloc: Global, disk: &MemoryDisk, choice: &Choice) -> Option<u32> {
+    let host = open(alloc, left(disk, choice)?)?;
+    found(alloc, &host)
 }
 
 // Whether each crash of this kind, at each moment, leaves at least what so many events made.
 fn keeps(alloc: Global, disk: &MemoryDisk, number: u32, count: u32) -> bool {
     for moment in 0..disk.calls().saturating_add(1) {
-        let shown = shown_left(alloc, disk, &choice(moment, number));
-        if !is_at_least(shown, count) {
-            return false;
+        match found_behind(alloc, disk, &choice(moment, number)) {
+            Some(found) if found >= count => {}
+            _ => return false,
         }
     }
     true
@@ -127,8 +79,8 @@ fn keeps(alloc: Global, disk: &MemoryDisk, number: u32, count: u32) -> bool {
 // crash of the same kind at each moment: what a third one finds is no less than what the second one found.
 fn nothing_is_lost(alloc: Global, disk: &MemoryDisk, moment: u64, number: u32) -> Option<bool> {
     let crash = choice(moment, number);
-    let count = found(shown_left(alloc, disk, &crash))?;
-    let second = played(alloc, left(disk, &crash)?, count)?;
+    let count = found_behind(alloc, disk, &crash)?;
+    let second = disk_of(alloc, left(disk, &crash)?, Story::Example, (count, 5))?;
     Some(keeps(alloc, &second, number, count))
 }
 
@@ -144,7 +96,7 @@ fn is_lost_nowhere(alloc: Global, disk: &MemoryDisk, first: u64, number: u32) ->
 
 fn nothing_is_lost_in_turn(alloc: Global, number: u32) -> Option<bool> {
     let first = calls_of_create(alloc)?;
-    let disk = disk_of(alloc, EVENTS)?;
+    let disk = disk_behind(alloc, Story::Example, 5)?;
     Some(is_lost_nowhere(alloc, &disk, first, number))
 }
 

@@ -5,11 +5,10 @@ ghost use Rattle.journal.specs.Kept.{Keeps};
 ghost use Rattle.journal_tests.specs.Batch.{SomeFirst};
 ghost use Rattle.journal.specs.Journal.{disk_after};
 
-use super::desk::{SESSION, created, empty, frame, has};
+use super::desk::{SESSION, empty_in, frame, has};
 use disk_model::{Disk, MemoryDisk};
 use journal::{AppendFault, Frame, Journal};
 use std::alloc::Global;
-use std::test::Fail;
 
 // How a layer above carries the journal's promises on, by its contract alone. It appends payloads in
 // order. A crash at any moment leaves the payloads from before the call, and behind them the first
@@ -37,18 +36,26 @@ fn append_all<D: Disk>(journal: Journal<D>, frames: &[Frame]) -> Result<Journal<
 }
 
 // A disk with these payloads.
-fn disk_of(alloc: Global, frames: &[Frame]) -> Result<MemoryDisk, Fail> {
-    match append_all(empty(alloc, created(alloc, 40)?)?, frames) {
-        Ok(journal) => Ok(journal.into_disk()),
-        Err(_) => Err("append".into()),
+fn disk_of(alloc: Global, frames: &[Frame]) -> Option<MemoryDisk> {
+    match append_all(empty_in(alloc, 40)?, frames) {
+        Ok(journal) => Some(journal.into_disk()),
+        Err(_) => None,
     }
 }
 
-#[test]
-fn payloads_in_order(rt: HostRuntime) -> Result<(), Fail> {
-    let alloc = rt.alloc();
+fn has_both(alloc: Global, frames: &[Frame]) -> bool {
+    match disk_of(alloc, frames) {
+        Some(disk) => has(alloc, disk, &[(10, &SESSION), (24, &[7])]),
+        None => false,
+    }
+}
+
+fn keeps_both(alloc: Global) -> Option<bool> {
     let frames = [frame(alloc, &SESSION)?, frame(alloc, &[7])?];
-    let disk = disk_of(alloc, &frames)?;
-    assert!(rt; has(alloc, disk, &[(10, &SESSION), (24, &[7])])?);
-    Ok(())
+    Some(has_both(alloc, &frames))
+}
+
+#[test]
+fn payloads_in_order(rt: HostRuntime) {
+    assert!(rt; keeps_both(rt.alloc()) == Some(true));
 }

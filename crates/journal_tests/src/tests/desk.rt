@@ -1,8 +1,7 @@
 //! Disks in memory, and journals on them.
-use disk_model::{Disk, MemoryDisk};
+use disk_model::{Area, Disk, MemoryDisk};
 use journal::{AppendFault, CreateCause, Frame, Journal, Payload, create};
-use std::alloc::{AllocError, Global};
-use std::test::Fail;
+use std::alloc::Global;
 
 /// The payload of a session `a`, plain, with the word `sh`.
 pub const SESSION: [u8; 9] = [1, 1, 0x61, 0, 1, 0, 2, 0x73, 0x68];
@@ -19,59 +18,57 @@ pub const AREA: [u8; 76] = [
 ];
 
 /// A disk in memory with an empty journal.
-pub fn created(alloc: Global, room: u64) -> Result<MemoryDisk, Fail> {
+pub fn created(alloc: Global, room: u64) -> Option<MemoryDisk> {
     if room < 11 || room > 100 {
-        return Err("room".into());
+        return None;
     }
-    match create(MemoryDisk::new(alloc, room)) {
-        Ok(disk) => Ok(disk),
-        Err(_) => Err("create".into()),
-    }
+    create(MemoryDisk::new(alloc, room)).ok()
 }
 
 /// A disk in memory whose area First has these bytes.
-pub fn holding(alloc: Global, first: &[u8]) -> Result<MemoryDisk, Fail> {
+pub fn holding(alloc: Global, first: &[u8]) -> Option<MemoryDisk> {
     if first.len() > 100 {
-        return Err("too long".into());
+        return None;
     }
-    match MemoryDisk::holding(alloc, 100, first.to_vec(alloc)?) {
-        Ok(disk) => Ok(disk),
-        Err(_) => Err("holding".into()),
-    }
+    let first = first.to_vec(alloc).ok()?;
+    MemoryDisk::holding(alloc, 100, first).ok()
 }
 
 /// Why a disk isn't created.
-pub fn cause_of<D: Disk>(disk: D) -> Result<Option<CreateCause>, Fail> {
+pub fn cause_of<D: Disk>(disk: D) -> Option<CreateCause> {
     if disk.room() < 11 {
-        return Err("room".into());
+        return None;
     }
     match create(disk) {
-        Ok(_) => Ok(None),
-        Err(fault) => Ok(Some(fault.cause)),
+        Ok(_) => None,
+        Err(fault) => Some(fault.cause),
     }
 }
 
-pub fn opened<D: Disk>(alloc: Global, disk: D) -> Result<(Journal<D>, Vec<Payload>), Fail> {
-    match Journal::open(alloc, disk) {
-        Ok(opened) => Ok(opened),
-        Err(_) => Err("open".into()),
-    }
+pub fn opened<D: Disk>(alloc: Global, disk: D) -> Option<(Journal<D>, Vec<Payload>)> {
+    Journal::open(alloc, disk).ok()
 }
 
 /// A journal on a disk that has no payload.
-pub fn empty<D: Disk>(alloc: Global, disk: D) -> Result<Journal<D>, Fail> {
+pub fn empty<D: Disk>(alloc: Global, disk: D) -> Option<Journal<D>> {
     let (journal, payloads) = opened(alloc, disk)?;
-    if !payloads.is_empty() {
-        return Err("a payload".into());
+    if payloads.is_empty() {
+        Some(journal)
+    } else {
+        None
     }
-    Ok(journal)
 }
 
-pub fn frame(alloc: Global, payload: &[u8]) -> Result<Frame, AllocError> {
+/// An empty journal on a disk in memory.
+pub fn empty_in(alloc: Global, room: u64) -> Option<Journal<MemoryDisk>> {
+    empty(alloc, created(alloc, room)?)
+}
+
+pub fn frame(alloc: Global, payload: &[u8]) -> Option<Frame> {
     if payload.is_empty() || payload.len() > 100 {
-        return Err(AllocError);
+        return None;
     }
-    Frame::new(alloc, payload)
+    Frame::new(alloc, payload).ok()
 }
 
 /// What became of an append or a rewrite, with the journal or its disk.
@@ -80,6 +77,22 @@ pub enum Appended<D: Disk> {
     Done(Journal<D>),
     Full(Journal<D>),
     Failed(D),
+}
+
+impl<D: Disk> Appended<D> {
+    pub fn done(self) -> Option<Journal<D>> {
+        match self {
+            Appended::Done(journal) => Some(journal),
+            _ => None,
+        }
+    }
+
+    pub fn full(self) -> Option<Journal<D>> {
+        match self {
+            Appended::Full(journal) => Some(journal),
+            _ => None,
+        }
+    }
 }
 
 pub fn append<D: Disk>(journal: Journal<D>, frame: &Frame) -> Appended<D> {
@@ -98,28 +111,23 @@ pub fn rewrite<D: Disk>(journal: Journal<D>, frames: &[Frame]) -> Appended<D> {
     }
 }
 
-/// The journal with one payload more.
-pub fn longer<D: Disk>(
-    alloc: Global,
-    journal: Journal<D>,
-    payload: &[u8],
-) -> Result<Journal<D>, Fail> {
-    match append(journal, &frame(alloc, payload)?) {
-        Appended::Done(journal) => Ok(journal),
-        _ => Err("not appended".into()),
+/// What becomes of one payload more.
+pub fn put<D: Disk>(alloc: Global, journal: Journal<D>, payload: &[u8]) -> Option<Appended<D>> {
+    match frame(alloc, payload) {
+        Some(frame) => Some(append(journal, &frame)),
+        None => None,
     }
 }
 
-/// The journal as it was, where the payload doesn't fit.
-pub fn too_long<D: Disk>(
-    alloc: Global,
-    journal: Journal<D>,
-    payload: &[u8],
-) -> Result<Journal<D>, Fail> {
-    match append(journal, &frame(alloc, payload)?) {
-        Appended::Full(journal) => Ok(journal),
-        _ => Err("not full".into()),
-    }
+/// A journal on a disk in memory with the payload of the session.
+pub fn with_session(alloc: Global, room: u64) -> Option<Journal<MemoryDisk>> {
+    put(alloc, empty_in(alloc, room)?, &SESSION)?.done()
+}
+
+/// Whether area First has the session alone, and area Second nothing.
+pub fn has_session_alone(disk: &MemoryDisk) -> bool {
+    let area = b"TMWSHEET\x01A\x52\x00\x00\x00\x09\x01\x01a\x00\x01\x00\x02sh\x00".as_slice();
+    disk.content(Area::First) == area && disk.content(Area::Second).is_empty()
 }
 
 // Whether these payloads stand behind these gates.
@@ -136,7 +144,9 @@ fn are(payloads: &[Payload], want: &[(u64, &[u8])]) -> bool {
 }
 
 /// Whether the disk opens to these payloads, behind these gates.
-pub fn has<D: Disk>(alloc: Global, disk: D, want: &[(u64, &[u8])]) -> Result<bool, Fail> {
-    let (_, payloads) = opened(alloc, disk)?;
-    Ok(are(payloads.as_slice(), want))
+pub fn has<D: Disk>(alloc: Global, disk: D, want: &[(u64, &[u8])]) -> bool {
+    match opened(alloc, disk) {
+        Some((_, payloads)) => are(payloads.as_slice(), want),
+        None => false,
+    }
 }

@@ -1,47 +1,75 @@
 //! Calls while no memory is left.
 ghost use Rattle.std.specs.Prelude.{◌≤◌};
 
-use super::desk::{Appended, SESSION, append, cause_of, created, empty, frame, has, rewrite};
+use super::desk::{
+    Appended, SESSION, append, cause_of, created, empty, empty_in, frame, has, rewrite,
+};
 use disk_model::{Area, Disk, DiskFault, MemoryDisk};
 use journal::{CreateCause, Frame, Journal, OpenCause, Opening, create};
 use std::alloc::Global;
-use std::test::Fail;
 use tests_desk::exhausted;
 
 // Why a disk isn't created while no memory is left.
-fn refused(alloc: Global, disk: MemoryDisk) -> Result<Option<CreateCause>, Fail> {
-    let _held = exhausted(alloc)?;
-    cause_of(disk)
+fn refused(alloc: Global, disk: MemoryDisk) -> Option<CreateCause> {
+    match exhausted(alloc) {
+        Ok(_held) => cause_of(disk),
+        Err(_) => None,
+    }
 }
 
-// Appends a payload of nine bytes while no memory is left. Nine bytes fit then, and ten do where they
-// are to.
-fn appended<D: Disk>(
+// Appends a payload of nine bytes. Nine bytes fit then, and ten do where they are to.
+fn append_fitting<D: Disk>(
+    journal: Journal<D>,
+    frame: &Frame,
+    ten_fit: bool,
+) -> Option<Appended<D>> {
+    if journal.fits(9) && journal.fits(10) == ten_fit {
+        Some(append(journal, frame))
+    } else {
+        None
+    }
+}
+
+// The same while no memory is left.
+fn append_without<D: Disk>(
     alloc: Global,
     journal: Journal<D>,
     frame: &Frame,
     ten_fit: bool,
-) -> Result<Appended<D>, Fail> {
-    let _held = exhausted(alloc)?;
-    if !journal.fits(9) || journal.fits(10) != ten_fit {
-        return Err("it fits otherwise".into());
+) -> Option<Appended<D>> {
+    match exhausted(alloc) {
+        Ok(_held) => append_fitting(journal, frame, ten_fit),
+        Err(_) => None,
     }
-    Ok(append(journal, frame))
+}
+
+// The disk in memory of an append that fails so.
+fn failed(alloc: Global, frame: &Frame) -> Option<MemoryDisk> {
+    match append_without(alloc, empty_in(alloc, 25)?, frame, false)? {
+        Appended::Failed(disk) => Some(disk),
+        _ => None,
+    }
+}
+
+// Whether a payload is taken on a disk without one.
+fn takes(alloc: Global, disk: MemoryDisk, frame: &Frame) -> bool {
+    match empty(alloc, disk) {
+        Some(journal) => append(journal, frame).done().is_some(),
+        None => false,
+    }
+}
+
+fn fails_and_takes(alloc: Global) -> Option<bool> {
+    let frame = frame(alloc, &SESSION)?;
+    let disk = failed(alloc, &frame)?;
+    Some(takes(alloc, disk, &frame))
 }
 
 #[test]
-fn without_memory_the_disk_fails_and_nothing_breaks(rt: HostRuntime) -> Result<(), Fail> {
-    let alloc = rt.alloc();
-    let cause = refused(alloc, MemoryDisk::new(alloc, 25))?;
-    assert_eq!(rt; cause, Some(CreateCause::Disk));
-    let frame = frame(alloc, &SESSION)?;
-    let journal = empty(alloc, created(alloc, 25)?)?;
-    let Appended::Failed(disk) = appended(alloc, journal, &frame, false)? else {
-        return Err("no fault".into());
-    };
-    let journal = empty(alloc, disk)?;
-    assert!(rt; matches!(append(journal, &frame), Appended::Done(_)));
-    Ok(())
+fn without_memory_the_disk_fails_and_nothing_breaks(rt: HostRuntime) {
+    let cause = refused(rt.alloc(), MemoryDisk::new(rt.alloc(), 25));
+    assert!(rt; cause == Some(CreateCause::Disk));
+    assert!(rt; fails_and_takes(rt.alloc()) == Some(true));
 }
 
 // An area of 64 bytes at most.
@@ -163,107 +191,127 @@ impl Disk for ArrayDisk {
 }
 
 // An empty disk that was made while no memory was left.
-fn created_without_memory(alloc: Global) -> Result<ArrayDisk, Fail> {
+fn created_without_memory(alloc: Global) -> Option<ArrayDisk> {
     let disk = ArrayDisk::new();
-    let _held = exhausted(alloc)?;
-    match create(disk) {
-        Ok(disk) => Ok(disk),
-        Err(_) => Err("create".into()),
+    match exhausted(alloc) {
+        Ok(_held) => create(disk).ok(),
+        Err(_) => None,
     }
 }
 
-#[test]
-fn create_and_append_take_no_memory(rt: HostRuntime) -> Result<(), Fail> {
-    let alloc = rt.alloc();
+// An empty journal on it.
+fn empty_without_memory(alloc: Global) -> Option<Journal<ArrayDisk>> {
+    empty(alloc, created_without_memory(alloc)?)
+}
+
+// The session behind the closed gate of a journal on a disk of an array, which took it while no memory was
+// left.
+fn with_session_on_array(alloc: Global) -> Option<ArrayDisk> {
     let frame = frame(alloc, &SESSION)?;
-    let journal = empty(alloc, created_without_memory(alloc)?)?;
-    let Appended::Done(journal) = appended(alloc, journal, &frame, true)? else {
-        return Err("append".into());
-    };
-    assert!(rt; has(alloc, journal.into_disk(), &[(10, &SESSION)])?);
-    Ok(())
+    let journal = empty_without_memory(alloc)?;
+    let journal = append_without(alloc, journal, &frame, true)?.done()?;
+    Some(journal.into_disk())
+}
+
+fn has_session(alloc: Global, disk: ArrayDisk) -> bool {
+    has(alloc, disk, &[(10, &SESSION)])
+}
+
+fn is_appended(alloc: Global) -> Option<bool> {
+    Some(has_session(alloc, with_session_on_array(alloc)?))
+}
+
+#[test]
+fn create_and_append_take_no_memory(rt: HostRuntime) {
+    assert!(rt; is_appended(rt.alloc()) == Some(true));
 }
 
 // A journal that was made while no memory was left.
-fn made_without_memory(alloc: Global) -> Result<Journal<ArrayDisk>, Fail> {
+fn made_without_memory(alloc: Global) -> Option<Journal<ArrayDisk>> {
     let disk = ArrayDisk::new();
-    let _held = exhausted(alloc)?;
-    match Journal::create(disk) {
-        Ok(journal) => Ok(journal),
-        Err(_) => Err("create".into()),
+    match exhausted(alloc) {
+        Ok(_held) => Journal::create(disk).ok(),
+        Err(_) => None,
     }
+}
+
+fn is_made(alloc: Global) -> Option<bool> {
+    let journal = made_without_memory(alloc)?;
+    Some(has(alloc, journal.into_disk(), &[]))
 }
 
 #[test]
-fn a_new_journal_takes_no_memory(rt: HostRuntime) -> Result<(), Fail> {
-    let alloc = rt.alloc();
-    let journal = made_without_memory(alloc)?;
-    assert!(rt; has(alloc, journal.into_disk(), &[])?);
-    Ok(())
-}
-
-// The session behind the closed gate of a journal on a disk of an array.
-fn array_with_session(alloc: Global) -> Result<ArrayDisk, Fail> {
-    let frame = frame(alloc, &SESSION)?;
-    let journal = empty(alloc, created_without_memory(alloc)?)?;
-    match appended(alloc, journal, &frame, true)? {
-        Appended::Done(journal) => Ok(journal.into_disk()),
-        _ => Err("append".into()),
-    }
+fn a_new_journal_takes_no_memory(rt: HostRuntime) {
+    assert!(rt; is_made(rt.alloc()) == Some(true));
 }
 
 // Rewrites the journal while no memory is left.
-fn rewritten<D: Disk>(
+fn rewritten(
     alloc: Global,
-    journal: Journal<D>,
-    frames: &[Frame],
-) -> Result<Journal<D>, Fail> {
-    let _held = exhausted(alloc)?;
-    match rewrite(journal, frames) {
-        Appended::Done(journal) => Ok(journal),
-        _ => Err("rewrite".into()),
+    journal: Journal<ArrayDisk>,
+    frame: &Frame,
+) -> Option<Journal<ArrayDisk>> {
+    match exhausted(alloc) {
+        Ok(_held) => rewrite(journal, std::slice::from_ref(frame)).done(),
+        Err(_) => None,
     }
 }
 
-#[test]
-fn a_rewrite_takes_no_memory(rt: HostRuntime) -> Result<(), Fail> {
-    let alloc = rt.alloc();
+// Into the second area, and back.
+fn is_rewritten_twice(alloc: Global) -> Option<bool> {
     let frame = frame(alloc, &SESSION)?;
-    let mut journal = empty(alloc, created_without_memory(alloc)?)?;
-    for _ in 0..2 {
-        journal = rewritten(alloc, journal, std::slice::from_ref(&frame))?;
-    }
-    assert!(rt; has(alloc, journal.into_disk(), &[(10, &SESSION)])?);
-    Ok(())
-}
-
-// Whether an opening is refused for want of memory where none is left as it begins.
-fn begins_without_memory(alloc: Global, disk: ArrayDisk) -> Result<bool, Fail> {
-    let _held = exhausted(alloc)?;
-    match Opening::begin(alloc, disk) {
-        Ok(_) => Ok(true),
-        Err(fault) if fault.cause == OpenCause::OutOfMemory => Ok(false),
-        Err(_) => Err("another fault".into()),
-    }
-}
-
-// Whether the first payload comes where no memory is left once the opening has begun.
-fn gives_without_memory(alloc: Global, disk: ArrayDisk) -> Result<bool, Fail> {
-    let Ok(opening) = Opening::begin(alloc, disk) else {
-        return Err("begin".into());
-    };
-    let _held = exhausted(alloc)?;
-    match opening.next() {
-        Ok(_) => Ok(true),
-        Err(fault) if fault.cause == OpenCause::OutOfMemory => Ok(false),
-        Err(_) => Err("another fault".into()),
-    }
+    let journal = rewritten(alloc, empty_without_memory(alloc)?, &frame)?;
+    let journal = rewritten(alloc, journal, &frame)?;
+    Some(has_session(alloc, journal.into_disk()))
 }
 
 #[test]
-fn an_opening_without_memory(rt: HostRuntime) -> Result<(), Fail> {
-    let alloc = rt.alloc();
-    assert!(rt; !begins_without_memory(alloc, array_with_session(alloc)?)?);
-    assert!(rt; !gives_without_memory(alloc, array_with_session(alloc)?)?);
-    Ok(())
+fn a_rewrite_takes_no_memory(rt: HostRuntime) {
+    assert!(rt; is_rewritten_twice(rt.alloc()) == Some(true));
+}
+
+// Why an opening isn't begun.
+fn cause_of_begin(alloc: Global, disk: ArrayDisk) -> Option<OpenCause> {
+    match Opening::begin(alloc, disk) {
+        Ok(_) => None,
+        Err(fault) => Some(fault.cause),
+    }
+}
+
+fn cause_of_begin_without(alloc: Global, disk: ArrayDisk) -> Option<OpenCause> {
+    match exhausted(alloc) {
+        Ok(_held) => cause_of_begin(alloc, disk),
+        Err(_) => None,
+    }
+}
+
+fn begins_without(alloc: Global) -> Option<OpenCause> {
+    cause_of_begin_without(alloc, with_session_on_array(alloc)?)
+}
+
+// Why an opening gives no payload.
+fn cause_of_next(opening: Opening<ArrayDisk>) -> Option<OpenCause> {
+    match opening.next() {
+        Ok(_) => None,
+        Err(fault) => Some(fault.cause),
+    }
+}
+
+fn cause_of_next_without(alloc: Global, opening: Opening<ArrayDisk>) -> Option<OpenCause> {
+    match exhausted(alloc) {
+        Ok(_held) => cause_of_next(opening),
+        Err(_) => None,
+    }
+}
+
+fn gives_without(alloc: Global) -> Option<OpenCause> {
+    let disk = with_session_on_array(alloc)?;
+    cause_of_next_without(alloc, Opening::begin(alloc, disk).ok()?)
+}
+
+// None is left as it begins, and once it has begun.
+#[test]
+fn an_opening_without_memory(rt: HostRuntime) {
+    assert!(rt; begins_without(rt.alloc()) == Some(OpenCause::OutOfMemory));
+    assert!(rt; gives_without(rt.alloc()) == Some(OpenCause::OutOfMemory));
 }

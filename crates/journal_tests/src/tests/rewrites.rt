@@ -1,65 +1,73 @@
 //! Payloads in place of a journal's own.
-use super::desk::{Appended, SESSION, created, empty, frame, has, longer, rewrite};
+use super::desk::{
+    Appended, SESSION, empty_in, frame, has, has_session_alone, rewrite, with_session,
+};
 use disk_model::{Area, MemoryDisk};
-use journal::Frame;
-use std::alloc::{AllocError, Global};
-use std::test::Fail;
+use journal::{Frame, Journal};
+use std::alloc::Global;
 
-fn frames(alloc: Global, count: u32) -> Result<Vec<Frame>, AllocError> {
+fn frames(alloc: Global, count: u32) -> Option<Vec<Frame>> {
     let mut frames = Vec::new(alloc);
     for _ in 0..count {
-        frames.push(frame(alloc, &SESSION)?)?;
+        frames.push(frame(alloc, &SESSION)?).ok()?;
     }
-    Ok(frames)
+    Some(frames)
 }
 
-// Whether the selector names area Second.
-fn names_second(disk: &MemoryDisk) -> bool {
-    disk.content(Area::First).get(9) == Some(&0x42)
+// What becomes of so many sessions in place of the payloads.
+fn sessions(
+    alloc: Global,
+    journal: Journal<MemoryDisk>,
+    count: u32,
+) -> Option<Appended<MemoryDisk>> {
+    match frames(alloc, count) {
+        Some(frames) => Some(rewrite(journal, frames.as_slice())),
+        None => None,
+    }
+}
+
+fn is_as_before(alloc: Global) -> Option<bool> {
+    let journal = sessions(alloc, with_session(alloc, 25)?, 2)?.full()?;
+    Some(has_session_alone(&journal.into_disk()))
 }
 
 #[test]
-fn payloads_without_room_are_not_written(rt: HostRuntime) -> Result<(), Fail> {
-    let alloc = rt.alloc();
-    let journal = longer(alloc, empty(alloc, created(alloc, 25)?)?, &SESSION)?;
-    let Appended::Full(journal) = rewrite(journal, frames(alloc, 2)?.as_slice()) else {
-        return Err("not full".into());
-    };
-    let disk = journal.into_disk();
-    let area = b"TMWSHEET\x01A\x52\x00\x00\x00\x09\x01\x01a\x00\x01\x00\x02sh\x00".as_slice();
-    assert_eq!(rt; disk.content(Area::First), area);
-    assert_eq!(rt; disk.content(Area::Second).len(), 0);
-    Ok(())
+fn payloads_without_room_are_not_written(rt: HostRuntime) {
+    assert!(rt; is_as_before(rt.alloc()) == Some(true));
+}
+
+// Whether the selector names area Second, and that has 39 bytes.
+fn is_in_second(disk: &MemoryDisk) -> bool {
+    disk.content(Area::First).get(9) == Some(&0x42) && disk.content(Area::Second).len() == 39
+}
+
+fn has_two(alloc: Global, disk: MemoryDisk) -> bool {
+    is_in_second(&disk) && has(alloc, disk, &[(10, &SESSION), (24, &SESSION)])
+}
+
+fn fill_the_room(alloc: Global) -> Option<bool> {
+    let journal = sessions(alloc, with_session(alloc, 39)?, 2)?.done()?;
+    Some(has_two(alloc, journal.into_disk()))
 }
 
 #[test]
-fn payloads_that_fill_the_room(rt: HostRuntime) -> Result<(), Fail> {
-    let alloc = rt.alloc();
-    let journal = longer(alloc, empty(alloc, created(alloc, 39)?)?, &SESSION)?;
-    let Appended::Done(journal) = rewrite(journal, frames(alloc, 2)?.as_slice()) else {
-        return Err("not rewritten".into());
-    };
-    let disk = journal.into_disk();
-    assert!(rt; names_second(&disk));
-    assert_eq!(rt; disk.content(Area::Second).len(), 39);
-    assert!(rt; has(alloc, disk, &[(10, &SESSION), (24, &SESSION)])?);
-    Ok(())
+fn payloads_that_fill_the_room(rt: HostRuntime) {
+    assert!(rt; fill_the_room(rt.alloc()) == Some(true));
+}
+
+fn has_one(alloc: Global, disk: MemoryDisk) -> bool {
+    is_in_second(&disk) && has(alloc, disk, &[(10, &SESSION)])
+}
+
+fn ends_at_the_gate(alloc: Global) -> Option<bool> {
+    let journal = sessions(alloc, empty_in(alloc, 50)?, 2)?.done()?;
+    let journal = sessions(alloc, journal, 0)?.done()?;
+    let journal = sessions(alloc, journal, 1)?.done()?;
+    Some(has_one(alloc, journal.into_disk()))
 }
 
 // The second area has the older and longer journal behind the last gate of the newer one.
 #[test]
-fn what_is_behind_the_last_gate_is_no_record(rt: HostRuntime) -> Result<(), Fail> {
-    let alloc = rt.alloc();
-    let mut journal = empty(alloc, created(alloc, 50)?)?;
-    for count in [2, 0, 1] {
-        let Appended::Done(behind) = rewrite(journal, frames(alloc, count)?.as_slice()) else {
-            return Err("not rewritten".into());
-        };
-        journal = behind;
-    }
-    let disk = journal.into_disk();
-    assert!(rt; names_second(&disk));
-    assert_eq!(rt; disk.content(Area::Second).len(), 39);
-    assert!(rt; has(alloc, disk, &[(10, &SESSION)])?);
-    Ok(())
+fn what_is_behind_the_last_gate_is_no_record(rt: HostRuntime) {
+    assert!(rt; ends_at_the_gate(rt.alloc()) == Some(true));
 }

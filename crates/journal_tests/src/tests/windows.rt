@@ -3,182 +3,240 @@ ghost use Rattle.std.specs.Prelude.{◌≤◌};
 
 use super::desk::{AREA, SESSION, holding, opened};
 use disk_model::{Area, Disk, DiskFault, FuseDisk, FuseMode, MemoryDisk};
-use journal::{Journal, Next, OpenCause, Opening};
+use journal::{Journal, Next, OpenCause, Opening, Payload};
 use std::alloc::Global;
-use std::test::Fail;
 
 // An opening that has given nothing.
-fn begun<D: Disk>(alloc: Global, disk: D) -> Result<Opening<D>, Fail> {
-    match Opening::begin(alloc, disk) {
-        Ok(opening) => Ok(opening),
-        Err(_) => Err("begin".into()),
-    }
+fn begun<D: Disk>(alloc: Global, disk: D) -> Option<Opening<D>> {
+    Opening::begin(alloc, disk).ok()
+}
+
+fn is(payload: &Payload, gate: u64, bytes: &[u8]) -> bool {
+    payload.gate == gate && payload.bytes.as_slice() == bytes
 }
 
 // The opening behind its next payload, which stands behind this gate and has these bytes.
-fn behind<D: Disk>(opening: Opening<D>, gate: u64, bytes: &[u8]) -> Result<Opening<D>, Fail> {
+fn behind<D: Disk>(opening: Opening<D>, gate: u64, bytes: &[u8]) -> Option<Opening<D>> {
     match opening.next() {
         Ok(Next::Payload(behind, payload)) => {
-            if payload.gate != gate || payload.bytes.as_slice() != bytes {
-                return Err("another payload".into());
+            if is(&payload, gate, bytes) {
+                Some(behind)
+            } else {
+                None
             }
-            Ok(behind)
         }
-        Ok(Next::End(_)) => Err("no payload".into()),
-        Err(_) => Err("next".into()),
+        Ok(Next::End(_journal)) => None,
+        Err(_fault) => None,
     }
 }
 
 // The journal of an opening that has given all payloads.
-fn ended<D: Disk>(opening: Opening<D>) -> Result<Journal<D>, Fail> {
+fn ended<D: Disk>(opening: Opening<D>) -> Option<Journal<D>> {
     match opening.next() {
-        Ok(Next::End(journal)) => Ok(journal),
-        _ => Err("no end".into()),
+        Ok(Next::End(journal)) => Some(journal),
+        _ => None,
     }
 }
 
-#[test]
-fn payloads_come_in_order_with_their_gates(rt: HostRuntime) -> Result<(), Fail> {
-    let alloc = rt.alloc();
+fn come_in_order(alloc: Global) -> Option<bool> {
     let opening = begun(alloc, holding(alloc, &AREA)?)?;
     let opening = behind(opening, 10, &SESSION)?;
     let opening = behind(opening, 24, &AREA[29..39])?;
     let opening = behind(opening, 39, &[6, 0, 0, 0, 1])?;
     let opening = behind(opening, 49, &AREA[54..75])?;
-    assert!(rt; ended(opening)?.fits(18));
-    Ok(())
+    Some(ended(opening)?.fits(18))
 }
 
 #[test]
-fn an_opening_gives_its_disk_back(rt: HostRuntime) -> Result<(), Fail> {
-    let alloc = rt.alloc();
+fn payloads_come_in_order_with_their_gates(rt: HostRuntime) {
+    assert!(rt; come_in_order(rt.alloc()) == Some(true));
+}
+
+fn has_four(alloc: Global, disk: MemoryDisk) -> bool {
+    let is_same = disk.content(Area::First) == AREA.as_slice();
+    match opened(alloc, disk) {
+        Some((_, payloads)) => is_same && payloads.len() == 4,
+        None => false,
+    }
+}
+
+fn gives_back(alloc: Global) -> Option<bool> {
     let opening = begun(alloc, holding(alloc, &AREA)?)?;
     let disk = behind(opening, 10, &SESSION)?.into_disk();
-    assert_eq!(rt; disk.content(Area::First), AREA.as_slice());
-    assert_eq!(rt; opened(alloc, disk)?.1.len(), 4);
-    Ok(())
+    Some(has_four(alloc, disk))
+}
+
+#[test]
+fn an_opening_gives_its_disk_back(rt: HostRuntime) {
+    assert!(rt; gives_back(rt.alloc()) == Some(true));
 }
 
 // Puts a record behind the closed gate that the area ends with: a payload of so many bytes of this
-// value, and the next gate.
-fn push_record(area: &mut Vec<u8>, len: u32, byte: u8) -> Result<(), Fail> {
+// value, and the next gate. Where there is no memory the area lacks them, and isn't told as wanted.
+fn push_record(alloc: Global, area: &mut Vec<u8>, len: u32, byte: u8) {
     let _closed = area.pop();
-    area.push(b'R')?;
-    area.extend_from_slice(&len.to_be_bytes())?;
-    for _ in 0..len {
-        area.push(byte)?;
+    let _ = area.push(b'R');
+    let _ = area.extend_from_slice(&len.to_be_bytes());
+    if let Ok(payload) = Vec::from_elem(alloc, byte, len as usize) {
+        let _ = area.extend_from_slice(payload.as_slice());
     }
-    area.push(0)?;
-    Ok(())
+    let _ = area.push(0);
 }
 
-// A disk in memory whose area First has records of payloads of these lengths, of the bytes 1, 2 and
-// so on.
-fn disk_of(alloc: Global, lens: &[u32]) -> Result<MemoryDisk, Fail> {
-    let mut area = b"TMWSHEET\x01A\x00".as_slice().to_vec(alloc)?;
+// An area with records of payloads of these lengths, of the bytes 1, 2 and so on.
+fn area_of(alloc: Global, lens: &[u32]) -> Option<Vec<u8>> {
+    let mut area = b"TMWSHEET\x01A\x00".as_slice().to_vec(alloc).ok()?;
     let mut byte = 0u8;
     for len in lens {
         byte = byte.wrapping_add(1);
-        push_record(&mut area, *len, byte)?;
+        push_record(alloc, &mut area, *len, byte);
     }
+    Some(area)
+}
+
+// A disk in memory whose area First is this.
+fn disk_of(alloc: Global, lens: &[u32]) -> Option<MemoryDisk> {
+    let area = area_of(alloc, lens)?;
     if area.len() > 40_000_000 {
-        return Err("too long".into());
+        return None;
     }
-    match MemoryDisk::holding(alloc, 40_000_000, area) {
-        Ok(disk) => Ok(disk),
-        Err(_) => Err("holding".into()),
-    }
+    MemoryDisk::holding(alloc, 40_000_000, area).ok()
 }
 
-// The gates and lengths of the payloads to which a disk opens, and its longest read.
-fn told(alloc: Global, disk: MemoryDisk) -> Result<(Vec<(u64, usize)>, u64), Fail> {
-    let (journal, payloads) = opened(alloc, FuseDisk::new(disk, 0, FuseMode::Only))?;
-    let mut told = Vec::new(alloc);
-    let mut byte = 0u8;
-    for payload in &payloads {
-        byte = byte.wrapping_add(1);
-        for found in payload.bytes.as_slice() {
-            if *found != byte {
-                return Err("another byte".into());
-            }
+fn has_bytes(payload: &Payload, byte: u8) -> bool {
+    for found in payload.bytes.as_slice() {
+        if *found != byte {
+            return false;
         }
-        told.push((payload.gate, payload.bytes.as_slice().len()))?;
     }
-    Ok((told, journal.into_disk().longest_read()))
+    true
+}
+
+// Whether the payloads have these gates and lengths, and the bytes 1, 2 and so on.
+fn are(payloads: &[Payload], want: &[(u64, usize)]) -> bool {
+    let mut byte = 0u8;
+    for (payload, (gate, len)) in payloads.iter().zip(want) {
+        byte = byte.wrapping_add(1);
+        let is_there = payload.gate == *gate && payload.bytes.as_slice().len() == *len;
+        if !is_there || !has_bytes(payload, byte) {
+            return false;
+        }
+    }
+    payloads.len() == want.len()
+}
+
+// The longest read by which a disk of such records opens to these gates and lengths.
+fn longest_read(alloc: Global, lens: &[u32], want: &[(u64, usize)]) -> Option<u64> {
+    let disk = disk_of(alloc, lens)?;
+    let (journal, payloads) = opened(alloc, FuseDisk::new(disk, 0, FuseMode::Only))?;
+    if are(payloads.as_slice(), want) {
+        Some(journal.into_disk().longest_read())
+    } else {
+        None
+    }
 }
 
 #[test]
-fn the_longest_payload_is_read_in_parts(rt: HostRuntime) -> Result<(), Fail> {
-    let alloc = rt.alloc();
-    let (payloads, longest) = told(alloc, disk_of(alloc, &[33_554_432])?)?;
-    assert_eq!(rt; payloads.as_slice(), [(10, 33_554_432)].as_slice());
-    assert_eq!(rt; longest, 65_536);
-    Ok(())
+fn the_longest_payload_is_read_in_parts(rt: HostRuntime) {
+    let longest = longest_read(rt.alloc(), &[33_554_432], &[(10, 33_554_432)]);
+    assert!(rt; longest == Some(65_536));
 }
 
 #[test]
-fn a_payload_beyond_two_mebibytes(rt: HostRuntime) -> Result<(), Fail> {
-    let alloc = rt.alloc();
-    let (payloads, _) = told(alloc, disk_of(alloc, &[0x0020_0001])?)?;
-    assert_eq!(rt; payloads.as_slice(), [(10, 2_097_153)].as_slice());
-    Ok(())
+fn a_payload_beyond_two_mebibytes(rt: HostRuntime) {
+    let longest = longest_read(rt.alloc(), &[0x0020_0001], &[(10, 2_097_153)]);
+    assert!(rt; longest.is_some());
+}
+
+// Why an area with a payload of so many bytes isn't opened.
+fn cause_of(alloc: Global, len: u32) -> Option<OpenCause> {
+    match Journal::open(alloc, disk_of(alloc, &[len])?) {
+        Ok(_) => None,
+        Err(fault) => Some(fault.cause),
+    }
 }
 
 // One byte more than a payload may have.
 #[test]
-fn a_payload_that_is_too_long_is_damage(rt: HostRuntime) -> Result<(), Fail> {
-    let alloc = rt.alloc();
-    match Journal::open(alloc, disk_of(alloc, &[0x0200_0001])?) {
-        Ok(_) => Err("opens".into()),
-        Err(fault) => {
-            assert_eq!(rt; fault.cause, OpenCause::Damaged(10));
-            Ok(())
-        }
+fn a_payload_that_is_too_long_is_damage(rt: HostRuntime) {
+    assert!(rt; cause_of(rt.alloc(), 0x0200_0001) == Some(OpenCause::Damaged(10)));
+}
+
+// Whether a record of seven bytes that begins at this gate is read, by reads of a window at most.
+fn is_read_at(alloc: Global, gate: u32) -> bool {
+    let start = gate.saturating_sub(15);
+    let place = u64::from(gate);
+    let want = [
+        (10, start as usize),
+        (place, 7),
+        (place.saturating_add(12), 1),
+    ];
+    match longest_read(alloc, &[start, 7, 1], &want) {
+        Some(longest) => longest <= 65_536,
+        None => false,
     }
 }
 
 // The first window has the bytes below 65,536: the second record begins at each place around that.
 #[test]
-fn a_border_of_a_window_within_a_record(rt: HostRuntime) -> Result<(), Fail> {
-    let alloc = rt.alloc();
+fn a_border_of_a_window_within_a_record(rt: HostRuntime) {
     for gate in 65_524..65_540u32 {
-        let disk = disk_of(alloc, &[gate - 15, 7, 1])?;
-        let (payloads, longest) = told(alloc, disk)?;
-        let gate = u64::from(gate);
-        let want = [(10, gate as usize - 15), (gate, 7), (gate + 12, 1)];
-        assert_eq!(rt; payloads.as_slice(), want.as_slice());
-        assert!(rt; longest <= 65_536);
+        assert!(rt; is_read_at(rt.alloc(), gate), "gate {gate}");
     }
-    Ok(())
 }
 
-// Whether an opening of an area of three windows tells, over this fuse, that the disk failed. Else it
-// gives its payload.
-fn is_told_as_disk(alloc: Global, k: u64, mode: FuseMode) -> Result<bool, Fail> {
-    match Journal::open(alloc, FuseDisk::new(disk_of(alloc, &[150_000])?, k, mode)) {
-        Ok((_, payloads)) => match payloads.as_slice() {
-            [payload] if payload.bytes.as_slice().len() == 150_000 => Ok(false),
-            _ => Err("other payloads".into()),
-        },
-        Err(fault) => match fault.cause {
-            OpenCause::Disk => Ok(true),
-            _ => Err("another cause".into()),
-        },
+// What an opening gives.
+#[derive(Clone, Copy, PartialEq, Eq)]
+enum Given {
+    /// The one payload of three windows.
+    Payload,
+    /// That the disk failed.
+    Disk,
+    Other,
+}
+
+fn given_by(payloads: &[Payload]) -> Given {
+    match payloads {
+        [payload] if payload.bytes.as_slice().len() == 150_000 => Given::Payload,
+        _ => Given::Other,
     }
+}
+
+fn given_at(cause: OpenCause) -> Given {
+    if cause == OpenCause::Disk {
+        Given::Disk
+    } else {
+        Given::Other
+    }
+}
+
+fn opened_over(alloc: Global, disk: FuseDisk<MemoryDisk>) -> Given {
+    match Journal::open(alloc, disk) {
+        Ok((_, payloads)) => given_by(payloads.as_slice()),
+        Err(fault) => given_at(fault.cause),
+    }
+}
+
+// What an opening of an area of three windows gives over this fuse.
+fn opened_by_windows(alloc: Global, k: u64, mode: FuseMode) -> Given {
+    match disk_of(alloc, &[150_000]) {
+        Some(disk) => opened_over(alloc, FuseDisk::new(disk, k, mode)),
+        None => Given::Other,
+    }
+}
+
+fn told_if(fails: bool) -> Given {
+    if fails { Given::Disk } else { Given::Payload }
 }
 
 // Sync and length, two windows of the walk, and three with the payload.
 #[test]
-fn an_opening_by_windows_over_a_failing_disk(rt: HostRuntime) -> Result<(), Fail> {
+fn an_opening_by_windows_over_a_failing_disk(rt: HostRuntime) {
     let alloc = rt.alloc();
     for k in 0..10u64 {
-        assert_eq!(rt; is_told_as_disk(alloc, k, FuseMode::From)?, k <= 7);
-        assert_eq!(rt;
-            is_told_as_disk(alloc, k, FuseMode::Only)?,
-            k >= 1 && k <= 7
-        );
+        assert!(rt; opened_by_windows(alloc, k, FuseMode::From) == told_if(k <= 7));
+        assert!(rt; opened_by_windows(alloc, k, FuseMode::Only) == told_if(k >= 1 && k <= 7));
     }
-    Ok(())
 }
 
 // A disk outside the model. To the first two reads it gives an area with one payload of 150,000 bytes,
@@ -256,14 +314,22 @@ fn disk_that_changes() -> Changing {
     }
 }
 
-// No length that it tells then is a payload's: each payload has one byte, and they come to the end.
-#[test]
-fn a_disk_that_changes_behind_the_walk(rt: HostRuntime) -> Result<(), Fail> {
-    let alloc = rt.alloc();
+fn give_single_bytes(alloc: Global) -> Option<bool> {
     let opening = behind(begun(alloc, disk_that_changes())?, 10, b"R")?;
     let opening = behind(opening, 16, b"R")?;
-    let _third = behind(opening, 22, b"R")?;
-    let (_, payloads) = opened(alloc, disk_that_changes())?;
-    assert_eq!(rt; payloads.len(), 25_000);
-    Ok(())
+    Some(behind(opening, 22, b"R").is_some())
+}
+
+fn count_of_changing(alloc: Global) -> usize {
+    match opened(alloc, disk_that_changes()) {
+        Some((_, payloads)) => payloads.len(),
+        None => 0,
+    }
+}
+
+// No length that it tells then is a payload's: each payload has one byte, and they come to the end.
+#[test]
+fn a_disk_that_changes_behind_the_walk(rt: HostRuntime) {
+    assert!(rt; give_single_bytes(rt.alloc()) == Some(true));
+    assert!(rt; count_of_changing(rt.alloc()) == 25_000);
 }

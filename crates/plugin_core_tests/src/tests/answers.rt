@@ -1,148 +1,120 @@
 //! Which blocks answer, and what is told of them.
-use super::desk::{BANNER, asked_twice_that, has_prompt, life_that};
-use std::test::Fail;
+use super::desk::{is_told, is_told_behind_a_request};
 
-#[test]
-fn prompts_in_the_blocks(rt: HostRuntime) -> Result<(), Fail> {
-    let life = life_that(
-        rt.alloc(),
-        "x^2",
-        &[
-            (
-                "\x02verbatim:Hello\x02prompt#Input 1] \x05\x05",
-                "banner \x02verbatim:Hello\x05\nsend x^2\n",
-            ),
-            (
-                "\x02verbatim:\x02latex:$x^2$\x05\x02prompt#Input 2] \x05\x05",
-                "line 1 [Input 1] ] \x02verbatim:\x02latex:$x^2$\x05\x05\n",
-            ),
-        ],
-    )?;
-    assert!(rt; has_prompt(&life, b"Input 2] "));
-    assert_eq!(rt; life.number(), 7);
-    Ok(())
+// A life's first line, a script, and what is told.
+fn of_one_line(number: u32) -> (&'static str, &'static str, &'static str) {
+    match number {
+        // Prompts in the blocks.
+        0 => (
+            "x^2",
+            "\x02verbatim:Hello\x02prompt#Input 1] \x05\x05\n\x02verbatim:\x02latex:$x^2$\x05\x02prompt#Input 2] \x05\x05",
+            "banner \x02verbatim:Hello\x05\nsend x^2\nline 1 [Input 1] ] \x02verbatim:\x02latex:$x^2$\x05\x05\nlife 7 [Input 2] ] waits 0:\n",
+        ),
+        // A prompt is a whole answer.
+        1 => (
+            "x",
+            "\x02verbatim:\x05\n\x02prompt#a\x05",
+            "banner \x02verbatim:\x05\nsend x\nline 1 [> ] \x02verbatim:\x05\nlife 7 [a] waits 0:\n",
+        ),
+        // A default input in an answer.
+        2 => (
+            "x",
+            "\x02verbatim:\x05\n\x02verbatim:A\x02input#y\x05\x05",
+            "banner \x02verbatim:\x05\nsend x\nline 1 [> ] \x02verbatim:A\x05\ndefault y\nlife 7 [> ] waits 0:\n",
+        ),
+        // A default input is a whole answer.
+        3 => (
+            "x",
+            "\x02verbatim:\x05\n\x02input#y\x05",
+            "banner \x02verbatim:\x05\nsend x\nline 1 [> ] \x02verbatim:\x05\ndefault y\nlife 7 [> ] waits 0:\n",
+        ),
+        // A default input in the banner is told once, and neither the line nor its answer has it.
+        4 => (
+            "x",
+            "\x02verbatim:Hi\x02input#y\x05\x05\n\x02verbatim:A\x05",
+            "banner \x02verbatim:Hi\x05\ndefault y\nsend x\nline 1 [> ] \x02verbatim:A\x05\nlife 7 [> ] waits 0:\n",
+        ),
+        // Half a block from before the line.
+        _ => (
+            "x",
+            "\x02verbatim:\x05\n\x02verbatim:A\x05\x02verb\n>y\natim:B\x05\n\x02verbatim:C\x05",
+            "banner \x02verbatim:\x05\nsend x\nline 1 [> ] \x02verbatim:A\x05\nsend y\nline 4 [> ] \x02verbatim:C\x05\nlife 7 [> ] waits 0:\n",
+        ),
+    }
 }
 
 #[test]
-fn a_prompt_is_a_whole_answer(rt: HostRuntime) -> Result<(), Fail> {
-    let life = life_that(
-        rt.alloc(),
-        "x",
-        &[
-            (BANNER, "banner \x02verbatim:\x05\nsend x\n"),
-            ("\x02prompt#a\x05", "line 1 [> ] \x02verbatim:\x05\n"),
-        ],
-    )?;
-    assert!(rt; has_prompt(&life, b"a"));
-    Ok(())
+fn answers_to_one_line(rt: HostRuntime) {
+    for number in 0..6u32 {
+        let (first, script, want) = of_one_line(number);
+        assert!(rt; is_told(rt.alloc(), first, script, want), "case {number}");
+    }
+}
+
+// The lines x and y wait, and x was sent. The pieces that follow, and what is told.
+fn of_two_lines(number: u32) -> (&'static str, &'static str) {
+    match number {
+        // Two answers in one piece.
+        0 => (
+            ">y\n\x02verbatim:\x05\n\x02verbatim:A\x05\x02verbatim:B\x05\n\x02verbatim:C\x05",
+            "banner \x02verbatim:\x05\nsend x\nline 1 [> ] \x02verbatim:A\x05\nsend y\nline 2 [> ] \x02verbatim:C\x05\nlife 7 [> ] waits 0:\n",
+        ),
+        // Cut between two answers.
+        1 => (
+            ">y\n\x02verbatim:\x05\n\x02verbatim:A\x05\n\x02verbatim:B\x05",
+            "banner \x02verbatim:\x05\nsend x\nline 1 [> ] \x02verbatim:A\x05\nsend y\nline 2 [> ] \x02verbatim:B\x05\nlife 7 [> ] waits 0:\n",
+        ),
+        // Cut inside the second answer.
+        2 => (
+            ">y\n\x02verbatim:\x05\n\x02verbatim:A\x05\x02verb\natim:B\x05\n\x02verbatim:C\x05",
+            "banner \x02verbatim:\x05\nsend x\nline 1 [> ] \x02verbatim:A\x05\nsend y\nline 2 [> ] \x02verbatim:C\x05\nlife 7 [> ] waits 0:\n",
+        ),
+        // A fault behind an answer.
+        _ => (
+            ">y\n\x02verbatim:\x05\n\x02verbatim:A\x05\x02:",
+            "banner \x02verbatim:\x05\nsend x\nline 1 [> ] \x02verbatim:A\x05\nended BadTag lost 1\nlife 7 is over\n",
+        ),
+    }
 }
 
 #[test]
-fn a_default_input_in_an_answer(rt: HostRuntime) -> Result<(), Fail> {
-    life_that(
-        rt.alloc(),
-        "x",
-        &[
-            (BANNER, "banner \x02verbatim:\x05\nsend x\n"),
-            (
-                "\x02verbatim:A\x02input#y\x05\x05",
-                "line 1 [> ] \x02verbatim:A\x05\ndefault y\n",
-            ),
-        ],
-    )?;
-    Ok(())
+fn answers_to_two_lines(rt: HostRuntime) {
+    for number in 0..4u32 {
+        let (script, want) = of_two_lines(number);
+        assert!(rt; is_told(rt.alloc(), "x", script, want), "case {number}");
+    }
+}
+
+// A request of completions waits first. What follows, and what is told.
+fn of_a_request(number: u32) -> (&'static str, &'static str) {
+    match number {
+        // A line behind the request.
+        0 => (
+            ">y\n\x02verbatim:\x05\n\x02scheme:(tuple \"\" \"h\")\x02prompt#: \x05\x05\n\x02verbatim:A\x05",
+            "banner \x02verbatim:\x05\nsend \x10(complete \"h\" 0)\ncompleted 1 [] [h]\nsend y\nline 2 [: ] \x02verbatim:A\x05\nlife 7 [: ] waits 0:\n",
+        ),
+        // A prompt block tells no completions.
+        1 => (
+            "\x02verbatim:\x05\n\x02prompt#a\x05",
+            "banner \x02verbatim:\x05\nsend \x10(complete \"h\" 0)\ncompleted 1 []\nlife 7 [a] waits 0:\n",
+        ),
+        // A line of output tells none.
+        2 => (
+            "\x02verbatim:\x05\n\x02verbatim:A\x05",
+            "banner \x02verbatim:\x05\nsend \x10(complete \"h\" 0)\ncompleted 1 bad\nlife 7 [> ] waits 0:\n",
+        ),
+        // The request waits, and it is no line.
+        _ => ("", "life 7 [> ] waits 1:\n"),
+    }
 }
 
 #[test]
-fn a_default_input_is_a_whole_answer(rt: HostRuntime) -> Result<(), Fail> {
-    let life = life_that(
-        rt.alloc(),
-        "x",
-        &[
-            (BANNER, "banner \x02verbatim:\x05\nsend x\n"),
-            (
-                "\x02input#y\x05",
-                "line 1 [> ] \x02verbatim:\x05\ndefault y\n",
-            ),
-        ],
-    )?;
-    assert!(rt; has_prompt(&life, b"> "));
-    Ok(())
-}
-
-// It is told once, and neither the line nor its answer has it.
-#[test]
-fn a_default_input_in_the_banner(rt: HostRuntime) -> Result<(), Fail> {
-    life_that(
-        rt.alloc(),
-        "x",
-        &[
-            (
-                "\x02verbatim:Hi\x02input#y\x05\x05",
-                "banner \x02verbatim:Hi\x05\ndefault y\nsend x\n",
-            ),
-            ("\x02verbatim:A\x05", "line 1 [> ] \x02verbatim:A\x05\n"),
-        ],
-    )?;
-    Ok(())
-}
-
-#[test]
-fn two_answers_in_one_piece(rt: HostRuntime) -> Result<(), Fail> {
-    asked_twice_that(
-        rt.alloc(),
-        &[
-            (
-                "\x02verbatim:A\x05\x02verbatim:B\x05",
-                "line 1 [> ] \x02verbatim:A\x05\nsend y\n",
-            ),
-            ("\x02verbatim:C\x05", "line 2 [> ] \x02verbatim:C\x05\n"),
-        ],
-    )?;
-    Ok(())
-}
-
-#[test]
-fn cut_between_two_answers(rt: HostRuntime) -> Result<(), Fail> {
-    asked_twice_that(
-        rt.alloc(),
-        &[
-            (
-                "\x02verbatim:A\x05",
-                "line 1 [> ] \x02verbatim:A\x05\nsend y\n",
-            ),
-            ("\x02verbatim:B\x05", "line 2 [> ] \x02verbatim:B\x05\n"),
-        ],
-    )?;
-    Ok(())
-}
-
-#[test]
-fn cut_inside_the_second_answer(rt: HostRuntime) -> Result<(), Fail> {
-    asked_twice_that(
-        rt.alloc(),
-        &[
-            (
-                "\x02verbatim:A\x05\x02verb",
-                "line 1 [> ] \x02verbatim:A\x05\nsend y\n",
-            ),
-            ("atim:B\x05", ""),
-            ("\x02verbatim:C\x05", "line 2 [> ] \x02verbatim:C\x05\n"),
-        ],
-    )?;
-    Ok(())
-}
-
-#[test]
-fn a_fault_behind_an_answer(rt: HostRuntime) -> Result<(), Fail> {
-    let life = asked_twice_that(
-        rt.alloc(),
-        &[(
-            "\x02verbatim:A\x05\x02:",
-            "line 1 [> ] \x02verbatim:A\x05\nended BadTag lost 1\n",
-        )],
-    )?;
-    assert!(rt; life.over());
-    assert_eq!(rt; life.number(), 7);
-    Ok(())
+fn answers_to_a_request(rt: HostRuntime) {
+    for number in 0..4u32 {
+        let (script, want) = of_a_request(number);
+        assert!(rt;
+            is_told_behind_a_request(rt.alloc(), script, want),
+            "case {number}"
+        );
+    }
 }

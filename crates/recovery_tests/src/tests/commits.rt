@@ -1,6 +1,7 @@
 //! Commits, and what they leave where the disk fails or a crash comes.
 use super::desk::{
-    Outcome, created, empty_disk, has_session, new, prepared, put, session, store_of, store_on,
+    Outcome, created, empty_disk, has_session, new, prepared, put_session, session, store_of,
+    store_on,
 };
 use disk_model::{Area, Choice, Disk, Fill, FuseDisk, FuseMode, MemoryDisk};
 use recovery::{CommitFault, Store};
@@ -133,13 +134,6 @@ fn a_prepared_op_is_committed(rt: HostRuntime) {
     assert!(rt; is_put_to_the_end(rt.alloc()) == Some(true));
 }
 
-fn put_session<D: Disk>(alloc: Global, store: &mut Store<D>) -> Outcome {
-    match session(alloc) {
-        Some(op) => put(store, op),
-        None => Outcome::Refused,
-    }
-}
-
 fn prepare_session<D: Disk>(alloc: Global, store: &mut Store<D>) -> Outcome {
     match session(alloc) {
         Some(op) => prepared(store, &op),
@@ -157,7 +151,7 @@ fn is_closed<D: Disk>(alloc: Global, store: &mut Store<D>) -> bool {
 }
 
 // What became of the session.
-#[derive(Clone, Copy, Debug, PartialEq, Eq)]
+#[derive(Clone, Copy, PartialEq, Eq)]
 enum Fate {
     Kept,
     Lost,

@@ -18,14 +18,14 @@ pub const AREA: [u8; 76] = [
     0x00,
 ];
 
-pub fn octets(alloc: Global, bytes: &[u8]) -> Option<Octets> {
+fn octets(alloc: Global, bytes: &[u8]) -> Option<Octets> {
     Octets::from_slice(alloc, bytes).ok()
 }
 
-/// Session `a`, plain, with this word.
-pub fn session_of(alloc: Global, word: &[u8]) -> Option<Op> {
+/// Session `a`, plain, with the word `sh`.
+pub fn session(alloc: Global) -> Option<Op> {
     let mut words = Vec::new(alloc);
-    words.push(octets(alloc, word)?).ok()?;
+    words.push(octets(alloc, b"sh")?).ok()?;
     Some(Op::Session {
         name: octets(alloc, b"a")?,
         tab: false,
@@ -33,23 +33,13 @@ pub fn session_of(alloc: Global, word: &[u8]) -> Option<Op> {
     })
 }
 
-/// Session `a`, plain, with the word `sh`.
-pub fn session(alloc: Global) -> Option<Op> {
-    session_of(alloc, b"sh")
-}
-
-/// A field of it with this input.
-pub fn new_with(alloc: Global, input: &[u8]) -> Option<Op> {
+/// A field of it with the input `x`.
+pub fn new(alloc: Global) -> Option<Op> {
     Some(Op::New {
         after: 0,
         session: octets(alloc, b"a")?,
-        input: octets(alloc, input)?,
+        input: octets(alloc, b"x")?,
     })
-}
-
-/// A field of it with the input `x`.
-pub fn new(alloc: Global) -> Option<Op> {
-    new_with(alloc, b"x")
 }
 
 // The answer to field 1 with this output.
@@ -89,7 +79,7 @@ pub fn created(alloc: Global, room: u64) -> Option<Store<MemoryDisk>> {
 }
 
 /// What came of an op.
-#[derive(Clone, Copy, Debug, PartialEq, Eq)]
+#[derive(Clone, Copy, PartialEq, Eq)]
 pub enum Outcome {
     Done,
     /// The worksheet doesn't allow it.
@@ -146,17 +136,22 @@ fn op(alloc: Global, number: usize) -> Option<Op> {
     }
 }
 
-/// Whether an op is committed, where there is one.
-pub fn is_put<D: Disk>(store: &mut Store<D>, op: Option<Op>) -> bool {
+// Commits an op, where there is one.
+fn put_if<D: Disk>(store: &mut Store<D>, op: Option<Op>) -> Outcome {
     match op {
-        Some(op) => put(store, op) == Outcome::Done,
-        None => false,
+        Some(op) => put(store, op),
+        None => Outcome::Refused,
     }
+}
+
+/// Commits session `a`.
+pub fn put_session<D: Disk>(alloc: Global, store: &mut Store<D>) -> Outcome {
+    put_if(store, session(alloc))
 }
 
 fn are_put(alloc: Global, store: &mut Store<MemoryDisk>, ops: usize) -> bool {
     for number in 0..ops {
-        if !is_put(store, op(alloc, number)) {
+        if put_if(store, op(alloc, number)) != Outcome::Done {
             return false;
         }
     }

@@ -1,7 +1,7 @@
 //! Commits while no memory is left.
 ghost use Rattle.std.specs.Prelude.{◌≤◌, ◌+◌, IfSome};
 
-use super::desk::{Outcome, created, has_session, prepared, put, session, store_on};
+use super::desk::{Outcome, created, has_session, prepared, put, put_session, session, store_on};
 use disk_model::{Area, Disk, DiskFault, MemoryDisk};
 use journal::create;
 use recovery::{Store, code_len};
@@ -96,7 +96,7 @@ fn fixed_disk() -> Option<FixedDisk> {
 }
 
 // What came of a prepared session that is committed while no memory is left.
-#[derive(Clone, Copy, Debug, PartialEq, Eq)]
+#[derive(Clone, Copy, PartialEq, Eq)]
 enum Ready {
     /// It is on the disk, and in the worksheet.
     Done,
@@ -171,13 +171,6 @@ fn is_done_on_a_fixed_disk(alloc: Global) -> Option<bool> {
 #[test]
 fn a_prepared_commit_takes_no_memory(rt: HostRuntime) {
     assert!(rt; is_done_on_a_fixed_disk(rt.alloc()) == Some(true));
-}
-
-fn put_session<D: Disk>(alloc: Global, store: &mut Store<D>) -> Outcome {
-    match session(alloc) {
-        Some(op) => put(store, op),
-        None => Outcome::Refused,
-    }
 }
 
 // Whether the store is closed by a disk in memory, which fails.

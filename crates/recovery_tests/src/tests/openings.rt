@@ -7,7 +7,7 @@ use recovery::Store;
 use std::alloc::Global;
 
 // What an opening gives.
-#[derive(Clone, Copy, Debug, PartialEq, Eq)]
+#[derive(Clone, Copy, PartialEq, Eq)]
 enum Given {
     /// The worksheet of the example.
     Sheet,

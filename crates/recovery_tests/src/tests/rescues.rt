@@ -6,7 +6,7 @@ use recovery::rescue;
 use std::alloc::Global;
 
 // What a rescue tells.
-#[derive(Clone, Copy, Debug, PartialEq, Eq)]
+#[derive(Clone, Copy, PartialEq, Eq)]
 enum Told {
     /// So many ops are kept.
     Kept(u64),

@@ -21,9 +21,6 @@ pub enum Step<'a> {
     Remove(u32),
     Eval(u32),
     Complete(u32, u32),
-    /// The session of this name is stopped.
-    Stop(&'a str),
-    Checkpoint,
     /// These bytes came from the child of this life.
     Piece(u32, &'a str),
     StartRefused(u32),
@@ -65,12 +62,6 @@ fn set(alloc: Global, id: u32, input: &str) -> Option<Command> {
     })
 }
 
-fn stop(alloc: Global, name: &str) -> Option<Command> {
-    Some(Command::Stop {
-        name: octets(alloc, name)?,
-    })
-}
-
 fn command(alloc: Global, step: &Step<'_>) -> Option<Command> {
     match step {
         Step::Session(word) => session(alloc, false, word),
@@ -83,8 +74,6 @@ fn command(alloc: Global, step: &Step<'_>) -> Option<Command> {
             id: *id,
             cursor: *cursor,
         }),
-        Step::Stop(name) => stop(alloc, name),
-        Step::Checkpoint => Some(Command::Checkpoint),
         Step::Piece(_, _) | Step::StartRefused(_) | Step::End(_) => None,
     }
 }

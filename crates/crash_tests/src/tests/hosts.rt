@@ -1,4 +1,5 @@
 //! A host in front of a test: events in short, and what it tells of them in lines.
+use super::desk::open;
 use super::events::{Step, event};
 use super::told::{fields, told};
 use disk_model::MemoryDisk;
@@ -6,18 +7,14 @@ use journal::create;
 use session_engine::{Event, Host};
 use std::alloc::Global;
 
-/// A new disk in memory with an empty worksheet.
-pub fn created(alloc: Global, room: u64) -> Option<MemoryDisk> {
+fn created(alloc: Global, room: u64) -> Option<MemoryDisk> {
     if room < 11 || room > 1_000 {
         return None;
     }
     create(MemoryDisk::new(alloc, room)).ok()
 }
 
-pub fn open(alloc: Global, disk: MemoryDisk) -> Option<Host<MemoryDisk>> {
-    Host::open(alloc, disk).ok()
-}
-
+/// A host on a new worksheet, on a disk in memory of this room.
 pub fn opened(alloc: Global, room: u64) -> Option<Host<MemoryDisk>> {
     open(alloc, created(alloc, room)?)
 }

@@ -1,57 +1,13 @@
-//! A request of completions whose field goes, and how many lives a host begins. Others are cases of
-//! `programs`, `data/completions.sh`.
-use super::desk::{opened, shows, tells_one};
-use super::events::{BANNER, Step};
+//! How many lives a host begins, and events of a play.
+use super::events::event;
+use super::hosts::{opened, shows};
+use super::scripts::{Script, tells};
+use super::told::played;
 use block_tree::Octets;
 use disk_model::MemoryDisk;
 use session_engine::{Command, Event, Host, Reply};
 use std::alloc::Global;
 use worksheet::Refusal;
-
-// A request, whose field gets another input and goes before it is answered.
-fn step(number: u32) -> (Step<'static>, &'static str) {
-    match number {
-        0 => (Step::Tab("p"), "ok\n"),
-        1 => (Step::New(0, "h"), "field 1\n"),
-        2 => (Step::Complete(1, 1), "asked 1\nstart a 1 p\n"),
-        3 => (Step::Set(1, "other"), "ok\n"),
-        4 => (
-            Step::Piece(1, BANNER),
-            "banner a\nsend a 1 \x10(complete \"h\" 1)\n",
-        ),
-        5 => (Step::Remove(1), "ok\n"),
-        _ => (Step::Piece(1, "\x02scheme:\"\"\x05"), "completed 1 \n"),
-    }
-}
-
-fn does(alloc: Global, host: &mut Host<MemoryDisk>, number: u32) -> bool {
-    let (step, want) = step(number);
-    tells_one(alloc, host, &step, want)
-}
-
-// The first of so many steps of which something else is told, if there is one.
-fn first_wrong(alloc: Global, host: &mut Host<MemoryDisk>, count: u32) -> Option<u32> {
-    for number in 0..count {
-        if !does(alloc, host, number) {
-            return Some(number);
-        }
-    }
-    None
-}
-
-fn keeps_its_text(alloc: Global, host: &mut Host<MemoryDisk>) -> bool {
-    let wrong = first_wrong(alloc, host, 7);
-    wrong.is_none() && shows(alloc, host, "")
-}
-
-#[test]
-fn a_request_keeps_its_text(rt: HostRuntime) {
-    let keeps = match opened(rt.alloc(), 1_000) {
-        Some(mut host) => keeps_its_text(rt.alloc(), &mut host),
-        None => false,
-    };
-    assert!(rt; keeps);
-}
 
 // What is told of a request at the end of field 1.
 #[derive(Clone, Copy, Debug, PartialEq, Eq)]
@@ -97,7 +53,7 @@ fn lives(alloc: Global, host: &mut Host<MemoryDisk>, most: u32) -> u32 {
 }
 
 fn spends_all(alloc: Global, host: &mut Host<MemoryDisk>) -> bool {
-    let is_ready = does(alloc, host, 0) && does(alloc, host, 1);
+    let is_ready = tells(alloc, host, Script::Request, 2);
     let lives = lives(alloc, host, 100_000);
     is_ready && lives == 100_000 && request(host) == Told::Refused(Refusal::LivesSpent)
 }
@@ -109,4 +65,38 @@ fn so_many_lives_begin_and_no_more(rt: HostRuntime) {
         None => false,
     };
     assert!(rt; spends_all);
+}
+
+// The events of the worked area. What there is no memory for is left out, and then less is told.
+fn events(alloc: Global) -> Vec<Event> {
+    let mut events = Vec::new(alloc);
+    for number in 0..5u32 {
+        if let Some(event) = event(alloc, &Script::Example.step(number).0) {
+            let _ = events.push(event);
+        }
+    }
+    events
+}
+
+// Whether a host tells these lines of a play of these events.
+fn tells_all(alloc: Global, host: &mut Host<MemoryDisk>, events: Vec<Event>, want: &str) -> bool {
+    match played(alloc, host, events) {
+        Ok(text) => text.as_str() == want,
+        Err(_) => false,
+    }
+}
+
+fn plays_all(alloc: Global, host: &mut Host<MemoryDisk>) -> bool {
+    let want = "ok\nfield 1\nasked 1\nstart a 1 sh\nbanner a\nsend a 1 x\nanswered 1\n";
+    let tells = tells_all(alloc, host, events(alloc), want);
+    tells && shows(alloc, host, "1 > x \x02verbatim:A\x05\n")
+}
+
+#[test]
+fn events_of_a_play(rt: HostRuntime) {
+    let plays = match opened(rt.alloc(), 1_000) {
+        Some(mut host) => plays_all(rt.alloc(), &mut host),
+        None => false,
+    };
+    assert!(rt; plays);
 }
