@@ -57,12 +57,15 @@ shapes = {
     "noise": lambda: letters(20_000) + block(b"x"),
     "tiny blocks": lambda: b"\x02a:\x05",
     "32 levels": lambda: b"\x02a:" * 32 + b"\x05" * 32,
+    "no block end": lambda: letters(20_000),
+    "deep escapes": lambda: b"\x02a:\x1b\x02\x1b\x05" * 32 + b"\x05" * 32,
 }
 
 shape, target = sys.argv[1], int(sys.argv[2]) << 20
 pool = None if shape == "mixed" else [shapes[shape]() for _ in range(50)]
 out = sys.stdout.buffer
-written = 0
+# (one block, which is never closed)
+written = out.write(b"\x02verbatim:") if shape == "no block end" else 0
 while True:
     piece = mixed() if pool is None else b"".join(rng.choices(pool, k=1 if len(pool[0]) > 1000 else 1000))
     if written + len(piece) > target:
