@@ -56,6 +56,12 @@ fn print_node(node: &Node, out: &mut impl Write) -> io::Result<()> {
     out.write_all(b"}")
 }
 
+// The end behind a fault or an open block.
+fn stop(mut out: impl Write) -> ! {
+    let done = out.flush();
+    std::process::exit(if done.is_ok() { 1 } else { 2 })
+}
+
 fn main() -> io::Result<()> {
     let mut input = Vec::new();
     io::stdin().lock().read_to_end(&mut input)?;
@@ -67,7 +73,7 @@ fn main() -> io::Result<()> {
     for (at, &c) in input.iter().enumerate() {
         if !matches!(place, Place::Outside) && at - start + 1 >= 16_777_216 && !(c == 5 && levels.len() == 1) {
             writeln!(out, "fault 3 TooLong {at}")?;
-            std::process::exit(1);
+            stop(out);
         }
         match place {
             Place::Outside => {
@@ -83,7 +89,7 @@ fn main() -> io::Result<()> {
                     place = Place::Body;
                 } else if c < 32 || name.len() == 64 {
                     writeln!(out, "fault 1 BadTag {at}")?;
-                    std::process::exit(1);
+                    stop(out);
                 } else {
                     name.push(c);
                 }
@@ -92,7 +98,7 @@ fn main() -> io::Result<()> {
                 2 => {
                     if levels.len() == 32 {
                         writeln!(out, "fault 2 TooDeep {at}")?;
-                        std::process::exit(1);
+                        stop(out);
                     }
                     flush(levels.last_mut().unwrap());
                     place = Place::Tag;
@@ -125,8 +131,7 @@ fn main() -> io::Result<()> {
     }
     if !matches!(place, Place::Outside) {
         writeln!(out, "unfinished {start}")?;
-        out.flush()?;
-        std::process::exit(1);
+        stop(out);
     }
     out.flush()
 }

@@ -64,9 +64,13 @@ shapes = {
 shape, target = sys.argv[1], int(sys.argv[2]) << 20
 pool = None if shape == "mixed" else [shapes[shape]() for _ in range(50)]
 out = sys.stdout.buffer
-# (one block, which is never closed)
-written = out.write(b"\x02verbatim:") if shape == "no block end" else 0
+written = 0
+# where the one block begins that is never closed, within its limit
+opens = target - (15 << 20) if shape == "no block end" else None
 while True:
+    if opens is not None and written >= opens:
+        written += out.write(b"\x02verbatim:")
+        opens = None
     piece = mixed() if pool is None else b"".join(rng.choices(pool, k=1 if len(pool[0]) > 1000 else 1000))
     if written + len(piece) > target:
         break
