@@ -7,12 +7,12 @@ root=$(dirname "$(dirname "$(readlink -f "${BASH_SOURCE[0]}")")")
 work=$(mktemp -d)
 trap 'rm -rf "$work"' EXIT
 rustc -O -o "$work/plain" "$root/bench/plain_blocks.rs"
-"$root/tmhost" blocks </dev/null
-python3 - "$root" "$work" "${RUNS:-5}" <<'PYTHON'
+[ -n "${TMHOST:-}" ] || "$root/tmhost" blocks </dev/null
+python3 - "$root" "$work" "${RUNS:-5}" "${TMHOST:-$root/crates/tmhost/out/tmhost}" <<'PYTHON'
 import filecmp, os, subprocess, sys, time
 
 root, work, runs = sys.argv[1], sys.argv[2], int(sys.argv[3])
-ours, plain = [root + "/crates/tmhost/out/tmhost", "blocks"], [work + "/plain"]
+ours, plain = [sys.argv[4], "blocks"], [work + "/plain"]
 shapes = ["mixed", "long texts", "lines", "utf-8", "line feeds", "escapes", "noise", "tiny blocks", "32 levels", "no block end", "deep escapes"]
 data = work + "/input"
 

@@ -16,6 +16,9 @@ use worksheet::Name;
 /// The most bytes of one piece.
 pub const LONGEST_PIECE: usize = 65_536;
 
+/// The largest block of memory that is kept for the next answer, in bytes: glibc's own limit is 33,554,432.
+const LARGEST_KEPT: usize = 33_500_000;
+
 /// How often a read is tried: once, and again at most 1,000 times where it was interrupted.
 const MOST_READS: u32 = 1_001;
 
@@ -80,6 +83,9 @@ impl<R: process::Processes + Drop> Processes<R> {
             .stdin(Stdio::piped())
             .stdout(Stdio::piped())
             .stderr(Stdio::null());
+        if self.running.is_empty() {
+            keep_memory(self.alloc);
+        }
         // Its place is made first: a child that runs is never lost for want of memory.
         self.running.reserve(1)?;
         let child = command.spawn(&self.runtime)?;
@@ -153,6 +159,13 @@ fn text(word: &Octets) -> io::Result<&str> {
         Ok(text) => Ok(text),
         Err(_) => Err(io::Error::from(ErrorKind::InvalidInput)),
     }
+}
+
+/// Has memory kept that is given back. glibc returns each block above a threshold to the system, and raises the
+/// threshold to the largest block that it has returned: this one. Else the pages of each large answer would be
+/// taken and cleared anew. Where there is no such block, nothing else changes.
+fn keep_memory(alloc: Global) {
+    drop(Vec::<u8>::with_capacity(alloc, LARGEST_KEPT));
 }
 
 /// Room for a piece, all that it will ever take: a byte in front of it is shared at once, and a block that
