@@ -163,7 +163,7 @@ fn text(word: &Octets) -> io::Result<&str> {
 
 /// Has memory kept that is given back. glibc returns each block above a threshold to the system, and raises the
 /// threshold to the largest block that it has returned: this one. Else the pages of each large answer would be
-/// taken and cleared anew. Where there is no such block, nothing else changes.
+/// taken and cleared anew. So twice that is kept at most. Where the block is refused, nothing else changes.
 fn keep_memory(alloc: Global) {
     drop(Vec::<u8>::with_capacity(alloc, LARGEST_KEPT));
 }
