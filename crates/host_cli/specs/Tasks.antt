@@ -9,8 +9,8 @@ use Rattle.clap.specs.declared.error.kind.ErrorKind.{ErrorKind}
 use Rattle.clap.specs.declared.error.kind.ErrorKind.TheVariants as kind
 use Rattle.disk_model.specs.Disk.{DiskView}
 use Rattle.child_edge.specs.Faithful.{Relation}
-use Rattle.host_cli.specs.Asked.{TaskView}
-use Rattle.host_cli.specs.Asked as asked
+use Rattle.command_words.specs.Asked.{TaskView}
+use Rattle.command_words.specs.Asked as asked
 use Rattle.host_cli.specs.Refused.{ShowsText, no_format_text}
 use Rattle.sheet_export.specs.Formats.{format_named, last_part}
 use Rattle.sheet_export.specs.declared.formats.Format.{Format}

@@ -3,21 +3,22 @@ ghost use Rattle.std.specs.Prelude.{◌≡◌, ◌≢◌, List, IfErr, IfOk, Mat
 ghost use Rattle.std.specs.declared.io.ErrorKind.TheVariants as io_kind;
 ghost use Rattle.clap.specs.Words.{FailsBy, fault_of, kind_of};
 ghost use Rattle.clap.specs.declared.error.Error.{Error};
-ghost use Rattle.host_cli.specs.Asked.{asked_by, task_view, tmhost};
+ghost use Rattle.command_words.specs.Asked.{asked_by, task_view, tmhost};
 ghost use Rattle.host_cli.specs.Tasks.{BlocksTo, ByTask, CheckAt, CheckTo, CreateAt, EndsWith, ExportAt, ExportFrom, ExportTo, LiveAt, LiveTo, Refuses, RescueAt, RescueFrom, RunAt, RunTo, ShowAt, ShowTo};
 ghost use Rattle.sheet_export.specs.Formats.{last_part as last_part_of};
 ghost use Rattle.sheet_programs.specs.declared.fault.RunFault.TheVariants as fault;
 ghost use Rattle.program_endings.specs.RescueProgram.{RescueEnds};
 ghost use Rattle.sheet_files.specs.declared.files_fault.MakeFault.{MakeFault};
-ghost use Rattle.host_cli.specs.declared.words.Task.{Task};
+ghost use Rattle.command_words.specs.declared.words.Task.{Task};
 ghost use Rattle.recovery.specs.Sheets.{Makes};
 ghost use Rattle.worksheet.specs.declared.op.Op.{Op};
 
 use crate::refusing::refuse_format;
-use crate::{Task, read_words, refuse_unread_words, refuse_words};
+use crate::{refuse_unread_words, refuse_words};
 use arrivals::Sources;
 use child_edge::Children;
 use clap::Error;
+use command_words::{Task, read_words};
 use disk_model::Disk;
 use program_endings::{
     Ending, end_program, end_unheld, read_rescued, run_blocks, run_check, run_create, run_export,

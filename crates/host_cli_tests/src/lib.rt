@@ -1,4 +1,4 @@
-//! The tests of `host_cli`, `program_endings` and `sheet_files`.
+//! The tests of `host_cli` and `command_words`.
 #![tactic(auto)]
 
 #[cfg(test)]

@@ -1,13 +1,5 @@
-//! What stands in files, and readers and writers that fail or count. What is printed, told and refused where
-//! they work are cases of `programs`, `data/steps.sh`.
+//! The whole program by its words, and how it ends. What is printed, told and refused where all works are cases
+//! of `programs`, `data/steps.sh`.
 mod endings;
-mod failing;
-mod file_calls;
-mod file_disk;
-mod limits;
-mod made_up;
-mod programs;
-mod scripts;
-mod streams;
 mod whole;
 mod words;

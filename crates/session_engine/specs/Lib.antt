@@ -7,7 +7,4 @@ pub mod Does
 pub mod Host
 pub mod Faults
 pub mod Crash
-pub mod Apart
-pub mod Turns
-pub mod Laws
 pub mod inside

@@ -3,4 +3,3 @@ pub mod Parts
 pub mod Tables
 pub mod Engines
 pub mod Commits
-pub mod Given

@@ -12,7 +12,6 @@ mod engine;
 mod evals;
 pub mod event;
 pub mod host;
-pub mod laws;
 pub mod outcome;
 mod pieces;
 mod play;

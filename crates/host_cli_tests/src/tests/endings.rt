@@ -1,5 +1,4 @@
 //! How the program ends over streams that don't take what they get.
-use super::failing::{Full, Parts, Unflushed};
 use super::words::refusal;
 use clap::Error;
 use host_cli::{refuse_unread_words, refuse_words};
@@ -8,6 +7,7 @@ use std::alloc::Global;
 use std::io;
 use std::io::Write;
 use std::test::Fail;
+use tests_desk::{Full, Parts, Unflushed};
 
 fn ending(status: u8, told: bool) -> Ending {
     Ending { status, told }

@@ -1,9 +1,8 @@
 //! The whole program, over files that are made up and over real ones.
-use super::made_up::{Calls, MadeUp};
-use super::programs::has;
 use super::words::words;
 use arrivals::ScriptedSources;
 use child_edge::Scripted;
+use files_desk::{Calls, MadeUp, has};
 use host_cli::run_words;
 use program_endings::Ending;
 use sheet_check::NoProgress;

@@ -1,6 +1,6 @@
 //! The words of command lines. What they ask for are cases of `programs`, `data/command_lines.sh`.
 use clap::Error;
-use host_cli::read_words;
+use command_words::read_words;
 use std::alloc::{AllocError, Global};
 
 /// These words, one behind another.

@@ -1,8 +1,8 @@
 use Rattle.std.proofs.Common.{◌≡◌, map, subst}
 use Rattle.std.specs.Prelude.{Ok, Err, string_bytes}
 use Rattle.clap.specs.Words.{FailsBy, fault_of}
-use Rattle.host_cli.specs.Asked.{asked_by, task_view, tmhost}
-use Rattle.host_cli.specs.declared.words.Task.{Task}
+use Rattle.command_words.specs.Asked.{asked_by, task_view, tmhost}
+use Rattle.command_words.specs.declared.words.Task.{Task}
 use Rattle.host_cli.proofs.tasks.do_words.Goals as goal
 
 pub returns-in-Ok : goal.returns-in-Ok

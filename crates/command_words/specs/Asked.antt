@@ -1,0 +1,112 @@
+-- What the words of a command line ask for.
+use Rattle.std.specs.Prelude.{Bool, true, false, List, Option, Some, None, codes, if◌then◌else◌}
+use Rattle.std.specs.Str.{bytes_eq}
+use Rattle.clap.specs.Words.{App, Row, Rule, Text, first_of, new_app, new_rule, subcommand_of, with_rule, with_subcommand}
+use Rattle.clap.specs.declared.builder.action.ArgAction.TheVariants.{SetTrue}
+use Rattle.command_words.specs.declared.words.Task.{Task}
+use Rattle.command_words.specs.declared.words.Task.TheVariants as task
+
+-- a task as contracts see it: a path is its bytes
+pub data TaskView : Type 0 where
+  blocks : TaskView
+  create : Text → TaskView
+  run : Text → TaskView
+  run_strictly : Text → TaskView
+  live : Text → TaskView
+  show : Text → TaskView
+  check : Text → TaskView
+  rescue : Text → Text → TaskView
+  export : Text → Text → TaskView
+
+abbrev pub task_view : Task → TaskView
+task_view task.Blocks = blocks
+task_view (task.Create path) = create path.now
+task_view (task.Run path) = run path.now
+task_view (task.RunStrictly path) = run_strictly path.now
+task_view (task.Live path) = live path.now
+task_view (task.Show path) = show path.now
+task_view (task.Check path) = check path.now
+task_view (task.Rescue path new) = rescue path.now new.now
+task_view (task.Export format path) = export format.now path.now
+
+-- the one argument of a subcommand that has one
+abbrev pub path_rule : Rule
+path_rule = record (new_rule (codes "PATH")) { required = true }
+
+abbrev pub with_path : Text → App
+with_path name = with_rule (new_app name) path_rule
+
+-- and of the one with a flag before it or behind it
+abbrev pub strict_rule : Rule
+strict_rule = record (new_rule (codes "strict")) { long = Some (codes "strict"); action = Some SetTrue }
+
+abbrev pub with_strict : Text → App
+with_strict name = with_rule (with_path name) strict_rule
+
+-- and of the one with a second path behind the first
+abbrev pub second_rule : Rule
+second_rule = record (new_rule (codes "NEW")) { required = true }
+
+abbrev pub with_paths : Text → App
+with_paths name = with_rule (with_path name) second_rule
+
+-- and of the one with a format before its path
+abbrev pub format_rule : Rule
+format_rule = record (new_rule (codes "FORMAT")) { required = true }
+
+abbrev pub with_format : Text → App
+with_format name = with_rule (new_app name) format_rule
+
+abbrev pub with_format_and_path : Text → App
+with_format_and_path name = with_rule (with_format name) path_rule
+
+-- a subcommand that shows its help alone
+abbrev pub help_alone : Text → App
+help_alone name =
+    let a = new_app name in record a { top = record a.top { arg_required_else_help = true } }
+
+-- the command line of `tmhost`: subcommands, five of them with a path, `run` with a flag beside it, one with two, and one with a format and a path
+abbrev pub tmhost : App
+tmhost = with_subcommand (with_subcommand (with_subcommand (with_subcommand (with_subcommand (with_subcommand (with_subcommand (with_subcommand
+    (with_subcommand (new_app (codes "tmhost")) (new_app (codes "blocks")).top)
+    (with_path (codes "create")).top) (with_strict (codes "run")).top) (with_path (codes "live")).top)
+    (with_path (codes "show")).top) (with_path (codes "check")).top) (with_paths (codes "rescue")).top) (with_format_and_path (codes "export")).top) (help_alone (codes "faults")).top
+
+-- a flag is given where its value is `true`
+abbrev pub is_set : Option Text → Bool
+is_set None = false
+is_set (Some value) = bytes_eq value (codes "true")
+
+abbrev pub run_by : Bool → Text → TaskView
+run_by true path = run_strictly path
+run_by false path = run path
+
+-- the task of a subcommand with a path, which the flag may make strict
+abbrev pub by_path : Text → Text → Bool → TaskView
+by_path name path strict = if bytes_eq name (codes "create") then create path
+    else (if bytes_eq name (codes "run") then run_by strict path
+    else (if bytes_eq name (codes "live") then live path
+    else (if bytes_eq name (codes "show") then show path
+    else (if bytes_eq name (codes "check") then check path else blocks))))
+
+-- The task of a subcommand with two paths, or with one path, or with a format and a path.
+abbrev pub by_words : Text → Text → Option Text → Option Text → Bool → TaskView
+by_words name path None None strict = by_path name path strict
+by_words name path None (Some format) strict = if bytes_eq name (codes "export") then export format path else blocks
+by_words name path (Some new) format strict = if bytes_eq name (codes "rescue") then rescue path new else blocks
+
+-- The task of a subcommand with its words; `blocks` has none. Where another has none, `clap` refuses
+-- the words.
+abbrev pub by_paths : Text → Option Text → Option Text → Option Text → Bool → TaskView
+by_paths name None new format strict = blocks
+by_paths name (Some path) new format strict = by_words name path new format strict
+
+-- the task of a subcommand, and `blocks` where there is none
+abbrev pub by_subcommand : Option (Text × List Row) → TaskView
+by_subcommand None = blocks
+by_subcommand (Some subcommand) = by_paths subcommand.0 (first_of (codes "PATH") subcommand.1)
+    (first_of (codes "NEW") subcommand.1) (first_of (codes "FORMAT") subcommand.1) (is_set (first_of (codes "strict") subcommand.1))
+
+-- the task that the words ask for, of which the first is the program's own name
+abbrev pub asked_by : List Text → TaskView
+asked_by words = by_subcommand (subcommand_of tmhost words)

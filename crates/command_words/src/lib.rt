@@ -1,0 +1,7 @@
+//! The words of `tmhost`'s command line: the subcommands with their help, and the task that words ask for.
+//! What is then done stands in `host_cli`.
+#![tactic(auto)]
+
+mod words;
+
+pub use words::{Task, read_words};

@@ -1,0 +1,5 @@
+use Rattle.host_laws.proofs.Numbers.{nothing_of_an_ended_life}
+use Rattle.host_laws.proofs.nothing_of_an_ended_life.Goals as goal
+
+pub returns : goal.returns
+returns c = nothing_of_an_ended_life

@@ -1,0 +1,4 @@
+pub mod Apart
+pub mod Turns
+pub mod Laws
+pub mod inside

@@ -1,0 +1,90 @@
+//! Laws of the definitions that the contracts of `session_engine` cite (docs/HOST.md, "Laws"). Each function does nothing: its contract is
+//! the law. `hosts_in_turn` is the theorem of many hosts on one disk.
+#![tactic(auto)]
+
+ghost use Rattle.host_laws.specs.Apart.{OthersAreSilent, SessionsAreIndependent, SessionsSeeTheirOwn};
+ghost use Rattle.host_laws.specs.Turns.{EvaluatedAnew, HostsInTurn, PlaysAreTurns, StepsAreTurns};
+ghost use Rattle.host_laws.specs.Laws.{AnEventDoesOneThing, EachEventHasAnOutcome, NothingIsShownInFlight, NothingOfAnEndedLife, NumbersAreGivenOnce, OutcomesLeadToOneWorld};
+
+/// A session is told the same whatever others' interpreters do: two histories without refusals from
+/// worlds alike for it that agree in the merged list of all commands and this session's child events, and
+/// in the numbers of its lives, give it equal replies, effects and answers.
+pub fn sessions_are_independent()
+    ensures { SessionsAreIndependent }
+{
+    plugin_core::streams_read_one_way();
+}
+
+/// So they lead to worksheets that differ in answers of other sessions' fields alone.
+pub fn sessions_see_their_own()
+    ensures { SessionsSeeTheirOwn }
+{
+    plugin_core::streams_read_one_way();
+}
+
+/// An event that isn't of a session tells nothing of its lives, and has no effect on its child.
+pub fn others_are_silent()
+    ensures { OthersAreSilent }
+{}
+
+/// Hosts one after another on one disk, each from its opening to a crash: the worksheet is the one found
+/// first with the ops of a prefix of each host's events in turn, and each prefix has all that was told. A
+/// field that shows an answer shows what was found first, or the whole block that answered its line.
+pub fn hosts_in_turn()
+    ensures { HostsInTurn }
+{
+    recovery::one_sheet();
+}
+
+/// A play of events is a part of such a turn, wherever a crash comes in it and wherever it stops.
+pub fn plays_are_turns()
+    ensures { PlaysAreTurns }
+{}
+
+/// So are events that a caller gives a host one by one, each by a step: a crash within a step makes a
+/// turn that told what the steps before it told, and one behind it a turn that told its outcome too.
+pub fn steps_are_turns()
+    ensures { StepsAreTurns }
+{}
+
+/// What a field shows behind an accepted evaluation of it is what a whole block answered behind it, or
+/// nothing.
+pub fn evaluated_anew()
+    ensures { EvaluatedAnew }
+{}
+
+/// Every event has an outcome in every world.
+pub fn each_event_has_an_outcome()
+    ensures { EachEventHasAnOutcome }
+{}
+
+/// What an event does is settled, but that a command may be refused for want of memory.
+pub fn an_event_does_one_thing()
+    ensures { AnEventDoesOneThing }
+{
+    plugin_core::streams_read_one_way();
+}
+
+/// What was told of a list of events settles the world that they have led to.
+pub fn outcomes_lead_to_one_world()
+    ensures { OutcomesLeadToOneWorld }
+{
+    plugin_core::streams_read_one_way();
+}
+
+/// The lives that a host starts are numbered 1, 2 and so on. Of one session at most one goes on.
+pub fn numbers_are_given_once()
+    ensures { NumbersAreGivenOnce }
+{}
+
+/// Nothing that comes of a life that has ended does anything: it is told as nothing, gives no op and
+/// changes no life. So nothing of an earlier interpreter's life answers a later line.
+pub fn nothing_of_an_ended_life()
+    ensures { NothingOfAnEndedLife }
+{}
+
+/// No field in flight shows an answer. Each line that waits is the input of a field of its session, and
+/// no field has two.
+pub fn nothing_is_shown_in_flight()
+    ensures { NothingIsShownInFlight }
+{}

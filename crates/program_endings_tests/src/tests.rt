@@ -1,0 +1,9 @@
+//! What stands in files, and readers and writers that fail or count. What is printed, told and refused where
+//! they work are cases of `programs`, `data/steps.sh`.
+mod file_calls;
+mod file_disk;
+mod limits;
+mod programs;
+mod running;
+mod scripts;
+mod streams;

@@ -1,0 +1,357 @@
+//! The calls that a disk of two files makes on them.
+use disk_model::{Area, Disk};
+use files_desk::{Calls, Locks, MadeUp, There};
+use journal::CreateCause;
+use sheet_files::{FileDisk, FilesFault, MakeFault};
+use std::alloc::Global;
+use std::io::ErrorKind;
+
+// What comes of a worksheet that is made at a path.
+fn creates(calls: &Calls, alloc: Global, path: &str) -> Result<(), MakeFault> {
+    match FileDisk::create(&MadeUp { alloc, calls }, alloc, path) {
+        Ok(_) => Ok(()),
+        Err(why) => Err(why),
+    }
+}
+
+// The same of one that is opened.
+fn opens(calls: &Calls, alloc: Global, path: &str) -> Result<(), FilesFault> {
+    match FileDisk::open(&MadeUp { alloc, calls }, alloc, path) {
+        Ok(_) => Ok(()),
+        Err(why) => Err(why),
+    }
+}
+
+// The same of one that is opened to read.
+fn reads(calls: &Calls, alloc: Global, path: &str) -> Result<(), FilesFault> {
+    match FileDisk::open_to_read(&MadeUp { alloc, calls }, alloc, path) {
+        Ok(_) => Ok(()),
+        Err(why) => Err(why),
+    }
+}
+
+// Calls over files that are there.
+fn over(alloc: Global, there: There) -> Calls {
+    let calls = Calls::new(alloc);
+    calls.there.set(there);
+    calls
+}
+
+// Whether a worksheet is made at a path by these calls.
+fn creates_by(alloc: Global, path: &str, lines: &str) -> bool {
+    let calls = Calls::new(alloc);
+    creates(&calls, alloc, path) == Ok(()) && calls.are(lines)
+}
+
+#[test]
+fn create_syncs_both_files_and_then_their_folder(rt: HostRuntime) {
+    assert!(rt;
+        creates_by(
+            rt.alloc(),
+            "w/sheet",
+            "look for w/sheet\nlook for w/sheet.alt\nmake w/sheet\nlock w/sheet\nmake w/sheet.alt\n\
+         sync w/sheet\nsync w/sheet.alt\nopen to read w\nsync w\n"
+        )
+    );
+    assert!(rt;
+        creates_by(
+            rt.alloc(),
+            "sheet",
+            "look for sheet\nlook for sheet.alt\nmake sheet\nlock sheet\nmake sheet.alt\n\
+         sync sheet\nsync sheet.alt\nopen to read .\nsync .\n"
+        )
+    );
+    assert!(rt;
+        creates_by(
+            rt.alloc(),
+            "/sheet",
+            "look for /sheet\nlook for /sheet.alt\nmake /sheet\nlock /sheet\nmake /sheet.alt\n\
+         sync /sheet\nsync /sheet.alt\nopen to read /\nsync /\n"
+        )
+    );
+}
+
+// The calls of an opening to read that comes to no second file.
+const FIRST_READ: &str =
+    "follow v/w/sheet\nlook for v/w/sheet\nopen to read v/w/sheet\nlock to read v/w/sheet\n\
+     identify v/w/sheet\nlook for v/w/sheet.alt\n";
+
+// Whether a worksheet is opened by these calls, and to read by the others.
+fn opens_by(alloc: Global, there: There, path: &str, lines: &str, to_read: &str) -> bool {
+    let written = over(alloc, there);
+    let read = over(alloc, there);
+    opens(&written, alloc, path) == Ok(())
+        && written.are(lines)
+        && reads(&read, alloc, path) == Ok(())
+        && read.are(to_read)
+}
+
+// The first file is locked before the second one is opened or made, and before anything is read.
+#[test]
+fn a_worksheet_is_locked_before_its_second_file_is_opened(rt: HostRuntime) {
+    let found =
+        "follow v/w/sheet\nlook for v/w/sheet\nopen v/w/sheet\nlock v/w/sheet\nidentify v/w/sheet\n\
+         look for v/w/sheet.alt\nopen v/w/sheet.alt\nidentify v/w/sheet\nidentify v/w/sheet.alt\n";
+    let read =
+        "follow v/w/sheet\nlook for v/w/sheet\nopen to read v/w/sheet\nlock to read v/w/sheet\n\
+         identify v/w/sheet\nlook for v/w/sheet.alt\nopen to read v/w/sheet.alt\n\
+         identify v/w/sheet\nidentify v/w/sheet.alt\n";
+    assert!(rt; opens_by(rt.alloc(), There::All, "v/w/sheet", found, read));
+}
+
+// To write it is made, and its name is brought onto the disk, where the first file doesn't say that the
+// worksheet lies in it.
+#[test]
+fn a_second_file_that_is_missing(rt: HostRuntime) {
+    let made =
+        "follow v/w/sheet\nlook for v/w/sheet\nopen v/w/sheet\nlock v/w/sheet\nidentify v/w/sheet\n\
+         look for v/w/sheet.alt\nread v/w/sheet 0 3\nread v/w/sheet 3 3\nread v/w/sheet 6 3\n\
+         read v/w/sheet 9 2\nmake v/w/sheet.alt\nopen to read v/w\nsync v/w\n\
+         identify v/w/sheet\nidentify v/w/sheet.alt\n";
+    assert!(rt; opens_by(rt.alloc(), There::First, "v/w/sheet", made, FIRST_READ));
+}
+
+// The second file is the one beside the file that a link leads to.
+#[test]
+fn a_link_is_followed_to_both_files(rt: HostRuntime) {
+    let far =
+        "follow link\nlook for far/sheet\nopen far/sheet\nlock far/sheet\nidentify far/sheet\n\
+         look for far/sheet.alt\nopen far/sheet.alt\nidentify far/sheet\nidentify far/sheet.alt\n";
+    let read = "follow link\nlook for far/sheet\nopen to read far/sheet\nlock to read far/sheet\n\
+         identify far/sheet\nlook for far/sheet.alt\nopen to read far/sheet.alt\n\
+         identify far/sheet\nidentify far/sheet.alt\n";
+    assert!(rt; opens_by(rt.alloc(), There::Linked, "link", far, read));
+}
+
+// Where it can't be told where a path leads, one that is no link stands as it is.
+#[test]
+fn a_path_that_can_not_be_followed(rt: HostRuntime) {
+    let here = "follow s\nlook for s\nopen s\nlock s\nidentify s\n\
+         look for s.alt\nopen s.alt\nidentify s\nidentify s.alt\n";
+    let read = "follow s\nlook for s\nopen to read s\nlock to read s\nidentify s\n\
+         look for s.alt\nopen to read s.alt\nidentify s\nidentify s.alt\n";
+    assert!(rt; opens_by(rt.alloc(), There::Lost, "s", here, read));
+    assert!(rt;
+        is_refused(
+            &over(rt.alloc(), There::Lost),
+            rt.alloc(),
+            "link",
+            "follow link\nlook for link\nfollow link\nlook for link\n"
+        )
+    );
+}
+
+// Whether a worksheet is opened neither to write nor to read, and these are the calls.
+fn is_refused(calls: &Calls, alloc: Global, path: &str, lines: &str) -> bool {
+    opens(calls, alloc, path) == Err(FilesFault::Disk)
+        && reads(calls, alloc, path) == Err(FilesFault::Disk)
+        && calls.are(lines)
+}
+
+#[test]
+fn what_is_no_plain_file_is_not_opened(rt: HostRuntime) {
+    let twice = "follow s\nlook for s\nfollow s\nlook for s\n";
+    let folders = over(rt.alloc(), There::Folders);
+    assert!(rt; is_refused(&folders, rt.alloc(), "s", twice));
+    let link = "follow s\nlook for s\nopen s\nlock s\nidentify s\nlook for s.alt\n\
+         follow s\nlook for s\nopen to read s\nlock to read s\nidentify s\nlook for s.alt\n";
+    let second = over(rt.alloc(), There::SecondLink);
+    assert!(rt; is_refused(&second, rt.alloc(), "s", link));
+}
+
+// The calls of two openings that come to the first file alone.
+const FIRST_ALONE: &str = "follow s\nlook for s\nopen s\nlock s\nidentify s\n\
+     follow s\nlook for s\nopen to read s\nlock to read s\nidentify s\n";
+
+// The calls of two openings of both files.
+const BOTH: &str = "follow s\nlook for s\nopen s\nlock s\nidentify s\n\
+     look for s.alt\nopen s.alt\nidentify s\nidentify s.alt\n\
+     follow s\nlook for s\nopen to read s\nlock to read s\nidentify s\n\
+     look for s.alt\nopen to read s.alt\nidentify s\nidentify s.alt\n";
+
+// Whether files with so many names are refused by these calls.
+fn names_are_refused(alloc: Global, names: (u64, u64), lines: &str) -> bool {
+    let calls = over(alloc, There::All);
+    calls.names.set(names);
+    is_refused(&calls, alloc, "s", lines)
+}
+
+#[test]
+fn a_file_with_two_names_or_none_is_refused(rt: HostRuntime) {
+    assert!(rt; names_are_refused(rt.alloc(), (2, 1), FIRST_ALONE));
+    assert!(rt; names_are_refused(rt.alloc(), (0, 1), FIRST_ALONE));
+    assert!(rt; names_are_refused(rt.alloc(), (1, 2), BOTH));
+}
+
+#[test]
+fn a_second_file_that_is_the_first_one_is_refused(rt: HostRuntime) {
+    let calls = over(rt.alloc(), There::All);
+    calls.numbers.set((8, 8));
+    assert!(rt; is_refused(&calls, rt.alloc(), "s", BOTH));
+    let other = over(rt.alloc(), There::All);
+    other.plain.set(false);
+    assert!(rt; is_refused(&other, rt.alloc(), "s", FIRST_ALONE));
+}
+
+// Whether each opening tells that another has the worksheet, and these are the calls.
+fn are_in_use(calls: &Calls, alloc: Global, lines: &str) -> bool {
+    opens(calls, alloc, "s") == Err(FilesFault::InUse)
+        && reads(calls, alloc, "s") == Err(FilesFault::InUse)
+        && calls.are(lines)
+}
+
+#[test]
+fn a_worksheet_that_another_has_is_left_alone(rt: HostRuntime) {
+    let calls = over(rt.alloc(), There::All);
+    calls.locks.set(Locks::Taken);
+    assert!(rt;
+        are_in_use(
+            &calls,
+            rt.alloc(),
+            "follow s\nlook for s\nopen s\nlock s\n\
+         follow s\nlook for s\nopen to read s\nlock to read s\n"
+        )
+    );
+    let empty = Calls::new(rt.alloc());
+    empty.locks.set(Locks::Taken);
+    assert!(rt; creates(&empty, rt.alloc(), "s") == Err(MakeFault::InUse));
+    assert!(rt; empty.are("look for s\nlook for s.alt\nmake s\nlock s\n"));
+}
+
+// Whether worksheets are made and opened where the file system has no locks.
+fn goes_on_without_locks(alloc: Global) -> bool {
+    let empty = Calls::new(alloc);
+    empty.locks.set(Locks::None);
+    let calls = over(alloc, There::All);
+    calls.locks.set(Locks::None);
+    creates(&empty, alloc, "s") == Ok(())
+        && opens(&calls, alloc, "s") == Ok(())
+        && reads(&calls, alloc, "s") == Ok(())
+        && calls.are(BOTH)
+}
+
+#[test]
+fn a_file_system_without_locks(rt: HostRuntime) {
+    assert!(rt; goes_on_without_locks(rt.alloc()));
+}
+
+#[test]
+fn a_sync_that_fails_makes_no_worksheet(rt: HostRuntime) {
+    let calls = Calls::new(rt.alloc());
+    calls.stuck.set(Some(ErrorKind::Other));
+    let failed = Err(MakeFault::Create(CreateCause::Disk));
+    assert!(rt; creates(&calls, rt.alloc(), "w/sheet") == failed);
+    calls.there.set(There::First);
+    assert!(rt; opens(&calls, rt.alloc(), "w/sheet") == Err(FilesFault::Disk));
+}
+
+// Whether the calls of this area are these, behind those of an opening, and each works.
+fn area_calls(alloc: Global, area: Area, lines: &str) -> bool {
+    let calls = over(alloc, There::All);
+    let Ok(mut disk) = FileDisk::open(
+        &MadeUp {
+            alloc,
+            calls: &calls,
+        },
+        alloc,
+        "s",
+    ) else {
+        return false;
+    };
+    let mut bytes = [0u8; 5];
+    let works = disk.len(area) == Ok(7)
+        && disk.read(area, 1, &mut bytes).is_ok()
+        && disk.write_at(area, 9, b"abcd").is_ok()
+        && disk.sync(area).is_ok();
+    works && calls.end_in(lines)
+}
+
+#[test]
+fn calls_come_to_the_file_of_their_area_whole(rt: HostRuntime) {
+    let first = "identify s.alt\nmeasure s\nread s 1 3\nread s 4 2\n\
+                 write s 9 3\nwrite s 12 1\nsync the data of s\n";
+    let second = "identify s.alt\nmeasure s.alt\nread s.alt 1 3\nread s.alt 4 2\n\
+                  write s.alt 9 3\nwrite s.alt 12 1\nsync the data of s.alt\n";
+    assert!(rt; area_calls(rt.alloc(), Area::First, first));
+    assert!(rt; area_calls(rt.alloc(), Area::Second, second));
+}
+
+// Whether a disk that is only read makes these calls behind those of its opening, and writes nothing.
+fn read_calls(alloc: Global, area: Area, lines: &str) -> bool {
+    let calls = over(alloc, There::All);
+    let Ok(mut disk) = FileDisk::open_to_read(
+        &MadeUp {
+            alloc,
+            calls: &calls,
+        },
+        alloc,
+        "s",
+    ) else {
+        return false;
+    };
+    let mut bytes = [0u8; 5];
+    let works = disk.len(area) == Ok(7)
+        && disk.read(area, 1, &mut bytes).is_ok()
+        && disk.write_at(area, 9, b"abcd").is_err()
+        && disk.sync(area).is_ok();
+    works && calls.end_in(lines)
+}
+
+#[test]
+fn a_disk_that_is_only_read_writes_nothing(rt: HostRuntime) {
+    let first = "identify s.alt\nmeasure s\nread s 1 3\nread s 4 2\nsync the data of s\n";
+    let second =
+        "identify s.alt\nmeasure s.alt\nread s.alt 1 3\nread s.alt 4 2\nsync the data of s.alt\n";
+    assert!(rt; read_calls(rt.alloc(), Area::First, first));
+    assert!(rt; read_calls(rt.alloc(), Area::Second, second));
+}
+
+// Whether each call on a second file that is missing fails, and none is made.
+fn fails_without_a_second_file(alloc: Global) -> bool {
+    let calls = over(alloc, There::First);
+    let Ok(mut disk) = FileDisk::open_to_read(
+        &MadeUp {
+            alloc,
+            calls: &calls,
+        },
+        alloc,
+        "v/w/sheet",
+    ) else {
+        return false;
+    };
+    let mut bytes = [0u8; 5];
+    let fails = disk.len(Area::Second).is_err()
+        && disk.read(Area::Second, 0, &mut bytes).is_err()
+        && disk.write_at(Area::Second, 0, b"abcd").is_err()
+        && disk.sync(Area::Second).is_err();
+    fails && calls.are(FIRST_READ)
+}
+
+#[test]
+fn calls_on_a_second_file_that_is_missing(rt: HostRuntime) {
+    assert!(rt; fails_without_a_second_file(rt.alloc()));
+}
+
+// What a sync answers that the file refuses so, of a disk that is written, and of one that is read.
+fn syncs(alloc: Global, area: Area, why: ErrorKind) -> Option<(bool, bool)> {
+    let calls = over(alloc, There::All);
+    let files = MadeUp {
+        alloc,
+        calls: &calls,
+    };
+    let mut written = FileDisk::open(&files, alloc, "s").ok()?;
+    let mut read = FileDisk::open_to_read(&files, alloc, "s").ok()?;
+    calls.stuck.set(Some(why));
+    Some((written.sync(area).is_ok(), read.sync(area).is_ok()))
+}
+
+// But of a file system that can only be read, where there is nothing to bring out.
+#[test]
+fn a_sync_that_fails_is_a_fault(rt: HostRuntime) {
+    let alloc = rt.alloc();
+    let nothing = Some((false, true));
+    assert!(rt; syncs(alloc, Area::First, ErrorKind::Other) == Some((false, false)));
+    assert!(rt; syncs(alloc, Area::Second, ErrorKind::Other) == Some((false, false)));
+    assert!(rt; syncs(alloc, Area::First, ErrorKind::InvalidInput) == nothing);
+    assert!(rt; syncs(alloc, Area::Second, ErrorKind::ReadOnlyFilesystem) == nothing);
+}

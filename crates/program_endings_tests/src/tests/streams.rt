@@ -1,0 +1,90 @@
+//! Streams that are read in parts of three bytes, readers and writers that fail, and one that takes all memory.
+use program_endings::blocks;
+use sheet_programs::RunFault;
+use std::alloc::Global;
+use std::io::{Read, Write};
+use std::test::Fail;
+use tests_desk::{Exhausting, Full, InterruptedOnce, Parts, Unflushed};
+
+// Whether `blocks` prints this text of the stream, and gives this answer.
+fn prints(alloc: Global, stream: &[u8], text: &[u8], whole: bool) -> bool {
+    let mut reader = Parts {
+        rest: stream,
+        fails: false,
+    };
+    let mut out: Vec<u8> = Vec::new(alloc);
+    let answer = blocks(alloc, &mut reader, &mut out);
+    answer == Ok(whole) && out.as_slice() == text
+}
+
+#[test]
+fn a_stream_that_is_read_in_parts(rt: HostRuntime) {
+    let stream = b"noise\x02verbatim:4\x02prompt#In 2] \x05\x05\x02a:\x1b";
+    let text = b"5 32 {verbatim:4{prompt#In 2] }}\nunfinished 32\n";
+    assert!(rt; prints(rt.alloc(), stream, text, false));
+}
+
+// The fault of this reader, where nothing was written.
+fn reader_fault<R: Read>(alloc: Global, reader: &mut R) -> Option<RunFault> {
+    let mut out: Vec<u8> = Vec::new(alloc);
+    let answer = blocks(alloc, reader, &mut out);
+    if out.is_empty() { answer.err() } else { None }
+}
+
+// The fault of this writer.
+fn writer_fault<W: Write>(alloc: Global, stream: &[u8], writer: &mut W) -> Option<RunFault> {
+    let mut reader = stream;
+    blocks(alloc, &mut reader, writer).err()
+}
+
+#[test]
+fn a_reader_or_a_writer_that_fails(rt: HostRuntime) {
+    let alloc = rt.alloc();
+    let mut parts = Parts {
+        rest: b"\x02a:\x05",
+        fails: true,
+    };
+    assert!(rt; reader_fault(alloc, &mut parts) == Some(RunFault::Input));
+    let mut interrupted = InterruptedOnce {
+        rest: b"\x02a:\x05",
+        interrupted: false,
+    };
+    assert!(rt; reader_fault(alloc, &mut interrupted) == Some(RunFault::Input));
+    assert!(rt; writer_fault(alloc, b"\x02a:\x05", &mut Full) == Some(RunFault::Output));
+}
+
+#[test]
+fn a_flush_that_fails_is_told_whatever_the_stream(rt: HostRuntime) {
+    let streams: [&[u8]; 4] = [b"", b"\x02a:\x05", b"\x02:", b"\x02a"];
+    for stream in streams {
+        let fault = writer_fault(rt.alloc(), stream, &mut Unflushed);
+        assert!(rt; fault == Some(RunFault::Output));
+    }
+}
+
+// What `blocks` writes of a stream whose reader takes all memory at its end, where it did and all was written.
+fn without_memory(alloc: Global, stream: &[u8]) -> Option<Vec<u8>> {
+    let mut out: Vec<u8> = Vec::with_capacity(alloc, 1_000).ok()?;
+    let mut reader = Exhausting {
+        alloc,
+        rest: stream,
+        held: Vec::new(alloc),
+    };
+    let answer = blocks(alloc, &mut reader, &mut out);
+    let is_held = !reader.held.is_empty();
+    drop(reader);
+    if is_held && answer == Ok(false) {
+        Some(out)
+    } else {
+        None
+    }
+}
+
+#[test]
+fn without_memory_a_stream_is_printed(rt: HostRuntime) -> Result<(), Fail> {
+    let stream = b"\x02a:\x02b#\x1b\x05\x05\x05noise\x02c:x\x05\x02d";
+    let expected = b"0 10 {a:{b#\\x05}}\n15 20 {c:x}\nunfinished 20\n";
+    let out = without_memory(rt.alloc(), stream).ok_or("a fault, or memory")?;
+    assert!(rt; out.as_slice() == expected.as_slice());
+    Ok(())
+}

@@ -1,5 +1,0 @@
-use Rattle.session_engine.proofs.OneThing.{an_event_does_one_thing}
-use Rattle.session_engine.proofs.laws.an_event_does_one_thing.Goals as goal
-
-pub returns : goal.returns
-returns c = an_event_does_one_thing c.streams_read_one_way.ensures
