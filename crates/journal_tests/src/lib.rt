@@ -1,4 +1,4 @@
-//! The tests of `journal`.
+//! The tests of `disk_model` and `journal`.
 #![tactic(auto)]
 
 #[cfg(test)]

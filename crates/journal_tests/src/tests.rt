@@ -2,6 +2,7 @@
 mod batches;
 mod crashes;
 mod desk;
+mod disks;
 mod memory;
 mod openings;
 mod records;

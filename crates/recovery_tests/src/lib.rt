@@ -1,4 +1,4 @@
-//! The tests of `recovery`.
+//! The tests of `worksheet` and `recovery`.
 #![tactic(auto)]
 
 #[cfg(test)]

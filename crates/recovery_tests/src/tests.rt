@@ -5,3 +5,4 @@ mod desk;
 mod memory;
 mod openings;
 mod rescues;
+mod worksheets;

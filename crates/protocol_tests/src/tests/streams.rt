@@ -1,3 +1,4 @@
+//! Streams: worked examples, limits, and where a stream ends.
 mod random;
 
 use meta_format::{FeedFault, Found, ReadFault, Reader, Seen, next_outer, read_block, write_block};

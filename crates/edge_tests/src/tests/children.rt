@@ -8,11 +8,6 @@ use std::alloc::Global;
 use std::test::Fail;
 use worksheet::Name;
 
-mod desk;
-mod made_up;
-mod processes;
-mod talkers;
-
 const BANNER: &[u8] = b"\x02verbatim:Hello\x02prompt#Input 1] \x05\x05";
 
 const ANSWER: &[u8] = b"\x02verbatim:\x02latex:$x^2$\x05\x02prompt#Input 2] \x05\x05";

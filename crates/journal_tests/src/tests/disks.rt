@@ -1,3 +1,4 @@
+//! Disks in memory: what crashes leave of them, and fuses.
 use disk_model::{Area, Choice, Disk, DiskFault, Fill, FuseDisk, FuseMode, MAX_ROOM, MemoryDisk};
 use std::alloc::Global;
 use std::test::Fail;

@@ -1,5 +1,0 @@
-//! The tests of `arrivals`.
-#![tactic(auto)]
-
-#[cfg(test)]
-mod tests;

@@ -1,5 +1,0 @@
-//! The tests of `block_tree`.
-#![tactic(auto)]
-
-#[cfg(test)]
-mod tests;

@@ -1,5 +1,0 @@
-//! The tests of `child_edge`.
-#![tactic(auto)]
-
-#[cfg(test)]
-mod tests;

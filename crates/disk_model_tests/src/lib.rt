@@ -1,5 +1,0 @@
-//! The tests of `disk_model`.
-#![tactic(auto)]
-
-#[cfg(test)]
-mod tests;

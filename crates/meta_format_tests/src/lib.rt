@@ -1,5 +1,0 @@
-//! The tests of `meta_format`.
-#![tactic(auto)]
-
-#[cfg(test)]
-mod tests;

@@ -1,5 +1,0 @@
-//! The tests of `plugin_core`.
-#![tactic(auto)]
-
-#[cfg(test)]
-mod tests;

@@ -1,5 +1,0 @@
-//! The tests of `sheet_text`.
-#![tactic(auto)]
-
-#[cfg(test)]
-mod tests;

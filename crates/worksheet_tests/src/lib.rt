@@ -1,5 +1,0 @@
-//! The tests of `worksheet`.
-#![tactic(auto)]
-
-#[cfg(test)]
-mod tests;
