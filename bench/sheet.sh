@@ -8,15 +8,24 @@ root=$(dirname "$(dirname "$(readlink -f "${BASH_SOURCE[0]}")")")
 commit=${1:-dc6401f}
 work=$(mktemp -d)
 trap 'rm -rf "$work"' EXIT
-mkdir "$work/before"
+
+# Builds the program that times the calls (sheet_calls.txt: the gate proves each .rt file, and this one is no part of tmhost) in a copy
+# of a tree's worksheet.
+build() {
+    mkdir -p "$work/$1/crates/sheet_bench/src"
+    cp "$root/bench/sheet_calls.txt" "$work/$1/crates/sheet_bench/src/main.rt"
+    sed -i '/^sheet_bench: /d' "$work/$1/crates.txt"
+    echo 'sheet_bench: block_tree worksheet' >>"$work/$1/crates.txt"
+    (cd "$work/$1/crates/sheet_bench" && rt run </dev/null >"$work/log" 2>&1) || { tail -n 20 "$work/log" >&2; exit 1; }
+}
+mkdir "$work/before" "$work/after"
 git -C "$root" archive "$commit" | tar -x -C "$work/before"
-cp "$root/crates/sheet_bench/src/main.rt" "$work/before/crates/sheet_bench/src/main.rt"
-sed -i 's/^sheet_bench: .*/sheet_bench: block_tree worksheet/' "$work/before/crates.txt"
-for tree in "$work/before" "$root"; do
-    (cd "$tree/crates/sheet_bench" && rt run </dev/null >"$work/log" 2>&1) || { tail -n 20 "$work/log" >&2; exit 1; }
-done
-cp "$work/before/crates/sheet_bench/out/sheet_bench" "$work/vector"
-python3 - "$work/vector" "$root/crates/sheet_bench/out/sheet_bench" "${RUNS:-5}" <<'PYTHON'
+tar -c -C "$root" crates.txt HANDLES crates/block_tree crates/worksheet | tar -x -C "$work/after"
+sed -i '/^\(block_tree\|worksheet\): /!d' "$work/after/crates.txt"
+build before
+build after
+programs=("$work"/{before,after}/crates/sheet_bench/out/sheet_bench)
+python3 - "${programs[@]}" "${RUNS:-5}" <<'PYTHON'
 import subprocess, sys
 
 programs, runs = {"before": sys.argv[1], "after": sys.argv[2]}, int(sys.argv[3])

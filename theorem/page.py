@@ -27,12 +27,24 @@ HANDED_ON = {
     ("session_engine.Host", "IsHost"): "`open` gives it, and each `step` and `play` takes it and gives it again for the world behind the events; "
     "a relation that meant less would make the contracts promise more. What is seen of a host, its replies, its worksheet and its disk, "
     "is said in the other words of this page.",
+    ("session_engine.Faults", "Failed"): "`step` gives it where an event had a fault, and the law of steps takes it: a crash then ends a turn like any "
+    "other, and the host is closed. It also says which event may have which fault (docs/HOST.md, \"Faults\").",
+    ("session_engine.Host", "EndsAt"): "`open` gives it of the disk that it read, with the host's own end of the journal, and the laws take it. Where the "
+    "journal ends behind an event, and so when it is full, the other words of this page say.",
+    ("recovery.Sheets", "IsSheetImage"): "each call says that a crash at any moment of it leaves such an image, and `open` that on such an image it gives a "
+    "host with this very worksheet, where the disk doesn't fail and memory isn't refused: what is seen of an image is what the next host shows. No "
+    "image is one of two worksheets (`one_sheet`).",
+    ("recovery.Code", "code_of"): "they are bytes of the journal's own format (docs/FORMAT.md), and this page needs their length alone, which says when "
+    "the journal is full. No two ops have one payload (`one_op`).",
+    ("worksheet.Rewrite", "rewrite_of"): "they make this worksheet (`rewrite_makes_the_same`), and this page needs the lengths of their payloads alone, which "
+    "say where a journal that is written anew ends.",
 }
 
 # Values that are computed, and the law that says what each one is: who reads the law needs no line of how.
 BY_LAW = {
     ("scheme_text.Told", "told_by"): ("scheme_text.Laws", "ToldAsAValue", "told_as_a_value"),
     ("plugin_core.Answers", "answers_of"): ("plugin_core.AskPoints", "AnswersByAskPoints", "answers_by_ask_points"),
+    ("journal.Area", "end_of"): ("journal.Laws", "GateBehind", "gate_behind"),
 }
 
 
@@ -166,14 +178,14 @@ def linked(tree, definition):
 
 
 def entry(tree, definition):
-    told = " ".join(definition.sentences) or "(its name says it)"
+    told = " ".join(definition.sentences) or sys.exit(f"{definition.file}:{definition.line}: no sentence stands above {definition.key[1]}")
     place = f"../{definition.file}#L{definition.line}"
     if definition.key in HANDED_ON:
-        told += f". Its words are left out: {HANDED_ON[definition.key]}"
+        told = f"{told.rstrip('.')}. Its words are left out: {HANDED_ON[definition.key]}"
         return entry_of(definition, place, told, html.escape(definition.lines[0]))
     if definition.key in BY_LAW:
         module, law, function = BY_LAW[definition.key]
-        told += f". The law `{function}` says what it is: [{law}](#{anchor((module, law))})"
+        told = f"{told.rstrip('.')}. The law `{function}` says what it is: [{law}](#{anchor((module, law))})"
         return entry_of(definition, place, told, html.escape(definition.lines[0]))
     return entry_of(definition, place, told, linked(tree, definition))
 

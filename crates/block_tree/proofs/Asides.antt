@@ -2,8 +2,9 @@
 use Rattle.std.proofs.Common.{◌≡◌, ℕ, Bool, true, false, not, ◌&&◌, ◌||◌, nat_le, cond, length, List, refl, ap, ap₂, sym, ◌∙◌}
 use Rattle.std.proofs.lemmas.Bool.{and_parts, false≢true}
 use Rattle.block_tree.specs.Tree.{Items, Tree, end, text, block}
-use Rattle.block_tree.specs.Output.{output, no_output, output_items, is_aside, join}
-use Rattle.block_tree.specs.Shape.{is_proper, begins_with_text, is_block, is_tag_name, depth, max_tag, max_depth}
+use Rattle.block_tree.specs.Output.{output, output_items, is_aside, join}
+use Rattle.block_tree.specs.inside.Words.{no_output}
+use Rattle.block_tree.specs.Shape.{is_proper, begins_with_text, is_block, is_tag_name, depth, longest_tag, most_levels}
 use Rattle.block_tree.specs.inside.Asides.{has_aside}
 
 neither : (a b : Bool) → (a || b) ≡ false → (a ≡ false) × (b ≡ false)
@@ -35,8 +36,8 @@ own_items most (block c n i rest) h k =
 
 pub own_output : (b : Tree) → is_block b ≡ true → (is_aside b.channel b.name || has_aside b.items) ≡ false → output b ≡ b
 own_output b h k =
-    let p = and_parts (is_tag_name max_tag b.name && is_proper max_tag b.items) (nat_le (depth b) max_depth) h in
-    let q = and_parts (is_tag_name max_tag b.name) (is_proper max_tag b.items) p.0 in
+    let p = and_parts (is_tag_name longest_tag b.name && is_proper longest_tag b.items) (nat_le (depth b) most_levels) h in
+    let q = and_parts (is_tag_name longest_tag b.name) (is_proper longest_tag b.items) p.0 in
     let a = neither (is_aside b.channel b.name) (has_aside b.items) k in
     ap (λ v. cond v no_output (record { channel = b.channel; name = b.name; items = output_items b.items })) a.0
-    ∙ ap (λ v. record { channel = b.channel; name = b.name; items = v }) (own_items max_tag b.items q.1 a.1)
+    ∙ ap (λ v. record { channel = b.channel; name = b.name; items = v }) (own_items longest_tag b.items q.1 a.1)

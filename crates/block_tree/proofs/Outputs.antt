@@ -4,13 +4,14 @@ use Rattle.std.proofs.lemmas.List.{map-append, take_more}
 use Rattle.std.proofs.lemmas.Bool.{and_parts, and_from, false≢true, le-leb, leb-true}
 use Rattle.std.proofs.Math.Nat.{le-max_left, le-max_right, max-le}
 use Rattle.block_tree.specs.Tree.{Items, Tree, Piece, text_piece, block_piece, items_from, end, text, block}
-use Rattle.block_tree.specs.Output.{output, no_output, output_items, is_aside, join}
+use Rattle.block_tree.specs.Output.{output, output_items, is_aside, join}
+use Rattle.block_tree.specs.inside.Words.{no_output}
 use Rattle.block_tree.specs.inside.Growing.{text_behind, block_behind}
 use Rattle.block_tree.specs.View.{piece_of, tree_of, piece_text, piece_block, tree_roll, tree_out}
 use Rattle.block_tree.specs.declared.tree.Item.{Item}
 use Rattle.block_tree.specs.declared.tree.Item.TheVariants.{Block, Text}
 use Rattle.block_tree.specs.declared.tree.Node.{Node, Node-F, roll-Node, out-Node}
-use Rattle.block_tree.specs.Shape.{is_proper, begins_with_text, is_block_within, is_block, is_tag_name, levels, depth, max_tag, max_depth}
+use Rattle.block_tree.specs.Shape.{is_proper, begins_with_text, is_block_within, is_block, is_tag_name, levels, depth, longest_tag, most_levels}
 
 pub text_behind_text : (ps : List Piece) (s t : List ℕ) → text_behind (items_from (ps ++ text_piece s ∷ [])) t ≡ items_from (ps ++ text_piece (s ++ t) ∷ [])
 text_behind_text [] s t = refl
@@ -176,7 +177,7 @@ chosen_within tag deep true b r h = r
 chosen_within tag deep false b r h = kept_within tag deep b h
 
 pub output_is_block : (b : Tree) → is_block b ≡ true → is_block (output b) ≡ true
-output_is_block b h = chosen_within max_tag max_depth (is_aside b.channel b.name) b refl h
+output_is_block b h = chosen_within longest_tag most_levels (is_aside b.channel b.name) b refl h
 
 pub kept_is_block : (b : Tree) → is_block b ≡ true → is_block (record { channel = b.channel; name = b.name; items = output_items b.items }) ≡ true
-kept_is_block b h = kept_within max_tag max_depth b h
+kept_is_block b h = kept_within longest_tag most_levels b h

@@ -5,7 +5,7 @@ use Rattle.block_tree.specs.Tree.{Items, Piece, text_piece, block_piece, items_f
 use Rattle.block_tree.specs.View.{piece_of, tree_of, tree_out, tree_roll, piece_text, piece_block}
 use Rattle.block_tree.specs.inside.Marks.{open_mark, letter, close_mark, marks_of, marks}
 use Rattle.std.proofs.lemmas.Bool.{and_from, le-leb}
-use Rattle.block_tree.specs.Shape.{is_tag_name, depth, is_block, max_tag, max_depth}
+use Rattle.block_tree.specs.Shape.{is_tag_name, depth, is_block, longest_tag, most_levels}
 use Rattle.block_tree.specs.inside.Reading.{is_right}
 use Rattle.block_tree.proofs.Shapes.{right_proper}
 use Rattle.block_tree.specs.inside.Nodes.{piece_marks, node_marks, item_marks, node_depth, tree_plain, piece_plain, is_right_node, is_plain_item, all_right}
@@ -38,25 +38,25 @@ pub item_marks_block : (n : Node) → item_marks (Block n) ≡ node_marks n
 unfolding item_marks node_marks
 item_marks_block n = ap piece_marks (piece_block n)
 
-put_right : (after : Bool) (p : Piece) (rest : Items) → is_right max_tag after (put p rest) ≡ (not (after && (piece_plain p).0) && (piece_plain p).1 && is_right max_tag (piece_plain p).0 rest)
+put_right : (after : Bool) (p : Piece) (rest : Items) → is_right longest_tag after (put p rest) ≡ (not (after && (piece_plain p).0) && (piece_plain p).1 && is_right longest_tag (piece_plain p).0 rest)
 put_right true (text_piece t) rest = refl
 put_right false (text_piece t) rest = refl
-put_right true (block_piece b) rest = ap (λ q. is_tag_name max_tag b.name && q && is_right max_tag false rest) (right_proper max_tag b.items)
-put_right false (block_piece b) rest = ap (λ q. is_tag_name max_tag b.name && q && is_right max_tag false rest) (right_proper max_tag b.items)
+put_right true (block_piece b) rest = ap (λ q. is_tag_name longest_tag b.name && q && is_right longest_tag false rest) (right_proper longest_tag b.items)
+put_right false (block_piece b) rest = ap (λ q. is_tag_name longest_tag b.name && q && is_right longest_tag false rest) (right_proper longest_tag b.items)
 
-items_plain : (after : Bool) (xs : List Item) → is_right max_tag after (items_from (map piece_of xs)) ≡ all_right after (map is_plain_item xs)
+items_plain : (after : Bool) (xs : List Item) → is_right longest_tag after (items_from (map piece_of xs)) ≡ all_right after (map is_plain_item xs)
 unfolding is_plain_item
 items_plain after [] = refl
 items_plain after (x ∷ xs) = put_right after (piece_of x) (items_from (map piece_of xs))
     ∙ ap (λ r. not (after && (piece_plain (piece_of x)).0) && (piece_plain (piece_of x)).1 && r) (items_plain (piece_plain (piece_of x)).0 xs)
 
-pub plain_roll : (x : Node-F Item Node) → is_right_node (roll-Node x) ≡ (is_tag_name max_tag x.tag.name && all_right false (map is_plain_item x.items.items))
+pub plain_roll : (x : Node-F Item Node) → is_right_node (roll-Node x) ≡ (is_tag_name longest_tag x.tag.name && all_right false (map is_plain_item x.items.items))
 unfolding is_right_node
-plain_roll x = ap tree_plain (tree_roll x) ∙ ap (λ r. is_tag_name max_tag x.tag.name && r) (sym (right_proper max_tag (items_from (map piece_of x.items.items))) ∙ items_plain false x.items.items)
+plain_roll x = ap tree_plain (tree_roll x) ∙ ap (λ r. is_tag_name longest_tag x.tag.name && r) (sym (right_proper longest_tag (items_from (map piece_of x.items.items))) ∙ items_plain false x.items.items)
 
-pub plain_out : (n : Node) → is_right_node n ≡ (is_tag_name max_tag (out-Node n).tag.name && all_right false (map is_plain_item (out-Node n).items.items))
+pub plain_out : (n : Node) → is_right_node n ≡ (is_tag_name longest_tag (out-Node n).tag.name && all_right false (map is_plain_item (out-Node n).items.items))
 unfolding is_right_node
-plain_out n = ap tree_plain (tree_out n) ∙ ap (λ r. is_tag_name max_tag (out-Node n).tag.name && r) (sym (right_proper max_tag (items_from (map piece_of (out-Node n).items.items))) ∙ items_plain false (out-Node n).items.items)
+plain_out n = ap tree_plain (tree_out n) ∙ ap (λ r. is_tag_name longest_tag (out-Node n).tag.name && r) (sym (right_proper longest_tag (items_from (map piece_of (out-Node n).items.items))) ∙ items_plain false (out-Node n).items.items)
 
 pub plain_item_text : (t : List ℕ) → is_plain_item (Text t) ≡ (true, nat_le 1 (length t))
 unfolding is_plain_item
@@ -70,6 +70,6 @@ pub tree_marks : (n : Node) → marks (tree_of n) ≡ node_marks n
 unfolding node_marks
 tree_marks n = refl
 
-pub block_from : (n : Node) → is_right_node n ≡ true → node_depth n ≤ max_depth → is_block (tree_of n) ≡ true
+pub block_from : (n : Node) → is_right_node n ≡ true → node_depth n ≤ most_levels → is_block (tree_of n) ≡ true
 unfolding is_right_node node_depth
-block_from n p h = and_from (tree_plain (tree_of n)) (nat_le (depth (tree_of n)) max_depth) p (le-leb (depth (tree_of n)) max_depth h)
+block_from n p h = and_from (tree_plain (tree_of n)) (nat_le (depth (tree_of n)) most_levels) p (le-leb (depth (tree_of n)) most_levels h)

@@ -1,6 +1,7 @@
 -- The text, the output and the channels of a block.
 -- (TeXmacs manual, interfacing: channels, prompts and default input.)
 use Rattle.std.specs.Prelude.{ℕ, Bool, false, ◌&&◌, ◌||◌, cond, List, [], ◌++◌, codes, Option, Some, None}
+use Rattle.std.specs.Option.{option_or}
 use Rattle.std.specs.Str.{bytes_eq}
 use Rattle.block_tree.specs.Tree.{Items, Tree, end, text, block}
 
@@ -27,17 +28,9 @@ output_items (text t rest) = join t (output_items rest)
 output_items (block channel name inside rest) =
     cond (is_aside channel name) (output_items rest) (block channel name (output_items inside) (output_items rest))
 
--- an empty block of the format 'verbatim'
-abbrev pub no_output : Tree
-no_output = record { channel = false; name = codes "verbatim"; items = end }
-
--- the output of a block: none where the block is itself a prompt or a default input
+-- the output of a block: an empty block of the format 'verbatim' where the block is itself a prompt or a default input
 abbrev pub output : Tree → Tree
-output b = cond (is_aside b.channel b.name) no_output (record { channel = b.channel; name = b.name; items = output_items b.items })
-
-abbrev pub or_else : Option (List ℕ) → Option (List ℕ) → Option (List ℕ)
-or_else (Some t) other = Some t
-or_else None other = other
+output b = cond (is_aside b.channel b.name) (record { channel = false; name = codes "verbatim"; items = end }) (record { channel = b.channel; name = b.name; items = output_items b.items })
 
 -- the text of a block, where it is the channel that is asked for
 abbrev pub own_text : List ℕ → Bool → List ℕ → Items → Option (List ℕ)
@@ -49,8 +42,8 @@ abbrev pub last_text : List ℕ → Items → Option (List ℕ)
 last_text wanted end = None
 last_text wanted (text t rest) = last_text wanted rest
 last_text wanted (block channel name inside rest) =
-    or_else (last_text wanted rest) (or_else (last_text wanted inside) (own_text wanted channel name inside))
+    option_or (last_text wanted rest) (option_or (last_text wanted inside) (own_text wanted channel name inside))
 
 -- the text of the channel in a block, itself included
 abbrev pub text_on_channel : List ℕ → Tree → Option (List ℕ)
-text_on_channel wanted b = or_else (last_text wanted b.items) (own_text wanted b.channel b.name b.items)
+text_on_channel wanted b = option_or (last_text wanted b.items) (own_text wanted b.channel b.name b.items)

@@ -3,6 +3,7 @@ use Rattle.std.specs.Prelude.{ℕ}
 use Rattle.block_tree.specs.declared.reason.Reason.{Reason}
 use Rattle.block_tree.specs.declared.reason.Reason.TheVariants as reason
 
+-- the number of a reason
 abbrev pub reason_number : Reason → ℕ
 reason_number reason.StartRefused = 1
 reason_number reason.Ended = 2

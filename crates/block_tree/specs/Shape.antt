@@ -4,12 +4,12 @@ use Rattle.std.specs.List.{list_all}
 use Rattle.block_tree.specs.Tree.{Items, Tree, end, text, block}
 
 -- the most bytes of a tag's name
-abbrev pub max_tag : ℕ
-max_tag = 64
+abbrev pub longest_tag : ℕ
+longest_tag = 64
 
 -- the most blocks in one another, the outer one among them
-abbrev pub max_depth : ℕ
-max_depth = 32
+abbrev pub most_levels : ℕ
+most_levels = 32
 
 -- a byte of a tag: no control character, no ':' and no '#'
 abbrev pub is_tag_byte : ℕ → Bool
@@ -19,10 +19,10 @@ is_tag_byte c = nat_le 32 c && not (nat_eq c 58) && not (nat_eq c 35)
 abbrev pub is_tag_name : ℕ → List ℕ → Bool
 is_tag_name most name = nat_le 1 (length name) && nat_le (length name) most && list_all is_tag_byte name
 
+-- a text stands first
 abbrev pub begins_with_text : Items → Bool
-begins_with_text end = false
 begins_with_text (text t rest) = true
-begins_with_text (block channel name inside rest) = false
+begins_with_text _ = false
 
 -- At any depth each tag is right, no text is empty, and no two texts stand side by side.
 abbrev pub is_proper : ℕ → Items → Bool
@@ -42,7 +42,8 @@ depth b = 1 + levels b.items
 
 -- a block whose tags have so many bytes at most, and which is at most so deep
 abbrev pub is_block_within : ℕ → ℕ → Tree → Bool
-is_block_within tag deep b = is_tag_name tag b.name && is_proper tag b.items && nat_le (depth b) deep
+is_block_within tag deep b = is_tag_name tag b.name && is_proper tag b.items && nat_le (1 + levels b.items) deep
 
+-- a block within the limits of all streams
 abbrev pub is_block : Tree → Bool
-is_block = is_block_within max_tag max_depth
+is_block = is_block_within longest_tag most_levels

@@ -5,3 +5,4 @@ pub mod Growing
 pub mod Reading
 pub mod ReasonCode
 pub mod Asides
+pub mod Words

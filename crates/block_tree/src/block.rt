@@ -5,7 +5,7 @@ ghost use Rattle.block_tree.specs.View.{tree_of};
 
 use crate::compare::same_node;
 use crate::copy::copy_node;
-use crate::shape::{MAX_DEPTH, fits_in, is_plain_node};
+use crate::shape::{MOST_LEVELS, fits_in, is_plain_node};
 use crate::{Node, OutOfMemory};
 use std::marker::Model;
 
@@ -44,7 +44,7 @@ impl Block {
             × (IsTrue (is_block (tree_of node)) → ⊥)) }
     {
         // The depth first: it stops at the limit, however deep the node is.
-        if fits_in(&node, MAX_DEPTH) && is_plain_node(&node) {
+        if fits_in(&node, MOST_LEVELS) && is_plain_node(&node) {
             Ok(Block { node })
         } else {
             Err(node)

@@ -25,7 +25,7 @@ pub use output::output_of;
 pub use queue::Queue;
 pub use reason::Reason;
 pub use sequence::Sequence;
-pub use shape::{MAX_DEPTH, MAX_TAG};
+pub use shape::{LONGEST_TAG, MOST_LEVELS};
 pub use tag_name::TagName;
 pub use text::Text;
 pub use tree::{Item, Node, Tag};

@@ -1,21 +1,21 @@
 //! Which trees are blocks.
 ghost use Rattle.std.specs.Prelude.{◌≡◌, ◌&&◌, false, nat_le};
 ghost use Rattle.block_tree.specs.inside.Reading.{is_right};
-ghost use Rattle.block_tree.specs.Shape.{depth, is_tag_name, max_tag};
+ghost use Rattle.block_tree.specs.Shape.{depth, is_tag_name, longest_tag};
 ghost use Rattle.block_tree.specs.View.{tree_of};
 
 use crate::{Item, Node};
 
 /// The most bytes of a tag's name.
-pub const MAX_TAG: usize = 64;
+pub const LONGEST_TAG: usize = 64;
 
 /// The most blocks in one another, the outer one among them.
-pub const MAX_DEPTH: u32 = 32;
+pub const MOST_LEVELS: u32 = 32;
 
 fn is_name(name: &[u8]) -> bool
-    ensures { result ≡ is_tag_name max_tag name.now }
+    ensures { result ≡ is_tag_name longest_tag name.now }
 {
-    if name.is_empty() || name.len() > MAX_TAG {
+    if name.is_empty() || name.len() > LONGEST_TAG {
         return false;
     }
     for c in name {
@@ -28,7 +28,7 @@ fn is_name(name: &[u8]) -> bool
 
 /// Whether each tag is right, no text is empty and no two texts stand side by side, at any depth.
 pub fn is_plain_node(node: &Node) -> bool
-    ensures { result ≡ (is_tag_name max_tag (tree_of node.now).name && is_right max_tag false
+    ensures { result ≡ (is_tag_name longest_tag (tree_of node.now).name && is_right longest_tag false
         (tree_of node.now).items) }
 {
     if !is_name(node.tag.name.as_slice()) {

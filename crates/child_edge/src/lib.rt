@@ -15,7 +15,7 @@ pub use children::{ChildFault, Children, ReceiveFault, Received};
 pub use lives::{listen, stall};
 pub use processes::Processes;
 pub use scripted::{Got, Part, PieceBytes, Scripted};
-pub use serving::{EdgeCause, EdgeFault, TURNS, serve, wait};
+pub use serving::{EdgeCause, EdgeFault, MOST_TURNS, serve, wait};
 pub use stopping::stop_all;
 pub use turns::Waiting;
 pub use waiting::{Seat, is_idle, waiting as waiting_lives};

@@ -22,7 +22,7 @@ use std::alloc::{AllocError, Global};
 use worksheet::Name;
 
 /// The turns of one wait in which children are received from.
-pub const TURNS: u32 = 100_000;
+pub const MOST_TURNS: u32 = 100_000;
 
 /// The most events that come of one: it, the fault of its effect, and the fault of that one's effect.
 const MOST_EVENTS: usize = 3;
@@ -283,7 +283,7 @@ pub(crate) fn take<D: Disk, C: Children>(
 ///
 /// A turn is one receive from the child of each life in which an item waits, in the order in which
 /// their sessions were made; what it gives is taken at once, with its effect and all that comes of
-/// that, before the next child is received from. After `TURNS` turns each life in which an item
+/// that, before the next child is received from. After `MOST_TURNS` turns each life in which an item
 /// still waits is told that it stalled. The count begins anew with each call. The run is faithful, as
 /// that of `serve`, at every moment too, and the replies are those of its events but `Nothing`.
 ///

@@ -10,7 +10,7 @@ ghost use Rattle.child_edge.specs.Broken.{WaitStopped};
 ghost use Rattle.child_edge.specs.Steps.{Came, IsBegun, Stepped, left_of};
 
 use crate::children::Children;
-use crate::serving::{EdgeCause, TURNS, take};
+use crate::serving::{EdgeCause, MOST_TURNS, take};
 use crate::waiting::{Seat, waiting};
 use disk_model::Disk;
 use session_engine::{Host, Reply};
@@ -69,7 +69,7 @@ impl Waiting {
             (HeardOne C.after (nat_lt self.old.whole most_turns) children.old children.new) }
     {
         let seat = self.seats[self.place];
-        match take(host, children, self.whole < TURNS, seat, replies) {
+        match take(host, children, self.whole < MOST_TURNS, seat, replies) {
             Ok(()) => {
                 self.place += 1;
                 Ok(())
@@ -124,7 +124,7 @@ impl Waiting {
         if self.seats.is_empty() {
             return Ok(false);
         }
-        if self.whole >= TURNS {
+        if self.whole >= MOST_TURNS {
             return Ok(false);
         }
         let Ok(seats) = waiting(alloc, host) else {

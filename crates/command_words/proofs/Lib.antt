@@ -1,1 +1,2 @@
+pub mod Simple
 pub mod Subcommands

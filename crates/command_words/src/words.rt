@@ -4,6 +4,7 @@ ghost use Rattle.clap.specs.Words.{FailsBy, Text, app_of, fault_of, new_app, sub
 ghost use Rattle.clap.specs.declared.builder.command.Command.TheViews.{out-Command as fields_of};
 ghost use Rattle.command_words.specs.Asked.{asked_by, by_subcommand, by_words, tmhost, task_view};
 ghost use Rattle.command_words.specs.Asked as asked;
+ghost use Rattle.command_words.specs.inside.Parts as parts;
 
 use clap::{Arg, ArgAction, ArgMatches, Command, Error};
 use std::alloc::{AllocError, Global};
@@ -258,9 +259,10 @@ fn help_alone<'a>(alloc: Global, name: &'a str, about: &'a str, notes: &'a str) 
     plain(alloc, name, about, notes).arg_required_else_help(true)
 }
 
-/// The command line of the program.
-fn tmhost_command<'a>(alloc: Global) -> Result<Command<'a>, AllocError>
-    ensures { IfOk result (λ command. app_of command ≡ tmhost) }
+/// A command line with the subcommands that make a worksheet and run scripts, and with `blocks` before
+/// them.
+fn with_runs<'a>(alloc: Global, command: Command<'a>) -> Result<Command<'a>, AllocError>
+    ensures { IfOk result (λ more. app_of more ≡ parts.with_runs (app_of command.entry)) }
 {
     let blocks = plain(
         alloc,
@@ -268,55 +270,78 @@ fn tmhost_command<'a>(alloc: Global) -> Result<Command<'a>, AllocError>
         "Write the blocks of the stream on standard input, a line each",
         BLOCKS_NOTES,
     );
+    let first = command.subcommand(blocks)?;
     let create = with_path(alloc, "create", "Make an empty worksheet", CREATE_NOTES)?;
+    let second = first.subcommand(create)?;
     let run = with_strict(
         alloc,
         "run",
         "Run the script on standard input over a worksheet",
         RUN_NOTES,
     )?;
+    let third = second.subcommand(run)?;
+    Ok(third)
+}
+
+/// A command line with the subcommands that hold a worksheet open, show and check it.
+fn with_looks<'a>(alloc: Global, command: Command<'a>) -> Result<Command<'a>, AllocError>
+    ensures { IfOk result (λ more. app_of more ≡ parts.with_looks (app_of command.entry)) }
+{
     let live = with_path(
         alloc,
         "live",
         "Hold a worksheet open for lines that come on standard input",
         LIVE_NOTES,
     )?;
+    let first = command.subcommand(live)?;
     let show = with_path(alloc, "show", "Write a worksheet", SHOW_NOTES)?;
+    let second = first.subcommand(show)?;
     let check = with_path(
         alloc,
         "check",
         "Evaluate a worksheet anew, and write what differs",
         CHECK_NOTES,
     )?;
+    let third = second.subcommand(check)?;
+    Ok(third)
+}
+
+/// A command line with the subcommands that write a worksheet elsewhere, and with the help of faults.
+fn with_copies<'a>(alloc: Global, command: Command<'a>) -> Result<Command<'a>, AllocError>
+    ensures { IfOk result (λ more. app_of more ≡ parts.with_copies (app_of command.entry)) }
+{
     let rescue = with_paths(
         alloc,
         "rescue",
         "Write what stands before a damage to a new worksheet",
         RESCUE_NOTES,
     )?;
+    let first = command.subcommand(rescue)?;
     let export = with_format_and_path(
         alloc,
         "export",
         "Write a worksheet as a script, Markdown, a page or a notebook",
         EXPORT_NOTES,
     )?;
+    let second = first.subcommand(export)?;
     let faults = help_alone(alloc, "faults", "What each fault means", FAULTS_NOTES);
-    let first = plain(
+    let third = second.subcommand(faults)?;
+    Ok(third)
+}
+
+/// The command line of the program.
+fn tmhost_command<'a>(alloc: Global) -> Result<Command<'a>, AllocError>
+    ensures { IfOk result (λ command. app_of command ≡ tmhost) }
+{
+    let none = plain(
         alloc,
         "tmhost",
         "A worksheet host for interpreters that speak the plugin protocol of GNU TeXmacs",
         NOTES,
-    )
-    .subcommand(blocks)?;
-    let second = first.subcommand(create)?;
-    let third = second.subcommand(run)?;
-    let fourth = third.subcommand(live)?;
-    let fifth = fourth.subcommand(show)?;
-    let sixth = fifth.subcommand(check)?;
-    let seventh = sixth.subcommand(rescue)?;
-    let eighth = seventh.subcommand(export)?;
-    let ninth = eighth.subcommand(faults)?;
-    Ok(ninth)
+    );
+    let runs = with_runs(alloc, none)?;
+    let looks = with_looks(alloc, runs)?;
+    with_copies(alloc, looks)
 }
 
 /// Whether a flag is given, by its value.

@@ -3,7 +3,8 @@ use Rattle.std.proofs.Common.{◌≡◌, ℕ, ◌+◌, ◌≤◌, Bool, true, fa
 use Rattle.std.specs.Prelude.{IfOk, nat_le}
 use Rattle.std.proofs.lemmas.List.{take_all, take-append-drop, length-take-le}
 use Rattle.std.proofs.lemmas.Bool.Decides.{nat_tests}
-use Rattle.disk_model.specs.Disk.{AreaState, AreaImage, AtMoment, DiskState, DiskView, History, Image, IsImage, IsRestarted, Written, bytes_on, content_of, states_of}
+use Rattle.disk_model.specs.Disk.{AreaState, AreaImage, AtMoment, DiskState, DiskView, History, Image, IsImage, IsRestarted, Written, bytes_on, content_of}
+use Rattle.disk_model.specs.inside.Words.{states_of}
 use Rattle.disk_model.specs.Calls.{advanced, after_write, fresh, history_after, settled, started_with, step}
 use Rattle.disk_model.specs.Laws.{FreshIsRestarted}
 use Rattle.disk_model.specs.Crash.{Crashed, all_laid, image_named, image_of, laid}

@@ -1,12 +1,13 @@
 -- A disk of two areas: what its calls do, and what a crash at any moment may leave (docs/FORMAT.md,
 -- "What a crash may leave").
 use Rattle.std.specs.Prelude.{◌≡◌, ℕ, ◌+◌, ◌-◌, ◌≤◌, ◌^◌, max, min, Bool, false, IsTrue, List, [], ◌∷◌, ◌++◌, length, take, drop, Result, MatchResult}
+use Rattle.std.specs.List.{AllByRecursion}
 use Rattle.disk_model.specs.declared.disk.Area.{Area}
 use Rattle.disk_model.specs.declared.disk.Area.TheVariants.{First, Second}
 
 -- the most bytes of an area, whatever the disk
-abbrev pub max_room : ℕ
-max_room = 2147483648
+abbrev pub greatest_room : ℕ
+greatest_room = 2147483648
 
 -- the bytes of both areas
 pub record Image : Type 0 where
@@ -43,15 +44,11 @@ pub record DiskView : Type 0 where
   pub keeps_model : Bool
   pub history : History
 
--- the states of all moments, the newest first
-abbrev pub states_of : History → List DiskState
-states_of h = h.now ∷ h.past
-
 -- the state at a moment, which is the number of states before it
 pub record AtMoment (moment : ℕ) (h : History) (s : DiskState) : Type 0 where
   pub later : List DiskState
   pub earlier : List DiskState
-  pub states : states_of h ≡ later ++ s ∷ earlier
+  pub states : h.now ∷ h.past ≡ later ++ s ∷ earlier
   pub moment_is : moment ≡ length earlier
 
 -- what a read gives
@@ -107,7 +104,7 @@ ChangesArea Second step old new = (new.first ≡ old.first) × step old.second n
 abbrev pub Reaches : (Image → Image → Type 0) → DiskState → Image → Type 0
 Reaches step s c = (d : Image) × IsImage s d × step d c
 
--- each image of a state has P
+-- each image that a crash may leave of a state has P
 abbrev pub Leaves : (Image → Type 0) → DiskState → Type 0
 Leaves P s = (c : Image) → IsImage s c → P c
 
@@ -118,29 +115,24 @@ pub record IsRestarted (i : Image) (disk : DiskView) : Type 0 where
   pub bytes : bytes_on disk ≡ i
   pub durable : Leaves (λ c. c ≡ i) disk.history.now
 
--- each state of a list has Q
-abbrev pub Each : (DiskState → Type 0) → List DiskState → Type 0
-Each Q [] = Unit {0}
-Each Q (s ∷ more) = Q s × Each Q more
-
 -- at every moment since old, old's own among them, each image has P
 pub record LeavesOnly (P : Image → Type 0) (old new : History) : Type 0 where
   pub start : Leaves P old.now
   pub more : List DiskState
-  pub states : states_of new ≡ more ++ states_of old
-  pub each : Each (Leaves P) more
+  pub states : new.now ∷ new.past ≡ more ++ old.now ∷ old.past
+  pub each : AllByRecursion (Leaves P) more
 
 -- a claim that is made of disks that keep the model
 abbrev pub InModel : DiskView → Type 0 → Type 0
 InModel v P = IsTrue v.keeps_model → P
 
 -- the count of failures stays at the greatest u64
-abbrev pub max_faults : ℕ
-max_faults = 2 ^ 64 - 1
+abbrev pub greatest_count : ℕ
+greatest_count = 2 ^ 64 - 1
 
 -- the count of failures rose, or stood at its greatest
 abbrev pub Rises : ℕ → ℕ → Type 0
-Rises old new = min (old + 1) max_faults ≤ new
+Rises old new = min (old + 1) greatest_count ≤ new
 
 -- a disk and the same disk after calls on it, whatever they did to its bytes: the same room, the
 -- model kept or not as before, no failure forgotten
@@ -154,7 +146,7 @@ pub record Called {T E : Type 0} (result : Result T E) (old new : DiskView) : Ty
   pub room : new.room ≡ old.room
   pub keeps_model : new.keeps_model ≡ old.keeps_model
   pub later : old.faults ≤ new.faults
-  pub bounded : new.faults ≤ max_faults
+  pub bounded : new.faults ≤ greatest_count
   pub cause : MatchResult result (λ _. new.faults ≡ old.faults) (λ _. Rises old.faults new.faults)
 
 -- calls that change no byte: a read gives what it gave, and no moment of them leaves an image that

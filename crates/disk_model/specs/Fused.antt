@@ -1,6 +1,6 @@
 -- What a call does to a disk with a fuse.
 use Rattle.std.specs.Prelude.{◌≡◌, ℕ, ◌+◌, min, Result, IsErr}
-use Rattle.disk_model.specs.Disk.{Called, DiskView, max_faults}
+use Rattle.disk_model.specs.Disk.{Called, DiskView, greatest_count}
 use Rattle.disk_model.specs.Fuse.{Blows, fused}
 use Rattle.disk_model.specs.declared.fuse.FuseDisk.{FuseDisk}
 use Rattle.disk_model.specs.declared.fuse.FuseMode.{FuseMode}
@@ -30,6 +30,6 @@ pub record Spends {D T E : Type 0} (view : D → DiskView) (result : Result T E)
   pub mode : new.fuse.mode ≡ old.fuse.mode
   pub calls : new.fuse.calls ≡ min (old.fuse.calls + 1) old.fuse.k
   pub failed : IsBlown old → IsErr result × (new.inner ≡ old.inner)
-      × (new.fuse.refused ≡ min (old.fuse.refused + 1) max_faults)
+      × (new.fuse.refused ≡ min (old.fuse.refused + 1) greatest_count)
   pub passed_on : (IsBlown old → ⊥) → (new.fuse.refused ≡ old.fuse.refused)
       × Called result (view old.inner) (view new.inner)

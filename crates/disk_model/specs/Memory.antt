@@ -1,6 +1,6 @@
 -- A disk in memory as contracts see it.
 use Rattle.std.specs.Prelude.{◌≡◌, ◌+◌, min, true, MatchResult, Result}
-use Rattle.disk_model.specs.Disk.{DiskState, DiskView, Image, max_faults}
+use Rattle.disk_model.specs.Disk.{DiskState, DiskView, Image, greatest_count}
 use Rattle.disk_model.specs.Calls.{advanced, history_after, started_with}
 use Rattle.disk_model.specs.declared.memory.MemoryDisk.{MemoryDisk}
 
@@ -23,4 +23,4 @@ abbrev pub Records : {T E : Type 0} → Result T E → (DiskState → DiskState)
     → Type 0
 Records result does old new = MatchResult result
     (λ _. (new.history ≡ advanced old.history (does old.history.now)) × (new.faults ≡ old.faults))
-    (λ _. (new.history ≡ old.history) × (new.faults ≡ min (old.faults + 1) max_faults))
+    (λ _. (new.history ≡ old.history) × (new.faults ≡ min (old.faults + 1) greatest_count))

@@ -1,3 +1,4 @@
 pub mod Replay
 pub mod Drawing
 pub mod Moments
+pub mod Words

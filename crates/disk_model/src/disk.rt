@@ -1,9 +1,9 @@
 // A disk as a journal sees it.
 ghost use Rattle.std.specs.Prelude.{◌≡◌, ◌+◌, ◌≤◌, length, take, drop, IsTrue, IfOk, OnOk};
-ghost use Rattle.disk_model.specs.Disk.{DiskView, InModel, Called, Looks, Writes, Syncs, IsImage, area_of, max_room, bytes_on};
+ghost use Rattle.disk_model.specs.Disk.{DiskView, InModel, Called, Looks, Writes, Syncs, IsImage, area_of, greatest_room, bytes_on};
 
 /// The greatest room of a disk, in bytes.
-pub const MAX_ROOM: u64 = 2_147_483_648;
+pub const GREATEST_ROOM: u64 = 2_147_483_648;
 
 /// One of the two areas of a disk.
 #[derive(Clone, Copy, Debug, PartialEq, Eq)]
@@ -33,7 +33,7 @@ pub trait Disk: Drop {
     /// How long an area may become, in bytes.
     fn room(&self) -> u64
         ensures room { result ≡ (view self.now).room }
-        ensures bound { result ≤ max_room };
+        ensures bound { result ≤ greatest_room };
 
     /// The length of an area in bytes, at most the room.
     fn len(&mut self, area: Area) -> Result<u64, DiskFault>
@@ -78,7 +78,7 @@ pub trait Disk: Drop {
             (Syncs area result (view self.old).history (view self.new).history) };
 
     /// No area may become longer.
-    ghost small: { (disk : Self) → (view disk).room ≤ max_room };
+    ghost small: { (disk : Self) → (view disk).room ≤ greatest_room };
 
     /// What a read gives is one of the images that a crash may leave.
     ghost content_stays: { (disk : Self)

@@ -1,7 +1,7 @@
 // A disk that fails from some call on, or at one call alone.
 ghost use Rattle.std.specs.Prelude.{◌≡◌, ◌+◌, ◌≤◌, ◌↔◌, length, take, drop, max, min, IfOk, IsErr, OnErr, OnOk};
 ghost use Rattle.disk_model.specs.Fuse.{Blows};
-ghost use Rattle.disk_model.specs.Disk.{Called, InModel, Looks, Rises, Syncs, Writes, area_of, max_faults, bytes_on};
+ghost use Rattle.disk_model.specs.Disk.{Called, InModel, Looks, Rises, Syncs, Writes, area_of, greatest_count, bytes_on};
 
 use crate::{Area, Disk, DiskFault};
 
@@ -31,7 +31,7 @@ impl Fuse {
         ensures counts { self.new.calls ≡ min (self.old.calls + 1) self.old.k }
         ensures same { (self.new.k ≡ self.old.k) × (self.new.mode ≡ self.old.mode) }
         ensures passed { OnOk result (self.new.refused ≡ self.old.refused) }
-        ensures counted { OnErr result (self.new.refused ≡ min (self.old.refused + 1) max_faults) }
+        ensures counted { OnErr result (self.new.refused ≡ min (self.old.refused + 1) greatest_count) }
         ensures refused { OnErr result
             (Rises self.old.refused self.new.refused × (self.old.refused ≤ self.new.refused)) }
     {

@@ -2,7 +2,7 @@
 //! law.
 ghost use Rattle.disk_model.specs.Laws.{FreshIsRestarted, RoomIsSo};
 
-/// [`MAX_ROOM`](crate::MAX_ROOM) is the limit of which the contracts speak.
+/// [`GREATEST_ROOM`](crate::GREATEST_ROOM) is the limit of which the contracts speak.
 pub fn room_is_so()
     ensures { RoomIsSo }
 {}

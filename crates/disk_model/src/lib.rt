@@ -11,7 +11,7 @@ pub mod laws;
 mod memory;
 
 pub use crash::{Choice, Fill};
-pub use disk::{Area, Disk, DiskFault, MAX_ROOM};
+pub use disk::{Area, Disk, DiskFault, GREATEST_ROOM};
 pub use fuse::{FuseDisk, FuseMode};
 pub use memory::MemoryDisk;
 

@@ -1,6 +1,6 @@
 // A disk in memory, which keeps a record of its calls.
 ghost use Rattle.std.specs.Prelude.{◌≡◌, ◌≤◌, ◌<◌, ◌+◌, ◌^◌, ◌++◌, ◌∷◌, [], length, take, drop, IfOk, OnOk, OnErr};
-ghost use Rattle.disk_model.specs.Disk.{Called, InModel, Looks, Syncs, Writes, area_of, max_room, overwritten, bytes_on};
+ghost use Rattle.disk_model.specs.Disk.{Called, InModel, Looks, Syncs, Writes, area_of, greatest_room, overwritten, bytes_on};
 ghost use Rattle.disk_model.specs.Calls.{Notes, after_sync, after_write, fresh, history_after, started_with, step, with_area};
 ghost use Rattle.disk_model.specs.inside.Replay.{stays_an_image};
 
@@ -31,7 +31,7 @@ pub struct MemoryDisk {
     calls: Vec<Call>,
     first: Vec<u8>,
     second: Vec<u8>,
-    ghost small: { room ≤ max_room },
+    ghost small: { room ≤ greatest_room },
     ghost first_is: { first.items ≡ (history_after
         (started_with (record { first = first_start.items; second = second_start.items }))
         calls.items).now.first.content },
@@ -48,7 +48,7 @@ impl MemoryDisk {
 
     /// An empty disk of this room in bytes, of which there are at most 2,147,483,648.
     pub fn new(alloc: Global, room: u64) -> MemoryDisk
-        requires { room ≤ max_room }
+        requires { room ≤ greatest_room }
         ensures { view_of result ≡ fresh room (record { first = []; second = [] }) }
     {
         MemoryDisk {
@@ -67,7 +67,7 @@ impl MemoryDisk {
     /// There are at most as many as the room, which is at most 2,147,483,648. It fails where memory
     /// is refused.
     pub fn holding(alloc: Global, room: u64, first: Vec<u8>) -> Result<MemoryDisk, OutOfMemory>
-        requires room { room ≤ max_room }
+        requires room { room ≤ greatest_room }
         requires fits { length first.items ≤ room }
         ensures { IfOk result (λ disk. view_of disk ≡ fresh room
             (record { first = first.items; second = [] })) }
@@ -82,7 +82,7 @@ impl MemoryDisk {
         first: Vec<u8>,
         second: Vec<u8>,
     ) -> Result<MemoryDisk, OutOfMemory>
-        requires room { room ≤ max_room }
+        requires room { room ≤ greatest_room }
         requires first_fits { length first.items ≤ room }
         requires second_fits { length second.items ≤ room }
         ensures { IfOk result (λ disk. view_of disk ≡ fresh room

@@ -18,7 +18,8 @@ use Rattle.plugin_core.specs.declared.step.Step.{Step}
 use Rattle.plugin_core.specs.declared.step.Ended.{Ended}
 use Rattle.plugin_core.specs.Past.{received}
 use Rattle.plugin_core.specs.Items.{first_line_of, waiting_of}
-use Rattle.plugin_core.specs.Steps.{ended_by, step_of}
+use Rattle.plugin_core.specs.Steps.{step_of}
+use Rattle.plugin_core.specs.inside.Words.{ended_by}
 use Rattle.session_engine.specs.declared.command.Command.{Command}
 use Rattle.session_engine.specs.declared.command.Command.TheVariants as command
 use Rattle.session_engine.specs.declared.event.ChildEvent.{ChildEvent}
@@ -26,9 +27,9 @@ use Rattle.session_engine.specs.declared.event.ChildEvent.TheVariants as child
 use Rattle.session_engine.specs.declared.event.Event.{Event}
 use Rattle.session_engine.specs.declared.event.Event.TheVariants as event
 use Rattle.session_engine.specs.declared.outcome.Outcome.{Outcome}
-use Rattle.session_engine.specs.World.{World, Going, kept_at_end, life_of, line_of_field, request_of_field, session_of_field, waiting_in, with_number, with_op_if}
+use Rattle.session_engine.specs.World.{World, Going, kept_at_end, life_of, session_of_field, waiting_in, with_number, with_op_if}
+use Rattle.session_engine.specs.inside.Words.{line_of_field, request_of_field, with_piece}
 use Rattle.session_engine.specs.Refused.{command_refusals}
-use Rattle.session_engine.specs.Does.{with_piece}
 use Rattle.host_laws.specs.Laws.{lines_among}
 use Rattle.host_laws.specs.Apart.{IsOpened, is_no_reason}
 use Rattle.session_engine.specs.inside.Parts.{goes_on, with_item, without_life}

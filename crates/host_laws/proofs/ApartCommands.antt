@@ -20,8 +20,9 @@ use Rattle.session_engine.specs.declared.outcome.Outcome.{Outcome}
 use Rattle.session_engine.specs.declared.outcome.Effect.TheVariants as effect
 use Rattle.session_engine.specs.declared.reply.Reply.TheVariants as reply
 use Rattle.session_engine.specs.Named.{without_named, replace_named}
-use Rattle.session_engine.specs.World.{World, Going, kept_at_end, life_of, with_op, with_op_if, session_of_field, line_of_field, request_of_field}
-use Rattle.session_engine.specs.Does.{replies, refused, joined_by, begun_with, starting_words}
+use Rattle.session_engine.specs.World.{World, Going, kept_at_end, life_of, with_op_if, session_of_field}
+use Rattle.session_engine.specs.inside.Words.{with_op, line_of_field, request_of_field, joined_by, begun_with, starting_words}
+use Rattle.session_engine.specs.Does.{replies, refused}
 use Rattle.host_laws.specs.inside.Given.{Commanded, stops, outcome_of, after, GivesByParts}
 use Rattle.session_engine.specs.inside.Parts.{without_life, with_item, asks}
 use Rattle.session_engine.specs.Refused.{command_refusals}

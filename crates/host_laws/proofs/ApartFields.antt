@@ -11,14 +11,15 @@ use Rattle.worksheet.specs.declared.op.Op.{Op}
 use Rattle.worksheet.specs.declared.op.Op.TheVariants as op
 use Rattle.worksheet.specs.declared.field.Field.{Field}
 use Rattle.worksheet.specs.declared.field.Answer.{Answer}
-use Rattle.worksheet.specs.Ops.{next_of, next_after, order_of, order_after, is_about, field_of, placed, put_behind, without}
+use Rattle.worksheet.specs.Ops.{next_of, next_after, order_after, is_about, field_of, placed, put_behind}
+use Rattle.worksheet.specs.inside.Words.{order_of, without}
 use Rattle.worksheet.specs.Edits.{AllBelow}
 use Rattle.worksheet.specs.Checks.{numbers}
 use Rattle.worksheet.proofs.OneMore.{next_from-push, order_from-push, field_of-push, changed}
 use Rattle.worksheet.proofs.SoundLaws.{AllBelow-more}
 use Rattle.plugin_core.specs.declared.item.Item.{Item}
 use Rattle.plugin_core.specs.declared.item.Item.TheVariants as item
-use Rattle.session_engine.specs.World.{by_field}
+use Rattle.session_engine.specs.inside.Words.{by_field}
 use Rattle.host_laws.specs.Apart.{commanded, is_commanded, seen_by}
 use Rattle.host_laws.proofs.ApartOps.{commanded-push, next_alike, session_alike}
 

@@ -8,8 +8,10 @@ use Rattle.worksheet.specs.declared.op.Op.{Op}
 use Rattle.worksheet.specs.declared.op.Op.TheVariants as op
 use Rattle.worksheet.specs.declared.field.Field.{Field}
 use Rattle.worksheet.specs.declared.field.Session.{Session}
-use Rattle.worksheet.specs.Ops.{next_from, next_of, order_from, order_of, sessions_of, about_from, about, last_given, session_by, input_by, field_of, placed, without}
-use Rattle.session_engine.specs.World.{World, by_field, session_of_field, input_of}
+use Rattle.worksheet.specs.Ops.{next_from, next_of, order_from, sessions_of, about_from, last_given, session_by, input_by, field_of, placed}
+use Rattle.worksheet.specs.inside.Words.{order_of, about, without}
+use Rattle.session_engine.specs.World.{World, session_of_field, input_of}
+use Rattle.session_engine.specs.inside.Words.{by_field}
 use Rattle.host_laws.specs.Apart.{is_commanded, commanded}
 
 pub commanded-push : (os : List Op) (o : Op) → commanded (os ++ o ∷ []) ≡ commanded os ++ (if is_commanded o then o ∷ [] else [])

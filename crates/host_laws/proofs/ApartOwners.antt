@@ -12,7 +12,8 @@ use Rattle.block_tree.specs.declared.reason.Reason.TheVariants as reason
 use Rattle.worksheet.specs.declared.op.Op.{Op}
 use Rattle.worksheet.specs.declared.op.Op.TheVariants as op
 use Rattle.worksheet.specs.declared.refusal.Refusal.{Refusal}
-use Rattle.worksheet.specs.Ops.{next_of, order_of, field_of}
+use Rattle.worksheet.specs.Ops.{next_of, field_of}
+use Rattle.worksheet.specs.inside.Words.{order_of}
 use Rattle.worksheet.specs.Edits.{AllBelow}
 use Rattle.worksheet.specs.Checks.{first_of, has_field}
 use Rattle.worksheet.proofs.Finds.{true_from_not}
@@ -26,7 +27,8 @@ use Rattle.plugin_core.specs.declared.step.Answered.TheVariants as answered
 use Rattle.plugin_core.specs.Past.{received, items_of}
 use Rattle.plugin_core.specs.Answers.{answers_of}
 use Rattle.plugin_core.specs.Items.{answer_behind, answer_to, prompt_of}
-use Rattle.plugin_core.specs.Steps.{answered_with, step_of}
+use Rattle.plugin_core.specs.Steps.{step_of}
+use Rattle.plugin_core.specs.inside.Words.{answered_with}
 use Rattle.plugin_core.specs.Steps.{closed_by as closed_in}
 use Rattle.plugin_core.proofs.Pasts.{items_of-received, items_of-accepted}
 use Rattle.session_engine.specs.declared.command.Command.{Command}
@@ -36,8 +38,9 @@ use Rattle.session_engine.specs.declared.event.ChildEvent.TheVariants as child
 use Rattle.session_engine.specs.declared.event.Event.TheVariants as event
 use Rattle.session_engine.specs.declared.outcome.Outcome.{Outcome}
 use Rattle.session_engine.specs.Named.{without_named, replace_named}
-use Rattle.session_engine.specs.World.{World, Going, kept_at_end, life_of, with_number, with_op, with_op_if, session_of_field, line_of_field, sheet_in, request_of_field}
-use Rattle.session_engine.specs.Does.{with_piece, op_by, joined_by, begun_with}
+use Rattle.session_engine.specs.World.{World, Going, kept_at_end, life_of, with_number, with_op_if, session_of_field, sheet_in}
+use Rattle.session_engine.specs.inside.Words.{with_op, line_of_field, request_of_field, with_piece, joined_by, begun_with}
+use Rattle.session_engine.specs.Does.{op_by}
 use Rattle.host_laws.specs.inside.Given.{Commanded, Childed, after, GivesByParts}
 use Rattle.session_engine.specs.inside.Parts.{with_life, without_life, with_item, goes_on}
 use Rattle.session_engine.specs.Refused.{command_refusals}

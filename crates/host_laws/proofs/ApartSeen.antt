@@ -7,7 +7,8 @@ use Rattle.block_tree.specs.declared.reason.Reason.{Reason}
 use Rattle.worksheet.specs.declared.op.Op.{Op}
 use Rattle.worksheet.specs.declared.op.Op.TheVariants as op
 use Rattle.worksheet.specs.declared.field.Field.{Field}
-use Rattle.worksheet.specs.Ops.{field_of, order_of}
+use Rattle.worksheet.specs.Ops.{field_of}
+use Rattle.worksheet.specs.inside.Words.{order_of}
 use Rattle.plugin_core.specs.Laws.{OneReading}
 use Rattle.session_engine.specs.declared.event.Event.{Event}
 use Rattle.session_engine.specs.declared.event.Event.TheVariants as event

@@ -21,8 +21,9 @@ use Rattle.session_engine.specs.declared.outcome.Outcome.{Outcome}
 use Rattle.session_engine.specs.declared.outcome.Effect.TheVariants as effect
 use Rattle.session_engine.specs.declared.reply.Closed.{Closed}
 use Rattle.session_engine.specs.declared.reply.Reply.TheVariants as reply
-use Rattle.session_engine.specs.World.{World, Going, life_of, with_number, session_of_field, line_of_field, request_of_field}
-use Rattle.session_engine.specs.Does.{ends, replies, refused, told_of, told_with, sends_or_kills, closed_told}
+use Rattle.session_engine.specs.World.{World, Going, life_of, with_number, session_of_field}
+use Rattle.session_engine.specs.inside.Words.{line_of_field, request_of_field, told_of}
+use Rattle.session_engine.specs.Does.{ends, replies, refused, told_with, sends_or_kills, closed_told}
 use Rattle.host_laws.specs.inside.Given.{Commanded, Childed, stops, outcome_of, GivesByParts}
 use Rattle.session_engine.specs.inside.Parts.{asks}
 use Rattle.session_engine.specs.Refused.{command_refusals}

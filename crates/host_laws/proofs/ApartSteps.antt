@@ -22,8 +22,9 @@ use Rattle.session_engine.specs.declared.event.Event.TheVariants as event
 use Rattle.session_engine.specs.declared.outcome.Outcome.{Outcome}
 use Rattle.session_engine.specs.declared.reply.Reply.TheVariants as reply
 use Rattle.session_engine.specs.Named.{without_named, replace_named}
-use Rattle.session_engine.specs.World.{World, Going, kept_at_end, life_of, waiting_in, with_number, with_op, with_op_if}
-use Rattle.session_engine.specs.Does.{with_piece, op_by, ends, replies, told_of}
+use Rattle.session_engine.specs.World.{World, Going, kept_at_end, life_of, waiting_in, with_number, with_op_if}
+use Rattle.session_engine.specs.inside.Words.{with_op, with_piece, told_of}
+use Rattle.session_engine.specs.Does.{op_by, ends, replies}
 use Rattle.host_laws.specs.inside.Given.{Childed, Ended_by, Pieced, Ignored, GivesByParts}
 use Rattle.session_engine.specs.inside.Parts.{without_life, goes_on}
 use Rattle.host_laws.specs.Apart.{AreAlike, named, commanded, is_commanded, added, but_reasons}

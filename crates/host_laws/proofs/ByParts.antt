@@ -19,9 +19,10 @@ use Rattle.session_engine.specs.declared.event.Event.{Event}
 use Rattle.session_engine.specs.declared.event.Event.TheVariants as event
 use Rattle.session_engine.specs.declared.outcome.Outcome.{Outcome}
 use Rattle.session_engine.specs.declared.reply.Reply.TheVariants as reply
-use Rattle.session_engine.specs.World.{World, Going, kept_at_end, life_of, with_number, with_op, with_op_if, session_of_field, line_of_field, request_of_field}
+use Rattle.session_engine.specs.World.{World, Going, kept_at_end, life_of, with_number, with_op_if, session_of_field}
+use Rattle.session_engine.specs.inside.Words.{with_op, line_of_field, request_of_field, with_piece}
 use Rattle.session_engine.specs.Refused.{command_refusals}
-use Rattle.session_engine.specs.Does.{Does, does, behind, ends_life, steps, tells, op_by, with_piece, CommandDoes, ChildDoes, MayDo, Gives}
+use Rattle.session_engine.specs.Does.{Does, does, behind, ends_life, steps, tells, op_by, CommandDoes, ChildDoes, MayDo, Gives}
 use Rattle.session_engine.specs.inside.Parts.{without_life, goes_on}
 use Rattle.host_laws.specs.inside.Given.{stops, outcome_of, after, Commanded, Ended_by, Childed, GivesByParts}
 use Rattle.session_engine.specs.Commands.{op_of}

@@ -11,9 +11,10 @@ use Rattle.session_engine.specs.declared.event.ChildEvent.TheVariants as child
 use Rattle.session_engine.specs.declared.event.Event.TheVariants as event
 use Rattle.session_engine.specs.declared.outcome.Effect.TheVariants as effect
 use Rattle.session_engine.specs.declared.reply.Reply.TheVariants as reply
-use Rattle.session_engine.specs.World.{World, world_at_opening, life_of, request_of_field, waiting_in}
+use Rattle.session_engine.specs.World.{World, world_at_opening, life_of, waiting_in}
+use Rattle.session_engine.specs.inside.Words.{request_of_field, begun_with}
 use Rattle.session_engine.specs.Refused.{command_refusals}
-use Rattle.session_engine.specs.Does.{begun_with, behind, does, ends_life, replies, MayDo}
+use Rattle.session_engine.specs.Does.{behind, does, ends_life, replies, MayDo}
 
 -- session a with the word p, and its fields 1 (x) and 2 (y)
 

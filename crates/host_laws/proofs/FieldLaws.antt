@@ -7,7 +7,8 @@ use Rattle.worksheet.specs.declared.op.Op.{Op}
 use Rattle.worksheet.specs.declared.op.Op.TheVariants as op
 use Rattle.worksheet.specs.declared.field.Field.{Field}
 use Rattle.worksheet.specs.declared.field.Answer.{Answer}
-use Rattle.worksheet.specs.Ops.{sheet_of, exists, about, next_of, is_about, last_of, makes_or_ends, is_making, field_of}
+use Rattle.worksheet.specs.Ops.{sheet_of, exists, next_of, is_about, last_of, makes_or_ends, is_making, field_of}
+use Rattle.worksheet.specs.inside.Words.{about}
 use Rattle.worksheet.specs.Checks.{Allowed, has_field, field_in, first_refusal, numbers}
 use Rattle.worksheet.specs.Edits.{AllBelow}
 use Rattle.worksheet.proofs.OneMore.{about_from-push, last_of-push, field_of-push, changed}

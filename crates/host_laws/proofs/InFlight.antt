@@ -26,8 +26,9 @@ use Rattle.plugin_core.specs.declared.step.Answered.TheVariants as answered
 use Rattle.plugin_core.specs.Past.{received, stream_of, items_of}
 use Rattle.plugin_core.specs.Past.{Event as LifeEvent}
 use Rattle.plugin_core.specs.Answers.{answers_of}
-use Rattle.plugin_core.specs.Items.{answer_behind, answer_to, first_line_of, is_line_of, next_behind, prompt_of, unanswered, waiting_of}
-use Rattle.plugin_core.specs.Steps.{Reads, answered_with, ended_by, step_of}
+use Rattle.plugin_core.specs.Items.{answer_behind, answer_to, first_line_of, is_line_of, prompt_of, unanswered, waiting_of}
+use Rattle.plugin_core.specs.inside.Words.{next_behind, answered_with, ended_by}
+use Rattle.plugin_core.specs.Steps.{Reads, step_of}
 use Rattle.plugin_core.specs.Steps.{closed_by as closed_in}
 use Rattle.plugin_core.proofs.Pasts.{items_of-received}
 use Rattle.plugin_core.proofs.OneMore.{waiting_of-accepted}
@@ -39,9 +40,10 @@ use Rattle.session_engine.specs.declared.event.ChildEvent.TheVariants as child
 use Rattle.session_engine.specs.declared.event.Event.{Event}
 use Rattle.session_engine.specs.declared.event.Event.TheVariants as event
 use Rattle.session_engine.specs.declared.outcome.Outcome.{Outcome}
-use Rattle.session_engine.specs.World.{World, Going, world_at_opening, kept_at_end, life_of, line_of_field, request_of_field, session_of_field, waiting_in, waits_in, renewed, with_number, with_op, with_op_if}
+use Rattle.session_engine.specs.World.{World, Going, world_at_opening, kept_at_end, life_of, session_of_field, waiting_in, with_number, with_op_if}
+use Rattle.session_engine.specs.inside.Words.{line_of_field, request_of_field, waits_in, renewed, with_op, begun_with, joined_by, with_piece}
 use Rattle.session_engine.specs.Refused.{command_refusals}
-use Rattle.session_engine.specs.Does.{Gives, Runs, begun_with, joined_by, op_by, with_piece}
+use Rattle.session_engine.specs.Does.{Gives, Runs, op_by}
 use Rattle.session_engine.specs.inside.Parts.{goes_on, with_item, without_life}
 use Rattle.host_laws.specs.inside.Given.{Childed, Commanded, Ended_by, GivesByParts, Pieced, after}
 use Rattle.host_laws.specs.Laws.{NothingIsShownInFlight, WaitsForField, lines_among, lines_waiting}

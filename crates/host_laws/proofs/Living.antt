@@ -20,10 +20,10 @@ use Rattle.plugin_core.proofs.Pasts.{stream_of-accepted}
 use Rattle.plugin_core.proofs.OneMore.{waiting_of-accepted}
 use Rattle.plugin_core.proofs.ByAskPoints.{reads_lie}
 use Rattle.session_engine.specs.Named.{without_named, replace_named}
-use Rattle.session_engine.specs.World.{World, Going, sheet_in, waiting_in, waits_in, life_of, with_op}
+use Rattle.session_engine.specs.World.{World, Going, sheet_in, waiting_in, life_of}
+use Rattle.session_engine.specs.inside.Words.{waits_in, with_op, with_piece, joined_by, begun_with}
 use Rattle.session_engine.specs.Refused.{refusals_but_room}
 use Rattle.session_engine.specs.inside.Parts.{with_life, without_life, with_item}
-use Rattle.session_engine.specs.Does.{with_piece, joined_by, begun_with}
 use Rattle.session_engine.proofs.Fields.{waiting_still}
 use Rattle.session_engine.proofs.Standing.{all_at}
 use Rattle.host_laws.proofs.Growing.{one_answer, alive_start}

@@ -26,9 +26,10 @@ use Rattle.session_engine.specs.declared.reply.Closed.{Closed}
 use Rattle.session_engine.specs.declared.reply.Reply.{Reply}
 use Rattle.session_engine.specs.declared.reply.Reply.TheVariants as reply
 use Rattle.session_engine.specs.Named.{first_named, without_named, replace_named}
-use Rattle.session_engine.specs.World.{World, Going, world_at_opening, life_of, line_of_field, session_of_field, with_number, with_op_if, renewed_if, request_of_field}
+use Rattle.session_engine.specs.World.{World, Going, world_at_opening, life_of, session_of_field, with_number, with_op_if, renewed_if}
+use Rattle.session_engine.specs.inside.Words.{line_of_field, request_of_field, begun_with, joined_by, told_of, with_piece}
 use Rattle.session_engine.specs.Refused.{command_refusals}
-use Rattle.session_engine.specs.Does.{Does, MayDo, ChildDoes, CommandDoes, Gives, Runs, behind, begun_with, closed_told, does, ends_life, asks_item, joined_by, sends_or_kills, steps, tells, told_of, told_with, with_piece}
+use Rattle.session_engine.specs.Does.{Does, MayDo, ChildDoes, CommandDoes, Gives, Runs, behind, closed_told, does, ends_life, asks_item, sends_or_kills, steps, tells, told_with}
 use Rattle.host_laws.specs.Apart.{named}
 use Rattle.host_laws.specs.Laws.{AreNumbered, NumbersAreGivenOnce, NothingOfAnEndedLife, all_started, lives_numbered, numbers_to, started_by}
 use Rattle.session_engine.proofs.Tables.{first_has_name}

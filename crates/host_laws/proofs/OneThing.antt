@@ -21,7 +21,8 @@ use Rattle.session_engine.specs.declared.event.Event.TheVariants as event
 use Rattle.session_engine.specs.declared.outcome.Outcome.{Outcome}
 use Rattle.session_engine.specs.declared.reply.Reply.TheVariants as reply
 use Rattle.block_tree.specs.declared.reason.Reason.TheVariants as reason
-use Rattle.session_engine.specs.World.{World, Going, life_of, session_of_field, with_number, line_of_field, request_of_field}
+use Rattle.session_engine.specs.World.{World, Going, life_of, session_of_field, with_number}
+use Rattle.session_engine.specs.inside.Words.{line_of_field, request_of_field}
 use Rattle.session_engine.specs.Refused.{command_refusals, command_takes_memory}
 use Rattle.session_engine.specs.Does.{Does, MayDo, ChildDoes, CommandDoes, Gives, Runs, behind, does, ends_life, asks_item, steps, tells}
 use Rattle.host_laws.specs.Apart.{is_refusal}

@@ -28,10 +28,11 @@ use Rattle.session_engine.specs.declared.outcome.Outcome.{Outcome}
 use Rattle.session_engine.specs.declared.reply.Reply.TheVariants as reply
 use Rattle.session_engine.specs.Commands.{op_of}
 use Rattle.session_engine.specs.inside.Commits.{AllowedIf}
-use Rattle.session_engine.specs.World.{World, Going, kept_at_end, sheet_in, life_of, session_of_field, line_of_field, by_field, in_flight, with_number, with_op, with_op_if, request_of_field, codes_anew, fits_anew_in}
+use Rattle.session_engine.specs.World.{World, Going, kept_at_end, sheet_in, life_of, session_of_field, in_flight, with_number, with_op_if}
+use Rattle.session_engine.specs.inside.Words.{by_field, line_of_field, with_op, request_of_field, codes_anew, fits_anew_in, with_piece, starting_words, full, takes_tab}
 use Rattle.session_engine.specs.inside.Parts.{with_item, without_life, goes_on, asks}
-use Rattle.session_engine.specs.Does.{op_by, with_piece, starting_words, replies, Runs}
-use Rattle.session_engine.specs.Refused.{full, command_refusals, takes_tab, is_cursor, second, refusals_but_room, op_refusals, queue_refusals}
+use Rattle.session_engine.specs.Does.{op_by, replies, Runs}
+use Rattle.session_engine.specs.Refused.{command_refusals, is_cursor, second, refusals_but_room, op_refusals, queue_refusals}
 use Rattle.host_laws.specs.inside.Given.{outcome_of, after, Commanded, Ended_by, Pieced, GivesByParts}
 use Rattle.host_laws.proofs.ByParts.{by_parts, by_rows, op_after}
 use Rattle.session_engine.proofs.Changing.{as_op, allowed_by}

@@ -25,7 +25,8 @@ use Rattle.plugin_core.specs.Past.{received, stream_of, items_of}
 use Rattle.plugin_core.specs.Past.{Event as LifeEvent}
 use Rattle.plugin_core.specs.Answers.{answers_of}
 use Rattle.plugin_core.specs.Items.{first_line_of, unanswered, waiting_of, prompt_of, answer_behind, answer_to}
-use Rattle.plugin_core.specs.Steps.{Reads, answered_with, step_of}
+use Rattle.plugin_core.specs.Steps.{Reads, step_of}
+use Rattle.plugin_core.specs.inside.Words.{answered_with}
 use Rattle.plugin_core.specs.Steps.{closed_by as closed_in}
 use Rattle.plugin_core.proofs.ByAskPoints.{reads_lie, by_events}
 use Rattle.plugin_core.proofs.Prompts.{short_prompts}
@@ -38,10 +39,11 @@ use Rattle.session_engine.specs.declared.event.Event.TheVariants as event
 use Rattle.session_engine.specs.declared.outcome.Outcome.{Outcome}
 use Rattle.session_engine.specs.Commands.{op_of}
 use Rattle.session_engine.specs.Host.{HasField}
-use Rattle.session_engine.specs.World.{World, Going, kept_at_end, sheet_in, waiting_in, life_of, session_of_field, line_of_field, with_number, with_op, with_op_if, request_of_field}
+use Rattle.session_engine.specs.World.{World, Going, kept_at_end, sheet_in, waiting_in, life_of, session_of_field, with_number, with_op_if}
+use Rattle.session_engine.specs.inside.Words.{line_of_field, with_op, request_of_field, with_piece, full}
 use Rattle.session_engine.specs.inside.Parts.{with_life, without_life, with_item, goes_on}
-use Rattle.session_engine.specs.Does.{op_by, with_piece}
-use Rattle.session_engine.specs.Refused.{full, command_refusals, refusals_but_room}
+use Rattle.session_engine.specs.Does.{op_by}
+use Rattle.session_engine.specs.Refused.{command_refusals, refusals_but_room}
 use Rattle.host_laws.specs.inside.Given.{after, Commanded, Ended_by, Pieced, GivesByParts}
 use Rattle.session_engine.specs.inside.Commits.{AllowedIf, HasFieldIf, LosesField, answer_op, kept_for}
 use Rattle.session_engine.specs.Does.{Gives}

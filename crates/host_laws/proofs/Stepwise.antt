@@ -15,7 +15,6 @@ use Rattle.session_engine.specs.World.{World, world_at_opening, sheet_in}
 use Rattle.session_engine.specs.Does.{Does, MayDo, Runs, behind}
 use Rattle.session_engine.specs.Host.{EndsAt, HostView, IsHost, OnDisk, Took}
 use Rattle.session_engine.specs.Faults.{CauseOf}
-use Rattle.session_engine.specs.Crash.{HasPlayed}
 use Rattle.host_laws.specs.Turns.{Turned, CrashesAreTurns, StepsAreTurns}
 use Rattle.session_engine.proofs.Playing.{EitherSheet, either_sheet, run_on}
 
@@ -94,12 +93,12 @@ module _ (room end : ℕ) (before : Image) (found : List Op) (allowed : Allowed 
     failed faults.OutOfMemory cause = stays cause.0
     failed faults.JournalFull cause = stays cause.0
 
-    acknowledged : (o : Outcome) → Took w e old new o → HasPlayed first (events ++ e ∷ []) [] (told ++ o ∷ []) new
+    acknowledged : (o : Outcome) → Took w e old new o → ((v : World) × Runs first (events ++ e ∷ []) (told ++ o ∷ []) v × IsHost new v)
         × CrashesAreTurns room before found (record { events = events ++ e ∷ []; told = told ++ o ∷ [] }) new.store.disk new.store.disk
     acknowledged o t =
         let v = behind w t.did in
         let on = run_on first events told w e t.did o run t.may t.told in (
-          record { done = events ++ e ∷ []; split = sym (append-nil (events ++ e ∷ [])); leads = v; runs = on; stands = t.stands },
+          (v, on, t.stands),
           λ model. started (IsTurn (told ++ o ∷ [])) new.store.disk.history (λ i image.
               behind_it (told ++ o ∷ []) [] v i (subst (λ (os : List Outcome). Runs first (events ++ e ∷ []) os v) (sym (append-nil (told ++ o ∷ []))) on) (t.stands.stands.images model i image)),
         )

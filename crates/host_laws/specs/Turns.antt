@@ -145,8 +145,8 @@ CrashesAreTurns room before found turn old new = InModel old
 -- So are single steps. A host was opened, took events and told their outcomes, and stands for the
 -- world that they led to; now a step takes one event more. A crash at any moment of it, whatever it
 -- answers, makes a turn of the events with this one that told those outcomes. Where it answers Ok, the
--- host is as a play of the events with this one leaves it, and a crash behind it makes a turn that told
--- this outcome too.
+-- host stands for the world that the events with this one lead to, and a crash behind it makes a turn
+-- that told this outcome too.
 abbrev pub StepsAreTurns : Type 0
 StepsAreTurns = (room end : ℕ) (before : Image) (found : List Op)
     → Allowed found → IsSheetImage (sheet_of found) before → EndsAt before end
@@ -155,7 +155,7 @@ StepsAreTurns = (room end : ℕ) (before : Image) (found : List Op)
     → (e : Event) (old new : HostView) (answer : Result Outcome HostFault)
     → IsHost old w → IfOk answer (Took w e old new) → IfErr answer (Failed w e old new)
     → CrashesAreTurns room before found (record { events = events ++ e ∷ []; told = told }) old.store.disk new.store.disk
-    × IfOk answer (λ o. HasPlayed (world_at_opening found room end) (events ++ e ∷ []) [] (told ++ o ∷ []) new
+    × IfOk answer (λ o. ((v : World) × Runs (world_at_opening found room end) (events ++ e ∷ []) (told ++ o ∷ []) v × IsHost new v)
     × CrashesAreTurns room before found (record { events = events ++ e ∷ []; told = told ++ o ∷ [] }) new.store.disk new.store.disk)
 
 -- Each of these hosts was opened on the image that the one before it left, as an image of the worksheet of some ops.

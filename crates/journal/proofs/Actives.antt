@@ -6,7 +6,7 @@ use Rattle.disk_model.specs.declared.disk.Area.{Area}
 use Rattle.disk_model.specs.declared.disk.Area.TheVariants.{First, Second}
 use Rattle.journal.specs.Area.{HasHeader, first_gate, header, named_by, records, selector_at}
 use Rattle.journal.specs.Kept.{ImageStandsFor, active_area, other_of}
-use Rattle.journal.specs.Limits.{max_payload}
+use Rattle.journal.specs.Limits.{longest_payload}
 use Rattle.journal.specs.inside.Active.{IsActive}
 use Rattle.journal.specs.inside.Standing.{at_active, same_named}
 use Rattle.journal.proofs.Bytes.{Laid}
@@ -83,7 +83,7 @@ works_on Second old a b at n behind works change = record {
 }
 
 -- it stands for what its active area lays out
-pub stands_there : (area : Area) (old i : Image) (selector : ℕ) (payloads : List (List ℕ)) → Works area old i → Laid max_payload selector (area_of area i) payloads → ImageStandsFor i payloads
+pub stands_there : (area : Area) (old i : Image) (selector : ℕ) (payloads : List (List ℕ)) → Works area old i → Laid longest_payload selector (area_of area i) payloads → ImageStandsFor i payloads
 stands_there area old i selector payloads works laid = record {
   headed = works.headed;
   stands = record {

@@ -7,7 +7,7 @@ use Rattle.disk_model.specs.declared.disk.Area.TheVariants.{First, Second}
 use Rattle.disk_model.specs.inside.Moments.{started, goes_on, weakens, at_end, stays}
 use Rattle.journal.specs.Area.{HasHeader, StandsFor, IsPayload, body_of, closed_gate, end_of, first_gate, header, named_by, names_second, open_gate, records, selector_at}
 use Rattle.journal.specs.Kept.{EitherStands, ImageStandsFor, Keeps, active_area}
-use Rattle.journal.specs.Limits.{max_payload}
+use Rattle.journal.specs.Limits.{longest_payload}
 use Rattle.journal.specs.inside.Anew.{IsReadyToTurn, SparedBy, Spares, Went, naming}
 use Rattle.journal.specs.inside.Standing.{at_active, keeps_images, same_named}
 use Rattle.journal.proofs.Actives.{changed}
@@ -91,7 +91,7 @@ spared_stands First i j payloads spared named stands =
     let same = ap named_by (same_header_selector i.first j.first spared.0 spared.1 stands.headed) ∙ named in (
       record {
         headed = header_spared i.first j.first spared.0 spared.1 stands.headed;
-        stands = subst (λ (l : List ℕ). StandsFor max_payload l payloads) (sym (at_active Second j same ∙ spared.2 ∙ sym (at_active Second i named))) stands.stands;
+        stands = subst (λ (l : List ℕ). StandsFor longest_payload l payloads) (sym (at_active Second j same ∙ spared.2 ∙ sym (at_active Second i named))) stands.stands;
       },
       same,
     )
@@ -99,7 +99,7 @@ spared_stands Second i j payloads spared named stands =
     let same = same_named j i spared ∙ named in (
       record {
         headed = subst HasHeader (sym spared) stands.headed;
-        stands = subst (λ (l : List ℕ). StandsFor max_payload l payloads) (sym (at_active First j same ∙ spared ∙ sym (at_active First i named))) stands.stands;
+        stands = subst (λ (l : List ℕ). StandsFor longest_payload l payloads) (sym (at_active First j same ∙ spared ∙ sym (at_active First i named))) stands.stands;
       },
       same,
     )
@@ -120,7 +120,7 @@ spares_either area h0 h1 end payloads others keeps named run =
 
 -- so the selector may be turned, once the area is laid and durable
 pub ready : (area : Area) (h0 h1 : History) (end : ℕ) (payloads others : List (List ℕ)) → Keeps h0 end payloads → active_area (content_of h0) ≡ other_area area
-    → LeavesOnly (Spares area h0.now) h0 h1 → SparedBy area (content_of h0) (content_of h1) → StandsFor max_payload (area_of area (content_of h1)) others
+    → LeavesOnly (Spares area h0.now) h0 h1 → SparedBy area (content_of h0) (content_of h1) → StandsFor longest_payload (area_of area (content_of h1)) others
     → Leaves (λ i. area_of area i ≡ area_of area (content_of h1)) h1.now → IsReadyToTurn area payloads others h1
 ready area h0 h1 end payloads others keeps named run spared laid durable = record {
   stands = λ i image. (each i image).0;
@@ -166,9 +166,9 @@ went_still old new went model = subst IsTrue (sym went.keeps_model) model
 
 -- Records that are laid.
 
-module _ (area : Area) (end : ℕ) (bytes : List ℕ) (payloads : List (List ℕ)) (payload : List ℕ) (is_payload : IsPayload max_payload payload) (are : bytes ≡ body_of payload ++ closed_gate ∷ [])
-    (ends : end ≡ end_of payloads) (a b c : Image) (standing : StandsFor max_payload (area_of area a) payloads) where
-  laid : Laid max_payload standing.header_is.selector (area_of area a) payloads
+module _ (area : Area) (end : ℕ) (bytes : List ℕ) (payloads : List (List ℕ)) (payload : List ℕ) (is_payload : IsPayload longest_payload payload) (are : bytes ≡ body_of payload ++ closed_gate ∷ [])
+    (ends : end ≡ end_of payloads) (a b c : Image) (standing : StandsFor longest_payload (area_of area a) payloads) where
+  laid : Laid longest_payload standing.header_is.selector (area_of area a) payloads
   laid = record {
     gate = standing.lays.gate;
     rest = standing.lays.more;
@@ -178,11 +178,11 @@ module _ (area : Area) (end : ℕ) (bytes : List ℕ) (payloads : List (List ℕ
   }
 
   pub one_laid : ChangesArea area (λ before after. after ≡ overwritten before (end + 1) bytes) a b → ChangesArea area (λ before after. after ≡ overwritten before end (open_gate ∷ [])) b c
-      → StandsFor max_payload (area_of area c) (payloads ++ payload ∷ [])
+      → StandsFor longest_payload (area_of area c) (payloads ++ payload ∷ [])
   one_laid first second =
       let sel = standing.header_is.selector in
-      let one = after_stage max_payload sel (area_of area a) payloads laid end ends payload is_payload bytes (area_of area b) are (changed area _ a b first) in
-      let two = after_gate max_payload sel (area_of area a) payloads laid end ends payload is_payload _ (area_of area c)
+      let one = after_stage longest_payload sel (area_of area a) payloads laid end ends payload is_payload bytes (area_of area b) are (changed area _ a b first) in
+      let two = after_gate longest_payload sel (area_of area a) payloads laid end ends payload is_payload _ (area_of area c)
       (changed area _ b c second ∙ ap (λ (l : List ℕ). overwritten l end (open_gate ∷ [])) one) in
       record {
         rest = records (payloads ++ payload ∷ []) ++ two.gate ∷ two.rest;
@@ -191,7 +191,7 @@ module _ (area : Area) (end : ℕ) (bytes : List ℕ) (payloads : List (List ℕ
       }
   -- Nothing was laid yet.
 
-pub none_laid : (area : Area) (a : Image) (rest : List ℕ) (selector : ℕ) → area_of area a ≡ header selector ++ (closed_gate ∷ rest) → StandsFor max_payload (area_of area a) []
+pub none_laid : (area : Area) (a : Image) (rest : List ℕ) (selector : ℕ) → area_of area a ≡ header selector ++ (closed_gate ∷ rest) → StandsFor longest_payload (area_of area a) []
 none_laid area a rest selector is = record {
   rest = closed_gate ∷ rest;
   header_is = record { selector = selector; is = is };
@@ -212,15 +212,15 @@ selector_torn a b selector rest is torn =
 header_torn : (a b : List ℕ) → Torn selector_at 1 a b → HasHeader a → HasHeader b
 header_torn a b torn has = (has.0, record { selector = get_or b selector_at 0; is = selector_torn a b has.1.selector has.0 has.1.is torn }, has.2)
 
-stands_torn : (a b : List ℕ) (payloads : List (List ℕ)) → Torn selector_at 1 a b → StandsFor max_payload a payloads → StandsFor max_payload b payloads
+stands_torn : (a b : List ℕ) (payloads : List (List ℕ)) → Torn selector_at 1 a b → StandsFor longest_payload a payloads → StandsFor longest_payload b payloads
 stands_torn a b payloads torn stands = record {
   rest = stands.rest;
   header_is = record { selector = get_or b selector_at 0; is = selector_torn a b stands.header_is.selector stands.rest stands.header_is.is torn };
   lays = stands.lays;
 }
 
-stands_in : (area : Area) (i : Image) (payloads : List (List ℕ)) → HasHeader i.first → active_area i ≡ area → StandsFor max_payload (area_of area i) payloads → ImageStandsFor i payloads
-stands_in area i payloads headed named stands = record { headed = headed; stands = subst (λ (l : List ℕ). StandsFor max_payload l payloads) (sym (at_active area i named)) stands }
+stands_in : (area : Area) (i : Image) (payloads : List (List ℕ)) → HasHeader i.first → active_area i ≡ area → StandsFor longest_payload (area_of area i) payloads → ImageStandsFor i payloads
+stands_in area i payloads headed named stands = record { headed = headed; stands = subst (λ (l : List ℕ). StandsFor longest_payload l payloads) (sym (at_active area i named)) stands }
 
 either_area : (n : ℕ) (P : Area → Type 0) → P First → P Second → P (named_by n)
 either_area n P first second = go (n == names_second)
@@ -230,18 +230,18 @@ either_area n P first second = go (n == names_second)
     go false = first
 
 -- area First, or the other, as the selector names one of them
-torn_either : (area : Area) (i j : Image) (before payloads : List (List ℕ)) → ImageStandsFor i before → active_area i ≡ other_area area → StandsFor max_payload (area_of area i) payloads
+torn_either : (area : Area) (i j : Image) (before payloads : List (List ℕ)) → ImageStandsFor i before → active_area i ≡ other_area area → StandsFor longest_payload (area_of area i) payloads
     → ChangesArea First (Torn selector_at 1) i j → EitherStands before payloads j
 torn_either First i j before payloads stands named laid change =
     let headed = header_torn i.first j.first change.0 stands.headed in
-    let old : StandsFor max_payload j.second before = subst (λ (l : List ℕ). StandsFor max_payload l before) (at_active Second i named ∙ sym change.1) stands.stands in
+    let old : StandsFor longest_payload j.second before = subst (λ (l : List ℕ). StandsFor longest_payload l before) (at_active Second i named ∙ sym change.1) stands.stands in
     let new = stands_torn i.first j.first payloads change.0 laid in
     either_area (get_or j.first selector_at 0) (λ a. active_area j ≡ a → EitherStands before payloads j)
     (λ is. inr (stands_in First j payloads headed is new)) (λ is. inl (stands_in Second j before headed is old)) refl
 torn_either Second i j before payloads stands named laid change =
     let headed = header_torn i.first j.first change.0 stands.headed in
-    let old = stands_torn i.first j.first before change.0 (subst (λ (l : List ℕ). StandsFor max_payload l before) (at_active First i named) stands.stands) in
-    let new : StandsFor max_payload j.second payloads = subst (λ (l : List ℕ). StandsFor max_payload l payloads) (sym change.1) laid in
+    let old = stands_torn i.first j.first before change.0 (subst (λ (l : List ℕ). StandsFor longest_payload l before) (at_active First i named) stands.stands) in
+    let new : StandsFor longest_payload j.second payloads = subst (λ (l : List ℕ). StandsFor longest_payload l payloads) (sym change.1) laid in
     either_area (get_or j.first selector_at 0) (λ a. active_area j ≡ a → EitherStands before payloads j)
     (λ is. inl (stands_in First j before headed is old)) (λ is. inr (stands_in Second j payloads headed is new)) refl
 
@@ -276,7 +276,7 @@ module _ (area : Area) (n : ℕ) (names : n ≡ naming area) (h0 : History) wher
         let image = reaches.1 in
         let there : area_of area i ≡ area_of area old = ready.durable i image in
         record {
-          either = torn_either area i j before payloads (ready.stands i image) (ready.named i image) (subst (λ (l : List ℕ). StandsFor max_payload l payloads) (sym there) ready.laid) reaches.2;
+          either = torn_either area i j before payloads (ready.stands i image) (ready.named i image) (subst (λ (l : List ℕ). StandsFor longest_payload l payloads) (sym there) ready.laid) reaches.2;
           second = kept_second area i j there reaches.2.1;
         }) w.moments
 
@@ -314,9 +314,9 @@ module _ (area : Area) (n : ℕ) (names : n ≡ naming area) (h0 : History) wher
             first = first;
           }
         where
-          laid_after : (a : Area) → StandsFor max_payload (area_of a old) payloads → Torn selector_at 1 old.first (content_of h1).first → (content_of h1).second ≡ old.second → StandsFor max_payload (area_of a (content_of h1)) payloads
+          laid_after : (a : Area) → StandsFor longest_payload (area_of a old) payloads → Torn selector_at 1 old.first (content_of h1).first → (content_of h1).second ≡ old.second → StandsFor longest_payload (area_of a (content_of h1)) payloads
           laid_after First laid torn same = stands_torn old.first (content_of h1).first payloads torn laid
-          laid_after Second laid torn same = subst (λ (l : List ℕ). StandsFor max_payload l payloads) (sym same) laid
+          laid_after Second laid torn same = subst (λ (l : List ℕ). StandsFor longest_payload l payloads) (sym same) laid
 
           whole : (a : Area) (i j : Image) → i.first ≡ j.first → SecondKept a old i → j.second ≡ old.second → area_of a i ≡ area_of a j
           whole First i j first kept second = first

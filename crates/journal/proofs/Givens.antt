@@ -6,7 +6,7 @@ use Rattle.journal.specs.Area.{StandsFor, header, open_gate, records, record_of,
 use Rattle.journal.specs.Damage.{Walked}
 use Rattle.journal.specs.Front.{FrontView, HasFront, HasGivenFront, ImageHasFront}
 use Rattle.journal.specs.Kept.{Keeps, active_of}
-use Rattle.journal.specs.Limits.{max_payload}
+use Rattle.journal.specs.Limits.{longest_payload}
 use Rattle.journal.specs.Opening.{HasGiven, OpeningView}
 use Rattle.journal.specs.Payloads.{payloads_in, AreGates}
 use Rattle.journal.specs.declared.walk.Payload.{Payload}
@@ -27,11 +27,11 @@ next_is_payload limit (p ∷ given) others payload each = next_is_payload limit 
 -- what an opening or a front has given of its area, and what is left there
 pub record GivenOf (area : List ℕ) (gate end : ℕ) (given left : List (List ℕ)) : Type 0 where
   pub rest : List ℕ
-  pub walked : Walked max_payload area (given ++ left) rest
+  pub walked : Walked longest_payload area (given ++ left) rest
   pub end_is : end ≡ end_of (given ++ left)
   pub gate_is : gate ≡ end_of given
 
-stood : (area : List ℕ) (payloads : List (List ℕ)) (s : StandsFor max_payload area payloads) → Walked max_payload area payloads (s.lays.gate ∷ s.lays.more)
+stood : (area : List ℕ) (payloads : List (List ℕ)) (s : StandsFor longest_payload area payloads) → Walked longest_payload area payloads (s.lays.gate ∷ s.lays.more)
 stood area payloads s = record {
   header_is = record {
     selector = s.header_is.selector;
@@ -51,7 +51,7 @@ of_opening o given left has =
       gate_is = has.gate_is;
     }
 
-front_walked : (area : List ℕ) (payloads : List (List ℕ)) (damaged : Bool) → HasFront max_payload area payloads damaged → (rest : List ℕ) × Walked max_payload area payloads rest
+front_walked : (area : List ℕ) (payloads : List (List ℕ)) (damaged : Bool) → HasFront longest_payload area payloads damaged → (rest : List ℕ) × Walked longest_payload area payloads rest
 front_walked area payloads false front = (front.lays.gate ∷ front.lays.more, stood area payloads front)
 front_walked area payloads true front = (open_gate ∷ front.0, front.1)
 
@@ -71,7 +71,7 @@ none_left area gate end given (p ∷ others) has near =
       has.end_is,
       end-append given (p ∷ others),
       length-append (record_of p) (records others),
-      (next_is_payload max_payload given others p has.walked.each).0,
+      (next_is_payload longest_payload given others p has.walked.each).0,
     ))
 
 pub all_given : (o : OpeningView) (given left : List (List ℕ)) → HasGiven o given left → left ≡ [] → Keeps o.disk.history o.end given
@@ -85,7 +85,7 @@ pub record NextLeft (area : List ℕ) (gate end : ℕ) (left : List (List ℕ)) 
   pub others : List (List ℕ)
   pub rest : List ℕ
   pub is : left ≡ payload ∷ others
-  pub is_payload : IsPayload max_payload payload
+  pub is_payload : IsPayload longest_payload payload
   pub some : 0 < length rest
   pub fits : gate + 5 + length payload ≤ end
   pub here : drop gate area ≡ record_of payload ++ rest
@@ -106,7 +106,7 @@ next_left area gate end given (p ∷ others) has far =
       others = others;
       rest = rest;
       is = refl;
-      is_payload = next_is_payload max_payload given others p has.walked.each;
+      is_payload = next_is_payload longest_payload given others p has.walked.each;
       some = omega (arith, length-append (records others) has.rest, has.walked.some);
       fits = omega (arith, has.gate_is, has.end_is, end-append given (p ∷ others), length-append (record_of p) (records others));
       here = ap (λ (l : List ℕ). drop gate l) whole

@@ -4,15 +4,15 @@ use Rattle.disk_model.specs.Disk.{Image, History, IsImage, Torn, LeavesOnly, Wri
 use Rattle.disk_model.specs.declared.disk.Area.{Area}
 use Rattle.disk_model.specs.inside.Moments.{started, goes_on, weakens, at_end, stays}
 use Rattle.journal.specs.Area.{StandsFor, body_of, closed_gate, first_gate, header, IsPayload, open_gate}
-use Rattle.journal.specs.Limits.{max_payload}
+use Rattle.journal.specs.Limits.{longest_payload}
 use Rattle.journal.specs.Kept.{Keeps, BeforeOrAfter, OtherUntouched, active_area}
 use Rattle.journal.specs.inside.Standing.{at_active}
 use Rattle.journal.proofs.Actives.{Works, at_other, changed, first_of_both, kept, stands_there, works_as, works_on}
 use Rattle.journal.proofs.Bytes.{Laid, torn_behind, staged, after_stage, torn_gate, after_gate, end-push}
 
-module _ (h0 : History) (end : ℕ) (payloads : List (List ℕ)) (keeps : Keeps h0 end payloads) (payload : List ℕ) (is_payload : IsPayload max_payload payload) (bytes : List ℕ) (are : bytes ≡ body_of payload ++ closed_gate ∷ []) (area : Area) (named : active_area (content_of h0) ≡ area) where
+module _ (h0 : History) (end : ℕ) (payloads : List (List ℕ)) (keeps : Keeps h0 end payloads) (payload : List ℕ) (is_payload : IsPayload longest_payload payload) (bytes : List ℕ) (are : bytes ≡ body_of payload ++ closed_gate ∷ []) (area : Area) (named : active_area (content_of h0) ≡ area) where
   abbrev pub limit : ℕ
-  limit = max_payload
+  limit = longest_payload
 
   abbrev pub old : Image
   old = content_of h0

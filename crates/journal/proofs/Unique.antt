@@ -10,7 +10,7 @@ use Rattle.journal.specs.Laws.{OneFront}
 use Rattle.disk_model.specs.Disk.{Image}
 use Rattle.journal.specs.Kept.{ImageStandsFor, active_of}
 use Rattle.journal.specs.Open.{IsPassing, Tells}
-use Rattle.journal.specs.Limits.{max_payload}
+use Rattle.journal.specs.Limits.{longest_payload}
 use Rattle.journal.specs.declared.opening.OpenCause.{OpenCause}
 use Rattle.journal.specs.declared.opening.OpenCause.TheVariants as causes
 
@@ -126,11 +126,11 @@ one_list limit fits area payloads others s t = laid_out_once limit fits area pay
 pub given : (i j : Image) (ps qs : List (List ℕ)) → j ≡ i → ImageStandsFor j ps → ImageStandsFor i qs → ps ≡ qs
 given i j ps qs same stands others =
     let s = subst (λ (k : Image). ImageStandsFor k ps) same stands in
-    one_list max_payload (omega arith) (active_of i) ps qs s.stands others.stands
+    one_list longest_payload (omega arith) (active_of i) ps qs s.stands others.stands
 
 -- and then no cause lies in them
 pub refused : (i : Image) (qs : List (List ℕ)) (cause : OpenCause) → Tells i cause → ImageStandsFor i qs → IsPassing cause
-refused i qs (causes.Damaged gate) told stands = undamaged max_payload (omega arith) (active_of i) qs gate stands.stands told
-refused i qs causes.NotASheet told stands = told stands.headed (has_header max_payload (omega arith) (active_of i) qs stands.stands)
+refused i qs (causes.Damaged gate) told stands = undamaged longest_payload (omega arith) (active_of i) qs gate stands.stands told
+refused i qs causes.NotASheet told stands = told stands.headed (has_header longest_payload (omega arith) (active_of i) qs stands.stands)
 refused i qs causes.Disk told stands = tt
 refused i qs causes.OutOfMemory told stands = tt

@@ -6,7 +6,7 @@ use Rattle.std.proofs.lemmas.Nat.{from_be_bytes-to_be_bytes_4}
 use Rattle.journal.specs.Area.{HasHeader, HeaderOf, header, records, record_of, IsPayload, StandsFor, end_of, first_gate, open_gate}
 use Rattle.journal.specs.Damage.{IsBroken, Walked}
 use Rattle.journal.specs.Front.{HasFront}
-use Rattle.journal.specs.Limits.{max_payload}
+use Rattle.journal.specs.Limits.{longest_payload}
 use Rattle.journal.specs.inside.Reads.{Begins}
 use Rattle.journal.specs.inside.Walk.{IsStep}
 use Rattle.journal.specs.inside.Window.{Shows}
@@ -20,7 +20,7 @@ use Rattle.journal.proofs.Bytes.{records-push, ArePayloads-push, end-push}
 pub record Reached (area : List ℕ) (gate : ℕ) : Type 0 where
   pub payloads : List (List ℕ)
   pub rest : List ℕ
-  pub walked : Walked max_payload area payloads rest
+  pub walked : Walked longest_payload area payloads rest
   pub gate_is : gate ≡ end_of payloads
 
 pub rest_here : (area : List ℕ) (gate : ℕ) (r : Reached area gate) → drop gate area ≡ r.rest
@@ -41,7 +41,7 @@ pub some_left : (area : List ℕ) (gate : ℕ) → Reached area gate → gate < 
 some_left area gate r = omega (arith, ap length (rest_here area gate r), length-drop gate area, r.walked.some)
 
 -- one record more
-pub reached_on : (area : List ℕ) (gate n : ℕ) (more : List ℕ) → Reached area gate → drop gate area ≡ open_gate ∷ (to_be_bytes w32 n ++ more) → 1 ≤ n → n ≤ max_payload → n < length more → Reached area (gate + (5 + n))
+pub reached_on : (area : List ℕ) (gate n : ℕ) (more : List ℕ) → Reached area gate → drop gate area ≡ open_gate ∷ (to_be_bytes w32 n ++ more) → 1 ≤ n → n ≤ longest_payload → n < length more → Reached area (gate + (5 + n))
 reached_on area gate n more r here least most inside =
     let payload = take n more in
     let size : length payload ≡ n = length-take-le n more (omega (arith, inside)) in
@@ -57,14 +57,14 @@ reached_on area gate n more r here least most inside =
           is = r.walked.header_is.is ∙ ap (λ (l : List ℕ). header r.walked.header_is.selector ++ (records r.payloads ++ l)) laid
               ∙ ap (λ (l : List ℕ). header r.walked.header_is.selector ++ l) (sym (append_assoc (records r.payloads) (record_of payload) (drop n more)) ∙ ap (λ (l : List ℕ). l ++ drop n more) (sym (records-push r.payloads payload)));
         };
-        each = ArePayloads-push max_payload r.payloads payload r.walked.each (omega (arith, size, least), omega (arith, size, most));
+        each = ArePayloads-push longest_payload r.payloads payload r.walked.each (omega (arith, size, least), omega (arith, size, most));
         some = omega (arith, length-drop n more, inside);
       };
       gate_is = omega (arith, r.gate_is, end-push r.payloads payload, size);
     }
 
 -- at a closed gate the area stands for the payloads so far
-pub closed_here : (area : List ℕ) (gate byte : ℕ) (more : List ℕ) → Reached area gate → drop gate area ≡ byte ∷ more → byte ≢ open_gate → (payloads : List (List ℕ)) × StandsFor max_payload area payloads × (gate ≡ end_of payloads)
+pub closed_here : (area : List ℕ) (gate byte : ℕ) (more : List ℕ) → Reached area gate → drop gate area ≡ byte ∷ more → byte ≢ open_gate → (payloads : List (List ℕ)) × StandsFor longest_payload area payloads × (gate ≡ end_of payloads)
 closed_here area gate byte more r here closed = (
   r.payloads,
   record {
@@ -82,17 +82,17 @@ closed_here area gate byte more r here closed = (
 )
 
 -- and at a damaged one they are its front
-pub damaged_here : (area : List ℕ) (gate : ℕ) (more : List ℕ) → Reached area gate → drop gate area ≡ open_gate ∷ more → IsBroken max_payload more → (payloads : List (List ℕ)) × HasFront max_payload area payloads true × (gate ≡ end_of payloads)
+pub damaged_here : (area : List ℕ) (gate : ℕ) (more : List ℕ) → Reached area gate → drop gate area ≡ open_gate ∷ more → IsBroken longest_payload more → (payloads : List (List ℕ)) × HasFront longest_payload area payloads true × (gate ≡ end_of payloads)
 damaged_here area gate more r here broken = (
   r.payloads,
-  (more, subst (λ (l : List ℕ). Walked max_payload area r.payloads l) (sym (rest_here area gate r) ∙ here) r.walked, broken),
+  (more, subst (λ (l : List ℕ). Walked longest_payload area r.payloads l) (sym (rest_here area gate r) ∙ here) r.walked, broken),
   r.gate_is,
 )
 
 -- what stands at a gate, from what the window shows there
 pub step_here : (w : Window) (area : List ℕ) (gate left : ℕ) (front : List ℕ) (step : Step) → Shows w area → left ≡ w.limit - gate → gate < w.limit
-    → ((rest : List ℕ) → left ≡ length rest → 0 < left → Begins front rest → IsStep max_payload rest step)
-    → ((shown : List ℕ) → Shows w shown → Begins front (drop gate shown)) → IsStep max_payload (drop gate area) step
+    → ((rest : List ℕ) → left ≡ length rest → 0 < left → Begins front rest → IsStep longest_payload rest step)
+    → ((shown : List ℕ) → Shows w shown → Begins front (drop gate shown)) → IsStep longest_payload (drop gate area) step
 step_here w area gate left front step shows is inside does begins =
     does (drop gate area) (omega (arith, length-drop gate area, shows.limit)) (omega arith) (begins area shows)
 
@@ -117,10 +117,10 @@ header_there front area rest begins is some = (
 )
 
 -- at a whole record its length is told
-pub told_here : (payload rest : List ℕ) (step : Step) → IsPayload max_payload payload → 0 < length rest → IsStep max_payload (record_of payload ++ rest) step → step ≡ steps.Record (length payload)
+pub told_here : (payload rest : List ℕ) (step : Step) → IsPayload longest_payload payload → 0 < length rest → IsStep longest_payload (record_of payload ++ rest) step → step ≡ steps.Record (length payload)
 told_here payload rest steps.End is some step = absurd (step.3 (sym (ap (λ (l : List ℕ). get_or l 0 0) step.2)))
 told_here payload rest steps.Broken is some step =
-    absurd (whole_record max_payload (omega arith) payload rest is some (subst (λ (l : List ℕ). IsBroken max_payload l) (sym (ap (λ (l : List ℕ). drop 1 l) step.1)) step.2))
+    absurd (whole_record longest_payload (omega arith) payload rest is some (subst (λ (l : List ℕ). IsBroken longest_payload l) (sym (ap (λ (l : List ℕ). drop 1 l) step.1)) step.2))
 told_here payload rest (steps.Record n) is some step =
     let four : from_be_bytes w32 (to_be_bytes w32 (length payload)) ≡ from_be_bytes w32 (to_be_bytes w32 n) = ap (λ (l : List ℕ). from_be_bytes w32 (take 4 (drop 1 l))) step.1 in
     let same : length payload ≡ n = sym (from_be_bytes-to_be_bytes_4 (length payload) (omega (arith, is.1))) ∙ four ∙ from_be_bytes-to_be_bytes_4 n (omega (arith, step.3)) in

@@ -5,7 +5,7 @@ use Rattle.disk_model.specs.Disk.{DiskView, Image, bytes_on}
 use Rattle.journal.specs.Area.{HasHeader, StandsFor, end_of, open_gate}
 use Rattle.journal.specs.Damage.{IsBroken, Walked}
 use Rattle.journal.specs.Kept.{active_of}
-use Rattle.journal.specs.Limits.{max_payload}
+use Rattle.journal.specs.Limits.{longest_payload}
 use Rattle.journal.specs.declared.opening.OpenCause.{OpenCause}
 use Rattle.journal.specs.declared.opening.OpenCause.TheVariants as causes
 
@@ -19,7 +19,7 @@ HasFront limit bytes payloads true = (more : List ℕ)
 -- area First of an image has a header, and a byte behind it, and the active area has this front
 pub record ImageHasFront (i : Image) (payloads : List (List ℕ)) (damaged : Bool) : Type 0 where
   pub headed : HasHeader i.first
-  pub front : HasFront max_payload (active_of i) payloads damaged
+  pub front : HasFront longest_payload (active_of i) payloads damaged
 
 -- the offset of a gate, where it is damaged
 abbrev pub damage_at : Bool → ℕ → Option ℕ

@@ -3,7 +3,7 @@ use Rattle.std.specs.Prelude.{◌≡◌, ◌⊎◌, ℕ, ◌+◌, ◌≤◌, Lis
 use Rattle.disk_model.specs.Disk.{Image, DiskState, DiskView, History, IsImage, area_of, content_of, other_area}
 use Rattle.disk_model.specs.declared.disk.Area.{Area}
 use Rattle.journal.specs.Area.{HasHeader, StandsFor, end_of, named_by, selector_at}
-use Rattle.journal.specs.Limits.{max_payload}
+use Rattle.journal.specs.Limits.{longest_payload}
 
 -- the active area, in which the journal is: the one that the selector in area First names
 abbrev pub active_area : Image → Area
@@ -20,7 +20,7 @@ other_of i = area_of (other_area (active_area i)) i
 -- lays them out
 pub record ImageStandsFor (i : Image) (payloads : List (List ℕ)) : Type 0 where
   pub headed : HasHeader i.first
-  pub stands : StandsFor max_payload (active_of i) payloads
+  pub stands : StandsFor longest_payload (active_of i) payloads
 
 -- the disk stands for these payloads; they are durable, and so is area First, whose header names their
 -- area; the closed gate behind them is at `end`
@@ -47,7 +47,7 @@ pub record JournalView : Type 0 where
 
 -- a payload of n bytes, its record and the next gate fit behind the end
 abbrev pub Fits : ℕ → ℕ → ℕ → Type 0
-Fits room end n = (n ≤ max_payload) × (end + 5 + n + 1 ≤ room)
+Fits room end n = (n ≤ longest_payload) × (end + 5 + n + 1 ≤ room)
 
 -- the image stands for the payloads from before, or for these
 abbrev pub EitherStands : List (List ℕ) → List (List ℕ) → Image → Type 0

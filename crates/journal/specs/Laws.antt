@@ -1,7 +1,7 @@
 -- Laws of areas.
-use Rattle.std.specs.Prelude.{◌≡◌, ℕ, Bool, ◌<◌, ◌^◌, List}
+use Rattle.std.specs.Prelude.{◌≡◌, ℕ, Bool, ◌+◌, ◌<◌, ◌^◌, List, [], ◌∷◌, ◌++◌, length}
 use Rattle.disk_model.specs.Disk.{Image}
-use Rattle.journal.specs.Area.{StandsFor}
+use Rattle.journal.specs.Area.{StandsFor, end_of}
 use Rattle.journal.specs.Damage.{IsDamaged}
 use Rattle.journal.specs.Front.{HasFront}
 use Rattle.journal.specs.Kept.{ImageStandsFor}
@@ -33,3 +33,9 @@ OneFront = (limit : ℕ) → limit < 2 ^ 32 → (area : List ℕ) (payloads othe
 abbrev pub StandingOpens : Type 0
 StandingOpens = (i : Image) (payloads : List (List ℕ)) (cause : OpenCause)
     → ImageStandsFor i payloads → Tells i cause → IsPassing cause
+
+-- Where no payload is, the gate is at 10, behind the header. Behind each payload it is 5 bytes and the payload's length further on: a
+-- gate of one byte and a length of four bytes stand in front of the payload.
+abbrev pub GateBehind : Type 0
+GateBehind = (end_of [] ≡ 10)
+    × ((payloads : List (List ℕ)) (payload : List ℕ) → end_of (payloads ++ payload ∷ []) ≡ end_of payloads + 5 + length payload)

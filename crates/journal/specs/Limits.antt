@@ -2,8 +2,8 @@
 use Rattle.std.specs.Prelude.{ℕ}
 
 -- the most bytes of a payload
-abbrev pub max_payload : ℕ
-max_payload = 33554432
+abbrev pub longest_payload : ℕ
+longest_payload = 33554432
 
 -- the length at which records that are written together are written
 abbrev pub batch_len : ℕ

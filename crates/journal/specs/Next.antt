@@ -3,7 +3,7 @@ use Rattle.std.specs.Prelude.{◌≡◌, ℕ, ◌+◌, ◌≤◌, List, [], ◌�
 use Rattle.disk_model.specs.Disk.{DiskView}
 use Rattle.journal.specs.Area.{IsPayload}
 use Rattle.journal.specs.Kept.{Keeps}
-use Rattle.journal.specs.Limits.{max_payload}
+use Rattle.journal.specs.Limits.{longest_payload}
 use Rattle.journal.specs.Open.{IsPassing}
 use Rattle.journal.specs.Opening.{OpeningView, HasGiven}
 use Rattle.journal.specs.declared.journal.OpenFault.{OpenFault}
@@ -41,7 +41,7 @@ GivesNext given left (Err fault) = Unit {0}
 -- gate is the one behind its record, at most at the end; the journal's end is that of the opening.
 abbrev pub StepsOn : {D : Type 0} → OpeningView → Result (Next D) (OpenFault D) → Type 0
 StepsOn old (Ok (next.Payload opening payload)) = (payload.gate ≡ old.gate)
-    × IsPayload max_payload payload.bytes × (opening.gate ≡ old.gate + 5 + length payload.bytes)
+    × IsPayload longest_payload payload.bytes × (opening.gate ≡ old.gate + 5 + length payload.bytes)
     × (opening.gate ≤ opening.end) × (opening.end ≡ old.end)
 StepsOn old (Ok (next.End journal)) = journal.end ≡ old.end
 StepsOn old (Err fault) = Unit {0}

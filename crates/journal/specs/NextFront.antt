@@ -3,7 +3,7 @@ use Rattle.std.specs.Prelude.{◌≡◌, ℕ, ◌+◌, ◌≤◌, List, [], ◌�
 use Rattle.disk_model.specs.Disk.{DiskView}
 use Rattle.journal.specs.Area.{IsPayload}
 use Rattle.journal.specs.Front.{FrontView, HasGivenFront, damage_at}
-use Rattle.journal.specs.Limits.{max_payload}
+use Rattle.journal.specs.Limits.{longest_payload}
 use Rattle.journal.specs.declared.journal.OpenFault.{OpenFault}
 use Rattle.journal.specs.declared.front.InFront.{InFront}
 use Rattle.journal.specs.declared.front.InFront.TheVariants as next
@@ -32,7 +32,7 @@ GivesInFront given left (Err fault) = Unit {0}
 -- damaged.
 abbrev pub StepsInFront : {D : Type 0} → FrontView → Result (InFront D) (OpenFault D) → Type 0
 StepsInFront old (Ok (next.Payload front payload)) = (payload.gate ≡ old.gate)
-    × IsPayload max_payload payload.bytes × (front.gate ≡ old.gate + 5 + length payload.bytes)
+    × IsPayload longest_payload payload.bytes × (front.gate ≡ old.gate + 5 + length payload.bytes)
     × (front.gate ≤ front.end) × (front.end ≡ old.end) × (front.damaged ≡ old.damaged)
 StepsInFront old (Ok (next.End disk damage)) = damage ≡ damage_at old.damaged old.end
 StepsInFront old (Err fault) = Unit {0}

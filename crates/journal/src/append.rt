@@ -1,10 +1,10 @@
 // The calls on the disk that add a record.
 ghost use Rattle.std.specs.Prelude.{◌≡◌, ◌<◌, ◌≤◌, ◌+◌, ◌++◌, ◌∷◌, [], List, ℕ, length, OnOk};
-ghost use Rattle.disk_model.specs.Disk.{InModel, Called, LeavesOnly, area_of, max_room, other_area, overwritten, bytes_on};
+ghost use Rattle.disk_model.specs.Disk.{InModel, Called, LeavesOnly, area_of, greatest_room, other_area, overwritten, bytes_on};
 ghost use Rattle.journal.specs.Area.{body_of, closed_gate, first_gate, IsPayload, open_gate};
 ghost use Rattle.journal.specs.Kept.{Keeps, BeforeOrAfter};
 ghost use Rattle.journal.specs.inside.Active.{HasEnd, IsActive};
-ghost use Rattle.journal.specs.Limits.{max_payload};
+ghost use Rattle.journal.specs.Limits.{longest_payload};
 
 use crate::walk::OPEN_GATE;
 use disk_model::{Area, Disk, DiskFault};
@@ -17,7 +17,7 @@ pub(crate) fn add<D: Disk>(
     end: u64,
     bytes: &[u8],
 ) -> Result<(), DiskFault>
-    requires room { end + length bytes.now + 1 ≤ max_room }
+    requires room { end + length bytes.now + 1 ≤ greatest_room }
     requires gate { first_gate ≤ end }
     requires inside { InModel (D.view disk.old)
         (HasEnd active end (bytes_on (D.view disk.old))
@@ -37,14 +37,14 @@ pub(crate) fn add<D: Disk>(
         (HasEnd active (end + length bytes.now) (bytes_on (D.view disk.new)))) }
 
     ensures any_moment { InModel (D.view disk.old)
-        ((payloads : List (List ℕ)) (payload : List ℕ) → IsPayload max_payload payload
+        ((payloads : List (List ℕ)) (payload : List ℕ) → IsPayload longest_payload payload
         → bytes.now ≡ body_of payload ++ closed_gate ∷ []
         → Keeps (D.view disk.old).history end payloads
         → LeavesOnly (BeforeOrAfter (D.view disk.old).history.now payloads payload)
         (D.view disk.old).history (D.view disk.new).history) }
     ensures acknowledged { OnOk result
         (InModel (D.view disk.old)
-        ((payloads : List (List ℕ)) (payload : List ℕ) → IsPayload max_payload payload
+        ((payloads : List (List ℕ)) (payload : List ℕ) → IsPayload longest_payload payload
         → bytes.now ≡ body_of payload ++ closed_gate ∷ []
         → Keeps (D.view disk.old).history end payloads
         → Keeps (D.view disk.new).history (end + length bytes.now) (payloads ++ payload ∷ []))) }

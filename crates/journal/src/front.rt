@@ -1,6 +1,6 @@
 // The payloads at the front of a journal, one after another.
 ghost use Rattle.std.specs.Prelude.{◌≡◌, ◌≤◌, ◌<◌, List, ℕ, [], IfErr, IfOk, MatchResult};
-ghost use Rattle.disk_model.specs.Disk.{InModel, Looks, SameDisk, Rises, bytes_on, max_room};
+ghost use Rattle.disk_model.specs.Disk.{InModel, Looks, SameDisk, Rises, bytes_on, greatest_room};
 ghost use Rattle.journal.specs.Area.{first_gate};
 ghost use Rattle.journal.specs.Front.{HasGivenFront, ImageHasFront, TellsHeader};
 ghost use Rattle.journal.specs.Open.{IsPassing};
@@ -77,7 +77,7 @@ impl<D: Disk> Front<D> {
 
         // Whether the disk keeps the model or not, it stands at the first gate.
         ensures first { IfOk result
-            (λ front. (front.gate ≡ first_gate) × (first_gate ≤ front.end) × (front.end ≤ max_room)) }
+            (λ front. (front.gate ≡ first_gate) × (first_gate ≤ front.end) × (front.end ≤ greatest_room)) }
 
         // It changes no byte, and at every moment each image is one that a crash could leave at the start.
         ensures looks { InModel (D.view disk)

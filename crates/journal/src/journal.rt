@@ -1,6 +1,6 @@
 // A journal on a disk that it owns.
 ghost use Rattle.std.specs.Prelude.{◌≡◌, ◌<◌, ◌≤◌, ◌+◌, ◌++◌, ◌∷◌, ◌↔◌, [], List, ℕ, length, IfOk, IfErr, IsTrue, MatchResult, vec_capacity};
-ghost use Rattle.disk_model.specs.Disk.{ChangesArea, InModel, LeavesOnly, Looks, Reaches, SameDisk, Torn, Rises, bytes_on, max_room, other_area};
+ghost use Rattle.disk_model.specs.Disk.{ChangesArea, InModel, LeavesOnly, Looks, Reaches, SameDisk, Torn, Rises, bytes_on, greatest_room, other_area};
 ghost use Rattle.journal.specs.Payloads.{payloads_in, AreGates};
 ghost use Rattle.journal.specs.Open.{AreEmpty, Tells};
 ghost use Rattle.journal.specs.Kept.{BeforeOrAfter, EitherStands, Fits, FitsAnew, Keeps, ImageStandsFor, active_area, active_of, other_of};
@@ -12,7 +12,8 @@ use crate::append::add;
 use crate::renewal::write_from;
 use crate::rewrite::{end_of_frames, other, write_anew};
 use crate::{
-    CreateCause, CreateFault, Frame, MAX_PAYLOAD, Next, OpenCause, Opening, Payload, Source, create,
+    CreateCause, CreateFault, Frame, LONGEST_PAYLOAD, Next, OpenCause, Opening, Payload, Source,
+    create,
 };
 use disk_model::{Area, Disk, DiskFault};
 use std::alloc::Global;
@@ -31,7 +32,7 @@ pub struct Journal<D: Disk> {
 
 impl<D: Disk> Model for Journal<D> {
     ghost use Rattle.std.specs.Prelude.{◌≤◌};
-    ghost use Rattle.disk_model.specs.Disk.{InModel, max_room, bytes_on};
+    ghost use Rattle.disk_model.specs.Disk.{InModel, greatest_room, bytes_on};
     ghost use Rattle.journal.specs.Area.{first_gate};
     ghost use Rattle.journal.specs.Kept.{JournalView};
     ghost use Rattle.journal.specs.inside.Active.{HasEnd};
@@ -40,7 +41,7 @@ impl<D: Disk> Model for Journal<D> {
 
     ghost view = { λ j. record { disk = D.view j.disk; end = j.end } };
 
-    ghost invariant = { λ j. (first_gate ≤ j.end) × (j.end ≤ max_room)
+    ghost invariant = { λ j. (first_gate ≤ j.end) × (j.end ≤ greatest_room)
         × InModel (D.view j.disk) (HasEnd j.active j.end (bytes_on (D.view j.disk))) };
 }
 
@@ -159,7 +160,7 @@ impl<D: Disk> Journal<D> {
     // The journal of this disk, whose closed gate is there.
     pub(crate) fn ending_at(disk: D, active: Area, end: u64) -> Journal<D>
         requires behind { first_gate ≤ end }
-        requires small { end ≤ max_room }
+        requires small { end ≤ greatest_room }
         requires inside { InModel (D.view disk) (HasEnd active end (bytes_on (D.view disk))) }
         ensures { result ≡ record { disk = D.view disk; end = end } }
     {
@@ -179,7 +180,7 @@ impl<D: Disk> Journal<D> {
     pub fn fits(&self, payload_len: u64) -> bool
         ensures { IsTrue result ↔ Fits self.now.disk.room self.now.end payload_len }
     {
-        payload_len <= MAX_PAYLOAD && self.end + 5 + payload_len < self.disk.room()
+        payload_len <= LONGEST_PAYLOAD && self.end + 5 + payload_len < self.disk.room()
     }
 
     /// Adds a payload, which is durable at `Ok`. It takes no memory (docs/FORMAT.md, "Append").

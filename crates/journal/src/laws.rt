@@ -1,6 +1,6 @@
 //! Laws of the definitions that the contracts cite. Each function does nothing: its contract is the
 //! law.
-ghost use Rattle.journal.specs.Laws.{NoDamage, OneDamage, OneFront, OneList, StandingOpens};
+ghost use Rattle.journal.specs.Laws.{GateBehind, NoDamage, OneDamage, OneFront, OneList, StandingOpens};
 
 /// An area stands for at most one list of payloads.
 pub fn one_list()
@@ -26,4 +26,9 @@ pub fn one_front()
 /// A disk that stands for payloads is refused for no cause that lies in its bytes.
 pub fn standing_opens()
     ensures { StandingOpens }
+{}
+
+/// The gate behind payloads stands behind their records.
+pub fn gate_behind()
+    ensures { GateBehind }
 {}

@@ -18,7 +18,7 @@ mod walk;
 mod window;
 
 pub use disk_model::OutOfMemory;
-pub use frame::{Frame, MAX_PAYLOAD};
+pub use frame::{Frame, LONGEST_PAYLOAD};
 pub use front::{Front, InFront};
 pub use journal::{AppendFault, Journal, OpenFault};
 pub use opening::{CreateCause, CreateFault, OpenCause, create};

@@ -1,9 +1,9 @@
 // The calls on the disk that write a journal anew from a source.
 ghost use Rattle.std.specs.Prelude.{◌≡◌, ◌<◌, ◌≤◌, ◌+◌, ◌++◌, ◌∷◌, [], List, ℕ, get_or, length, IfOk, OnOk, vec_capacity, vec_len};
-ghost use Rattle.disk_model.specs.Disk.{InModel, Called, Leaves, LeavesOnly, area_of, bytes_on, max_room, other_area};
+ghost use Rattle.disk_model.specs.Disk.{InModel, Called, Leaves, LeavesOnly, area_of, bytes_on, greatest_room, other_area};
 ghost use Rattle.journal.specs.Area.{ArePayloads, HasHeader, IsPayload, StandsFor, closed_gate, end_of, first_gate, record_of, records};
 ghost use Rattle.journal.specs.Kept.{EitherStands, FitsAnew, Keeps, active_area};
-ghost use Rattle.journal.specs.Limits.{max_payload};
+ghost use Rattle.journal.specs.Limits.{longest_payload};
 ghost use Rattle.journal.specs.Sources.{HoldsEach};
 ghost use Rattle.journal.specs.inside.Active.{HasEnd, IsActive};
 ghost use Rattle.journal.specs.inside.Anew.{SparedBy, Spares};
@@ -20,7 +20,7 @@ fn put_next<S: Source>(source: &S, index: usize, batch: &mut Vec<u8>)
         ≤ vec_capacity batch.old }
     ensures record { batch.new.items
         ≡ batch.old.items ++ record_of (get_or (S.payloads source.now) index []) }
-    ensures payload { IsPayload max_payload (get_or (S.payloads source.now) index []) }
+    ensures payload { IsPayload longest_payload (get_or (S.payloads source.now) index []) }
     ensures capacity { vec_capacity batch.old ≤ vec_capacity batch.new }
 {
     match source.put_record(index, batch) {
@@ -80,10 +80,10 @@ fn lay_batch<D: Disk>(disk: &mut D, area: Area, end: u64, bytes: &[u8]) -> Resul
         (end + length bytes.now ≤ length (area_of area (bytes_on (D.view disk.new))))) }
     ensures laid { OnOk result
         (InModel (D.view disk.old)
-        ((payloads more : List (List ℕ)) → ArePayloads max_payload more
+        ((payloads more : List (List ℕ)) → ArePayloads longest_payload more
         → bytes.now ≡ records more ++ closed_gate ∷ [] → end ≡ end_of payloads
-        → StandsFor max_payload (area_of area (bytes_on (D.view disk.old))) payloads
-        → StandsFor max_payload (area_of area (bytes_on (D.view disk.new))) (payloads ++ more))) }
+        → StandsFor longest_payload (area_of area (bytes_on (D.view disk.old))) payloads
+        → StandsFor longest_payload (area_of area (bytes_on (D.view disk.new))) (payloads ++ more))) }
 {
     disk.write_at(area, end, bytes)
 }
@@ -96,7 +96,7 @@ fn lay_from<D: Disk, S: Source>(
     source: &S,
     batch: &mut Vec<u8>,
 ) -> Result<u64, DiskFault>
-    requires small { end_of (S.payloads source.now) + 1 ≤ max_room }
+    requires small { end_of (S.payloads source.now) + 1 ≤ greatest_room }
     requires memory { HoldsEach (vec_capacity batch.old) (S.payloads source.now) }
     requires room { InModel (D.view disk.old)
         (FitsAnew (D.view disk.old).room (S.payloads source.now)) }
@@ -114,7 +114,7 @@ fn lay_from<D: Disk, S: Source>(
     ensures laid { OnOk result
         (InModel (D.view disk.old)
         (HasHeader (bytes_on (D.view disk.old)).first
-        → StandsFor max_payload (area_of area (bytes_on (D.view disk.new)))
+        → StandsFor longest_payload (area_of area (bytes_on (D.view disk.new)))
         (S.payloads source.now))) }
     ensures durable { OnOk result
         (InModel (D.view disk.old)
@@ -144,7 +144,7 @@ pub(crate) fn write_from<D: Disk, S: Source>(
     source: &S,
     batch: &mut Vec<u8>,
 ) -> Result<u64, DiskFault>
-    requires small { end_of (S.payloads source.now) + 1 ≤ max_room }
+    requires small { end_of (S.payloads source.now) + 1 ≤ greatest_room }
     requires memory { HoldsEach (vec_capacity batch.old) (S.payloads source.now) }
     requires room { InModel (D.view disk.old)
         (FitsAnew (D.view disk.old).room (S.payloads source.now)) }

@@ -1,9 +1,9 @@
 // The calls on the disk that write a journal anew.
 ghost use Rattle.std.specs.Prelude.{◌≡◌, ◌<◌, ◌≤◌, ◌+◌, ◌++◌, ◌∷◌, [], List, ℕ, length, IfNone, IfSome, OnOk};
-ghost use Rattle.disk_model.specs.Disk.{InModel, Called, Leaves, LeavesOnly, area_of, bytes_on, max_room, other_area};
+ghost use Rattle.disk_model.specs.Disk.{InModel, Called, Leaves, LeavesOnly, area_of, bytes_on, greatest_room, other_area};
 ghost use Rattle.journal.specs.Area.{HasHeader, IsPayload, StandsFor, body_of, closed_gate, end_of, first_gate};
 ghost use Rattle.journal.specs.Kept.{EitherStands, FitsAnew, Keeps, active_area};
-ghost use Rattle.journal.specs.Limits.{max_payload};
+ghost use Rattle.journal.specs.Limits.{longest_payload};
 ghost use Rattle.journal.specs.inside.Active.{HasEnd, IsActive};
 ghost use Rattle.journal.specs.inside.Anew.{IsReadyToTurn, SparedBy, Spares, naming};
 
@@ -23,7 +23,7 @@ pub(crate) fn other(area: Area) -> Area
 
 /// The offset of the closed gate behind the records of these frames, where an area has room for them.
 pub(crate) fn end_of_frames(room: u64, frames: &[Frame]) -> Option<u64>
-    requires { room ≤ max_room }
+    requires { room ≤ greatest_room }
     ensures some { IfSome result (λ end. (end ≡ end_of frames.now) × (end + 1 ≤ room)) }
     ensures none { IfNone result (FitsAnew room frames.now → ⊥) }
 {
@@ -56,7 +56,7 @@ pub(crate) fn lay_none<D: Disk>(disk: &mut D, area: Area) -> Result<(), DiskFaul
     ensures laid { OnOk result
         (InModel (D.view disk.old)
         (HasHeader (bytes_on (D.view disk.old)).first
-        → StandsFor max_payload (area_of area (bytes_on (D.view disk.new))) [])) }
+        → StandsFor longest_payload (area_of area (bytes_on (D.view disk.new))) [])) }
 {
     match area {
         Area::First => disk.write_at(Area::First, 10, &[0]),
@@ -66,7 +66,7 @@ pub(crate) fn lay_none<D: Disk>(disk: &mut D, area: Area) -> Result<(), DiskFaul
 
 // Lays a record behind the closed gate at `end`, and opens that gate. Nothing is durable yet.
 fn lay_record<D: Disk>(disk: &mut D, area: Area, end: u64, bytes: &[u8]) -> Result<(), DiskFault>
-    requires room { end + length bytes.now + 1 ≤ max_room }
+    requires room { end + length bytes.now + 1 ≤ greatest_room }
     requires gate { first_gate ≤ end }
     requires inside { InModel (D.view disk.old)
         ((end < length (area_of area (bytes_on (D.view disk.old))))
@@ -82,10 +82,10 @@ fn lay_record<D: Disk>(disk: &mut D, area: Area, end: u64, bytes: &[u8]) -> Resu
         (end + length bytes.now < length (area_of area (bytes_on (D.view disk.new))))) }
     ensures laid { OnOk result
         (InModel (D.view disk.old)
-        ((payloads : List (List ℕ)) (payload : List ℕ) → IsPayload max_payload payload
+        ((payloads : List (List ℕ)) (payload : List ℕ) → IsPayload longest_payload payload
         → bytes.now ≡ body_of payload ++ closed_gate ∷ [] → end ≡ end_of payloads
-        → StandsFor max_payload (area_of area (bytes_on (D.view disk.old))) payloads
-        → StandsFor max_payload (area_of area (bytes_on (D.view disk.new)))
+        → StandsFor longest_payload (area_of area (bytes_on (D.view disk.old))) payloads
+        → StandsFor longest_payload (area_of area (bytes_on (D.view disk.new)))
         (payloads ++ payload ∷ []))) }
 {
     disk.write_at(area, end + 1, bytes)?;
@@ -95,7 +95,7 @@ fn lay_record<D: Disk>(disk: &mut D, area: Area, end: u64, bytes: &[u8]) -> Resu
 
 // Lays these frames into an area that isn't active, which is durable then.
 fn lay_all<D: Disk>(disk: &mut D, area: Area, frames: &[Frame]) -> Result<(), DiskFault>
-    requires small { end_of frames.now + 1 ≤ max_room }
+    requires small { end_of frames.now + 1 ≤ greatest_room }
     requires room { InModel (D.view disk.old) (FitsAnew (D.view disk.old).room frames.now) }
     requires headed { InModel (D.view disk.old) (first_gate < length (bytes_on (D.view disk.old)).first) }
     ensures called { Called result (D.view disk.old) (D.view disk.new) }
@@ -110,7 +110,7 @@ fn lay_all<D: Disk>(disk: &mut D, area: Area, frames: &[Frame]) -> Result<(), Di
     ensures laid { OnOk result
         (InModel (D.view disk.old)
         (HasHeader (bytes_on (D.view disk.old)).first
-        → StandsFor max_payload (area_of area (bytes_on (D.view disk.new))) frames.now)) }
+        → StandsFor longest_payload (area_of area (bytes_on (D.view disk.new))) frames.now)) }
     ensures durable { OnOk result
         (InModel (D.view disk.old)
         (Leaves (λ i. area_of area i ≡ area_of area (bytes_on (D.view disk.new)))
@@ -168,7 +168,7 @@ pub(crate) fn write_anew<D: Disk>(
     area: Area,
     frames: &[Frame],
 ) -> Result<(), DiskFault>
-    requires small { end_of frames.now + 1 ≤ max_room }
+    requires small { end_of frames.now + 1 ≤ greatest_room }
     requires room { InModel (D.view disk.old) (FitsAnew (D.view disk.old).room frames.now) }
     requires active { InModel (D.view disk.old)
         (IsActive (other_area area) (bytes_on (D.view disk.old))) }

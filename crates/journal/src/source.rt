@@ -1,7 +1,7 @@
 //! Payloads that are made when they are written.
 ghost use Rattle.std.specs.Prelude.{◌≡◌, ◌<◌, ◌≤◌, ◌+◌, ◌++◌, [], List, ℕ, get_or, length, OnErr, OnOk, vec_capacity, vec_len};
 ghost use Rattle.journal.specs.Area.{IsPayload, record_of};
-ghost use Rattle.journal.specs.Limits.{max_payload};
+ghost use Rattle.journal.specs.Limits.{longest_payload};
 
 use crate::OutOfMemory;
 
@@ -25,7 +25,7 @@ pub trait Source {
         ensures record { OnOk result
             (out.new.items ≡ out.old.items ++ record_of (get_or (payloads self.now) index [])) }
         ensures payload { OnOk result
-            (IsPayload max_payload (get_or (payloads self.now) index [])) }
+            (IsPayload longest_payload (get_or (payloads self.now) index [])) }
         ensures full { OnErr result (vec_capacity out.old
             < vec_len out.old + 5 + length (get_or (payloads self.now) index [])) }
         ensures capacity { vec_capacity out.old ≤ vec_capacity out.new };

@@ -1,7 +1,7 @@
 // The walk over the gates of an area, by their length fields alone.
 ghost use Rattle.std.specs.Prelude.{◌≡◌, ◌<◌, ◌≤◌, ◌+◌, ◌++◌, List, ℕ, get_or, length, min, drop, IfOk, IfErr, IfSome, IfNone, OnOk};
 ghost use Rattle.disk_model.specs.Disk.{InModel, area_of, bytes_on};
-ghost use Rattle.journal.specs.Limits.{max_payload};
+ghost use Rattle.journal.specs.Limits.{longest_payload};
 ghost use Rattle.journal.specs.Area.{HasHeader, IsPayload, end_of, first_gate, header, record_of, selector_at};
 ghost use Rattle.journal.specs.Front.{HasFront};
 ghost use Rattle.journal.specs.Open.{IsPassing};
@@ -10,7 +10,7 @@ ghost use Rattle.journal.specs.inside.Walk.{IsLength, IsStep, LacksHeader};
 ghost use Rattle.journal.specs.inside.Window.{Shows};
 
 use crate::window::Window;
-use crate::{MAX_PAYLOAD, OpenCause};
+use crate::{LONGEST_PAYLOAD, OpenCause};
 use block_tree::Octets;
 use disk_model::Disk;
 
@@ -51,7 +51,7 @@ pub(crate) struct Stop {
 fn step_at(front: &[u8], left: u64) -> Step
     requires { min left 5 ≤ length front.now }
     ensures step { (rest : List ℕ) → left ≡ length rest → 0 < left → Begins front.now rest
-        → IsStep max_payload rest result }
+        → IsStep longest_payload rest result }
     ensures len { IsLength left result }
 {
     let [OPEN_GATE, ..] = front else {
@@ -61,7 +61,7 @@ fn step_at(front: &[u8], left: u64) -> Step
         return Step::Broken;
     };
     let len = u64::from(u32::from_be_bytes([*b0, *b1, *b2, *b3]));
-    if len == 0 || len > MAX_PAYLOAD || left <= 5 + len {
+    if len == 0 || len > LONGEST_PAYLOAD || left <= 5 + len {
         return Step::Broken;
     }
     Step::Record(len)
@@ -97,7 +97,7 @@ pub(crate) fn walk_gates<D: Disk>(window: &mut Window, disk: &mut D) -> Result<S
         (OnOk result (Shows window.new (area_of window.old.area (bytes_on (D.view disk.old))))) }
     ensures front { InModel (D.view disk.old)
         (IfOk result (λ stop. (payloads : List (List ℕ))
-        × HasFront max_payload (area_of window.old.area (bytes_on (D.view disk.old))) payloads
+        × HasFront longest_payload (area_of window.old.area (bytes_on (D.view disk.old))) payloads
         stop.damaged × (stop.gate ≡ end_of payloads))) }
     ensures inside { IfOk result (λ stop. (first_gate ≤ stop.gate) × (stop.gate < window.new.limit)) }
     ensures cause { IfErr result IsPassing }
@@ -154,8 +154,8 @@ pub(crate) fn selector_of<D: Disk>(window: &mut Window, disk: &mut D) -> Result<
 fn payload_len_at(front: &[u8], left: u64, most: u64) -> u64
     requires front { min left 5 ≤ length front.now }
     requires most { 1 ≤ most }
-    ensures len { (1 ≤ result) × (result ≤ most) × (result ≤ max_payload) }
-    ensures told { (payload rest : List ℕ) → IsPayload max_payload payload → length payload ≤ most
+    ensures len { (1 ≤ result) × (result ≤ most) × (result ≤ longest_payload) }
+    ensures told { (payload rest : List ℕ) → IsPayload longest_payload payload → length payload ≤ most
         → 0 < length rest → left ≡ length (record_of payload ++ rest)
         → Begins front.now (record_of payload ++ rest) → result ≡ length payload }
 {
@@ -182,10 +182,10 @@ pub(crate) fn payload_at<D: Disk>(
     ensures shows { InModel (D.view disk.old)
         (OnOk result (Shows window.new (area_of window.old.area (bytes_on (D.view disk.old))))) }
     ensures cause { IfErr result IsPassing }
-    ensures payload { IfOk result (λ bytes. IsPayload max_payload bytes.items) }
+    ensures payload { IfOk result (λ bytes. IsPayload longest_payload bytes.items) }
     ensures inside { IfOk result (λ bytes. gate + 5 + length bytes.items ≤ end) }
     ensures bytes { InModel (D.view disk.old)
-        ((payload rest : List ℕ) → IsPayload max_payload payload → 0 < length rest
+        ((payload rest : List ℕ) → IsPayload longest_payload payload → 0 < length rest
         → gate + 5 + length payload ≤ end
         → drop gate (area_of window.old.area (bytes_on (D.view disk.old))) ≡ record_of payload ++ rest
         → IfOk result (λ bytes. bytes.items ≡ payload)) }

@@ -1,6 +1,6 @@
 // Reads of an area through a window of at most 65,536 bytes.
 ghost use Rattle.std.specs.Prelude.{◌≡◌, ◌+◌, ◌-◌, ◌≤◌, List, ℕ, length, take, drop, IfErr, IfOk, OnOk, vec_len};
-ghost use Rattle.disk_model.specs.Disk.{InModel, area_of, bytes_on, max_room};
+ghost use Rattle.disk_model.specs.Disk.{InModel, area_of, bytes_on, greatest_room};
 ghost use Rattle.journal.specs.Open.{IsPassing};
 ghost use Rattle.journal.specs.inside.Reads.{Begins, Fails, Reads, longest_read};
 
@@ -20,7 +20,7 @@ pub(crate) struct Window {
     pub(crate) limit: u64,
     start: u64,
     bytes: Vec<u8>,
-    ghost small: { limit ≤ max_room },
+    ghost small: { limit ≤ greatest_room },
     ghost inside: { start + vec_len bytes ≤ limit },
 }
 
@@ -83,7 +83,7 @@ impl Window {
 
     /// A window on an area, which has this length. It shows nothing yet.
     pub(crate) fn new(alloc: Global, area: Area, limit: u64) -> Window
-        requires { limit ≤ max_room }
+        requires { limit ≤ greatest_room }
         ensures area { result.area ≡ area }
         ensures limit { result.limit ≡ limit }
         ensures shows { (area : List ℕ) → limit ≡ length area → Shows result area }

@@ -2,7 +2,7 @@
 use Rattle.std.proofs.Common.{◌≡◌, inr, ℕ, List, [], ◌∷◌, ◌++◌, Option, Some, None, refl, ap, sym, ◌∙◌, subst, length, arith}
 use Rattle.std.specs.Prelude.{IfSome, option_map, false}
 use Rattle.std.specs.Io.KnownBytes.{Appends}
-use Rattle.disk_model.specs.Disk.{DiskView, Rises, SameDisk, max_faults}
+use Rattle.disk_model.specs.Disk.{DiskView, Rises, SameDisk, greatest_count}
 use Rattle.session_engine.specs.declared.event.Event.{Event}
 use Rattle.session_engine.specs.declared.event.Event.TheVariants as event
 use Rattle.session_engine.specs.declared.outcome.HostFault.TheVariants as hosts
@@ -236,7 +236,7 @@ pub live_failed_since : {C : Type 0} (R : Relation C) (W : Watch C) (disk now : 
 live_failed_since R W disk now start c d h a b old f same p e =
     let q = subst (λ x. EndedBy R W (begin_at start c now) h d a b old x) e p in
     let goes = goes_same start now q.1 q.4.world q.4.disk (up-to-goes R W (begin_at start c now) q.0 q.1 q.2 q.3 q.4 q.5) in
-    min_since max_faults disk.faults q.4.disk.faults h.store.disk.faults (omega (arith, same.later, goes.later)) q.6.cause.0
+    min_since greatest_count disk.faults q.4.disk.faults h.store.disk.faults (omega (arith, same.later, goes.later)) q.6.cause.0
 
 -- it isn't told that the disk wasn't opened
 pub ended_open : {C : Type 0} (R : Relation C) (W : Watch C) (p : LivePlace C) (h : HostView) (d : C) (a b : Option (List ℕ)) (old : Option (List InputLine)) (f : RunFault) (why : Rattle.journal.specs.declared.opening.OpenCause.OpenCause) → EndedBy R W p h d a b old f → f ≡ fault.Open why → ⊥

@@ -2,7 +2,7 @@
 use Rattle.std.proofs.Common.{◌≡◌, ℕ, suc, ◌+◌, ◌<◌, ◌≤◌, Bool, false, List, [], ◌∷◌, ◌++◌, length, refl, sym, ap, ◌∙◌, subst, arith, length-append}
 use Rattle.std.proofs.lemmas.Bool.{or_parts, leb-false}
 use Rattle.std.specs.Prelude.{nat_le}
-use Rattle.block_tree.specs.Shape.{max_depth}
+use Rattle.block_tree.specs.Shape.{most_levels}
 use Rattle.meta_format.proofs.Openings.{none_open}
 use Rattle.block_tree.specs.inside.Marks.{Mark, open_mark, letter, close_mark}
 use Rattle.meta_format.specs.inside.Levels.{weight, IsHeld, stack_marks}
@@ -73,7 +73,7 @@ placed_held block s h = held_at block s.place s.at s.start s.levels.items s.name
 pub placed_fresh : (block : ℕ) (s : Scanner) → IsFresh s → IsPlaced block s
 placed_fresh block s h = record {
   place = subst (λ p. IsPlacedAt block p s.at s.start s.levels.items s.name.items) (sym h.outside) (h.levels, h.name);
-  levels = subst AreLevels (sym h.levels) record { right = λ k d less. absurd (omega arith); opened = none_open max_depth 0 [] refl refl };
+  levels = subst AreLevels (sym h.levels) record { right = λ k d less. absurd (omega arith); opened = none_open most_levels 0 [] refl refl };
 }
 
 pub held_fresh : (block : ℕ) (s : Scanner) → IsFresh s → held_bytes s ≤ block

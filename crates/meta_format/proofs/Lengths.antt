@@ -3,7 +3,8 @@ use Rattle.std.proofs.Common.{◌≡◌, ℕ, suc, max, ◌+◌, ◌*◌, ◌≤
 use Rattle.std.specs.List.{flat_map}
 use Rattle.std.proofs.lemmas.Grind.{flat_map-append}
 use Rattle.block_tree.specs.Tree.{Items, Tree, end, text, block}
-use Rattle.block_tree.specs.Output.{is_aside, join, output_items, no_output, output}
+use Rattle.block_tree.specs.Output.{is_aside, join, output_items, output}
+use Rattle.block_tree.specs.inside.Words.{no_output}
 use Rattle.meta_format.specs.Limits.{Limits}
 use Rattle.meta_format.specs.Spelling.{is_special, SpellsText, nothing, plain, escaped, both, SpellsItems, no_item, text_first, block_first, Spells, separator, with_body}
 use Rattle.meta_format.specs.Canonical.{escape, canonical_items, canonical}

@@ -2,7 +2,7 @@
 use Rattle.std.proofs.Common.{◌≡◌, ℕ, zero, suc, nat_eq, ◌+◌, ◌-◌, ◌<◌, ◌≤◌, All, false, List, [], ◌∷◌, ◌++◌, map, length, get_or, refl, sym, ap, ◌∙◌, arith, append_assoc, append-nil, add-zero, subst}
 use Rattle.std.proofs.lemmas.Bool.{false_from_ne_true, lt-leb, cond-false}
 use Rattle.block_tree.specs.inside.Marks.{Mark, letter}
-use Rattle.block_tree.specs.Shape.{max_depth}
+use Rattle.block_tree.specs.Shape.{most_levels}
 use Rattle.meta_format.specs.inside.Levels.{weight, stack_marks, IsHeld, AreOpen}
 use Rattle.meta_format.specs.inside.Rows.{Leads, IsOpen}
 use Rattle.meta_format.specs.inside.Scan.{mode_at, scan_state, IsPlacedAt, IsPlaced}
@@ -89,10 +89,10 @@ placed_text block old new t h there stays start at name marks count right free =
     let held2 : IsHeld block new.start new.at (stack_marks new.levels.items) 0 =
     subst (λ n. IsHeld block n new.at (stack_marks new.levels.items) 0) (sym start)
     (subst (λ n. IsHeld block old.start n (stack_marks new.levels.items) 0) (sym at) (held_letters block old.start old.at t _ _ marks free held)) in
-    let opened : AreOpen max_depth (stack_marks new.levels.items) (length old.levels.items) = open_letters max_depth (length old.levels.items) t _ _ marks some h.levels.opened in
+    let opened : AreOpen most_levels (stack_marks new.levels.items) (length old.levels.items) = open_letters most_levels (length old.levels.items) t _ _ marks some h.levels.opened in
     record {
       place = subst (λ q. IsPlacedAt block q new.at new.start new.levels.items new.name.items) (sym (stays ∙ there)) (omega arith, omega arith, name ∙ none, held2);
-      levels = record { right = right; opened = subst (AreOpen max_depth (stack_marks new.levels.items)) (sym count) opened };
+      levels = record { right = right; opened = subst (AreOpen most_levels (stack_marks new.levels.items)) (sym count) opened };
     }
 
 pub passed_noise : (s : List ℕ) (r : ℕ) → Nowhere (Passes (is_byte 2) s) 0 r → (k : ℕ) → k < r → nat_eq (get_or s k 0) 2 ≡ false

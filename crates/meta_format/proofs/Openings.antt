@@ -3,7 +3,7 @@ use Rattle.std.proofs.Common.{◌≡◌, ℕ, zero, suc, ◌+◌, ◌<◌, ◌�
 use Rattle.block_tree.specs.Tree.{Items, Tree, end, text, block}
 use Rattle.block_tree.specs.inside.Marks.{Mark, open_mark, letter, close_mark, marks_of, marks}
 use Rattle.block_tree.specs.inside.Nodes.{node_marks, node_depth, is_right_node}
-use Rattle.block_tree.specs.Shape.{is_block, levels, depth, max_tag, max_depth}
+use Rattle.block_tree.specs.Shape.{is_block, levels, depth, longest_tag, most_levels}
 use Rattle.block_tree.specs.View.{tree_of}
 use Rattle.block_tree.proofs.Trees.{block_from, tree_marks}
 use Rattle.block_tree.specs.declared.tree.Node.{Node}
@@ -70,14 +70,14 @@ depth_of : (n : Node) (k : ℕ) → depth (tree_of n) ≤ k → node_depth n ≤
 unfolding node_depth
 depth_of n k h = h
 
-pub block_made : (n : Node) (d : ℕ) (ms : List Mark) → node_marks n ≡ ms ++ close_mark ∷ [] → d ≡ 1 → AreOpen max_depth ms d → is_right_node n ≡ true → is_block (tree_of n) ≡ true
+pub block_made : (n : Node) (d : ℕ) (ms : List Mark) → node_marks n ≡ ms ++ close_mark ∷ [] → d ≡ 1 → AreOpen most_levels ms d → is_right_node n ≡ true → is_block (tree_of n) ≡ true
 block_made n d ms e g o p =
-    let one = subst (λ k. AreOpen max_depth ms k) g o in
-    let whole = subst (λ xs. Begins max_depth xs 0) (sym (tree_marks n ∙ e)) (Begins-append max_depth 1 0 ms (close_mark ∷ []) (Begins-from_IsOpen max_depth 0 ms one.open_marks) refl) in
-    block_from n p (depth_of n max_depth (depth_from_begins max_depth (tree_of n) whole))
+    let one = subst (λ k. AreOpen most_levels ms k) g o in
+    let whole = subst (λ xs. Begins most_levels xs 0) (sym (tree_marks n ∙ e)) (Begins-append most_levels 1 0 ms (close_mark ∷ []) (Begins-from_IsOpen most_levels 0 ms one.open_marks) refl) in
+    block_from n p (depth_of n most_levels (depth_from_begins most_levels (tree_of n) whole))
 
 pub tree_made : (n : Node) (ms : List Mark) → is_block (tree_of n) ≡ true → node_marks n ≡ ms → tree_from ms ≡ tree_of n
-tree_made n ms h e = ap tree_from (sym (tree_marks n ∙ e)) ∙ tree_from_marks max_tag max_depth (tree_of n) h
+tree_made n ms h e = ap tree_from (sym (tree_marks n ∙ e)) ∙ tree_from_marks longest_tag most_levels (tree_of n) h
 
 pub none_open : (most d : ℕ) (ms : List Mark) → ms ≡ [] → d ≡ 0 → AreOpen most ms d
 none_open most d ms e g = record { open_marks = subst (λ xs. IsOpen most xs d) (sym e) g; few = omega arith }

@@ -30,6 +30,7 @@ EndsIn most tail (in_tag name) = (n : ℕ) × (outer : List ℕ) × OpenLevels m
 EndsIn most tail (in_body n) = (0 < n) × OpenLevels most n tail
 EndsIn most tail (in_escape n) = (front : List ℕ) × (0 < n) × OpenLevels most n front × (tail ≡ front ++ 27 ∷ [])
 
+-- the kinds of faults
 pub data Kind : Type 0 where
   bad_tag : Kind
   too_deep : Kind

@@ -1,7 +1,7 @@
 -- How much a stream of blocks may hold. (docs/PROTOCOL.md, limits.)
 use Rattle.std.specs.Prelude.{ℕ, ◌^◌, ◌<◌}
-use Rattle.block_tree.specs.Shape.{max_tag, max_depth}
 
+-- how much a stream may hold
 pub record Limits : Type 0 where
   -- the most bytes in the name of a tag
   pub tag : ℕ
@@ -12,8 +12,9 @@ pub record Limits : Type 0 where
   -- the most bytes of a stream
   pub stream : ℕ
 
+-- the limits of all streams: tags and depths are those that blocks may have
 abbrev pub limits : Limits
-limits = record { tag = max_tag; levels = max_depth; block = 16777216; stream = 2 ^ 62 }
+limits = record { tag = 64; levels = 32; block = 16777216; stream = 2 ^ 62 }
 
 -- There is room for one level, and for more than one byte.
 pub record IsRoomy (most : Limits) : Type 0 where

@@ -6,15 +6,16 @@ use Rattle.block_tree.specs.Tree.{Items, Tree, end, text, block}
 use Rattle.block_tree.specs.Shape.{is_block_within}
 use Rattle.meta_format.specs.Limits.{Limits}
 
--- DATA_BEGIN, DATA_END and DATA_ESCAPE
+-- the bytes 2, 5 and 27: DATA_BEGIN, DATA_END and DATA_ESCAPE
 abbrev pub is_special : ℕ → Bool
 is_special c = nat_eq c 2 || nat_eq c 5 || nat_eq c 27
 
--- A colon stands behind a format, and # behind a channel.
+-- the byte behind a tag's name: a colon for a format, and # for a channel
 abbrev pub separator : Bool → ℕ
 separator false = 58
 separator true = 35
 
+-- a byte that is a colon or #
 abbrev pub is_separator : ℕ → Bool
 is_separator c = nat_eq c 58 || nat_eq c 35
 

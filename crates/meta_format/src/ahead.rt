@@ -11,7 +11,7 @@ ghost use Rattle.meta_format.specs.inside.Finding.{IsLimit, Finds};
 use crate::bounds::BOUNDS;
 use crate::outer::{Met, block_up_to, is_bad};
 use crate::runs::before_two;
-use block_tree::MAX_DEPTH;
+use block_tree::MOST_LEVELS;
 
 /// What comes next in a stream from an offset on at which no block is open. All offsets are in bytes from 0.
 #[derive(Clone, Copy, Debug)]
@@ -71,7 +71,7 @@ fn end_in_body(stream: &[u8], start: usize, depth: u32, limit: usize) -> Seen
         return Seen::Open { start };
     }
     let c = stream[limit];
-    if c == 2 && depth >= MAX_DEPTH - 1 {
+    if c == 2 && depth >= MOST_LEVELS - 1 {
         return Seen::TooDeep { offset: limit };
     }
     if c == 5 && depth == 0 {

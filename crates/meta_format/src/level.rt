@@ -3,7 +3,7 @@
 ghost use Rattle.std.specs.Prelude.{◌≡◌, ◌≤◌, ◌<◌, ◌+◌, ℕ, List, [], ◌∷◌, ◌++◌, map, length, vec_len, OnOk, IfOk, IfSome, IfNone, take, slice_get, ◌-◌, true, All};
 ghost use Rattle.block_tree.specs.inside.Marks.{Mark, letter, open_mark, close_mark};
 ghost use Rattle.block_tree.specs.inside.Nodes.{node_marks as marks, item_marks, is_right_node};
-ghost use Rattle.block_tree.specs.Shape.{is_tag_name, max_tag};
+ghost use Rattle.block_tree.specs.Shape.{is_tag_name, longest_tag};
 ghost use Rattle.meta_format.specs.inside.Levels.{level_marks, stack_marks, IsRight, IsLevel};
 
 use block_tree::{Item, Node, Octets, OutOfMemory, Tag};
@@ -118,7 +118,7 @@ pub fn add_block(alloc: Global, levels: &mut Vec<Level>, node: Node) -> Result<(
 
 /// A level is begun.
 pub fn add_level(alloc: Global, levels: &mut Vec<Level>, tag: Tag) -> Result<(), OutOfMemory>
-    requires tag { is_tag_name max_tag tag.name ≡ true }
+    requires tag { is_tag_name longest_tag tag.name ≡ true }
     requires right { All IsLevel levels.old.items }
     ensures right { OnOk result (All IsLevel levels.new.items) }
     ensures marks { OnOk result (stack_marks levels.new.items

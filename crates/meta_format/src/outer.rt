@@ -1,7 +1,7 @@
 //! The next outer block of a stream that is held whole, by its offsets alone.
 
 ghost use Rattle.std.specs.Prelude.{◌≡◌, ◌<◌, ◌≤◌, ◌+◌, ℕ, List, length, false, slice_index};
-ghost use Rattle.block_tree.specs.Shape.{max_tag};
+ghost use Rattle.block_tree.specs.Shape.{longest_tag};
 ghost use Rattle.meta_format.specs.Spelling.{is_special};
 ghost use Rattle.meta_format.specs.inside.Machine.{is_bad_tag};
 ghost use Rattle.meta_format.specs.inside.Named.{Names, Meets};
@@ -9,7 +9,7 @@ ghost use Rattle.meta_format.specs.Limits.{limits};
 
 use crate::runs::text_run;
 use crate::scan::is_separator;
-use block_tree::{MAX_DEPTH, MAX_TAG};
+use block_tree::{LONGEST_TAG, MOST_LEVELS};
 
 /// What comes of the bytes behind a 2.
 #[derive(Clone, Copy, Debug)]
@@ -25,9 +25,9 @@ pub enum Named {
 /// Whether the byte is wrong behind so many bytes of a tag's name.
 #[inline(always)]
 pub fn is_bad(size: usize, c: u8) -> bool
-    ensures { (name : List ℕ) → length name ≡ size → result ≡ is_bad_tag max_tag name c }
+    ensures { (name : List ℕ) → length name ≡ size → result ≡ is_bad_tag longest_tag name c }
 {
-    c < 32 || (is_separator(c) && size == 0) || (!is_separator(c) && size == MAX_TAG)
+    c < 32 || (is_separator(c) && size == 0) || (!is_separator(c) && size == LONGEST_TAG)
 }
 
 /// What stands in the stream from there on, up to the limit: the name of a tag, or a part of one.
@@ -35,7 +35,7 @@ pub fn is_bad(size: usize, c: u8) -> bool
 pub fn name_end(stream: &[u8], at: usize, limit: usize) -> Named
     requires low { at ≤ limit }
     requires high { limit ≤ length stream.now }
-    ensures { Names max_tag stream.now at limit result }
+    ensures { Names longest_tag stream.now at limit result }
 {
     let mut i = at;
     while i < limit {
@@ -99,7 +99,7 @@ pub fn block_up_to(stream: &[u8], start: usize, limit: usize) -> Met
     while at < limit {
         let c = stream[at];
         if c == 2 {
-            if depth >= MAX_DEPTH - 1 {
+            if depth >= MOST_LEVELS - 1 {
                 return Met::TooDeep(at);
             }
             match name_end(stream, at + 1, limit) {

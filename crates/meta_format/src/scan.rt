@@ -2,7 +2,7 @@
 
 ghost use Rattle.std.specs.Prelude.{◌≡◌, ◌≤◌, ◌<◌, ◌+◌, ◌-◌, ◌^◌, ℕ, List, [], ◌∷◌, ◌++◌, map, length, vec_len, OnOk, IfErr, true, false, slice_index, nat_eq};
 ghost use Rattle.std.specs.List.{list_all};
-ghost use Rattle.block_tree.specs.Shape.{is_tag_byte, max_tag, max_depth};
+ghost use Rattle.block_tree.specs.Shape.{is_tag_byte, longest_tag, most_levels};
 ghost use Rattle.meta_format.specs.inside.Scan.{most_of, mode_of, scan_state, IsFresh, IsPlaced, AreLevels, Steps, StepsAt};
 ghost use Rattle.meta_format.specs.Stream.{Outer};
 ghost use Rattle.meta_format.specs.inside.Levels.{IsHeld, stack_marks};
@@ -13,7 +13,7 @@ ghost use Rattle.meta_format.specs.declared.scan.Stop.TheVariants as stop;
 
 use crate::bounds::Bounds;
 use crate::level::{Level, add_letter, add_letters, add_level, end_level};
-use block_tree::{Block, MAX_DEPTH, MAX_TAG, OutOfMemory, Tag, TagName};
+use block_tree::{Block, LONGEST_TAG, MOST_LEVELS, OutOfMemory, Tag, TagName};
 use std::alloc::{AllocFailed, Global};
 
 /// Where the last byte has led.
@@ -100,9 +100,11 @@ fn is_too_long(bounds: Bounds, start: u64, at: u64) -> bool
 }
 
 fn is_wrong_in_tag(name: &[u8], c: u8) -> bool
-    ensures { result ≡ is_bad_tag max_tag name.now c }
+    ensures { result ≡ is_bad_tag longest_tag name.now c }
 {
-    c < 32 || (is_separator(c) && name.is_empty()) || (!is_separator(c) && name.len() == MAX_TAG)
+    c < 32
+        || (is_separator(c) && name.is_empty())
+        || (!is_separator(c) && name.len() == LONGEST_TAG)
 }
 
 impl Scanner {
@@ -146,8 +148,8 @@ impl Scanner {
     fn step_in_tag(&mut self, alloc: Global, bounds: Bounds, c: u8) -> Result<Option<Found>, Stop>
         requires begun { self.old.start ≤ self.old.at }
         requires bytes { list_all is_tag_byte self.old.name.items ≡ true }
-        requires few { length self.old.name.items ≤ max_tag }
-        requires shallow { length self.old.levels.items < max_depth }
+        requires few { length self.old.name.items ≤ longest_tag }
+        requires shallow { length self.old.levels.items < most_levels }
         requires levels { AreLevels self.old.levels.items }
         requires block { 0 < bounds.block }
         requires held { IsHeld bounds.block self.old.start self.old.at
@@ -191,7 +193,7 @@ impl Scanner {
         ensures steps { StepsAt place.Body (most_of bounds) self.old 2 result self.new }
         ensures placed { OnOk result (IsPlaced bounds.block self.new) }
     {
-        if self.levels.len() >= MAX_DEPTH as usize {
+        if self.levels.len() >= MOST_LEVELS as usize {
             return Err(Stop::TooDeep);
         }
         let at = self.at;

@@ -2,7 +2,8 @@
 use Rattle.std.proofs.Common.{◌≡◌, ℕ, List, [], ◌∷◌, ◌++◌, refl, Some, None, true, false}
 use Rattle.std.specs.Prelude.{codes, replicate}
 use Rattle.block_tree.specs.Tree.{Items, Tree, end, text, block}
-use Rattle.block_tree.specs.Output.{output, no_output}
+use Rattle.block_tree.specs.Output.{output}
+use Rattle.block_tree.specs.inside.Words.{no_output}
 use Rattle.meta_format.specs.Stream.{Outer}
 use Rattle.plugin_core.specs.declared.item.Item.{Item}
 use Rattle.plugin_core.specs.declared.item.Item.TheVariants as item
@@ -12,7 +13,7 @@ use Rattle.meta_format.specs.Faults.{bad_tag}
 use Rattle.plugin_core.specs.Past.{Event, accepted, received}
 use Rattle.plugin_core.specs.Answers.{answers_of}
 use Rattle.plugin_core.specs.Steps.{step_of, sent_by}
-use Rattle.plugin_core.specs.Blocks.{prompt_in, default_in}
+use Rattle.plugin_core.specs.inside.Words.{prompt_in, default_in}
 
 abbrev x : Item
 x = item.Line 1 (codes "x")

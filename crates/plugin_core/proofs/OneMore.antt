@@ -6,7 +6,8 @@ use Rattle.meta_format.specs.Stream.{Outer}
 use Rattle.plugin_core.specs.declared.item.Item.{Item}
 use Rattle.plugin_core.specs.Past.{Event, accepted, received, stream_of, items_of, places_from, ends_from}
 use Rattle.plugin_core.specs.Answers.{first_from, end_behind, if_found, answers_from, ask_from, asked_places, answers_of, ask_of}
-use Rattle.plugin_core.specs.Items.{unanswered, waiting_of, bytes_of, next_behind}
+use Rattle.plugin_core.specs.Items.{unanswered, waiting_of, bytes_of}
+use Rattle.plugin_core.specs.inside.Words.{next_behind}
 use Rattle.plugin_core.specs.Steps.{sent_by, closed_by}
 use Rattle.plugin_core.specs.Kept.{has_banner}
 use Rattle.plugin_core.specs.inside.Changes.{ask_now, ask_then, sent_for, closed_among}

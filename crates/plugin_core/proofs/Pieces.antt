@@ -19,9 +19,10 @@ use Rattle.plugin_core.specs.declared.step.Step.{Step}
 use Rattle.plugin_core.specs.declared.piece.Closing.{Closing}
 use Rattle.plugin_core.specs.Past.{Event, accepted, received, stream_of, items_of}
 use Rattle.plugin_core.specs.Answers.{answers_of, ask_of}
-use Rattle.plugin_core.specs.Blocks.{prompt_in, default_in, prompt_behind, first_prompt}
+use Rattle.plugin_core.specs.Blocks.{prompt_behind}
+use Rattle.plugin_core.specs.inside.Words.{prompt_in, default_in, first_prompt, answered_with}
 use Rattle.plugin_core.specs.Items.{unanswered, waiting_of, prompt_of, bytes_of, answer_to, answer_behind}
-use Rattle.plugin_core.specs.Steps.{reason_of, closed_by, sent_by, answered_with, step_of}
+use Rattle.plugin_core.specs.Steps.{reason_of, closed_by, sent_by, step_of}
 use Rattle.plugin_core.specs.Kept.{InterpreterView, LifeHasPast, Accepts, Takes, has_banner}
 use Rattle.plugin_core.specs.inside.Changes.{answer_first, waiting_then, ask_then, Joins, closed_among, closing_by, waiting_after, Passes, Breaks, EndsAt}
 use Rattle.plugin_core.proofs.Pasts.{stream_of-received, stream_of-accepted, items_of-received}

@@ -7,9 +7,9 @@ use Rattle.meta_format.specs.Faults.{Kind}
 use Rattle.plugin_core.specs.declared.item.Item.{Item}
 use Rattle.plugin_core.specs.Past.{Event, received, items_of}
 use Rattle.plugin_core.specs.Answers.{first_from, answers_of, ask_of}
-use Rattle.plugin_core.specs.Blocks.{default_in}
+use Rattle.plugin_core.specs.inside.Words.{default_in, answered_with}
 use Rattle.plugin_core.specs.Items.{bytes_of, prompt_of, answer_to, answer_behind}
-use Rattle.plugin_core.specs.Steps.{closed_by, sent_by, unless_ended, answered_with, step_of}
+use Rattle.plugin_core.specs.Steps.{closed_by, sent_by, unless_ended, step_of}
 use Rattle.plugin_core.specs.inside.Changes.{closed_among}
 use Rattle.plugin_core.proofs.OneMore.{Adds, answered_some, closed_by-received, sent_by-received, next_item}
 use Rattle.block_tree.specs.Output.{output}

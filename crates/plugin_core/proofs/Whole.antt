@@ -21,7 +21,8 @@ use Rattle.plugin_core.specs.Past.{Event, received, stream_of, items_of}
 use Rattle.plugin_core.specs.Answers.{first_from, answers_of, ask_of}
 use Rattle.plugin_core.specs.AskPoints.{length_after, IsAnswer, ClosesIn}
 use Rattle.plugin_core.specs.Items.{prompt_of, answer_to, answer_behind}
-use Rattle.plugin_core.specs.Steps.{Reads, closed_by, answered_with}
+use Rattle.plugin_core.specs.Steps.{Reads, closed_by}
+use Rattle.plugin_core.specs.inside.Words.{answered_with}
 use Rattle.plugin_core.specs.Kept.{InterpreterView, Takes}
 use Rattle.plugin_core.specs.inside.Changes.{closed_among}
 use Rattle.plugin_core.specs.Whole.{IsWholeIn, IsItsAnswer, IsItsCompletion, TellsTheAnswer, TellsTheCompletion}

@@ -1,5 +1,5 @@
 -- The items of a life: which wait, which are asked, and what is sent for them. (docs/PROTOCOL.md, one life.)
-use Rattle.std.specs.Prelude.{ℕ, nat_eq, Bool, false, List, [], ◌∷◌, ◌++◌, length, take, drop, Option, Some, None, option_map, slice_get}
+use Rattle.std.specs.Prelude.{ℕ, nat_eq, Bool, false, List, [], ◌∷◌, ◌++◌, length, take, drop, Option, Some, None, option_map, slice_get, codes}
 use Rattle.std.specs.Str.{IsCharBoundary}
 use Rattle.block_tree.specs.Tree.{Tree}
 use Rattle.block_tree.specs.Output.{output}
@@ -12,7 +12,7 @@ use Rattle.plugin_core.specs.declared.step.Answered.{Answered}
 use Rattle.plugin_core.specs.declared.step.Answered.TheVariants as answered
 use Rattle.plugin_core.specs.Past.{Event, items_of}
 use Rattle.plugin_core.specs.Answers.{answers_of}
-use Rattle.plugin_core.specs.Blocks.{first_prompt, prompt_behind}
+use Rattle.plugin_core.specs.Blocks.{prompt_behind}
 
 -- the items after those that have one of these answers: the first answer is the banner, and the others answer an item each
 abbrev pub unanswered : List Outer → List Item → List Item
@@ -27,18 +27,14 @@ waiting_of past blocks = unanswered (answers_of past blocks) (items_of past)
 abbrev pub asked_of : List Event → List Outer → List Item
 asked_of past blocks = take (length (answers_of past blocks)) (items_of past)
 
--- the element of the second list that stands after as many as the first one has
-abbrev pub next_behind : {T : Type 0} → List T → List T → Option T
-next_behind before after = slice_get after (length before)
-
 -- what is sent for an item: the text of a line and a line feed, or the request of completions
 abbrev pub bytes_of : Item → List ℕ
 bytes_of (item.Line id text) = text ++ 10 ∷ []
 bytes_of (item.Complete id text cursor) = request text cursor
 
--- the prompt of an item that has these answers before it
+-- the prompt of an item that has these answers before it: "> " where none of them has one
 abbrev pub prompt_of : List Event → List Outer → List ℕ
-prompt_of past blocks = prompt_behind first_prompt (answers_of past blocks)
+prompt_of past blocks = prompt_behind (codes "> ") (answers_of past blocks)
 
 -- what is told of an answer with this output to an item; of a request of completions what the output tells
 abbrev pub answer_to : Item → List ℕ → Tree → Answered
@@ -50,15 +46,15 @@ abbrev pub answer_behind : List Outer → List Item → List ℕ → Tree → Op
 answer_behind [] items prompt b = Some (answered.Banner (output b))
 answer_behind (banner ∷ answers) items prompt b = option_map (λ i. answer_to i prompt (output b)) (slice_get items (length answers))
 
+-- the item is a line of this field
 abbrev pub is_line_of : ℕ → Item → Bool
 is_line_of id (item.Line other text) = nat_eq other id
-is_line_of id (item.Complete other text cursor) = false
+is_line_of id _ = false
 
 -- the field of the first of these items, where that is a line
 abbrev pub first_line_of : List Item → Option ℕ
-first_line_of [] = None
 first_line_of (item.Line id text ∷ items) = Some id
-first_line_of (item.Complete id text cursor ∷ items) = None
+first_line_of _ = None
 
 -- An item that may be accepted: the cursor of a request of completions stands in front of a character of its text, or at the end.
 abbrev pub IsAskable : Item → Type 0

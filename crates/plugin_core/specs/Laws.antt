@@ -3,7 +3,7 @@ use Rattle.std.specs.Prelude.{◌≡◌, ◌≤◌, ℕ, List, length, Option}
 use Rattle.meta_format.specs.Stream.{Outer}
 use Rattle.meta_format.specs.Faults.{Kind}
 use Rattle.plugin_core.specs.declared.step.Step.{Step}
-use Rattle.plugin_core.specs.Limits.{prompt_limit}
+use Rattle.plugin_core.specs.Limits.{longest_prompt}
 use Rattle.plugin_core.specs.Past.{Event}
 use Rattle.plugin_core.specs.Items.{prompt_of}
 use Rattle.plugin_core.specs.Steps.{Reads}
@@ -21,4 +21,4 @@ OneStep = (past : List Event) (before : List Outer) (piece : List ℕ) (step oth
 
 -- No prompt is longer than a prompt may be.
 abbrev pub ShortPrompts : Type 0
-ShortPrompts = (past : List Event) (blocks : List Outer) → length (prompt_of past blocks) ≤ prompt_limit
+ShortPrompts = (past : List Event) (blocks : List Outer) → length (prompt_of past blocks) ≤ longest_prompt

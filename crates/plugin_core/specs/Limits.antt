@@ -2,8 +2,8 @@
 use Rattle.std.specs.Prelude.{ℕ}
 
 -- the most bytes of a prompt: a longer one is cut there
-abbrev pub prompt_limit : ℕ
-prompt_limit = 1024
+abbrev pub longest_prompt : ℕ
+longest_prompt = 1024
 
 -- the most items of a life that wait for their answers
 abbrev pub most_waiting : ℕ

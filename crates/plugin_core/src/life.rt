@@ -4,7 +4,7 @@ ghost use Rattle.std.specs.List.{list_any};
 ghost use Rattle.meta_format.specs.Stream.{Outer};
 ghost use Rattle.plugin_core.specs.Past.{Event, accepted, received};
 ghost use Rattle.plugin_core.specs.Items.{waiting_of, prompt_of, first_line_of, is_line_of, IsAskable};
-ghost use Rattle.plugin_core.specs.Limits.{prompt_limit, most_waiting};
+ghost use Rattle.plugin_core.specs.Limits.{longest_prompt, most_waiting};
 
 use crate::item::bytes_for;
 use crate::limits::MOST_WAITING;
@@ -39,13 +39,13 @@ impl Model for Life {
     ghost use Rattle.std.specs.List.{AllByRecursion};
     ghost use Rattle.plugin_core.specs.Items.{IsAskable};
     ghost use Rattle.plugin_core.specs.Kept.{InterpreterView, IsFed};
-    ghost use Rattle.plugin_core.specs.Limits.{prompt_limit, most_waiting};
+    ghost use Rattle.plugin_core.specs.Limits.{longest_prompt, most_waiting};
 
     ghost Value = { InterpreterView };
 
     ghost view = { λ life. record { number = life.number; over = life.over; reader = life.reader; ask = life.ask; greeted = life.greeted; waiting = life.waiting.items; prompt = life.prompt } };
 
-    ghost invariant = { λ life. (length life.waiting.items ≤ most_waiting) × (life.over ≡ false → IsFed life.reader) × (length life.prompt ≤ prompt_limit) × AllByRecursion IsAskable life.waiting.items };
+    ghost invariant = { λ life. (length life.waiting.items ≤ most_waiting) × (life.over ≡ false → IsFed life.reader) × (length life.prompt ≤ longest_prompt) × AllByRecursion IsAskable life.waiting.items };
 }
 
 /// Why an item was not accepted. It is given back.
@@ -196,7 +196,7 @@ impl Life {
     pub fn prompt(&self) -> &[u8]
         ensures prompt { (past : List Event) (blocks : List Outer)
             → LifeHasPast self.now past blocks → result.now ≡ prompt_of past blocks }
-        ensures short { length result.now ≤ prompt_limit }
+        ensures short { length result.now ≤ longest_prompt }
     {
         self.prompt.as_slice()
     }

@@ -5,8 +5,8 @@ ghost use Rattle.meta_format.specs.Stream.{Outer};
 ghost use Rattle.meta_format.specs.Found.{outer_of, outers};
 ghost use Rattle.plugin_core.specs.Past.{Event};
 ghost use Rattle.plugin_core.specs.Answers.{first_from};
-ghost use Rattle.plugin_core.specs.Limits.{prompt_limit};
-ghost use Rattle.plugin_core.specs.Blocks.{prompt_in};
+ghost use Rattle.plugin_core.specs.Limits.{longest_prompt};
+ghost use Rattle.plugin_core.specs.inside.Words.{prompt_in};
 ghost use Rattle.plugin_core.specs.Items.{bytes_of, answer_to};
 
 use crate::item::bytes_for;
@@ -150,7 +150,7 @@ impl Life {
     fn prompt_behind(&self, block: &Block) -> Result<Octets, OutOfMemory>
         ensures value { IfOk result (λ prompt. prompt
             ≡ unwrap_or (prompt_in block.now) self.now.prompt) }
-        ensures short { IfOk result (λ prompt. length prompt ≤ prompt_limit) }
+        ensures short { IfOk result (λ prompt. length prompt ≤ longest_prompt) }
     {
         match prompt_of_block(self.alloc, block)? {
             Some(prompt) => Ok(prompt),

@@ -3,7 +3,7 @@ use Rattle.std.specs.Prelude.{◌≡◌, ◌<◌, ◌≤◌, ℕ, Bool, true, fa
 use Rattle.std.specs.Io.KnownBytes.{Appends}
 use Rattle.meta_format.specs.Limits.{limits}
 use Rattle.sheet_programs.specs.Faults.{fault_text}
-use Rattle.sheet_programs.specs.Input.{IsStreamFault, max_input}
+use Rattle.sheet_programs.specs.Input.{IsStreamFault, longest_standard_input}
 use Rattle.program_endings.specs.Printed.{Printed}
 use Rattle.sheet_programs.specs.declared.fault.RunFault.{RunFault}
 use Rattle.sheet_programs.specs.declared.fault.RunFault.TheVariants as fault
@@ -27,9 +27,9 @@ TellsFault contents old new told (Err fault) = told ≡ true → Appends (conten
 -- where it is known; `contents` are the bytes that the writer holds.
 pub record BlocksAnswer {W : Type 0} (stream : Option (List ℕ)) (contents : W → Option (List ℕ)) (old new : W) (answer : ProgramAnswer) : Type 0 where
   pub printed : IfOk answer (λ whole. IfSome stream (λ bytes. (text : List ℕ) × Printed limits bytes text whole × Appends (contents old) (contents new) text))
-  pub short : IfOk answer (λ whole. IfSome stream (λ bytes. length bytes ≤ max_input))
-  pub output_short : IsErrOf answer fault.Output → IfSome stream (λ bytes. length bytes ≤ max_input)
-  pub too_long : IsErrOf answer fault.InputTooLong → IfSome stream (λ bytes. max_input < length bytes)
+  pub short : IfOk answer (λ whole. IfSome stream (λ bytes. length bytes ≤ longest_standard_input))
+  pub output_short : IsErrOf answer fault.Output → IfSome stream (λ bytes. length bytes ≤ longest_standard_input)
+  pub too_long : IsErrOf answer fault.InputTooLong → IfSome stream (λ bytes. longest_standard_input < length bytes)
   pub faults : IfErr answer IsStreamFault
   pub nothing_at_input : IsErrOf answer fault.Input → new ≡ old
   pub nothing_at_too_long : IsErrOf answer fault.InputTooLong → new ≡ old

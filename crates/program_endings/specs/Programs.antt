@@ -16,7 +16,7 @@ use Rattle.child_edge.specs.Faithful.{Relation}
 use Rattle.program_endings.specs.Ending.{ProgramAnswer}
 use Rattle.sheet_programs.specs.Faults.{FailedSince, TellsShow}
 use Rattle.program_endings.specs.Faults.{create_fault_text, no_files}
-use Rattle.sheet_programs.specs.Input.{max_input}
+use Rattle.sheet_programs.specs.Input.{longest_standard_input}
 use Rattle.live.specs.Arrivals.{Watch}
 use Rattle.live.specs.Live.{LiveDone, TellsLive}
 use Rattle.sheet_programs.specs.Run.{RunDone, TellsRun}
@@ -79,7 +79,7 @@ pub record RunAnswer {D C : Type 0} (view : D → DiskView) (R : Relation C)
   -- the disk that it gives back is the same one, after the run
   pub ran : IfOk answer (λ whole. (whole ≡ true) × ((back : D) × SameDisk (view disk) (view back)
       × IfSome stream (λ script. RunDone R script (view disk) c d a b (view back))))
-  pub short : IfOk answer (λ whole. IfSome stream (λ script. length script ≤ max_input))
+  pub short : IfOk answer (λ whole. IfSome stream (λ script. length script ≤ longest_standard_input))
   -- that the disk failed, at the opening or later, is told only where it did
   pub unopened : IsErrOf answer (fault.Open opens.Disk) → FailedSince view disk
   pub failed : IsErrOf answer (fault.Host hosts.Disk) → FailedSince view disk

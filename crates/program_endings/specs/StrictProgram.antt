@@ -7,7 +7,7 @@ use Rattle.journal.specs.declared.opening.OpenCause.TheVariants as opens
 use Rattle.session_engine.specs.declared.outcome.HostFault.TheVariants as hosts
 use Rattle.child_edge.specs.Faithful.{Relation}
 use Rattle.sheet_programs.specs.Faults.{FailedSince, fault_text}
-use Rattle.sheet_programs.specs.Input.{max_input}
+use Rattle.sheet_programs.specs.Input.{longest_standard_input}
 use Rattle.sheet_programs.specs.Strict.{StrictDone, TellsStrict}
 use Rattle.sheet_programs.specs.declared.fault.RunFault.{RunFault}
 use Rattle.sheet_programs.specs.declared.fault.RunFault.TheVariants as fault
@@ -45,7 +45,7 @@ pub record StrictEnded {D C E : Type 0} (view : D → DiskView) (R : Relation C)
   -- the disk that it gives back is the same one, after the run
   pub ran : IfOk answer (λ stopped. (back : D) × SameDisk (view disk) (view back)
       × IfSome stream (λ script. StrictDone R script (view disk) c d a b (view back) stopped))
-  pub short : IfOk answer (λ stopped. IfSome stream (λ script. length script ≤ max_input))
+  pub short : IfOk answer (λ stopped. IfSome stream (λ script. length script ≤ longest_standard_input))
   -- that the disk failed, at the opening or later, is told only where it did
   pub unopened : IsErrOf answer (fault.Open opens.Disk) → FailedSince view disk
   pub failed : IsErrOf answer (fault.Host hosts.Disk) → FailedSince view disk

@@ -5,7 +5,7 @@ ghost use Rattle.block_tree.specs.Tree.{Tree};
 ghost use Rattle.meta_format.specs.Limits.{limits};
 ghost use Rattle.meta_format.specs.Spelling.{Spells};
 ghost use Rattle.program_endings.specs.Printed.{Printed, named_fault_line, outer_line, unfinished_line};
-ghost use Rattle.sheet_programs.specs.Input.{IsStreamFault, max_input};
+ghost use Rattle.sheet_programs.specs.Input.{IsStreamFault, longest_standard_input};
 
 use meta_format::{Seen, next_outer};
 use sheet_programs::{RunFault, read_input};
@@ -55,7 +55,7 @@ fn write_unfinished<W: Write>(start: usize, out: &mut W) -> Result<(), RunFault>
 
 /// Writes the text of a stream, and tells whether the stream is whole.
 fn write_stream<W: Write>(stream: &[u8], out: &mut W) -> Result<bool, RunFault>
-    requires { length stream.now ≤ max_input }
+    requires { length stream.now ≤ longest_standard_input }
     ensures printed { IfOk result (λ whole. (text : List ℕ) × Printed limits stream.now text whole
         × Appends (W.contents out.old) (W.contents out.new) text) }
     ensures err { IfErr result (λ fault. fault ≡ RunFault.Output) }
@@ -93,7 +93,7 @@ fn write_stream<W: Write>(stream: &[u8], out: &mut W) -> Result<bool, RunFault>
 /// is open at its end. Tells whether there is neither. (docs/PROTOCOL.md has the lines.)
 ///
 /// The input is read whole before anything is written, and no memory is taken behind that. `Input` where
-/// the reader fails, an interruption included, `InputTooLong` where it gives more than `MAX_INPUT` bytes,
+/// the reader fails, an interruption included, `InputTooLong` where it gives more than `LONGEST_STANDARD_INPUT` bytes,
 /// and `OutOfMemory`: nothing was written then. `Output` where the writer fails: a part of the text may
 /// have gone out.
 pub fn blocks<R: Read, W: Write>(
@@ -108,11 +108,11 @@ pub fn blocks<R: Read, W: Write>(
 
     // An input that is too long is told as such, whatever else would go wrong with its text.
     ensures short { IfOk result
-        (λ whole. IfSome (R.remaining reader.old) (λ stream. length stream ≤ max_input)) }
+        (λ whole. IfSome (R.remaining reader.old) (λ stream. length stream ≤ longest_standard_input)) }
     ensures output_short { IsErrOf result RunFault.Output
-        → IfSome (R.remaining reader.old) (λ stream. length stream ≤ max_input) }
+        → IfSome (R.remaining reader.old) (λ stream. length stream ≤ longest_standard_input) }
     ensures too_long { IsErrOf result RunFault.InputTooLong
-        → IfSome (R.remaining reader.old) (λ stream. max_input < length stream) }
+        → IfSome (R.remaining reader.old) (λ stream. longest_standard_input < length stream) }
 
     // A stream gives no fault of a host or of a disk.
     ensures faults { IfErr result IsStreamFault }

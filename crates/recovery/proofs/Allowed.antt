@@ -7,18 +7,19 @@ use Rattle.std.proofs.lemmas.Bool.{and_parts}
 use Rattle.std.proofs.lemmas.Bool.Decides.{nat_tests}
 use Rattle.worksheet.specs.declared.op.Op.{Op}
 use Rattle.worksheet.specs.declared.op.Op.TheVariants as op
-use Rattle.worksheet.specs.Limits.{longest_input, longest_word, longest_prompt, most_words}
+use Rattle.worksheet.specs.Limits.{longest_input, longest_word, longest_kept_prompt, most_words}
 use Rattle.worksheet.specs.Names.{is_name}
 use Rattle.worksheet.specs.Contents.{Contents}
 use Rattle.worksheet.specs.Ops.{sheet_of}
 use Rattle.worksheet.specs.Laws.{IsNamed}
-use Rattle.worksheet.specs.Checks.{first_refusal, refusals, has_session, is_input, is_input_byte, is_no_low_byte, is_word, are_words}
+use Rattle.worksheet.specs.Checks.{first_refusal, refusals, has_session, is_input, is_word, are_words}
+use Rattle.worksheet.specs.inside.Words.{is_input_byte, is_no_low_byte}
 use Rattle.worksheet.proofs.Finds.{none_applies, true_from_not}
 use Rattle.worksheet.proofs.NameLaws.{short_name}
 use Rattle.worksheet.proofs.NextLaws.{named, sessions_have_names}
 use Rattle.worksheet.proofs.Existence.{allowed_goes_on}
 use Rattle.journal.specs.Area.{ArePayloads}
-use Rattle.journal.specs.Limits.{max_payload}
+use Rattle.journal.specs.Limits.{longest_payload}
 use Rattle.recovery.specs.Code.{code_of, HasCode, IsShort, IsLong, IsTyped}
 use Rattle.recovery.specs.Laws.{AllowedHaveCode}
 use Rattle.recovery.specs.Sheets.{codes_of, Makes}
@@ -27,12 +28,12 @@ typed_push : (os : List Op) (o : Op) → AllByRecursion IsTyped os → IsTyped o
 typed_push [] o all one = (one, tt)
 typed_push (p ∷ os) o all one = (all.0, typed_push os o all.1 one)
 
-lengths_push : (os : List Op) (o : Op) → ArePayloads max_payload (codes_of os) → length (code_of o) ≤ max_payload → ArePayloads max_payload (codes_of (os ++ o ∷ []))
+lengths_push : (os : List Op) (o : Op) → ArePayloads longest_payload (codes_of os) → length (code_of o) ≤ longest_payload → ArePayloads longest_payload (codes_of (os ++ o ∷ []))
 lengths_push [] o each short = ((omega arith, short), tt)
 lengths_push (p ∷ os) o each short = (each.0, lengths_push os o each.1 short)
 
 -- a list of ops that makes a worksheet goes on by an op that this allows
-pub makes_more : (os : List Op) (o : Op) (before after : Contents) → Makes os before → IsTyped o → length (code_of o) ≤ max_payload → first_refusal before o ≡ None → after ≡ sheet_of (os ++ o ∷ []) → Makes (os ++ o ∷ []) after
+pub makes_more : (os : List Op) (o : Op) (before after : Contents) → Makes os before → IsTyped o → length (code_of o) ≤ longest_payload → first_refusal before o ≡ None → after ≡ sheet_of (os ++ o ∷ []) → Makes (os ++ o ∷ []) after
 makes_more os o before after makes typed short next is = record {
   typed = typed_push os o makes.typed typed;
   lengths = lengths_push os o makes.lengths short;
@@ -90,7 +91,7 @@ code_of_allowed sheet (op.Move id after) names allowed = tt
 code_of_allowed sheet (op.Clear id) names allowed = tt
 code_of_allowed sheet (op.Answer id prompt output) names allowed =
     let none = none_applies (refusals sheet (op.Answer id prompt output)) allowed in
-    omega (arith, not_more (length prompt) longest_prompt none.1.0)
+    omega (arith, not_more (length prompt) longest_kept_prompt none.1.0)
 code_of_allowed sheet (op.Lost id reason) names allowed = tt
 code_of_allowed sheet (op.Ids next) names allowed = tt
 

@@ -13,7 +13,7 @@ use Rattle.worksheet.specs.Checks.{Allowed, AllowedFrom, first_refusal}
 use Rattle.worksheet.proofs.Existence.{allowed_goes_on}
 use Rattle.journal.specs.Kept.{Fits, ImageStandsFor, BeforeOrAfter, OtherUntouched, active_of}
 use Rattle.journal.specs.inside.Standing.{keeps_images}
-use Rattle.journal.specs.Limits.{max_payload}
+use Rattle.journal.specs.Limits.{longest_payload}
 use Rattle.journal.specs.declared.opening.OpenCause.{OpenCause}
 use Rattle.journal.specs.declared.opening.OpenCause.TheVariants as causes
 use Rattle.journal.specs.Open.{IsPassing}
@@ -48,7 +48,7 @@ on_ok (Err e) x is holds = cc
 -- what fits by a capped length fits
 pub fits_uncapped : (room end n : ℕ) → Fits room end (min n longest_told) → Fits room end n
 fits_uncapped room end n fits =
-    let short : n ≤ max_payload = omega (arith, fits.0) in
+    let short : n ≤ longest_payload = omega (arith, fits.0) in
     (short, omega (arith, fits.1, short))
 
 pub made_in : {D : Type 0} (view : D → DiskView) (b : Option (Base D)) (sheet : Contents) → IsStoreOf view b sheet → (ops : List Op) × Makes ops sheet
@@ -65,7 +65,7 @@ all_images view (Open journal) sheet kept i image = record {
 all_images view (Closed disk) sheet kept i image = absurd kept.keeps
 
 module _ {D : Type 0} (view : D → DiskView) (base : Base D) (sheet : Contents) (o : Op) (payload : List ℕ)
-    (holds : IsBaseOf view base sheet) (own : IsPayloadOf o payload) (short : length (code_of o) ≤ max_payload) (next : first_refusal sheet o ≡ None) (opened : is_closed base ≡ false) where
+    (holds : IsBaseOf view base sheet) (own : IsPayloadOf o payload) (short : length (code_of o) ≤ longest_payload) (next : first_refusal sheet o ≡ None) (opened : is_closed base ≡ false) where
   codes_more : (ops : List Op) → codes_of ops ++ payload ∷ [] ≡ codes_of (ops ++ o ∷ [])
   codes_more ops = ap (λ (b : List ℕ). codes_of ops ++ b ∷ []) own.is ∙ sym (codes_push ops o)
 
@@ -134,13 +134,13 @@ same_ops_from before (x ∷ a) (y ∷ b) allowed p q ta tb same =
     ap (λ (z : Op). z ∷ a) first ∙ ap (λ (l : List Op). y ∷ l) (same_ops_from (before ++ x ∷ []) a b (allowed_goes_on before x allowed p.0) p.1 behind ta.1 tb.1 parts.1)
 
 pub one_list_of_ops : OneList → OneListOfOps
-one_list_of_ops lists a b s t i p q stands other = same_ops_from [] a b tt p.allowed q.allowed p.typed q.typed (lists max_payload (omega arith) (active_of i) (codes_of a) (codes_of b) stands.stands other.stands)
+one_list_of_ops lists a b s t i p q stands other = same_ops_from [] a b tt p.allowed q.allowed p.typed q.typed (lists longest_payload (omega arith) (active_of i) (codes_of a) (codes_of b) stands.stands other.stands)
 
 pub same_sheet : (a b : List Op) (s t : Contents) → Makes a s → Makes b t → codes_of a ≡ codes_of b → s ≡ t
 same_sheet a b s t p q same = p.is ∙ ap sheet_of (same_ops_from [] a b tt p.allowed q.allowed p.typed q.typed same) ∙ sym q.is
 
 pub one_sheet : OneList → OneSheet
-one_sheet lists s t i p q = same_sheet p.ops q.ops s t p.makes q.makes (lists max_payload (omega arith) (active_of i) (codes_of p.ops) (codes_of q.ops) p.stands.stands q.stands.stands)
+one_sheet lists s t i p q = same_sheet p.ops q.ops s t p.makes q.makes (lists longest_payload (omega arith) (active_of i) (codes_of p.ops) (codes_of q.ops) p.stands.stands q.stands.stands)
 
 -- no payload of allowed ops is refused
 taken_from : (before ops taken : List Op) (payload : List ℕ) (more : List (List ℕ)) → Allowed before → AllowedFrom before ops → AllowedFrom before taken → AllByRecursion IsTyped ops → AllByRecursion IsTyped taken

@@ -8,7 +8,7 @@ use Rattle.worksheet.specs.Ops.{sheet_of}
 use Rattle.worksheet.specs.Checks.{first_refusal}
 use Rattle.journal.specs.inside.Standing.{keeps_images}
 use Rattle.journal.specs.Kept.{Fits, ImageStandsFor, JournalView, Keeps, BeforeOrAfter}
-use Rattle.journal.specs.Limits.{max_payload}
+use Rattle.journal.specs.Limits.{longest_payload}
 use Rattle.recovery.specs.Code.{code_of, IsPayloadOf}
 use Rattle.recovery.specs.Sheets.{StoreView, codes_of, Makes, HasPlace, IsSheetImage, IsStore, KeepsOps, SameStore, StandsWithOrWithout}
 use Rattle.recovery.specs.declared.base.Base.{Base}
@@ -93,7 +93,7 @@ module _ {D : Type 0} (view : D → DiskView) (base : Base D) (sheet : SheetView
       (each model (codes_of ops) (inside view base (codes_of ops) kept.still_open kept.keeps))
 
   -- and at Ok the latter
-  pub keeps_more : (new : Base D) (after : SheetView) → length (code_of o) ≤ max_payload → first_refusal sheet.contents o ≡ None → is_closed new ≡ false
+  pub keeps_more : (new : Base D) (after : SheetView) → length (code_of o) ≤ longest_payload → first_refusal sheet.contents o ≡ None → is_closed new ≡ false
       → InModel (disk_of view base) ((payloads : List (List ℕ)) → KeepsIn base payloads → KeepsIn new (payloads ++ payload ∷ []))
       → ((ops : List Op) → sheet.contents ≡ sheet_of ops → after.contents ≡ sheet_of (ops ++ o ∷ []))
       → InModel (disk_of view base) ((ops : List Op) → KeepsOps (store_on view (Some base) sheet) ops → KeepsOps (store_on view (Some new) after) (ops ++ o ∷ []))

@@ -8,7 +8,8 @@ use Rattle.worksheet.specs.declared.field.Field.{Field}
 use Rattle.worksheet.specs.declared.field.Session.{Session}
 use Rattle.block_tree.specs.declared.reason.Reason.{Reason}
 use Rattle.worksheet.specs.Contents.{Contents}
-use Rattle.worksheet.specs.Ops.{about, about_from, answer_by, field_of, is_about, last_given, next_after, order_of}
+use Rattle.worksheet.specs.Ops.{about_from, outcome_by, field_of, is_about, last_given, next_after}
+use Rattle.worksheet.specs.inside.Words.{about, order_of}
 use Rattle.worksheet.specs.Checks.{Allowed, AllowedFrom, field_in, numbers}
 use Rattle.worksheet.specs.Edits.{HasNumbersApart}
 use Rattle.worksheet.specs.Laws.{IsWorksheet}
@@ -17,7 +18,7 @@ use Rattle.worksheet.proofs.Existence.{allowed_goes_on}
 use Rattle.worksheet.proofs.Rewriting.{rewrite_makes_the_same}
 use Rattle.worksheet.proofs.WorksheetLaws.{ops_make_worksheets}
 use Rattle.journal.specs.Area.{ArePayloads}
-use Rattle.journal.specs.Limits.{max_payload}
+use Rattle.journal.specs.Limits.{longest_payload}
 use Rattle.recovery.specs.Code.{code_of, flag, long, HasCode, IsLong}
 use Rattle.recovery.specs.Laws.{RewritesAreShort}
 use Rattle.recovery.specs.Sheets.{codes_of, Makes}
@@ -30,35 +31,35 @@ use Rattle.recovery.proofs.Gathering.{all_append}
 -- the op of an answer fits a record, whatever the field's number
 abbrev AnswerFits : Option Answer → Type 0
 AnswerFits None = Unit {0}
-AnswerFits (Some answer) = length (code_of (op.Answer 0 answer.prompt answer.output)) ≤ max_payload
+AnswerFits (Some answer) = length (code_of (op.Answer 0 answer.prompt answer.output)) ≤ longest_payload
 
-given_fits : (os : List Op) (given : Option Answer) → AnswerFits given → ArePayloads max_payload (codes_of os) → AnswerFits (last_given answer_by given os)
+given_fits : (os : List Op) (given : Option Answer × Option Reason) → AnswerFits given.0 → ArePayloads longest_payload (codes_of os) → AnswerFits (last_given outcome_by given os).0
 given_fits [] given fits each = fits
 given_fits (op.Session name tab words ∷ os) given fits each = given_fits os given fits each.1
-given_fits (op.New after session input ∷ os) given fits each = given_fits os None tt each.1
-given_fits (op.Set id input ∷ os) given fits each = given_fits os None tt each.1
+given_fits (op.New after session input ∷ os) given fits each = given_fits os (None, None) tt each.1
+given_fits (op.Set id input ∷ os) given fits each = given_fits os (None, None) tt each.1
 given_fits (op.Remove id ∷ os) given fits each = given_fits os given fits each.1
 given_fits (op.Move id after ∷ os) given fits each = given_fits os given fits each.1
-given_fits (op.Clear id ∷ os) given fits each = given_fits os None tt each.1
-given_fits (op.Answer id prompt output ∷ os) given fits each = given_fits os (Some (record { prompt = prompt; output = output })) each.0.1 each.1
-given_fits (op.Lost id reason ∷ os) given fits each = given_fits os None tt each.1
+given_fits (op.Clear id ∷ os) given fits each = given_fits os (None, None) tt each.1
+given_fits (op.Answer id prompt output ∷ os) given fits each = given_fits os (Some (record { prompt = prompt; output = output }), None) each.0.1 each.1
+given_fits (op.Lost id reason ∷ os) given fits each = given_fits os (None, Some reason) tt each.1
 given_fits (op.Ids number ∷ os) given fits each = given_fits os given fits each.1
 
-about_fit : (id next : ℕ) (os : List Op) → ArePayloads max_payload (codes_of os) → ArePayloads max_payload (codes_of (about_from id next os))
+about_fit : (id next : ℕ) (os : List Op) → ArePayloads longest_payload (codes_of os) → ArePayloads longest_payload (codes_of (about_from id next os))
 about_fit id next [] each = tt
 about_fit id next (o ∷ os) each = go (is_about id next o) (about_fit id (next_after next o) os each.1)
   where
-    go : (b : Bool) → ArePayloads max_payload (codes_of (about_from id (next_after next o) os))
-        → ArePayloads max_payload (codes_of (if b then o ∷ about_from id (next_after next o) os else about_from id (next_after next o) os))
+    go : (b : Bool) → ArePayloads longest_payload (codes_of (about_from id (next_after next o) os))
+        → ArePayloads longest_payload (codes_of (if b then o ∷ about_from id (next_after next o) os else about_from id (next_after next o) os))
     go true rest = (each.0, rest)
     go false rest = rest
 
 abbrev FieldFits : Field → Type 0
 FieldFits field = AnswerFits field.answer
 
-fields_fit : (os : List Op) → ArePayloads max_payload (codes_of os) → (ids : List ℕ) → AllByRecursion FieldFits (map (field_of os) ids)
+fields_fit : (os : List Op) → ArePayloads longest_payload (codes_of os) → (ids : List ℕ) → AllByRecursion FieldFits (map (field_of os) ids)
 fields_fit os each [] = tt
-fields_fit os each (id ∷ ids) = (given_fits (about id os) None tt (about_fit id 1 os each), fields_fit os each ids)
+fields_fit os each (id ∷ ids) = (given_fits (about id os) (None, None) tt (about_fit id 1 os each), fields_fit os each ids)
 
 -- So is each of a rewrite.
 
@@ -70,7 +71,7 @@ FitsAsAnswer (op.Set id input) = Unit {0}
 FitsAsAnswer (op.Remove id) = Unit {0}
 FitsAsAnswer (op.Move id after) = Unit {0}
 FitsAsAnswer (op.Clear id) = Unit {0}
-FitsAsAnswer (op.Answer id prompt output) = length (code_of (op.Answer id prompt output)) ≤ max_payload
+FitsAsAnswer (op.Answer id prompt output) = length (code_of (op.Answer id prompt output)) ≤ longest_payload
 FitsAsAnswer (op.Lost id reason) = Unit {0}
 FitsAsAnswer (op.Ids number) = Unit {0}
 
@@ -156,7 +157,7 @@ records_anew ops sheet makes =
     let fit = subst (λ (s : Contents). AllByRecursion FieldFits s.fields) (sym makes.is) (fields_fit ops makes.lengths (order_of ops)) in
     all_have_records [] (rewrite_of sheet) tt (rewrite_makes_the_same sheet (is_worksheet ops sheet makes)).0 (rewrite_short sheet fit)
 
-payloads_of : (os : List Op) → AllByRecursion HasRecord os → ArePayloads max_payload (codes_of os)
+payloads_of : (os : List Op) → AllByRecursion HasRecord os → ArePayloads longest_payload (codes_of os)
 payloads_of [] each = tt
 payloads_of (o ∷ os) each = ((omega arith, each.0.1), payloads_of os each.1)
 

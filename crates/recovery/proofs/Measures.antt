@@ -9,7 +9,7 @@ use Rattle.worksheet.specs.declared.field.Field.{Field}
 use Rattle.worksheet.specs.Checks.{numbers}
 use Rattle.worksheet.specs.Rewrite.{field_ops, ids_to, outcome_ops, rewrite_of, smaller_before}
 use Rattle.journal.specs.Area.{record_of, records}
-use Rattle.journal.specs.Limits.{max_payload}
+use Rattle.journal.specs.Limits.{longest_payload}
 use Rattle.recovery.specs.Code.{code_of, longest_told}
 use Rattle.recovery.specs.Sheets.{codes_of}
 use Rattle.recovery.specs.Checkpointed.{HasRoomAnew}
@@ -32,10 +32,10 @@ size_append a b = ap (λ (l : List (List ℕ)). length (records l)) (codes_appen
 size_one : (o : Op) → size_of (o ∷ []) ≡ 5 + length (code_of o)
 size_one o = omega (arith, length-append (record_of (code_of o)) [])
 
-pub measures_wide : (o : Op) (left len : ℕ) → len ≡ min (length (code_of o)) longest_told → len ≤ max_payload → left < len + 5 → Measures (o ∷ []) left None
+pub measures_wide : (o : Op) (left len : ℕ) → len ≡ min (length (code_of o)) longest_told → len ≤ longest_payload → left < len + 5 → Measures (o ∷ []) left None
 measures_wide o left len is short wide = λ room. omega (arith, is, short, wide, size_one o, room)
 
-pub measures_one : (o : Op) (left len : ℕ) → len ≡ min (length (code_of o)) longest_told → len ≤ max_payload → len + 5 ≤ left → Measures (o ∷ []) left (Some (left - 5 - len))
+pub measures_one : (o : Op) (left len : ℕ) → len ≡ min (length (code_of o)) longest_told → len ≤ longest_payload → len + 5 ≤ left → Measures (o ∷ []) left (Some (left - 5 - len))
 measures_one o left len is short fits = omega (arith, is, short, fits, size_one o)
 
 -- One behind another.

@@ -7,7 +7,7 @@ use Rattle.worksheet.specs.Checks.{Allowed, AllowedFrom, first_refusal}
 use Rattle.worksheet.proofs.Existence.{allowed_goes_on}
 use Rattle.journal.specs.Area.{end_of}
 use Rattle.journal.specs.Kept.{active_of}
-use Rattle.journal.specs.Limits.{max_payload}
+use Rattle.journal.specs.Limits.{longest_payload}
 use Rattle.journal.specs.Laws.{NoDamage, OneDamage, OneList, StandingOpens}
 use Rattle.journal.specs.declared.opening.OpenCause.TheVariants as causes
 use Rattle.recovery.specs.Code.{code_of, IsTyped, IsPayloadOf}
@@ -49,18 +49,18 @@ one_gate payloads gate other a b =
 pub one_refusal : OneList → OneDamage → NoDamage → OneRefusal
 one_refusal lists once none i gate other told also = ⊎_elim
     (λ damaged. ⊎_elim
-    (λ again. once max_payload (omega arith) (active_of i) gate other damaged again)
-    (λ refused. absurd (none max_payload (omega arith) (active_of i) refused.0 gate refused.1.stands damaged)) also)
+    (λ again. once longest_payload (omega arith) (active_of i) gate other damaged again)
+    (λ refused. absurd (none longest_payload (omega arith) (active_of i) refused.0 gate refused.1.stands damaged)) also)
     (λ refused. ⊎_elim
-    (λ damaged. absurd (none max_payload (omega arith) (active_of i) refused.0 other refused.1.stands damaged))
-    (λ again. one_gate again.0 gate other (subst (λ (l : List (List ℕ)). IsRefusedAt l gate) (lists max_payload (omega arith) (active_of i) refused.0 again.0 refused.1.stands again.1.stands) refused.2) again.2) also)
+    (λ damaged. absurd (none longest_payload (omega arith) (active_of i) refused.0 other refused.1.stands damaged))
+    (λ again. one_gate again.0 gate other (subst (λ (l : List (List ℕ)). IsRefusedAt l gate) (lists longest_payload (omega arith) (active_of i) refused.0 again.0 refused.1.stands again.1.stands) refused.2) again.2) also)
     told
 
 pub sheet_image_opens : OneList → StandingOpens → SheetImageOpens
 sheet_image_opens lists opens sheet i (causes.Damaged gate) image told = ⊎_elim
     (λ damaged. opens i (codes_of image.ops) (causes.Damaged gate) image.stands damaged)
     (λ refused. not_refused image.ops sheet (causes.Damaged gate) image.makes
-    (subst (λ (l : List (List ℕ)). RefusesFrom l (causes.Damaged gate)) (lists max_payload (omega arith) (active_of i) refused.0 (codes_of image.ops) refused.1.stands image.stands.stands) refused.2))
+    (subst (λ (l : List (List ℕ)). RefusesFrom l (causes.Damaged gate)) (lists longest_payload (omega arith) (active_of i) refused.0 (codes_of image.ops) refused.1.stands image.stands.stands) refused.2))
     told
 sheet_image_opens lists opens sheet i causes.NotASheet image told = opens i (codes_of image.ops) causes.NotASheet image.stands told
 sheet_image_opens lists opens sheet i causes.Disk image told = tt

@@ -13,7 +13,7 @@ use Rattle.journal.specs.Area.{end_of}
 use Rattle.journal.specs.Front.{FrontView, HasFront, HasGivenFront, ImageHasFront, TellsHeader, damage_at}
 use Rattle.journal.specs.Kept.{active_of}
 use Rattle.journal.specs.Laws.{OneFront}
-use Rattle.journal.specs.Limits.{max_payload}
+use Rattle.journal.specs.Limits.{longest_payload}
 use Rattle.journal.specs.Open.{IsPassing}
 use Rattle.journal.specs.declared.walk.Payload.{Payload}
 use Rattle.journal.specs.declared.journal.OpenFault.{OpenFault}
@@ -152,7 +152,7 @@ longest_from before (x ∷ ops) (y ∷ others) left rest allowed fa fb ta tb sam
 
 pub longest_rescue : OneFront → LongestRescue
 longest_rescue fronts i ops damage others left damaged rescued typed allowed front =
-    let same = fronts max_payload (omega arith) (active_of i) (codes_of ops ++ rescued.left) (codes_of others ++ left) rescued.damaged damaged rescued.front.front front.front in
+    let same = fronts longest_payload (omega arith) (active_of i) (codes_of ops ++ rescued.left) (codes_of others ++ left) rescued.damaged damaged rescued.front.front front.front in
     longest_from [] ops others rescued.left left tt rescued.makes.allowed allowed rescued.makes.typed typed same.0 rescued.stops
 
 none_more : (a b : List Op) (x y : List Op) → a ≡ b ++ x → b ≡ a ++ y → a ≡ b
@@ -164,7 +164,7 @@ one_rescue fronts i ops others damage again one two =
     let first = longest_rescue fronts i ops damage others two.left two.damaged one two.makes.typed two.makes.allowed two.front in
     let second = longest_rescue fronts i others again ops one.left one.damaged two one.makes.typed one.makes.allowed one.front in
     let same : ops ≡ others = none_more ops others first.0 second.0 first.1 second.1 in
-    let fronted = fronts max_payload (omega arith) (active_of i) (codes_of ops ++ one.left) (codes_of others ++ two.left) one.damaged two.damaged one.front.front two.front.front in
+    let fronted = fronts longest_payload (omega arith) (active_of i) (codes_of ops ++ one.left) (codes_of others ++ two.left) one.damaged two.damaged one.front.front two.front.front in
     let left : one.left ≡ two.left = append_cancel_left (codes_of ops) one.left two.left (fronted.0 ∙ ap (λ (l : List Op). codes_of l ++ two.left) (sym same)) in (
       same,
       one.damage_is ∙ ap (λ (l : List (List ℕ)). stops_at l one.damaged (end_of (codes_of ops))) left ∙ ap (λ (b : Bool). stops_at two.left b (end_of (codes_of ops))) fronted.1
@@ -178,7 +178,7 @@ rescue_of_whole fronts i sheet ops damage image rescued =
       damaged = false;
       front = record {
         headed = image.stands.headed;
-        front = subst (λ (l : List (List ℕ)). HasFront max_payload (active_of i) l false) (sym (append-nil (codes_of image.ops))) image.stands.stands;
+        front = subst (λ (l : List (List ℕ)). HasFront longest_payload (active_of i) l false) (sym (append-nil (codes_of image.ops))) image.stands.stands;
       };
       makes = own_sheet image.ops sheet image.makes;
       stops = tt;

@@ -2,7 +2,7 @@
 use Rattle.std.proofs.Common.{◌≡◌, ℕ, zero, suc, ◌+◌, ◌<◌, ◌≤◌, List, [], ◌∷◌, get_or, length, map, min, refl, arith, length-append, Result, Ok, Err, OnOk}
 use Rattle.std.specs.List.{AllByRecursion}
 use Rattle.journal.specs.Area.{ArePayloads, IsPayload, record_of, records}
-use Rattle.journal.specs.Limits.{batch_len, max_payload}
+use Rattle.journal.specs.Limits.{batch_len, longest_payload}
 use Rattle.journal.specs.Sources.{HoldsEach}
 use Rattle.worksheet.specs.declared.op.Op.{Op}
 use Rattle.recovery.specs.Code.{code_of}
@@ -25,10 +25,10 @@ pub as_many : (rs : List Record) → length (codes_of (map op_in rs)) ≡ length
 as_many [] = refl
 as_many (r ∷ rs) = omega (arith, as_many rs)
 
-pub is_payload : (o : Op) → HasRecord o → IsPayload max_payload (code_of o)
+pub is_payload : (o : Op) → HasRecord o → IsPayload longest_payload (code_of o)
 is_payload o has = (omega arith, has.1)
 
-one_of : (ps : List (List ℕ)) (i : ℕ) → i < length ps → ArePayloads max_payload ps → (length (get_or ps i []) ≤ length (records ps)) × (length (get_or ps i []) ≤ max_payload)
+one_of : (ps : List (List ℕ)) (i : ℕ) → i < length ps → ArePayloads longest_payload ps → (length (get_or ps i []) ≤ length (records ps)) × (length (get_or ps i []) ≤ longest_payload)
 one_of [] i some each = absurd (omega (arith, some))
 one_of (p ∷ ps) zero some each = (omega (arith, length-append (record_of p) (records ps)), each.0.1)
 one_of (p ∷ ps) (suc i) some each =
@@ -36,7 +36,7 @@ one_of (p ∷ ps) (suc i) some each =
     (omega (arith, rest.0, length-append (record_of p) (records ps)), rest.1)
 
 -- memory for a batch and the longest record
-pub holds_each : (capacity : ℕ) (ps : List (List ℕ)) → ArePayloads max_payload ps → batch_len + 6 + min (length (records ps)) max_payload ≤ capacity → HoldsEach capacity ps
+pub holds_each : (capacity : ℕ) (ps : List (List ℕ)) → ArePayloads longest_payload ps → batch_len + 6 + min (length (records ps)) longest_payload ≤ capacity → HoldsEach capacity ps
 holds_each capacity ps each memory = λ i some.
     let one = one_of ps i some each in
     omega (arith, one.0, one.1, memory)

@@ -5,9 +5,9 @@ use Rattle.block_tree.specs.Tree.{Tree}
 use Rattle.block_tree.specs.Output.{output}
 use Rattle.meta_format.specs.Limits.{limits}
 use Rattle.meta_format.specs.Spelling.{Spells}
-use Rattle.worksheet.specs.Limits.{longest_prompt}
+use Rattle.worksheet.specs.Limits.{longest_kept_prompt}
 use Rattle.journal.specs.Area.{ArePayloads}
-use Rattle.journal.specs.Limits.{max_payload}
+use Rattle.journal.specs.Limits.{longest_payload}
 use Rattle.worksheet.specs.declared.op.Op.{Op}
 use Rattle.worksheet.specs.declared.op.Op.TheVariants as op
 use Rattle.worksheet.specs.Ops.{sheet_of}
@@ -74,12 +74,12 @@ RescueOfWhole = (i : Image) (sheet : Contents) (ops : List Op) (damage : Option 
 -- every other op is short.
 abbrev pub RewritesAreShort : Type 0
 RewritesAreShort = (ops : List Op) (sheet : Contents) → Makes ops sheet
-    → ArePayloads max_payload (codes_of (rewrite_of sheet))
+    → ArePayloads longest_payload (codes_of (rewrite_of sheet))
 
 -- An answer fits a record: where the bytes of its block were no more than an outer block may have,
 -- and its prompt is one that a worksheet allows.
 abbrev pub ReceivedAnswersFit : Type 0
 ReceivedAnswersFit = (id : ℕ) (prompt : List ℕ) (block : Tree) (received : List ℕ)
     → Spells limits block received → length received ≤ limits.block
-    → length prompt ≤ longest_prompt
-    → length (code_of (op.Answer id prompt (output block))) ≤ max_payload
+    → length prompt ≤ longest_kept_prompt
+    → length (code_of (op.Answer id prompt (output block))) ≤ longest_payload

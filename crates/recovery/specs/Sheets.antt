@@ -8,7 +8,7 @@ use Rattle.worksheet.specs.Ops.{sheet_of}
 use Rattle.worksheet.specs.Checks.{Allowed, first_refusal, room_for}
 use Rattle.journal.specs.Area.{ArePayloads, end_of}
 use Rattle.journal.specs.Kept.{ImageStandsFor, Keeps, Fits}
-use Rattle.journal.specs.Limits.{max_payload}
+use Rattle.journal.specs.Limits.{longest_payload}
 use Rattle.journal.specs.Open.{Tells}
 use Rattle.journal.specs.declared.opening.OpenCause.{OpenCause}
 use Rattle.journal.specs.declared.opening.OpenCause.TheVariants as causes
@@ -22,7 +22,7 @@ codes_of ops = map code_of ops
 -- before it; each has a payload that a record may have
 pub record Makes (ops : List Op) (sheet : Contents) : Type 0 where
   pub typed : AllByRecursion IsTyped ops
-  pub lengths : ArePayloads max_payload (codes_of ops)
+  pub lengths : ArePayloads longest_payload (codes_of ops)
   pub allowed : Allowed ops
   pub is : sheet ≡ sheet_of ops
 

@@ -5,7 +5,7 @@ ghost use Rattle.worksheet.specs.declared.op.Op.{Op};
 ghost use Rattle.worksheet.specs.declared.field.Field.{Field};
 ghost use Rattle.worksheet.specs.Rewrite.{field_ops, fields_ops, ids_to, lost_ops, outcome_ops, rewrite_of, session_op};
 ghost use Rattle.journal.specs.Area.{records};
-ghost use Rattle.journal.specs.Limits.{max_payload};
+ghost use Rattle.journal.specs.Limits.{longest_payload};
 ghost use Rattle.recovery.specs.Code.{code_of, longest_told};
 ghost use Rattle.recovery.specs.Checkpointed.{HasRoomAnew};
 ghost use Rattle.recovery.specs.Sheets.{codes_of};
@@ -17,7 +17,7 @@ use worksheet::{Answer, Field, Session, Sheet};
 
 // What a record of a payload of so many bytes leaves of so much room, where the record fits.
 fn behind(left: u64, len: u64) -> Option<u64>
-    requires { len ≤ max_payload }
+    requires { len ≤ longest_payload }
     ensures { (o : Op) → len ≡ min (length (code_of o)) longest_told
         → Measures (o ∷ []) left result }
 {

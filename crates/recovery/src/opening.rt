@@ -3,7 +3,7 @@ ghost use Rattle.std.specs.Prelude.{◌≡◌, ◌≤◌, [], List, ℕ, IfOk, I
 ghost use Rattle.disk_model.specs.Disk.{InModel, Looks, Rises, SameDisk};
 ghost use Rattle.worksheet.specs.declared.op.Op.{Op};
 ghost use Rattle.journal.specs.Area.{IsPayload};
-ghost use Rattle.journal.specs.Limits.{max_payload};
+ghost use Rattle.journal.specs.Limits.{longest_payload};
 ghost use Rattle.journal.specs.Opening.{HasGiven};
 ghost use Rattle.recovery.specs.Sheets.{Makes};
 ghost use Rattle.recovery.specs.inside.Taken.{disk_taken, TakesAll, TakesOps, Refuses, RefusesFrom};
@@ -17,7 +17,7 @@ use worksheet::Sheet;
 /// Does what a payload says. A payload that is no op's, or whose op is refused, is told as `Damaged`
 /// with its gate, and changes nothing.
 pub(crate) fn take(alloc: Global, sheet: &mut Sheet, payload: &Payload) -> Result<(), OpenCause>
-    requires { IsPayload max_payload payload.now.bytes }
+    requires { IsPayload longest_payload payload.now.bytes }
     ensures taken { (ops : List Op) → Makes ops sheet.old.contents
         → OnOk result (TakesOps ops payload.now.bytes sheet.new.contents) }
     ensures refused { (ops : List Op) → Makes ops sheet.old.contents

@@ -1,6 +1,6 @@
 //! The worksheet at the front of a damaged disk.
 ghost use Rattle.std.specs.Prelude.{◌≡◌, ◌≤◌, [], List, ℕ, length, IfErr, IfOk, MatchResult};
-ghost use Rattle.disk_model.specs.Disk.{InModel, Looks, Rises, SameDisk, bytes_on, max_room};
+ghost use Rattle.disk_model.specs.Disk.{InModel, Looks, Rises, SameDisk, bytes_on, greatest_room};
 ghost use Rattle.worksheet.specs.declared.op.Op.{Op};
 ghost use Rattle.worksheet.specs.Ops.{sheet_of};
 ghost use Rattle.journal.specs.Area.{first_gate};
@@ -35,7 +35,7 @@ pub struct Rescued<D: Disk> {
 fn take_front<D: Disk>(alloc: Global, front: Front<D>) -> Result<Rescued<D>, OpenFault<D>>
     requires first { front.gate ≡ first_gate }
     requires end { front.gate ≤ front.end }
-    requires small { front.end ≤ max_room }
+    requires small { front.end ≤ greatest_room }
     ensures same { SameDisk front.disk (disk_rescued D.view result) }
     ensures made { IfOk result (λ found. (ops : List Op)
         × Makes ops found.sheet.contents × (found.kept ≡ length ops)) }

@@ -5,7 +5,7 @@ ghost use Rattle.worksheet.specs.declared.field.Field.{Field};
 ghost use Rattle.worksheet.specs.Checks.{numbers};
 ghost use Rattle.worksheet.specs.Edits.{HasNumbersApart};
 ghost use Rattle.worksheet.specs.Rewrite.{field_ops, fields_ops, ids_to, lost_ops, outcome_ops, rewrite_of, session_op, smaller_before};
-ghost use Rattle.journal.specs.Limits.{batch_len, max_payload};
+ghost use Rattle.journal.specs.Limits.{batch_len, longest_payload};
 ghost use Rattle.recovery.specs.Code.{IsTyped};
 ghost use Rattle.recovery.specs.Sheets.{codes_of};
 ghost use Rattle.recovery.specs.inside.Gathered.{Gathers};
@@ -15,7 +15,7 @@ ghost use Rattle.recovery.specs.inside.Records.{op_in};
 use crate::afters::afters_of;
 use crate::records::{Anew, Record};
 use block_tree::{OutOfMemory, Reason};
-use journal::{BATCH_LEN, MAX_PAYLOAD};
+use journal::{BATCH_LEN, LONGEST_PAYLOAD};
 use std::alloc::Global;
 use worksheet::{Answer, Field, Sheet};
 
@@ -150,8 +150,8 @@ pub(crate) fn anew_of<'a>(alloc: Global, sheet: &'a Sheet) -> Result<Anew<'a>, O
 
 /// Memory for the batches in which payloads are written whose records have so many bytes together.
 pub(crate) fn batch_of(alloc: Global, len: u64) -> Result<Vec<u8>, OutOfMemory>
-    ensures { IfOk result (λ batch. batch_len + 6 + min len max_payload ≤ vec_capacity batch) }
+    ensures { IfOk result (λ batch. batch_len + 6 + min len longest_payload ≤ vec_capacity batch) }
 {
-    let longest = len.min(MAX_PAYLOAD) as usize;
+    let longest = len.min(LONGEST_PAYLOAD) as usize;
     Ok(Vec::with_capacity(alloc, BATCH_LEN + 6 + longest)?)
 }

@@ -3,7 +3,8 @@ use Rattle.std.proofs.Common.{◌≡◌, ℕ, Bool, true, false, List, [], ◌�
 use Rattle.std.specs.Prelude.{◌==◌, ◌||◌, codes, if◌then◌else◌}
 use Rattle.std.specs.List.{list_all}
 use Rattle.std.proofs.lemmas.Bool.{and_parts, true≢false, false≢true}
-use Rattle.scheme_text.specs.Quoting.{slashed, Quotes, nothing, itself, behind_slash}
+use Rattle.scheme_text.specs.Quoting.{Quotes, nothing, itself, behind_slash}
+use Rattle.scheme_text.specs.inside.Words.{slashed}
 use Rattle.scheme_text.specs.Outputs.{is_white}
 use Rattle.scheme_text.specs.Answers.{Strings, no_string, white_first, string_first, Form, empty, empty_string, tuple, Says}
 use Rattle.scheme_text.specs.inside.Scan.{outside, inside, slash, in_front, add_first, closed, read_from, without_white, read_tuple, read_form, read_strings}

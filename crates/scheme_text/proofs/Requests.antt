@@ -5,7 +5,8 @@ use Rattle.std.specs.Fmt.{decimal}
 use Rattle.std.proofs.lemmas.Fmt.{decimal_is_IsNumeral}
 use Rattle.std.proofs.lemmas.List.{append_cancel_right}
 use Rattle.std.specs.Str.Parse.{digits_value}
-use Rattle.scheme_text.specs.Quoting.{slashed, Quotes, nothing, itself, behind_slash}
+use Rattle.scheme_text.specs.Quoting.{Quotes, nothing, itself, behind_slash}
+use Rattle.scheme_text.specs.inside.Words.{slashed}
 use Rattle.scheme_text.specs.Laws.{OneRequest}
 use Rattle.scheme_text.proofs.Read.{neither, other}
 use Rattle.scheme_text.proofs.Writing.{quoted_is_read}

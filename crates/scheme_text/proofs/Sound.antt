@@ -6,7 +6,8 @@ use Rattle.std.specs.Str.{bytes_eq}
 use Rattle.std.proofs.lemmas.List.{take-append-drop}
 use Rattle.std.proofs.lemmas.Bool.{and_from, true≢false, false≢true, eqb-true}
 use Rattle.std.proofs.lemmas.Slice.Eq.{bytes_eq-Decides}
-use Rattle.scheme_text.specs.Quoting.{is_marked, slashed, Quotes, nothing, itself, behind_slash}
+use Rattle.scheme_text.specs.Quoting.{is_marked, Quotes, nothing, itself, behind_slash}
+use Rattle.scheme_text.specs.inside.Words.{slashed}
 use Rattle.scheme_text.specs.Outputs.{is_white}
 use Rattle.scheme_text.specs.Answers.{Strings, no_string, white_first, string_first, Form, empty, empty_string, tuple, Says}
 use Rattle.scheme_text.specs.inside.Scan.{Place, outside, inside, slash, in_front, add_first, closed, read_from, without_white, read_tuple, read_empty_string, read_form, read_strings}

@@ -16,9 +16,7 @@ is_format wanted channel name = not channel && bytes_eq name wanted
 abbrev pub lone_text : Items → Option (List ℕ)
 lone_text end = Some []
 lone_text (text t end) = Some t
-lone_text (text t (text u rest)) = None
-lone_text (text t (block channel name inside rest)) = None
-lone_text (block channel name inside rest) = None
+lone_text _ = None
 
 -- no block, and only white space
 abbrev pub is_blank : Items → Bool

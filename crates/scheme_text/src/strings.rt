@@ -3,7 +3,7 @@ ghost use Rattle.std.specs.Prelude.{◌≡◌, ◌<◌, ◌++◌, length, take, 
 ghost use Rattle.std.specs.Prelude.{None, Some, if◌then◌else◌};
 ghost use Rattle.std.specs.Str.{bytes_eq};
 ghost use Rattle.std.specs.Option.{option_copied};
-ghost use Rattle.scheme_text.specs.Quoting.{slashed};
+ghost use Rattle.scheme_text.specs.inside.Words.{slashed};
 ghost use Rattle.scheme_text.specs.inside.Scan as scan;
 
 use crate::AnswerFault;

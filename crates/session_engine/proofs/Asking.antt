@@ -8,7 +8,7 @@ use Rattle.worksheet.specs.declared.refusal.Refusal.{Refusal}
 use Rattle.worksheet.specs.declared.refusal.Refusal.TheVariants as refusal
 use Rattle.worksheet.specs.Checks.{first_of}
 use Rattle.journal.specs.Kept.{Fits}
-use Rattle.journal.specs.Limits.{max_payload}
+use Rattle.journal.specs.Limits.{longest_payload}
 use Rattle.recovery.specs.Code.{code_of}
 use Rattle.std.specs.List.{AllByRecursion}
 use Rattle.worksheet.specs.Checks.{session_named}
@@ -21,10 +21,10 @@ use Rattle.session_engine.specs.inside.Tables.{Joined, Begun, with_life}
 use Rattle.session_engine.specs.Host.{Lives, HasField, HaveFields, EngineStandsFor}
 use Rattle.session_engine.proofs.Tables.{found, not_found, pushed, numbers_are}
 use Rattle.session_engine.proofs.Standing.{all_at, put}
-use Rattle.session_engine.specs.World.{World, Going, life_of, session_of_field, sheet_in, waiting_in, fits, fits_in}
-use Rattle.session_engine.specs.Refused.{full, lives_are_spent, queue_refusals}
+use Rattle.session_engine.specs.World.{World, Going, life_of, session_of_field, sheet_in, waiting_in, fits_in}
+use Rattle.session_engine.specs.inside.Words.{fits, line_of_field, with_op, starting_words, begun_with, joined_by, full, lives_are_spent, by_field}
+use Rattle.session_engine.specs.Refused.{queue_refusals}
 use Rattle.session_engine.specs.inside.Parts.{eval_refusals, start_words, asks, with_item}
-use Rattle.session_engine.specs.Does.{starting_words, begun_with, joined_by}
 use Rattle.std.specs.Str.{bytes_eq}
 use Rattle.std.proofs.lemmas.Slice.Eq.{bytes_eq-Decides}
 use Rattle.std.specs.Prelude.{Result, Ok, Err, OnErr, IfErr}
@@ -42,7 +42,7 @@ use Rattle.session_engine.specs.Named.{first_named, without_named}
 use Rattle.session_engine.specs.inside.Tables.{Asked, CanGoBack}
 use Rattle.session_engine.specs.Host.{name_of, number_in}
 use Rattle.session_engine.proofs.Tables.{numbers_stay}
-use Rattle.session_engine.specs.World.{by_field, in_flight, line_of_field, with_op, with_op_if}
+use Rattle.session_engine.specs.World.{in_flight, with_op_if}
 use Rattle.session_engine.specs.Refused.{command_refusals}
 use Rattle.session_engine.specs.inside.Commits.{RefusesEval, SparesItem, SparesLife, told_asked, begun_with_words}
 use Rattle.session_engine.specs.Does.{does, asks_item, tells, behind, CommandDoes, MayDo}
@@ -52,17 +52,17 @@ use Rattle.session_engine.specs.declared.reply.Reply.TheVariants as reply
 use Rattle.session_engine.proofs.Changing.{first_behind, first_before}
 
 pub fit : (room end : ℕ) (o : Op) → Fits room end (length (code_of o)) → fits_in room end o ≡ true
-fit room end o h = go (nat_le (length (code_of o)) max_payload) (nat_le (end + 5 + length (code_of o) + 1) room) refl refl
+fit room end o h = go (nat_le (length (code_of o)) longest_payload) (nat_le (end + 5 + length (code_of o) + 1) room) refl refl
   where
-    go : (a b : Bool) → nat_le (length (code_of o)) max_payload ≡ a → nat_le (end + 5 + length (code_of o) + 1) room ≡ b → (a && b) ≡ true
+    go : (a b : Bool) → nat_le (length (code_of o)) longest_payload ≡ a → nat_le (end + 5 + length (code_of o) + 1) room ≡ b → (a && b) ≡ true
     go true true e f = refl
     go true false e f = absurd (grind (arith, nat_tests, h.1))
     go false b e f = absurd (grind (arith, nat_tests, h.0))
 
 pub unfit : (room end : ℕ) (o : Op) → (Fits room end (length (code_of o)) → ⊥) → fits_in room end o ≡ false
-unfit room end o h = go (nat_le (length (code_of o)) max_payload) (nat_le (end + 5 + length (code_of o) + 1) room) refl refl
+unfit room end o h = go (nat_le (length (code_of o)) longest_payload) (nat_le (end + 5 + length (code_of o) + 1) room) refl refl
   where
-    go : (a b : Bool) → nat_le (length (code_of o)) max_payload ≡ a → nat_le (end + 5 + length (code_of o) + 1) room ≡ b → (a && b) ≡ false
+    go : (a b : Bool) → nat_le (length (code_of o)) longest_payload ≡ a → nat_le (end + 5 + length (code_of o) + 1) room ≡ b → (a && b) ≡ false
     go true true e f = absurd (h (grind (arith, nat_tests, e), grind (arith, nat_tests, f)))
     go true false e f = refl
     go false b e f = refl

@@ -23,8 +23,9 @@ use Rattle.session_engine.specs.declared.outcome.HostFault.TheVariants as faults
 use Rattle.session_engine.specs.declared.reply.Reply.TheVariants as reply
 use Rattle.session_engine.specs.declared.table.Running.{Running}
 use Rattle.session_engine.proofs.Tables.{numbers_are}
-use Rattle.session_engine.specs.World.{World, Going, waiting_in, waits_in, in_flight, sheet_in, fits}
-use Rattle.session_engine.specs.Refused.{full, command_refusals, command_takes_memory, second, refusals_but_room, op_refusals}
+use Rattle.session_engine.specs.World.{World, Going, waiting_in, in_flight, sheet_in}
+use Rattle.session_engine.specs.inside.Words.{waits_in, fits, full}
+use Rattle.session_engine.specs.Refused.{command_refusals, command_takes_memory, second, refusals_but_room, op_refusals}
 use Rattle.session_engine.specs.Does.{changes, does, tells, CommandDoes, MayDo}
 use Rattle.session_engine.specs.Faults.{CauseOf, Failed}
 use Rattle.session_engine.specs.Host.{HostView, EngineStandsFor, OnDisk, number_in}

@@ -14,8 +14,9 @@ use Rattle.plugin_core.specs.declared.item.Item.TheVariants as item
 use Rattle.session_engine.specs.declared.command.Command.TheVariants as command
 use Rattle.session_engine.specs.declared.event.Event.TheVariants as event
 use Rattle.session_engine.specs.declared.reply.Reply.TheVariants as reply
-use Rattle.session_engine.specs.World.{World, by_field, sheet_in, life_of, session_of_field, input_of, request_of_field}
-use Rattle.session_engine.specs.Refused.{command_refusals, takes_tab, begins_inside, is_cursor, lives_are_spent, queue_refusals}
+use Rattle.session_engine.specs.World.{World, sheet_in, life_of, session_of_field, input_of}
+use Rattle.session_engine.specs.inside.Words.{by_field, request_of_field, takes_tab, lives_are_spent}
+use Rattle.session_engine.specs.Refused.{command_refusals, begins_inside, is_cursor, queue_refusals}
 use Rattle.session_engine.specs.Does.{does, tells, behind, CommandDoes, MayDo}
 use Rattle.session_engine.specs.Host.{OnDisk}
 use Rattle.session_engine.specs.inside.Parts.{asks, with_item}

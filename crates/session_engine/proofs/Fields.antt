@@ -9,12 +9,13 @@ use Rattle.worksheet.specs.declared.op.Op.{Op}
 use Rattle.worksheet.specs.declared.op.Op.TheVariants as op
 use Rattle.worksheet.specs.declared.field.Field.{Field}
 use Rattle.worksheet.specs.Contents.{Contents}
-use Rattle.worksheet.specs.Ops.{sheet_of, exists, about, next_of, is_about, last_of, makes_or_ends, is_making, field_of}
+use Rattle.worksheet.specs.Ops.{sheet_of, exists, next_of, is_about, last_of, makes_or_ends, is_making, field_of}
+use Rattle.worksheet.specs.inside.Words.{about}
 use Rattle.worksheet.specs.Checks.{Allowed, has_field, first_refusal}
 use Rattle.worksheet.proofs.OneMore.{about_from-push, last_of-push}
 use Rattle.worksheet.proofs.Existence.{has_what_exists, allowed_goes_on}
 use Rattle.meta_format.specs.Stream.{Outer}
-use Rattle.plugin_core.specs.Limits.{prompt_limit}
+use Rattle.plugin_core.specs.Limits.{longest_prompt}
 use Rattle.plugin_core.specs.Laws.{ShortPrompts}
 use Rattle.plugin_core.specs.Past.{Event, items_of, received}
 use Rattle.plugin_core.specs.Answers.{answers_of}
@@ -23,7 +24,7 @@ use Rattle.block_tree.specs.Output.{output}
 use Rattle.plugin_core.specs.declared.step.Step.{Step}
 use Rattle.plugin_core.specs.Kept.{InterpreterView, Takes}
 use Rattle.plugin_core.specs.Items.{unanswered, waiting_of, prompt_of, answer_behind, answer_to}
-use Rattle.plugin_core.specs.Steps.{answered_with}
+use Rattle.plugin_core.specs.inside.Words.{answered_with}
 use Rattle.plugin_core.specs.Steps.{closed_by as closed_in}
 use Rattle.plugin_core.proofs.Pasts.{items_of-received}
 use Rattle.plugin_core.specs.declared.item.Item.{Item}
@@ -123,15 +124,15 @@ first_dropped P (suc n) (x ∷ items) i h all = first_dropped P n items i h all
 pub allowed_answer : ShortPrompts → (sheet : Contents) (past : List Event) (before : List Outer) (b : Outer) → AllByRecursion (HasField sheet) (waiting_of past before) → AllowedIf sheet (answer_op (answered_with past before b))
 allowed_answer short sheet past before b all = go (answers_of past before) (items_of past) (prompt_of past before) (short past before) all
   where
-    line : (o : Option Item) (prompt : List ℕ) → length prompt ≤ prompt_limit → ((i : Item) → o ≡ Some i → HasField sheet i) → AllowedIf sheet (answer_op (option_map (λ i. answer_to i prompt (output b.block)) o))
+    line : (o : Option Item) (prompt : List ℕ) → length prompt ≤ longest_prompt → ((i : Item) → o ≡ Some i → HasField sheet i) → AllowedIf sheet (answer_op (option_map (λ i. answer_to i prompt (output b.block)) o))
     line None prompt le has = tt
     line (Some (item.Line id text)) prompt le has =
         let f : has_field sheet id ≡ true = has (item.Line id text) refl in
-        let k : nat_lt prompt_limit (length prompt) ≡ false = grind (arith, nat_tests, le) in
+        let k : nat_lt longest_prompt (length prompt) ≡ false = grind (arith, nat_tests, le) in
         rw (f, k) refl
     line (Some (item.Complete id text cursor)) prompt le has = tt
 
-    go : (answers : List Outer) (items : List Item) (prompt : List ℕ) → length prompt ≤ prompt_limit → AllByRecursion (HasField sheet) (unanswered answers items) → AllowedIf sheet (answer_op (answer_behind answers items prompt b.block))
+    go : (answers : List Outer) (items : List Item) (prompt : List ℕ) → length prompt ≤ longest_prompt → AllByRecursion (HasField sheet) (unanswered answers items) → AllowedIf sheet (answer_op (answer_behind answers items prompt b.block))
     go [] items prompt le all = tt
     go (a ∷ answers) items prompt le all = line (slice_get items (length answers)) prompt le (λ i e. first_dropped (HasField sheet) (length answers) items i e all)
 

@@ -13,7 +13,8 @@ use Rattle.session_engine.specs.declared.commits.LoseFault.TheVariants as loses
 use Rattle.session_engine.specs.declared.reply.Reply.{Reply}
 use Rattle.session_engine.specs.declared.table.Running.{Running}
 use Rattle.session_engine.specs.Named.{without_named}
-use Rattle.session_engine.specs.World.{World, Going, kept_at_end, life_of, sheet_in, waiting_in, with_number, with_op, with_op_if}
+use Rattle.session_engine.specs.World.{World, Going, kept_at_end, life_of, sheet_in, waiting_in, with_number, with_op_if}
+use Rattle.session_engine.specs.inside.Words.{with_op}
 use Rattle.session_engine.specs.Does.{ends_life}
 use Rattle.session_engine.specs.Host.{EngineStandsFor, HaveFields, Lives, OnDisk, life_in, name_of}
 use Rattle.session_engine.specs.inside.Commits.{CauseOfLoss, CommittedIf, HasFieldIf, IsEitherIf, NotLost, kept_for}

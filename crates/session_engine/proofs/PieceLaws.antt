@@ -16,7 +16,7 @@ use Rattle.plugin_core.specs.declared.step.Step.{Step}
 use Rattle.plugin_core.specs.declared.step.Ended.{Ended}
 use Rattle.plugin_core.specs.Past.{received}
 use Rattle.plugin_core.specs.Items.{waiting_of}
-use Rattle.plugin_core.specs.Steps.{ended_by}
+use Rattle.plugin_core.specs.inside.Words.{ended_by}
 use Rattle.plugin_core.specs.Steps.{closed_by as closed_in}
 use Rattle.plugin_core.specs.Kept.{InterpreterView, Takes, GoesOn}
 use Rattle.plugin_core.specs.Laws.{ShortPrompts}
@@ -32,8 +32,9 @@ use Rattle.session_engine.specs.declared.event.ChildEvent.TheVariants as child
 use Rattle.session_engine.specs.Named.{without_named, replace_named}
 use Rattle.session_engine.specs.Host.{name_of}
 use Rattle.session_engine.specs.inside.Tables.{with_life as running_with}
-use Rattle.session_engine.specs.World.{World, Going, life_of, with_number, with_op, with_op_if, sheet_in, fits}
-use Rattle.session_engine.specs.Does.{with_piece, op_by, closed_told, told_with}
+use Rattle.session_engine.specs.World.{World, Going, life_of, with_number, with_op_if, sheet_in}
+use Rattle.session_engine.specs.inside.Words.{with_op, fits, with_piece}
+use Rattle.session_engine.specs.Does.{op_by, closed_told, told_with}
 use Rattle.session_engine.specs.inside.Parts.{goes_on}
 use Rattle.session_engine.specs.Host.{HasField, HaveFields, EngineStandsFor}
 use Rattle.session_engine.specs.inside.Commits.{AllowedIf, Committed, CommittedIf, IsEitherIf, LosesField, NotKept, SparesLife}

@@ -21,9 +21,10 @@ use Rattle.session_engine.specs.declared.outcome.HostFault.TheVariants as faults
 use Rattle.session_engine.specs.declared.outcome.Outcome.{Outcome}
 use Rattle.session_engine.specs.declared.reply.Reply.TheVariants as reply
 use Rattle.session_engine.specs.declared.table.Running.{Running}
-use Rattle.session_engine.specs.World.{World, codes_anew, fits_anew, fits_anew_in, renewed, sheet_in}
+use Rattle.session_engine.specs.World.{World, sheet_in}
+use Rattle.session_engine.specs.inside.Words.{codes_anew, fits_anew, fits_anew_in, renewed, renews}
 use Rattle.session_engine.specs.Refused.{command_refusals}
-use Rattle.session_engine.specs.Does.{CommandDoes, Does, MayDo, behind, refused, renews, replies, tells}
+use Rattle.session_engine.specs.Does.{CommandDoes, Does, MayDo, behind, refused, replies, tells}
 use Rattle.session_engine.specs.Host.{EngineStandsFor, HostView, IsHost, OnDisk, Took}
 use Rattle.session_engine.specs.Faults.{CauseOf, Failed}
 use Rattle.session_engine.proofs.Standing.{unchanged}

@@ -18,7 +18,8 @@ use Rattle.session_engine.specs.Named.{first_named, without_named, replace_named
 use Rattle.session_engine.specs.Host.{name_of, life_in}
 use Rattle.session_engine.specs.inside.Tables.{has_number}
 use Rattle.block_tree.specs.declared.reason.Reason.{Reason}
-use Rattle.session_engine.specs.World.{World, Going, life_of, with_number, with_op, sheet_in, fits, fits_in}
+use Rattle.session_engine.specs.World.{World, Going, life_of, with_number, sheet_in, fits_in}
+use Rattle.session_engine.specs.inside.Words.{with_op, fits}
 use Rattle.session_engine.specs.Does.{ends}
 use Rattle.session_engine.specs.inside.Parts.{with_life, without_life}
 use Rattle.session_engine.specs.Host.{RunsAs, Lives, HaveFields, EngineStandsFor}

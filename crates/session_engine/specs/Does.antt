@@ -1,14 +1,15 @@
 -- What an accepted command and an event of a child do: one row for each. (docs/HOST.md, "What an event does".)
-use Rattle.std.specs.Prelude.{◌≡◌, ◌⊎◌, ℕ, ◌+◌, List, [], ◌∷◌, ◌++◌, Bool, true, false, Option, Some, None, option_map}
+use Rattle.std.specs.Prelude.{◌≡◌, ◌⊎◌, ℕ, ◌+◌, List, [], ◌∷◌, ◌++◌, Bool, true, false, Option, Some, None, option_map, option_and_then, if◌then◌else◌}
+use Rattle.std.specs.Option.{option_map_or}
 use Rattle.meta_format.specs.Stream.{Outer}
 use Rattle.meta_format.specs.Faults.{Kind}
 use Rattle.worksheet.specs.declared.op.Op.{Op}
 use Rattle.worksheet.specs.declared.op.Op.TheVariants as op
-use Rattle.worksheet.specs.declared.field.Session.{Session}
 use Rattle.worksheet.specs.declared.refusal.Refusal.{Refusal}
 use Rattle.worksheet.specs.declared.refusal.Refusal.TheVariants as refusal
 use Rattle.worksheet.specs.Checks.{first_of, session_named}
 use Rattle.plugin_core.specs.declared.item.Item.{Item}
+use Rattle.plugin_core.specs.declared.item.Item.TheVariants as item
 use Rattle.plugin_core.specs.declared.step.Step.{Step}
 use Rattle.plugin_core.specs.declared.step.Ended.{Ended}
 use Rattle.plugin_core.specs.declared.step.Answered.{Answered}
@@ -32,7 +33,7 @@ use Rattle.session_engine.specs.declared.reply.Closed.{Closed}
 use Rattle.session_engine.specs.declared.reply.Closed.TheVariants as closed
 use Rattle.session_engine.specs.declared.reply.Reply.{Reply}
 use Rattle.session_engine.specs.declared.reply.Reply.TheVariants as reply
-use Rattle.session_engine.specs.World.{World, Going, life_of, with_number, with_op_if, renewed_if, kept_in, kept_at_end, session_of_field, line_of_field, request_of_field, sheet_in, waiting_in}
+use Rattle.session_engine.specs.World.{World, Going, life_of, with_number, with_op_if, renewed_if, kept_in, kept_at_end, session_of_field, input_of, sheet_in, waiting_in}
 use Rattle.session_engine.specs.Refused.{command_refusals, command_takes_memory}
 
 -- What an event does: what is told, the op that it gives if any, whether it writes the journal anew, how many lives have begun
@@ -44,7 +45,7 @@ pub record Does : Type 0 where
   pub begun : ℕ
   pub lives : List Going
 
--- the world behind it
+-- the world behind what an event does
 abbrev pub behind : World → Does → World
 behind w d = renewed_if d.anew (with_op_if d.op (record w { begun = d.begun; lives = d.lives }))
 
@@ -57,15 +58,11 @@ replies r = record { reply = r; effect = None }
 abbrev pub refused : Refusal → Outcome
 refused r = replies (reply.Refused r)
 
-abbrev pub kill_if : Bool → Going → Option Effect
-kill_if true l = Some (effect.Kill l.name l.number)
-kill_if false l = None
-
--- the end of a life at which no answer closes: its reason, and the items that wait are lost
+-- the end of a life at which no answer closes: its reason, and the items that wait are lost; its child is killed or not
 abbrev pub ends : Going → Reason → Bool → Outcome
 ends l why killed = record {
   reply = reply.Child (record { name = l.name; life = l.number; closed = None; default_input = None; ended = Some (record { reason = why; lost = waiting_in l }) });
-  effect = kill_if killed l;
+  effect = if killed then Some (effect.Kill l.name l.number) else None;
 }
 
 -- the answer that a piece closes, as it is told
@@ -75,108 +72,75 @@ closed_told (Some (answered.Banner b)) = Some (closed.Banner b)
 closed_told (Some (answered.Line id prompt output)) = Some (closed.Line id)
 closed_told (Some (answered.Complete id result)) = Some (closed.Complete id result)
 
--- the op of the end that a piece brings
-abbrev pub op_of_end : ℕ → ℕ → Option Ended → Option Op
-op_of_end room end None = None
-op_of_end room end (Some e) = kept_in room end e.reason e.lost
-
 -- The op that a piece gives, by the answer that it closes and by the end that it brings: that of the answer to a line; where no item
 -- was answered, that of the end.
 abbrev pub op_by : ℕ → ℕ → Option Answered → Option Ended → Option Op
-op_by room end None e = op_of_end room end e
-op_by room end (Some (answered.Banner b)) e = op_of_end room end e
-op_by room end (Some (answered.Line id prompt output)) e = Some (op.Answer id prompt output)
-op_by room end (Some (answered.Complete id result)) e = None
+op_by room end (Some (answered.Line id prompt output)) end_brought = Some (op.Answer id prompt output)
+op_by room end (Some (answered.Complete id result)) end_brought = None
+op_by room end _ end_brought = option_and_then (λ e. kept_in room end e.reason e.lost) end_brought
 
+-- what a piece makes be done: the child is killed where the life ends, else it is sent these bytes, if there are any
 abbrev pub sends_or_kills : List ℕ → ℕ → Option (List ℕ) → Option Ended → Option Effect
 sends_or_kills name number send None = option_map (λ bytes. effect.Send name number bytes) send
 sends_or_kills name number send (Some e) = Some (effect.Kill name number)
 
--- a piece that closes no answer and brings no fault is told as nothing
+-- What is told of a piece of a life, by its name and number: the answer that it closes, the default input of that, and the end that
+-- it brings. Where it closes no answer and brings no end it is told as nothing.
 abbrev pub told_with : List ℕ → ℕ → Option Closed → Option (List ℕ) → Option (List ℕ) → Option Ended → Outcome
 told_with name number None default_input send None = replies reply.Nothing
-told_with name number (Some a) default_input send end = record {
-  reply = reply.Child (record { name = name; life = number; closed = Some a; default_input = default_input; ended = end });
+told_with name number answer default_input send end = record {
+  reply = reply.Child (record { name = name; life = number; closed = answer; default_input = default_input; ended = end });
   effect = sends_or_kills name number send end;
 }
-told_with name number None default_input send (Some e) = record {
-  reply = reply.Child (record { name = name; life = number; closed = None; default_input = default_input; ended = Some e });
-  effect = Some (effect.Kill name number);
-}
-
-abbrev pub told_of : Going → Step → Outcome
-told_of l s = told_with l.name l.number (closed_told s.answered) s.default_input s.send s.ended
 
 -- The lives behind an event.
 
--- a life in place of what it was
-abbrev pub put_back : Going → List Going → List Going
-put_back l lives = replace_named (λ g. g.name) l.name l lives
-
-abbrev pub taken_out : List ℕ → List Going → List Going
-taken_out name lives = without_named (λ g. g.name) name lives
-
--- a life that begins with an item
-abbrev pub begun_with : World → List ℕ → Item → Going
-begun_with w name i = record { name = name; number = w.begun + 1; past = accepted i ∷ []; blocks = [] }
-
--- a life with an item more
-abbrev pub joined_by : Going → Item → Going
-joined_by l i = record l { past = l.past ++ accepted i ∷ [] }
-
--- a life with a piece more, where these are the blocks of its stream then
-abbrev pub with_piece : Going → List ℕ → List Outer → Going
-with_piece l piece blocks = record l { past = l.past ++ received piece ∷ []; blocks = blocks }
-
--- lives behind a piece of one of them
+-- the lives behind a piece of one of them, which is now this one: it stands in the place of what it was, and is taken out where it ended
 abbrev pub lives_behind : Going → Option Ended → List Going → List Going
-lives_behind l None lives = put_back l lives
-lives_behind l (Some e) lives = taken_out l.name lives
+lives_behind l None lives = replace_named (λ g. g.name) l.name l lives
+lives_behind l (Some e) lives = without_named (λ g. g.name) l.name lives
 
 -- The rows.
 
--- nothing but this is told
+-- an event does nothing but that this reply is told
 abbrev pub tells : World → Reply → Does
 tells w r = record { told = replies r; op = None; anew = false; begun = w.begun; lives = w.lives }
 
--- the worksheet alone changes
+-- an event gives this op, and no life changes
 abbrev pub changes : World → Op → Does
 changes w o = record { told = replies (reply_to (sheet_in w) o); op = Some o; anew = false; begun = w.begun; lives = w.lives }
-
--- the journal alone changes, which is written anew
-abbrev pub renews : World → Does
-renews w = record { told = replies reply.Done; op = None; anew = true; begun = w.begun; lives = w.lives }
-
--- the words that a session's interpreter is started with
-abbrev pub starting_words : Option Session → List (List ℕ)
-starting_words None = []
-starting_words (Some s) = s.words
 
 -- A session is asked an item, which gives this op or none. The item begins a life, or joins the one that goes on.
 abbrev pub asks_item : World → Item → Option Op → List ℕ → Option Going → Does
 asks_item w i given name None = record {
-  told = record { reply = reply.Asked (w.begun + 1); effect = Some (effect.Start name (w.begun + 1) (starting_words (session_named (sheet_in w).sessions name))) };
+  told = record { reply = reply.Asked (w.begun + 1); effect = Some (effect.Start name (w.begun + 1) (option_map_or (λ s. s.words) (session_named (sheet_in w).sessions name) [])) };
   op = given;
   anew = false;
   begun = w.begun + 1;
-  lives = w.lives ++ begun_with w name i ∷ [];
+  lives = w.lives ++ record { name = name; number = w.begun + 1; past = accepted i ∷ []; blocks = [] } ∷ [];
 }
 asks_item w i given name (Some l) = record {
   told = record { reply = reply.Asked l.number; effect = option_map (λ bytes. effect.Send name l.number bytes) (sent_by l.past l.blocks (accepted i) l.blocks) };
   op = given;
   anew = false;
   begun = w.begun;
-  lives = put_back (joined_by l i) w.lives;
+  lives = replace_named (λ g. g.name) l.name (record l { past = l.past ++ accepted i ∷ [] }) w.lives;
 }
 
 -- a life ends from outside; where none goes on, only this is told
 abbrev pub ends_life : World → Reason → Bool → Option Going → Reply → Does
 ends_life w why killed None else_told = tells w else_told
-ends_life w why killed (Some l) else_told = record { told = ends l why killed; op = kept_at_end w why (Some l); anew = false; begun = w.begun; lives = taken_out l.name w.lives }
+ends_life w why killed (Some l) else_told = record { told = ends l why killed; op = kept_at_end w why (Some l); anew = false; begun = w.begun; lives = without_named (λ g. g.name) l.name w.lives }
 
 -- a piece of a life gives this step of it, where these are the blocks of its stream with the piece
 abbrev pub steps : World → Going → List ℕ → List Outer → Step → Does
-steps w l piece blocks s = record { told = told_of l s; op = op_by w.room w.end s.answered s.ended; anew = false; begun = w.begun; lives = lives_behind (with_piece l piece blocks) s.ended w.lives }
+steps w l piece blocks s = record {
+  told = told_with l.name l.number (closed_told s.answered) s.default_input s.send s.ended;
+  op = op_by w.room w.end s.answered s.ended;
+  anew = false;
+  begun = w.begun;
+  lives = lives_behind (record l { past = l.past ++ received piece ∷ []; blocks = blocks }) s.ended w.lives;
+}
 
 -- what an accepted command does
 abbrev pub does : World → Command → Does
@@ -187,11 +151,12 @@ does w (command.Remove id) = changes w (op.Remove id)
 does w (command.Move id after) = changes w (op.Move id after)
 does w (command.Clear id) = changes w (op.Clear id)
 -- the line of the field is asked, and its answer is taken away
-does w (command.Eval id) = asks_item w (line_of_field w id) (Some (op.Clear id)) (session_of_field w id) (life_of w (session_of_field w id))
+does w (command.Eval id) = asks_item w (item.Line id (input_of w id)) (Some (op.Clear id)) (session_of_field w id) (life_of w (session_of_field w id))
 -- its input is asked at the cursor, and the worksheet stays as it is
-does w (command.Complete id cursor) = asks_item w (request_of_field w id cursor) None (session_of_field w id) (life_of w (session_of_field w id))
+does w (command.Complete id cursor) = asks_item w (item.Complete id (input_of w id) cursor) None (session_of_field w id) (life_of w (session_of_field w id))
 does w (command.Stop name) = ends_life w reason.Stopped true (life_of w name) reply.Done
-does w command.Checkpoint = renews w
+-- the journal alone changes, which is written anew
+does w command.Checkpoint = record { told = replies reply.Done; op = None; anew = true; begun = w.begun; lives = w.lives }
 
 -- What an event of a child does, where this is the life with its number, if that goes on. A piece does what the stream of the
 -- life with it tells by its blocks and its fault.
@@ -221,7 +186,7 @@ MayDo w (event.Child name number e) d = ChildDoes w (with_number number (life_of
 abbrev pub Gives : World → Event → Outcome → World → Type 0
 Gives w e o v = (d : Does) × MayDo w e d × (o ≡ d.told) × (v ≡ behind w d)
 
--- so do events one behind another
+-- events one behind another give these outcomes, and lead there
 abbrev pub Runs : World → List Event → List Outcome → World → Type 0
 Runs w [] [] v = v ≡ w
 Runs w (e ∷ es) (o ∷ os) v = (mid : World) × Gives w e o mid × Runs mid es os v

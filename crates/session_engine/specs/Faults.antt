@@ -8,31 +8,24 @@ use Rattle.session_engine.specs.declared.event.Event.{Event}
 use Rattle.session_engine.specs.declared.event.Event.TheVariants as event
 use Rattle.session_engine.specs.declared.outcome.HostFault.{HostFault}
 use Rattle.session_engine.specs.declared.outcome.HostFault.TheVariants as faults
-use Rattle.session_engine.specs.World.{World, sheet_in, life_of, with_number, fits, kept_at_end}
+use Rattle.session_engine.specs.World.{World, sheet_in, life_of, with_number, fits_in, kept_at_end}
 use Rattle.session_engine.specs.Does.{Does, MayDo}
 use Rattle.session_engine.specs.Host.{HostView, OnDisk, number_in}
 
 -- A piece of a life that goes on. It takes memory, and it can't be refused.
 abbrev pub is_piece : World → Event → Bool
-is_piece w (event.Command c) = false
-is_piece w (event.Child name number child.StartRefused) = false
 is_piece w (event.Child name number (child.Piece piece)) = is_some (with_number number (life_of w name))
-is_piece w (event.Child name number child.End) = false
-is_piece w (event.Child name number child.ReadFault) = false
-is_piece w (event.Child name number child.SendFault) = false
-is_piece w (event.Child name number child.Stalled) = false
-is_piece w (event.Child name number child.StopFault) = false
+is_piece w _ = false
 
 -- The end of a life at which a line keeps its reason takes memory too; no other event of a child does.
 abbrev pub event_takes_memory : World → Event → Bool
-event_takes_memory w (event.Command c) = false
 event_takes_memory w (event.Child name number child.StartRefused) = is_some (kept_at_end w reason.StartRefused (with_number number (life_of w name)))
 event_takes_memory w (event.Child name number (child.Piece piece)) = is_piece w (event.Child name number (child.Piece piece))
 event_takes_memory w (event.Child name number child.End) = is_some (kept_at_end w reason.Ended (with_number number (life_of w name)))
 event_takes_memory w (event.Child name number child.ReadFault) = is_some (kept_at_end w reason.ReadFault (with_number number (life_of w name)))
 event_takes_memory w (event.Child name number child.SendFault) = is_some (kept_at_end w reason.SendFault (with_number number (life_of w name)))
 event_takes_memory w (event.Child name number child.Stalled) = is_some (kept_at_end w reason.Stalled (with_number number (life_of w name)))
-event_takes_memory w (event.Child name number child.StopFault) = false
+event_takes_memory w _ = false
 
 -- the event may do this, which gives this op
 pub record MayGive (w : World) (e : Event) (o : Op) : Type 0 where
@@ -52,7 +45,7 @@ abbrev pub CauseOf : World → Event → DiskView → DiskView → HostFault →
 CauseOf w e old new faults.Closed = ⊥
 CauseOf w e old new faults.Disk = Rises old.faults new.faults × ((write : MayWrite w e) × OnDisk w.ops write.does.anew write.does.op old new)
 CauseOf w e old new faults.OutOfMemory = (new ≡ old) × (event_takes_memory w e ≡ true)
-CauseOf w e old new faults.JournalFull = (new ≡ old) × (is_piece w e ≡ true) × ((o : Op) × MayGive w e o × (fits w o ≡ false))
+CauseOf w e old new faults.JournalFull = (new ≡ old) × (is_piece w e ≡ true) × ((o : Op) × MayGive w e o × (fits_in w.room w.end o ≡ false))
 
 -- An event that was not taken leaves the worksheet, and each life's number, as they were.
 pub record Failed (w : World) (e : Event) (old new : HostView) (fault : HostFault) : Type 0 where

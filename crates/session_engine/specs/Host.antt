@@ -1,5 +1,5 @@
 -- Which host stands for a world, and what a step of it and its opening give. (docs/HOST.md, "What a host promises".)
-use Rattle.std.specs.Prelude.{◌≡◌, ◌≤◌, ℕ, List, [], ◌∷◌, Bool, true, false, Option, Some, None, option_map, Result, Ok, Err}
+use Rattle.std.specs.Prelude.{◌≡◌, ◌≤◌, ◌⊎◌, ℕ, List, [], ◌∷◌, ◌++◌, Bool, true, false, Option, Some, None, option_map, Result, Ok, Err}
 use Rattle.std.specs.List.{AllByRecursion}
 use Rattle.disk_model.specs.Disk.{DiskView, Image, InModel, Leaves, LeavesOnly}
 use Rattle.worksheet.specs.declared.op.Op.{Op}
@@ -10,7 +10,7 @@ use Rattle.journal.specs.declared.journal.OpenFault.{OpenFault}
 use Rattle.journal.specs.Open.{IsPassing}
 use Rattle.journal.specs.Area.{end_of}
 use Rattle.journal.specs.Kept.{ImageStandsFor as StandsForPayloads}
-use Rattle.recovery.specs.Sheets.{StoreView, IsSheetImage, IsEither}
+use Rattle.recovery.specs.Sheets.{StoreView, IsSheetImage}
 use Rattle.plugin_core.specs.declared.item.Item.{Item}
 use Rattle.plugin_core.specs.declared.item.Item.TheVariants as item
 use Rattle.plugin_core.specs.Kept.{LifeHasPast}
@@ -29,6 +29,7 @@ pub record HostView : Type 0 where
   pub begun : ℕ
   pub closed : Bool
 
+-- the name of its session
 abbrev pub name_of : Running → List ℕ
 name_of r = r.name
 
@@ -86,7 +87,7 @@ pub record IsHost (h : HostView) (w : World) : Type 0 where
 -- worksheet before it, or of that with the op. While the journal is written anew, each is one of the same worksheet.
 abbrev pub OnDisk : List Op → Bool → Option Op → DiskView → DiskView → Type 0
 OnDisk ops false None old new = new ≡ old
-OnDisk ops false (Some o) old new = InModel old (LeavesOnly (IsEither ops o) old.history new.history)
+OnDisk ops false (Some o) old new = InModel old (LeavesOnly (λ i. IsSheetImage (sheet_of ops) i ⊎ IsSheetImage (sheet_of (ops ++ o ∷ [])) i) old.history new.history)
 OnDisk ops true given old new = InModel old (LeavesOnly (IsSheetImage (sheet_of ops)) old.history new.history)
 
 -- The event did this, which was told, and the host goes on behind it.

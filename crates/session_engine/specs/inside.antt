@@ -1,4 +1,5 @@
 -- What only proofs and private clauses use.
+pub mod Words
 pub mod Parts
 pub mod Tables
 pub mod Engines

@@ -18,7 +18,8 @@ impl<D: Disk> Engine<D> {
     ghost use Rattle.session_engine.specs.declared.event.Event.TheVariants as event;
     ghost use Rattle.session_engine.specs.declared.outcome.HostFault.TheVariants as faults;
     ghost use Rattle.session_engine.specs.Commands.{op_of, reply_to as reply_to_op};
-    ghost use Rattle.session_engine.specs.World.{World, fits, sheet_in};
+    ghost use Rattle.session_engine.specs.World.{World, sheet_in};
+    ghost use Rattle.session_engine.specs.inside.Words.{fits};
     ghost use Rattle.session_engine.specs.Refused.{refusals_but_room};
     ghost use Rattle.session_engine.specs.inside.Engines.{StandsAt, Works, TookAt, FailedAt};
     ghost use Rattle.session_engine.specs.inside.Commits.{SparesLife, Changes};

@@ -7,7 +7,8 @@ ghost use Rattle.worksheet.specs.Ops.{sheet_of};
 ghost use Rattle.worksheet.specs.Checks.{first_refusal};
 ghost use Rattle.recovery.specs.Sheets.{IsEither};
 ghost use Rattle.plugin_core.specs.Items.{first_line_of};
-ghost use Rattle.session_engine.specs.Does.{closed_told, op_by, op_of_end};
+ghost use Rattle.session_engine.specs.Does.{closed_told, op_by};
+ghost use Rattle.session_engine.specs.inside.Words.{op_of_end};
 ghost use Rattle.session_engine.specs.World.{fits_in};
 ghost use Rattle.session_engine.specs.inside.Commits.{Commits, AllowedIf, CommittedIf, HasFieldIf, IsEitherIf, LosesField, NotKept, NotLost, answer_op, kept_for};
 

@@ -29,7 +29,7 @@ impl<D: Disk> Engine<D> {
     ghost use Rattle.session_engine.specs.inside.Engines.{StandsAt, Works, TookAt};
     ghost use Rattle.session_engine.specs.inside.Commits.{GivesRequest, RefusesComplete};
     ghost use Rattle.session_engine.specs.World.{World, sheet_in};
-    ghost use Rattle.session_engine.specs.Refused.{takes_tab};
+    ghost use Rattle.session_engine.specs.inside.Words.{takes_tab};
     ghost use Rattle.worksheet.specs.Checks.{session_named};
 
     /// Whether the interpreter of a session answers requests of completions.

@@ -93,7 +93,8 @@ impl<D: Disk> Engine<D> {
     ghost use Rattle.session_engine.specs.inside.Commits.{RefusesEval};
     ghost use Rattle.session_engine.specs.World.{World, life_of, session_of_field, sheet_in};
     ghost use Rattle.session_engine.specs.inside.Parts.{eval_refusals, start_words, asks, with_item};
-    ghost use Rattle.session_engine.specs.Refused.{lives_are_spent, queue_refusals};
+    ghost use Rattle.session_engine.specs.Refused.{queue_refusals};
+    ghost use Rattle.session_engine.specs.inside.Words.{lives_are_spent};
     ghost use Rattle.session_engine.specs.Host.{HasField};
     ghost use Rattle.session_engine.specs.inside.Commits.{told_asked, begun_with_words, Evaluated};
     ghost use Rattle.session_engine.specs.declared.outcome.HostFault.TheVariants as faults;

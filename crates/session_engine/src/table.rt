@@ -5,7 +5,8 @@ ghost use Rattle.session_engine.specs.Host.{name_of, life_in};
 ghost use Rattle.session_engine.specs.inside.Tables.{has_number, TakesOut, FeedsIf, GoesOnAt};
 ghost use Rattle.session_engine.specs.Host.{Lives};
 ghost use Rattle.session_engine.specs.Named.{first_named};
-ghost use Rattle.session_engine.specs.World.{Going, waits_in};
+ghost use Rattle.session_engine.specs.World.{Going};
+ghost use Rattle.session_engine.specs.inside.Words.{waits_in};
 ghost use Rattle.session_engine.specs.inside.Tables.{line_in};
 
 use block_tree::OutOfMemory;

@@ -1,7 +1,7 @@
 -- What `check` leaves: on the copy a faithful run of the evaluations, of the disk that was given reads alone.
 use Rattle.std.specs.Prelude.{◌≡◌, ◌⊎◌, IsTrue, ℕ, List, ◌∷◌, ◌++◌, Option, Some, Result, Ok, Err}
 use Rattle.std.specs.Io.KnownBytes.{Appends}
-use Rattle.disk_model.specs.Disk.{DiskView, InModel, Looks, SameDisk, bytes_on, max_room}
+use Rattle.disk_model.specs.Disk.{DiskView, InModel, Looks, SameDisk, bytes_on, greatest_room}
 use Rattle.worksheet.specs.declared.field.Answer.{Answer}
 use Rattle.worksheet.specs.declared.field.Field.{Field}
 use Rattle.worksheet.specs.Contents.{Contents}
@@ -36,7 +36,7 @@ use Rattle.sheet_check.specs.Evaluated.{FieldsChecked, eval_of}
 pub record IsCopy (sheet : Contents) (w : World) (copy : DiskView) : Type 0 where
   pub made : DiskView
   pub keeps : IsTrue made.keeps_model
-  pub room : made.room ≡ max_room
+  pub room : made.room ≡ greatest_room
   pub is : IsSheetImage sheet (bytes_on made)
   pub opened : OpenedOn made w copy
   pub holds : HoldsSheet w copy

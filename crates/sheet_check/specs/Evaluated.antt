@@ -1,5 +1,6 @@
 -- The fields of a worksheet evaluated anew, one behind another.
 use Rattle.std.specs.Prelude.{◌≡◌, ℕ, Bool, true, false, List, [], ◌∷◌, ◌++◌, Option, Some, None}
+use Rattle.std.specs.Option.{option_map_or}
 use Rattle.worksheet.specs.Checks.{field_in}
 use Rattle.worksheet.specs.declared.field.Answer.{Answer}
 use Rattle.worksheet.specs.declared.field.Field.{Field}
@@ -9,7 +10,7 @@ use Rattle.session_engine.specs.declared.event.Event.{Event}
 use Rattle.session_engine.specs.declared.event.Event.TheVariants as event
 use Rattle.session_engine.specs.declared.reply.Reply.{Reply}
 use Rattle.session_engine.specs.declared.reply.Reply.TheVariants as reply
-use Rattle.session_engine.specs.World.{World, by_field, sheet_in}
+use Rattle.session_engine.specs.World.{World, sheet_in}
 use Rattle.child_edge.specs.Limits.{most_turns}
 use Rattle.child_edge.specs.Faithful.{Relation, At, Beat, Served, Waited}
 use Rattle.child_edge.specs.Told.{told}
@@ -47,7 +48,7 @@ begins_for_memory (first ∷ others) = is_for_memory first
 
 -- the answer that a field shows in a world
 abbrev pub shown_in : World → ℕ → Option Answer
-shown_in w id = by_field (field_in (sheet_in w).fields id) None (λ field. field.answer)
+shown_in w id = option_map_or (λ field. field.answer) (field_in (sheet_in w).fields id) None
 
 -- An answer came where the line was asked: the one that the field shows then. Else what it shows is the worksheet's, and none came.
 abbrev pub came_if : Bool → Option Answer → Option Answer

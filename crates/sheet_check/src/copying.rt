@@ -1,13 +1,13 @@
 //! The copy of a worksheet that is evaluated anew.
 ghost use Rattle.std.specs.Prelude.{◌≡◌, List, IfSome, IsTrue};
 ghost use Rattle.worksheet.specs.declared.op.Op.{Op};
-ghost use Rattle.disk_model.specs.Disk.{Leaves, max_room};
+ghost use Rattle.disk_model.specs.Disk.{Leaves, greatest_room};
 ghost use Rattle.recovery.specs.Sheets.{IsSheetImage, Makes};
 ghost use Rattle.session_engine.specs.World.{World};
 ghost use Rattle.session_engine.specs.Host.{IsHost};
 ghost use Rattle.sheet_check.specs.Check.{IsCopy};
 
-use disk_model::{Disk, MAX_ROOM, MemoryDisk};
+use disk_model::{Disk, GREATEST_ROOM, MemoryDisk};
 use recovery::save;
 use session_engine::Host;
 use std::alloc::Global;
@@ -17,7 +17,7 @@ use worksheet::Sheet;
 fn open_saved<D: Disk>(alloc: Global, disk: D, sheet: &Sheet) -> Option<Host<D>>
     requires made { (ops : List Op) × Makes ops sheet.now.contents }
     requires model { IsTrue (D.view disk).keeps_model }
-    requires room { (D.view disk).room ≡ max_room }
+    requires room { (D.view disk).room ≡ greatest_room }
     requires saved { Leaves (IsSheetImage sheet.now.contents) (D.view disk).history.now }
     ensures { IfSome result (λ host. (w : World) × IsHost host w
         × IsCopy sheet.now.contents w host.store.disk) }
@@ -36,7 +36,7 @@ pub(crate) fn open_copy(alloc: Global, sheet: &Sheet) -> Option<Host<MemoryDisk>
     ensures { IfSome result (λ host. (w : World) × IsHost host w
         × IsCopy sheet.now.contents w host.store.disk) }
 {
-    match save(alloc, MemoryDisk::new(alloc, MAX_ROOM), sheet) {
+    match save(alloc, MemoryDisk::new(alloc, GREATEST_ROOM), sheet) {
         Ok(disk) => open_saved(alloc, disk, sheet),
         Err(_) => None,
     }

@@ -14,7 +14,8 @@ use Rattle.sheet_text.specs.Script.{is_space, is_digit, is_numeral, before_space
 use Rattle.sheet_text.specs.declared.script.ScriptLine.TheVariants as line
 use Rattle.worksheet.specs.Checks.{are_words}
 use Rattle.worksheet.specs.Limits.{longest_name}
-use Rattle.worksheet.specs.Names.{is_name, is_name_byte}
+use Rattle.worksheet.specs.Names.{is_name}
+use Rattle.worksheet.specs.inside.Words.{is_name_byte}
 use Rattle.worksheet.specs.declared.field.Field.{Field}
 use Rattle.worksheet.specs.declared.field.Session.{Session}
 use Rattle.sheet_export.specs.Laws.{FieldLinesAreRead, SessionLinesAreRead}

@@ -1,6 +1,6 @@
 //! A disk of two files.
 ghost use Rattle.std.specs.Prelude.{◌≡◌, ◌≤◌, IfOk, Ok};
-ghost use Rattle.disk_model.specs.Disk.{Called, max_room};
+ghost use Rattle.disk_model.specs.Disk.{Called, greatest_room};
 ghost use Rattle.sheet_files.specs.Files.{file_view};
 
 use crate::pairing::{
@@ -8,7 +8,7 @@ use crate::pairing::{
     resolved, second_path, sync_folder,
 };
 use crate::{FilesFault, Lock, MakeFault, SheetFile};
-use disk_model::{Area, Disk, DiskFault, MAX_ROOM};
+use disk_model::{Area, Disk, DiskFault, GREATEST_ROOM};
 use std::alloc::Global;
 use std::fs::OpenFile;
 use std::io;
@@ -32,10 +32,10 @@ pub struct FileDisk<F: SheetFile + Drop> {
 
 /// The length of a file, where it isn't longer than the room.
 fn file_len<F: OpenFile>(file: &F) -> io::Result<u64>
-    ensures { IfOk result (λ len. len ≤ max_room) }
+    ensures { IfOk result (λ len. len ≤ greatest_room) }
 {
     let len = file.metadata()?.len();
-    if len > MAX_ROOM {
+    if len > GREATEST_ROOM {
         return Err(io::Error::from(ErrorKind::FileTooLarge));
     }
     Ok(len)
@@ -146,7 +146,7 @@ impl<F: SheetFile + Drop> FileDisk<F> {
 
     /// The length of an area's file.
     fn area_len(&self, area: Area) -> io::Result<u64>
-        ensures { IfOk result (λ len. len ≤ max_room) }
+        ensures { IfOk result (λ len. len ≤ greatest_room) }
     {
         match self.file(area) {
             Ok(file) => file_len(file),
@@ -194,12 +194,12 @@ impl<F: SheetFile + Drop> Disk for FileDisk<F> {
 
     ghost view = { λ disk. file_view disk.failures };
 
-    ghost small = { λ _. le_refl max_room };
+    ghost small = { λ _. le_refl greatest_room };
 
     ghost content_stays = { λ _ kept. unclaimed kept };
 
     fn room(&self) -> u64 {
-        MAX_ROOM
+        GREATEST_ROOM
     }
 
     fn len(&mut self, area: Area) -> Result<u64, DiskFault> {

@@ -6,7 +6,7 @@ use Rattle.std.specs.Prelude.{Bool, ◌&&◌, IfSome, IfOk, IfErr, OnOk, Result,
 use Rattle.std.specs.Io.KnownBytes.{Appends}
 use Rattle.std.proofs.lemmas.Option.{IfSome_then}
 use Rattle.std.proofs.Math.Nat.{le-min, min-le_left, min-le_right}
-use Rattle.disk_model.specs.Disk.{DiskView, InModel, Looks, Rises, SameDisk, bytes_on, max_faults}
+use Rattle.disk_model.specs.Disk.{DiskView, InModel, Looks, Rises, SameDisk, bytes_on, greatest_count}
 use Rattle.worksheet.specs.declared.op.Op.{Op}
 use Rattle.recovery.specs.Sheets.{IsSheetImage}
 use Rattle.session_engine.specs.declared.event.Event.{Event}
@@ -28,7 +28,7 @@ use Rattle.sheet_text.specs.Script.{line_of, wants_memory}
 use Rattle.sheet_text.specs.declared.script.ScriptLine.{ScriptLine}
 use Rattle.sheet_text.specs.declared.script.ScriptLine.TheVariants as line
 use Rattle.sheet_programs.specs.Lines.{LineDone, LinesDone, LineUpTo, LineSoFar, LineLed, whole, up_to, so_far, beats_text, led_beats}
-use Rattle.sheet_programs.specs.Input.{IsInputFault, max_input}
+use Rattle.sheet_programs.specs.Input.{IsInputFault, longest_standard_input}
 use Rattle.sheet_programs.specs.Memory.{script_lines}
 use Rattle.sheet_programs.specs.Run.{OpenedOn, LinesBefore, LinesUpTo, LinesSoFar, LinesLed, RunOf, RunStopped, RunSoFar, RunLed}
 use Rattle.sheet_programs.specs.Told.{LineFailed, LeavesFrontsAnyhow, StandsOrStopped}
@@ -289,7 +289,7 @@ pub failed_since : {C : Type 0} (R : Relation C) (strict : Bool) (lines : List (
 failed_since R strict lines disk now start c d h a b f same p e =
     let q = subst (λ x. LinesStopped R strict lines (at start c now) h d a b x) e p in
     let goes = goes_same start now q.0 q.3.world q.3.disk (lines-up-to-goes R lines (at start c now) q.0 q.1 q.2 q.3 q.4) in
-    min_since max_faults disk.faults q.3.disk.faults h.store.disk.faults (omega (arith, same.later, goes.later)) q.5.cause.0
+    min_since greatest_count disk.faults q.3.disk.faults h.store.disk.faults (omega (arith, same.later, goes.later)) q.5.cause.0
 
 -- What is known of a result, where it is known which it is.
 
@@ -363,7 +363,7 @@ done_run R strict stopped stream disk now c d a b back script start beats text t
     }))
 
 pub unread_script : {C : Type 0} (strict : Bool) (R : Relation C) (stream : Option (List ℕ)) (disk : DiskView) (c d : C) (a b : Option (List ℕ)) (nothing : Type 0) (f : RunFault)
-    → IsInputFault f → (f ≡ fault.InputTooLong → IfSome stream (λ script. max_input < length script)) → nothing → TellsBy strict R stream disk c d a b nothing f
+    → IsInputFault f → (f ≡ fault.InputTooLong → IfSome stream (λ script. longest_standard_input < length script)) → nothing → TellsBy strict R stream disk c d a b nothing f
 unread_script false R stream disk c d a b nothing fault.Input is long none = none
 unread_script false R stream disk c d a b nothing fault.InputTooLong is long none = (none, long refl)
 unread_script false R stream disk c d a b nothing fault.OutOfMemory is long none = inl none
@@ -430,17 +430,17 @@ told-of : (stream : Option (List ℕ)) (script : List ℕ) (P : List ℕ → Typ
 told-of stream script P is p = IfSome_then stream is (λ bytes e. subst P e p)
 
 module _ {C : Type 0} (R : Relation C) (stream : Option (List ℕ)) (disk now : DiskView) (c d : C) (a b : Option (List ℕ)) (nothing : Type 0) (script : List ℕ) (start : World) (h : HostView)
-    (is : IfSome stream (λ bytes. script ≡ bytes)) (short : length script ≤ max_input) (opened : OpenedOn disk start now) (held : HoldsSheet start now) (same : SameDisk disk h.store.disk) where
+    (is : IfSome stream (λ bytes. script ≡ bytes)) (short : length script ≤ longest_standard_input) (opened : OpenedOn disk start now) (held : HoldsSheet start now) (same : SameDisk disk h.store.disk) where
   pub broken_run : (strict : Bool) (f : RunFault) → LinesStopped R strict (script_lines script) (at start c now) h d a b f → TellsBy strict R stream disk c d a b nothing f
   broken_run false (fault.Host f) p = told-of stream script (λ s. RunStopped R s disk c d a b f) is (run-stopped R disk now c d a b script start h opened held same false f p)
   broken_run false fault.OutOfMemory p = inr (told-of stream script (λ s. RunSoFar R s disk c d a b) is (run-so-far R disk now c d a b script start h opened held same false p))
-  broken_run false fault.Output p = told-of stream script (λ s. (length s ≤ max_input) × RunLed R s disk c d) is (short, run-led R disk now c d a b script start h opened held same false p)
+  broken_run false fault.Output p = told-of stream script (λ s. (length s ≤ longest_standard_input) × RunLed R s disk c d) is (short, run-led R disk now c d a b script start h opened held same false p)
   broken_run true (fault.Host f) p =
       told-of stream script (λ s. (q : RunStopped R s disk c d a b f) × GoRight q.lines.before.done q.lines.earlier) is (run-stopped R disk now c d a b script start h opened held same true f p, p.8)
   broken_run true fault.OutOfMemory p =
       inr (told-of stream script (λ s. (q : RunSoFar R s disk c d a b) × GoRight q.lines.before.done q.lines.earlier) is (run-so-far R disk now c d a b script start h opened held same true p, p.8))
   broken_run true fault.Output p =
-      told-of stream script (λ s. (length s ≤ max_input) × ((q : RunLed R s disk c d) × GoRight q.lines.before.done q.lines.earlier)) is (short, (run-led R disk now c d a b script start h opened held same true p, p.4))
+      told-of stream script (λ s. (length s ≤ longest_standard_input) × ((q : RunLed R s disk c d) × GoRight q.lines.before.done q.lines.earlier)) is (short, (run-led R disk now c d a b script start h opened held same true p, p.4))
   broken_run false fault.Input p = absurd p
   broken_run false fault.InputTooLong p = absurd p
   broken_run false (fault.Open why) p = absurd p

@@ -4,8 +4,8 @@ use Rattle.sheet_programs.specs.declared.fault.RunFault.{RunFault}
 use Rattle.sheet_programs.specs.declared.fault.RunFault.TheVariants as fault
 
 -- the most bytes that a program takes
-abbrev pub max_input : ℕ
-max_input = 67108864
+abbrev pub longest_standard_input : ℕ
+longest_standard_input = 67108864
 
 -- a fault that reading an input can have
 abbrev pub IsInputFault : RunFault → Type 0

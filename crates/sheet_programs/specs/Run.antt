@@ -16,7 +16,7 @@ use Rattle.child_edge.specs.Moments.{LeavesFronts, LeavesFrontsUpTo}
 use Rattle.child_edge.specs.Seats.{running}
 use Rattle.child_edge.specs.Stops.{Stops}
 use Rattle.sheet_text.specs.Script.{line_of}
-use Rattle.sheet_programs.specs.Input.{max_input}
+use Rattle.sheet_programs.specs.Input.{longest_standard_input}
 use Rattle.sheet_programs.specs.Memory.{script_lines}
 use Rattle.sheet_programs.specs.Lines.{LinesDone, LineUpTo, LineSoFar, LineLed, beats_text, led_beats}
 use Rattle.sheet_programs.specs.Told.{LeavesFrontsAnyhow}
@@ -141,9 +141,9 @@ pub record RunLed {C : Type 0} (R : Relation C) (script : List ℕ) (disk : Disk
 -- was done.
 abbrev pub TellsRun : {C : Type 0} → Relation C → Option (List ℕ) → DiskView → C → C → Option (List ℕ) → Option (List ℕ) → Type 0 → RunFault → Type 0
 TellsRun R stream disk c d a b nothing fault.Input = nothing
-TellsRun R stream disk c d a b nothing fault.InputTooLong = nothing × IfSome stream (λ script. max_input < length script)
+TellsRun R stream disk c d a b nothing fault.InputTooLong = nothing × IfSome stream (λ script. longest_standard_input < length script)
 TellsRun R stream disk c d a b nothing (fault.Open why) = nothing × InModel disk (TellsOfSheet (bytes_on disk) why)
 TellsRun R stream disk c d a b nothing fault.InUse = ⊥
 TellsRun R stream disk c d a b nothing (fault.Host f) = IfSome stream (λ script. RunStopped R script disk c d a b f)
 TellsRun R stream disk c d a b nothing fault.OutOfMemory = nothing ⊎ IfSome stream (λ script. RunSoFar R script disk c d a b)
-TellsRun R stream disk c d a b nothing fault.Output = IfSome stream (λ script. (length script ≤ max_input) × RunLed R script disk c d)
+TellsRun R stream disk c d a b nothing fault.Output = IfSome stream (λ script. (length script ≤ longest_standard_input) × RunLed R script disk c d)

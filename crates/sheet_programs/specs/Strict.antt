@@ -10,7 +10,7 @@ use Rattle.child_edge.specs.Faithful.{Relation, At, Beat}
 use Rattle.child_edge.specs.Told.{told}
 use Rattle.sheet_text.specs.Script.{line_of}
 use Rattle.sheet_text.specs.declared.script.ScriptLine.{ScriptLine}
-use Rattle.sheet_programs.specs.Input.{max_input}
+use Rattle.sheet_programs.specs.Input.{longest_standard_input}
 use Rattle.sheet_programs.specs.Memory.{script_lines}
 use Rattle.sheet_programs.specs.Lines.{LineDone, LinesDone}
 use Rattle.sheet_programs.specs.Run.{LinesBefore, RunOf, RunStopped, RunSoFar, RunLed}
@@ -72,7 +72,7 @@ StrictDone R script disk c d a b back stopped = RunOf R (StrictLines R (script_l
 -- What a fault of a strict run tells: what that of a run does, and no line went wrong before the one at which it came.
 abbrev pub TellsStrict : {C : Type 0} → Relation C → Option (List ℕ) → DiskView → C → C → Option (List ℕ) → Option (List ℕ) → Type 0 → RunFault → Type 0
 TellsStrict R stream disk c d a b nothing fault.Input = nothing
-TellsStrict R stream disk c d a b nothing fault.InputTooLong = nothing × IfSome stream (λ script. max_input < length script)
+TellsStrict R stream disk c d a b nothing fault.InputTooLong = nothing × IfSome stream (λ script. longest_standard_input < length script)
 TellsStrict R stream disk c d a b nothing (fault.Open why) = nothing × InModel disk (TellsOfSheet (bytes_on disk) why)
 TellsStrict R stream disk c d a b nothing fault.InUse = ⊥
 TellsStrict R stream disk c d a b nothing (fault.Host f) =
@@ -80,4 +80,4 @@ TellsStrict R stream disk c d a b nothing (fault.Host f) =
 TellsStrict R stream disk c d a b nothing fault.OutOfMemory =
     nothing ⊎ IfSome stream (λ script. (p : RunSoFar R script disk c d a b) × GoRight p.lines.before.done p.lines.earlier)
 TellsStrict R stream disk c d a b nothing fault.Output =
-    IfSome stream (λ script. (length script ≤ max_input) × ((p : RunLed R script disk c d) × GoRight p.lines.before.done p.lines.earlier))
+    IfSome stream (λ script. (length script ≤ longest_standard_input) × ((p : RunLed R script disk c d) × GoRight p.lines.before.done p.lines.earlier))

@@ -12,7 +12,7 @@ mod taking;
 mod writing;
 
 pub use fault::{RunFault, fault_text};
-pub use input::{MAX_INPUT, read_input};
+pub use input::{LONGEST_STANDARD_INPUT, read_input};
 pub use memory::run_memory;
 pub use printing::show;
 pub use rescuing::{RescueFault, read_front, save_rescued};

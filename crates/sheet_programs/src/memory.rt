@@ -8,7 +8,7 @@ ghost use Rattle.sheet_text.specs.Texts as printed;
 ghost use Rattle.sheet_text.specs.declared.script.ScriptLine.TheVariants as said;
 ghost use Rattle.sheet_programs.specs.Memory.{LineRan, LinesRan, OpRan, ScriptRan, bad_line, script_lines};
 ghost use Rattle.session_engine.specs.Commands.{reply_to as reply_of};
-ghost use Rattle.sheet_programs.specs.Input.{IsStreamFault, max_input};
+ghost use Rattle.sheet_programs.specs.Input.{IsStreamFault, longest_standard_input};
 
 use crate::writing::{write_bad_line, write_reply, write_sheet};
 use crate::{RunFault, read_input};
@@ -121,7 +121,7 @@ fn do_lines<W: Write>(
 /// A command for which memory is refused is told so, changes nothing, and the script goes on.
 ///
 /// The script is read whole before anything is written. `Input` where the reader fails, an
-/// interruption included, `InputTooLong` where it gives more than `MAX_INPUT` bytes, and `OutOfMemory`
+/// interruption included, `InputTooLong` where it gives more than `LONGEST_STANDARD_INPUT` bytes, and `OutOfMemory`
 /// where it can't be kept: nothing was written then. `Output` where the writer fails: a part of the
 /// text may have gone out.
 pub fn run_memory<R: Read, W: Write>(
@@ -134,11 +134,11 @@ pub fn run_memory<R: Read, W: Write>(
 
     // A script that is too long is told as such, whatever else would go wrong with its text.
     ensures short { OnOk result (IfSome (R.remaining reader.old)
-        (λ script. length script ≤ max_input)) }
+        (λ script. length script ≤ longest_standard_input)) }
     ensures output_short { IsErrOf result RunFault.Output
-        → IfSome (R.remaining reader.old) (λ script. length script ≤ max_input) }
+        → IfSome (R.remaining reader.old) (λ script. length script ≤ longest_standard_input) }
     ensures too_long { IsErrOf result RunFault.InputTooLong
-        → IfSome (R.remaining reader.old) (λ script. max_input < length script) }
+        → IfSome (R.remaining reader.old) (λ script. longest_standard_input < length script) }
 
     // A script over memory gives no fault of a host or of a disk.
     ensures faults { IfErr result IsStreamFault }

@@ -8,7 +8,7 @@ ghost use Rattle.child_edge.specs.Faithful.{At, at, Beat};
 ghost use Rattle.child_edge.specs.Seats.{running};
 ghost use Rattle.child_edge.specs.Stops.{Stops};
 ghost use Rattle.sheet_programs.specs.Faults.{FailedSince};
-ghost use Rattle.sheet_programs.specs.Input.{max_input};
+ghost use Rattle.sheet_programs.specs.Input.{longest_standard_input};
 ghost use Rattle.sheet_programs.specs.Memory.{script_lines};
 ghost use Rattle.sheet_programs.specs.Run.{RunDone, RunOf, TellsRun};
 ghost use Rattle.sheet_programs.specs.Strict.{StrictDone, TellsStrict};
@@ -74,7 +74,7 @@ fn run_script<R: Read, W: Write, D: Disk, C: Children>(
         children.old children.new (W.contents writer.old) (W.contents writer.new) (D.view ran.disk))) }
     ensures same { IfOk result (λ ran. SameDisk (D.view disk) (D.view ran.disk)) }
     ensures short { OnOk result (IfSome (R.remaining reader.old)
-        (λ script. length script ≤ max_input)) }
+        (λ script. length script ≤ longest_standard_input)) }
     ensures fault { IfErr result (TellsBy strict C.after (R.remaining reader.old) (D.view disk)
         children.old children.new (W.contents writer.old) (W.contents writer.new)
         ((writer.new ≡ writer.old) × (children.new ≡ children.old))) }
@@ -115,7 +115,7 @@ fn run_script<R: Read, W: Write, D: Disk, C: Children>(
 /// is written of that.
 ///
 /// `Input` where the reader fails, an interruption included, `InputTooLong` where it gives more than
-/// `MAX_INPUT` bytes, `Open` where the disk isn't opened: nothing was written, and no child was called.
+/// `LONGEST_STANDARD_INPUT` bytes, `Open` where the disk isn't opened: nothing was written, and no child was called.
 /// `Host` where the host has a fault, and `OutOfMemory`: what was told before is written. `Output` where
 /// the writer fails, a flush included: a part of the text may have gone out.
 pub fn run<R: Read, W: Write, D: Disk, C: Children>(
@@ -132,7 +132,7 @@ pub fn run<R: Read, W: Write, D: Disk, C: Children>(
 
     // A script that is too long is told as such, whatever else would go wrong with its text.
     ensures short { OnOk result (IfSome (R.remaining reader.old)
-        (λ script. length script ≤ max_input)) }
+        (λ script. length script ≤ longest_standard_input)) }
     ensures fault { IfErr result (TellsRun C.after (R.remaining reader.old) (D.view disk)
         children.old children.new (W.contents writer.old) (W.contents writer.new)
         ((writer.new ≡ writer.old) × (children.new ≡ children.old))) }
@@ -164,7 +164,7 @@ pub fn run_strict<R: Read, W: Write, D: Disk, C: Children>(
         (W.contents writer.old) (W.contents writer.new) (D.view ran.disk) ran.stopped_at)) }
     ensures same { IfOk result (λ ran. SameDisk (D.view disk) (D.view ran.disk)) }
     ensures short { OnOk result (IfSome (R.remaining reader.old)
-        (λ script. length script ≤ max_input)) }
+        (λ script. length script ≤ longest_standard_input)) }
     ensures fault { IfErr result (TellsStrict C.after (R.remaining reader.old) (D.view disk)
         children.old children.new (W.contents writer.old) (W.contents writer.new)
         ((writer.new ≡ writer.old) × (children.new ≡ children.old))) }

@@ -6,7 +6,8 @@ use Rattle.std.proofs.lemmas.Bool.Decides.{nat_tests}
 use Rattle.std.proofs.lemmas.List.{append-nil}
 use Rattle.worksheet.specs.declared.op.Op.{Op}
 use Rattle.worksheet.specs.declared.op.Op.TheVariants as op
-use Rattle.worksheet.specs.Ops.{next_after, next_from, next_of, is_about, about, last_of, makes_or_ends, is_making, exists, field_of, put_behind, placed, without, order_of, sheet_of}
+use Rattle.worksheet.specs.Ops.{next_after, next_from, next_of, is_about, last_of, makes_or_ends, is_making, exists, field_of, put_behind, placed, sheet_of}
+use Rattle.worksheet.specs.inside.Words.{about, without, order_of}
 use Rattle.worksheet.specs.Checks.{Allowed, AllowedFrom, field_in, first_refusal, refusals}
 use Rattle.worksheet.specs.Laws.{HasNoIds, is_new}
 use Rattle.worksheet.proofs.Finds.{none_applies, true_from_not}

@@ -9,7 +9,8 @@ use Rattle.worksheet.specs.declared.op.Op.TheVariants as op
 use Rattle.worksheet.specs.declared.field.Answer.{Answer}
 use Rattle.worksheet.specs.declared.field.Field.{Field}
 use Rattle.worksheet.specs.declared.field.Session.{Session}
-use Rattle.worksheet.specs.Ops.{next_after, next_from, next_of, is_about, about_from, about, last_of, session_by, input_by, answer_by, reason_by, last_given, field_by, field_of, order_after, order_from, sessions_of}
+use Rattle.worksheet.specs.Ops.{next_after, next_from, next_of, is_about, about_from, last_of, session_by, input_by, outcome_by, last_given, field_of, order_after, order_from, sessions_of}
+use Rattle.worksheet.specs.inside.Words.{about, field_by}
 use Rattle.worksheet.specs.Edits.{with_input, with_outcome}
 
 -- The lists, with one op more.
@@ -88,22 +89,23 @@ last_given-push by given [] o = refl
 last_given-push by given (p ∷ os) o = last_given-push by (unwrap_or (by p) given) os o
 
 -- a field of this session, input, answer and reason, with an op more about it
-given-push : (o : Op) (id : ℕ) (session input : List ℕ) (answer : Option Answer) (lost : Option Reason)
-    → field_with id (unwrap_or (session_by o) session) (unwrap_or (input_by o) input) (unwrap_or (answer_by o) answer) (unwrap_or (reason_by o) lost) ≡ changed o (field_with id session input answer lost)
-given-push (op.Session name tab words) id session input answer lost = refl
-given-push (op.New after of text) id session input answer lost = refl
-given-push (op.Set other text) id session input answer lost = refl
-given-push (op.Remove other) id session input answer lost = refl
-given-push (op.Move other after) id session input answer lost = refl
-given-push (op.Clear other) id session input answer lost = refl
-given-push (op.Answer other prompt output) id session input answer lost = refl
-given-push (op.Lost other reason) id session input answer lost = refl
-given-push (op.Ids number) id session input answer lost = refl
+given-push : (o : Op) (id : ℕ) (session input : List ℕ) (outcome : Option Answer × Option Reason)
+    → field_with id (unwrap_or (session_by o) session) (unwrap_or (input_by o) input) (unwrap_or (outcome_by o) outcome).0 (unwrap_or (outcome_by o) outcome).1
+    ≡ changed o (field_with id session input outcome.0 outcome.1)
+given-push (op.Session name tab words) id session input outcome = refl
+given-push (op.New after of text) id session input outcome = refl
+given-push (op.Set other text) id session input outcome = refl
+given-push (op.Remove other) id session input outcome = refl
+given-push (op.Move other after) id session input outcome = refl
+given-push (op.Clear other) id session input outcome = refl
+given-push (op.Answer other prompt output) id session input outcome = refl
+given-push (op.Lost other reason) id session input outcome = refl
+given-push (op.Ids number) id session input outcome = refl
 
 field_by-push : (id : ℕ) (os : List Op) (o : Op) → field_by id (os ++ o ∷ []) ≡ changed o (field_by id os)
 field_by-push id os o =
-    rw (last_given-push session_by [] os o, last_given-push input_by [] os o, last_given-push answer_by None os o, last_given-push reason_by None os o)
-    (given-push o id (last_given session_by [] os) (last_given input_by [] os) (last_given answer_by None os) (last_given reason_by None os))
+    rw (last_given-push session_by [] os o, last_given-push input_by [] os o, last_given-push outcome_by (None, None) os o)
+    (given-push o id (last_given session_by [] os) (last_given input_by [] os) (last_given outcome_by (None, None) os))
 
 pub field_of-push : (os : List Op) (o : Op) (id : ℕ) → field_of (os ++ o ∷ []) id ≡ (if is_about id (next_of os) o then changed o (field_of os id) else field_of os id)
 field_of-push os o id = ap (λ (qs : List Op). field_by id qs) (about_from-push id 1 os o) ∙ go (is_about id (next_of os) o)

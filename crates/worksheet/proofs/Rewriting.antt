@@ -11,7 +11,7 @@ use Rattle.worksheet.specs.declared.refusal.Refusal.{Refusal}
 use Rattle.worksheet.specs.declared.field.Answer.{Answer}
 use Rattle.worksheet.specs.declared.field.Field.{Field}
 use Rattle.worksheet.specs.declared.field.Session.{Session}
-use Rattle.worksheet.specs.Limits.{last_number, longest_prompt, most_fields, most_sessions}
+use Rattle.worksheet.specs.Limits.{last_number, longest_kept_prompt, most_fields, most_sessions}
 use Rattle.worksheet.specs.Names.{is_name}
 use Rattle.worksheet.specs.Contents.{Contents}
 use Rattle.worksheet.specs.Ops.{put_behind, sheet_of}
@@ -357,8 +357,8 @@ module _ (sheet : Contents) (w : IsWorksheet sheet) where
         go None None e u one = subst (λ (fs : List Field). Reached (os ++ op.New place f.session f.input ∷ []) (contents_with fs sheet.sessions (f.id + 1))) (done None None e u) one
         go None (Some reason) e u one = outcome_run None (Some reason) (op.Lost f.id reason) e u refl (here, tt) one
         go (Some answer) lost e u one =
-            let short : length answer.prompt ≤ longest_prompt = subst HasShortPrompt e is_field.prompt in
-            let prompt : nat_lt longest_prompt (length answer.prompt) ≡ false = grind (arith, nat_tests) in
+            let short : length answer.prompt ≤ longest_kept_prompt = subst HasShortPrompt e is_field.prompt in
+            let prompt : nat_lt longest_kept_prompt (length answer.prompt) ≡ false = grind (arith, nat_tests) in
             let alone : f.lost ≡ None = subst (λ (a : Option Answer). HasOneOutcome a f.lost) e is_field.outcome in
             outcome_run (Some answer) None (op.Answer f.id answer.prompt answer.output) e alone refl (here, (prompt, tt)) one
 

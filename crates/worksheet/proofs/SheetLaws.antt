@@ -7,7 +7,8 @@ use Rattle.worksheet.specs.declared.op.Op.{Op}
 use Rattle.worksheet.specs.declared.op.Op.TheVariants as op
 use Rattle.worksheet.specs.declared.field.Field.{Field}
 use Rattle.worksheet.specs.declared.field.Session.{Session}
-use Rattle.worksheet.specs.Ops.{next_after, next_of, field_of, put_behind, placed, without, order_of, sessions_of, sheet_of}
+use Rattle.worksheet.specs.Ops.{next_after, next_of, field_of, put_behind, placed, sessions_of, sheet_of}
+use Rattle.worksheet.specs.inside.Words.{without, order_of}
 use Rattle.worksheet.specs.Checks.{numbers, field_in, first_refusal, refusals}
 use Rattle.worksheet.specs.Edits.{AllBelow, HasNumbersApart, contents_with, at_field, with_input, with_outcome, fields_without, placed_field, moved, edited}
 use Rattle.worksheet.proofs.Finds.{none_applies, true_from_not}

@@ -4,7 +4,8 @@ use Rattle.std.specs.Prelude.{◌==◌, is_some, nat_eq, IsSome}
 use Rattle.std.specs.Map.{lookup, values_of}
 use Rattle.std.proofs.lemmas.Bool.Decides.{nat_tests}
 use Rattle.worksheet.specs.declared.field.Field.{Field}
-use Rattle.worksheet.specs.Checks.{field_in, numbers, in_front, is_number, stands_behind}
+use Rattle.worksheet.specs.Checks.{field_in, numbers, in_front, is_number}
+use Rattle.worksheet.specs.inside.Words.{stands_behind}
 use Rattle.worksheet.specs.Edits.{AllBelow, AreApart, at_field, fields_without, moved, placed_field}
 use Rattle.worksheet.proofs.EditLaws.{not_first, insert-put_behind, remove-fields_without, find-at, set-at_field}
 use Rattle.worksheet.proofs.MoveLaws.{put_either}

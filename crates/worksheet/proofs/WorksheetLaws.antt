@@ -8,7 +8,7 @@ use Rattle.worksheet.specs.declared.op.Op.{Op}
 use Rattle.worksheet.specs.declared.op.Op.TheVariants as op
 use Rattle.worksheet.specs.declared.field.Field.{Field}
 use Rattle.worksheet.specs.declared.field.Session.{Session}
-use Rattle.worksheet.specs.Limits.{last_number, longest_prompt, most_fields, most_sessions}
+use Rattle.worksheet.specs.Limits.{last_number, longest_kept_prompt, most_fields, most_sessions}
 use Rattle.worksheet.specs.Names.{is_name}
 use Rattle.worksheet.specs.Contents.{Contents}
 use Rattle.worksheet.specs.Ops.{next_of, next_after, put_behind, sheet_of}
@@ -131,8 +131,8 @@ fields_one sheet (op.Remove id) next w = all_kept IsField (λ field. not (field.
 fields_one sheet (op.Move id after) next w = all_moved IsField id after sheet.fields (field_in sheet.fields id) refl w.fields
 fields_one sheet (op.Clear id) next w = all_changed IsField id (with_outcome None None) (λ f p. record { numbered = p.numbered; input = p.input; prompt = tt; outcome = tt }) sheet.fields w.fields
 fields_one sheet (op.Answer id prompt output) next w =
-    let long : nat_lt longest_prompt (length prompt) ≡ false = (none_applies (refusals sheet (op.Answer id prompt output)) next).1.0 in
-    let short : length prompt ≤ longest_prompt = grind (arith, nat_tests) in
+    let long : nat_lt longest_kept_prompt (length prompt) ≡ false = (none_applies (refusals sheet (op.Answer id prompt output)) next).1.0 in
+    let short : length prompt ≤ longest_kept_prompt = grind (arith, nat_tests) in
     all_changed IsField id (with_outcome (Some (record { prompt = prompt; output = output })) None)
     (λ f p. record { numbered = p.numbered; input = p.input; prompt = short; outcome = refl }) sheet.fields w.fields
 fields_one sheet (op.Lost id reason) next w = all_changed IsField id (with_outcome None (Some reason)) (λ f p. record { numbered = p.numbered; input = p.input; prompt = tt; outcome = tt }) sheet.fields w.fields

@@ -54,5 +54,6 @@ fields_ops fields (suc count) number next =
     found_ops fields next (field_in fields number)
     (fields_ops fields count (number + 1) (number + 1)) (fields_ops fields count (number + 1) next)
 
+-- the ops that make this worksheet anew
 abbrev pub rewrite_of : Contents → List Op
 rewrite_of sheet = map session_op sheet.sessions ++ fields_ops sheet.fields (sheet.next - 1) 1 1

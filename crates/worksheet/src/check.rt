@@ -2,7 +2,8 @@
 ghost use Rattle.std.specs.Prelude.{◌≡◌, ◌==◌, ◌||◌, [], false, is_some};
 ghost use Rattle.std.specs.List.{list_all};
 ghost use Rattle.std.specs.Result.{result_err};
-ghost use Rattle.worksheet.specs.Checks.{is_input as input_test, is_input_byte as input_byte_test, is_no_low_byte as low_byte_test, is_word as word_test, are_words as words_test, is_new_name as new_name_test, field_in, session_named as session_found, numbers, first_refusal};
+ghost use Rattle.worksheet.specs.Checks.{is_input as input_test, is_word as word_test, are_words as words_test, is_new_name as new_name_test, field_in, session_named as session_found, numbers, first_refusal};
+ghost use Rattle.worksheet.specs.inside.Words.{is_input_byte as input_byte_test, is_no_low_byte as low_byte_test};
 ghost use Rattle.std.specs.Str.{is_utf8 as utf8_test};
 ghost use Rattle.block_tree.specs.Tree.{Tree};
 ghost use Rattle.worksheet.specs.Edits.{AreApart, contents_with};
@@ -11,7 +12,7 @@ ghost use Rattle.worksheet.specs.declared.op.Op.TheVariants as op;
 
 use crate::field::Session;
 use crate::limits::{
-    LAST_NUMBER, LONGEST_INPUT, LONGEST_PROMPT, LONGEST_WORD, MOST_FIELDS, MOST_SESSIONS,
+    LAST_NUMBER, LONGEST_INPUT, LONGEST_KEPT_PROMPT, LONGEST_WORD, MOST_FIELDS, MOST_SESSIONS,
     MOST_WORDS,
 };
 use crate::name::{Name, is_name};
@@ -252,7 +253,7 @@ fn check_answer(fields: &IndexMap<u32, Slot>, id: u32, prompt: &[u8]) -> Result<
 {
     if !has_field(fields, id) {
         Err(Refusal::NoField)
-    } else if prompt.len() > LONGEST_PROMPT {
+    } else if prompt.len() > LONGEST_KEPT_PROMPT {
         Err(Refusal::BadInput)
     } else {
         Ok(())

@@ -5,7 +5,8 @@ ghost use Rattle.std.specs.Str.{bytes_eq};
 ghost use Rattle.std.specs.Hash as fed;
 ghost use Rattle.std.proofs.Common.{rules};
 ghost use Rattle.std.specs.Cmp.Rules.{hashing};
-ghost use Rattle.worksheet.specs.Names.{is_name as name_test, is_name_byte as byte_test};
+ghost use Rattle.worksheet.specs.Names.{is_name as name_test};
+ghost use Rattle.worksheet.specs.inside.Words.{is_name_byte as byte_test};
 
 use crate::limits::LONGEST_NAME;
 use std::hash::{Hash, Hasher};

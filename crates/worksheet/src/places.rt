@@ -2,7 +2,8 @@
 ghost use Rattle.std.specs.Prelude.{◌≡◌, ◌≢◌, ◌+◌, ◌<◌, ◌≤◌, true, length, IsSome, slice_index_or, ◌||◌, ◌==◌, is_some};
 ghost use Rattle.std.specs.Option.{option_copied};
 ghost use Rattle.worksheet.specs.declared.field.Field.{Field};
-ghost use Rattle.worksheet.specs.Checks.{field_in, numbers, is_number, stands_behind as place_test};
+ghost use Rattle.worksheet.specs.Checks.{field_in, numbers, is_number};
+ghost use Rattle.worksheet.specs.inside.Words.{stands_behind as place_test};
 ghost use Rattle.worksheet.specs.Edits.{AreApart};
 ghost use Rattle.worksheet.specs.inside.Entries.{AreFields, IsBehind, shown, reserved};
 

@@ -3,7 +3,7 @@ use Rattle.std.specs.Prelude.{ℕ, max, Bool, true, false, ◌&&◌, nat_le, not
 use Rattle.block_tree.specs.Tree.{Tree, Piece, text_piece, block_piece}
 use Rattle.block_tree.specs.View.{piece_of, tree_of}
 use Rattle.block_tree.specs.inside.Marks.{Mark, letter, marks}
-use Rattle.block_tree.specs.Shape.{is_tag_name, is_proper, depth, max_tag}
+use Rattle.block_tree.specs.Shape.{is_tag_name, is_proper, depth, longest_tag}
 use Rattle.block_tree.specs.declared.tree.Item.{Item}
 use Rattle.block_tree.specs.declared.tree.Node.{Node}
 
@@ -37,7 +37,7 @@ Tested = Bool × Bool
 
 -- the tags and texts are right, at any depth
 abbrev pub tree_plain : Tree → Bool
-tree_plain b = is_tag_name max_tag b.name && is_proper max_tag b.items
+tree_plain b = is_tag_name longest_tag b.name && is_proper longest_tag b.items
 
 abbrev pub piece_plain : Piece → Tested
 piece_plain (text_piece t) = (true, nat_le 1 (length t))

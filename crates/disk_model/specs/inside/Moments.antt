@@ -1,7 +1,8 @@
 -- Lemmas for the layers above: how runs of calls go on. No clause speaks of them.
 use Rattle.std.proofs.Common.{◌≡◌, ℕ, List, [], ◌∷◌, ◌++◌, refl, sym, ◌∙◌, ap, subst, arith, append_assoc, ◌+◌, ◌≤◌, max, length, length-append, length-drop, take, drop, Result, IsTrue}
 use Rattle.std.proofs.lemmas.List.{length-take}
-use Rattle.disk_model.specs.Disk.{overwritten, Image, AtMoment, DiskState, History, DiskView, Leaves, LeavesOnly, Each, states_of, Called, Looks, Syncs, IsImage}
+use Rattle.disk_model.specs.Disk.{overwritten, Image, AtMoment, DiskState, History, DiskView, Leaves, LeavesOnly, Called, Looks, Syncs, IsImage}
+use Rattle.disk_model.specs.inside.Words.{Each, states_of}
 use Rattle.disk_model.specs.declared.disk.Area.{Area}
 
 pub Each-append : (Q : DiskState → Type 0) (xs ys : List DiskState) → Each Q xs → Each Q ys

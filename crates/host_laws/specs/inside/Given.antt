@@ -18,9 +18,10 @@ use Rattle.session_engine.specs.declared.event.Event.{Event}
 use Rattle.session_engine.specs.declared.event.Event.TheVariants as event
 use Rattle.session_engine.specs.declared.outcome.Outcome.{Outcome}
 use Rattle.session_engine.specs.declared.reply.Reply.TheVariants as reply
-use Rattle.session_engine.specs.World.{World, Going, sheet_in, life_of, with_number, session_of_field, line_of_field, request_of_field, with_op, with_op_if, kept_at_end, renewed}
+use Rattle.session_engine.specs.World.{World, Going, sheet_in, life_of, with_number, session_of_field, with_op_if, kept_at_end}
+use Rattle.session_engine.specs.inside.Words.{line_of_field, request_of_field, with_op, renewed, told_of, with_piece}
 use Rattle.session_engine.specs.Refused.{command_refusals, command_takes_memory}
-use Rattle.session_engine.specs.Does.{replies, refused, ends, told_of, with_piece, op_by}
+use Rattle.session_engine.specs.Does.{replies, refused, ends, op_by}
 use Rattle.session_engine.specs.inside.Parts.{asks, with_item, without_life, goes_on}
 
 abbrev pub stops : Option Going → Outcome

@@ -5,7 +5,7 @@ use Rattle.disk_model.specs.declared.disk.Area.{Area}
 use Rattle.disk_model.specs.declared.disk.Area.TheVariants.{First, Second}
 use Rattle.journal.specs.Area.{StandsFor, first_gate, names_first, names_second}
 use Rattle.journal.specs.Kept.{ImageStandsFor, active_area}
-use Rattle.journal.specs.Limits.{max_payload}
+use Rattle.journal.specs.Limits.{longest_payload}
 
 -- the selector that names an area
 abbrev pub naming : Area → ℕ
@@ -25,7 +25,7 @@ pub record IsReadyToTurn (area : Area) (before payloads : List (List ℕ)) (h : 
   pub stands : Leaves (λ i. ImageStandsFor i before) h.now
   pub named : Leaves (λ i. active_area i ≡ other_area area) h.now
   pub here : ImageStandsFor (content_of h) before
-  pub laid : StandsFor max_payload (area_of area (content_of h)) payloads
+  pub laid : StandsFor longest_payload (area_of area (content_of h)) payloads
   pub durable : Leaves (λ i. area_of area i ≡ area_of area (content_of h)) h.now
 
 -- calls that met no failure

@@ -3,7 +3,7 @@ use Rattle.std.specs.Prelude.{◌≡◌, ◌≢◌, ℕ, ◌+◌, ◌<◌, ◌�
 use Rattle.std.specs.Int.{to_be_bytes, w32}
 use Rattle.journal.specs.Area.{HasHeader, open_gate}
 use Rattle.journal.specs.Damage.{IsBroken}
-use Rattle.journal.specs.Limits.{max_payload}
+use Rattle.journal.specs.Limits.{longest_payload}
 use Rattle.journal.specs.declared.opening.OpenCause.{OpenCause}
 use Rattle.journal.specs.declared.opening.OpenCause.TheVariants as causes
 use Rattle.journal.specs.declared.walk.Step.{Step}
@@ -20,7 +20,7 @@ IsStep limit rest (Record n) = (more : List ℕ)
 -- over any bytes: the length that a record tells is a payload's, and the record ends before the last
 -- of so many bytes
 abbrev pub IsLength : ℕ → Step → Type 0
-IsLength left (Record n) = (1 ≤ n) × (n ≤ max_payload) × (5 + n < left)
+IsLength left (Record n) = (1 ≤ n) × (n ≤ longest_payload) × (5 + n < left)
 IsLength left step = Unit {0}
 
 -- what a cause says of one area, of which the header was read

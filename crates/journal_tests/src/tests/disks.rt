@@ -1,5 +1,7 @@
 //! Disks in memory: what crashes leave of them, and fuses.
-use disk_model::{Area, Choice, Disk, DiskFault, Fill, FuseDisk, FuseMode, MAX_ROOM, MemoryDisk};
+use disk_model::{
+    Area, Choice, Disk, DiskFault, Fill, FuseDisk, FuseMode, GREATEST_ROOM, MemoryDisk,
+};
 use std::alloc::Global;
 use std::test::Fail;
 use tests_desk::exhausted;
@@ -217,13 +219,13 @@ struct Unclaimed {
 }
 
 impl Disk for Unclaimed {
-    ghost use Rattle.disk_model.specs.Disk.{max_room, unclaimed};
+    ghost use Rattle.disk_model.specs.Disk.{greatest_room, unclaimed};
     ghost use Rattle.disk_model.specs.Calls.{started_with};
     ghost use Rattle.std.specs.Prelude.{false, []};
     ghost use Rattle.std.proofs.Common.{arith};
 
     ghost view = { λ d. record {
-      room = max_room;
+      room = greatest_room;
       faults = d.faults;
       keeps_model = false;
       history = started_with (record { first = []; second = [] });
@@ -234,7 +236,7 @@ impl Disk for Unclaimed {
     ghost content_stays = { λ d h. unclaimed h };
 
     fn room(&self) -> u64 {
-        MAX_ROOM
+        GREATEST_ROOM
     }
 
     fn len(&mut self, _area: Area) -> Result<u64, DiskFault> {

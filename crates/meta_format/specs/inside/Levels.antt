@@ -3,7 +3,7 @@ use Rattle.std.specs.Prelude.{◌≡◌, ◌≤◌, ◌+◌, ℕ, Bool, true, fa
 use Rattle.std.specs.List.{flat_map}
 use Rattle.block_tree.specs.inside.Marks.{Mark, open_mark, letter, close_mark}
 use Rattle.block_tree.specs.inside.Nodes.{item_marks, is_plain_item, all_right, Tested}
-use Rattle.block_tree.specs.Shape.{is_tag_name, max_tag}
+use Rattle.block_tree.specs.Shape.{is_tag_name, longest_tag}
 use Rattle.meta_format.specs.inside.Rows.{IsOpen}
 use Rattle.meta_format.specs.declared.level.Level.{Level}
 
@@ -23,7 +23,7 @@ ends_in_text after (t ∷ ts) = ends_in_text t.0 ts
 
 -- tag and items are right
 pub record IsRight (l : Level) : Type 0 where
-  pub tag : is_tag_name max_tag l.tag.name ≡ true
+  pub tag : is_tag_name longest_tag l.tag.name ≡ true
   pub items : all_right false (tests_of l) ≡ true
 
 -- the same, and a text may follow

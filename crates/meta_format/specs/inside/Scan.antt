@@ -1,7 +1,7 @@
 -- What the fields of a scanner say. Private contracts cite this.
 use Rattle.std.specs.Prelude.{◌≡◌, ◌≤◌, ◌<◌, ◌-◌, ◌+◌, ℕ, List, [], ◌∷◌, length, map, Option, Some, None, true, All, Result, Ok, Err, option_to_list, cond, nat_eq, ◌&&◌}
 use Rattle.std.specs.List.{list_all}
-use Rattle.block_tree.specs.Shape.{is_tag_byte, max_tag, max_depth}
+use Rattle.block_tree.specs.Shape.{is_tag_byte, longest_tag, most_levels}
 use Rattle.block_tree.specs.Tree.{Tree}
 use Rattle.meta_format.specs.Limits.{Limits}
 use Rattle.meta_format.specs.Stream.{Outer}
@@ -19,7 +19,7 @@ use Rattle.meta_format.specs.declared.scan.Stop.{Stop}
 use Rattle.meta_format.specs.declared.scan.Stop.TheVariants as stop
 
 abbrev pub most_of : Bounds → Limits
-most_of b = record { tag = max_tag; levels = max_depth; block = b.block; stream = b.stream }
+most_of b = record { tag = longest_tag; levels = most_levels; block = b.block; stream = b.stream }
 
 abbrev pub mode_at : Place → ℕ → List Level → List ℕ → Mode
 mode_at place.Outside start levels name = outside
@@ -36,7 +36,7 @@ scan_state s out = record { at = s.at; out = out; mode = mode_of s }
 -- There is no level outside a block, and one at least in a body. A block starts before the next byte. A name is held in a tag alone.
 abbrev pub IsPlacedAt : ℕ → Place → ℕ → ℕ → List Level → List ℕ → Type 0
 IsPlacedAt block place.Outside at start levels name = (levels ≡ []) × (name ≡ [])
-IsPlacedAt block place.Tag at start levels name = (start ≤ at) × (length levels < max_depth) × (list_all is_tag_byte name ≡ true) × (length name ≤ max_tag)
+IsPlacedAt block place.Tag at start levels name = (start ≤ at) × (length levels < most_levels) × (list_all is_tag_byte name ≡ true) × (length name ≤ longest_tag)
     × IsHeld block start at (stack_marks levels) (length name)
 IsPlacedAt block place.Body at start levels name = (start ≤ at) × (0 < length levels) × (name ≡ []) × IsHeld block start at (stack_marks levels) 0
 IsPlacedAt block place.Escape at start levels name = (start ≤ at) × (0 < length levels) × (name ≡ []) × IsHeld block start at (stack_marks levels) 1
@@ -44,7 +44,7 @@ IsPlacedAt block place.Escape at start levels name = (start ≤ at) × (0 < leng
 -- The levels are right, and their marks say how many they are.
 pub record AreLevels (levels : List Level) : Type 0 where
   pub right : All IsLevel levels
-  pub opened : AreOpen max_depth (stack_marks levels) (length levels)
+  pub opened : AreOpen most_levels (stack_marks levels) (length levels)
 
 pub record IsPlaced (block : ℕ) (s : Scanner) : Type 0 where
   pub place : IsPlacedAt block s.place s.at s.start s.levels.items s.name.items
@@ -83,7 +83,7 @@ Scans most old before bytes (Err stop.OutOfMemory) new found = Unit {0}
 -- Where bytes are read that have no limit of length.
 
 abbrev pub unbounded : Limits
-unbounded = record { tag = max_tag; levels = max_depth; block = 18446744073709551615; stream = 18446744073709551615 }
+unbounded = record { tag = longest_tag; levels = most_levels; block = 18446744073709551615; stream = 18446744073709551615 }
 
 abbrev pub last_behind : Outer → List Outer → Outer
 last_behind o [] = o

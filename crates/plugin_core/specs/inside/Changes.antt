@@ -14,7 +14,7 @@ use Rattle.plugin_core.specs.declared.step.Answered.TheVariants as answered
 use Rattle.plugin_core.specs.declared.step.Step.{Step}
 use Rattle.plugin_core.specs.declared.piece.Closing.{Closing}
 use Rattle.plugin_core.specs.Answers.{first_from}
-use Rattle.plugin_core.specs.Blocks.{prompt_in, default_in}
+use Rattle.plugin_core.specs.inside.Words.{prompt_in, default_in}
 use Rattle.plugin_core.specs.Items.{answer_to, bytes_of}
 use Rattle.plugin_core.specs.Kept.{InterpreterView}
 

@@ -1,5 +1,5 @@
 //! Streams that are read in parts of three bytes, readers and writers that fail, and one that takes all memory.
-use program_endings::blocks;
+use program_endings::{Ending, blocks, run_blocks};
 use sheet_programs::RunFault;
 use std::alloc::Global;
 use std::io::{Read, Write};
@@ -87,4 +87,43 @@ fn without_memory_a_stream_is_printed(rt: HostRuntime) -> Result<(), Fail> {
     let out = without_memory(rt.alloc(), stream).ok_or("a fault, or memory")?;
     assert!(rt; out.as_slice() == expected.as_slice());
     Ok(())
+}
+
+// The input of one block.
+fn a_block() -> Parts<'static> {
+    Parts {
+        rest: b"\x02a:\x05",
+        fails: false,
+    }
+}
+
+// How the program ends over a full output, and what it writes on its errors.
+fn ends_full(alloc: Global, said: &[u8]) -> bool {
+    let mut errors: Vec<u8> = Vec::new(alloc);
+    let mut input = a_block();
+    let ended = run_blocks(alloc, &mut input, &mut Full, &mut errors);
+    ended
+        == Ending {
+            status: 1,
+            told: true,
+        }
+        && errors.as_slice() == said
+}
+
+// How it ends where its errors can't be written either.
+fn ends_untold(alloc: Global) -> Ending {
+    let mut input = a_block();
+    run_blocks(alloc, &mut input, &mut Full, &mut Full)
+}
+
+#[test]
+fn a_full_output_is_told(rt: HostRuntime) {
+    assert!(rt; ends_full(rt.alloc(), b"fault 42 Output\n"));
+    assert!(rt;
+        ends_untold(rt.alloc())
+            == Ending {
+                status: 1,
+                told: false
+            }
+    );
 }

@@ -2,7 +2,7 @@
 use Rattle.std.specs.Prelude.{ℕ, ◌==◌, List, [], ◌∷◌, ◌++◌, take, drop, codes, Option, Some, None, if◌then◌else◌}
 use Rattle.std.specs.List.{list_all}
 use Rattle.std.specs.Str.{bytes_eq}
-use Rattle.scheme_text.specs.Quoting.{slashed}
+use Rattle.scheme_text.specs.inside.Words.{slashed}
 use Rattle.scheme_text.specs.Outputs.{is_white}
 
 -- outside a string, in one, and behind a backslash in one

@@ -25,7 +25,8 @@ use Rattle.session_engine.specs.declared.outcome.Outcome.{Outcome}
 use Rattle.session_engine.specs.declared.reply.Reply.{Reply}
 use Rattle.session_engine.specs.declared.reply.Reply.TheVariants as reply
 use Rattle.session_engine.specs.declared.outcome.Effect.TheVariants as effect
-use Rattle.session_engine.specs.World.{World, Going, waiting_in, with_op, with_op_if, fits, fits_in, if_fits, kept_at_end, life_of, sheet_in, session_of_field, request_of_field}
+use Rattle.session_engine.specs.World.{World, Going, waiting_in, with_op_if, fits_in, kept_at_end, life_of, sheet_in, session_of_field}
+use Rattle.session_engine.specs.inside.Words.{with_op, fits, if_fits, request_of_field}
 use Rattle.session_engine.specs.Refused.{command_refusals}
 use Rattle.session_engine.specs.declared.command.Command.TheVariants as command
 use Rattle.session_engine.specs.Does.{replies, refused}

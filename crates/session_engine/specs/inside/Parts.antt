@@ -17,8 +17,8 @@ use Rattle.session_engine.specs.declared.outcome.Effect.TheVariants as effect
 use Rattle.session_engine.specs.declared.outcome.Outcome.{Outcome}
 use Rattle.session_engine.specs.declared.reply.Reply.TheVariants as reply
 use Rattle.session_engine.specs.World.{World, Going, sheet_in, life_of, session_of_field}
-use Rattle.session_engine.specs.Refused.{full, queue_refusals}
-use Rattle.session_engine.specs.Does.{put_back, taken_out, starting_words, begun_with, joined_by}
+use Rattle.session_engine.specs.Refused.{queue_refusals}
+use Rattle.session_engine.specs.inside.Words.{full, put_back, taken_out, starting_words, begun_with, joined_by}
 
 -- those of an Eval behind its field and its line
 abbrev pub eval_refusals : World → ℕ → List (Refusal × Bool)

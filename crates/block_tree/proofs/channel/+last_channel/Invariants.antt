@@ -1,7 +1,8 @@
 use Rattle.std.proofs.Common.{◌≡◌, map, drop, option_map}
 use Rattle.block_tree.specs.Tree.{items_from}
 use Rattle.block_tree.specs.View.{piece_of, tree_of}
-use Rattle.block_tree.specs.Output.{text_of, last_text, or_else}
+use Rattle.block_tree.specs.Output.{text_of, last_text}
+use Rattle.block_tree.specs.inside.Words.{or_else}
 use Rattle.block_tree.proofs.channel.+last_channel.Given as goal
 
 abbrev pub invariant-loop-item : goal.invariant-loop-item

@@ -3,6 +3,7 @@ use Rattle.std.specs.Prelude.{string_bytes}
 use Rattle.clap.specs.Words.{App, HasKind, fault_of, is_simple, is_simple_and_free, subcommand_of}
 use Rattle.clap.proofs.OnLiterals.{clap_on_literals}
 use Rattle.command_words.specs.Asked.{by_subcommand, tmhost}
+use Rattle.command_words.proofs.Simple.{simple_of}
 use Rattle.command_words.proofs.words.read_words.Goals as goal
 
 tmhost_is_simple_and_free : is_simple_and_free tmhost ≡ true
@@ -10,8 +11,7 @@ unfolding clap_on_literals
 tmhost_is_simple_and_free = refl
 
 tmhost_is_simple : is_simple tmhost ≡ true
-unfolding clap_on_literals
-tmhost_is_simple = refl
+tmhost_is_simple = simple_of tmhost tmhost_is_simple_and_free
 
 pub returns-in-Ok-clause-task : goal.returns-in-Ok-clause-task
 returns-in-Ok-clause-task c =

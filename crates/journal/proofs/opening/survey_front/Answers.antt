@@ -1,7 +1,7 @@
 use Rattle.std.proofs.Common.{subst}
 use Rattle.disk_model.specs.Disk.{Image, area_of, bytes_on}
 use Rattle.journal.specs.Front.{HasFront}
-use Rattle.journal.specs.Limits.{max_payload}
+use Rattle.journal.specs.Limits.{longest_payload}
 use Rattle.journal.proofs.Loads.{durable_on, front_of_active, passing_tells}
 use Rattle.journal.proofs.Readings.{keeps, reads_on}
 use Rattle.journal.proofs.opening.survey_front.Goals as goal
@@ -18,7 +18,7 @@ returns-in-Ok-walk_gates-clause-front g c = λ model.
     let before = c.in-Ok.ensures.reads in
     let found = c.in-Ok.ensures.found model in
     let walked = c.in-Ok-walk_gates.ensures.front (keeps ⊥ _ _ before model) in
-    let front = subst (λ (j : Image). HasFront max_payload (area_of c.in-Ok.window.area j) walked.0 c.in-Ok-walk_gates.stop.damaged) (before.looks model).content walked.1 in
+    let front = subst (λ (j : Image). HasFront longest_payload (area_of c.in-Ok.window.area j) walked.0 c.in-Ok-walk_gates.stop.damaged) (before.looks model).content walked.1 in
     (walked.0, front_of_active c.in-Ok.window.area i walked.0 c.in-Ok-walk_gates.stop.damaged found.active.named found.headed front, walked.2)
 
 pub returns-in-Ok-walk_gates-clause-durable : goal.returns-in-Ok-walk_gates-clause-durable

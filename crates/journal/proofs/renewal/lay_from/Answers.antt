@@ -1,7 +1,7 @@
 use Rattle.std.proofs.Common.{IsTrue, ◌++◌, ◌∷◌, [], List, ℕ, length, take, arith, ap, sym, ◌∙◌, subst, length-append}
 use Rattle.disk_model.specs.Disk.{area_of, bytes_on}
 use Rattle.journal.specs.Area.{StandsFor, closed_gate}
-use Rattle.journal.specs.Limits.{max_payload}
+use Rattle.journal.specs.Limits.{longest_payload}
 use Rattle.journal.proofs.Anew.{end_take_le, spared_on, spares_on, spares_sync, went_still}
 use Rattle.journal.proofs.Batches.{end_behind, holds_more}
 use Rattle.journal.proofs.renewal.lay_from.Goals as goal
@@ -61,6 +61,6 @@ loop-next-preserved g c =
           omega (arith, c.in_ok-lay_batch.ensures.inside (went_still _ _ went model), size, length-append b.0 (closed_gate ∷ []));
       laid = λ model headed.
           let model1 = went_still _ _ went model in
-          subst (λ (ps : List (List ℕ)). StandsFor max_payload (area_of c.args.area (bytes_on (g.D.Disk.view c.lay_batch.new.disk))) ps) (sym b.2.split)
+          subst (λ (ps : List (List ℕ)). StandsFor longest_payload (area_of c.args.area (bytes_on (g.D.Disk.view c.lay_batch.new.disk))) ps) (sym b.2.split)
           (c.in_ok-lay_batch.ensures.laid model1 (take c.loop-next.next payloads) b.2.those b.2.each (is ∙ ap (λ (l : List ℕ). l ++ closed_gate ∷ []) b.2.are) before.end (before.laid model headed));
     }

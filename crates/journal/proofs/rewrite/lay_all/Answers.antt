@@ -2,7 +2,7 @@ use Rattle.std.proofs.Common.{◌≡◌, ◌+◌, ◌<◌, IsTrue, ◌++◌, ◌
 use Rattle.std.proofs.lemmas.List.{take_more}
 use Rattle.disk_model.specs.Disk.{area_of, bytes_on}
 use Rattle.journal.specs.Area.{StandsFor, body_of, closed_gate}
-use Rattle.journal.specs.Limits.{max_payload}
+use Rattle.journal.specs.Limits.{longest_payload}
 use Rattle.journal.proofs.Anew.{end_take_le, end_take_more, spared_on, spares_on, spares_sync, went_still}
 use Rattle.journal.proofs.rewrite.lay_all.Goals as goal
 
@@ -64,6 +64,6 @@ loop-frame-preserved g c =
           let model1 = went_still _ _ went model in
           let all : take i c.args.frames.now ++ f ∷ [] ≡ take (i + 1) c.args.frames.now =
           ap (λ (x : List ℕ). take i c.args.frames.now ++ x ∷ []) c.frame-item.is ∙ sym (take_more c.args.frames.now i f below) in
-          subst (λ (ps : List (List ℕ)). StandsFor max_payload (area_of c.args.area (bytes_on (g.D.Disk.view c.lay_record.new.disk))) ps) all
+          subst (λ (ps : List (List ℕ)). StandsFor longest_payload (area_of c.args.area (bytes_on (g.D.Disk.view c.lay_record.new.disk))) ps) all
           (c.in_ok-lay_record.ensures.laid model1 (take i c.args.frames.now) f c.bytes-bytes.ensures.payload c.bytes-bytes.ensures.bytes before.end (before.laid model headed));
     }

@@ -1,7 +1,7 @@
 use Rattle.std.proofs.Common.{◌≡◌, ◌<◌, length, take}
 use Rattle.disk_model.specs.Disk.{InModel, LeavesOnly, area_of, bytes_on}
 use Rattle.journal.specs.Area.{HasHeader, StandsFor, end_of}
-use Rattle.journal.specs.Limits.{max_payload}
+use Rattle.journal.specs.Limits.{longest_payload}
 use Rattle.journal.specs.inside.Anew.{SparedBy, Spares, Went}
 use Rattle.journal.proofs.rewrite.lay_all.Given as goal
 
@@ -15,5 +15,5 @@ invariant-loop-frame g l =
       moments : InModel old (LeavesOnly (Spares l.area old.history.now) old.history new.history);
       spared : InModel old (SparedBy l.area (bytes_on old) (bytes_on new));
       inside : InModel old (l.end < length (area_of l.area (bytes_on new)));
-      laid : InModel old (HasHeader (bytes_on old).first → StandsFor max_payload (area_of l.area (bytes_on new)) (take l.frame-index l.frames));
+      laid : InModel old (HasHeader (bytes_on old).first → StandsFor longest_payload (area_of l.area (bytes_on new)) (take l.frame-index l.frames));
     }

@@ -1,5 +1,5 @@
 use Rattle.std.proofs.Common.{◌≡◌, length, sym, ◌∙◌, subst, arith}
-use Rattle.block_tree.specs.Shape.{max_tag}
+use Rattle.block_tree.specs.Shape.{longest_tag}
 use Rattle.meta_format.specs.Limits.{limits}
 use Rattle.meta_format.specs.inside.Flat.{NameUpTo}
 use Rattle.meta_format.proofs.Cursor.{name_size}
@@ -19,7 +19,7 @@ returns-then-is_bad-clause-found c =
     let inside = c.if-limit-stream.false in
     let so = c.requires.there.2 in
     bad_in_name limits _ _ c.args.name c.requires.there.0 _ c.requires.limit (omega (arith, high, inside)) c.requires.there.1 so
-    (sym (c.is_bad.ensures so.0 (name_size max_tag _ _ _ so)) ∙ c.if-is_bad.true)
+    (sym (c.is_bad.ensures so.0 (name_size longest_tag _ _ _ so)) ∙ c.if-is_bad.true)
 
 pub returns-clause-found : goal.returns-clause-found
 returns-clause-found c =
@@ -27,4 +27,4 @@ returns-clause-found c =
     let inside = c.if-limit-stream.false in
     let so = c.requires.there.2 in
     late_in_name limits _ _ c.args.name c.requires.there.0 _ c.requires.limit (omega (arith, high, inside)) c.requires.there.1 so
-    (sym (c.is_bad.ensures so.0 (name_size max_tag _ _ _ so)) ∙ c.if-is_bad.false)
+    (sym (c.is_bad.ensures so.0 (name_size longest_tag _ _ _ so)) ∙ c.if-is_bad.false)

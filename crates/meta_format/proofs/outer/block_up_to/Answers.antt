@@ -1,5 +1,5 @@
 use Rattle.std.proofs.Common.{rules, slice_index, suc, ◌-◌, false, refl, ◌≡◌, ◌+◌, arith, subst}
-use Rattle.block_tree.specs.Shape.{max_tag}
+use Rattle.block_tree.specs.Shape.{longest_tag}
 use Rattle.meta_format.specs.Limits.{limits}
 use Rattle.meta_format.specs.inside.Flat.{InBody, InEscape}
 use Rattle.meta_format.specs.Spelling.{is_special}
@@ -14,7 +14,7 @@ returns-in-Bad c =
     let short = c.requires.short in
     let early = c.requires.early in
     let s = c.args.stream.now in
-    let named = subst (Names max_tag s (c.args.start + 1) c.args.limit) c.in-Bad.is c.name_end.ensures in
+    let named = subst (Names longest_tag s (c.args.start + 1) c.args.limit) c.in-Bad.is c.name_end.ensures in
     let on = named.1 in
     tag_bad limits s c.args.start (c.args.start + 1) 0 c.in-Bad.offset named.0 (omega (arith, high, on)) named.2 (omega (arith, short, on)) (omega (arith, early, high, on))
     (begin_two limits s c.args.start (omega (arith, some, high)) c.requires.two (omega (arith, some, high, early)))
@@ -26,7 +26,7 @@ returns-in-Cut c =
     let early = c.requires.early in
     let s = c.args.stream.now in
     let start = c.args.start in
-    let named = subst (Names max_tag s (start + 1) c.args.limit) c.in-Cut.is c.name_end.ensures in
+    let named = subst (Names longest_tag s (start + 1) c.args.limit) c.in-Cut.is c.name_end.ensures in
     (0, begin_two limits s start (omega (arith, some, high)) c.requires.two (omega (arith, some, high, early)), named)
 
 pub returns-then-depth : goal.returns-then-depth
@@ -43,7 +43,7 @@ loop-at-init c =
     let early = c.requires.early in
     let s = c.args.stream.now in
     let start = c.args.start in
-    let named = subst (Names max_tag s (start + 1) c.args.limit) c.in-Whole.is c.name_end.ensures in
+    let named = subst (Names longest_tag s (start + 1) c.args.limit) c.in-Whole.is c.name_end.ensures in
     let end = named.1 in
     let size = named.0.6 in (
       omega (arith, size),
@@ -68,7 +68,7 @@ loop-at-preserved-in-Whole-name_end c =
     let shallow = c.if-depth.false in
     let byte : slice_index s at ≡ 2 = search rules in
     let two = body_two limits s start at d (omega (arith, on, high)) byte (omega (arith, short, on)) (omega (arith, early, on, high)) (omega (arith, shallow)) so in
-    let named = subst (Names max_tag s (at + 1) c.args.limit) c.in-Whole-name_end.is c.name_end-then-c-eq2.ensures in
+    let named = subst (Names longest_tag s (at + 1) c.args.limit) c.in-Whole-name_end.is c.name_end-then-c-eq2.ensures in
     let end = named.1 in
     let size = named.0.6 in
     let deeper : suc d ≡ d + 1 = omega arith in
@@ -88,7 +88,7 @@ returns-in-Bad-name_end c =
     let shallow = c.if-depth.false in
     let byte : slice_index s at ≡ 2 = search rules in
     let two = body_two limits s start at d (omega (arith, on, high)) byte (omega (arith, short, on)) (omega (arith, early, on, high)) (omega (arith, shallow)) so in
-    let named = subst (Names max_tag s (at + 1) c.args.limit) c.in-Bad-name_end.is c.name_end-then-c-eq2.ensures in
+    let named = subst (Names longest_tag s (at + 1) c.args.limit) c.in-Bad-name_end.is c.name_end-then-c-eq2.ensures in
     let end = named.1 in
     tag_bad limits s start (at + 1) (suc d) c.in-Bad-name_end.offset named.0 (omega (arith, high, end)) named.2 (omega (arith, short, end)) (omega (arith, early, high, end)) two
 
@@ -106,7 +106,7 @@ returns-in-Cut-name_end c =
     let shallow = c.if-depth.false in
     let byte : slice_index s at ≡ 2 = search rules in
     let two = body_two limits s start at d (omega (arith, on, high)) byte (omega (arith, short, on)) (omega (arith, early, on, high)) (omega (arith, shallow)) so in
-    let named = subst (Names max_tag s (at + 1) c.args.limit) c.in-Cut-name_end.is c.name_end-then-c-eq2.ensures in
+    let named = subst (Names longest_tag s (at + 1) c.args.limit) c.in-Cut-name_end.is c.name_end-then-c-eq2.ensures in
     (suc d, two, named)
 
 pub returns-then-depth-eq0 : goal.returns-then-depth-eq0

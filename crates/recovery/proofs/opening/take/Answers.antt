@@ -2,7 +2,7 @@ use Rattle.std.proofs.Common.{◌≡◌, ◌≤◌, length, refl, sym, ◌∙◌
 use Rattle.worksheet.specs.declared.op.Op.{Op}
 use Rattle.worksheet.specs.Contents.{Contents}
 use Rattle.worksheet.specs.Checks.{first_refusal}
-use Rattle.journal.specs.Limits.{max_payload}
+use Rattle.journal.specs.Limits.{longest_payload}
 use Rattle.recovery.specs.Code.{IsPayloadOf}
 use Rattle.recovery.proofs.Unique.{one_op}
 use Rattle.recovery.proofs.Allowed.{makes_more}
@@ -26,5 +26,5 @@ returns-clause-taken c = λ ops makes.
     record {
       next = c.in-Ok.op;
       is = read.is;
-      makes = makes_more ops c.in-Ok.op c.args.sheet.now.contents c.apply.new.self.contents makes read.typed (subst (λ (b : List ℕ). length b ≤ max_payload) read.is c.requires.1) allowed (c.in_default.ensures.ok ops makes.is);
+      makes = makes_more ops c.in-Ok.op c.args.sheet.now.contents c.apply.new.self.contents makes read.typed (subst (λ (b : List ℕ). length b ≤ longest_payload) read.is c.requires.1) allowed (c.in_default.ensures.ok ops makes.is);
     }

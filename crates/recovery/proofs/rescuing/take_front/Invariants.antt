@@ -1,5 +1,5 @@
 use Rattle.std.proofs.Common.{◌≡◌, ◌≤◌, ◌-◌, ◌+◌, ◌*◌}
-use Rattle.disk_model.specs.Disk.{InModel, Looks, SameDisk, max_room}
+use Rattle.disk_model.specs.Disk.{InModel, Looks, SameDisk, greatest_room}
 use Rattle.recovery.proofs.Rescues.{ReachedInFront}
 use Rattle.recovery.proofs.rescuing.take_front.Given as goal
 
@@ -9,7 +9,7 @@ invariant-loop-behind g l =
     let new = l.front.disk in
     record {
       before : l.front.gate ≤ l.front.end;
-      small : l.front.end ≤ max_room;
+      small : l.front.end ≤ greatest_room;
       counted : 6 * l.kept + 10 ≤ l.front.gate;
       same : SameDisk old new;
       steady : new.faults ≡ old.faults;

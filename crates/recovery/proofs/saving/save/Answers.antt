@@ -1,5 +1,5 @@
 use Rattle.std.proofs.Common.{◌+◌, ◌≤◌, ℕ, List, min, sym, subst, vec_capacity}
-use Rattle.journal.specs.Limits.{batch_len, max_payload}
+use Rattle.journal.specs.Limits.{batch_len, longest_payload}
 use Rattle.journal.specs.Sources.{HoldsEach}
 use Rattle.worksheet.specs.Rewrite.{rewrite_of}
 use Rattle.recovery.specs.Sheets.{codes_of}
@@ -29,7 +29,7 @@ lay_anew-requires-clause-memory g c =
     let capacity = vec_capacity c.in-Ok-batch_of.batch in
     subst (λ (l : List (List ℕ)). HoldsEach capacity l) (sym c.in-Ok.ensures.ok)
     (holds_each capacity (codes_of (rewrite_of sheet)) (rewrites_are_short c.requires.made.0 sheet c.requires.made.1)
-    (subst (λ (n : ℕ). batch_len + 6 + min n max_payload ≤ capacity) c.in-Some.ensures.len c.in-Ok-batch_of.ensures))
+    (subst (λ (n : ℕ). batch_len + 6 + min n longest_payload ≤ capacity) c.in-Some.ensures.len c.in-Ok-batch_of.ensures))
 
 pub returns-clause-saved : goal.returns-clause-saved
 returns-clause-saved g c = λ model.

@@ -1,7 +1,8 @@
 use Rattle.std.proofs.Common.{◌≡◌, ◌<◌, ◌+◌, List, length, drop, ap, sym, ◌∙◌, subst, arith, Bool, ℕ}
 use Rattle.std.specs.Prelude.{◌||◌}
 use Rattle.session_engine.specs.declared.table.Running.{Running}
-use Rattle.session_engine.specs.World.{Going, waits_in}
+use Rattle.session_engine.specs.World.{Going}
+use Rattle.session_engine.specs.inside.Words.{waits_in}
 use Rattle.session_engine.specs.Host.{RunsAs}
 use Rattle.session_engine.proofs.Tables.{at_place, no_more}
 use Rattle.session_engine.proofs.table.waits.Goals as goal

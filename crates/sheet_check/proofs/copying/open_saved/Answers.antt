@@ -1,5 +1,5 @@
 use Rattle.std.proofs.Common.{◌∙◌, subst}
-use Rattle.disk_model.specs.Disk.{bytes_on, max_room}
+use Rattle.disk_model.specs.Disk.{bytes_on, greatest_room}
 use Rattle.session_engine.specs.World.{world_at_opening}
 use Rattle.session_engine.specs.Host.{IsHost}
 use Rattle.sheet_programs.specs.Run.{OpenedOn}
@@ -14,7 +14,7 @@ returns-in-Ok g c =
     let same = c.in-Ok.ensures.exact c.requires.model c.args.sheet.now.contents image in
     let at_room = c.in-Ok.ensures.stands ops makes.allowed (same ∙ makes.is) in
     let stands = subst (λ room. IsHost c.in-Ok.host (world_at_opening ops room c.in-Ok.host.store.end)) c.requires.room at_room in (
-      world_at_opening ops max_room c.in-Ok.host.store.end,
+      world_at_opening ops greatest_room c.in-Ok.host.store.end,
       stands,
       record {
         made = g.D.Disk.view c.args.disk;

@@ -3,7 +3,7 @@ use Rattle.std.specs.Prelude.{Err}
 use Rattle.std.proofs.lemmas.Option.{IfSome_then}
 use Rattle.session_engine.specs.World.{world_at_opening}
 use Rattle.child_edge.proofs.Faulting.{same-on}
-use Rattle.sheet_programs.specs.Input.{max_input}
+use Rattle.sheet_programs.specs.Input.{longest_standard_input}
 use Rattle.sheet_programs.proofs.Scripting.{script-few}
 use Rattle.sheet_programs.specs.Memory.{script_lines}
 use Rattle.sheet_programs.specs.declared.fault.RunFault.TheVariants as told
@@ -40,7 +40,7 @@ returns-clause-fault g c =
     let start = world_at_opening o.0 disk.room c.in-Ok-open.host.store.end in
     broken_run g.C.Children.after (g.R.Read.remaining c.args.reader.now) disk c.in-Ok-open.host.store.disk c.args.children.now c.run_on_host-done.new.children (g.W.Write.contents c.args.writer.now) (g.W.Write.contents c.run_on_host-done.new.writer) _
     c.as_slice.result.now start c.run_on_host-done.new.host (IfSome_then (g.R.Read.remaining c.args.reader.now) c.in-Ok.ensures.whole (λ bytes e. c.as_slice.ensures.value ∙ e))
-    (subst (λ xs. length xs ≤ max_input) (sym c.as_slice.ensures.value) c.in-Ok.ensures.short) (opened_on disk c.in-Ok-open.host o.0 o.1 c.in-Ok-open.ensures.found c.in-Ok-open.ensures.ends c.in-Ok-open.ensures.looks) o.1.stands.images
+    (subst (λ xs. length xs ≤ longest_standard_input) (sym c.as_slice.ensures.value) c.in-Ok.ensures.short) (opened_on disk c.in-Ok-open.host o.0 o.1 c.in-Ok-open.ensures.found c.in-Ok-open.ensures.ends c.in-Ok-open.ensures.looks) o.1.stands.images
     (same-on disk c.in-Ok-open.host.store.disk c.run_on_host-done.new.host.store.disk c.in-Ok-open.ensures.same c.run_on_host-done.ensures.same)
     c.args.strict c.in-Err-done.fault (if_err_is c.run_on_host-done.result _ c.in-Err-done.fault c.in-Err-done.is (c.run_on_host-done.ensures.err start o.1))
 

@@ -1,6 +1,6 @@
 use Rattle.std.proofs.Common.{◌≡◌, take}
 use Rattle.std.specs.List.{list_all}
-use Rattle.worksheet.specs.Checks.{is_input_byte}
+use Rattle.worksheet.specs.inside.Words.{is_input_byte}
 use Rattle.worksheet.proofs.check.are_input_bytes.Given as goal
 
 abbrev pub invariant-loop-byte : goal.invariant-loop-byte

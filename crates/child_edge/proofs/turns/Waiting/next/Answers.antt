@@ -18,8 +18,8 @@ returns-then-is_empty-clause-ok g c = λ s bs w h came.
     let zero : length c.args.self.now.seats.items ≡ 0 = search rules in
     (came_idle g.C.Children.after c.args.self.now s bs (at w c.args.children.now c.args.host.now.store.disk) came (nil_from_length c.args.self.now.seats.items zero), refl, refl, refl)
 
-pub returns-then-self-ge-TURNS-clause-ok : goal.returns-then-self-ge-TURNS-clause-ok
-returns-then-self-ge-TURNS-clause-ok g c = λ s bs w h came.
+pub returns-then-self-ge-MOST_TURNS-clause-ok : goal.returns-then-self-ge-MOST_TURNS-clause-ok
+returns-then-self-ge-MOST_TURNS-clause-ok g c = λ s bs w h came.
     let all : c.args.self.now.place ≡ length c.args.self.now.seats.items = omega (arith, came.place, c.args.self.now.seats.ok.0) in
     let last : c.args.self.now.whole ≡ most_turns = omega (arith, came.fits) in
     (came_last g.C.Children.after c.args.self.now s bs (at w c.args.children.now c.args.host.now.store.disk) came all last, refl, refl, refl)

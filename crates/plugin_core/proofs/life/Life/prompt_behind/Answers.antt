@@ -1,5 +1,5 @@
 use Rattle.std.proofs.Common.{◌≡◌, ◌∙◌, sym, Some}
-use Rattle.plugin_core.specs.Blocks.{prompt_in}
+use Rattle.plugin_core.specs.inside.Words.{prompt_in}
 use Rattle.plugin_core.proofs.Prompts.{short_in}
 use Rattle.plugin_core.proofs.life.Life.prompt_behind.Goals as goal
 

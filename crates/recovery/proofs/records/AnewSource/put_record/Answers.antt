@@ -1,6 +1,6 @@
 use Rattle.std.proofs.Common.{◌≡◌, ◌++◌, ◌+◌, ◌<◌, [], List, ℕ, get_or, length, ap, sym, ◌∙◌, subst, OnErr, OnOk, vec_capacity, vec_len}
 use Rattle.journal.specs.Area.{IsPayload, record_of}
-use Rattle.journal.specs.Limits.{max_payload}
+use Rattle.journal.specs.Limits.{longest_payload}
 use Rattle.recovery.specs.Code.{code_of}
 use Rattle.recovery.specs.declared.records.Record.{Record}
 use Rattle.recovery.specs.inside.Measured.{HasRecord}
@@ -26,7 +26,7 @@ returns-clause-payload c =
     let place : get_or c.args.self.now c.args.index [] ≡ code_of (op_in c.index.result.now) =
     ap (λ (l : List (List ℕ)). get_or l c.args.index []) (sym c.self.view_is) ∙ at_place c.self.inside.records.items c.args.index c.index.result.now some ∙ ap (λ (r : Record). code_of (op_in r)) (sym c.index.ensures) in
     let has = subst (λ (r : Record). HasRecord (op_in r)) (sym c.index.ensures) (has_at c.self.inside.records.items c.args.index c.index.result.now c.self.invariant some) in
-    on_ok c.put_record.result (IsPayload max_payload (get_or c.args.self.now c.args.index [])) (subst (λ (p : List ℕ). IsPayload max_payload p) (sym place) (is_payload (op_in c.index.result.now) has))
+    on_ok c.put_record.result (IsPayload longest_payload (get_or c.args.self.now c.args.index [])) (subst (λ (p : List ℕ). IsPayload longest_payload p) (sym place) (is_payload (op_in c.index.result.now) has))
 
 pub returns-clause-full : goal.returns-clause-full
 returns-clause-full c =

@@ -1,6 +1,6 @@
 use Rattle.std.proofs.Common.{◌≡◌, ◌+◌, ◌≤◌, ℕ, List, min, refl, sym, ◌∙◌, subst, false, Some, Option, vec_capacity}
 use Rattle.disk_model.specs.Disk.{InModel, LeavesOnly}
-use Rattle.journal.specs.Limits.{batch_len, max_payload}
+use Rattle.journal.specs.Limits.{batch_len, longest_payload}
 use Rattle.journal.specs.Sources.{HoldsEach}
 use Rattle.worksheet.specs.Rewrite.{rewrite_of}
 use Rattle.recovery.specs.Checkpointed.{CheckpointAnswers, HasRoomAnew}
@@ -67,7 +67,7 @@ anew-renewed-requires-clause-memory g c =
     let capacity = vec_capacity c.in-Ok-batch_of.batch in
     subst (λ (l : List (List ℕ)). HoldsEach capacity l) (sym c.in-Ok.ensures.ok)
     (holds_each capacity (codes_of (rewrite_of sheet)) (rewrites_are_short made.0 sheet made.1)
-    (subst (λ (n : ℕ). batch_len + 6 + min n max_payload ≤ capacity) c.in-Some-len_anew.ensures.len c.in-Ok-batch_of.ensures))
+    (subst (λ (n : ℕ). batch_len + 6 + min n longest_payload ≤ capacity) c.in-Some-len_anew.ensures.len c.in-Ok-batch_of.ensures))
 
 pub invariant_of-self : goal.invariant_of-self
 invariant_of-self g c =

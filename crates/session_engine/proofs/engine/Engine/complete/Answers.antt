@@ -6,7 +6,7 @@ use Rattle.session_engine.specs.declared.command.Command.TheVariants as command
 use Rattle.session_engine.specs.declared.reply.Reply.TheVariants as reply
 use Rattle.session_engine.specs.declared.table.Running.{Running}
 use Rattle.session_engine.specs.World.{World, sheet_in, life_of}
-use Rattle.session_engine.specs.Refused.{lives_are_spent}
+use Rattle.session_engine.specs.inside.Words.{lives_are_spent}
 use Rattle.session_engine.specs.Does.{does, tells}
 use Rattle.session_engine.specs.Host.{EngineStandsFor, HasField}
 use Rattle.session_engine.specs.inside.Engines.{StandsAt}

@@ -5,7 +5,8 @@ use Rattle.worksheet.proofs.Finds.{field_in-id}
 use Rattle.plugin_core.specs.declared.item.Item.TheVariants as item
 use Rattle.std.specs.Str.{IsCharBoundary}
 use Rattle.session_engine.specs.World.{sheet_in, life_of}
-use Rattle.session_engine.specs.Refused.{takes_tab, queue_refusals}
+use Rattle.session_engine.specs.Refused.{queue_refusals}
+use Rattle.session_engine.specs.inside.Words.{takes_tab}
 use Rattle.session_engine.proofs.Asking.{session_is}
 use Rattle.session_engine.proofs.Completing.{queue_first, request_is}
 use Rattle.session_engine.proofs.engine.Engine.completion.Goals as goal

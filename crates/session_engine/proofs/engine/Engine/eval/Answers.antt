@@ -15,7 +15,7 @@ use Rattle.session_engine.specs.declared.command.Command.TheVariants as command
 use Rattle.session_engine.specs.declared.event.Event.TheVariants as event
 use Rattle.session_engine.specs.declared.reply.Reply.TheVariants as reply
 use Rattle.session_engine.specs.World.{World, sheet_in, in_flight, life_of}
-use Rattle.session_engine.specs.Refused.{lives_are_spent}
+use Rattle.session_engine.specs.inside.Words.{lives_are_spent}
 use Rattle.session_engine.specs.Does.{does, tells}
 use Rattle.session_engine.specs.Host.{EngineStandsFor, HasField, OnDisk}
 use Rattle.session_engine.specs.inside.Engines.{StandsAt, TookAt, view_of}

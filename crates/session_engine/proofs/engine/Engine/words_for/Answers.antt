@@ -4,7 +4,7 @@ use Rattle.worksheet.specs.Contents.{SheetView, Contents}
 use Rattle.worksheet.specs.Checks.{session_named}
 use Rattle.session_engine.specs.World.{Going, life_of, sheet_in}
 use Rattle.session_engine.specs.inside.Parts.{start_words}
-use Rattle.session_engine.specs.Does.{starting_words}
+use Rattle.session_engine.specs.inside.Words.{starting_words}
 use Rattle.session_engine.specs.Host.{name_of}
 use Rattle.session_engine.proofs.Tables.{some_there, none, found, not_found}
 use Rattle.session_engine.proofs.engine.Engine.words_for.Goals as goal
