@@ -1,13 +1,19 @@
 //! Bytes as they are printed.
-ghost use Rattle.std.specs.Prelude.{◌≡◌, ◌<◌, OnOk, ℕ, Option, Some};
+ghost use Rattle.std.specs.Prelude.{◌≡◌, ◌<◌, ◌≤◌, ◌+◌, ◌++◌, OnOk, ℕ, Option, Some, false, take};
 ghost use Rattle.std.specs.List.{flat_map, last_or};
 ghost use Rattle.std.specs.Io.KnownBytes.{Appends};
-ghost use Rattle.sheet_text.specs.Escape.{byte_in_quotes, hex, in_quotes, on_line, on_lines, printed_byte};
+ghost use Rattle.sheet_text.specs.Escape.{byte_in_quotes, escaped_byte, hex, in_quotes, on_line, on_lines, printed_byte};
 ghost use Rattle.sheet_text.specs.Escape as escape;
 
 use crate::WriteFault;
 use crate::plain::plain_end;
 use std::io::Write;
+
+/// The most bytes that are printed for a byte.
+pub(crate) const MOST_PRINTED: usize = 4;
+
+/// The most bytes that are printed before they are written together.
+pub(crate) const ROOM: usize = 64;
 
 /// A hexadecimal digit, in lower case.
 pub fn hex_digit(n: u8) -> u8
@@ -40,6 +46,17 @@ pub(crate) fn last_printed(byte: u8, keeps_lines: bool) -> u8
     }
 }
 
+/// What is printed for a byte that isn't printed as itself.
+#[inline(always)]
+fn escaped(byte: u8) -> [u8; MOST_PRINTED]
+    ensures { result ≡ escaped_byte byte }
+{
+    let high = hex_digit(byte / 16);
+    let low = hex_digit(byte % 16);
+    // By a number, since a load of four bytes waits where they were stored one by one.
+    u32::from_le_bytes([b'\\', b'x', high, low]).to_le_bytes()
+}
+
 pub(crate) fn write_byte<W: Write>(
     byte: u8,
     keeps_lines: bool,
@@ -51,10 +68,22 @@ pub(crate) fn write_byte<W: Write>(
     if is_plain(byte, keeps_lines) {
         return out.write_all(&[byte]).map_err(|_| WriteFault);
     }
-    let high = hex_digit(byte / 16);
-    let low = hex_digit(byte % 16);
-    out.write_all(&[b'\\', b'x', high, low])
-        .map_err(|_| WriteFault)
+    out.write_all(&escaped(byte)).map_err(|_| WriteFault)
+}
+
+/// Puts what is printed for a byte behind the bytes that a room holds, and tells how many it holds then.
+#[inline(always)]
+pub(crate) fn put_byte(byte: u8, room: &mut [u8; ROOM], used: usize) -> usize
+    requires { used + MOST_PRINTED ≤ ROOM }
+    ensures within { result ≤ used + MOST_PRINTED }
+    ensures text { take result room.new ≡ take used room.old ++ printed_byte false byte }
+{
+    if is_plain(byte, false) {
+        room[used] = byte;
+        return used + 1;
+    }
+    room[used..used + 4].copy_from_slice(&escaped(byte));
+    used + 4
 }
 
 /// Writes a run of bytes as they are; most runs between bytes that aren't printed as themselves are empty.

@@ -1,5 +1,5 @@
 //! Blocks as they are printed, from the bytes that spell them.
-ghost use Rattle.std.specs.Prelude.{◌≡◌, ◌<◌, ◌≤◌, ℕ, List, OnOk, IfOk, length};
+ghost use Rattle.std.specs.Prelude.{◌≡◌, ◌<◌, ◌≤◌, ◌+◌, ◌*◌, ◌++◌, ℕ, List, OnOk, IfOk, length, slice_index, take};
 ghost use Rattle.std.specs.Io.KnownBytes.{Appends};
 ghost use Rattle.block_tree.specs.Tree.{Tree};
 ghost use Rattle.meta_format.specs.Limits.{limits};
@@ -8,7 +8,7 @@ ghost use Rattle.sheet_text.specs.Blocks.{tree_text};
 ghost use Rattle.sheet_text.specs.inside.Spelled.{behind_escape, spelled_byte, PrintsTo};
 
 use crate::WriteFault;
-use crate::escape::{write_byte, write_run};
+use crate::escape::{MOST_PRINTED, ROOM, put_byte, write_byte, write_run};
 use crate::plain::plain_end;
 use std::io::Write;
 
@@ -24,19 +24,41 @@ fn write_spelled<W: Write>(byte: u8, out: &mut W) -> Result<(), WriteFault>
     }
 }
 
-/// Writes what a 27 and the byte behind it stand for.
-#[tactic(auto, using(crate::proofs::Appending::steps))]
-fn write_escaped<W: Write>(byte: u8, out: &mut W) -> Result<(), WriteFault>
-    ensures { OnOk result
-        (Appends (W.contents out.old) (W.contents out.new) (behind_escape byte)) }
+/// Puts what a 27 and the byte behind it stand for behind the bytes that a room holds, and tells how many it holds then.
+#[inline(always)]
+fn put_escaped(byte: u8, room: &mut [u8; ROOM], used: usize) -> usize
+    requires { used + 2 * MOST_PRINTED ≤ ROOM }
+    ensures within { result ≤ used + 2 * MOST_PRINTED }
+    ensures text { take result room.new ≡ take used room.old ++ behind_escape byte }
 {
     if byte != 2 && byte != 5 && byte != 27 {
-        write_byte(27, false, out)?;
+        let behind = put_byte(27, room, used);
+        return put_byte(byte, room, behind);
     }
-    write_byte(byte, false, out)
+    put_byte(byte, room, used)
 }
 
-/// Writes what stands there, one byte or a 27 with the byte behind it, and tells where the next stands.
+/// Writes what some escapes stand for that follow one another, and tells where the next byte stands.
+// It stands apart, so that no room is made for a block without an escape.
+#[inline(never)]
+fn write_escapes<W: Write>(bytes: &[u8], at: usize, out: &mut W) -> Result<usize, WriteFault>
+    requires whole { at + 1 < length bytes.now }
+    requires escape { slice_index bytes.now at ≡ 27 }
+    ensures { IfOk result (λ to. (at < to) × (to ≤ length bytes.now) × (text : List ℕ)
+        × Appends (W.contents out.old) (W.contents out.new) text × PrintsTo bytes.now at to text) }
+{
+    let mut room = [0u8; ROOM];
+    let mut used = put_escaped(bytes[at + 1], &mut room, 0);
+    let mut to = at + 2;
+    while used <= ROOM - 2 * MOST_PRINTED && bytes.len() - to >= 2 && bytes[to] == 27 {
+        used = put_escaped(bytes[to + 1], &mut room, used);
+        to += 2;
+    }
+    out.write_all(&room[..used]).map_err(|_| WriteFault)?;
+    Ok(to)
+}
+
+/// Writes what stands there, one byte or some escapes, and tells where the next byte stands.
 fn write_one<W: Write>(bytes: &[u8], at: usize, out: &mut W) -> Result<usize, WriteFault>
     requires { at < length bytes.now }
     ensures { IfOk result (λ to. (at < to) × (to ≤ length bytes.now) × (text : List ℕ)
@@ -49,8 +71,7 @@ fn write_one<W: Write>(bytes: &[u8], at: usize, out: &mut W) -> Result<usize, Wr
     if bytes.len() - at < 2 {
         return Ok(at + 1);
     }
-    write_escaped(bytes[at + 1], out)?;
-    Ok(at + 2)
+    write_escapes(bytes, at, out)
 }
 
 /// Writes a block like `tree_text`, from bytes that spell it. No memory is taken.
