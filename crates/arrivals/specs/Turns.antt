@@ -1,8 +1,8 @@
 -- Sources whose turns are a list.
 use Rattle.std.specs.Prelude.{◌≡◌, ℕ, Bool, true, false, List, Option, Some, None, position, slice_get, is_some, remove}
-use Rattle.child_edge.specs.Calls.{Call, Answer}
-use Rattle.child_edge.specs.Parts.{ByParts}
-use Rattle.child_edge.specs.declared.scripted.Part.{Part}
+use Rattle.child_calls.specs.Calls.{Call, Answer}
+use Rattle.child_calls.specs.Parts.{ByParts}
+use Rattle.child_calls.specs.declared.scripted.Part.{Part}
 use Rattle.arrivals.specs.declared.sources.Input.{Input}
 use Rattle.arrivals.specs.declared.sources.Input.TheVariants as input
 use Rattle.arrivals.specs.declared.sources.Woken.{Woken}

@@ -4,7 +4,7 @@ ghost use Rattle.arrivals.specs.Watching.{InputMayCome, MayCome, asked};
 
 use crate::sources::{Input, Sources, WatchFault, Woken};
 use block_tree::Octets;
-use child_edge::{ChildFault, Children, Processes, ReceiveFault, Received, Seat};
+use child_calls::{ChildFault, Children, Processes, ReceiveFault, Received, Seat};
 use libc::net::{POLLIN, poll};
 use libc::types::pollfd;
 use std::alloc::{AllocError, Global};

@@ -6,7 +6,7 @@ ghost use Rattle.arrivals.specs.Watching.{asked};
 
 use crate::sources::{Input, Sources, WatchFault, Woken};
 use block_tree::Octets;
-use child_edge::{ChildFault, Children, ReceiveFault, Received, Scripted};
+use child_calls::{ChildFault, Children, ReceiveFault, Received, Scripted};
 use std::marker::Model;
 use worksheet::Name;
 

@@ -1,5 +1,5 @@
 //! Sources of arrivals: children and an input, by whose turn it is.
-use child_edge::{Children, Seat};
+use child_calls::{Children, Seat};
 
 /// How a caller stands to the input.
 #[derive(Clone, Copy, Debug, PartialEq, Eq)]

@@ -1,7 +1,7 @@
 -- A run goes on by one event.
 use Rattle.std.proofs.Common.{◌≡◌, List, [], ◌∷◌, ◌++◌, Option, Some, None, refl, ap, sym, ◌∙◌, append_assoc, append-nil}
-use Rattle.session_engine.specs.declared.event.Event.{Event}
-use Rattle.session_engine.specs.declared.reply.Reply.{Reply}
+use Rattle.host_events.specs.declared.event.Event.{Event}
+use Rattle.host_events.specs.declared.reply.Reply.{Reply}
 use Rattle.child_edge.specs.Faithful.{Relation, At, Beat, Beats, Follows, due_after}
 use Rattle.child_edge.specs.Told.{told, spoken}
 

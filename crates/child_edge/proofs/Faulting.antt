@@ -5,9 +5,9 @@ use Rattle.std.specs.Bool.{IsTrue}
 use Rattle.disk_model.specs.Disk.{DiskView, SameDisk}
 use Rattle.disk_model.specs.inside.Moments.{at_end}
 use Rattle.recovery.specs.Sheets.{IsEither}
-use Rattle.session_engine.specs.declared.event.Event.{Event}
-use Rattle.session_engine.specs.declared.outcome.HostFault.{HostFault}
-use Rattle.session_engine.specs.declared.outcome.HostFault.TheVariants as faults
+use Rattle.host_events.specs.declared.event.Event.{Event}
+use Rattle.host_events.specs.declared.outcome.HostFault.{HostFault}
+use Rattle.host_events.specs.declared.outcome.HostFault.TheVariants as faults
 use Rattle.session_engine.specs.World.{World}
 use Rattle.session_engine.specs.Host.{HostView, IsHost}
 use Rattle.session_engine.specs.Faults.{CauseOf, Failed}

@@ -1,19 +1,19 @@
 -- At most three events come of one.
 use Rattle.std.proofs.Common.{◌≡◌, ℕ, ◌+◌, ◌<◌, ◌≤◌, List, Option, Some, None, refl, ap, sym, subst, arith, true, false}
-use Rattle.session_engine.specs.declared.event.ChildEvent.TheVariants as child
-use Rattle.session_engine.specs.declared.event.Event.{Event}
-use Rattle.session_engine.specs.declared.event.Event.TheVariants.{Child}
-use Rattle.session_engine.specs.declared.event.Event.TheVariants as event
-use Rattle.session_engine.specs.declared.outcome.Effect.{Effect}
-use Rattle.session_engine.specs.declared.outcome.Effect.TheVariants.{Start, Send, Kill}
-use Rattle.session_engine.specs.declared.outcome.Outcome.{Outcome}
-use Rattle.session_engine.specs.declared.reply.Reply.TheVariants as reply
+use Rattle.host_events.specs.declared.event.ChildEvent.TheVariants as child
+use Rattle.host_events.specs.declared.event.Event.{Event}
+use Rattle.host_events.specs.declared.event.Event.TheVariants.{Child}
+use Rattle.host_events.specs.declared.event.Event.TheVariants as event
+use Rattle.host_events.specs.declared.outcome.Effect.{Effect}
+use Rattle.host_events.specs.declared.outcome.Effect.TheVariants.{Start, Send, Kill}
+use Rattle.host_events.specs.declared.outcome.Outcome.{Outcome}
+use Rattle.host_events.specs.declared.reply.Reply.TheVariants as reply
 use Rattle.block_tree.specs.declared.reason.Reason.{Reason}
 use Rattle.block_tree.specs.declared.reason.Reason.TheVariants as reason
 use Rattle.session_engine.specs.World.{World, Going, with_number, life_of}
 use Rattle.session_engine.specs.Does.{Does, MayDo, ends_life, tells}
-use Rattle.child_edge.specs.Calls.{Answer, done, fault, piece, end}
-use Rattle.child_edge.specs.Calls as calls
+use Rattle.child_calls.specs.Calls.{Answer, done, fault, piece, end}
+use Rattle.child_calls.specs.Calls as calls
 use Rattle.child_edge.specs.Faithful.{due_of}
 
 abbrev pub rank_of : Event → ℕ

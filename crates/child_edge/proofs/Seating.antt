@@ -4,7 +4,7 @@ use Rattle.std.specs.Prelude.{option_map}
 use Rattle.worksheet.specs.declared.field.Session.{Session}
 use Rattle.session_engine.specs.World.{World, Going, life_of, sheet_in}
 use Rattle.session_engine.specs.declared.host.LifeView.{LifeView}
-use Rattle.child_edge.specs.declared.waiting.Seat.{Seat}
+use Rattle.child_calls.specs.declared.seat.Seat.{Seat}
 use Rattle.child_edge.specs.Seats.{life_view, seat_of, seats_of, waits, numbered, lives_of, running}
 use Rattle.child_edge.specs.Faithful.{Relation}
 use Rattle.child_edge.specs.Stops.{Stops}

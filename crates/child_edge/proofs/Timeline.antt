@@ -4,11 +4,11 @@ use Rattle.std.specs.Bool.{IsTrue}
 use Rattle.disk_model.specs.Disk.{DiskView, Image, InModel, LeavesOnly}
 use Rattle.disk_model.specs.inside.Moments.{started, weakens, goes_on}
 use Rattle.recovery.specs.Sheets.{IsSheetImage}
-use Rattle.session_engine.specs.declared.event.Event.{Event}
-use Rattle.session_engine.specs.declared.event.Event.TheVariants.{Child}
-use Rattle.session_engine.specs.declared.outcome.Outcome.{Outcome}
-use Rattle.session_engine.specs.declared.outcome.HostFault.{HostFault}
-use Rattle.session_engine.specs.declared.outcome.HostFault.TheVariants as faults
+use Rattle.host_events.specs.declared.event.Event.{Event}
+use Rattle.host_events.specs.declared.event.Event.TheVariants.{Child}
+use Rattle.host_events.specs.declared.outcome.Outcome.{Outcome}
+use Rattle.host_events.specs.declared.outcome.HostFault.{HostFault}
+use Rattle.host_events.specs.declared.outcome.HostFault.TheVariants as faults
 use Rattle.session_engine.specs.World.{World, sheet_in}
 use Rattle.session_engine.specs.Does.{Does, Gives, behind}
 use Rattle.session_engine.specs.Host.{HostView, OnDisk}
@@ -16,11 +16,11 @@ use Rattle.session_engine.specs.Faults.{CauseOf}
 use Rattle.session_engine.specs.Crash.{LeftAmong, Moments, MomentsBefore}
 use Rattle.session_engine.proofs.Playing.{EitherSheet, either_sheet}
 use Rattle.child_edge.specs.Kept.{HoldsSheet, Kept}
-use Rattle.session_engine.specs.declared.reply.Reply.{Reply}
+use Rattle.host_events.specs.declared.reply.Reply.{Reply}
 use Rattle.child_edge.specs.Faithful.{Relation, At, at, Beat, Beats, Follows, FirstOf, Taken, Turns, Served, ServedUpTo, Waited, due_after}
 use Rattle.child_edge.specs.Broken.{WaitSoFar, WaitStopped}
 use Rattle.child_edge.specs.Seats.{waits}
-use Rattle.child_edge.specs.declared.waiting.Seat.{Seat}
+use Rattle.child_calls.specs.declared.seat.Seat.{Seat}
 use Rattle.child_edge.specs.Edge.{Ran, BrokeOff, Stopped}
 use Rattle.child_edge.specs.Moments.{events_of, outcomes_of, LeavesFronts, LeavesFrontsUpTo, RanFrom, BrokeFrom}
 

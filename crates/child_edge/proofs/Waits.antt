@@ -1,7 +1,7 @@
 -- A turn goes on by one life, and a wait by one turn.
 use Rattle.std.proofs.Common.{◌≡◌, ℕ, ◌+◌, Bool, List, ◌++◌, Some, refl, ap, sym, ◌∙◌, append_assoc, add-one, slice_get, nat_lt}
-use Rattle.session_engine.specs.declared.reply.Reply.{Reply}
-use Rattle.session_engine.specs.declared.outcome.HostFault.{HostFault}
+use Rattle.host_events.specs.declared.reply.Reply.{Reply}
+use Rattle.host_events.specs.declared.outcome.HostFault.{HostFault}
 use Rattle.child_edge.specs.Seats.{waits}
 use Rattle.child_edge.specs.declared.serving.EdgeCause.{EdgeCause}
 use Rattle.child_edge.specs.declared.serving.EdgeCause.TheVariants as cause

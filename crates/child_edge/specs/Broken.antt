@@ -1,7 +1,7 @@
 -- Runs that broke off, because the host had a fault or because there was no memory for a reply.
 use Rattle.std.specs.Prelude.{◌≡◌, ℕ, ◌≤◌, Bool, List, ◌++◌, Some, None, length, slice_get, nat_lt}
-use Rattle.session_engine.specs.declared.event.Event.{Event}
-use Rattle.child_edge.specs.declared.waiting.Seat.{Seat}
+use Rattle.host_events.specs.declared.event.Event.{Event}
+use Rattle.child_calls.specs.declared.seat.Seat.{Seat}
 use Rattle.child_edge.specs.Seats.{waits}
 use Rattle.child_edge.specs.Faithful.{Relation, At, Beat, FirstOf, Taken, Turns}
 

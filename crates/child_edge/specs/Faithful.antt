@@ -1,19 +1,19 @@
 -- Faithful runs: every effect is one call, and every answer one event. (docs/EDGE.md, "A faithful run".)
 use Rattle.std.specs.Prelude.{◌≡◌, ℕ, ◌≤◌, zero, suc, Bool, true, false, List, [], ◌∷◌, ◌++◌, Option, Some, None, length, slice_get, ◌⊎◌, nat_lt}
-use Rattle.session_engine.specs.declared.event.ChildEvent.{ChildEvent}
-use Rattle.session_engine.specs.declared.event.ChildEvent.TheVariants as child
-use Rattle.session_engine.specs.declared.event.Event.{Event}
-use Rattle.session_engine.specs.declared.event.Event.TheVariants.{Child}
-use Rattle.session_engine.specs.declared.outcome.Effect.{Effect}
-use Rattle.session_engine.specs.declared.outcome.Effect.TheVariants.{Start, Send, Kill}
-use Rattle.session_engine.specs.declared.outcome.Outcome.{Outcome}
+use Rattle.host_events.specs.declared.event.ChildEvent.{ChildEvent}
+use Rattle.host_events.specs.declared.event.ChildEvent.TheVariants as child
+use Rattle.host_events.specs.declared.event.Event.{Event}
+use Rattle.host_events.specs.declared.event.Event.TheVariants.{Child}
+use Rattle.host_events.specs.declared.outcome.Effect.{Effect}
+use Rattle.host_events.specs.declared.outcome.Effect.TheVariants.{Start, Send, Kill}
+use Rattle.host_events.specs.declared.outcome.Outcome.{Outcome}
 use Rattle.session_engine.specs.World.{World}
 use Rattle.session_engine.specs.Does.{Gives}
 use Rattle.disk_model.specs.Disk.{DiskView}
 use Rattle.child_edge.specs.Kept.{Kept}
-use Rattle.child_edge.specs.declared.waiting.Seat.{Seat}
+use Rattle.child_calls.specs.declared.seat.Seat.{Seat}
 use Rattle.child_edge.specs.Seats.{waits}
-use Rattle.child_edge.specs.Calls.{Call, start, send, receive, stop, Answer, done, fault, piece, end, no_memory}
+use Rattle.child_calls.specs.Calls.{Call, start, send, receive, stop, Answer, done, fault, piece, end, no_memory}
 
 -- The relation of children: those before a call, the call, its answer, and those after it.
 abbrev pub Relation : Type 0 → Type 1

@@ -1,7 +1,4 @@
 pub mod Limits
-pub mod Calls
-pub mod Answers
-pub mod Parts
 pub mod Seats
 pub mod Kept
 pub mod Faithful

@@ -1,10 +1,10 @@
 -- What a crash leaves at every moment of a run. (docs/EDGE.md, "A crash".)
 use Rattle.std.specs.Prelude.{List, [], ◌∷◌, ◌++◌, map}
 use Rattle.disk_model.specs.Disk.{DiskView}
-use Rattle.session_engine.specs.declared.event.Event.{Event}
-use Rattle.session_engine.specs.declared.reply.Reply.{Reply}
-use Rattle.session_engine.specs.declared.outcome.Outcome.{Outcome}
-use Rattle.session_engine.specs.declared.outcome.HostFault.{HostFault}
+use Rattle.host_events.specs.declared.event.Event.{Event}
+use Rattle.host_events.specs.declared.reply.Reply.{Reply}
+use Rattle.host_events.specs.declared.outcome.Outcome.{Outcome}
+use Rattle.host_events.specs.declared.outcome.HostFault.{HostFault}
 use Rattle.session_engine.specs.World.{World}
 use Rattle.session_engine.specs.Crash.{Moments, MomentsBefore}
 use Rattle.session_engine.specs.Host.{HostView}

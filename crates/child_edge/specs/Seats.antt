@@ -3,7 +3,7 @@ use Rattle.std.specs.Prelude.{ℕ, List, [], ◌∷◌, ◌++◌, Option, Some, 
 use Rattle.worksheet.specs.declared.field.Session.{Session}
 use Rattle.session_engine.specs.declared.host.LifeView.{LifeView}
 use Rattle.session_engine.specs.World.{World, Going, life_of, waiting_in, sheet_in}
-use Rattle.child_edge.specs.declared.waiting.Seat.{Seat}
+use Rattle.child_calls.specs.declared.seat.Seat.{Seat}
 
 -- a life as a host tells it
 abbrev pub life_view : Going → LifeView

@@ -1,6 +1,6 @@
 -- A wait that is taken life by life. (docs/EDGE.md, "A faithful run".)
 use Rattle.std.specs.Prelude.{◌≡◌, ℕ, ◌≤◌, ◌+◌, ◌-◌, ◌*◌, ◌^◌, Bool, true, false, List, ◌++◌, None, length, nat_lt}
-use Rattle.session_engine.specs.declared.reply.Reply.{Reply}
+use Rattle.host_events.specs.declared.reply.Reply.{Reply}
 use Rattle.session_engine.specs.World.{World}
 use Rattle.session_engine.specs.Host.{HostView}
 use Rattle.child_edge.specs.declared.turns.Waiting.{Waiting}

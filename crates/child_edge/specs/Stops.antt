@@ -1,7 +1,7 @@
 -- The calls that stop lives, of which no event comes.
 use Rattle.std.specs.Prelude.{◌≡◌, List, [], ◌∷◌}
-use Rattle.child_edge.specs.declared.waiting.Seat.{Seat}
-use Rattle.child_edge.specs.Calls.{stop, Answer}
+use Rattle.child_calls.specs.declared.seat.Seat.{Seat}
+use Rattle.child_calls.specs.Calls.{stop, Answer}
 use Rattle.child_edge.specs.Faithful.{Relation}
 
 -- each of these lives is stopped by one call, in order, whatever that is answered

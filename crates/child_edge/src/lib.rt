@@ -2,20 +2,14 @@
 //! of such a call one event of the host.
 #![tactic(auto)]
 
-pub mod children;
 pub mod lives;
-pub mod processes;
-pub mod scripted;
 pub mod serving;
 mod stopping;
 mod turns;
 mod waiting;
 
-pub use children::{ChildFault, Children, ReceiveFault, Received};
 pub use lives::{listen, stall};
-pub use processes::Processes;
-pub use scripted::{Got, Part, PieceBytes, Scripted};
 pub use serving::{EdgeCause, EdgeFault, MOST_TURNS, serve, wait};
 pub use stopping::stop_all;
 pub use turns::Waiting;
-pub use waiting::{Seat, is_idle, waiting as waiting_lives};
+pub use waiting::{is_idle, waiting as waiting_lives};

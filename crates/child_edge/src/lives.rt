@@ -6,11 +6,11 @@ ghost use Rattle.session_engine.specs.Host.{IsHost};
 ghost use Rattle.child_edge.specs.Edge.{BrokeOff, ByCause, ClosedOrNoMemory, HeardOne, Ran};
 ghost use Rattle.child_edge.specs.Faithful.{at, Taken, TakenUpTo};
 
-use crate::children::Children;
 use crate::serving::{EdgeCause, take};
-use crate::waiting::Seat;
+use child_calls::{Children, Seat};
 use disk_model::Disk;
-use session_engine::{Host, Reply};
+use host_events::Reply;
+use session_engine::Host;
 
 /// Receives once from the child of this life and takes what it gives, with its effect and all that comes of
 /// that. The replies to it are put behind those that are there: at most three.

@@ -6,18 +6,18 @@ ghost use Rattle.session_engine.specs.Host.{IsHost, Took};
 ghost use Rattle.child_edge.specs.Edge.{BrokeOff, ByCause, ClosedOrNoMemory, FailsClosed, HeardOne, Ran, Stopped, TellsClosed};
 ghost use Rattle.child_edge.specs.Moments.{BrokeFrom, RanFrom};
 ghost use Rattle.child_edge.specs.Limits.{most_turns};
-ghost use Rattle.child_edge.specs.Calls.{Answer};
-ghost use Rattle.child_edge.specs.Answers.{sent};
+ghost use Rattle.child_calls.specs.Calls.{Answer};
+ghost use Rattle.child_calls.specs.Answers.{sent};
 ghost use Rattle.child_edge.specs.Faithful.{at, Beat, Beats, Carried, call_of, due_of, due_after, fault_of, Served, ServedUpTo, TakenUpTo};
 ghost use Rattle.child_edge.specs.Faithful.{Hears, Taken, Waited};
 ghost use Rattle.child_edge.specs.Broken.{WaitSoFar, WaitStopped};
 ghost use Rattle.child_edge.specs.Told.{spoken};
 
-use crate::children::{ChildFault, Children, ReceiveFault, Received};
 use crate::turns::Waiting;
-use crate::waiting::Seat;
+use child_calls::{ChildFault, Children, ReceiveFault, Received, Seat};
 use disk_model::Disk;
-use session_engine::{ChildEvent, Command, Effect, Event, Host, HostFault, Outcome, Reply};
+use host_events::{ChildEvent, Command, Effect, Event, HostFault, Outcome, Reply};
+use session_engine::Host;
 use std::alloc::{AllocError, Global};
 use worksheet::Name;
 

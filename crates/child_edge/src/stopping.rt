@@ -3,15 +3,16 @@ ghost use Rattle.std.specs.Prelude.{◌≡◌, option_map};
 ghost use Rattle.disk_model.specs.Disk.{DiskView};
 ghost use Rattle.session_engine.specs.World.{World};
 ghost use Rattle.session_engine.specs.Host.{IsHost};
-ghost use Rattle.session_engine.specs.declared.event.Event.{Event};
+ghost use Rattle.host_events.specs.declared.event.Event.{Event};
 ghost use Rattle.child_edge.specs.Edge.{Stopped};
 ghost use Rattle.child_edge.specs.Seats.{numbered, running};
 ghost use Rattle.child_edge.specs.Stops.{Stops};
 
-use crate::children::Children;
+use child_calls::Children;
 use disk_model::Disk;
+use host_events::HostFault;
+use session_engine::Host;
 use session_engine::host::LifeView;
-use session_engine::{Host, HostFault};
 use worksheet::Name;
 
 /// Stops the life of this session, where one goes on. What that call answers is dropped.

@@ -9,11 +9,12 @@ ghost use Rattle.child_edge.specs.Faithful.{At, at, Beat};
 ghost use Rattle.child_edge.specs.Broken.{WaitStopped};
 ghost use Rattle.child_edge.specs.Steps.{Came, IsBegun, Stepped, left_of};
 
-use crate::children::Children;
 use crate::serving::{EdgeCause, MOST_TURNS, take};
-use crate::waiting::{Seat, waiting};
+use crate::waiting::waiting;
+use child_calls::{Children, Seat};
 use disk_model::Disk;
-use session_engine::{Host, Reply};
+use host_events::Reply;
+use session_engine::Host;
 use std::alloc::{AllocError, Global};
 
 /// A wait that is taken life by life, so that what each child wrote can be told before the next one is

@@ -4,18 +4,12 @@ ghost use Rattle.session_engine.specs.World.{World};
 ghost use Rattle.session_engine.specs.Host.{IsHost};
 ghost use Rattle.child_edge.specs.Seats.{seat_of, waits};
 
+use child_calls::Seat;
 use disk_model::Disk;
 use session_engine::Host;
 use session_engine::host::LifeView;
 use std::alloc::{AllocError, Global};
 use worksheet::Name;
-
-/// The life of a session, by its number.
-#[derive(Clone, Copy, Debug)]
-pub struct Seat {
-    pub name: Name,
-    pub life: u32,
-}
 
 /// Adds the life of this session, where an item waits in it.
 fn add(seats: &mut Vec<Seat>, name: Name, view: Option<LifeView>) -> Result<(), AllocError>

@@ -27,8 +27,8 @@ use Rattle.program_endings.specs.declared.ending.Ending.{Ending}
 use Rattle.sheet_files.specs.declared.files_fault.FilesFault.{FilesFault}
 use Rattle.sheet_files.specs.declared.files_fault.HoldFault.{HoldFault}
 use Rattle.sheet_files.specs.declared.files_fault.MakeFault.{MakeFault}
-use Rattle.sheet_programs.specs.declared.fault.RunFault.{RunFault}
-use Rattle.sheet_programs.specs.declared.fault.RunFault.TheVariants as fault
+use Rattle.offline_programs.specs.declared.fault.RunFault.{RunFault}
+use Rattle.offline_programs.specs.declared.fault.RunFault.TheVariants as fault
 
 -- how a program with this answer ends, and what it says on the stream of errors
 abbrev pub EndsWith : {E : Type 0} → (E → Option (List ℕ)) → E → E → Ending → ProgramAnswer → Type 0

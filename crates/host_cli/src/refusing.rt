@@ -6,11 +6,11 @@ ghost use Rattle.clap.specs.Words.{kind_of};
 ghost use Rattle.clap.specs.declared.error.kind.ErrorKind.TheVariants as kind;
 ghost use Rattle.host_cli.specs.Refused.{ShowsText, no_format_text};
 ghost use Rattle.program_endings.specs.Ending.{TellsFault};
-ghost use Rattle.sheet_programs.specs.declared.fault.RunFault.TheVariants as fault;
+ghost use Rattle.offline_programs.specs.declared.fault.RunFault.TheVariants as fault;
 
 use clap::error::ErrorKind;
+use offline_programs::RunFault;
 use program_endings::{Ending, end_program};
-use sheet_programs::RunFault;
 use std::io;
 use std::io::Write;
 

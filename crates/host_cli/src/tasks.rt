@@ -6,7 +6,7 @@ ghost use Rattle.clap.specs.declared.error.Error.{Error};
 ghost use Rattle.command_words.specs.Asked.{asked_by, task_view, tmhost};
 ghost use Rattle.host_cli.specs.Tasks.{BlocksTo, ByTask, CheckAt, CheckTo, CreateAt, EndsWith, ExportAt, ExportFrom, ExportTo, LiveAt, LiveTo, Refuses, RescueAt, RescueFrom, RunAt, RunTo, ShowAt, ShowTo};
 ghost use Rattle.sheet_export.specs.Formats.{last_part as last_part_of};
-ghost use Rattle.sheet_programs.specs.declared.fault.RunFault.TheVariants as fault;
+ghost use Rattle.offline_programs.specs.declared.fault.RunFault.TheVariants as fault;
 ghost use Rattle.program_endings.specs.RescueProgram.{RescueEnds};
 ghost use Rattle.sheet_files.specs.declared.files_fault.MakeFault.{MakeFault};
 ghost use Rattle.command_words.specs.declared.words.Task.{Task};
@@ -16,10 +16,11 @@ ghost use Rattle.worksheet.specs.declared.op.Op.{Op};
 use crate::refusing::refuse_format;
 use crate::{refuse_unread_words, refuse_words};
 use arrivals::Sources;
-use child_edge::Children;
+use child_calls::Children;
 use clap::Error;
 use command_words::{Task, read_words};
 use disk_model::Disk;
+use offline_programs::RunFault;
 use program_endings::{
     Ending, end_program, end_unheld, read_rescued, run_blocks, run_check, run_create, run_export,
     run_live, run_rescue, run_script, run_show, run_strictly,
@@ -28,7 +29,6 @@ use recovery::Rescued;
 use sheet_check::Progress;
 use sheet_export::{Format, format_named, last_part};
 use sheet_files::{FilesFault, Places};
-use sheet_programs::RunFault;
 use std::alloc::Global;
 use std::io;
 use std::io::{BufWriter, Read, Write};

@@ -20,13 +20,13 @@ use Rattle.plugin_core.specs.Past.{received}
 use Rattle.plugin_core.specs.Items.{first_line_of, waiting_of}
 use Rattle.plugin_core.specs.Steps.{step_of}
 use Rattle.plugin_core.specs.inside.Words.{ended_by}
-use Rattle.session_engine.specs.declared.command.Command.{Command}
-use Rattle.session_engine.specs.declared.command.Command.TheVariants as command
-use Rattle.session_engine.specs.declared.event.ChildEvent.{ChildEvent}
-use Rattle.session_engine.specs.declared.event.ChildEvent.TheVariants as child
-use Rattle.session_engine.specs.declared.event.Event.{Event}
-use Rattle.session_engine.specs.declared.event.Event.TheVariants as event
-use Rattle.session_engine.specs.declared.outcome.Outcome.{Outcome}
+use Rattle.host_events.specs.declared.command.Command.{Command}
+use Rattle.host_events.specs.declared.command.Command.TheVariants as command
+use Rattle.host_events.specs.declared.event.ChildEvent.{ChildEvent}
+use Rattle.host_events.specs.declared.event.ChildEvent.TheVariants as child
+use Rattle.host_events.specs.declared.event.Event.{Event}
+use Rattle.host_events.specs.declared.event.Event.TheVariants as event
+use Rattle.host_events.specs.declared.outcome.Outcome.{Outcome}
 use Rattle.session_engine.specs.World.{World, Going, kept_at_end, life_of, session_of_field, waiting_in, with_number, with_op_if}
 use Rattle.session_engine.specs.inside.Words.{line_of_field, request_of_field, with_piece}
 use Rattle.session_engine.specs.Refused.{command_refusals}

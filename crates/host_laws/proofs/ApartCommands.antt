@@ -12,13 +12,13 @@ use Rattle.worksheet.specs.Checks.{first_of, session_named}
 use Rattle.worksheet.specs.Ops.{sessions_of, next_of}
 use Rattle.plugin_core.specs.declared.item.Item.{Item}
 use Rattle.plugin_core.specs.declared.item.Item.TheVariants as item
-use Rattle.session_engine.specs.declared.command.Command.{Command}
-use Rattle.session_engine.specs.declared.command.Command.TheVariants as command
-use Rattle.session_engine.specs.declared.event.Event.{Event}
-use Rattle.session_engine.specs.declared.event.Event.TheVariants as event
-use Rattle.session_engine.specs.declared.outcome.Outcome.{Outcome}
-use Rattle.session_engine.specs.declared.outcome.Effect.TheVariants as effect
-use Rattle.session_engine.specs.declared.reply.Reply.TheVariants as reply
+use Rattle.host_events.specs.declared.command.Command.{Command}
+use Rattle.host_events.specs.declared.command.Command.TheVariants as command
+use Rattle.host_events.specs.declared.event.Event.{Event}
+use Rattle.host_events.specs.declared.event.Event.TheVariants as event
+use Rattle.host_events.specs.declared.outcome.Outcome.{Outcome}
+use Rattle.host_events.specs.declared.outcome.Effect.TheVariants as effect
+use Rattle.host_events.specs.declared.reply.Reply.TheVariants as reply
 use Rattle.session_engine.specs.Named.{without_named, replace_named}
 use Rattle.session_engine.specs.World.{World, Going, kept_at_end, life_of, with_op_if, session_of_field}
 use Rattle.session_engine.specs.inside.Words.{with_op, line_of_field, request_of_field, joined_by, begun_with, starting_words}

@@ -31,12 +31,12 @@ use Rattle.plugin_core.specs.Steps.{step_of}
 use Rattle.plugin_core.specs.inside.Words.{answered_with}
 use Rattle.plugin_core.specs.Steps.{closed_by as closed_in}
 use Rattle.plugin_core.proofs.Pasts.{items_of-received, items_of-accepted}
-use Rattle.session_engine.specs.declared.command.Command.{Command}
-use Rattle.session_engine.specs.declared.command.Command.TheVariants as command
-use Rattle.session_engine.specs.declared.event.ChildEvent.{ChildEvent}
-use Rattle.session_engine.specs.declared.event.ChildEvent.TheVariants as child
-use Rattle.session_engine.specs.declared.event.Event.TheVariants as event
-use Rattle.session_engine.specs.declared.outcome.Outcome.{Outcome}
+use Rattle.host_events.specs.declared.command.Command.{Command}
+use Rattle.host_events.specs.declared.command.Command.TheVariants as command
+use Rattle.host_events.specs.declared.event.ChildEvent.{ChildEvent}
+use Rattle.host_events.specs.declared.event.ChildEvent.TheVariants as child
+use Rattle.host_events.specs.declared.event.Event.TheVariants as event
+use Rattle.host_events.specs.declared.outcome.Outcome.{Outcome}
 use Rattle.session_engine.specs.Named.{without_named, replace_named}
 use Rattle.session_engine.specs.World.{World, Going, kept_at_end, life_of, with_number, with_op_if, session_of_field, sheet_in}
 use Rattle.session_engine.specs.inside.Words.{with_op, line_of_field, request_of_field, with_piece, joined_by, begun_with}

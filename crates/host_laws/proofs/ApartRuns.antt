@@ -3,9 +3,9 @@ use Rattle.std.proofs.Common.{◌≡◌, ℕ, List, [], ◌∷◌, ◌++◌, ref
 use Rattle.std.specs.Prelude.{if◌then◌else◌}
 use Rattle.worksheet.specs.declared.op.Op.{Op}
 use Rattle.plugin_core.specs.Laws.{OneReading}
-use Rattle.session_engine.specs.declared.event.Event.{Event}
-use Rattle.session_engine.specs.declared.event.Event.TheVariants as event
-use Rattle.session_engine.specs.declared.outcome.Outcome.{Outcome}
+use Rattle.host_events.specs.declared.event.Event.{Event}
+use Rattle.host_events.specs.declared.event.Event.TheVariants as event
+use Rattle.host_events.specs.declared.outcome.Outcome.{Outcome}
 use Rattle.session_engine.specs.World.{World}
 use Rattle.session_engine.specs.Does.{Gives, Runs}
 use Rattle.host_laws.specs.Apart.{AreAlike, SessionsAreIndependent, Told, told_to, session_tells, life_numbers, NoneRefused, kept, is_kept, concerns, begins, is_refusal, added}

@@ -10,9 +10,9 @@ use Rattle.worksheet.specs.declared.field.Field.{Field}
 use Rattle.worksheet.specs.Ops.{field_of}
 use Rattle.worksheet.specs.inside.Words.{order_of}
 use Rattle.plugin_core.specs.Laws.{OneReading}
-use Rattle.session_engine.specs.declared.event.Event.{Event}
-use Rattle.session_engine.specs.declared.event.Event.TheVariants as event
-use Rattle.session_engine.specs.declared.outcome.Outcome.{Outcome}
+use Rattle.host_events.specs.declared.event.Event.{Event}
+use Rattle.host_events.specs.declared.event.Event.TheVariants as event
+use Rattle.host_events.specs.declared.outcome.Outcome.{Outcome}
 use Rattle.session_engine.specs.World.{World, with_op_if, sheet_in}
 use Rattle.session_engine.specs.Does.{Gives, Runs}
 use Rattle.host_laws.specs.Apart.{SessionsSeeTheirOwn, LookAlike, seen_by, Told, told_to, session_tells, is_kept, added, but_reasons, AreAlike, commanded, named}

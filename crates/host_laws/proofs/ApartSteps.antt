@@ -16,11 +16,11 @@ use Rattle.plugin_core.specs.declared.step.Answered.TheVariants as answered
 use Rattle.plugin_core.specs.Past.{received, stream_of}
 use Rattle.plugin_core.specs.Steps.{step_of}
 use Rattle.plugin_core.specs.Laws.{OneReading}
-use Rattle.session_engine.specs.declared.event.ChildEvent.{ChildEvent}
-use Rattle.session_engine.specs.declared.event.ChildEvent.TheVariants as child
-use Rattle.session_engine.specs.declared.event.Event.TheVariants as event
-use Rattle.session_engine.specs.declared.outcome.Outcome.{Outcome}
-use Rattle.session_engine.specs.declared.reply.Reply.TheVariants as reply
+use Rattle.host_events.specs.declared.event.ChildEvent.{ChildEvent}
+use Rattle.host_events.specs.declared.event.ChildEvent.TheVariants as child
+use Rattle.host_events.specs.declared.event.Event.TheVariants as event
+use Rattle.host_events.specs.declared.outcome.Outcome.{Outcome}
+use Rattle.host_events.specs.declared.reply.Reply.TheVariants as reply
 use Rattle.session_engine.specs.Named.{without_named, replace_named}
 use Rattle.session_engine.specs.World.{World, Going, kept_at_end, life_of, waiting_in, with_number, with_op_if}
 use Rattle.session_engine.specs.inside.Words.{with_op, with_piece, told_of}

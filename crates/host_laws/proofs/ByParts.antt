@@ -11,21 +11,21 @@ use Rattle.plugin_core.specs.declared.step.Step.{Step}
 use Rattle.block_tree.specs.declared.reason.Reason.{Reason}
 use Rattle.block_tree.specs.declared.reason.Reason.TheVariants as reason
 use Rattle.plugin_core.specs.Steps.{step_of}
-use Rattle.session_engine.specs.declared.command.Command.{Command}
-use Rattle.session_engine.specs.declared.command.Command.TheVariants as command
-use Rattle.session_engine.specs.declared.event.ChildEvent.{ChildEvent}
-use Rattle.session_engine.specs.declared.event.ChildEvent.TheVariants as child
-use Rattle.session_engine.specs.declared.event.Event.{Event}
-use Rattle.session_engine.specs.declared.event.Event.TheVariants as event
-use Rattle.session_engine.specs.declared.outcome.Outcome.{Outcome}
-use Rattle.session_engine.specs.declared.reply.Reply.TheVariants as reply
+use Rattle.host_events.specs.declared.command.Command.{Command}
+use Rattle.host_events.specs.declared.command.Command.TheVariants as command
+use Rattle.host_events.specs.declared.event.ChildEvent.{ChildEvent}
+use Rattle.host_events.specs.declared.event.ChildEvent.TheVariants as child
+use Rattle.host_events.specs.declared.event.Event.{Event}
+use Rattle.host_events.specs.declared.event.Event.TheVariants as event
+use Rattle.host_events.specs.declared.outcome.Outcome.{Outcome}
+use Rattle.host_events.specs.declared.reply.Reply.TheVariants as reply
 use Rattle.session_engine.specs.World.{World, Going, kept_at_end, life_of, with_number, with_op_if, session_of_field}
 use Rattle.session_engine.specs.inside.Words.{with_op, line_of_field, request_of_field, with_piece}
 use Rattle.session_engine.specs.Refused.{command_refusals}
 use Rattle.session_engine.specs.Does.{Does, does, behind, ends_life, steps, tells, op_by, CommandDoes, ChildDoes, MayDo, Gives}
 use Rattle.session_engine.specs.inside.Parts.{without_life, goes_on}
 use Rattle.host_laws.specs.inside.Given.{stops, outcome_of, after, Commanded, Ended_by, Childed, GivesByParts}
-use Rattle.session_engine.specs.Commands.{op_of}
+use Rattle.host_events.specs.Commands.{op_of}
 use Rattle.session_engine.proofs.Changing.{as_op}
 use Rattle.session_engine.proofs.Asking.{asked_told, asked_leads}
 use Rattle.session_engine.proofs.Tables.{first_has_name}

@@ -12,12 +12,12 @@ use Rattle.worksheet.specs.Ops.{sheet_of}
 use Rattle.worksheet.specs.Checks.{Allowed, field_in}
 use Rattle.recovery.specs.Sheets.{IsSheetImage}
 use Rattle.recovery.specs.Laws.{OneSheet}
-use Rattle.session_engine.specs.declared.command.Command.TheVariants as command
-use Rattle.session_engine.specs.declared.event.Event.{Event}
-use Rattle.session_engine.specs.declared.event.Event.TheVariants as event
-use Rattle.session_engine.specs.declared.outcome.HostFault.{HostFault}
-use Rattle.session_engine.specs.declared.outcome.HostFault.TheVariants as faults
-use Rattle.session_engine.specs.declared.outcome.Outcome.{Outcome}
+use Rattle.host_events.specs.declared.command.Command.TheVariants as command
+use Rattle.host_events.specs.declared.event.Event.{Event}
+use Rattle.host_events.specs.declared.event.Event.TheVariants as event
+use Rattle.host_events.specs.declared.outcome.HostFault.{HostFault}
+use Rattle.host_events.specs.declared.outcome.HostFault.TheVariants as faults
+use Rattle.host_events.specs.declared.outcome.Outcome.{Outcome}
 use Rattle.session_engine.specs.World.{World, world_at_opening, sheet_in}
 use Rattle.session_engine.specs.Does.{Does, MayDo, Runs, behind}
 use Rattle.session_engine.specs.Host.{EndsAt, HostView}

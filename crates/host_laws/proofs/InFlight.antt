@@ -33,13 +33,13 @@ use Rattle.plugin_core.specs.Steps.{closed_by as closed_in}
 use Rattle.plugin_core.proofs.Pasts.{items_of-received}
 use Rattle.plugin_core.proofs.OneMore.{waiting_of-accepted}
 use Rattle.plugin_core.proofs.ByAskPoints.{reads_lie}
-use Rattle.session_engine.specs.declared.command.Command.{Command}
-use Rattle.session_engine.specs.declared.command.Command.TheVariants as command
-use Rattle.session_engine.specs.declared.event.ChildEvent.{ChildEvent}
-use Rattle.session_engine.specs.declared.event.ChildEvent.TheVariants as child
-use Rattle.session_engine.specs.declared.event.Event.{Event}
-use Rattle.session_engine.specs.declared.event.Event.TheVariants as event
-use Rattle.session_engine.specs.declared.outcome.Outcome.{Outcome}
+use Rattle.host_events.specs.declared.command.Command.{Command}
+use Rattle.host_events.specs.declared.command.Command.TheVariants as command
+use Rattle.host_events.specs.declared.event.ChildEvent.{ChildEvent}
+use Rattle.host_events.specs.declared.event.ChildEvent.TheVariants as child
+use Rattle.host_events.specs.declared.event.Event.{Event}
+use Rattle.host_events.specs.declared.event.Event.TheVariants as event
+use Rattle.host_events.specs.declared.outcome.Outcome.{Outcome}
 use Rattle.session_engine.specs.World.{World, Going, world_at_opening, kept_at_end, life_of, session_of_field, waiting_in, with_number, with_op_if}
 use Rattle.session_engine.specs.inside.Words.{line_of_field, request_of_field, waits_in, renewed, with_op, begun_with, joined_by, with_piece}
 use Rattle.session_engine.specs.Refused.{command_refusals}

@@ -12,14 +12,14 @@ use Rattle.worksheet.specs.Checks.{first_of}
 use Rattle.plugin_core.specs.Laws.{OneReading}
 use Rattle.plugin_core.specs.Past.{received, stream_of}
 use Rattle.plugin_core.specs.Steps.{Reads, step_of}
-use Rattle.session_engine.specs.declared.command.Command.{Command}
-use Rattle.session_engine.specs.declared.command.Command.TheVariants as command
-use Rattle.session_engine.specs.declared.event.ChildEvent.{ChildEvent}
-use Rattle.session_engine.specs.declared.event.ChildEvent.TheVariants as child
-use Rattle.session_engine.specs.declared.event.Event.{Event}
-use Rattle.session_engine.specs.declared.event.Event.TheVariants as event
-use Rattle.session_engine.specs.declared.outcome.Outcome.{Outcome}
-use Rattle.session_engine.specs.declared.reply.Reply.TheVariants as reply
+use Rattle.host_events.specs.declared.command.Command.{Command}
+use Rattle.host_events.specs.declared.command.Command.TheVariants as command
+use Rattle.host_events.specs.declared.event.ChildEvent.{ChildEvent}
+use Rattle.host_events.specs.declared.event.ChildEvent.TheVariants as child
+use Rattle.host_events.specs.declared.event.Event.{Event}
+use Rattle.host_events.specs.declared.event.Event.TheVariants as event
+use Rattle.host_events.specs.declared.outcome.Outcome.{Outcome}
+use Rattle.host_events.specs.declared.reply.Reply.TheVariants as reply
 use Rattle.block_tree.specs.declared.reason.Reason.TheVariants as reason
 use Rattle.session_engine.specs.World.{World, Going, life_of, session_of_field, with_number}
 use Rattle.session_engine.specs.inside.Words.{line_of_field, request_of_field}

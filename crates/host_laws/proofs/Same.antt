@@ -18,15 +18,15 @@ use Rattle.plugin_core.specs.declared.step.Ended.{Ended}
 use Rattle.block_tree.specs.declared.reason.Reason.{Reason}
 use Rattle.block_tree.specs.declared.reason.Reason.TheVariants as reason
 use Rattle.plugin_core.specs.Steps.{step_of}
-use Rattle.session_engine.specs.declared.command.Command.{Command}
-use Rattle.session_engine.specs.declared.command.Command.TheVariants as command
-use Rattle.session_engine.specs.declared.event.ChildEvent.TheVariants as child
-use Rattle.session_engine.specs.declared.event.Event.{Event}
-use Rattle.session_engine.specs.declared.event.Event.TheVariants as event
-use Rattle.session_engine.specs.declared.outcome.Effect.TheVariants as effect
-use Rattle.session_engine.specs.declared.outcome.Outcome.{Outcome}
-use Rattle.session_engine.specs.declared.reply.Reply.TheVariants as reply
-use Rattle.session_engine.specs.Commands.{op_of}
+use Rattle.host_events.specs.declared.command.Command.{Command}
+use Rattle.host_events.specs.declared.command.Command.TheVariants as command
+use Rattle.host_events.specs.declared.event.ChildEvent.TheVariants as child
+use Rattle.host_events.specs.declared.event.Event.{Event}
+use Rattle.host_events.specs.declared.event.Event.TheVariants as event
+use Rattle.host_events.specs.declared.outcome.Effect.TheVariants as effect
+use Rattle.host_events.specs.declared.outcome.Outcome.{Outcome}
+use Rattle.host_events.specs.declared.reply.Reply.TheVariants as reply
+use Rattle.host_events.specs.Commands.{op_of}
 use Rattle.session_engine.specs.inside.Commits.{AllowedIf}
 use Rattle.session_engine.specs.World.{World, Going, kept_at_end, sheet_in, life_of, session_of_field, in_flight, with_number, with_op_if}
 use Rattle.session_engine.specs.inside.Words.{by_field, line_of_field, with_op, request_of_field, codes_anew, fits_anew_in, with_piece, starting_words, full, takes_tab}

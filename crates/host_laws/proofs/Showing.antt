@@ -30,14 +30,14 @@ use Rattle.plugin_core.specs.inside.Words.{answered_with}
 use Rattle.plugin_core.specs.Steps.{closed_by as closed_in}
 use Rattle.plugin_core.proofs.ByAskPoints.{reads_lie, by_events}
 use Rattle.plugin_core.proofs.Prompts.{short_prompts}
-use Rattle.session_engine.specs.declared.command.Command.{Command}
-use Rattle.session_engine.specs.declared.command.Command.TheVariants as command
-use Rattle.session_engine.specs.declared.event.ChildEvent.{ChildEvent}
-use Rattle.session_engine.specs.declared.event.ChildEvent.TheVariants as child
-use Rattle.session_engine.specs.declared.event.Event.{Event}
-use Rattle.session_engine.specs.declared.event.Event.TheVariants as event
-use Rattle.session_engine.specs.declared.outcome.Outcome.{Outcome}
-use Rattle.session_engine.specs.Commands.{op_of}
+use Rattle.host_events.specs.declared.command.Command.{Command}
+use Rattle.host_events.specs.declared.command.Command.TheVariants as command
+use Rattle.host_events.specs.declared.event.ChildEvent.{ChildEvent}
+use Rattle.host_events.specs.declared.event.ChildEvent.TheVariants as child
+use Rattle.host_events.specs.declared.event.Event.{Event}
+use Rattle.host_events.specs.declared.event.Event.TheVariants as event
+use Rattle.host_events.specs.declared.outcome.Outcome.{Outcome}
+use Rattle.host_events.specs.Commands.{op_of}
 use Rattle.session_engine.specs.Host.{HasField}
 use Rattle.session_engine.specs.World.{World, Going, kept_at_end, sheet_in, waiting_in, life_of, session_of_field, with_number, with_op_if}
 use Rattle.session_engine.specs.inside.Words.{line_of_field, with_op, request_of_field, with_piece, full}

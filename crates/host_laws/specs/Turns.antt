@@ -20,12 +20,12 @@ use Rattle.plugin_core.specs.Steps.{Reads}
 use Rattle.plugin_core.specs.AskPoints.{ClosesIn, IsAnswer}
 use Rattle.session_engine.specs.Host.{EndsAt, HostView, IsHost, Took}
 use Rattle.session_engine.specs.Faults.{Failed}
-use Rattle.session_engine.specs.declared.command.Command.TheVariants as command
-use Rattle.session_engine.specs.declared.event.ChildEvent.TheVariants as child
-use Rattle.session_engine.specs.declared.event.Event.{Event}
-use Rattle.session_engine.specs.declared.event.Event.TheVariants as event
-use Rattle.session_engine.specs.declared.outcome.HostFault.{HostFault}
-use Rattle.session_engine.specs.declared.outcome.Outcome.{Outcome}
+use Rattle.host_events.specs.declared.command.Command.TheVariants as command
+use Rattle.host_events.specs.declared.event.ChildEvent.TheVariants as child
+use Rattle.host_events.specs.declared.event.Event.{Event}
+use Rattle.host_events.specs.declared.event.Event.TheVariants as event
+use Rattle.host_events.specs.declared.outcome.HostFault.{HostFault}
+use Rattle.host_events.specs.declared.outcome.Outcome.{Outcome}
 use Rattle.session_engine.specs.World.{World, Going, world_at_opening, sheet_in, life_of, waiting_in, with_number}
 use Rattle.session_engine.specs.Does.{Gives, Runs}
 use Rattle.session_engine.specs.Crash.{LeftAmong, HasPlayed, StoppedAt}

@@ -1,7 +1,7 @@
 -- The lines to come, and whose turn it is.
 use Rattle.std.proofs.Common.{◌≡◌, inl, inr, ℕ, List, [], ◌∷◌, ◌++◌, Option, Some, None, refl, ap, sym, ◌∙◌, subst, append_assoc, append-nil}
 use Rattle.std.specs.Prelude.{◌⊎◌}
-use Rattle.child_edge.specs.declared.waiting.Seat.{Seat}
+use Rattle.child_calls.specs.declared.seat.Seat.{Seat}
 use Rattle.arrivals.specs.Lines.{InputLine}
 use Rattle.arrivals.specs.Held.{Held, KeepsLines, left_with, to_come}
 use Rattle.arrivals.specs.declared.sources.Woken.{Woken}
@@ -10,8 +10,8 @@ use Rattle.live.specs.declared.holding.Hold.{Hold}
 use Rattle.live.specs.Arrivals.{Arrival, line, part, life, time_over, Watch, Comes, WatchTells, lines_in}
 use Rattle.session_engine.specs.Host.{HostView}
 use Rattle.child_edge.specs.Faithful.{Relation}
-use Rattle.sheet_programs.specs.declared.fault.RunFault.{RunFault}
-use Rattle.sheet_programs.specs.declared.fault.RunFault.TheVariants as fault
+use Rattle.offline_programs.specs.declared.fault.RunFault.{RunFault}
+use Rattle.offline_programs.specs.declared.fault.RunFault.TheVariants as fault
 use Rattle.live.specs.Arrivals.{LivePlace}
 use Rattle.live.specs.inside.Taking.{IsBy, TakesLines, TakingFailed, TurnFailed, Turns}
 

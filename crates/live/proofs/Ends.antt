@@ -3,12 +3,12 @@ use Rattle.std.proofs.Common.{◌≡◌, inr, ℕ, List, [], ◌∷◌, ◌++◌
 use Rattle.std.specs.Prelude.{IfSome, option_map, false}
 use Rattle.std.specs.Io.KnownBytes.{Appends}
 use Rattle.disk_model.specs.Disk.{DiskView, Rises, SameDisk, greatest_count}
-use Rattle.session_engine.specs.declared.event.Event.{Event}
-use Rattle.session_engine.specs.declared.event.Event.TheVariants as event
-use Rattle.session_engine.specs.declared.outcome.HostFault.TheVariants as hosts
+use Rattle.host_events.specs.declared.event.Event.{Event}
+use Rattle.host_events.specs.declared.event.Event.TheVariants as event
+use Rattle.host_events.specs.declared.outcome.HostFault.TheVariants as hosts
 use Rattle.session_engine.specs.World.{World}
 use Rattle.session_engine.specs.Host.{HostView, IsHost}
-use Rattle.child_edge.specs.declared.waiting.Seat.{Seat}
+use Rattle.child_calls.specs.declared.seat.Seat.{Seat}
 use Rattle.child_edge.specs.Faithful.{Relation, At, at, Beat, Taken}
 use Rattle.child_edge.specs.Broken.{TurnStopped}
 use Rattle.child_edge.specs.Kept.{HoldsSheet}
@@ -20,8 +20,8 @@ use Rattle.sheet_text.specs.declared.script.ScriptLine.TheVariants as line
 use Rattle.sheet_text.specs.declared.live_line.LiveLine.{LiveLine}
 use Rattle.sheet_text.specs.declared.live_line.LiveLine.TheVariants as live
 use Rattle.sheet_programs.specs.Run.{OpenedOn}
-use Rattle.sheet_programs.specs.declared.fault.RunFault.{RunFault}
-use Rattle.sheet_programs.specs.declared.fault.RunFault.TheVariants as fault
+use Rattle.offline_programs.specs.declared.fault.RunFault.{RunFault}
+use Rattle.offline_programs.specs.declared.fault.RunFault.TheVariants as fault
 use Rattle.sheet_programs.proofs.Runs.{StopsIn, stops_behind, no_beats, goes_anyhow, goes_same, min_since}
 use Rattle.live.specs.Saying.{SaidDone, SaidUpTo}
 use Rattle.live.specs.Arrivals.{Arrival, LivePlace, Watch, TakesArrival, Lived, lines_in, said_by, woken_at}

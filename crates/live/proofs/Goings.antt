@@ -10,8 +10,8 @@ use Rattle.arrivals.specs.Lines.{InputLine}
 use Rattle.arrivals.specs.declared.sources.Woken.{Woken}
 use Rattle.arrivals.specs.declared.sources.Woken.TheVariants as woken
 use Rattle.sheet_programs.specs.Lines.{beats_text}
-use Rattle.sheet_programs.specs.declared.fault.RunFault.{RunFault}
-use Rattle.sheet_programs.specs.declared.fault.RunFault.TheVariants as fault
+use Rattle.offline_programs.specs.declared.fault.RunFault.{RunFault}
+use Rattle.offline_programs.specs.declared.fault.RunFault.TheVariants as fault
 use Rattle.live.specs.declared.stepping.Stand.{Stand}
 use Rattle.live.specs.Arrivals.{Arrival, LivePlace, Watch, WatchTells, Comes, TakesArrival, Lived, lines_in, place, woken_at}
 use Rattle.live.specs.Broken.{LivedBefore}

@@ -3,7 +3,7 @@ use Rattle.std.proofs.Common.{◌≡◌, inl, ℕ, true, true≢false, List, [],
 use Rattle.std.specs.Io.KnownBytes.{Appends}
 use Rattle.session_engine.specs.World.{World}
 use Rattle.session_engine.specs.Host.{HostView, IsHost}
-use Rattle.session_engine.specs.declared.command.Command.{Command}
+use Rattle.host_events.specs.declared.command.Command.{Command}
 use Rattle.child_edge.specs.Faithful.{Relation, At, at, Beat}
 use Rattle.sheet_text.specs.LiveLines.{live_line_of, script_or_form}
 use Rattle.sheet_text.specs.Script.{line_of, wants_memory}
@@ -14,8 +14,8 @@ use Rattle.sheet_text.specs.declared.live_line.LiveLine.TheVariants as live
 use Rattle.sheet_programs.specs.Lines.{LineLed, beats_text}
 use Rattle.sheet_programs.specs.Lines as lines
 use Rattle.sheet_programs.specs.Told.{LineFailed}
-use Rattle.sheet_programs.specs.declared.fault.RunFault.{RunFault}
-use Rattle.sheet_programs.specs.declared.fault.RunFault.TheVariants as fault
+use Rattle.offline_programs.specs.declared.fault.RunFault.{RunFault}
+use Rattle.offline_programs.specs.declared.fault.RunFault.TheVariants as fault
 use Rattle.live.specs.declared.holding.Hold.{Hold}
 use Rattle.live.specs.declared.holding.Hold.TheVariants as hold
 use Rattle.live.specs.Saying.{IsCommand, SaidDone, Begins}

@@ -3,23 +3,24 @@ use Rattle.std.proofs.Common.{◌≡◌, ◌+◌, ◌<◌, inl, inr, ℕ, suc, t
 use Rattle.std.specs.Prelude.{Result, Ok, Err, OnOk, IfErr, slice_get}
 use Rattle.std.proofs.KnownBytes.{Appends-nil, Appends-trans}
 use Rattle.std.specs.Io.KnownBytes.{Appends}
-use Rattle.session_engine.specs.declared.event.Event.{Event}
-use Rattle.session_engine.specs.declared.reply.Reply.{Reply}
+use Rattle.host_events.specs.declared.event.Event.{Event}
+use Rattle.host_events.specs.declared.reply.Reply.{Reply}
 use Rattle.session_engine.specs.World.{World}
 use Rattle.session_engine.specs.Host.{HostView, IsHost}
 use Rattle.child_edge.specs.declared.serving.EdgeCause.{EdgeCause}
 use Rattle.child_edge.specs.declared.serving.EdgeCause.TheVariants as cause
-use Rattle.child_edge.specs.declared.waiting.Seat.{Seat}
+use Rattle.child_calls.specs.declared.seat.Seat.{Seat}
 use Rattle.child_edge.specs.Faithful.{Relation, At, at, Beat, FirstOf, Taken, TakenUpTo}
 use Rattle.child_edge.specs.Broken.{TurnStopped}
 use Rattle.child_edge.specs.Edge.{BrokeOff, ByCause, Ran}
 use Rattle.child_edge.specs.Seats.{waits}
 use Rattle.child_edge.specs.Told.{told}
-use Rattle.sheet_programs.specs.Lines.{beats_text, replies_text}
+use Rattle.offline_programs.specs.Memory.{replies_text}
+use Rattle.sheet_programs.specs.Lines.{beats_text}
 use Rattle.sheet_programs.specs.Told.{fault_of_cause}
 use Rattle.sheet_programs.proofs.Heard.{text_on}
-use Rattle.sheet_programs.specs.declared.fault.RunFault.{RunFault}
-use Rattle.sheet_programs.specs.declared.fault.RunFault.TheVariants as fault
+use Rattle.offline_programs.specs.declared.fault.RunFault.{RunFault}
+use Rattle.offline_programs.specs.declared.fault.RunFault.TheVariants as fault
 use Rattle.live.specs.declared.holding.Hold.{Hold}
 use Rattle.live.specs.declared.holding.Hold.TheVariants as hold
 use Rattle.live.specs.Saying.{WaitGoesOn, IsTimed}

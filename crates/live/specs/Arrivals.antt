@@ -1,6 +1,6 @@
 -- What came to a live worksheet, one after the other, and what came of it. (docs/EDGE.md, "Live".)
 use Rattle.std.specs.Prelude.{◌≡◌, ◌⊎◌, ℕ, ◌+◌, false, true, List, [], ◌∷◌, ◌++◌, Option, Some, None}
-use Rattle.child_edge.specs.declared.waiting.Seat.{Seat}
+use Rattle.child_calls.specs.declared.seat.Seat.{Seat}
 use Rattle.child_edge.specs.Faithful.{Relation, At, at, Beat, Taken, OneTurn}
 use Rattle.child_edge.specs.Seats.{waits}
 use Rattle.arrivals.specs.Lines.{InputLine, whole, too_long}

@@ -1,6 +1,6 @@
 -- Arrivals that broke off: the host had a fault, or there was no memory.
 use Rattle.std.specs.Prelude.{◌≡◌, ℕ, false, true, List, [], ◌∷◌, ◌++◌}
-use Rattle.session_engine.specs.declared.event.Event.{Event}
+use Rattle.host_events.specs.declared.event.Event.{Event}
 use Rattle.child_edge.specs.Faithful.{Relation, At, Beat, TakenUpTo}
 use Rattle.child_edge.specs.Broken.{TurnStopped, TurnSoFar}
 use Rattle.child_edge.specs.Seats.{waits}

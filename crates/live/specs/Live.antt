@@ -3,8 +3,8 @@ use Rattle.std.specs.Prelude.{◌≡◌, ◌+◌, ◌^◌, ◌≤◌, ◌⊎◌,
 use Rattle.std.specs.Io.KnownBytes.{Appends}
 use Rattle.disk_model.specs.Disk.{DiskView, InModel, SameDisk, bytes_on}
 use Rattle.recovery.specs.Sheets.{TellsOfSheet}
-use Rattle.session_engine.specs.declared.event.Event.{Event}
-use Rattle.session_engine.specs.declared.outcome.HostFault.{HostFault}
+use Rattle.host_events.specs.declared.event.Event.{Event}
+use Rattle.host_events.specs.declared.outcome.HostFault.{HostFault}
 use Rattle.session_engine.specs.World.{World}
 use Rattle.session_engine.specs.Host.{HostView}
 use Rattle.child_edge.specs.Faithful.{Relation, At, at, Beat}
@@ -18,8 +18,8 @@ use Rattle.arrivals.specs.Watching.{Asked}
 use Rattle.arrivals.specs.declared.sources.Woken.{Woken}
 use Rattle.sheet_programs.specs.Run.{OpenedOn}
 use Rattle.sheet_programs.specs.Told.{LeavesFrontsAnyhow}
-use Rattle.sheet_programs.specs.declared.fault.RunFault.{RunFault}
-use Rattle.sheet_programs.specs.declared.fault.RunFault.TheVariants as fault
+use Rattle.offline_programs.specs.declared.fault.RunFault.{RunFault}
+use Rattle.offline_programs.specs.declared.fault.RunFault.TheVariants as fault
 use Rattle.live.specs.declared.holding.Hold.TheVariants as hold
 use Rattle.live.specs.Arrivals.{Arrival, LivePlace, Watch, Lived, lines_in, place}
 use Rattle.live.specs.Broken.{LivedUpTo, LivedSoFar, LivedLed, taken_beats}

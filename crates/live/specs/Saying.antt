@@ -3,8 +3,8 @@ use Rattle.std.specs.Prelude.{◌≡◌, ◌≢◌, ◌⊎◌, ℕ, List, [], Op
 use Rattle.worksheet.specs.Checks.{field_in}
 use Rattle.worksheet.specs.declared.field.Field.{Field}
 use Rattle.worksheet.specs.declared.refusal.Refusal.TheVariants as refusal
-use Rattle.session_engine.specs.declared.event.Event.{Event}
-use Rattle.session_engine.specs.declared.event.Event.TheVariants as event
+use Rattle.host_events.specs.declared.event.Event.{Event}
+use Rattle.host_events.specs.declared.event.Event.TheVariants as event
 use Rattle.session_engine.specs.World.{World, sheet_in}
 use Rattle.child_edge.specs.Faithful.{Relation, At, Beat, Served, ServedUpTo}
 use Rattle.child_edge.specs.Seats.{waits}
@@ -12,7 +12,7 @@ use Rattle.sheet_text.specs.Texts.{field_text, refused_line, sheet_text}
 use Rattle.sheet_text.specs.declared.script.ScriptLine.TheVariants as line
 use Rattle.sheet_text.specs.declared.live_line.LiveLine.{LiveLine}
 use Rattle.sheet_text.specs.declared.live_line.LiveLine.TheVariants as live
-use Rattle.sheet_programs.specs.Memory.{bad_line}
+use Rattle.offline_programs.specs.Memory.{bad_line}
 use Rattle.sheet_programs.specs.Lines.{beats_text}
 use Rattle.live.specs.declared.holding.Hold.{Hold}
 use Rattle.live.specs.declared.holding.Hold.TheVariants as hold

@@ -4,10 +4,10 @@ ghost use Rattle.disk_model.specs.Disk.{SameDisk};
 ghost use Rattle.session_engine.specs.World.{World};
 ghost use Rattle.session_engine.specs.Host.{IsHost};
 ghost use Rattle.arrivals.specs.Held.{to_come};
-ghost use Rattle.sheet_programs.specs.Faults.{FailedSince};
-ghost use Rattle.sheet_programs.specs.declared.fault.RunFault.TheVariants as told;
+ghost use Rattle.offline_programs.specs.Faults.{FailedSince};
+ghost use Rattle.offline_programs.specs.declared.fault.RunFault.TheVariants as told;
 ghost use Rattle.journal.specs.declared.opening.OpenCause.TheVariants as opens;
-ghost use Rattle.session_engine.specs.declared.outcome.HostFault.TheVariants as hosts;
+ghost use Rattle.host_events.specs.declared.outcome.HostFault.TheVariants as hosts;
 ghost use Rattle.live.specs.Live.{LiveDone, TellsLive, begin_at};
 ghost use Rattle.live.specs.inside.Taking.{Ended, EndedBy, LivedThrough, LivingFailed};
 
@@ -16,8 +16,8 @@ use crate::stepping::{Stand, step};
 use arrivals::{InputLines, Sources};
 use child_edge::stop_all;
 use disk_model::Disk;
+use offline_programs::RunFault;
 use session_engine::Host;
-use sheet_programs::RunFault;
 use std::alloc::Global;
 use std::io::{Read, Write};
 

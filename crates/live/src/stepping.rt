@@ -14,8 +14,8 @@ use crate::saying::{take_line, take_too_long};
 use crate::taking::{end_wait, take_life};
 use arrivals::{InputLines, NextLine, Sources, WatchFault, Woken};
 use disk_model::Disk;
+use offline_programs::RunFault;
 use session_engine::Host;
-use sheet_programs::RunFault;
 use std::alloc::Global;
 use std::io::{Read, Write};
 

@@ -11,10 +11,13 @@ ghost use Rattle.live.specs.inside.Taking.{Heard, HearingFailed, Stalled, Stalli
 
 use crate::holding::{Hold, go_on};
 use arrivals::Sources;
-use child_edge::{EdgeCause, Seat, listen, stall, waiting_lives};
+use child_calls::Seat;
+use child_edge::{EdgeCause, listen, stall, waiting_lives};
 use disk_model::Disk;
-use session_engine::{Host, Reply};
-use sheet_programs::{RunFault, run_fault, tell_replies};
+use host_events::Reply;
+use offline_programs::{RunFault, tell_replies};
+use session_engine::Host;
+use sheet_programs::run_fault;
 use std::alloc::Global;
 use std::io::Write;
 

@@ -3,13 +3,13 @@ use Rattle.std.proofs.Common.{◌≡◌, ℕ, List, Option, refl, ap, true}
 use Rattle.std.specs.Prelude.{Result, Ok, Err, IfOk, IfErr, IsErrOf}
 use Rattle.disk_model.specs.Disk.{DiskView, SameDisk}
 use Rattle.journal.specs.declared.opening.OpenCause.TheVariants as opens
-use Rattle.session_engine.specs.declared.outcome.HostFault.TheVariants as hosts
+use Rattle.host_events.specs.declared.outcome.HostFault.TheVariants as hosts
 use Rattle.child_edge.specs.Faithful.{Relation}
 use Rattle.live.specs.Arrivals.{Watch}
 use Rattle.live.specs.Live.{LiveDone, TellsLive}
-use Rattle.sheet_programs.specs.Faults.{FailedSince}
-use Rattle.sheet_programs.specs.declared.fault.RunFault.{RunFault}
-use Rattle.sheet_programs.specs.declared.fault.RunFault.TheVariants as fault
+use Rattle.offline_programs.specs.Faults.{FailedSince}
+use Rattle.offline_programs.specs.declared.fault.RunFault.{RunFault}
+use Rattle.offline_programs.specs.declared.fault.RunFault.TheVariants as fault
 use Rattle.sheet_programs.proofs.Runs.{err_same}
 use Rattle.program_endings.specs.Ending.{ProgramAnswer}
 use Rattle.program_endings.specs.Programs.{LiveAnswer, answer_of}

@@ -5,8 +5,8 @@ use Rattle.journal.specs.declared.opening.OpenCause.TheVariants as opens
 use Rattle.child_edge.specs.Faithful.{Relation}
 use Rattle.sheet_check.specs.Check.{CheckAnswer, OnlyRead}
 use Rattle.sheet_check.specs.declared.verdict.Counts.{Counts}
-use Rattle.sheet_programs.specs.declared.fault.RunFault.{RunFault}
-use Rattle.sheet_programs.specs.declared.fault.RunFault.TheVariants as fault
+use Rattle.offline_programs.specs.declared.fault.RunFault.{RunFault}
+use Rattle.offline_programs.specs.declared.fault.RunFault.TheVariants as fault
 use Rattle.program_endings.specs.Ending.{ProgramAnswer, TellsFault, status_of}
 use Rattle.program_endings.specs.Faults.{no_files}
 use Rattle.program_endings.specs.declared.ending.Ending.{Ending}

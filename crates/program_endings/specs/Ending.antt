@@ -2,11 +2,11 @@
 use Rattle.std.specs.Prelude.{◌≡◌, ◌<◌, ◌≤◌, ℕ, Bool, true, false, List, Option, Result, Ok, Err, IfOk, IfErr, IfSome, IsErrOf, length}
 use Rattle.std.specs.Io.KnownBytes.{Appends}
 use Rattle.meta_format.specs.Limits.{limits}
-use Rattle.sheet_programs.specs.Faults.{fault_text}
-use Rattle.sheet_programs.specs.Input.{IsStreamFault, longest_standard_input}
+use Rattle.offline_programs.specs.Faults.{fault_text}
+use Rattle.offline_programs.specs.Input.{IsStreamFault, longest_standard_input}
 use Rattle.program_endings.specs.Printed.{Printed}
-use Rattle.sheet_programs.specs.declared.fault.RunFault.{RunFault}
-use Rattle.sheet_programs.specs.declared.fault.RunFault.TheVariants as fault
+use Rattle.offline_programs.specs.declared.fault.RunFault.{RunFault}
+use Rattle.offline_programs.specs.declared.fault.RunFault.TheVariants as fault
 
 -- what a program answers: whether all is well, or its fault
 abbrev pub ProgramAnswer : Type 0

@@ -8,7 +8,7 @@ use Rattle.sheet_export.specs.Formats.{ReadsBack, TellsExport, export_fault_text
 use Rattle.sheet_export.specs.declared.fault.ExportFault.{ExportFault}
 use Rattle.sheet_export.specs.declared.fault.ExportFault.TheVariants as exports
 use Rattle.sheet_export.specs.declared.formats.Format.{Format}
-use Rattle.sheet_programs.specs.declared.fault.RunFault.TheVariants as fault
+use Rattle.offline_programs.specs.declared.fault.RunFault.TheVariants as fault
 use Rattle.worksheet.specs.Contents.{Contents}
 use Rattle.program_endings.specs.Faults.{no_files}
 use Rattle.program_endings.specs.declared.ending.Ending.{Ending}

@@ -10,21 +10,21 @@ use Rattle.journal.specs.declared.opening.CreateCause.{CreateCause}
 use Rattle.journal.specs.declared.opening.CreateCause.TheVariants as creates
 use Rattle.journal.specs.declared.opening.OpenCause.TheVariants as opens
 use Rattle.recovery.specs.Sheets.{IsSheetImage}
-use Rattle.session_engine.specs.declared.outcome.HostFault.TheVariants as hosts
+use Rattle.host_events.specs.declared.outcome.HostFault.TheVariants as hosts
 use Rattle.sheet_text.specs.Texts.{sheet_text}
 use Rattle.child_edge.specs.Faithful.{Relation}
 use Rattle.program_endings.specs.Ending.{ProgramAnswer}
-use Rattle.sheet_programs.specs.Faults.{FailedSince, TellsShow}
+use Rattle.offline_programs.specs.Faults.{FailedSince, TellsShow}
 use Rattle.program_endings.specs.Faults.{create_fault_text, no_files}
-use Rattle.sheet_programs.specs.Input.{longest_standard_input}
+use Rattle.offline_programs.specs.Input.{longest_standard_input}
 use Rattle.live.specs.Arrivals.{Watch}
 use Rattle.live.specs.Live.{LiveDone, TellsLive}
 use Rattle.sheet_programs.specs.Run.{RunDone, TellsRun}
 use Rattle.sheet_files.specs.declared.files_fault.FilesFault.{FilesFault}
 use Rattle.sheet_files.specs.declared.files_fault.MakeFault.{MakeFault}
 use Rattle.sheet_files.specs.declared.files_fault.MakeFault.TheVariants as makes
-use Rattle.sheet_programs.specs.declared.fault.RunFault.{RunFault}
-use Rattle.sheet_programs.specs.declared.fault.RunFault.TheVariants as fault
+use Rattle.offline_programs.specs.declared.fault.RunFault.{RunFault}
+use Rattle.offline_programs.specs.declared.fault.RunFault.TheVariants as fault
 
 -- what `create` answers: why there is no worksheet, or nothing
 abbrev pub CreateAnswer : Type 0

@@ -5,11 +5,11 @@ use Rattle.std.specs.Io.KnownBytes.{Appends}
 use Rattle.disk_model.specs.Disk.{DiskView}
 use Rattle.journal.specs.declared.opening.CreateCause.TheVariants as creates
 use Rattle.recovery.specs.declared.rescuing.Rescued.{Rescued}
-use Rattle.sheet_programs.specs.Rescue.{FrontIsRead, RescueIsSaved, kept_text}
-use Rattle.sheet_programs.specs.declared.fault.RunFault.{RunFault}
-use Rattle.sheet_programs.specs.declared.fault.RunFault.TheVariants as fault
-use Rattle.sheet_programs.specs.declared.rescuing.RescueFault.{RescueFault}
-use Rattle.sheet_programs.specs.declared.rescuing.RescueFault.TheVariants as rescues
+use Rattle.offline_programs.specs.Rescue.{FrontIsRead, RescueIsSaved, kept_text}
+use Rattle.offline_programs.specs.declared.fault.RunFault.{RunFault}
+use Rattle.offline_programs.specs.declared.fault.RunFault.TheVariants as fault
+use Rattle.offline_programs.specs.declared.rescuing.RescueFault.{RescueFault}
+use Rattle.offline_programs.specs.declared.rescuing.RescueFault.TheVariants as rescues
 use Rattle.program_endings.specs.Ending.{TellsFault}
 use Rattle.program_endings.specs.Faults.{no_files}
 use Rattle.program_endings.specs.Programs.{TellsMake}

@@ -4,13 +4,13 @@ use Rattle.std.specs.Fmt.{decimal}
 use Rattle.std.specs.Io.KnownBytes.{Appends}
 use Rattle.disk_model.specs.Disk.{DiskView, SameDisk}
 use Rattle.journal.specs.declared.opening.OpenCause.TheVariants as opens
-use Rattle.session_engine.specs.declared.outcome.HostFault.TheVariants as hosts
+use Rattle.host_events.specs.declared.outcome.HostFault.TheVariants as hosts
 use Rattle.child_edge.specs.Faithful.{Relation}
-use Rattle.sheet_programs.specs.Faults.{FailedSince, fault_text}
-use Rattle.sheet_programs.specs.Input.{longest_standard_input}
+use Rattle.offline_programs.specs.Faults.{FailedSince, fault_text}
+use Rattle.offline_programs.specs.Input.{longest_standard_input}
 use Rattle.sheet_programs.specs.Strict.{StrictDone, TellsStrict}
-use Rattle.sheet_programs.specs.declared.fault.RunFault.{RunFault}
-use Rattle.sheet_programs.specs.declared.fault.RunFault.TheVariants as fault
+use Rattle.offline_programs.specs.declared.fault.RunFault.{RunFault}
+use Rattle.offline_programs.specs.declared.fault.RunFault.TheVariants as fault
 use Rattle.sheet_programs.specs.declared.running.Ran.{Ran}
 use Rattle.program_endings.specs.declared.ending.Ending.{Ending}
 

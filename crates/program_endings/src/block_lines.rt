@@ -5,10 +5,10 @@ ghost use Rattle.block_tree.specs.Tree.{Tree};
 ghost use Rattle.meta_format.specs.Limits.{limits};
 ghost use Rattle.meta_format.specs.Spelling.{Spells};
 ghost use Rattle.program_endings.specs.Printed.{Printed, named_fault_line, outer_line, unfinished_line};
-ghost use Rattle.sheet_programs.specs.Input.{IsStreamFault, longest_standard_input};
+ghost use Rattle.offline_programs.specs.Input.{IsStreamFault, longest_standard_input};
 
 use meta_format::{Seen, next_outer};
-use sheet_programs::{RunFault, read_input};
+use offline_programs::{RunFault, read_input};
 use sheet_text::spelled_text;
 use std::alloc::Global;
 use std::io::{Read, Write};

@@ -1,17 +1,17 @@
 //! The program `check` over a worksheet's files, from its files on.
 ghost use Rattle.std.specs.Prelude.{◌≡◌, Result};
 ghost use Rattle.sheet_check.specs.declared.verdict.Counts.{Counts};
-ghost use Rattle.sheet_programs.specs.declared.fault.RunFault.{RunFault};
+ghost use Rattle.offline_programs.specs.declared.fault.RunFault.{RunFault};
 ghost use Rattle.program_endings.specs.Ending.{TellsFault, status_of};
 ghost use Rattle.program_endings.specs.CheckProgram.{CheckDone, CheckEnds, all_same, answer_of_check};
 
 use crate::telling::no_files;
 use crate::{Ending, end_program};
-use child_edge::Children;
+use child_calls::Children;
 use disk_model::Disk;
+use offline_programs::RunFault;
 use sheet_check::{Checked, Counts, Progress, check};
 use sheet_files::FilesFault;
-use sheet_programs::RunFault;
 use std::alloc::Global;
 use std::io::Write;
 

@@ -3,7 +3,7 @@ ghost use Rattle.std.specs.Prelude.{◌≡◌};
 ghost use Rattle.program_endings.specs.Ending.{BlocksAnswer, ProgramAnswer, TellsFault, status_of};
 
 use crate::blocks;
-use sheet_programs::{RunFault, fault_text};
+use offline_programs::{RunFault, fault_text};
 use std::alloc::Global;
 use std::io::{Read, Write};
 

@@ -9,11 +9,12 @@ use crate::ending::ended;
 use crate::telling::no_files;
 use crate::{Ending, create_fault_text, end_program};
 use arrivals::Sources;
-use child_edge::Children;
+use child_calls::Children;
 use disk_model::Disk;
 use live::live;
+use offline_programs::{RunFault, show};
 use sheet_files::{FilesFault, MakeFault};
-use sheet_programs::{RunFault, run, show};
+use sheet_programs::run;
 use std::alloc::Global;
 use std::io::{Read, Write};
 

@@ -11,9 +11,9 @@ use crate::telling::no_files;
 use crate::{Ending, end_program};
 use disk_model::Disk;
 use journal::CreateCause;
+use offline_programs::{RescueFault, RunFault, read_front, save_rescued};
 use recovery::Rescued;
 use sheet_files::{FilesFault, MakeFault};
-use sheet_programs::{RescueFault, RunFault, read_front, save_rescued};
 use std::alloc::Global;
 use std::io::Write;
 

@@ -7,10 +7,11 @@ ghost use Rattle.program_endings.specs.StrictProgram.{StrictEnded, TellsStop, an
 use crate::ending::ended;
 use crate::telling::no_files;
 use crate::{Ending, end_program};
-use child_edge::Children;
+use child_calls::Children;
 use disk_model::Disk;
+use offline_programs::RunFault;
 use sheet_files::FilesFault;
-use sheet_programs::{Ran, RunFault, run_strict};
+use sheet_programs::{Ran, run_strict};
 use std::alloc::Global;
 use std::io::{Read, Write};
 

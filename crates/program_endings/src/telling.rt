@@ -6,8 +6,8 @@ ghost use Rattle.program_endings.specs.Faults as printed;
 
 use crate::{Ending, end_program};
 use journal::{CreateCause, OpenCause};
+use offline_programs::RunFault;
 use sheet_files::{FilesFault, HoldFault, MakeFault};
-use sheet_programs::RunFault;
 use sheet_text::WriteFault;
 use std::io::Write;
 

@@ -7,8 +7,8 @@
 
 mod start;
 
+use offline_programs::run_memory;
 use program_endings::end_program;
-use sheet_programs::run_memory;
 use std::io;
 use std::process::{Command, ExitCode};
 

@@ -2,12 +2,12 @@
 //! children, and `host_cli`, which decides what is done. The crate `programs` has this file once more, and
 //! `.ci/run` compares the two.
 use arrivals::Polled;
-use child_edge::Processes;
+use child_calls::Processes;
 use host_cli::run_words;
+use offline_programs::RunFault;
 use program_endings::end_program;
 use sheet_check::ProgressLine;
 use sheet_files::{Closed, FilePlaces};
-use sheet_programs::RunFault;
 use std::io::{ErrorKind, IsTerminal};
 use std::os::fd::AsRawFd;
 

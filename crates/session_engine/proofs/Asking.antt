@@ -30,14 +30,14 @@ use Rattle.std.proofs.lemmas.Slice.Eq.{bytes_eq-Decides}
 use Rattle.std.specs.Prelude.{Result, Ok, Err, OnErr, IfErr}
 use Rattle.disk_model.specs.Disk.{DiskView, Rises}
 use Rattle.recovery.specs.Sheets.{SameStore}
-use Rattle.session_engine.specs.declared.outcome.Outcome.{Outcome}
-use Rattle.session_engine.specs.declared.outcome.HostFault.{HostFault}
-use Rattle.session_engine.specs.declared.outcome.HostFault.TheVariants as faults
+use Rattle.host_events.specs.declared.outcome.Outcome.{Outcome}
+use Rattle.host_events.specs.declared.outcome.HostFault.{HostFault}
+use Rattle.host_events.specs.declared.outcome.HostFault.TheVariants as faults
 use Rattle.worksheet.specs.declared.field.Field.{Field}
 use Rattle.worksheet.specs.Checks.{field_in, has_field}
 use Rattle.worksheet.proofs.Finds.{none_applies}
-use Rattle.session_engine.specs.declared.command.Command.TheVariants as command
-use Rattle.session_engine.specs.declared.event.Event.TheVariants as event
+use Rattle.host_events.specs.declared.command.Command.TheVariants as command
+use Rattle.host_events.specs.declared.event.Event.TheVariants as event
 use Rattle.session_engine.specs.Named.{first_named, without_named}
 use Rattle.session_engine.specs.inside.Tables.{Asked, CanGoBack}
 use Rattle.session_engine.specs.Host.{name_of, number_in}
@@ -48,7 +48,7 @@ use Rattle.session_engine.specs.inside.Commits.{RefusesEval, SparesItem, SparesL
 use Rattle.session_engine.specs.Does.{does, asks_item, tells, behind, CommandDoes, MayDo}
 use Rattle.session_engine.specs.Faults.{CauseOf, Failed}
 use Rattle.session_engine.specs.Host.{HostView, OnDisk}
-use Rattle.session_engine.specs.declared.reply.Reply.TheVariants as reply
+use Rattle.host_events.specs.declared.reply.Reply.TheVariants as reply
 use Rattle.session_engine.proofs.Changing.{first_behind, first_before}
 
 pub fit : (room end : ℕ) (o : Op) → Fits room end (length (code_of o)) → fits_in room end o ≡ true

@@ -11,9 +11,9 @@ use Rattle.worksheet.specs.Checks.{first_of, field_in, session_named}
 use Rattle.worksheet.proofs.Finds.{none_applies}
 use Rattle.plugin_core.specs.declared.item.Item.{Item}
 use Rattle.plugin_core.specs.declared.item.Item.TheVariants as item
-use Rattle.session_engine.specs.declared.command.Command.TheVariants as command
-use Rattle.session_engine.specs.declared.event.Event.TheVariants as event
-use Rattle.session_engine.specs.declared.reply.Reply.TheVariants as reply
+use Rattle.host_events.specs.declared.command.Command.TheVariants as command
+use Rattle.host_events.specs.declared.event.Event.TheVariants as event
+use Rattle.host_events.specs.declared.reply.Reply.TheVariants as reply
 use Rattle.session_engine.specs.World.{World, sheet_in, life_of, session_of_field, input_of}
 use Rattle.session_engine.specs.inside.Words.{by_field, request_of_field, takes_tab, lives_are_spent}
 use Rattle.session_engine.specs.Refused.{command_refusals, begins_inside, is_cursor, queue_refusals}

@@ -10,7 +10,7 @@ use Rattle.worksheet.specs.Contents.{Contents}
 use Rattle.recovery.specs.Sheets.{StoreView}
 use Rattle.session_engine.specs.declared.commits.LoseFault.{LoseFault}
 use Rattle.session_engine.specs.declared.commits.LoseFault.TheVariants as loses
-use Rattle.session_engine.specs.declared.reply.Reply.{Reply}
+use Rattle.host_events.specs.declared.reply.Reply.{Reply}
 use Rattle.session_engine.specs.declared.table.Running.{Running}
 use Rattle.session_engine.specs.Named.{without_named}
 use Rattle.session_engine.specs.World.{World, Going, kept_at_end, life_of, sheet_in, waiting_in, with_number, with_op_if}

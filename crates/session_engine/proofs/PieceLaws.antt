@@ -21,14 +21,14 @@ use Rattle.plugin_core.specs.Steps.{closed_by as closed_in}
 use Rattle.plugin_core.specs.Kept.{InterpreterView, Takes, GoesOn}
 use Rattle.plugin_core.specs.Laws.{ShortPrompts}
 use Rattle.session_engine.specs.declared.table.Running.{Running}
-use Rattle.session_engine.specs.declared.outcome.Outcome.{Outcome}
-use Rattle.session_engine.specs.declared.outcome.HostFault.{HostFault}
-use Rattle.session_engine.specs.declared.outcome.HostFault.TheVariants as faults
-use Rattle.session_engine.specs.declared.event.Event.TheVariants as event
+use Rattle.host_events.specs.declared.outcome.Outcome.{Outcome}
+use Rattle.host_events.specs.declared.outcome.HostFault.{HostFault}
+use Rattle.host_events.specs.declared.outcome.HostFault.TheVariants as faults
+use Rattle.host_events.specs.declared.event.Event.TheVariants as event
 use Rattle.session_engine.specs.Does.{Does, MayDo, ChildDoes, behind, lives_behind, steps}
 use Rattle.session_engine.specs.Host.{OnDisk}
 use Rattle.session_engine.specs.Faults.{CauseOf, is_piece}
-use Rattle.session_engine.specs.declared.event.ChildEvent.TheVariants as child
+use Rattle.host_events.specs.declared.event.ChildEvent.TheVariants as child
 use Rattle.session_engine.specs.Named.{without_named, replace_named}
 use Rattle.session_engine.specs.Host.{name_of}
 use Rattle.session_engine.specs.inside.Tables.{with_life as running_with}

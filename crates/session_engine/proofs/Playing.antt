@@ -6,10 +6,10 @@ use Rattle.disk_model.specs.inside.Moments.{started, weakens, goes_on}
 use Rattle.worksheet.specs.declared.op.Op.{Op}
 use Rattle.recovery.specs.Sheets.{IsEither, IsSheetImage}
 use Rattle.worksheet.specs.Ops.{sheet_of}
-use Rattle.session_engine.specs.declared.event.Event.{Event}
-use Rattle.session_engine.specs.declared.outcome.Outcome.{Outcome}
-use Rattle.session_engine.specs.declared.outcome.HostFault.{HostFault}
-use Rattle.session_engine.specs.declared.outcome.HostFault.TheVariants as faults
+use Rattle.host_events.specs.declared.event.Event.{Event}
+use Rattle.host_events.specs.declared.outcome.Outcome.{Outcome}
+use Rattle.host_events.specs.declared.outcome.HostFault.{HostFault}
+use Rattle.host_events.specs.declared.outcome.HostFault.TheVariants as faults
 use Rattle.session_engine.specs.World.{World, sheet_in, renewed_if, with_op_if}
 use Rattle.session_engine.specs.Does.{Does, MayDo, Runs, behind}
 use Rattle.session_engine.specs.Host.{HostView, IsHost, OnDisk, Took}

@@ -13,13 +13,13 @@ use Rattle.journal.specs.Area.{end_of}
 use Rattle.recovery.specs.Sheets.{IsSheetImage, StoreView}
 use Rattle.recovery.specs.Checkpointed.{CheckpointAnswers, HasRoomAnew}
 use Rattle.recovery.specs.declared.fault.CheckpointFault.TheVariants as checkpoint
-use Rattle.session_engine.specs.declared.command.Command.TheVariants as command
-use Rattle.session_engine.specs.declared.event.Event.{Event}
-use Rattle.session_engine.specs.declared.event.Event.TheVariants as event
-use Rattle.session_engine.specs.declared.outcome.HostFault.{HostFault}
-use Rattle.session_engine.specs.declared.outcome.HostFault.TheVariants as faults
-use Rattle.session_engine.specs.declared.outcome.Outcome.{Outcome}
-use Rattle.session_engine.specs.declared.reply.Reply.TheVariants as reply
+use Rattle.host_events.specs.declared.command.Command.TheVariants as command
+use Rattle.host_events.specs.declared.event.Event.{Event}
+use Rattle.host_events.specs.declared.event.Event.TheVariants as event
+use Rattle.host_events.specs.declared.outcome.HostFault.{HostFault}
+use Rattle.host_events.specs.declared.outcome.HostFault.TheVariants as faults
+use Rattle.host_events.specs.declared.outcome.Outcome.{Outcome}
+use Rattle.host_events.specs.declared.reply.Reply.TheVariants as reply
 use Rattle.session_engine.specs.declared.table.Running.{Running}
 use Rattle.session_engine.specs.World.{World, sheet_in}
 use Rattle.session_engine.specs.inside.Words.{codes_anew, fits_anew, fits_anew_in, renewed, renews}

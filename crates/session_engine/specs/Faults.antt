@@ -3,11 +3,11 @@ use Rattle.std.specs.Prelude.{◌≡◌, ℕ, List, Bool, true, false, Some, is_
 use Rattle.block_tree.specs.declared.reason.Reason.TheVariants as reason
 use Rattle.disk_model.specs.Disk.{DiskView, Rises}
 use Rattle.worksheet.specs.declared.op.Op.{Op}
-use Rattle.session_engine.specs.declared.event.ChildEvent.TheVariants as child
-use Rattle.session_engine.specs.declared.event.Event.{Event}
-use Rattle.session_engine.specs.declared.event.Event.TheVariants as event
-use Rattle.session_engine.specs.declared.outcome.HostFault.{HostFault}
-use Rattle.session_engine.specs.declared.outcome.HostFault.TheVariants as faults
+use Rattle.host_events.specs.declared.event.ChildEvent.TheVariants as child
+use Rattle.host_events.specs.declared.event.Event.{Event}
+use Rattle.host_events.specs.declared.event.Event.TheVariants as event
+use Rattle.host_events.specs.declared.outcome.HostFault.{HostFault}
+use Rattle.host_events.specs.declared.outcome.HostFault.TheVariants as faults
 use Rattle.session_engine.specs.World.{World, sheet_in, life_of, with_number, fits_in, kept_at_end}
 use Rattle.session_engine.specs.Does.{Does, MayDo}
 use Rattle.session_engine.specs.Host.{HostView, OnDisk, number_in}

@@ -17,8 +17,8 @@ use Rattle.plugin_core.specs.Kept.{LifeHasPast}
 use Rattle.session_engine.specs.Limits.{most_lives}
 use Rattle.session_engine.specs.Named.{first_named}
 use Rattle.session_engine.specs.declared.table.Running.{Running}
-use Rattle.session_engine.specs.declared.event.Event.{Event}
-use Rattle.session_engine.specs.declared.outcome.Outcome.{Outcome}
+use Rattle.host_events.specs.declared.event.Event.{Event}
+use Rattle.host_events.specs.declared.outcome.Outcome.{Outcome}
 use Rattle.session_engine.specs.World.{World, Going, waiting_in, sheet_in}
 use Rattle.session_engine.specs.Does.{Does, MayDo, behind}
 

@@ -1,4 +1,3 @@
-pub mod Commands
 pub mod Limits
 pub mod Named
 pub mod World

@@ -10,8 +10,8 @@ use Rattle.worksheet.specs.declared.refusal.Refusal.{Refusal}
 use Rattle.worksheet.specs.declared.refusal.Refusal.TheVariants as refusal
 use Rattle.plugin_core.specs.Limits.{most_waiting}
 use Rattle.session_engine.specs.Limits.{most_lives}
-use Rattle.session_engine.specs.declared.command.Command.{Command}
-use Rattle.session_engine.specs.declared.command.Command.TheVariants as command
+use Rattle.host_events.specs.declared.command.Command.{Command}
+use Rattle.host_events.specs.declared.command.Command.TheVariants as command
 use Rattle.session_engine.specs.World.{World, Going, sheet_in, in_flight, fits_in, end_anew, kept_at_end, life_of, session_of_field, input_of, waiting_in}
 
 -- these refusals with one more, which stands directly behind the first

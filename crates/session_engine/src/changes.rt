@@ -5,19 +5,19 @@ ghost use Rattle.std.specs.Result.{result_err};
 ghost use Rattle.disk_model.specs.Disk.{SameDisk, InModel, LeavesOnly, Rises};
 ghost use Rattle.worksheet.specs.Checks.{first_of, first_refusal};
 ghost use Rattle.recovery.specs.Sheets.{IsEither};
-ghost use Rattle.session_engine.specs.declared.command.Command.{Command};
+ghost use Rattle.host_events.specs.declared.command.Command.{Command};
 
 use crate::commits::commit;
 use crate::engine::{Engine, refused};
 use crate::table::waits;
-use crate::{HostFault, Outcome, Reply};
 use disk_model::Disk;
+use host_events::{HostFault, Outcome, Reply};
 use worksheet::{Op, Refusal};
 
 impl<D: Disk> Engine<D> {
-    ghost use Rattle.session_engine.specs.declared.event.Event.TheVariants as event;
-    ghost use Rattle.session_engine.specs.declared.outcome.HostFault.TheVariants as faults;
-    ghost use Rattle.session_engine.specs.Commands.{op_of, reply_to as reply_to_op};
+    ghost use Rattle.host_events.specs.declared.event.Event.TheVariants as event;
+    ghost use Rattle.host_events.specs.declared.outcome.HostFault.TheVariants as faults;
+    ghost use Rattle.host_events.specs.Commands.{op_of, reply_to as reply_to_op};
     ghost use Rattle.session_engine.specs.World.{World, sheet_in};
     ghost use Rattle.session_engine.specs.inside.Words.{fits};
     ghost use Rattle.session_engine.specs.Refused.{refusals_but_room};

@@ -3,14 +3,14 @@ ghost use Rattle.std.specs.Prelude.{◌≡◌, IfOk, IfErr};
 ghost use Rattle.disk_model.specs.Disk.{SameDisk};
 
 use crate::engine::{Engine, refused};
-use crate::{HostFault, Outcome, Reply};
 use disk_model::Disk;
+use host_events::{HostFault, Outcome, Reply};
 use recovery::CheckpointFault;
 use worksheet::Refusal;
 
 impl<D: Disk> Engine<D> {
-    ghost use Rattle.session_engine.specs.declared.event.Event.TheVariants as event_of;
-    ghost use Rattle.session_engine.specs.declared.command.Command.TheVariants as command_of;
+    ghost use Rattle.host_events.specs.declared.event.Event.TheVariants as event_of;
+    ghost use Rattle.host_events.specs.declared.command.Command.TheVariants as command_of;
     ghost use Rattle.session_engine.specs.World.{World};
     ghost use Rattle.session_engine.specs.inside.Engines.{StandsAt, Works, TookAt, FailedAt};
 

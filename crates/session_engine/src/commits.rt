@@ -12,9 +12,9 @@ ghost use Rattle.session_engine.specs.inside.Words.{op_of_end};
 ghost use Rattle.session_engine.specs.World.{fits_in};
 ghost use Rattle.session_engine.specs.inside.Commits.{Commits, AllowedIf, CommittedIf, HasFieldIf, IsEitherIf, LosesField, NotKept, NotLost, answer_op, kept_for};
 
-use crate::{Closed, HostFault};
 use block_tree::{Queue, Reason};
 use disk_model::{Disk, DiskFault};
+use host_events::{Closed, HostFault};
 use plugin_core::{Answered, Ended, Item};
 use recovery::{CommitFault, Store};
 use worksheet::{Op, Refusal};

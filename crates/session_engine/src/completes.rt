@@ -3,10 +3,10 @@ ghost use Rattle.std.specs.Prelude.{◌≡◌, IfOk, IfErr};
 ghost use Rattle.plugin_core.specs.Items.{IsAskable};
 ghost use Rattle.plugin_core.specs.declared.item.Item.TheVariants as item_of;
 
-use crate::Outcome;
 use crate::engine::{Engine, refused};
 use block_tree::OutOfMemory;
 use disk_model::Disk;
+use host_events::Outcome;
 use plugin_core::Item;
 use std::alloc::Global;
 use worksheet::{Field, Name, Refusal};
@@ -24,8 +24,8 @@ fn request_of(field: &Field, cursor: u32) -> Result<Item, OutOfMemory>
 }
 
 impl<D: Disk> Engine<D> {
-    ghost use Rattle.session_engine.specs.declared.event.Event.TheVariants as event_of;
-    ghost use Rattle.session_engine.specs.declared.command.Command.TheVariants as command_of;
+    ghost use Rattle.host_events.specs.declared.event.Event.TheVariants as event_of;
+    ghost use Rattle.host_events.specs.declared.command.Command.TheVariants as command_of;
     ghost use Rattle.session_engine.specs.inside.Engines.{StandsAt, Works, TookAt};
     ghost use Rattle.session_engine.specs.inside.Commits.{GivesRequest, RefusesComplete};
     ghost use Rattle.session_engine.specs.World.{World, sheet_in};

@@ -9,15 +9,15 @@ ghost use Rattle.session_engine.specs.Does.{ends};
 use crate::commits::{LoseFault, lose};
 use crate::engine::{Engine, nothing};
 use crate::table::{Running, first_line, has_life, take_life};
-use crate::{ChildReply, Effect, HostFault, Outcome, Reply};
 use disk_model::Disk;
+use host_events::{ChildReply, Effect, HostFault, Outcome, Reply};
 use plugin_core::Reason;
 use worksheet::Name;
 
 impl<D: Disk> Engine<D> {
     ghost use Rattle.std.specs.Prelude.{Some};
-    ghost use Rattle.session_engine.specs.declared.event.ChildEvent.{ChildEvent};
-    ghost use Rattle.session_engine.specs.declared.event.Event.TheVariants as event_of;
+    ghost use Rattle.host_events.specs.declared.event.ChildEvent.{ChildEvent};
+    ghost use Rattle.host_events.specs.declared.event.Event.TheVariants as event_of;
     ghost use Rattle.session_engine.specs.World.{World};
     ghost use Rattle.session_engine.specs.inside.Parts.{end_by};
     ghost use Rattle.session_engine.specs.inside.Engines.{StandsAt, Works, TookAt, FailedAt};

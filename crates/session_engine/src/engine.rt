@@ -3,8 +3,8 @@ ghost use Rattle.std.specs.Prelude.{◌≡◌};
 ghost use Rattle.session_engine.specs.Does.{replies, refused as refused_so};
 
 use crate::table::Running;
-use crate::{Outcome, Reply};
 use disk_model::Disk;
+use host_events::{Outcome, Reply};
 use recovery::Store;
 use std::alloc::Global;
 use worksheet::Refusal;

@@ -10,9 +10,9 @@ ghost use Rattle.session_engine.specs.Host.{number_in};
 
 use crate::engine::{Engine, refused};
 use crate::table::{Running, place_of, settle, waits};
-use crate::{Effect, HostFault, Outcome, Reply};
 use block_tree::{Octets, OutOfMemory, Sequence};
 use disk_model::Disk;
+use host_events::{Effect, HostFault, Outcome, Reply};
 use journal::Frame;
 use plugin_core::{Item, Life, MOST_WAITING};
 use recovery::PrepareFault;
@@ -87,8 +87,8 @@ fn ask(
 }
 
 impl<D: Disk> Engine<D> {
-    ghost use Rattle.session_engine.specs.declared.event.Event.TheVariants as event_of;
-    ghost use Rattle.session_engine.specs.declared.command.Command.TheVariants as command_of;
+    ghost use Rattle.host_events.specs.declared.event.Event.TheVariants as event_of;
+    ghost use Rattle.host_events.specs.declared.command.Command.TheVariants as command_of;
     ghost use Rattle.session_engine.specs.inside.Engines.{StandsAt, Works, TookAt, FailedAt};
     ghost use Rattle.session_engine.specs.inside.Commits.{RefusesEval};
     ghost use Rattle.session_engine.specs.World.{World, life_of, session_of_field, sheet_in};
@@ -97,7 +97,7 @@ impl<D: Disk> Engine<D> {
     ghost use Rattle.session_engine.specs.inside.Words.{lives_are_spent};
     ghost use Rattle.session_engine.specs.Host.{HasField};
     ghost use Rattle.session_engine.specs.inside.Commits.{told_asked, begun_with_words, Evaluated};
-    ghost use Rattle.session_engine.specs.declared.outcome.HostFault.TheVariants as faults;
+    ghost use Rattle.host_events.specs.declared.outcome.HostFault.TheVariants as faults;
     ghost use Rattle.std.specs.Result.{result_err};
     ghost use Rattle.worksheet.specs.Checks.{first_of, has_field};
 

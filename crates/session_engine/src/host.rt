@@ -14,8 +14,8 @@ ghost use Rattle.session_engine.specs.Faults.{Failed};
 
 use crate::engine::Engine;
 use crate::table::place_of;
-use crate::{Command, Event, HostFault, Outcome};
 use disk_model::Disk;
+use host_events::{Command, Event, HostFault, Outcome};
 use journal::{OpenCause, OpenFault};
 use recovery::Store;
 use std::alloc::Global;
@@ -55,8 +55,8 @@ impl<D: Disk> Model for Host<D> {
 }
 
 impl<D: Disk> Host<D> {
-    ghost use Rattle.session_engine.specs.declared.command.Command.TheVariants as command;
-    ghost use Rattle.session_engine.specs.declared.event.Event.TheVariants as event;
+    ghost use Rattle.host_events.specs.declared.command.Command.TheVariants as command;
+    ghost use Rattle.host_events.specs.declared.event.Event.TheVariants as event;
 
     /// Opens a disk that a crash may have left, with the worksheet that it stands for. No session has a
     /// life, and none has a number. It writes nothing. A disk that stands for no worksheet is refused

@@ -6,15 +6,15 @@ ghost use Rattle.session_engine.specs.Does.{told_with};
 use crate::commits::keep;
 use crate::engine::{Engine, nothing};
 use crate::table::{feed, settle};
-use crate::{ChildReply, Closed, Effect, HostFault, Outcome, Reply};
 use block_tree::Octets;
 use disk_model::Disk;
+use host_events::{ChildReply, Closed, Effect, HostFault, Outcome, Reply};
 use plugin_core::{Ended, Step};
 use worksheet::Name;
 
 impl<D: Disk> Engine<D> {
-    ghost use Rattle.session_engine.specs.declared.event.Event.TheVariants as event;
-    ghost use Rattle.session_engine.specs.declared.event.ChildEvent.TheVariants as child;
+    ghost use Rattle.host_events.specs.declared.event.Event.TheVariants as event;
+    ghost use Rattle.host_events.specs.declared.event.ChildEvent.TheVariants as child;
     ghost use Rattle.session_engine.specs.inside.Engines.{StandsAt, Works, TookAt, FailedAt};
     ghost use Rattle.session_engine.specs.World.{World};
 

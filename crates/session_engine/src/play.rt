@@ -5,8 +5,9 @@ ghost use Rattle.session_engine.specs.World.{World};
 ghost use Rattle.session_engine.specs.Host.{IsHost};
 ghost use Rattle.session_engine.specs.Crash.{Halts, HasPlayed, Moments, PlaysClosed, TookEach};
 
-use crate::{Event, Host, HostFault, Outcome};
+use crate::Host;
 use disk_model::Disk;
+use host_events::{Event, HostFault, Outcome};
 
 /// Why not all events were taken.
 #[derive(Drop)]

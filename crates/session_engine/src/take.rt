@@ -6,16 +6,16 @@ use crate::commits::LoseFault;
 use crate::ends::ended;
 use crate::engine::{Engine, nothing, refused};
 use crate::table::take_life;
-use crate::{ChildEvent, Command, Event, HostFault, Outcome, Reply};
 use block_tree::Octets;
 use disk_model::Disk;
+use host_events::{ChildEvent, Command, Event, HostFault, Outcome, Reply};
 use plugin_core::Reason;
 use worksheet::{Name, Refusal};
 
 impl<D: Disk> Engine<D> {
-    ghost use Rattle.session_engine.specs.declared.event.Event.{Event};
-    ghost use Rattle.session_engine.specs.declared.event.Event.TheVariants as event_of;
-    ghost use Rattle.session_engine.specs.declared.command.Command.TheVariants as command_of;
+    ghost use Rattle.host_events.specs.declared.event.Event.{Event};
+    ghost use Rattle.host_events.specs.declared.event.Event.TheVariants as event_of;
+    ghost use Rattle.host_events.specs.declared.command.Command.TheVariants as command_of;
     ghost use Rattle.session_engine.specs.inside.Engines.{StandsAt, Works, TookAt, FailedAt};
     ghost use Rattle.session_engine.specs.World.{World};
 

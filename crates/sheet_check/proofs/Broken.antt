@@ -2,9 +2,9 @@
 use Rattle.std.proofs.Common.{inl, inr, ℕ, List, None, Some, refl}
 use Rattle.session_engine.specs.World.{World}
 use Rattle.session_engine.specs.Host.{HostView, IsHost}
-use Rattle.session_engine.specs.declared.command.Command.TheVariants as command
-use Rattle.session_engine.specs.declared.outcome.HostFault.TheVariants as hosts
-use Rattle.session_engine.specs.declared.reply.Reply.{Reply}
+use Rattle.host_events.specs.declared.command.Command.TheVariants as command
+use Rattle.host_events.specs.declared.outcome.HostFault.TheVariants as hosts
+use Rattle.host_events.specs.declared.reply.Reply.{Reply}
 use Rattle.child_edge.specs.declared.serving.EdgeCause.{EdgeCause}
 use Rattle.child_edge.specs.declared.serving.EdgeCause.TheVariants as cause
 use Rattle.child_edge.specs.Limits.{most_turns}
@@ -13,7 +13,7 @@ use Rattle.child_edge.specs.Broken.{WaitSoFar, WaitStopped}
 use Rattle.child_edge.specs.Edge.{ByCause}
 use Rattle.child_edge.specs.Moments.{BrokeFrom, RanFrom}
 use Rattle.sheet_text.specs.declared.script.ScriptLine.TheVariants as said
-use Rattle.sheet_programs.specs.declared.fault.RunFault.TheVariants as fault
+use Rattle.offline_programs.specs.declared.fault.RunFault.TheVariants as fault
 use Rattle.sheet_programs.specs.Lines.{up_to, so_far}
 use Rattle.sheet_programs.proofs.Commands.{CommandBroke, command_broke_unwritten}
 use Rattle.sheet_check.specs.inside.Checking.{PartFailed, fault_of_cause}

@@ -6,14 +6,14 @@ use Rattle.worksheet.specs.declared.field.Answer.{Answer}
 use Rattle.worksheet.specs.declared.field.Field.{Field}
 use Rattle.session_engine.specs.World.{World}
 use Rattle.session_engine.specs.Host.{HostView, IsHost}
-use Rattle.session_engine.specs.declared.command.Command.TheVariants as command
+use Rattle.host_events.specs.declared.command.Command.TheVariants as command
 use Rattle.child_edge.specs.Limits.{most_turns}
 use Rattle.child_edge.specs.Faithful.{Relation, At, at, Beat, Served, Waited}
 use Rattle.sheet_text.specs.declared.script.ScriptLine.{ScriptLine}
 use Rattle.sheet_text.specs.declared.script.ScriptLine.TheVariants as said
 use Rattle.sheet_programs.specs.Lines.{beats_text, whole}
-use Rattle.sheet_programs.specs.declared.fault.RunFault.{RunFault}
-use Rattle.sheet_programs.specs.declared.fault.RunFault.TheVariants as fault
+use Rattle.offline_programs.specs.declared.fault.RunFault.{RunFault}
+use Rattle.offline_programs.specs.declared.fault.RunFault.TheVariants as fault
 use Rattle.sheet_check.specs.declared.verdict.Counts.{Counts}
 use Rattle.sheet_check.specs.declared.verdict.Verdict.{Verdict}
 use Rattle.sheet_check.specs.Verdicts.{counts_of}

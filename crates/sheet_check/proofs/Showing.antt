@@ -1,7 +1,7 @@
 -- What is shown behind fields, one after another.
 use Rattle.std.proofs.Common.{◌≡◌, inl, inr, ℕ, [], sym, subst}
 use Rattle.std.specs.Prelude.{Result, Ok, Err, IfOk, IfErr}
-use Rattle.sheet_programs.specs.declared.fault.RunFault.{RunFault}
+use Rattle.offline_programs.specs.declared.fault.RunFault.{RunFault}
 use Rattle.sheet_check.specs.declared.verdict.Counts.{Counts}
 use Rattle.sheet_check.specs.declared.progress.Sight.{Sight}
 use Rattle.sheet_check.specs.declared.progress.Sight.TheVariants as sight

@@ -7,10 +7,10 @@ use Rattle.worksheet.specs.declared.field.Field.{Field}
 use Rattle.worksheet.specs.Contents.{Contents}
 use Rattle.journal.specs.declared.opening.OpenCause.{OpenCause}
 use Rattle.recovery.specs.Sheets.{IsSheetImage, TellsOfSheet}
-use Rattle.session_engine.specs.declared.command.Command.TheVariants as command
-use Rattle.session_engine.specs.declared.event.Event.{Event}
-use Rattle.session_engine.specs.declared.outcome.HostFault.{HostFault}
-use Rattle.session_engine.specs.declared.outcome.HostFault.TheVariants as hosts
+use Rattle.host_events.specs.declared.command.Command.TheVariants as command
+use Rattle.host_events.specs.declared.event.Event.{Event}
+use Rattle.host_events.specs.declared.outcome.HostFault.{HostFault}
+use Rattle.host_events.specs.declared.outcome.HostFault.TheVariants as hosts
 use Rattle.session_engine.specs.Host.{HostView}
 use Rattle.session_engine.specs.World.{World}
 use Rattle.child_edge.specs.Broken.{WaitStopped}
@@ -23,8 +23,8 @@ use Rattle.child_edge.specs.Stops.{Stops}
 use Rattle.sheet_text.specs.declared.script.ScriptLine.TheVariants as line
 use Rattle.sheet_programs.specs.Lines.{LineLed}
 use Rattle.sheet_programs.specs.Run.{OpenedOn}
-use Rattle.sheet_programs.specs.declared.fault.RunFault.{RunFault}
-use Rattle.sheet_programs.specs.declared.fault.RunFault.TheVariants as fault
+use Rattle.offline_programs.specs.declared.fault.RunFault.{RunFault}
+use Rattle.offline_programs.specs.declared.fault.RunFault.TheVariants as fault
 use Rattle.sheet_check.specs.declared.verdict.Counts.{Counts}
 use Rattle.sheet_check.specs.declared.verdict.Verdict.{Verdict}
 use Rattle.sheet_check.specs.Verdicts.{counts_of}

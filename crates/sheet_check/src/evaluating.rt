@@ -2,7 +2,7 @@
 ghost use Rattle.std.specs.Prelude.{◌≡◌, ◌∷◌, [], List, IfErr, IfOk, OnOk, Some, false};
 ghost use Rattle.session_engine.specs.World.{World};
 ghost use Rattle.session_engine.specs.Host.{IsHost};
-ghost use Rattle.session_engine.specs.declared.command.Command.TheVariants as command;
+ghost use Rattle.host_events.specs.declared.command.Command.TheVariants as command;
 ghost use Rattle.child_edge.specs.Faithful.{at, Beat, Served, Waited};
 ghost use Rattle.child_edge.specs.Limits.{most_turns};
 ghost use Rattle.child_edge.specs.Told.{told};
@@ -10,10 +10,12 @@ ghost use Rattle.sheet_text.specs.declared.script.ScriptLine.TheVariants as said
 ghost use Rattle.sheet_check.specs.Evaluated.{begins_asked, begins_for_memory, eval_of, is_asked as says_asked, is_for_memory as says_for_memory};
 ghost use Rattle.sheet_check.specs.inside.Checking.{PartFailed, fault_of_cause};
 
-use child_edge::{Children, EdgeCause, EdgeFault, serve, wait};
+use child_calls::Children;
+use child_edge::{EdgeCause, EdgeFault, serve, wait};
 use disk_model::Disk;
-use session_engine::{Command, Host, HostFault, Reply};
-use sheet_programs::RunFault;
+use host_events::{Command, HostFault, Reply};
+use offline_programs::RunFault;
+use session_engine::Host;
 use std::alloc::Global;
 use worksheet::Refusal;
 

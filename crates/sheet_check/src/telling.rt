@@ -7,7 +7,7 @@ ghost use Rattle.sheet_check.specs.inside.Checking.{Untold};
 
 use crate::verdict::Counts;
 use bstr::ByteSlice;
-use sheet_programs::RunFault;
+use offline_programs::RunFault;
 use sheet_text::{WriteFault, write_input, write_number, write_output};
 use std::alloc::Global;
 use std::io::Write;

@@ -2,8 +2,8 @@
 use Rattle.disk_model.specs.Disk.{DiskView}
 use Rattle.worksheet.specs.Contents.{Contents}
 use Rattle.sheet_export.specs.Formats.{TellsExport, TellsProgramFault, TellsText, TellsWriting}
-use Rattle.sheet_programs.specs.declared.fault.RunFault.{RunFault}
-use Rattle.sheet_programs.specs.declared.fault.RunFault.TheVariants as run
+use Rattle.offline_programs.specs.declared.fault.RunFault.{RunFault}
+use Rattle.offline_programs.specs.declared.fault.RunFault.TheVariants as run
 use Rattle.sheet_export.specs.declared.fault.ExportFault.{ExportFault}
 use Rattle.sheet_export.specs.declared.fault.ExportFault.TheVariants as fault
 use Rattle.sheet_export.specs.declared.formats.Format.{Format}

@@ -8,7 +8,7 @@ use Rattle.std.specs.Str.Parse.{digits_value}
 use Rattle.std.proofs.lemmas.Bool.{eqb-true, false≢true}
 use Rattle.std.proofs.lemmas.Bool.Decides.{nat_tests}
 use Rattle.std.proofs.lemmas.List.{take_at, drop_at}
-use Rattle.session_engine.specs.declared.command.Command.TheVariants as command
+use Rattle.host_events.specs.declared.command.Command.TheVariants as command
 use Rattle.sheet_text.specs.Laws.{NumbersAreDecimals}
 use Rattle.sheet_text.specs.Script.{is_space, is_digit, is_numeral, before_space, behind_space, command_named, flag_of, greatest_number, line_of, most_digits, number_written, session_of, starts_with_zero}
 use Rattle.sheet_text.specs.declared.script.ScriptLine.TheVariants as line

@@ -5,7 +5,7 @@ use Rattle.std.specs.List.{AllByRecursion, list_all}
 use Rattle.std.specs.Str.{bytes_eq}
 use Rattle.std.proofs.lemmas.Bool.{false≢true}
 use Rattle.std.proofs.lemmas.Slice.Eq.{bytes_eq-Decides}
-use Rattle.session_engine.specs.declared.command.Command.TheVariants as command
+use Rattle.host_events.specs.declared.command.Command.TheVariants as command
 use Rattle.sheet_text.specs.Laws.{NumbersAreDecimals}
 use Rattle.worksheet.specs.Checks.{has_session, session_named}
 use Rattle.worksheet.specs.Contents.{Contents}

@@ -1,8 +1,8 @@
 -- A run of the lines of a script.
 use Rattle.std.proofs.Common.{◌≡◌, ℕ, ◌+◌, List, [], ◌∷◌, ◌++◌, Some, refl, sym, ap, ◌∙◌, subst, append_assoc, append-nil}
 use Rattle.std.specs.Prelude.{codes}
-use Rattle.session_engine.specs.Commands.{reply_to}
-use Rattle.sheet_programs.specs.Memory.{done, LineRan, LinesRan, printed, replied}
+use Rattle.host_events.specs.Commands.{reply_to}
+use Rattle.offline_programs.specs.Memory.{done, LineRan, LinesRan, printed, replied}
 use Rattle.sheet_text.specs.Texts.{reply_text, sheet_text}
 use Rattle.sheet_text.specs.declared.script.ScriptLine.TheVariants as line
 use Rattle.worksheet.specs.Checks.{AllowedFrom}

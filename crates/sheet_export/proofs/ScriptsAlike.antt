@@ -1,11 +1,11 @@
 -- Every run of the lines of a script.
 use Rattle.std.proofs.Common.{◌≡◌, ◌⊎◌, inl, inr, ⊎_elim, ℕ, ◌+◌, List, [], ◌∷◌, ◌++◌, Option, Some, None, refl, sym, ap, ◌∙◌, subst, append_assoc, append-nil}
 use Rattle.std.specs.Prelude.{codes}
-use Rattle.session_engine.specs.Commands.{op_of, reply_to}
-use Rattle.session_engine.specs.declared.command.Command.{Command}
-use Rattle.session_engine.specs.declared.reply.Reply.{Reply}
-use Rattle.session_engine.specs.declared.reply.Reply.TheVariants as reply
-use Rattle.sheet_programs.specs.Memory.{OpRan, done, refused, unkept, LineRan, skipped, unknown, printed, replied, idle, no_op, unread, LinesRan}
+use Rattle.host_events.specs.Commands.{op_of, reply_to}
+use Rattle.host_events.specs.declared.command.Command.{Command}
+use Rattle.host_events.specs.declared.reply.Reply.{Reply}
+use Rattle.host_events.specs.declared.reply.Reply.TheVariants as reply
+use Rattle.offline_programs.specs.Memory.{OpRan, done, refused, unkept, LineRan, skipped, unknown, printed, replied, idle, no_op, unread, LinesRan}
 use Rattle.sheet_text.specs.Texts.{reply_text, sheet_text}
 use Rattle.sheet_text.specs.declared.script.ScriptLine.{ScriptLine}
 use Rattle.sheet_text.specs.declared.script.ScriptLine.TheVariants as line

@@ -4,9 +4,9 @@ use Rattle.std.specs.Str.{bytes_eq}
 use Rattle.disk_model.specs.Disk.{DiskView}
 use Rattle.serde_json.specs.Read.{read}
 use Rattle.sheet_notebook.specs.Notebook.{notebook, notebook_text}
-use Rattle.sheet_programs.specs.Faults.{TellsShow, fault_text}
-use Rattle.sheet_programs.specs.declared.fault.RunFault.{RunFault}
-use Rattle.sheet_programs.specs.declared.fault.RunFault.TheVariants as run
+use Rattle.offline_programs.specs.Faults.{TellsShow, fault_text}
+use Rattle.offline_programs.specs.declared.fault.RunFault.{RunFault}
+use Rattle.offline_programs.specs.declared.fault.RunFault.TheVariants as run
 use Rattle.worksheet.specs.Contents.{Contents}
 use Rattle.sheet_export.specs.Html.{page}
 use Rattle.sheet_export.specs.Markdown.{markdown}

@@ -1,9 +1,9 @@
 -- What the lines of a script make of an empty worksheet.
 use Rattle.std.specs.Prelude.{◌≡◌, ◌⊎◌, ℕ, ◌+◌, true, List, [], ◌∷◌, ◌++◌, Some, None, codes, length, map}
-use Rattle.session_engine.specs.Commands.{op_of, reply_to}
-use Rattle.session_engine.specs.declared.command.Command.{Command}
-use Rattle.session_engine.specs.declared.reply.Reply.TheVariants as reply
-use Rattle.sheet_programs.specs.Memory.{LinesRan}
+use Rattle.host_events.specs.Commands.{op_of, reply_to}
+use Rattle.host_events.specs.declared.command.Command.{Command}
+use Rattle.host_events.specs.declared.reply.Reply.TheVariants as reply
+use Rattle.offline_programs.specs.Memory.{LinesRan}
 use Rattle.sheet_text.specs.Script.{line_of}
 use Rattle.sheet_text.specs.Texts.{reply_text, sheet_text}
 use Rattle.sheet_text.specs.declared.script.ScriptLine.TheVariants as line

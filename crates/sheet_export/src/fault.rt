@@ -4,7 +4,7 @@ ghost use Rattle.std.specs.Io.KnownBytes.{Appends};
 ghost use Rattle.sheet_export.specs.Formats as printed;
 
 use crate::fixed::write_bytes;
-use sheet_programs::{RunFault, fault_text};
+use offline_programs::{RunFault, fault_text};
 use sheet_text::WriteFault;
 use std::io::Write;
 use thiserror::Error;

@@ -4,9 +4,9 @@ use Rattle.std.specs.List.{list_any}
 use Rattle.std.specs.Io.KnownBytes.{Appends}
 use Rattle.session_engine.specs.World.{World}
 use Rattle.session_engine.specs.Host.{HostView, IsHost}
-use Rattle.session_engine.specs.declared.command.Command.{Command}
-use Rattle.session_engine.specs.declared.event.Event.TheVariants as event
-use Rattle.session_engine.specs.declared.reply.Reply.{Reply}
+use Rattle.host_events.specs.declared.command.Command.{Command}
+use Rattle.host_events.specs.declared.event.Event.TheVariants as event
+use Rattle.host_events.specs.declared.reply.Reply.{Reply}
 use Rattle.child_edge.specs.declared.serving.EdgeCause.{EdgeCause}
 use Rattle.child_edge.specs.declared.serving.EdgeCause.TheVariants as cause
 use Rattle.child_edge.specs.Faithful.{Relation, At, at, Served, ServedUpTo}
@@ -14,12 +14,13 @@ use Rattle.child_edge.specs.Moments.{BrokeFrom, RanFrom}
 use Rattle.child_edge.specs.Edge.{ByCause}
 use Rattle.sheet_text.specs.declared.script.ScriptLine.TheVariants as line
 use Rattle.sheet_text.specs.declared.script.ScriptLine.{ScriptLine}
-use Rattle.sheet_programs.specs.Lines.{LineDone, whole, up_to, so_far, beats_text, replies_text}
+use Rattle.offline_programs.specs.Memory.{replies_text}
+use Rattle.sheet_programs.specs.Lines.{LineDone, whole, up_to, so_far, beats_text}
 use Rattle.sheet_programs.specs.Strict.{goes_wrong, is_wrong}
 use Rattle.sheet_programs.specs.Told.{LineFailed, fault_of_cause}
 use Rattle.sheet_programs.specs.inside.Taking.{LineTook}
-use Rattle.sheet_programs.specs.declared.fault.RunFault.{RunFault}
-use Rattle.sheet_programs.specs.declared.fault.RunFault.TheVariants as fault
+use Rattle.offline_programs.specs.declared.fault.RunFault.{RunFault}
+use Rattle.offline_programs.specs.declared.fault.RunFault.TheVariants as fault
 
 module _ {C : Type 0} (R : Relation C) (told : Command) (s : At C) (g : HostView) (d : C) (replies : List Reply) (a b : Option (List ℕ)) where
   pub command_done : (number : ℕ) → RanFrom s (λ x. Served R x (event.Command told)) g d replies → Appends a b (replies_text replies) → LineTook R number (Some (line.Command told)) s g d a b (list_any is_wrong replies)

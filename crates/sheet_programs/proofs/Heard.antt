@@ -6,7 +6,7 @@ use Rattle.std.specs.List.{list_any}
 use Rattle.std.specs.Io.KnownBytes.{Appends}
 use Rattle.session_engine.specs.World.{World}
 use Rattle.session_engine.specs.Host.{HostView, IsHost}
-use Rattle.session_engine.specs.declared.reply.Reply.{Reply}
+use Rattle.host_events.specs.declared.reply.Reply.{Reply}
 use Rattle.child_edge.specs.declared.serving.EdgeCause.{EdgeCause}
 use Rattle.child_edge.specs.declared.serving.EdgeCause.TheVariants as cause
 use Rattle.child_edge.specs.declared.turns.Waiting.{Waiting}
@@ -20,13 +20,14 @@ use Rattle.child_edge.proofs.Chains.{told-append}
 use Rattle.child_edge.proofs.Stepping.{came_begun, came_so_far}
 use Rattle.sheet_text.specs.Texts.{reply_text}
 use Rattle.sheet_text.specs.declared.script.ScriptLine.TheVariants as line
-use Rattle.sheet_programs.specs.Lines.{whole, up_to, so_far, beats_text, replies_text}
+use Rattle.offline_programs.specs.Memory.{replies_text}
+use Rattle.sheet_programs.specs.Lines.{whole, up_to, so_far, beats_text}
 use Rattle.sheet_programs.specs.Strict.{is_wrong}
 use Rattle.sheet_programs.specs.Told.{LineFailed, fault_of_cause}
 use Rattle.sheet_programs.specs.inside.Taking.{LineTook}
 use Rattle.sheet_programs.proofs.Stricts.{wrong_on}
-use Rattle.sheet_programs.specs.declared.fault.RunFault.{RunFault}
-use Rattle.sheet_programs.specs.declared.fault.RunFault.TheVariants as fault
+use Rattle.offline_programs.specs.declared.fault.RunFault.{RunFault}
+use Rattle.offline_programs.specs.declared.fault.RunFault.TheVariants as fault
 
 -- The wait came so far, all of it is written, and this says whether it went wrong.
 pub record HeardSoFar {C : Type 0} (R : Relation C) (wait : Waiting) (s : At C) (h : HostView) (c : C) (a b : Option (List ℕ)) (wrong : Bool) : Type 0 where

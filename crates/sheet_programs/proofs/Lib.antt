@@ -1,4 +1,3 @@
-pub mod Scripting
 pub mod Stricts
 pub mod Runs
 pub mod Commands

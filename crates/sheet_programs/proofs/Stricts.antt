@@ -4,7 +4,7 @@ use Rattle.std.proofs.lemmas.Bool.{false≢true}
 use Rattle.std.proofs.lemmas.List.Folds.{list_any-append}
 use Rattle.std.specs.Prelude.{Bool, ◌&&◌, ◌||◌, not, is_some}
 use Rattle.std.specs.List.{list_any}
-use Rattle.session_engine.specs.declared.reply.Reply.{Reply}
+use Rattle.host_events.specs.declared.reply.Reply.{Reply}
 use Rattle.child_edge.specs.Faithful.{Beat}
 use Rattle.child_edge.specs.Told.{told}
 use Rattle.child_edge.proofs.Chains.{told-append}

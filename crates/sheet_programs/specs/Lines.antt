@@ -1,23 +1,18 @@
 -- Lines of a script over a worksheet on a disk and its interpreters. (docs/SCRIPT.md; docs/EDGE.md, "A faithful run".)
 use Rattle.std.specs.Prelude.{◌≡◌, ◌+◌, ℕ, List, [], ◌∷◌, ◌++◌, Option, Some, None}
-use Rattle.std.specs.List.{flat_map}
-use Rattle.session_engine.specs.declared.event.Event.{Event}
-use Rattle.session_engine.specs.declared.event.Event.TheVariants as event
-use Rattle.session_engine.specs.declared.reply.Reply.{Reply}
+use Rattle.host_events.specs.declared.event.Event.{Event}
+use Rattle.host_events.specs.declared.event.Event.TheVariants as event
+use Rattle.host_events.specs.declared.reply.Reply.{Reply}
 use Rattle.session_engine.specs.World.{sheet_in}
 use Rattle.child_edge.specs.Limits.{most_turns}
 use Rattle.child_edge.specs.Faithful.{Relation, At, Beat, Served, ServedUpTo, Waited}
 use Rattle.child_edge.specs.Broken.{WaitStopped, WaitSoFar}
 use Rattle.child_edge.specs.Told.{told}
 use Rattle.sheet_text.specs.Script.{line_of}
-use Rattle.sheet_text.specs.Texts.{reply_text, sheet_text}
+use Rattle.sheet_text.specs.Texts.{sheet_text}
 use Rattle.sheet_text.specs.declared.script.ScriptLine.{ScriptLine}
 use Rattle.sheet_text.specs.declared.script.ScriptLine.TheVariants as line
-use Rattle.sheet_programs.specs.Memory.{bad_line}
-
--- the texts of replies, one after another
-abbrev pub replies_text : List Reply → List ℕ
-replies_text replies = flat_map reply_text replies
+use Rattle.offline_programs.specs.Memory.{bad_line, replies_text}
 
 -- what is written of the beats of a run: the texts of their replies
 abbrev pub beats_text : List Beat → List ℕ

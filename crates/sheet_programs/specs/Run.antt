@@ -5,8 +5,8 @@ use Rattle.disk_model.specs.Disk.{DiskView, InModel, Looks, SameDisk, bytes_on}
 use Rattle.worksheet.specs.declared.op.Op.{Op}
 use Rattle.worksheet.specs.Ops.{sheet_of}
 use Rattle.recovery.specs.Sheets.{IsSheetImage, TellsOfSheet}
-use Rattle.session_engine.specs.declared.event.Event.{Event}
-use Rattle.session_engine.specs.declared.outcome.HostFault.{HostFault}
+use Rattle.host_events.specs.declared.event.Event.{Event}
+use Rattle.host_events.specs.declared.outcome.HostFault.{HostFault}
 use Rattle.session_engine.specs.World.{World, world_at_opening}
 use Rattle.session_engine.specs.Host.{HostView, EndsAt}
 use Rattle.child_edge.specs.Faithful.{Relation, At, at, Beat}
@@ -16,12 +16,12 @@ use Rattle.child_edge.specs.Moments.{LeavesFronts, LeavesFrontsUpTo}
 use Rattle.child_edge.specs.Seats.{running}
 use Rattle.child_edge.specs.Stops.{Stops}
 use Rattle.sheet_text.specs.Script.{line_of}
-use Rattle.sheet_programs.specs.Input.{longest_standard_input}
-use Rattle.sheet_programs.specs.Memory.{script_lines}
+use Rattle.offline_programs.specs.Input.{longest_standard_input}
+use Rattle.offline_programs.specs.Memory.{script_lines}
 use Rattle.sheet_programs.specs.Lines.{LinesDone, LineUpTo, LineSoFar, LineLed, beats_text, led_beats}
 use Rattle.sheet_programs.specs.Told.{LeavesFrontsAnyhow}
-use Rattle.sheet_programs.specs.declared.fault.RunFault.{RunFault}
-use Rattle.sheet_programs.specs.declared.fault.RunFault.TheVariants as fault
+use Rattle.offline_programs.specs.declared.fault.RunFault.{RunFault}
+use Rattle.offline_programs.specs.declared.fault.RunFault.TheVariants as fault
 
 -- The world of a host that was opened on this disk: that of the ops of the worksheet found there. The opening changed no byte, and
 -- no moment of it left an image that is new; this is the disk behind it.

@@ -4,18 +4,18 @@ use Rattle.std.specs.List.{list_any}
 use Rattle.disk_model.specs.Disk.{DiskView, InModel, bytes_on}
 use Rattle.plugin_core.specs.declared.step.Ended.{Ended}
 use Rattle.recovery.specs.Sheets.{TellsOfSheet}
-use Rattle.session_engine.specs.declared.reply.Reply.{Reply}
-use Rattle.session_engine.specs.declared.reply.Reply.TheVariants as reply
+use Rattle.host_events.specs.declared.reply.Reply.{Reply}
+use Rattle.host_events.specs.declared.reply.Reply.TheVariants as reply
 use Rattle.child_edge.specs.Faithful.{Relation, At, Beat}
 use Rattle.child_edge.specs.Told.{told}
 use Rattle.sheet_text.specs.Script.{line_of}
 use Rattle.sheet_text.specs.declared.script.ScriptLine.{ScriptLine}
-use Rattle.sheet_programs.specs.Input.{longest_standard_input}
-use Rattle.sheet_programs.specs.Memory.{script_lines}
+use Rattle.offline_programs.specs.Input.{longest_standard_input}
+use Rattle.offline_programs.specs.Memory.{script_lines}
 use Rattle.sheet_programs.specs.Lines.{LineDone, LinesDone}
 use Rattle.sheet_programs.specs.Run.{LinesBefore, RunOf, RunStopped, RunSoFar, RunLed}
-use Rattle.sheet_programs.specs.declared.fault.RunFault.{RunFault}
-use Rattle.sheet_programs.specs.declared.fault.RunFault.TheVariants as fault
+use Rattle.offline_programs.specs.declared.fault.RunFault.{RunFault}
+use Rattle.offline_programs.specs.declared.fault.RunFault.TheVariants as fault
 
 -- items were lost at this end of a life
 abbrev pub has_lost : Option Ended → Bool

@@ -1,7 +1,7 @@
 -- Lines that want memory.
 use Rattle.std.proofs.Common.{◌≡◌, Option, Some, None, refl}
 use Rattle.std.specs.Option.{option_map}
-use Rattle.session_engine.specs.declared.command.Command.{Command}
+use Rattle.host_events.specs.declared.command.Command.{Command}
 use Rattle.sheet_text.specs.declared.script.ScriptLine.TheVariants as line
 use Rattle.sheet_text.specs.Script.{wants_memory, wants_memory_for}
 

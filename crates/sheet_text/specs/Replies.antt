@@ -5,9 +5,9 @@ use Rattle.std.specs.Fmt.{decimal}
 use Rattle.block_tree.specs.declared.reason.Reason.{Reason}
 use Rattle.block_tree.specs.declared.reason.Reason.TheVariants as reason
 use Rattle.plugin_core.specs.declared.step.Ended.{Ended}
-use Rattle.session_engine.specs.declared.reply.ChildReply.{ChildReply}
-use Rattle.session_engine.specs.declared.reply.Closed.{Closed}
-use Rattle.session_engine.specs.declared.reply.Closed.TheVariants as closed
+use Rattle.host_events.specs.declared.reply.ChildReply.{ChildReply}
+use Rattle.host_events.specs.declared.reply.Closed.{Closed}
+use Rattle.host_events.specs.declared.reply.Closed.TheVariants as closed
 use Rattle.scheme_text.specs.declared.answer.Completions.{Completions}
 use Rattle.scheme_text.specs.declared.answer.BadCompletion.{BadCompletion}
 use Rattle.sheet_text.specs.Escape.{on_line, in_quotes}

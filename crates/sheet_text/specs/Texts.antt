@@ -8,8 +8,8 @@ use Rattle.worksheet.specs.Refusals.{refusal_number, refusal_name}
 use Rattle.worksheet.specs.declared.field.Answer.{Answer}
 use Rattle.worksheet.specs.declared.field.Field.{Field}
 use Rattle.worksheet.specs.declared.refusal.Refusal.{Refusal}
-use Rattle.session_engine.specs.declared.reply.Reply.{Reply}
-use Rattle.session_engine.specs.declared.reply.Reply.TheVariants as reply
+use Rattle.host_events.specs.declared.reply.Reply.{Reply}
+use Rattle.host_events.specs.declared.reply.Reply.TheVariants as reply
 use Rattle.sheet_text.specs.Escape.{on_line}
 use Rattle.sheet_text.specs.Blocks.{block_text}
 use Rattle.sheet_text.specs.Replies.{child_text, reason_name}

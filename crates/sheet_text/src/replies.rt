@@ -8,9 +8,9 @@ ghost use Rattle.sheet_text.specs.Escape.{in_quotes};
 use crate::escape::{write_line, write_quoted};
 use crate::fault::WriteFault;
 use block_tree::Octets;
+use host_events::{ChildReply, Closed, Reply};
 use plugin_core::{Ended, Reason};
 use scheme_text::{BadCompletion, Completions};
-use session_engine::{ChildReply, Closed, Reply};
 use std::io::Write;
 use worksheet::Name;
 

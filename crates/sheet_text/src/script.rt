@@ -3,12 +3,12 @@ ghost use Rattle.std.specs.Prelude.{◌≡◌, IfOk, IsErrOf, None, Some, true};
 ghost use Rattle.std.specs.Option.{option_copied};
 ghost use Rattle.sheet_text.specs.Script as said;
 ghost use Rattle.sheet_text.specs.declared.script.LineFault.TheVariants as fault;
-ghost use Rattle.session_engine.specs.declared.command.Command.TheVariants as command;
+ghost use Rattle.host_events.specs.declared.command.Command.TheVariants as command;
 
 use crate::numbers::read_number;
 use crate::parts::{split_space, split_words};
 use block_tree::{Octets, Sequence};
-use session_engine::Command;
+use host_events::Command;
 use std::alloc::Global;
 
 /// What a line of a script says.

@@ -1,8 +1,9 @@
 //! Events of session `a`, worksheets on disks in memory, and what a crash may leave of them.
 use bytes::Bytes;
 use disk_model::{Choice, Disk, Fill, MemoryDisk};
+use host_events::{ChildEvent, Event};
 use journal::create;
-use session_engine::{ChildEvent, Event, Host};
+use session_engine::Host;
 use sheet_text::{ScriptLine, read_line};
 use std::alloc::Global;
 use worksheet::Name;

@@ -1,7 +1,7 @@
 //! Events of session `a`, in short.
 use block_tree::{Octets, Sequence};
 use bytes::Bytes;
-use session_engine::{ChildEvent, Command, Event};
+use host_events::{ChildEvent, Command, Event};
 use std::alloc::Global;
 use worksheet::Name;
 

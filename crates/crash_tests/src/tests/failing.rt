@@ -2,8 +2,9 @@
 use super::desk::{calls_of_create, created, open};
 use super::stories::{Step, Story, calls_behind, shows, take, take_from, takes};
 use disk_model::{FuseDisk, FuseMode, MemoryDisk};
+use host_events::{Command, Event, HostFault, Reply};
 use journal::OpenCause;
-use session_engine::{Command, Event, Host, HostFault, Reply};
+use session_engine::Host;
 use std::alloc::Global;
 use tests_desk::exhausted;
 use worksheet::Refusal;

@@ -3,8 +3,9 @@ use super::desk::open;
 use super::events::{Step, event};
 use super::told::{fields, told};
 use disk_model::MemoryDisk;
+use host_events::Event;
 use journal::create;
-use session_engine::{Event, Host};
+use session_engine::Host;
 use std::alloc::Global;
 
 fn created(alloc: Global, room: u64) -> Option<MemoryDisk> {

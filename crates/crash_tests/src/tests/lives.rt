@@ -5,7 +5,8 @@ use super::scripts::{Script, tells};
 use super::told::played;
 use block_tree::Octets;
 use disk_model::MemoryDisk;
-use session_engine::{Command, Event, Host, Reply};
+use host_events::{Command, Event, Reply};
+use session_engine::Host;
 use std::alloc::Global;
 use worksheet::Refusal;
 

@@ -2,7 +2,8 @@
 use super::desk::{CHOICES, choice, created, left, open};
 use super::stories::{Story, calls_behind, disk_behind, disk_of, shows};
 use disk_model::{Choice, MemoryDisk};
-use session_engine::{Event, Host};
+use host_events::Event;
+use session_engine::Host;
 use std::alloc::Global;
 
 fn shows_either(

@@ -1,7 +1,8 @@
 //! Which events hosts take, and what their worksheets have behind each.
 use super::desk::{answer, child, created, line, open, piece};
 use disk_model::{Disk, MemoryDisk};
-use session_engine::{ChildEvent, Closed, Event, Host, HostFault, Reply};
+use host_events::{ChildEvent, Closed, Event, HostFault, Reply};
+use session_engine::Host;
 use sheet_text::sheet_text;
 use std::alloc::Global;
 

@@ -1,9 +1,10 @@
 //! What a host tells, in lines.
 use block_tree::{Block, Octets, OutOfMemory};
 use disk_model::Disk;
+use host_events::{ChildReply, Closed, Effect, Event, Outcome, Reply};
 use meta_format::write_block;
 use scheme_text::{BadCompletion, Completions};
-use session_engine::{ChildReply, Closed, Effect, Event, Host, Outcome, PlayFault, Reply};
+use session_engine::{Host, PlayFault};
 use std::alloc::Global;
 use std::fmt::Write;
 use std::{fmt, str};

@@ -3,7 +3,7 @@
 use crate::tests::desk::{Asked, told};
 use crate::tests::talkers::{Silent, Turned};
 use block_tree::{OutOfMemory, Queue};
-use child_edge::{Got, Part, PieceBytes, Scripted};
+use child_calls::{Got, Part, PieceBytes, Scripted};
 use std::alloc::Global;
 use std::test::Fail;
 use worksheet::Name;

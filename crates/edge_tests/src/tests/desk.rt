@@ -1,9 +1,11 @@
 //! Hosts on disks in memory, and what they tell in short.
 use block_tree::{Octets, OutOfMemory, Sequence};
-use child_edge::{Children, serve, wait};
+use child_calls::Children;
+use child_edge::{serve, wait};
 use disk_model::MemoryDisk;
+use host_events::{ChildReply, Closed, Command, Reply};
 use journal::create;
-use session_engine::{ChildReply, Closed, Command, Host, Reply};
+use session_engine::Host;
 use std::alloc::Global;
 use std::fmt::Write;
 use std::str;

@@ -1,7 +1,7 @@
 //! Real children and a real pipe, polled.
 use arrivals::{Input, InputLines, NextLine, Polled, Sources, Woken};
 use block_tree::{Octets, OutOfMemory};
-use child_edge::{Children, Processes, Received, Seat};
+use child_calls::{Children, Processes, Received, Seat};
 use std::alloc::Global;
 use std::io::{PipeReader, Write, pipe};
 use std::os::fd::{AsRawFd, RawFd};

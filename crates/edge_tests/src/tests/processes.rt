@@ -1,7 +1,7 @@
 //! What is done to processes: each call on a child, over processes that are made up.
 use super::made_up::{Calls, Runtime};
 use block_tree::{Octets, OutOfMemory};
-use child_edge::{Children, Processes, ReceiveFault, Received};
+use child_calls::{Children, Processes, ReceiveFault, Received};
 use std::alloc::Global;
 use std::process;
 use worksheet::Name;

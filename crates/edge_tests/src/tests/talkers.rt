@@ -1,10 +1,10 @@
 //! Children of the tests' own.
 ghost use Rattle.std.specs.Prelude.{IfOk};
-ghost use Rattle.child_edge.specs.Answers.{HasSize};
+ghost use Rattle.child_calls.specs.Answers.{HasSize};
 
 use block_tree::Octets;
 use bytes::Bytes;
-use child_edge::children::{ChildFault, Children, ReceiveFault, Received};
+use child_calls::children::{ChildFault, Children, ReceiveFault, Received};
 use std::alloc::Global;
 use worksheet::Name;
 

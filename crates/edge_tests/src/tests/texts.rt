@@ -1,7 +1,7 @@
 //! Lines that are read and texts that are written while no memory is left.
 use block_tree::{Block, Octets, OutOfMemory, Sequence};
+use host_events::{Command, Reply};
 use meta_format::read_block;
-use session_engine::{Command, Reply};
 use sheet_text::{
     LineFault, ScriptLine, block_text, read_line, reply_text, sheet_text, spelled_text, tree_text,
 };

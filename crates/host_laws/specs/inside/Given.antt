@@ -10,14 +10,14 @@ use Rattle.block_tree.specs.declared.reason.Reason.{Reason}
 use Rattle.block_tree.specs.declared.reason.Reason.TheVariants as reason
 use Rattle.plugin_core.specs.Past.{received, stream_of}
 use Rattle.plugin_core.specs.Steps.{Reads, step_of}
-use Rattle.session_engine.specs.declared.command.Command.{Command}
-use Rattle.session_engine.specs.declared.command.Command.TheVariants as command
-use Rattle.session_engine.specs.declared.event.ChildEvent.{ChildEvent}
-use Rattle.session_engine.specs.declared.event.ChildEvent.TheVariants as child
-use Rattle.session_engine.specs.declared.event.Event.{Event}
-use Rattle.session_engine.specs.declared.event.Event.TheVariants as event
-use Rattle.session_engine.specs.declared.outcome.Outcome.{Outcome}
-use Rattle.session_engine.specs.declared.reply.Reply.TheVariants as reply
+use Rattle.host_events.specs.declared.command.Command.{Command}
+use Rattle.host_events.specs.declared.command.Command.TheVariants as command
+use Rattle.host_events.specs.declared.event.ChildEvent.{ChildEvent}
+use Rattle.host_events.specs.declared.event.ChildEvent.TheVariants as child
+use Rattle.host_events.specs.declared.event.Event.{Event}
+use Rattle.host_events.specs.declared.event.Event.TheVariants as event
+use Rattle.host_events.specs.declared.outcome.Outcome.{Outcome}
+use Rattle.host_events.specs.declared.reply.Reply.TheVariants as reply
 use Rattle.session_engine.specs.World.{World, Going, sheet_in, life_of, with_number, session_of_field, with_op_if, kept_at_end}
 use Rattle.session_engine.specs.inside.Words.{line_of_field, request_of_field, with_op, renewed, told_of, with_piece}
 use Rattle.session_engine.specs.Refused.{command_refusals, command_takes_memory}

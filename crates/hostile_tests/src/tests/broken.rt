@@ -1,11 +1,11 @@
 //! Children of which one call fails, each in turn.
 ghost use Rattle.std.specs.Prelude.{IfOk};
-ghost use Rattle.child_edge.specs.Answers.{HasSize};
+ghost use Rattle.child_calls.specs.Answers.{HasSize};
 
 use super::desk::{add_lines, empty_text, keeps, opened, sheet};
 use block_tree::Octets;
 use bytes::Bytes;
-use child_edge::{ChildFault, Children, ReceiveFault, Received};
+use child_calls::{ChildFault, Children, ReceiveFault, Received};
 use disk_model::MemoryDisk;
 use session_engine::Host;
 use std::alloc::Global;

@@ -1,6 +1,6 @@
 //! What a scripted child gives, in short.
 use block_tree::Queue;
-use child_edge::{Got, Part, PieceBytes, Scripted};
+use child_calls::{Got, Part, PieceBytes, Scripted};
 use std::alloc::Global;
 use worksheet::Name;
 

@@ -1,10 +1,12 @@
 //! Hosts on disks in memory, and what they tell of scripts. A line of a script is served over children. One
 //! behind `!` is served while no memory is left; one behind `.` is a step of the host alone, so that no
 //! block is left behind that replies had, and one behind `-` such a step while no memory is left.
-use child_edge::{Children, EdgeCause, EdgeFault, serve, wait};
+use child_calls::Children;
+use child_edge::{EdgeCause, EdgeFault, serve, wait};
 use disk_model::MemoryDisk;
+use host_events::{Command, Event, HostFault, Reply};
 use journal::create;
-use session_engine::{Command, Event, Host, HostFault, Reply};
+use session_engine::Host;
 use sheet_text::{ScriptLine, read_line, reply_text, sheet_text};
 use std::alloc::Global;
 use tests_desk::exhausted;

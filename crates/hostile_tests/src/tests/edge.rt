@@ -1,7 +1,8 @@
 //! Commands and waits while no memory is left, and children of which nothing can be read.
 use super::children::{answering, unreadable};
 use super::desk::{is_told, opened, tells};
-use child_edge::{Scripted, stop_all};
+use child_calls::Scripted;
+use child_edge::stop_all;
 use disk_model::MemoryDisk;
 use session_engine::Host;
 use std::alloc::Global;

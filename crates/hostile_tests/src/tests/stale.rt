@@ -3,7 +3,8 @@ use super::children::none;
 use super::desk::{opened, tells};
 use bytes::Bytes;
 use disk_model::MemoryDisk;
-use session_engine::{ChildEvent, Event, Host, Outcome, Reply};
+use host_events::{ChildEvent, Event, Outcome, Reply};
+use session_engine::Host;
 use std::alloc::Global;
 use worksheet::Name;
 

@@ -2,8 +2,9 @@
 use block_tree::{Octets, Sequence};
 use bytes::Bytes;
 use disk_model::MemoryDisk;
+use host_events::{ChildEvent, Closed, Command, Event, Outcome, Reply};
 use journal::create;
-use session_engine::{ChildEvent, Closed, Command, Event, Host, Outcome, Reply};
+use session_engine::Host;
 use std::alloc::Global;
 use worksheet::Name;
 

@@ -1,6 +1,6 @@
 //! A writer that fails in the middle of a text, and how often an input is read.
+use offline_programs::{RunFault, run_memory};
 use program_endings::blocks;
-use sheet_programs::{RunFault, run_memory};
 use std::alloc::Global;
 use tests_desk::{Counted, Narrow};
 

@@ -1,7 +1,8 @@
 //! Runs of scripts over a disk, where the reader or the writer fails, and strict ones.
-use child_edge::Scripted;
+use child_calls::Scripted;
 use disk_model::MemoryDisk;
-use sheet_programs::{RunFault, run, run_strict};
+use offline_programs::RunFault;
+use sheet_programs::{run, run_strict};
 use std::alloc::Global;
 use std::io::{Read, Write};
 use tests_desk::{Full, Parts, Unflushed};

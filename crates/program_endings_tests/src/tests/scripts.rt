@@ -1,5 +1,5 @@
 //! Scripts over memory whose readers and writers fail, or whose reader takes all memory.
-use sheet_programs::{RunFault, run_memory};
+use offline_programs::{RunFault, run_memory};
 use std::alloc::Global;
 use std::io;
 use std::io::Read;

@@ -1,6 +1,6 @@
 //! Streams that are read in parts of three bytes, readers and writers that fail, and one that takes all memory.
+use offline_programs::RunFault;
 use program_endings::{Ending, blocks, run_blocks};
-use sheet_programs::RunFault;
 use std::alloc::Global;
 use std::io::{Read, Write};
 use std::test::Fail;

@@ -11,8 +11,8 @@ use Rattle.worksheet.specs.Checks.{first_of, first_refusal, has_field}
 use Rattle.block_tree.specs.declared.reason.Reason.{Reason}
 use Rattle.recovery.specs.Code.{code_of}
 use Rattle.recovery.specs.Sheets.{StoreView, IsSheetImage, IsEither, SameStore}
-use Rattle.session_engine.specs.declared.outcome.HostFault.{HostFault}
-use Rattle.session_engine.specs.declared.outcome.HostFault.TheVariants as faults
+use Rattle.host_events.specs.declared.outcome.HostFault.{HostFault}
+use Rattle.host_events.specs.declared.outcome.HostFault.TheVariants as faults
 use Rattle.std.specs.List.{AllByRecursion}
 use Rattle.plugin_core.specs.declared.item.Item.{Item}
 use Rattle.plugin_core.specs.declared.item.Item.TheVariants as item
@@ -21,14 +21,14 @@ use Rattle.plugin_core.specs.declared.step.Answered.TheVariants as answered
 use Rattle.plugin_core.specs.declared.step.Ended.{Ended}
 use Rattle.plugin_core.specs.Items.{first_line_of}
 use Rattle.session_engine.specs.declared.engine.Engine.{Engine}
-use Rattle.session_engine.specs.declared.outcome.Outcome.{Outcome}
-use Rattle.session_engine.specs.declared.reply.Reply.{Reply}
-use Rattle.session_engine.specs.declared.reply.Reply.TheVariants as reply
-use Rattle.session_engine.specs.declared.outcome.Effect.TheVariants as effect
+use Rattle.host_events.specs.declared.outcome.Outcome.{Outcome}
+use Rattle.host_events.specs.declared.reply.Reply.{Reply}
+use Rattle.host_events.specs.declared.reply.Reply.TheVariants as reply
+use Rattle.host_events.specs.declared.outcome.Effect.TheVariants as effect
 use Rattle.session_engine.specs.World.{World, Going, waiting_in, with_op_if, fits_in, kept_at_end, life_of, sheet_in, session_of_field}
 use Rattle.session_engine.specs.inside.Words.{with_op, fits, if_fits, request_of_field}
 use Rattle.session_engine.specs.Refused.{command_refusals}
-use Rattle.session_engine.specs.declared.command.Command.TheVariants as command
+use Rattle.host_events.specs.declared.command.Command.TheVariants as command
 use Rattle.session_engine.specs.Does.{replies, refused}
 use Rattle.session_engine.specs.inside.Parts.{eval_refusals, asks, with_item}
 use Rattle.session_engine.specs.inside.Engines.{StandsAt}

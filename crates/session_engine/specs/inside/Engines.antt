@@ -1,9 +1,9 @@
 -- A host at work, between two events.
 use Rattle.std.specs.Prelude.{Bool, false}
 use Rattle.session_engine.specs.declared.engine.Engine.{Engine}
-use Rattle.session_engine.specs.declared.event.Event.{Event}
-use Rattle.session_engine.specs.declared.outcome.Outcome.{Outcome}
-use Rattle.session_engine.specs.declared.outcome.HostFault.{HostFault}
+use Rattle.host_events.specs.declared.event.Event.{Event}
+use Rattle.host_events.specs.declared.outcome.Outcome.{Outcome}
+use Rattle.host_events.specs.declared.outcome.HostFault.{HostFault}
 use Rattle.session_engine.specs.World.{World}
 use Rattle.session_engine.specs.Host.{HostView, EngineStandsFor, Took}
 use Rattle.session_engine.specs.Faults.{Failed}

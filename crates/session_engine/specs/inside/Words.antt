@@ -19,8 +19,8 @@ use Rattle.plugin_core.specs.Past.{accepted, received}
 use Rattle.plugin_core.specs.Items.{is_line_of}
 use Rattle.session_engine.specs.Limits.{most_lives}
 use Rattle.session_engine.specs.Named.{without_named, replace_named}
-use Rattle.session_engine.specs.declared.outcome.Outcome.{Outcome}
-use Rattle.session_engine.specs.declared.reply.Reply.TheVariants as reply
+use Rattle.host_events.specs.declared.outcome.Outcome.{Outcome}
+use Rattle.host_events.specs.declared.reply.Reply.TheVariants as reply
 use Rattle.session_engine.specs.World.{World, Going, waiting_in, sheet_in, input_of, fits_in, end_anew, kept_in}
 use Rattle.session_engine.specs.Does.{Does, replies, closed_told, told_with}
 

@@ -2,7 +2,7 @@
 use Rattle.std.specs.Prelude.{◌≡◌, ℕ, Bool, true, false, List, Option}
 use Rattle.std.specs.Io.KnownBytes.{Appends}
 use Rattle.disk_model.specs.Disk.{DiskView}
-use Rattle.session_engine.specs.declared.event.Event.{Event}
+use Rattle.host_events.specs.declared.event.Event.{Event}
 use Rattle.session_engine.specs.World.{World}
 use Rattle.session_engine.specs.Host.{HostView, IsHost}
 use Rattle.child_edge.specs.Faithful.{Relation, At, at, Beat}
@@ -14,8 +14,8 @@ use Rattle.sheet_programs.specs.Lines.{LineDone, LinesDone}
 use Rattle.sheet_programs.specs.Told.{StandsOrStopped}
 use Rattle.sheet_programs.specs.Run.{LinesUpTo, LinesSoFar, LinesLed, TellsRun}
 use Rattle.sheet_programs.specs.Strict.{GoRight, StrictLines, TellsStrict, goes_wrong}
-use Rattle.sheet_programs.specs.declared.fault.RunFault.{RunFault}
-use Rattle.sheet_programs.specs.declared.fault.RunFault.TheVariants as fault
+use Rattle.offline_programs.specs.declared.fault.RunFault.{RunFault}
+use Rattle.offline_programs.specs.declared.fault.RunFault.TheVariants as fault
 
 -- The line was done, what it gave is written, and this says whether it went wrong.
 abbrev pub LineTook : {C : Type 0} → Relation C → ℕ → Option ScriptLine → At C → HostView → C → Option (List ℕ) → Option (List ℕ) → Bool → Type 0

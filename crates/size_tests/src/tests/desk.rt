@@ -2,8 +2,9 @@
 use block_tree::{Octets, Sequence};
 use bytes::Bytes;
 use disk_model::MemoryDisk;
+use host_events::{ChildEvent, Command, Event, Reply};
 use journal::create;
-use session_engine::{ChildEvent, Command, Event, Host, Reply};
+use session_engine::Host;
 use std::alloc::Global;
 use worksheet::Name;
 

@@ -1,7 +1,8 @@
 //! Plays of many events.
 use super::desk::{asks, created, joined, open, opened, piece, times};
 use disk_model::MemoryDisk;
-use session_engine::{Command, Event, Host, HostFault, PlayFault};
+use host_events::{Command, Event, HostFault};
+use session_engine::{Host, PlayFault};
 use std::alloc::Global;
 
 // So many events that take the answer of field 1 away. Those for which there is no memory are left out, and

@@ -2,8 +2,9 @@
 use super::desk::{is_done, is_told, joined, new, open, opened, session, times};
 use block_tree::{Block, Octets};
 use disk_model::MemoryDisk;
+use host_events::{Command, Event};
 use meta_format::read_block;
-use session_engine::{Command, Event, Host};
+use session_engine::Host;
 use std::alloc::Global;
 use std::fmt::Write;
 use worksheet::{Answer, Field, Session};

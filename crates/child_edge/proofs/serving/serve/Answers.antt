@@ -1,5 +1,5 @@
 use Rattle.std.proofs.Common.{◌++◌, ap, ◌∙◌}
-use Rattle.session_engine.specs.declared.event.Event.TheVariants as event
+use Rattle.host_events.specs.declared.event.Event.TheVariants as event
 use Rattle.child_edge.specs.Faithful.{at}
 use Rattle.child_edge.specs.Told.{told}
 use Rattle.child_edge.proofs.Timeline.{served_from, served_broke}

@@ -1,11 +1,11 @@
 use Rattle.std.proofs.Common.{refl, sym, subst}
 use Rattle.session_engine.specs.World.{world_at_opening}
-use Rattle.session_engine.specs.declared.outcome.HostFault.TheVariants as hosts
+use Rattle.host_events.specs.declared.outcome.HostFault.TheVariants as hosts
 use Rattle.journal.specs.declared.opening.OpenCause.TheVariants as opens
 use Rattle.disk_model.specs.Disk.{DiskView, Rises, SameDisk}
 use Rattle.child_edge.proofs.Faulting.{same-on}
 use Rattle.arrivals.specs.Held.{to_come}
-use Rattle.sheet_programs.specs.declared.fault.RunFault.TheVariants as told
+use Rattle.offline_programs.specs.declared.fault.RunFault.TheVariants as told
 use Rattle.sheet_programs.proofs.Runs.{opened_on, if_err_is, on_ok_is, err_same}
 use Rattle.live.specs.Live.{begin_at}
 use Rattle.live.proofs.Ends.{live_done, live_failed, live_failed_since, ended_open}

@@ -2,7 +2,7 @@ use Rattle.std.proofs.Common.{ap, refl, sym, subst}
 use Rattle.std.specs.Prelude.{None, Err, IfErr}
 use Rattle.std.proofs.KnownBytes.{Appends-nil}
 use Rattle.child_edge.specs.Faithful.{at}
-use Rattle.sheet_programs.specs.Memory.{bad_line}
+use Rattle.offline_programs.specs.Memory.{bad_line}
 use Rattle.live.specs.declared.holding.Hold.TheVariants as hold
 use Rattle.live.specs.inside.Taking.{Said, SayingFailed}
 use Rattle.live.proofs.Said.{said_still, still_unwritten, wants_command}

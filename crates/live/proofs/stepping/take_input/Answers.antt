@@ -3,7 +3,7 @@ use Rattle.std.specs.Prelude.{None}
 use Rattle.child_edge.specs.Faithful.{at}
 use Rattle.arrivals.specs.Lines.{whole, too_long}
 use Rattle.arrivals.specs.Held.{to_come}
-use Rattle.sheet_programs.specs.Memory.{bad_line}
+use Rattle.offline_programs.specs.Memory.{bad_line}
 use Rattle.live.specs.declared.holding.Hold.TheVariants as hold
 use Rattle.live.specs.Arrivals.{line as the_line, place}
 use Rattle.live.specs.inside.Taking.{TakesLines}

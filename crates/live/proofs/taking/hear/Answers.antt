@@ -1,7 +1,7 @@
 use Rattle.std.proofs.Common.{sym, subst}
 use Rattle.std.specs.Io.KnownBytes.{Appends}
 use Rattle.child_edge.specs.Faithful.{at}
-use Rattle.sheet_programs.specs.Lines.{replies_text}
+use Rattle.offline_programs.specs.Memory.{replies_text}
 use Rattle.live.specs.inside.Taking.{HearingFailed}
 use Rattle.live.proofs.Turns.{TurnBroke, TurnGave, heard_failed, heard_unwritten}
 use Rattle.live.proofs.taking.hear.Goals as goal

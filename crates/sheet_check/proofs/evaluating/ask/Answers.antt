@@ -1,6 +1,6 @@
 use Rattle.std.proofs.Common.{Some, inl, refl, sym, subst}
 use Rattle.std.proofs.lemmas.Result.{IfErr-weaker}
-use Rattle.session_engine.specs.declared.command.Command.TheVariants as command
+use Rattle.host_events.specs.declared.command.Command.TheVariants as command
 use Rattle.child_edge.specs.Faithful.{at}
 use Rattle.sheet_text.specs.declared.script.ScriptLine.TheVariants as said
 use Rattle.sheet_programs.specs.Lines.{beats_text, whole}

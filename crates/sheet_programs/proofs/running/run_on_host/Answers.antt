@@ -1,6 +1,6 @@
 use Rattle.std.proofs.Common.{refl}
 use Rattle.child_edge.specs.Faithful.{at}
-use Rattle.sheet_programs.specs.Memory.{script_lines}
+use Rattle.offline_programs.specs.Memory.{script_lines}
 use Rattle.sheet_programs.proofs.Runs.{if_err_then, if_ok_then, lines_stopped}
 use Rattle.sheet_programs.proofs.running.run_on_host.Goals as goal
 

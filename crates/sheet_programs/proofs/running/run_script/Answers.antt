@@ -3,11 +3,11 @@ use Rattle.std.specs.Prelude.{Err}
 use Rattle.std.proofs.lemmas.Option.{IfSome_then}
 use Rattle.session_engine.specs.World.{world_at_opening}
 use Rattle.child_edge.proofs.Faulting.{same-on}
-use Rattle.sheet_programs.specs.Input.{longest_standard_input}
-use Rattle.sheet_programs.proofs.Scripting.{script-few}
-use Rattle.sheet_programs.specs.Memory.{script_lines}
-use Rattle.sheet_programs.specs.declared.fault.RunFault.TheVariants as told
-use Rattle.session_engine.specs.declared.outcome.HostFault.TheVariants as hosts
+use Rattle.offline_programs.specs.Input.{longest_standard_input}
+use Rattle.offline_programs.proofs.Scripting.{script-few}
+use Rattle.offline_programs.specs.Memory.{script_lines}
+use Rattle.offline_programs.specs.declared.fault.RunFault.TheVariants as told
+use Rattle.host_events.specs.declared.outcome.HostFault.TheVariants as hosts
 use Rattle.disk_model.specs.Disk.{DiskView, Rises, SameDisk}
 use Rattle.sheet_programs.proofs.Runs.{unread_script, opened_on, done_run, broken_run, failed_since, if_err_is, if_ok_is, err_same}
 use Rattle.sheet_programs.proofs.running.run_script.Goals as goal

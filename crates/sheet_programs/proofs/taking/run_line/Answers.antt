@@ -3,7 +3,7 @@ use Rattle.std.specs.Prelude.{Err, IfErr, IfOk, None}
 use Rattle.std.proofs.KnownBytes.{Appends-nil}
 use Rattle.sheet_text.specs.Script.{line_of}
 use Rattle.child_edge.specs.Faithful.{at}
-use Rattle.sheet_programs.specs.Memory.{bad_line}
+use Rattle.offline_programs.specs.Memory.{bad_line}
 use Rattle.sheet_programs.specs.Told.{LineFailed}
 use Rattle.sheet_programs.specs.inside.Taking.{LineTook}
 use Rattle.sheet_programs.proofs.Runs.{unread}

@@ -1,7 +1,7 @@
 use Rattle.std.proofs.Common.{ap, sym, ◌∙◌, length, arith}
 use Rattle.child_edge.specs.Faithful.{at}
 use Rattle.child_edge.proofs.Faulting.{same-at, same-on}
-use Rattle.sheet_programs.specs.Memory.{script_lines}
+use Rattle.offline_programs.specs.Memory.{script_lines}
 use Rattle.sheet_programs.proofs.Runs.{none_done, one_done, all_done, line_stopped, lines_failed}
 use Rattle.sheet_programs.proofs.taking.run_lines.Goals as goal
 

@@ -3,7 +3,7 @@ use Rattle.disk_model.specs.Disk.{SameDisk}
 use Rattle.session_engine.specs.World.{World}
 use Rattle.session_engine.specs.Host.{IsHost}
 use Rattle.child_edge.specs.Faithful.{at}
-use Rattle.sheet_programs.specs.Memory.{script_lines}
+use Rattle.offline_programs.specs.Memory.{script_lines}
 use Rattle.sheet_programs.proofs.Runs.{DoneSoFar}
 use Rattle.sheet_programs.proofs.taking.run_lines.Given as goal
 

@@ -9,7 +9,7 @@ use Rattle.child_edge.specs.Broken.{WaitStopped}
 use Rattle.child_edge.specs.Edge.{BrokeOff, ByCause}
 use Rattle.child_edge.specs.Steps.{Came, Stepped}
 use Rattle.child_edge.proofs.Faulting.{same-at, same-on}
-use Rattle.sheet_programs.specs.Lines.{replies_text}
+use Rattle.offline_programs.specs.Memory.{replies_text}
 use Rattle.sheet_programs.specs.Strict.{is_wrong}
 use Rattle.sheet_programs.specs.Told.{LineFailed}
 use Rattle.sheet_programs.proofs.Heard.{StepGave, none_heard, one_heard, all_heard, wait_failed, wait_unwritten}

@@ -4,7 +4,7 @@ use Rattle.std.specs.List.{list_any}
 use Rattle.std.specs.Io.KnownBytes.{Appends}
 use Rattle.sheet_text.specs.declared.script.ScriptLine.TheVariants as said
 use Rattle.child_edge.specs.Faithful.{at}
-use Rattle.sheet_programs.specs.Lines.{replies_text}
+use Rattle.offline_programs.specs.Memory.{replies_text}
 use Rattle.sheet_programs.specs.Strict.{is_wrong}
 use Rattle.sheet_programs.specs.Told.{LineFailed}
 use Rattle.sheet_programs.specs.inside.Taking.{LineTook}

@@ -3,8 +3,8 @@ use Rattle.std.proofs.lemmas.Result.{IfOk-weaker}
 use Rattle.worksheet.specs.Contents.{Contents}
 use Rattle.worksheet.specs.Checks.{first_refusal}
 use Rattle.worksheet.specs.declared.refusal.Refusal.TheVariants as refusal
-use Rattle.session_engine.specs.declared.reply.Reply.TheVariants as reply
-use Rattle.session_engine.specs.declared.event.Event.TheVariants as event
+use Rattle.host_events.specs.declared.reply.Reply.TheVariants as reply
+use Rattle.host_events.specs.declared.event.Event.TheVariants as event
 use Rattle.session_engine.specs.declared.table.Running.{Running}
 use Rattle.session_engine.specs.Does.{replies, changes, tells}
 use Rattle.session_engine.specs.inside.Engines.{TookAt, view_of}

@@ -1,7 +1,7 @@
 use Rattle.std.proofs.Common.{sym, subst, Err}
 use Rattle.recovery.specs.Checkpointed.{CheckpointAnswers}
 use Rattle.recovery.specs.declared.fault.CheckpointFault.{CheckpointFault}
-use Rattle.session_engine.specs.declared.outcome.Outcome.{Outcome}
+use Rattle.host_events.specs.declared.outcome.Outcome.{Outcome}
 use Rattle.session_engine.specs.inside.Engines.{TookAt}
 use Rattle.session_engine.proofs.Renewals.{checkpoint_done, checkpoint_fails, checkpoint_full, checkpoint_wants, the_checkpoint}
 use Rattle.session_engine.proofs.engine.Engine.checkpoint.Goals as goal

@@ -1,6 +1,6 @@
 use Rattle.std.proofs.Common.{sym, refl, subst}
-use Rattle.session_engine.specs.declared.event.ChildEvent.{ChildEvent}
-use Rattle.session_engine.specs.declared.reply.Reply.TheVariants as reply
+use Rattle.host_events.specs.declared.event.ChildEvent.{ChildEvent}
+use Rattle.host_events.specs.declared.reply.Reply.TheVariants as reply
 use Rattle.session_engine.specs.World.{life_of, with_number}
 use Rattle.session_engine.specs.Does.{ChildDoes, tells}
 use Rattle.session_engine.proofs.engine.Engine.child.Goals as goal

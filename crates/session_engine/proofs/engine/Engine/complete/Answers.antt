@@ -2,8 +2,8 @@ use Rattle.std.proofs.Common.{◌≡◌, inr, ℕ, List, ap, sym, ◌∙◌, ref
 use Rattle.worksheet.specs.declared.refusal.Refusal.TheVariants as refusal
 use Rattle.recovery.specs.Sheets.{StoreView}
 use Rattle.plugin_core.specs.declared.item.Item.{Item}
-use Rattle.session_engine.specs.declared.command.Command.TheVariants as command
-use Rattle.session_engine.specs.declared.reply.Reply.TheVariants as reply
+use Rattle.host_events.specs.declared.command.Command.TheVariants as command
+use Rattle.host_events.specs.declared.reply.Reply.TheVariants as reply
 use Rattle.session_engine.specs.declared.table.Running.{Running}
 use Rattle.session_engine.specs.World.{World, sheet_in, life_of}
 use Rattle.session_engine.specs.inside.Words.{lives_are_spent}

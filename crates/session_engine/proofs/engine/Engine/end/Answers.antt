@@ -1,7 +1,7 @@
 use Rattle.std.proofs.Common.{◌≡◌, List, ap, sym, ◌∙◌, refl, subst, true, false, Option, Some, None}
 use Rattle.session_engine.specs.declared.commits.LoseFault.{LoseFault}
 use Rattle.session_engine.specs.declared.table.Running.{Running}
-use Rattle.session_engine.specs.declared.reply.Reply.TheVariants as reply
+use Rattle.host_events.specs.declared.reply.Reply.TheVariants as reply
 use Rattle.session_engine.specs.World.{Going, kept_at_end, life_of, with_number}
 use Rattle.session_engine.specs.Does.{ends_life, tells, ChildDoes}
 use Rattle.session_engine.specs.Host.{Lives, OnDisk, life_in, number_in}

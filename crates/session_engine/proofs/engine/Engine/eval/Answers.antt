@@ -11,9 +11,9 @@ use Rattle.worksheet.proofs.Finds.{field_in-id}
 use Rattle.plugin_core.specs.declared.item.Item.{Item}
 use Rattle.plugin_core.specs.declared.item.Item.TheVariants as item
 use Rattle.session_engine.specs.declared.table.Running.{Running}
-use Rattle.session_engine.specs.declared.command.Command.TheVariants as command
-use Rattle.session_engine.specs.declared.event.Event.TheVariants as event
-use Rattle.session_engine.specs.declared.reply.Reply.TheVariants as reply
+use Rattle.host_events.specs.declared.command.Command.TheVariants as command
+use Rattle.host_events.specs.declared.event.Event.TheVariants as event
+use Rattle.host_events.specs.declared.reply.Reply.TheVariants as reply
 use Rattle.session_engine.specs.World.{World, sheet_in, in_flight, life_of}
 use Rattle.session_engine.specs.inside.Words.{lives_are_spent}
 use Rattle.session_engine.specs.Does.{does, tells}

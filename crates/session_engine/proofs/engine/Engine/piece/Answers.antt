@@ -6,10 +6,10 @@ use Rattle.worksheet.specs.declared.op.Op.{Op}
 use Rattle.worksheet.specs.Contents.{Contents}
 use Rattle.plugin_core.specs.Kept.{Takes}
 use Rattle.session_engine.specs.declared.table.Running.{Running}
-use Rattle.session_engine.specs.declared.reply.Closed.{Closed}
-use Rattle.session_engine.specs.declared.reply.Reply.TheVariants as reply
+use Rattle.host_events.specs.declared.reply.Closed.{Closed}
+use Rattle.host_events.specs.declared.reply.Reply.TheVariants as reply
 use Rattle.session_engine.specs.Does.{ChildDoes, tells}
-use Rattle.session_engine.specs.declared.event.ChildEvent.TheVariants as child
+use Rattle.host_events.specs.declared.event.ChildEvent.TheVariants as child
 use Rattle.session_engine.specs.Named.{without_named}
 use Rattle.session_engine.specs.Host.{name_of, number_in}
 use Rattle.session_engine.specs.World.{World, Going, sheet_in}

@@ -6,7 +6,7 @@ use Rattle.worksheet.proofs.Finds.{session_named-name}
 use Rattle.block_tree.specs.declared.reason.Reason.TheVariants as reason
 use Rattle.session_engine.specs.declared.commits.LoseFault.{LoseFault}
 use Rattle.session_engine.specs.declared.table.Running.{Running}
-use Rattle.session_engine.specs.declared.reply.Reply.TheVariants as reply
+use Rattle.host_events.specs.declared.reply.Reply.TheVariants as reply
 use Rattle.session_engine.specs.World.{Going, kept_at_end, life_of, sheet_in, with_op_if}
 use Rattle.session_engine.specs.Does.{ends_life, tells}
 use Rattle.session_engine.specs.Host.{EngineStandsFor, Lives, OnDisk, number_in}

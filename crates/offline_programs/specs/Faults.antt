@@ -1,0 +1,47 @@
+-- The line that tells a fault, and what a fault tells of a disk.
+use Rattle.std.specs.Prelude.{ℕ, List, [], ◌∷◌, ◌++◌, codes}
+use Rattle.std.specs.Fmt.{decimal}
+use Rattle.disk_model.specs.Disk.{DiskView, InModel, Rises, SameDisk, bytes_on}
+use Rattle.journal.specs.declared.opening.OpenCause.{OpenCause}
+use Rattle.journal.specs.declared.opening.OpenCause.TheVariants as opens
+use Rattle.recovery.specs.Sheets.{TellsOfSheet}
+use Rattle.host_events.specs.declared.outcome.HostFault.{HostFault}
+use Rattle.host_events.specs.declared.outcome.HostFault.TheVariants as host
+use Rattle.offline_programs.specs.declared.fault.RunFault.{RunFault}
+use Rattle.offline_programs.specs.declared.fault.RunFault.TheVariants as fault
+
+abbrev pub host_fault_text : HostFault → List ℕ
+host_fault_text host.Closed = codes "fault 20 Closed\n"
+host_fault_text host.Disk = codes "fault 21 Disk\n"
+host_fault_text host.OutOfMemory = codes "fault 22 OutOfMemory\n"
+host_fault_text host.JournalFull = codes "fault 23 JournalFull\n"
+
+-- damage is told with the offset of its gate
+abbrev pub open_fault_text : OpenCause → List ℕ
+open_fault_text (opens.Damaged gate) = codes "fault 30 Damaged " ++ decimal gate ++ 10 ∷ []
+open_fault_text opens.NotASheet = codes "fault 31 NotASheet\n"
+open_fault_text opens.Disk = codes "fault 32 Disk\n"
+open_fault_text opens.OutOfMemory = codes "fault 33 OutOfMemory\n"
+
+abbrev pub fault_text : RunFault → List ℕ
+fault_text fault.Input = codes "fault 40 Input\n"
+fault_text fault.InputTooLong = codes "fault 41 InputTooLong\n"
+fault_text fault.Output = codes "fault 42 Output\n"
+fault_text fault.OutOfMemory = codes "fault 43 OutOfMemory\n"
+fault_text (fault.Host why) = host_fault_text why
+fault_text (fault.Open why) = open_fault_text why
+fault_text fault.InUse = codes "fault 35 InUse\n"
+
+-- What a fault of `show` tells: the damage of the disk, where nothing was written, or that the writer failed.
+abbrev pub TellsShow : DiskView → Type 0 → RunFault → Type 0
+TellsShow disk nothing (fault.Open why) = nothing × InModel disk (TellsOfSheet (bytes_on disk) why)
+TellsShow disk nothing fault.Output = Unit {0}
+TellsShow disk nothing fault.OutOfMemory = ⊥
+TellsShow disk nothing fault.Input = ⊥
+TellsShow disk nothing fault.InputTooLong = ⊥
+TellsShow disk nothing (fault.Host why) = ⊥
+TellsShow disk nothing fault.InUse = ⊥
+
+-- The disk later, with a failure of a call counted since, or with a count at its greatest.
+abbrev pub FailedSince : {D : Type 0} → (D → DiskView) → D → Type 0
+FailedSince {D = D} view disk = (later : D) × SameDisk (view disk) (view later) × Rises (view disk).faults (view later).faults

@@ -1,0 +1,4 @@
+pub mod Input
+pub mod Faults
+pub mod Memory
+pub mod Rescue

@@ -1,0 +1,77 @@
+-- What a rescue keeps of a worksheet, what it writes, and what it tells.
+use Rattle.std.specs.Prelude.{◌≡◌, ℕ, List, [], ◌∷◌, ◌++◌, Option, Some, None, Result, Ok, Err, IfOk, IfErr, codes, length}
+use Rattle.std.specs.Fmt.{decimal}
+use Rattle.disk_model.specs.Disk.{DiskView, InModel, Leaves, LeavesOnly, Looks, Rises, SameDisk, bytes_on}
+use Rattle.journal.specs.Front.{TellsHeader}
+use Rattle.journal.specs.Open.{AreEmpty}
+use Rattle.journal.specs.declared.opening.OpenCause.TheVariants as opens
+use Rattle.recovery.specs.Rescued.{IsRescued}
+use Rattle.recovery.specs.Saved.{IsBeingSaved}
+use Rattle.recovery.specs.Sheets.{IsSheetImage, Makes}
+use Rattle.recovery.specs.declared.rescuing.Rescued.{Rescued}
+use Rattle.recovery.specs.declared.saving.SaveCause.{SaveCause}
+use Rattle.recovery.specs.declared.saving.SaveCause.TheVariants as saves
+use Rattle.host_events.specs.declared.outcome.HostFault.TheVariants as host
+use Rattle.worksheet.specs.declared.op.Op.{Op}
+use Rattle.worksheet.specs.Contents.{Contents}
+use Rattle.worksheet.specs.Ops.{sheet_of}
+use Rattle.offline_programs.specs.declared.fault.RunFault.{RunFault}
+use Rattle.offline_programs.specs.declared.fault.RunFault.TheVariants as fault
+use Rattle.offline_programs.specs.declared.rescuing.RescueFault.{RescueFault}
+use Rattle.offline_programs.specs.declared.rescuing.RescueFault.TheVariants as rescues
+
+-- the line that tells how many ops were kept, and the offset of the gate where it stops
+abbrev pub kept_text : ℕ → Option ℕ → List ℕ
+kept_text kept None = codes "kept " ++ decimal kept ++ codes ", whole\n"
+kept_text kept (Some gate) = codes "kept " ++ decimal kept ++ codes ", damaged at " ++ decimal gate ++ 10 ∷ []
+
+-- What a fault tells of the damaged disk: that it has no header, or a cause that isn't in its bytes.
+abbrev pub TellsRescue : DiskView → RunFault → Type 0
+TellsRescue disk (fault.Open why) = InModel disk (TellsHeader (bytes_on disk) why)
+TellsRescue disk fault.Output = ⊥
+TellsRescue disk fault.OutOfMemory = ⊥
+TellsRescue disk fault.Input = ⊥
+TellsRescue disk fault.InputTooLong = ⊥
+TellsRescue disk (fault.Host why) = ⊥
+TellsRescue disk fault.InUse = ⊥
+
+-- The front of a disk was read: what was found are the ops there, up to the first damage, and no byte
+-- of the disk was changed, whatever is answered.
+pub record FrontIsRead {D : Type 0} (view : D → DiskView) (disk after : D)
+    (answer : Result (Rescued D) RunFault) : Type 0 where
+  pub same : SameDisk (view disk) (view after)
+  pub looks : InModel (view disk) (Looks (view disk).history (view after).history)
+  pub disk_is : IfOk answer (λ found. found.disk ≡ after)
+  pub made : IfOk answer (λ found. (ops : List Op) × Makes ops found.sheet.contents
+      × (found.kept ≡ length ops))
+  pub found : InModel (view disk) (IfOk answer (λ found. (ops : List Op)
+      × IsRescued (bytes_on (view disk)) ops found.damage
+      × (found.sheet.contents ≡ sheet_of ops) × (found.kept ≡ length ops)))
+  pub tells : IfErr answer (TellsRescue (view disk))
+  pub failed : answer ≡ Err (fault.Open opens.Disk) → Rises (view disk).faults (view after).faults
+
+-- the fault of a worksheet that can't be written
+abbrev pub save_fault : SaveCause → RescueFault
+save_fault saves.NotEmpty = rescues.NotEmpty
+save_fault saves.Full = rescues.Run (fault.Host host.JournalFull)
+save_fault saves.OutOfMemory = rescues.Run (fault.Open opens.OutOfMemory)
+save_fault saves.Disk = rescues.Run (fault.Open opens.Disk)
+
+-- the worksheet was written: nothing failed, or only the line that tells of it
+abbrev pub IsWritten : Result Unit RescueFault → Type 0
+IsWritten (Ok u) = Unit {0}
+IsWritten (Err (rescues.Run fault.Output)) = Unit {0}
+IsWritten other = ⊥
+
+-- The worksheet was written to a new disk, or that failed: what becomes of the disk.
+pub record RescueIsSaved (old new : DiskView) (sheet : Contents)
+    (answer : Result Unit RescueFault) : Type 0 where
+  pub same : SameDisk old new
+  -- the disk was empty, and whatever a crash leaves is an image of the worksheet
+  pub written : InModel old (IsWritten answer
+      → AreEmpty (bytes_on old) × Leaves (IsSheetImage sheet) new.history.now)
+  -- so at every moment, but for what a creation leaves that is cut off, or the empty worksheet
+  pub moments : InModel old
+      (LeavesOnly (IsBeingSaved old.history.now sheet) old.history new.history)
+  pub not_empty : InModel old (answer ≡ Err rescues.NotEmpty → AreEmpty (bytes_on old) → ⊥)
+  pub failed : answer ≡ Err (rescues.Run (fault.Open opens.Disk)) → Rises old.faults new.faults

@@ -1,0 +1,95 @@
+//! What stands in a damaged worksheet before the damage, and the new worksheet that it is written to.
+ghost use Rattle.std.specs.Prelude.{◌≡◌, ◌≤◌, Err, List, IfErr, OnOk};
+ghost use Rattle.std.specs.Io.KnownBytes.{Appends};
+ghost use Rattle.recovery.specs.Sheets.{Makes};
+ghost use Rattle.offline_programs.specs.Rescue as printed;
+ghost use Rattle.offline_programs.specs.Rescue.{FrontIsRead, RescueIsSaved};
+ghost use Rattle.offline_programs.specs.declared.fault.RunFault.TheVariants as fault;
+ghost use Rattle.offline_programs.specs.declared.rescuing.RescueFault.TheVariants as rescues;
+ghost use Rattle.worksheet.specs.declared.op.Op.{Op};
+
+use crate::RunFault;
+use disk_model::Disk;
+use host_events::HostFault;
+use journal::OpenCause;
+use recovery::{Rescued, SaveCause, rescue, save};
+use std::alloc::Global;
+use std::io::Write;
+use thiserror::Error;
+
+/// Why what was rescued wasn't written, or not told.
+#[derive(Clone, Copy, Debug, PartialEq, Eq, Error)]
+pub enum RescueFault {
+    /// 34: something is where the new worksheet should be. Nothing was changed.
+    #[error("the new worksheet isn't empty")]
+    NotEmpty,
+    /// 32 or 33: the new disk failed, or memory was refused. 23: the worksheet doesn't fit in a file. 42:
+    /// the writer failed, and the new worksheet is whole.
+    #[error("the new worksheet was not written")]
+    Run(RunFault),
+}
+
+/// What stands on a worksheet's disk before its first damage. It changes no byte of it.
+///
+/// `Open` where the disk has no header, where it fails, or memory is refused. Damage is no fault here.
+pub fn read_front<D: Disk>(alloc: Global, disk: D) -> Result<Rescued<D>, RunFault>
+    ensures { (after : D) × FrontIsRead D.view disk after result }
+{
+    match rescue(alloc, disk) {
+        Ok(found) => Ok(found),
+        Err(fault) => Err(RunFault::Open(fault.cause)),
+    }
+}
+
+fn save_fault(cause: SaveCause) -> RescueFault
+    ensures { result ≡ printed.save_fault cause }
+{
+    match cause {
+        SaveCause::NotEmpty => RescueFault::NotEmpty,
+        SaveCause::Full => RescueFault::Run(RunFault::Host(HostFault::JournalFull)),
+        SaveCause::OutOfMemory => RescueFault::Run(RunFault::Open(OpenCause::OutOfMemory)),
+        SaveCause::Disk => RescueFault::Run(RunFault::Open(OpenCause::Disk)),
+    }
+}
+
+/// Tells on a line how many ops were kept, and where the damage is.
+fn write_kept<W: Write>(kept: u64, damage: Option<u64>, writer: &mut W) -> Result<(), RunFault>
+    ensures ok { OnOk result
+        (Appends (W.contents writer.old) (W.contents writer.new) (printed.kept_text kept damage)) }
+    ensures err { IfErr result (λ e. e ≡ fault.Output) }
+{
+    match damage {
+        Some(gate) => writeln!(writer, "kept {kept}, damaged at {gate}"),
+        None => writeln!(writer, "kept {kept}, whole"),
+    }
+    .map_err(|_| RunFault::Output)?;
+    writer.flush().map_err(|_| RunFault::Output)?;
+    Ok(())
+}
+
+/// Writes what was rescued to an empty disk of at least 11 bytes of room, and then tells on a line of
+/// `writer` how much it is: `kept N, whole`, or `kept N, damaged at OFFSET`.
+pub fn save_rescued<D: Disk, N: Disk, W: Write>(
+    alloc: Global,
+    found: &Rescued<D>,
+    disk: N,
+    writer: &mut W,
+) -> Result<(), RescueFault>
+    requires room { 11 ≤ (N.view disk).room }
+    requires made { (ops : List Op) × Makes ops found.now.sheet.contents }
+    ensures saved { (new : N)
+        × RescueIsSaved (N.view disk) (N.view new) found.now.sheet.contents result }
+    ensures told { OnOk result
+        (Appends (W.contents writer.old) (W.contents writer.new)
+        (printed.kept_text found.now.kept found.now.damage)) }
+    ensures untold { IfErr result
+        (λ e. (e ≡ rescues.Run fault.Output → ⊥) → writer.new ≡ writer.old) }
+{
+    match save(alloc, disk, &found.sheet) {
+        Ok(_) => match write_kept(found.kept, found.damage, writer) {
+            Ok(()) => Ok(()),
+            Err(fault) => Err(RescueFault::Run(fault)),
+        },
+        Err(fault) => Err(save_fault(fault.cause)),
+    }
+}

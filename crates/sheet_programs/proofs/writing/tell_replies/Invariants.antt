@@ -1,7 +1,0 @@
-use Rattle.std.proofs.Common.{take}
-use Rattle.std.specs.Io.KnownBytes.{Appends}
-use Rattle.sheet_programs.specs.Lines.{replies_text}
-use Rattle.sheet_programs.proofs.writing.tell_replies.Given as goal
-
-abbrev pub invariant-loop-reply : goal.invariant-loop-reply
-invariant-loop-reply g l = Appends (g.W.Write.contents l.initial.writer) (g.W.Write.contents l.writer) (replies_text (take l.reply-index l.replies))
