@@ -7,6 +7,7 @@ mod hosts;
 mod lives;
 mod moments;
 mod scripts;
+mod sizes;
 mod stories;
 mod told;
 mod turns;

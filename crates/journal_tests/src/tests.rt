@@ -7,4 +7,5 @@ mod memory;
 mod openings;
 mod records;
 mod rewrites;
+mod sizes;
 mod windows;

@@ -142,11 +142,12 @@ impl<D: Disk> Store<D> {
         if base.is_closed() {
             return Err(PrepareFault::Closed);
         }
-        if !base.has_place(code_len(op)) {
+        let len = code_len(op);
+        if !base.has_place(len) {
             return Err(PrepareFault::Full);
         }
         self.sheet.make_room(op)?;
-        Ok(frame_of(self.alloc, op)?)
+        Ok(frame_of(self.alloc, op, len)?)
     }
 
     /// Puts an op that was prepared on the disk, and then into the worksheet. It takes no memory. At

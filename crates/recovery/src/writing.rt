@@ -1,16 +1,15 @@
 //! Ops as payloads.
-ghost use Rattle.std.specs.Prelude.{◌≡◌, ◌++◌, ◌<◌, ◌≤◌, ◌+◌, length, true, OnErr, OnOk, IfOk, vec_capacity, vec_len};
+ghost use Rattle.std.specs.Prelude.{◌≡◌, ◌++◌, ◌<◌, ◌≤◌, ◌+◌, length, min, true, OnErr, OnOk, IfOk, vec_capacity, vec_len};
 ghost use Rattle.std.specs.List.{flat_map, AllByRecursion};
 ghost use Rattle.block_tree.specs.Shape.{is_block};
 ghost use Rattle.block_tree.specs.View.{tree_of};
 ghost use Rattle.block_tree.specs.Reasons.{reason_number};
 ghost use Rattle.meta_format.specs.Canonical.{canonical, escape};
 ghost use Rattle.worksheet.specs.declared.op.Op.TheVariants as op;
-ghost use Rattle.recovery.specs.Code.{code_of, short, long, HasCode, IsShort, IsLong, IsTyped};
+ghost use Rattle.recovery.specs.Code.{code_of, longest_told, short, long, HasCode, IsShort, IsLong, IsTyped};
 ghost use Rattle.recovery.specs.inside.Measured.{HasRecord};
 
 use crate::runs::{is_special, split_plain};
-use crate::size::code_len;
 use block_tree::{Block, Item, Node, Octets, OutOfMemory, Reason};
 use journal::Frame;
 use std::alloc::Global;
@@ -260,13 +259,15 @@ pub fn encode(alloc: Global, op: &Op) -> Result<Vec<u8>, OutOfMemory>
     Ok(payload)
 }
 
-/// The frame of an op whose payload a record may have. The payload is written into it once.
-pub(crate) fn frame_of(alloc: Global, op: &Op) -> Result<Frame, OutOfMemory>
-    requires { HasRecord op.now }
+/// The frame of an op whose payload a record may have, and has this length as `code_len` tells it. The
+/// payload is written into it once.
+pub(crate) fn frame_of(alloc: Global, op: &Op, len: u64) -> Result<Frame, OutOfMemory>
+    requires record { HasRecord op.now }
+    requires len { len ≡ min (length (code_of op.now)) longest_told }
     ensures code { IfOk result (λ frame. frame ≡ code_of op.now) }
     ensures typed { IfOk result (λ frame. IsTyped op.now) }
 {
-    let mut bytes = Frame::begin(alloc, code_len(op))?;
+    let mut bytes = Frame::begin(alloc, len)?;
     put_op(op, &mut bytes)?;
     Frame::closed(bytes)
 }

@@ -5,4 +5,5 @@ mod desk;
 mod memory;
 mod openings;
 mod rescues;
+mod sizes;
 mod worksheets;

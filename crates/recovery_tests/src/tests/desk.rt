@@ -42,8 +42,8 @@ pub fn new(alloc: Global) -> Option<Op> {
     })
 }
 
-// The answer to field 1 with this output.
-fn answer(alloc: Global, output: &[u8]) -> Option<Op> {
+/// The answer to field 1 with this output, and the prompt `> `.
+pub fn answer(alloc: Global, output: &[u8]) -> Option<Op> {
     let prompt = octets(alloc, b"> ")?;
     let output = read_block(alloc, output).ok()?;
     Some(Op::Answer {
@@ -55,7 +55,7 @@ fn answer(alloc: Global, output: &[u8]) -> Option<Op> {
 
 /// A disk in memory with an empty journal.
 pub fn empty_disk(alloc: Global, room: u64) -> Option<MemoryDisk> {
-    if room < 11 || room > 100 {
+    if room < 11 || room > 2_147_483_648 {
         return None;
     }
     create(MemoryDisk::new(alloc, room)).ok()
@@ -136,8 +136,8 @@ fn op(alloc: Global, number: usize) -> Option<Op> {
     }
 }
 
-// Commits an op, where there is one.
-fn put_if<D: Disk>(store: &mut Store<D>, op: Option<Op>) -> Outcome {
+/// Commits an op, where there is one.
+pub fn put_if<D: Disk>(store: &mut Store<D>, op: Option<Op>) -> Outcome {
     match op {
         Some(op) => put(store, op),
         None => Outcome::Refused,

@@ -11,17 +11,17 @@ use Rattle.recovery.proofs.Images.{made_in, fits_uncapped}
 use Rattle.recovery.proofs.Kept.{is_store}
 use Rattle.recovery.proofs.store.Store.prepare.Goals as goal
 
-pub code_len-requires : goal.code_len-requires
-code_len-requires g c =
+pub code_len-len-requires : goal.code_len-len-requires
+code_len-len-requires g c =
     let made = made_in g.D.Disk.view c.self.inside.base c.self.inside.sheet.contents c.self.invariant in
     code_on made.0 c.self.inside.sheet.contents c.args.op.now made.1 (subst (λ (s : StoreView). first_refusal s.sheet.contents c.args.op.now ≡ None) (sym c.self.view_is) c.requires)
 
-pub frame_of-requires : goal.frame_of-requires
-frame_of-requires g c =
+pub frame_of-requires-clause-record : goal.frame_of-requires-clause-record
+frame_of-requires-clause-record g c =
     let made = made_in g.D.Disk.view c.self.inside.base c.self.inside.sheet.contents c.self.invariant in
     let place = c.has_place.ensures.0 c.if-not-has_place.false in (
       code_on made.0 c.self.inside.sheet.contents c.args.op.now made.1 (subst (λ (s : StoreView). first_refusal s.sheet.contents c.args.op.now ≡ None) (sym c.self.view_is) c.requires),
-      (fits_uncapped (disk_of g.D.Disk.view c.in-Some.base).room (end_in c.in-Some.base) (length (code_of c.args.op.now)) (rw c.code_len.ensures at place.1)).0,
+      (fits_uncapped (disk_of g.D.Disk.view c.in-Some.base).room (end_in c.in-Some.base) (length (code_of c.args.op.now)) (rw c.code_len-len.ensures at place.1)).0,
     )
 
 pub returns-clause-ready : goal.returns-clause-ready
@@ -32,7 +32,7 @@ returns-clause-ready g c =
       allowed = subst (λ (s : Contents). first_refusal s c.args.op.now ≡ None) (sym c.make_room.ensures.same) allowed;
       fits = subst (λ (b : Option (Base g.row.D.Denot)). (is_closed_store b ≡ false) × Fits (disk_in g.D.Disk.view b).room (end_of_base b) (length (code_of c.args.op.now))) (sym c.in-Some.is)
           (let place = c.has_place.ensures.0 c.if-not-has_place.false in
-          (place.0, fits_uncapped (disk_of g.D.Disk.view c.in-Some.base).room (end_in c.in-Some.base) (length (code_of c.args.op.now)) (rw c.code_len.ensures at place.1)));
+          (place.0, fits_uncapped (disk_of g.D.Disk.view c.in-Some.base).room (end_in c.in-Some.base) (length (code_of c.args.op.now)) (rw c.code_len-len.ensures at place.1)));
       room = c.in_ok-make_room.ensures.ok;
       own = record {
         typed = c.in_ok-frame_of.ensures.typed;

@@ -1,4 +1,5 @@
 //! Hosts on disks of the greatest room, and events for them.
+use crate::tests::desk::open;
 use block_tree::{Octets, Sequence};
 use bytes::Bytes;
 use disk_model::MemoryDisk;
@@ -14,10 +15,6 @@ pub fn created(alloc: Global, room: u64) -> Option<MemoryDisk> {
         return None;
     }
     create(MemoryDisk::new(alloc, room)).ok()
-}
-
-pub fn open(alloc: Global, disk: MemoryDisk) -> Option<Host<MemoryDisk>> {
-    Host::open(alloc, disk).ok()
 }
 
 /// A host on a new worksheet, whose disk has the greatest room.
@@ -39,7 +36,7 @@ pub fn joined(alloc: Global, front: &[u8], middle: &[u8], back: &[u8]) -> Option
     Some(all)
 }
 
-pub fn octets(alloc: Global, bytes: &[u8]) -> Option<Octets> {
+fn octets(alloc: Global, bytes: &[u8]) -> Option<Octets> {
     Octets::from_slice(alloc, bytes).ok()
 }
 
@@ -53,8 +50,8 @@ pub fn session(alloc: Global, name: &[u8], words: Vec<Octets>) -> Option<Event> 
     }))
 }
 
-/// One word of one byte.
-pub fn short_words(alloc: Global) -> Option<Vec<Octets>> {
+// One word of one byte.
+fn short_words(alloc: Global) -> Option<Vec<Octets>> {
     let mut words = Vec::new(alloc);
     words.push(octets(alloc, b"p")?).ok()?;
     Some(words)

@@ -1,5 +1,6 @@
 //! Plays of many events.
-use super::desk::{asks, created, joined, open, opened, piece, times};
+use super::desk::{asks, created, joined, opened, piece, times};
+use crate::tests::desk::open;
 use disk_model::MemoryDisk;
 use host_events::{Command, Event, HostFault};
 use session_engine::{Host, PlayFault};

@@ -1,5 +1,6 @@
 //! The greatest worksheet.
-use super::desk::{is_done, is_told, joined, new, open, opened, session, times};
+use super::desk::{is_done, is_told, joined, new, opened, session, times};
+use crate::tests::desk::open;
 use block_tree::{Block, Octets};
 use disk_model::MemoryDisk;
 use host_events::{Command, Event};
