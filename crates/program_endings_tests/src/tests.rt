@@ -3,6 +3,7 @@
 mod file_calls;
 mod file_disk;
 mod limits;
+mod made_up;
 mod places;
 mod programs;
 mod running;

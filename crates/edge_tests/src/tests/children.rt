@@ -1,42 +1,47 @@
 //! Children of which each byte counts, with what is told typed in. Whole examples and real interpreters are
 //! cases of `programs`, `data/children.sh`.
-use crate::tests::desk::{Asked, told};
+use crate::tests::desk::{Asked, tells, told};
 use crate::tests::talkers::{Silent, Turned};
 use block_tree::{OutOfMemory, Queue};
 use child_calls::{Got, Part, PieceBytes, Scripted};
 use std::alloc::Global;
-use std::test::Fail;
 use worksheet::Name;
 
 const BANNER: &[u8] = b"\x02verbatim:Hello\x02prompt#Input 1] \x05\x05";
 
 const ANSWER: &[u8] = b"\x02verbatim:\x02latex:$x^2$\x05\x02prompt#Input 2] \x05\x05";
 
-fn piece(alloc: Global, bytes: &[u8]) -> Result<Got, Fail> {
-    let bytes = Vec::from_slice(alloc, bytes)?;
+fn piece(alloc: Global, bytes: &[u8]) -> Option<Got> {
+    let bytes = Vec::from_slice(alloc, bytes).ok()?;
     if bytes.is_empty() || bytes.len() > 65_536 {
-        return Err("no piece".into());
+        return None;
     }
-    Ok(Got::Piece(PieceBytes::from_vec(bytes)))
+    Some(Got::Piece(PieceBytes::from_vec(bytes)))
 }
 
-fn add_piece(alloc: Global, receives: &mut Queue<Got>, bytes: &[u8]) -> Result<(), Fail> {
-    match receives.push(piece(alloc, bytes)?) {
-        Ok(()) => Ok(()),
-        Err(_) => Err("memory".into()),
+// Whether the piece gets its place.
+fn is_added(alloc: Global, receives: &mut Queue<Got>, bytes: &[u8]) -> bool {
+    match piece(alloc, bytes) {
+        Some(piece) => receives.push(piece).is_ok(),
+        None => false,
     }
+}
+
+fn receives_of(alloc: Global, pieces: &[&[u8]]) -> Option<Queue<Got>> {
+    let mut receives = Queue::new(alloc);
+    for bytes in pieces {
+        if !is_added(alloc, &mut receives, bytes) {
+            return None;
+        }
+    }
+    Some(receives)
 }
 
 // The life of session `a` that gives these pieces.
-fn part(alloc: Global, pieces: &[&[u8]]) -> Result<Part, Fail> {
-    let mut receives = Queue::new(alloc);
-    for bytes in pieces {
-        add_piece(alloc, &mut receives, bytes)?;
-    }
-    let Some(name) = Name::new(b"a") else {
-        return Err("a name".into());
-    };
-    Ok(Part {
+fn part(alloc: Global, pieces: &[&[u8]]) -> Option<Part> {
+    let name = Name::new(b"a")?;
+    let receives = receives_of(alloc, pieces)?;
+    Some(Part {
         name,
         life: 1,
         start: true,
@@ -46,10 +51,10 @@ fn part(alloc: Global, pieces: &[&[u8]]) -> Result<Part, Fail> {
     })
 }
 
-fn scripted(alloc: Global, pieces: &[&[u8]]) -> Result<Scripted, Fail> {
+fn scripted(alloc: Global, pieces: &[&[u8]]) -> Option<Scripted> {
     let mut parts = Vec::new(alloc);
-    parts.push(part(alloc, pieces)?)?;
-    Ok(Scripted::new(alloc, parts))
+    parts.push(part(alloc, pieces)?).ok()?;
+    Some(Scripted::new(alloc, parts))
 }
 
 fn asked<'a>(name: &'a str, program: &'a str, word: &'a str, input: &'a str) -> Asked<'a> {
@@ -71,43 +76,67 @@ fn single_bytes<'a>(alloc: Global, all: &[&'a [u8]]) -> Result<Vec<&'a [u8]>, Ou
     Ok(pieces)
 }
 
-#[test]
-fn prompts_in_pieces_of_one_byte(rt: HostRuntime) -> Result<(), Fail> {
-    let alloc = rt.alloc();
-    let pieces = single_bytes(alloc, &[BANNER, ANSWER])?;
+// Whether what is told of a banner and an answer that come byte by byte is what is told of whole ones.
+fn is_told_by_bytes(alloc: Global) -> Option<bool> {
+    let pieces = single_bytes(alloc, &[BANNER, ANSWER]).ok()?;
     let mut children = scripted(alloc, pieces.as_slice())?;
-    let text = told(alloc, &mut children, &[asked("a", "sh", "p", "x^2")])?;
-    assert_eq!(rt;
-        text.as_str(),
-        "ok, field 1, asked, wait: banner a, answered 1, stop: ended a Stopped lost 0, fields: 1: Input 1] x^2, answered, "
-    );
-    Ok(())
+    Some(tells(
+        alloc,
+        &mut children,
+        &[asked("a", "sh", "p", "x^2")],
+        "ok, field 1, asked, wait: banner a, answered 1, stop: ended a Stopped lost 0, fields: 1: Input 1] x^2, answered, ",
+    ))
 }
 
 #[test]
-fn a_session_that_stalls(rt: HostRuntime) -> Result<(), Fail> {
-    let alloc = rt.alloc();
+fn prompts_in_pieces_of_one_byte(rt: HostRuntime) {
+    assert!(rt; is_told_by_bytes(rt.alloc()) == Some(true));
+}
+
+// How often is received from a child that never answers, and how often it is stopped, where this is told.
+fn stalled(alloc: Global) -> Option<(u32, u32)> {
     let mut children = Silent::new(alloc);
-    let text = told(alloc, &mut children, &[asked("a", "sh", "p", "x")])?;
-    assert_eq!(rt;
-        text.as_str(),
-        "ok, field 1, asked, wait: ended a Stalled lost 1, stop: ok, fields: 1: > x, Stalled, "
+    let is_told = tells(
+        alloc,
+        &mut children,
+        &[asked("a", "sh", "p", "x")],
+        "ok, field 1, asked, wait: ended a Stalled lost 1, stop: ok, fields: 1: > x, Stalled, ",
     );
-    assert_eq!(rt; children.receives, 100_000);
-    assert_eq!(rt; children.stops, 1);
-    Ok(())
+    if is_told {
+        Some((children.receives, children.stops))
+    } else {
+        None
+    }
 }
 
 #[test]
-fn the_first_session_waits_for_the_second(rt: HostRuntime) -> Result<(), Fail> {
-    let alloc = rt.alloc();
+fn a_session_that_stalls(rt: HostRuntime) {
+    assert!(rt; stalled(rt.alloc()) == Some((100_000, 1)));
+}
+
+// How often is received from the first session, where both are answered, the second one first.
+fn turned(alloc: Global) -> Option<u32> {
     let mut children = Turned::new(alloc);
     let all = [asked("a", "p", "p", "x"), asked("b", "p", "p", "x")];
-    let text = told(alloc, &mut children, &all)?;
-    assert!(rt;
-        text.as_str()
-            .contains("wait: banner b, banner a, answered 2, answered 1, stop: ")
-    );
-    assert!(rt; children.receives <= 1_000);
-    Ok(())
+    let is_told = tells_in_turn(alloc, &mut children, &all);
+    if is_told {
+        Some(children.receives)
+    } else {
+        None
+    }
+}
+
+fn tells_in_turn(alloc: Global, children: &mut Turned, all: &[Asked<'_>]) -> bool {
+    match told(alloc, children, all) {
+        Some(text) => {
+            text.as_str()
+                .contains("wait: banner b, banner a, answered 2, answered 1, stop: ")
+        }
+        None => false,
+    }
+}
+
+#[test]
+fn the_first_session_waits_for_the_second(rt: HostRuntime) {
+    assert!(rt; matches!(turned(rt.alloc()), Some(0..=1_000)));
 }

@@ -9,7 +9,6 @@ use session_engine::Host;
 use std::alloc::Global;
 use std::fmt::Write;
 use std::str;
-use std::test::Fail;
 use worksheet::Field;
 
 /// A session whose program is run with one word, and one field of it.
@@ -164,14 +163,9 @@ fn stop_each<C: Children>(
 }
 
 // A host on a new worksheet.
-fn opened(alloc: Global) -> Result<Host<MemoryDisk>, Fail> {
-    let Ok(disk) = create(MemoryDisk::new(alloc, 1_000_000)) else {
-        return Err("create".into());
-    };
-    match Host::open(alloc, disk) {
-        Ok(host) => Ok(host),
-        Err(_) => Err("open".into()),
-    }
+fn opened(alloc: Global) -> Option<Host<MemoryDisk>> {
+    let disk = create(MemoryDisk::new(alloc, 1_000_000)).ok()?;
+    Host::open(alloc, disk).ok()
 }
 
 fn add_field(text: &mut String, field: &Field) -> Result<(), OutOfMemory> {
@@ -196,18 +190,35 @@ fn add_fields(text: &mut String, host: &Host<MemoryDisk>) -> Result<(), OutOfMem
     Ok(())
 }
 
+// Adds what the host tells of it all.
+fn tell<C: Children>(
+    alloc: Global,
+    host: &mut Host<MemoryDisk>,
+    children: &mut C,
+    text: &mut String,
+    all: &[Asked<'_>],
+) -> Result<(), OutOfMemory> {
+    evaluate_each(alloc, host, children, text, all)?;
+    wait_all(alloc, host, children, text)?;
+    stop_each(alloc, host, children, text, all)?;
+    add_fields(text, host)
+}
+
 /// What a host on a new worksheet tells in short: sessions with a field each, which are evaluated; a wait
 /// for them; a stop of each; and the fields that it has then.
-pub fn told<C: Children>(
-    alloc: Global,
-    children: &mut C,
-    all: &[Asked<'_>],
-) -> Result<String, Fail> {
+pub fn told<C: Children>(alloc: Global, children: &mut C, all: &[Asked<'_>]) -> Option<String> {
     let mut host = opened(alloc)?;
     let mut text = String::new(alloc);
-    evaluate_each(alloc, &mut host, children, &mut text, all)?;
-    wait_all(alloc, &mut host, children, &mut text)?;
-    stop_each(alloc, &mut host, children, &mut text, all)?;
-    add_fields(&mut text, &host)?;
-    Ok(text)
+    match tell(alloc, &mut host, children, &mut text, all) {
+        Ok(()) => Some(text),
+        Err(_) => None,
+    }
+}
+
+/// Whether it tells this.
+pub fn tells<C: Children>(alloc: Global, children: &mut C, all: &[Asked<'_>], want: &str) -> bool {
+    match told(alloc, children, all) {
+        Some(text) => text.as_str() == want,
+        None => false,
+    }
 }

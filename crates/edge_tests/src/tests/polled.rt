@@ -3,7 +3,7 @@ use arrivals::{Input, InputLines, NextLine, Polled, Sources, Woken};
 use block_tree::{Octets, OutOfMemory};
 use child_calls::{Children, Processes, Received, Seat};
 use std::alloc::Global;
-use std::io::{PipeReader, Write, pipe};
+use std::io::{PipeReader, PipeWriter, Write, pipe};
 use std::os::fd::{AsRawFd, RawFd};
 use std::thread::sleep;
 use std::time::Duration;
@@ -56,17 +56,21 @@ fn turn(real: &mut Real<'_>, input: Input, patience: Option<u64>) -> u8 {
     }
 }
 
+fn turns_of_two(alloc: Global, real: &mut Real<'_>) -> Option<[u8; 5]> {
+    start(alloc, real, b"s", "sleep 2; echo")?;
+    start(alloc, real, b"q", "echo")?;
+    let mut turns = [0; 5];
+    turns[0] = turn(real, Input::HeldBack, None);
+    turns[1] = turn(real, Input::HeldBack, None);
+    turns[2] = turn(real, Input::HeldBack, Some(20));
+    turns[3] = turn(real, Input::HeldBack, None);
+    turns[4] = turn(real, Input::HeldBack, Some(1_000_000_000));
+    Some(turns)
+}
+
 fn two_children(rt: &HostRuntime) -> Option<[u8; 5]> {
     let mut real = real(rt, -1)?;
-    start(rt.alloc(), &mut real, b"s", "sleep 2; echo")?;
-    start(rt.alloc(), &mut real, b"q", "echo")?;
-    let mut turns = [0; 5];
-    turns[0] = turn(&mut real, Input::HeldBack, None);
-    turns[1] = turn(&mut real, Input::HeldBack, None);
-    turns[2] = turn(&mut real, Input::HeldBack, Some(20));
-    turns[3] = turn(&mut real, Input::HeldBack, None);
-    turns[4] = turn(&mut real, Input::HeldBack, Some(1_000_000_000));
-    Some(turns)
+    turns_of_two(rt.alloc(), &mut real)
 }
 
 // The quick one is told first, its end at once though nothing was asked of it, and the slow one behind that.
@@ -93,12 +97,16 @@ fn alternating(real: &mut Real<'_>) -> u32 {
     pieces
 }
 
-fn flooded(rt: &HostRuntime) -> Option<u32> {
-    let mut real = real(rt, -1)?;
-    start(rt.alloc(), &mut real, b"f", "yes")?;
-    let pieces = alternating(&mut real);
+fn pieces_of_flood(alloc: Global, real: &mut Real<'_>) -> Option<u32> {
+    start(alloc, real, b"f", "yes")?;
+    let pieces = alternating(real);
     real.stop(Name::new(b"f")?, 1).ok()?;
     Some(pieces)
+}
+
+fn flooded(rt: &HostRuntime) -> Option<u32> {
+    let mut real = real(rt, -1)?;
+    pieces_of_flood(rt.alloc(), &mut real)
 }
 
 #[test]
@@ -108,21 +116,25 @@ fn a_flood_and_lines_take_turns(rt: HostRuntime) {
 
 // The turns of children that are all at their end before the first watch, the last of which is stopped when
 // the two others had a turn each.
-fn three_children(rt: &HostRuntime) -> Option<[u8; 6]> {
-    let mut real = real(rt, -1)?;
+fn turns_of_three(rt: &HostRuntime, real: &mut Real<'_>) -> Option<[u8; 6]> {
     for name in [b"a", b"b", b"c"] {
-        start(rt.alloc(), &mut real, name, "echo")?;
+        start(rt.alloc(), real, name, "echo")?;
     }
     sleep(rt, Duration::from_secs(2));
     let mut turns = [0; 6];
-    turns[0] = turn(&mut real, Input::HeldBack, None);
-    turns[1] = turn(&mut real, Input::HeldBack, None);
+    turns[0] = turn(real, Input::HeldBack, None);
+    turns[1] = turn(real, Input::HeldBack, None);
     real.stop(Name::new(b"c")?, 1).ok()?;
-    turns[2] = turn(&mut real, Input::HeldBack, None);
-    turns[3] = turn(&mut real, Input::HeldBack, None);
-    turns[4] = turn(&mut real, Input::HeldBack, Some(0));
-    turns[5] = turn(&mut real, Input::Ready, None);
+    turns[2] = turn(real, Input::HeldBack, None);
+    turns[3] = turn(real, Input::HeldBack, None);
+    turns[4] = turn(real, Input::HeldBack, Some(0));
+    turns[5] = turn(real, Input::Ready, None);
     Some(turns)
+}
+
+fn three_children(rt: &HostRuntime) -> Option<[u8; 6]> {
+    let mut real = real(rt, -1)?;
+    turns_of_three(rt, &mut real)
 }
 
 // Each has its turn before any has a second, and one that was stopped has none; a line that is there already
@@ -149,17 +161,26 @@ fn line(real: &mut Real<'_>, lines: &mut InputLines<PipeReader>) -> Option<u8> {
     None
 }
 
-fn piped(rt: &HostRuntime) -> Option<[u8; 3]> {
-    let (reader, mut writer) = pipe(rt).ok()?;
-    let mut real = real(rt, reader.as_raw_fd())?;
-    let mut lines = InputLines::new(rt.alloc(), reader).ok()?;
+fn lines_of(
+    real: &mut Real<'_>,
+    lines: &mut InputLines<PipeReader>,
+    writer: PipeWriter,
+) -> Option<[u8; 3]> {
+    let mut writer = writer;
     writer.write_all(b"one\ntw").ok()?;
-    let first = line(&mut real, &mut lines)?;
+    let first = line(real, lines)?;
     writer.write_all(b"o").ok()?;
     drop(writer);
-    let second = line(&mut real, &mut lines)?;
-    let end = line(&mut real, &mut lines)?;
+    let second = line(real, lines)?;
+    let end = line(real, lines)?;
     Some([first, second, end])
+}
+
+fn piped(rt: &HostRuntime) -> Option<[u8; 3]> {
+    let (reader, writer) = pipe(rt).ok()?;
+    let mut real = real(rt, reader.as_raw_fd())?;
+    let mut lines = InputLines::new(rt.alloc(), reader).ok()?;
+    lines_of(&mut real, &mut lines, writer)
 }
 
 // The line is there before the next is written, and the end of the input is told.

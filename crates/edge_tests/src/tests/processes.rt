@@ -67,66 +67,109 @@ fn received<R: process::Processes + Drop>(children: &mut Processes<R>) -> Option
 
 const WORDS: [&str; 4] = ["p", "one", "two", "three"];
 
+// Whether a child that starts gets so many words, and pipes on its input and output.
+fn is_started(alloc: Global, calls: &Calls) -> bool {
+    let mut children = Processes::new(calls.runtime(), alloc);
+    let is_started = starts(alloc, &mut children, &WORDS);
+    is_started && calls.words.get() == 3 && calls.pipes.get()
+}
+
 #[test]
 fn a_child_gets_its_words_and_its_pipes(rt: HostRuntime) {
     let calls = Calls::none(rt.alloc());
-    let mut children = Processes::new(calls.runtime(), rt.alloc());
-    assert!(rt; starts(rt.alloc(), &mut children, &WORDS));
-    assert!(rt; calls.words.get() == 3 && calls.pipes.get());
+    assert!(rt; is_started(rt.alloc(), &calls));
+}
+
+// Whether the started life alone gets its line, all of it, and none where its input is closed.
+fn is_sent(alloc: Global, calls: &Calls) -> bool {
+    let mut children = Processes::new(calls.runtime(), alloc);
+    let is_started = starts(alloc, &mut children, &WORDS);
+    let to_it = (sends(&mut children, 1), calls.sent.get());
+    let to_another = (sends(&mut children, 2), calls.sent.get());
+    calls.closed.set(true);
+    let to_closed = sends(&mut children, 1);
+    is_started && to_it == (true, 5) && to_another == (false, 5) && !to_closed
 }
 
 #[test]
 fn a_life_gets_all_that_is_sent_to_it(rt: HostRuntime) {
     let calls = Calls::none(rt.alloc());
-    let mut children = Processes::new(calls.runtime(), rt.alloc());
-    assert!(rt; starts(rt.alloc(), &mut children, &WORDS));
-    assert!(rt; sends(&mut children, 1) && calls.sent.get() == 5);
-    assert!(rt; !sends(&mut children, 2) && calls.sent.get() == 5);
-    calls.closed.set(true);
-    assert!(rt; !sends(&mut children, 1));
+    assert!(rt; is_sent(rt.alloc(), &calls));
+}
+
+// What is received of a child whose next reads are interrupted so many times.
+fn received_behind(alloc: Global, calls: &Calls, interrupts: u32) -> Option<usize> {
+    let mut children = Processes::new(calls.runtime(), alloc);
+    let is_started = starts(alloc, &mut children, &WORDS);
+    calls.interrupts.set(interrupts);
+    let received = received(&mut children);
+    if is_started { received } else { None }
 }
 
 #[test]
 fn a_read_is_tried_again_a_thousand_times(rt: HostRuntime) {
     let calls = Calls::none(rt.alloc());
-    let mut children = Processes::new(calls.runtime(), rt.alloc());
-    assert!(rt; starts(rt.alloc(), &mut children, &WORDS));
     for (interrupts, piece) in [(0, Some(65_536)), (1_000, Some(65_536)), (1_001, None)] {
-        calls.interrupts.set(interrupts);
-        assert!(rt; received(&mut children) == piece, "{interrupts} times");
+        assert!(rt;
+            received_behind(rt.alloc(), &calls, interrupts) == piece,
+            "{interrupts} times"
+        );
     }
+}
+
+// Whether a stop kills the child of this life and waits for it, and then nothing is left of it.
+fn is_stopped(alloc: Global, calls: &Calls) -> bool {
+    let mut children = Processes::new(calls.runtime(), alloc);
+    let is_started = starts(alloc, &mut children, &WORDS);
+    let another = (stops(&mut children, 2), calls.kills.get());
+    let it = (stops(&mut children, 1), calls.kills.get(), calls.ends.get());
+    let again = stops(&mut children, 1);
+    let is_forgotten = received(&mut children).is_none();
+    is_started && another == (false, 0) && it == (true, 1, 1) && !again && is_forgotten
 }
 
 #[test]
 fn a_stop_kills_and_waits_and_forgets(rt: HostRuntime) {
     let calls = Calls::none(rt.alloc());
-    let mut children = Processes::new(calls.runtime(), rt.alloc());
-    assert!(rt; starts(rt.alloc(), &mut children, &WORDS));
-    assert!(rt; !stops(&mut children, 2) && calls.kills.get() == 0);
-    assert!(rt; stops(&mut children, 1));
-    assert!(rt; calls.kills.get() == 1 && calls.ends.get() == 1);
-    assert!(rt; !stops(&mut children, 1) && received(&mut children).is_none());
+    assert!(rt; is_stopped(rt.alloc(), &calls));
 }
 
-// A child whose start takes all memory is kept all the same, so it can be stopped.
+// Whether a child whose start takes all memory is started, and can be stopped.
+fn is_kept(alloc: Global, calls: &Calls) -> bool {
+    let mut children = Processes::new(calls.runtime(), alloc);
+    calls.memory.set(Some(alloc));
+    let is_started = starts(alloc, &mut children, &WORDS);
+    calls.held.set(Vec::new(alloc));
+    let is_stopped = stops(&mut children, 1);
+    is_started && calls.starts.get() == 1 && is_stopped
+}
+
 #[test]
 fn the_place_of_a_child_is_made_before_it_runs(rt: HostRuntime) {
     let calls = Calls::none(rt.alloc());
-    calls.memory.set(Some(rt.alloc()));
-    let mut children = Processes::new(calls.runtime(), rt.alloc());
-    let is_started = starts(rt.alloc(), &mut children, &WORDS);
-    calls.held.set(Vec::new(rt.alloc()));
-    assert!(rt; is_started && calls.starts.get() == 1);
-    assert!(rt; stops(&mut children, 1));
+    assert!(rt; is_kept(rt.alloc(), &calls));
 }
 
 // How many of so many lives are started, and get a line each once all are.
-fn lives(alloc: Global, children: &mut Processes<Runtime<'_>>, count: u32) -> u32 {
+fn lives(alloc: Global, calls: &Calls, count: u32) -> u32 {
+    let mut children = Processes::new(calls.runtime(), alloc);
+    if are_started(alloc, &mut children, count) {
+        are_sent(&mut children, count)
+    } else {
+        0
+    }
+}
+
+fn are_started(alloc: Global, children: &mut Processes<Runtime<'_>>, count: u32) -> bool {
     for life in 0..count {
         if !starts_as(alloc, children, &WORDS, life) {
-            return 0;
+            return false;
         }
     }
+    true
+}
+
+fn are_sent(children: &mut Processes<Runtime<'_>>, count: u32) -> u32 {
     let mut lives = 0u32;
     for life in 0..count {
         if sends(children, life) {
@@ -139,7 +182,6 @@ fn lives(alloc: Global, children: &mut Processes<Runtime<'_>>, count: u32) -> u3
 #[test]
 fn sixty_four_children_run_at_a_time(rt: HostRuntime) {
     let calls = Calls::none(rt.alloc());
-    let mut children = Processes::new(calls.runtime(), rt.alloc());
-    assert!(rt; lives(rt.alloc(), &mut children, 64) == 64);
+    assert!(rt; lives(rt.alloc(), &calls, 64) == 64);
     assert!(rt; calls.starts.get() == 64 && calls.sent.get() == 320);
 }

@@ -6,7 +6,6 @@ use sheet_text::{
     LineFault, ScriptLine, block_text, read_line, reply_text, sheet_text, spelled_text, tree_text,
 };
 use std::alloc::Global;
-use std::test::Fail;
 use tests_desk::exhausted;
 use worksheet::{Op, Refusal, Sheet};
 
@@ -91,20 +90,24 @@ const TEXT: &[u8] =
     b"{verbatim:{prompt#a\\x09b\\x7f\\x0a}\"}{prompt#a\tb\\x7f\n}\"#3 a\n> x\nA\n#2 a\n> y\n?\n#1 a\n> z\n?\nfield 7\nrefused 17 OutOfMemory\n";
 
 // Whether lines are read and these texts are written while no memory is left.
-fn take_no_memory(alloc: Global, output: &Block, sheet: &Sheet) -> Result<bool, Fail> {
-    let mut out: Vec<u8> = Vec::with_capacity(alloc, 1_000)?;
-    let held = exhausted(alloc)?;
+fn take_no_memory(alloc: Global, output: &Block, sheet: &Sheet) -> Option<bool> {
+    let mut out: Vec<u8> = Vec::with_capacity(alloc, 1_000).ok()?;
+    let held = exhausted(alloc).ok()?;
     let done = are_read(alloc) && are_written(output, sheet, &mut out);
     drop(held);
-    Ok(done && out.as_slice() == TEXT)
+    Some(done && out.as_slice() == TEXT)
+}
+
+// The same of the texts of a worksheet and an output.
+fn are_texts_written(alloc: Global) -> Option<bool> {
+    let output = block(alloc, b"\x02verbatim:\x02prompt#a\tb\x7f\n\x05\"\x05").ok()?;
+    let sheet = filled(alloc).ok()?;
+    take_no_memory(alloc, &output, &sheet)
 }
 
 #[test]
-fn texts_take_no_memory(rt: HostRuntime) -> Result<(), Fail> {
-    let output = block(rt.alloc(), b"\x02verbatim:\x02prompt#a\tb\x7f\n\x05\"\x05")?;
-    let sheet = filled(rt.alloc())?;
-    assert!(rt; take_no_memory(rt.alloc(), &output, &sheet)?);
-    Ok(())
+fn texts_take_no_memory(rt: HostRuntime) {
+    assert!(rt; are_texts_written(rt.alloc()) == Some(true));
 }
 
 const SPELLING: &[u8] = b"\x02verbatim:a\tb\x1b\x05\x1b\x1b\x1b[\x02prompt#> \x7f\x05\x05";
@@ -112,20 +115,17 @@ const SPELLING: &[u8] = b"\x02verbatim:a\tb\x1b\x05\x1b\x1b\x1b[\x02prompt#> \x7
 const SPELLED: &[u8] = b"{verbatim:a\\x09b\\x05\\x1b\\x1b[{prompt#> \\x7f}}";
 
 // Whether the block is written from its bytes while no memory is left.
-fn is_written_from_bytes(alloc: Global) -> Result<bool, Fail> {
-    let Ok(block) = read_block(alloc, SPELLING) else {
-        return Ok(false);
-    };
-    let mut out: Vec<u8> = Vec::with_capacity(alloc, 100)?;
-    let held = exhausted(alloc)?;
+fn is_written_from_bytes(alloc: Global) -> Option<bool> {
+    let block = read_block(alloc, SPELLING).ok()?;
+    let mut out: Vec<u8> = Vec::with_capacity(alloc, 100).ok()?;
+    let held = exhausted(alloc).ok()?;
     let done = spelled_text(SPELLING, &mut out).is_ok();
     drop(held);
     drop(block);
-    Ok(done && out.as_slice() == SPELLED)
+    Some(done && out.as_slice() == SPELLED)
 }
 
 #[test]
-fn a_spelling_takes_no_memory(rt: HostRuntime) -> Result<(), Fail> {
-    assert!(rt; is_written_from_bytes(rt.alloc())?);
-    Ok(())
+fn a_spelling_takes_no_memory(rt: HostRuntime) {
+    assert!(rt; is_written_from_bytes(rt.alloc()) == Some(true));
 }

@@ -3,35 +3,44 @@ use disk_model::{
     Area, Choice, Disk, DiskFault, Fill, FuseDisk, FuseMode, GREATEST_ROOM, MemoryDisk,
 };
 use std::alloc::Global;
-use std::test::Fail;
 use tests_desk::exhausted;
 
 // Four bytes on the disk, and two more written over the last of them and past the end.
-fn half_written(alloc: Global) -> Result<MemoryDisk, Fail> {
+fn half_written(alloc: Global) -> Option<MemoryDisk> {
     let mut disk = MemoryDisk::new(alloc, 16);
-    disk.write_at(Area::First, 0, b"abcd").map_err(|_| "write")?;
-    disk.sync(Area::First).map_err(|_| "sync")?;
-    disk.write_at(Area::First, 3, b"XY").map_err(|_| "write")?;
-    Ok(disk)
+    disk.write_at(Area::First, 0, b"abcd").ok()?;
+    disk.sync(Area::First).ok()?;
+    disk.write_at(Area::First, 3, b"XY").ok()?;
+    Some(disk)
 }
 
-fn crashed(disk: &MemoryDisk, choice: &Choice) -> Result<MemoryDisk, Fail> {
+fn crashed(disk: &MemoryDisk, choice: &Choice) -> Option<MemoryDisk> {
     if choice.moment > disk.calls() {
-        return Err("no such moment".into());
+        return None;
     }
-    Ok(disk.crash(choice).map_err(|_| "crash")?)
+    disk.crash(choice).ok()
 }
 
-// Whether a crash leaves these bytes in area First, none in Second, and a disk that wasn't called.
-fn leaves(disk: &MemoryDisk, choice: &Choice, first: &[u8]) -> Result<bool, Fail> {
-    let image = crashed(disk, choice)?;
+// Whether area First has these bytes, Second none, and the disk wasn't called.
+fn is_image(image: &MemoryDisk, first: &[u8]) -> bool {
     let second = image.content(Area::Second);
-    Ok(image.content(Area::First) == first && second.is_empty() && image.calls() == 0)
+    image.content(Area::First) == first && second.is_empty() && image.calls() == 0
+}
+
+// Whether a crash leaves such a disk of this one.
+fn leaves(disk: Option<MemoryDisk>, choice: &Choice, first: &[u8]) -> bool {
+    let image = match &disk {
+        Some(disk) => crashed(disk, choice),
+        None => None,
+    };
+    match &image {
+        Some(image) => is_image(image, first),
+        None => false,
+    }
 }
 
 #[test]
-fn crash_fills_the_pending_range(rt: HostRuntime) -> Result<(), Fail> {
-    let disk = half_written(rt.alloc())?;
+fn crash_fills_the_pending_range(rt: HostRuntime) {
     let rows: [(Fill, bool, &[u8]); 10] = [
         (Fill::Old, true, b"abcd\0"),
         (Fill::Old, false, b"abcd"),
@@ -50,14 +59,15 @@ fn crash_fills_the_pending_range(rt: HostRuntime) -> Result<(), Fail> {
             fill,
             grown,
         };
-        assert!(rt; leaves(&disk, &choice, first)?, "{fill:?} {grown}");
+        assert!(rt;
+            leaves(half_written(rt.alloc()), &choice, first),
+            "{fill:?} {grown}"
+        );
     }
-    Ok(())
 }
 
 #[test]
-fn crash_at_an_earlier_moment(rt: HostRuntime) -> Result<(), Fail> {
-    let disk = half_written(rt.alloc())?;
+fn crash_at_an_earlier_moment(rt: HostRuntime) {
     let rows: [(u64, &[u8]); 4] = [(0, b""), (1, b"abcd"), (2, b"abcd"), (3, b"abcXY")];
     for (moment, first) in rows {
         let choice = Choice {
@@ -65,36 +75,30 @@ fn crash_at_an_earlier_moment(rt: HostRuntime) -> Result<(), Fail> {
             fill: Fill::New,
             grown: true,
         };
-        assert!(rt; leaves(&disk, &choice, first)?, "moment {moment}");
+        assert!(rt;
+            leaves(half_written(rt.alloc()), &choice, first),
+            "moment {moment}"
+        );
     }
-    Ok(())
 }
 
 // Six bytes, and two writes over them that no sync follows.
-fn written_over(alloc: Global) -> Result<MemoryDisk, Fail> {
-    let first = b"abcdef".as_slice().to_vec(alloc)?;
-    let Ok(mut disk) = MemoryDisk::holding(alloc, 16, first) else {
-        return Err("holding".into());
-    };
-    if disk.write_at(Area::First, 1, b"123").is_err() {
-        return Err("write".into());
-    }
-    if disk.write_at(Area::First, 0, b"XYZ").is_err() {
-        return Err("write".into());
-    }
-    Ok(disk)
+fn written_over(alloc: Global) -> Option<MemoryDisk> {
+    let first = b"abcdef".as_slice().to_vec(alloc).ok()?;
+    let mut disk = MemoryDisk::holding(alloc, 16, first).ok()?;
+    let one = disk.write_at(Area::First, 1, b"123").is_ok();
+    let other = disk.write_at(Area::First, 0, b"XYZ").is_ok();
+    if one && other { Some(disk) } else { None }
 }
 
 #[test]
-fn crash_keeps_what_earlier_writes_left(rt: HostRuntime) -> Result<(), Fail> {
-    let disk = written_over(rt.alloc())?;
+fn crash_keeps_what_earlier_writes_left(rt: HostRuntime) {
     let choice = Choice {
         moment: 2,
         fill: Fill::Torn(2),
         grown: true,
     };
-    assert!(rt; leaves(&disk, &choice, b"XY2def")?);
-    Ok(())
+    assert!(rt; leaves(written_over(rt.alloc()), &choice, b"XY2def"));
 }
 
 // Which of three calls answer Ok, and how many of them reach the disk inside.
@@ -109,107 +113,124 @@ fn spent(alloc: Global, k: u64, mode: FuseMode) -> ([bool; 3], u64) {
 #[test]
 fn fuse_fails_from_the_kth_call_on(rt: HostRuntime) {
     let alloc = rt.alloc();
-    assert_eq!(rt; spent(alloc, 0, FuseMode::From), ([false, false, false], 0));
-    assert_eq!(rt; spent(alloc, 2, FuseMode::From), ([true, false, false], 1));
-    assert_eq!(rt; spent(alloc, 4, FuseMode::From), ([true, true, true], 3));
+    assert!(rt; spent(alloc, 0, FuseMode::From) == ([false, false, false], 0));
+    assert!(rt; spent(alloc, 2, FuseMode::From) == ([true, false, false], 1));
+    assert!(rt; spent(alloc, 4, FuseMode::From) == ([true, true, true], 3));
 }
 
 #[test]
 fn fuse_fails_the_kth_call_alone(rt: HostRuntime) {
     let alloc = rt.alloc();
-    assert_eq!(rt; spent(alloc, 0, FuseMode::Only), ([true, true, true], 3));
-    assert_eq!(rt; spent(alloc, 1, FuseMode::Only), ([false, true, true], 2));
-    assert_eq!(rt; spent(alloc, 3, FuseMode::Only), ([true, true, false], 2));
+    assert!(rt; spent(alloc, 0, FuseMode::Only) == ([true, true, true], 3));
+    assert!(rt; spent(alloc, 1, FuseMode::Only) == ([false, true, true], 2));
+    assert!(rt; spent(alloc, 3, FuseMode::Only) == ([true, true, false], 2));
 }
 
 // A disk with a write that no sync follows, behind a fuse that never blows.
-fn behind_a_fuse(alloc: Global) -> Result<FuseDisk<MemoryDisk>, Fail> {
-    Ok(FuseDisk::new(half_written(alloc)?, 0, FuseMode::Only))
+fn behind_a_fuse(alloc: Global) -> Option<FuseDisk<MemoryDisk>> {
+    Some(FuseDisk::new(half_written(alloc)?, 0, FuseMode::Only))
+}
+
+// Whether a crash at the last moment leaves these bytes in area First.
+fn leaves_first(disk: &MemoryDisk, fill: Fill, grown: bool, first: &[u8]) -> bool {
+    let choice = Choice {
+        moment: disk.calls(),
+        fill,
+        grown,
+    };
+    match crashed(disk, &choice) {
+        Some(image) => image.content(Area::First) == first,
+        None => false,
+    }
 }
 
 // Whether so many calls are on record, and a crash still leaves the pending write or not.
-fn is_still_pending(disk: FuseDisk<MemoryDisk>, calls: u64) -> Result<bool, Fail> {
-    let disk = disk.into_inner();
-    let mut choice = Choice {
-        moment: calls,
-        fill: Fill::Old,
-        grown: false,
-    };
-    let without = crashed(&disk, &choice)?;
-    choice.fill = Fill::New;
-    choice.grown = true;
-    let with = crashed(&disk, &choice)?;
-    Ok(
-        disk.calls() == calls
-            && without.content(Area::First) == b"abcd".as_slice()
-            && with.content(Area::First) == b"abcXY".as_slice(),
-    )
+fn is_still_pending(disk: Option<FuseDisk<MemoryDisk>>, calls: u64) -> bool {
+    match disk {
+        Some(disk) => is_pending_behind(&disk.into_inner(), calls),
+        None => false,
+    }
+}
+
+fn is_pending_behind(disk: &MemoryDisk, calls: u64) -> bool {
+    disk.calls() == calls
+        && leaves_first(disk, Fill::Old, false, b"abcd")
+        && leaves_first(disk, Fill::New, true, b"abcXY")
 }
 
 // The same after each of the four calls.
-fn looked(alloc: Global) -> Result<FuseDisk<MemoryDisk>, Fail> {
+fn looked(alloc: Global) -> Option<FuseDisk<MemoryDisk>> {
     let mut disk = behind_a_fuse(alloc)?;
-    match disk.len(Area::First) {
-        Ok(5) => Ok(disk),
-        _ => Err("another length".into()),
+    if disk.len(Area::First) == Ok(5) {
+        Some(disk)
+    } else {
+        None
     }
 }
 
-fn read(alloc: Global) -> Result<FuseDisk<MemoryDisk>, Fail> {
-    let mut disk = behind_a_fuse(alloc)?;
+// What the first four bytes are, where there are so many.
+fn first_four(disk: &mut FuseDisk<MemoryDisk>) -> Option<[u8; 4]> {
     let mut buffer = [0u8; 4];
     match disk.len(Area::First) {
         Ok(len) if len >= 4 => {}
-        _ => return Err("short".into()),
+        _ => return None,
     }
-    if disk.read(Area::First, 0, &mut buffer).is_err() || buffer != *b"abcX" {
-        return Err("other bytes".into());
-    }
-    Ok(disk)
+    disk.read(Area::First, 0, &mut buffer).ok()?;
+    Some(buffer)
 }
 
-fn written(alloc: Global) -> Result<FuseDisk<MemoryDisk>, Fail> {
+fn read(alloc: Global) -> Option<FuseDisk<MemoryDisk>> {
     let mut disk = behind_a_fuse(alloc)?;
-    if disk.room() < 1 {
-        return Err("no room".into());
-    }
-    match disk.write_at(Area::Second, 0, b"a") {
-        Ok(()) => Ok(disk),
-        Err(_) => Err("write".into()),
+    if first_four(&mut disk) == Some(*b"abcX") {
+        Some(disk)
+    } else {
+        None
     }
 }
 
-fn synced(alloc: Global) -> Result<FuseDisk<MemoryDisk>, Fail> {
+fn written(alloc: Global) -> Option<FuseDisk<MemoryDisk>> {
     let mut disk = behind_a_fuse(alloc)?;
-    match disk.sync(Area::Second) {
-        Ok(()) => Ok(disk),
-        Err(_) => Err("sync".into()),
+    if disk.room() >= 1 && disk.write_at(Area::Second, 0, b"a").is_ok() {
+        Some(disk)
+    } else {
+        None
+    }
+}
+
+fn synced(alloc: Global) -> Option<FuseDisk<MemoryDisk>> {
+    let mut disk = behind_a_fuse(alloc)?;
+    if disk.sync(Area::Second).is_ok() {
+        Some(disk)
+    } else {
+        None
     }
 }
 
 #[test]
-fn fuse_passes_each_call_on_once(rt: HostRuntime) -> Result<(), Fail> {
+fn fuse_passes_each_call_on_once(rt: HostRuntime) {
     let alloc = rt.alloc();
-    assert!(rt; is_still_pending(looked(alloc)?, 4)?);
-    assert!(rt; is_still_pending(read(alloc)?, 5)?);
-    assert!(rt; is_still_pending(written(alloc)?, 4)?);
-    assert!(rt; is_still_pending(synced(alloc)?, 4)?);
-    Ok(())
+    assert!(rt; is_still_pending(looked(alloc), 4));
+    assert!(rt; is_still_pending(read(alloc), 5));
+    assert!(rt; is_still_pending(written(alloc), 4));
+    assert!(rt; is_still_pending(synced(alloc), 4));
 }
 
-#[test]
-fn a_record_that_cannot_grow_is_a_fault(rt: HostRuntime) -> Result<(), Fail> {
-    let alloc = rt.alloc();
+// Whether a write and a sync fail while no memory is left, and leave no call on record and the disk as it was.
+fn fails_without_memory(alloc: Global) -> Option<bool> {
     let mut disk = MemoryDisk::new(alloc, 16);
-    let held = exhausted(alloc)?;
+    let held = exhausted(alloc).ok()?;
     let written = disk.write_at(Area::First, 0, b"a").is_ok();
     let synced = disk.sync(Area::First).is_ok();
     let calls = disk.calls();
     drop(held);
-    assert_eq!(rt; (written, synced, calls), (false, false, 0));
-    assert!(rt; disk.write_at(Area::First, 0, b"a").is_ok());
-    assert_eq!(rt; disk.content(Area::First), b"a".as_slice());
-    Ok(())
+    let is_refused = !written && !synced && calls == 0;
+    let again = disk.write_at(Area::First, 0, b"a").is_ok();
+    Some(is_refused && again && disk.content(Area::First) == b"a".as_slice())
+}
+
+#[test]
+fn a_record_that_cannot_grow_is_a_fault(rt: HostRuntime) {
+    assert!(rt; fails_without_memory(rt.alloc()) == Some(true));
 }
 
 // A disk of which nothing is claimed but its count of failures, as a real file is.
@@ -260,31 +281,52 @@ impl Disk for Unclaimed {
     }
 }
 
-#[test]
-fn a_disk_that_keeps_no_model_is_called_anywhere(rt: HostRuntime) {
+// Which of four calls answer Ok behind a fuse that fails the third one alone.
+fn anywhere() -> [bool; 4] {
     let mut disk = FuseDisk::new(Unclaimed { faults: 0 }, 3, FuseMode::Only);
     let mut buffer = [0u8; 4];
-    assert!(rt; disk.read(Area::First, 1_000, &mut buffer).is_ok());
-    assert!(rt; disk.write_at(Area::Second, 99, b"a").is_err());
-    assert!(rt; disk.sync(Area::First).is_err());
-    assert!(rt; disk.sync(Area::First).is_ok());
+    [
+        disk.read(Area::First, 1_000, &mut buffer).is_ok(),
+        disk.write_at(Area::Second, 99, b"a").is_ok(),
+        disk.sync(Area::First).is_ok(),
+        disk.sync(Area::First).is_ok(),
+    ]
+}
+
+#[test]
+fn a_disk_that_keeps_no_model_is_called_anywhere(rt: HostRuntime) {
+    assert!(rt; anywhere() == [true, false, false, true]);
+}
+
+// Whether three reads of 4, 2 and 8 bytes answer Ok behind a fuse that fails from the third on, and the longest
+// read that is told before them and behind each.
+fn longest_reads() -> ([bool; 3], [u64; 4]) {
+    let mut disk = FuseDisk::new(Unclaimed { faults: 0 }, 3, FuseMode::From);
+    let none = disk.longest_read();
+    let four = disk.read(Area::First, 0, &mut [0u8; 4]).is_ok();
+    let of_four = disk.longest_read();
+    let two = disk.read(Area::Second, 9, &mut [0u8; 2]).is_ok();
+    let of_two = disk.longest_read();
+    let eight = disk.read(Area::First, 0, &mut [0u8; 8]).is_ok();
+    (
+        [four, two, eight],
+        [none, of_four, of_two, disk.longest_read()],
+    )
 }
 
 #[test]
 fn the_longest_read_is_told(rt: HostRuntime) {
-    let mut disk = FuseDisk::new(Unclaimed { faults: 0 }, 3, FuseMode::From);
-    assert_eq!(rt; disk.longest_read(), 0);
-    assert!(rt; disk.read(Area::First, 0, &mut [0u8; 4]).is_ok());
-    assert_eq!(rt; disk.longest_read(), 4);
-    assert!(rt; disk.read(Area::Second, 9, &mut [0u8; 2]).is_ok());
-    assert_eq!(rt; disk.longest_read(), 4);
-    assert!(rt; disk.read(Area::First, 0, &mut [0u8; 8]).is_err());
-    assert_eq!(rt; disk.longest_read(), 8);
+    assert!(rt; longest_reads() == ([true, true, false], [0, 4, 4, 8]));
+}
+
+// Whether a write fails, and the longest read behind it.
+fn longest_read_of_a_write() -> (bool, u64) {
+    let mut disk = FuseDisk::new(Unclaimed { faults: 0 }, 1, FuseMode::From);
+    let fails = disk.write_at(Area::First, 0, b"0123456789").is_err();
+    (fails, disk.longest_read())
 }
 
 #[test]
 fn a_write_is_no_read(rt: HostRuntime) {
-    let mut disk = FuseDisk::new(Unclaimed { faults: 0 }, 1, FuseMode::From);
-    assert!(rt; disk.write_at(Area::First, 0, b"0123456789").is_err());
-    assert_eq!(rt; disk.longest_read(), 0);
+    assert!(rt; longest_read_of_a_write() == (true, 0));
 }

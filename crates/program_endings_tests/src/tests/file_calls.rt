@@ -1,6 +1,6 @@
 //! The calls that a disk of two files makes on them.
+use super::made_up::{Calls, Locks, MadeUp, There};
 use disk_model::{Area, Disk};
-use files_desk::{Calls, Locks, MadeUp, There};
 use journal::CreateCause;
 use sheet_files::{FileDisk, FilesFault, MakeFault};
 use std::alloc::Global;
@@ -131,14 +131,8 @@ fn a_path_that_can_not_be_followed(rt: HostRuntime) {
     let read = "follow s\nlook for s\nopen to read s\nlock to read s\nidentify s\n\
          look for s.alt\nopen to read s.alt\nidentify s\nidentify s.alt\n";
     assert!(rt; opens_by(rt.alloc(), There::Lost, "s", here, read));
-    assert!(rt;
-        is_refused(
-            &over(rt.alloc(), There::Lost),
-            rt.alloc(),
-            "link",
-            "follow link\nlook for link\nfollow link\nlook for link\n"
-        )
-    );
+    let link = "follow link\nlook for link\nfollow link\nlook for link\n";
+    assert!(rt; is_refused_over(rt.alloc(), There::Lost, "link", link));
 }
 
 // Whether a worksheet is opened neither to write nor to read, and these are the calls.
@@ -148,15 +142,18 @@ fn is_refused(calls: &Calls, alloc: Global, path: &str, lines: &str) -> bool {
         && calls.are(lines)
 }
 
+// The same over files that are there.
+fn is_refused_over(alloc: Global, there: There, path: &str, lines: &str) -> bool {
+    is_refused(&over(alloc, there), alloc, path, lines)
+}
+
 #[test]
 fn what_is_no_plain_file_is_not_opened(rt: HostRuntime) {
     let twice = "follow s\nlook for s\nfollow s\nlook for s\n";
-    let folders = over(rt.alloc(), There::Folders);
-    assert!(rt; is_refused(&folders, rt.alloc(), "s", twice));
+    assert!(rt; is_refused_over(rt.alloc(), There::Folders, "s", twice));
     let link = "follow s\nlook for s\nopen s\nlock s\nidentify s\nlook for s.alt\n\
          follow s\nlook for s\nopen to read s\nlock to read s\nidentify s\nlook for s.alt\n";
-    let second = over(rt.alloc(), There::SecondLink);
-    assert!(rt; is_refused(&second, rt.alloc(), "s", link));
+    assert!(rt; is_refused_over(rt.alloc(), There::SecondLink, "s", link));
 }
 
 // The calls of two openings that come to the first file alone.
@@ -183,14 +180,24 @@ fn a_file_with_two_names_or_none_is_refused(rt: HostRuntime) {
     assert!(rt; names_are_refused(rt.alloc(), (1, 2), BOTH));
 }
 
+// Whether files are refused that are one.
+fn one_file_is_refused(alloc: Global) -> bool {
+    let calls = over(alloc, There::All);
+    calls.numbers.set((8, 8));
+    is_refused(&calls, alloc, "s", BOTH)
+}
+
+// Whether files are refused that are no plain ones once they are opened.
+fn no_plain_file_is_refused(alloc: Global) -> bool {
+    let calls = over(alloc, There::All);
+    calls.plain.set(false);
+    is_refused(&calls, alloc, "s", FIRST_ALONE)
+}
+
 #[test]
 fn a_second_file_that_is_the_first_one_is_refused(rt: HostRuntime) {
-    let calls = over(rt.alloc(), There::All);
-    calls.numbers.set((8, 8));
-    assert!(rt; is_refused(&calls, rt.alloc(), "s", BOTH));
-    let other = over(rt.alloc(), There::All);
-    other.plain.set(false);
-    assert!(rt; is_refused(&other, rt.alloc(), "s", FIRST_ALONE));
+    assert!(rt; one_file_is_refused(rt.alloc()));
+    assert!(rt; no_plain_file_is_refused(rt.alloc()));
 }
 
 // Whether each opening tells that another has the worksheet, and these are the calls.
@@ -200,22 +207,30 @@ fn are_in_use(calls: &Calls, alloc: Global, lines: &str) -> bool {
         && calls.are(lines)
 }
 
+// Whether a worksheet that is there is left to the one who has it.
+fn is_left_alone(alloc: Global) -> bool {
+    let calls = over(alloc, There::All);
+    calls.locks.set(Locks::Taken);
+    are_in_use(
+        &calls,
+        alloc,
+        "follow s\nlook for s\nopen s\nlock s\n\
+         follow s\nlook for s\nopen to read s\nlock to read s\n",
+    )
+}
+
+// The same of one that is made.
+fn is_not_made(alloc: Global) -> bool {
+    let calls = Calls::new(alloc);
+    calls.locks.set(Locks::Taken);
+    creates(&calls, alloc, "s") == Err(MakeFault::InUse)
+        && calls.are("look for s\nlook for s.alt\nmake s\nlock s\n")
+}
+
 #[test]
 fn a_worksheet_that_another_has_is_left_alone(rt: HostRuntime) {
-    let calls = over(rt.alloc(), There::All);
-    calls.locks.set(Locks::Taken);
-    assert!(rt;
-        are_in_use(
-            &calls,
-            rt.alloc(),
-            "follow s\nlook for s\nopen s\nlock s\n\
-         follow s\nlook for s\nopen to read s\nlock to read s\n"
-        )
-    );
-    let empty = Calls::new(rt.alloc());
-    empty.locks.set(Locks::Taken);
-    assert!(rt; creates(&empty, rt.alloc(), "s") == Err(MakeFault::InUse));
-    assert!(rt; empty.are("look for s\nlook for s.alt\nmake s\nlock s\n"));
+    assert!(rt; is_left_alone(rt.alloc()));
+    assert!(rt; is_not_made(rt.alloc()));
 }
 
 // Whether worksheets are made and opened where the file system has no locks.
@@ -235,14 +250,19 @@ fn a_file_system_without_locks(rt: HostRuntime) {
     assert!(rt; goes_on_without_locks(rt.alloc()));
 }
 
+// What comes of a worksheet that is made, and of one that is opened, where each sync fails.
+fn stuck(alloc: Global) -> (Result<(), MakeFault>, Result<(), FilesFault>) {
+    let calls = Calls::new(alloc);
+    calls.stuck.set(Some(ErrorKind::Other));
+    let made = creates(&calls, alloc, "w/sheet");
+    calls.there.set(There::First);
+    (made, opens(&calls, alloc, "w/sheet"))
+}
+
 #[test]
 fn a_sync_that_fails_makes_no_worksheet(rt: HostRuntime) {
-    let calls = Calls::new(rt.alloc());
-    calls.stuck.set(Some(ErrorKind::Other));
     let failed = Err(MakeFault::Create(CreateCause::Disk));
-    assert!(rt; creates(&calls, rt.alloc(), "w/sheet") == failed);
-    calls.there.set(There::First);
-    assert!(rt; opens(&calls, rt.alloc(), "w/sheet") == Err(FilesFault::Disk));
+    assert!(rt; stuck(rt.alloc()) == (failed, Err(FilesFault::Disk)));
 }
 
 // Whether the calls of this area are these, behind those of an opening, and each works.

@@ -1,12 +1,10 @@
 //! The two files of a worksheet, in folders of the tests' own.
 use super::programs::shows_path;
-use files_desk::has;
 use journal::CreateCause;
 use program_endings::{Ending, run_create};
 use sheet_files::{FileDisk, FilesFault, MakeFault};
 use std::fs::{File, Permissions};
 use std::os::unix::fs::{PermissionsExt, symlink};
-use std::test::Fail;
 use std::{fs, io};
 
 // What `create` lays on area First.
@@ -40,6 +38,18 @@ fn reads(rt: &HostRuntime, path: &str) -> Result<(), FilesFault> {
     }
 }
 
+// Whether the file has these bytes.
+fn has(rt: &HostRuntime, path: &str, bytes: &[u8]) -> bool {
+    match fs::read(rt, path) {
+        Ok(found) => found.as_slice() == bytes,
+        Err(_) => false,
+    }
+}
+
+fn is_done(done: io::Result<()>) -> bool {
+    done.is_ok()
+}
+
 fn is_there(rt: &HostRuntime, path: &str) -> bool {
     fs::symlink_metadata(rt, path).is_ok()
 }
@@ -53,8 +63,8 @@ fn create_ends(rt: &HostRuntime, path: &str, status: u8, said: &[u8]) -> bool {
 }
 
 #[test]
-fn create_makes_both_files(rt: HostRuntime) -> Result<(), Fail> {
-    folder(&rt, "create_makes_both_files")?;
+fn create_makes_both_files(rt: HostRuntime) {
+    assert!(rt; is_done(folder(&rt, "create_makes_both_files")));
     let path = "create_makes_both_files/sheet";
     assert!(rt; create_ends(&rt, path, 0, b""));
     assert!(rt; has(&rt, path, EMPTY_SHEET));
@@ -63,8 +73,7 @@ fn create_makes_both_files(rt: HostRuntime) -> Result<(), Fail> {
     // A second time it is refused, and nothing is changed.
     assert!(rt; create_ends(&rt, path, 1, b"fault 34 NotEmpty\n"));
     assert!(rt; has(&rt, path, EMPTY_SHEET));
-    fs::remove_dir_all(&rt, "create_makes_both_files")?;
-    Ok(())
+    assert!(rt; is_done(fs::remove_dir_all(&rt, "create_makes_both_files")));
 }
 
 // Files, folders and links that are there, for what is not created.
@@ -84,8 +93,8 @@ fn is_not_created(rt: &HostRuntime, path: &str, missing: &str) -> bool {
 }
 
 #[test]
-fn what_is_there_is_not_created(rt: HostRuntime) -> Result<(), Fail> {
-    make_things(&rt)?;
+fn what_is_there_is_not_created(rt: HostRuntime) {
+    assert!(rt; is_done(make_things(&rt)));
     for (path, missing) in [
         ("not_created/first", "not_created/first.alt"),
         ("not_created/second", "not_created/second"),
@@ -98,14 +107,13 @@ fn what_is_there_is_not_created(rt: HostRuntime) -> Result<(), Fail> {
     }
     assert!(rt; !is_there(&rt, "not_created/nowhere"));
     assert!(rt; has(&rt, "not_created/first", b"x"));
-    fs::remove_dir_all(&rt, "not_created")?;
-    Ok(())
+    assert!(rt; is_done(fs::remove_dir_all(&rt, "not_created")));
 }
 
 #[test]
-fn what_can_not_be_made_is_a_fault_of_the_disk(rt: HostRuntime) -> Result<(), Fail> {
-    folder(&rt, "not_made")?;
-    fs::write(&rt, "not_made/file", b"x".as_slice())?;
+fn what_can_not_be_made_is_a_fault_of_the_disk(rt: HostRuntime) {
+    assert!(rt; is_done(folder(&rt, "not_made")));
+    assert!(rt; is_done(fs::write(&rt, "not_made/file", b"x".as_slice())));
     let failed = Err(MakeFault::Create(CreateCause::Disk));
     for path in [
         "",
@@ -117,8 +125,7 @@ fn what_can_not_be_made_is_a_fault_of_the_disk(rt: HostRuntime) -> Result<(), Fa
     }
     assert!(rt; !is_there(&rt, ".alt") && !is_there(&rt, "not_made/none"));
     assert!(rt; has(&rt, "not_made/file", b"x"));
-    fs::remove_dir_all(&rt, "not_made")?;
-    Ok(())
+    assert!(rt; is_done(fs::remove_dir_all(&rt, "not_made")));
 }
 
 // Whether the worksheet is opened, and has this second file then.
@@ -143,29 +150,27 @@ fn is_given_another(rt: &HostRuntime, first: &[u8]) -> bool {
 }
 
 #[test]
-fn a_second_file_that_was_lost_is_not_made(rt: HostRuntime) -> Result<(), Fail> {
-    folder(&rt, "second_lost")?;
+fn a_second_file_that_was_lost_is_not_made(rt: HostRuntime) {
+    assert!(rt; is_done(folder(&rt, "second_lost")));
     assert!(rt; is_refused_with(&rt, b"TMWSHEET\x01B\0"));
     assert!(rt; is_refused_with(&rt, b"TMWSHEET\x01BR"));
     assert!(rt; is_given_another(&rt, b"TMWSHEET\x01B"));
     assert!(rt; is_given_another(&rt, b"TMWSHEET\x01C\0"));
     assert!(rt; is_given_another(&rt, b"TMWSHEET\x02B\0"));
-    fs::remove_dir_all(&rt, "second_lost")?;
-    Ok(())
+    assert!(rt; is_done(fs::remove_dir_all(&rt, "second_lost")));
 }
 
 #[test]
-fn a_missing_second_file_is_made(rt: HostRuntime) -> Result<(), Fail> {
-    folder(&rt, "second_made")?;
-    fs::write(&rt, "second_made/sheet", EMPTY_SHEET)?;
+fn a_missing_second_file_is_made(rt: HostRuntime) {
+    assert!(rt; is_done(folder(&rt, "second_made")));
+    assert!(rt; is_done(fs::write(&rt, "second_made/sheet", EMPTY_SHEET)));
     assert!(rt; opens_with(&rt, b""));
     assert!(rt; has(&rt, "second_made/sheet", EMPTY_SHEET));
 
     // One that is there is left as it is.
-    fs::write(&rt, "second_made/sheet.alt", b"y".as_slice())?;
+    assert!(rt; is_done(fs::write(&rt, "second_made/sheet.alt", b"y".as_slice())));
     assert!(rt; opens_with(&rt, b"y"));
-    fs::remove_dir_all(&rt, "second_made")?;
-    Ok(())
+    assert!(rt; is_done(fs::remove_dir_all(&rt, "second_made")));
 }
 
 // Things that are no worksheet.
@@ -178,8 +183,8 @@ fn make_no_sheets(rt: &HostRuntime) -> io::Result<()> {
 }
 
 #[test]
-fn what_can_not_be_opened_is_a_fault_of_the_disk(rt: HostRuntime) -> Result<(), Fail> {
-    make_no_sheets(&rt)?;
+fn what_can_not_be_opened_is_a_fault_of_the_disk(rt: HostRuntime) {
+    assert!(rt; is_done(make_no_sheets(&rt)));
     for path in [
         "",
         "not_opened/none",
@@ -202,8 +207,7 @@ fn what_can_not_be_opened_is_a_fault_of_the_disk(rt: HostRuntime) -> Result<(), 
         assert!(rt; !is_there(&rt, made), "{made}");
     }
     assert!(rt; has(&rt, "not_opened/sheet", EMPTY_SHEET));
-    fs::remove_dir_all(&rt, "not_opened")?;
-    Ok(())
+    assert!(rt; is_done(fs::remove_dir_all(&rt, "not_opened")));
 }
 
 // Whether the file is opened where it may be read and else is a fault, and then has no second one.
@@ -219,13 +223,12 @@ fn is_opened_or_not(rt: &HostRuntime, path: &str, second: &str) -> bool {
 
 // A file without permissions is read by the superuser alone.
 #[test]
-fn a_file_that_may_not_be_read_is_not_opened(rt: HostRuntime) -> Result<(), Fail> {
-    folder(&rt, "not_read")?;
-    fs::write(&rt, "not_read/sheet", EMPTY_SHEET)?;
-    fs::set_permissions(&rt, "not_read/sheet", Permissions::from_mode(0))?;
+fn a_file_that_may_not_be_read_is_not_opened(rt: HostRuntime) {
+    assert!(rt; is_done(folder(&rt, "not_read")));
+    assert!(rt; is_done(fs::write(&rt, "not_read/sheet", EMPTY_SHEET)));
+    assert!(rt; is_done(fs::set_permissions(&rt, "not_read/sheet", Permissions::from_mode(0))));
     assert!(rt; is_opened_or_not(&rt, "not_read/sheet", "not_read/sheet.alt"));
-    fs::remove_dir_all(&rt, "not_read")?;
-    Ok(())
+    assert!(rt; is_done(fs::remove_dir_all(&rt, "not_read")));
 }
 
 // A new file of this length.
@@ -242,13 +245,12 @@ fn has_len(rt: &HostRuntime, path: &str, len: u64) -> bool {
 }
 
 #[test]
-fn a_file_longer_than_the_room(rt: HostRuntime) -> Result<(), Fail> {
-    folder(&rt, "too_long")?;
-    make_long(&rt, "too_long/sheet", 2_147_483_649)?;
+fn a_file_longer_than_the_room(rt: HostRuntime) {
+    assert!(rt; is_done(folder(&rt, "too_long")));
+    assert!(rt; is_done(make_long(&rt, "too_long/sheet", 2_147_483_649)));
     assert!(rt; shows_path(&rt, "too_long/sheet", 1, (b"", b"fault 32 Disk\n")));
     assert!(rt; has_len(&rt, "too_long/sheet", 2_147_483_649));
-    fs::remove_dir_all(&rt, "too_long")?;
-    Ok(())
+    assert!(rt; is_done(fs::remove_dir_all(&rt, "too_long")));
 }
 
 // What an opening to write and one to read answer while this disk is held.
@@ -276,12 +278,11 @@ fn is_locked(rt: &HostRuntime, path: &str) -> Option<bool> {
 }
 
 #[test]
-fn a_worksheet_has_one_writer_or_readers(rt: HostRuntime) -> Result<(), Fail> {
-    folder(&rt, "locked")?;
+fn a_worksheet_has_one_writer_or_readers(rt: HostRuntime) {
+    assert!(rt; is_done(folder(&rt, "locked")));
     assert!(rt; is_locked(&rt, "locked/sheet") == Some(true));
     assert!(rt; opens(&rt, "locked/sheet") == Ok(()));
-    fs::remove_dir_all(&rt, "locked")?;
-    Ok(())
+    assert!(rt; is_done(fs::remove_dir_all(&rt, "locked")));
 }
 
 // Worksheets that have a second name, or whose second file is another's or the first one.
@@ -298,8 +299,8 @@ fn make_shared_files(rt: &HostRuntime) -> io::Result<()> {
 }
 
 #[test]
-fn a_file_that_is_shared_is_not_opened(rt: HostRuntime) -> Result<(), Fail> {
-    make_shared_files(&rt)?;
+fn a_file_that_is_shared_is_not_opened(rt: HostRuntime) {
+    assert!(rt; is_done(make_shared_files(&rt)));
     for path in [
         "shared/sheet",
         "shared/name",
@@ -311,8 +312,7 @@ fn a_file_that_is_shared_is_not_opened(rt: HostRuntime) -> Result<(), Fail> {
         assert!(rt; reads(&rt, path) == Err(FilesFault::Disk), "{path}");
     }
     assert!(rt; !is_there(&rt, "shared/sheet.alt") && !is_there(&rt, "shared/name.alt"));
-    fs::remove_dir_all(&rt, "shared")?;
-    Ok(())
+    assert!(rt; is_done(fs::remove_dir_all(&rt, "shared")));
 }
 
 // Links in two folders to one worksheet.
@@ -325,14 +325,13 @@ fn make_links(rt: &HostRuntime) -> io::Result<()> {
 }
 
 #[test]
-fn a_link_has_the_second_file_of_what_it_leads_to(rt: HostRuntime) -> Result<(), Fail> {
-    make_links(&rt)?;
+fn a_link_has_the_second_file_of_what_it_leads_to(rt: HostRuntime) {
+    assert!(rt; is_done(make_links(&rt)));
     for path in ["links/far/link", "links/again"] {
         assert!(rt; opens(&rt, path) == Ok(()), "{path}");
         assert!(rt; reads(&rt, path) == Ok(()), "{path}");
     }
     assert!(rt; is_there(&rt, "links/sheet.alt"));
     assert!(rt; !is_there(&rt, "links/far/link.alt") && !is_there(&rt, "links/again.alt"));
-    fs::remove_dir_all(&rt, "links")?;
-    Ok(())
+    assert!(rt; is_done(fs::remove_dir_all(&rt, "links")));
 }

@@ -1,5 +1,5 @@
 //! The places of closed standard streams, over files that are made up.
-use files_desk::{Calls, MadeUp};
+use super::made_up::{Calls, MadeUp};
 use sheet_files::{Closed, HoldFault, hold_closed};
 use std::alloc::Global;
 

@@ -3,7 +3,6 @@ use offline_programs::{RunFault, run_memory};
 use std::alloc::Global;
 use std::io;
 use std::io::Read;
-use std::test::Fail;
 use tests_desk::{Exhausting, Full, InterruptedOnce, Parts, Unflushed};
 
 // What a script gives whose reader takes all memory, where it did.
@@ -24,13 +23,19 @@ fn without_memory(alloc: Global, script: &[u8]) -> Option<Vec<u8>> {
     }
 }
 
+// Whether it gives this text.
+fn gives_without_memory(alloc: Global, script: &[u8], text: &[u8]) -> bool {
+    match without_memory(alloc, script) {
+        Some(out) => out.as_slice() == text,
+        None => false,
+    }
+}
+
 #[test]
-fn without_memory_a_script_goes_on(rt: HostRuntime) -> Result<(), Fail> {
+fn without_memory_a_script_goes_on(rt: HostRuntime) {
     let script = b"session a plain p\nremove 1\nwait\n";
-    let expected = b"refused 17 OutOfMemory\nrefused 2 NoField\nbad line 3\n";
-    let out = without_memory(rt.alloc(), script).ok_or("a fault, or memory")?;
-    assert!(rt; out.as_slice() == expected.as_slice());
-    Ok(())
+    let text = b"refused 17 OutOfMemory\nrefused 2 NoField\nbad line 3\n";
+    assert!(rt; gives_without_memory(rt.alloc(), script, text));
 }
 
 // The fault of this reader, where nothing was written.
@@ -46,19 +51,28 @@ fn writer_fault<W: io::Write>(alloc: Global, writer: &mut W) -> Option<RunFault>
     run_memory(alloc, &mut reader, writer).err()
 }
 
-#[test]
-fn a_reader_or_a_writer_of_a_script_that_fails(rt: HostRuntime) {
-    let alloc = rt.alloc();
+// That of one that fails behind a line.
+fn fault_of_parts(alloc: Global) -> Option<RunFault> {
     let mut parts = Parts {
         rest: b"remove 1\n",
         fails: true,
     };
-    assert!(rt; reader_fault(alloc, &mut parts) == Some(RunFault::Input));
+    reader_fault(alloc, &mut parts)
+}
+
+// That of one that is interrupted.
+fn fault_of_interrupted(alloc: Global) -> Option<RunFault> {
     let mut interrupted = InterruptedOnce {
         rest: b"remove 1\n",
         interrupted: false,
     };
-    assert!(rt; reader_fault(alloc, &mut interrupted) == Some(RunFault::Input));
-    assert!(rt; writer_fault(alloc, &mut Full) == Some(RunFault::Output));
-    assert!(rt; writer_fault(alloc, &mut Unflushed) == Some(RunFault::Output));
+    reader_fault(alloc, &mut interrupted)
+}
+
+#[test]
+fn a_reader_or_a_writer_of_a_script_that_fails(rt: HostRuntime) {
+    assert!(rt; fault_of_parts(rt.alloc()) == Some(RunFault::Input));
+    assert!(rt; fault_of_interrupted(rt.alloc()) == Some(RunFault::Input));
+    assert!(rt; writer_fault(rt.alloc(), &mut Full) == Some(RunFault::Output));
+    assert!(rt; writer_fault(rt.alloc(), &mut Unflushed) == Some(RunFault::Output));
 }

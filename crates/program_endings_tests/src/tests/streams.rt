@@ -3,7 +3,6 @@ use offline_programs::RunFault;
 use program_endings::{Ending, blocks, run_blocks};
 use std::alloc::Global;
 use std::io::{Read, Write};
-use std::test::Fail;
 use tests_desk::{Exhausting, Full, InterruptedOnce, Parts, Unflushed};
 
 // Whether `blocks` prints this text of the stream, and gives this answer.
@@ -37,20 +36,29 @@ fn writer_fault<W: Write>(alloc: Global, stream: &[u8], writer: &mut W) -> Optio
     blocks(alloc, &mut reader, writer).err()
 }
 
-#[test]
-fn a_reader_or_a_writer_that_fails(rt: HostRuntime) {
-    let alloc = rt.alloc();
+// That of one that fails behind a block.
+fn fault_of_parts(alloc: Global) -> Option<RunFault> {
     let mut parts = Parts {
         rest: b"\x02a:\x05",
         fails: true,
     };
-    assert!(rt; reader_fault(alloc, &mut parts) == Some(RunFault::Input));
+    reader_fault(alloc, &mut parts)
+}
+
+// That of one that is interrupted.
+fn fault_of_interrupted(alloc: Global) -> Option<RunFault> {
     let mut interrupted = InterruptedOnce {
         rest: b"\x02a:\x05",
         interrupted: false,
     };
-    assert!(rt; reader_fault(alloc, &mut interrupted) == Some(RunFault::Input));
-    assert!(rt; writer_fault(alloc, b"\x02a:\x05", &mut Full) == Some(RunFault::Output));
+    reader_fault(alloc, &mut interrupted)
+}
+
+#[test]
+fn a_reader_or_a_writer_that_fails(rt: HostRuntime) {
+    assert!(rt; fault_of_parts(rt.alloc()) == Some(RunFault::Input));
+    assert!(rt; fault_of_interrupted(rt.alloc()) == Some(RunFault::Input));
+    assert!(rt; writer_fault(rt.alloc(), b"\x02a:\x05", &mut Full) == Some(RunFault::Output));
 }
 
 #[test]
@@ -80,13 +88,19 @@ fn without_memory(alloc: Global, stream: &[u8]) -> Option<Vec<u8>> {
     }
 }
 
+// Whether it writes this.
+fn prints_without_memory(alloc: Global, stream: &[u8], text: &[u8]) -> bool {
+    match without_memory(alloc, stream) {
+        Some(out) => out.as_slice() == text,
+        None => false,
+    }
+}
+
 #[test]
-fn without_memory_a_stream_is_printed(rt: HostRuntime) -> Result<(), Fail> {
+fn without_memory_a_stream_is_printed(rt: HostRuntime) {
     let stream = b"\x02a:\x02b#\x1b\x05\x05\x05noise\x02c:x\x05\x02d";
-    let expected = b"0 10 {a:{b#\\x05}}\n15 20 {c:x}\nunfinished 20\n";
-    let out = without_memory(rt.alloc(), stream).ok_or("a fault, or memory")?;
-    assert!(rt; out.as_slice() == expected.as_slice());
-    Ok(())
+    let text = b"0 10 {a:{b#\\x05}}\n15 20 {c:x}\nunfinished 20\n";
+    assert!(rt; prints_without_memory(rt.alloc(), stream, text));
 }
 
 // The input of one block.

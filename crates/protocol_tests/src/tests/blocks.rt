@@ -1,94 +1,117 @@
 //! What no clause says: that these calls succeed where memory is to be had.
 use block_tree::*;
 use std::alloc::Global;
-use std::test::Fail;
 
-fn text(alloc: Global, bytes: &[u8]) -> Result<Item, OutOfMemory> {
-    Ok(Item::Text(Octets::from_slice(alloc, bytes)?))
+fn text(alloc: Global, bytes: &[u8]) -> Option<Item> {
+    Some(Item::Text(Octets::from_slice(alloc, bytes).ok()?))
 }
 
-fn node(alloc: Global, channel: bool, name: &[u8]) -> Result<Node, OutOfMemory> {
-    let name = TagName::from_slice(alloc, name)?;
-    Ok(Node {
+fn node(alloc: Global, channel: bool, name: &[u8]) -> Option<Node> {
+    let name = TagName::from_slice(alloc, name).ok()?;
+    Some(Node {
         tag: Tag { channel, name },
         items: Vec::new(alloc),
     })
 }
 
-// A node with one text.
-fn leaf(alloc: Global, channel: bool, name: &[u8], bytes: &[u8]) -> Result<Node, OutOfMemory> {
-    let mut leaf = node(alloc, channel, name)?;
-    leaf.items.push(text(alloc, bytes)?)?;
-    Ok(leaf)
-}
-
-// The node with this one behind it, and a text behind that.
-fn with(alloc: Global, outer: Node, inner: Node, bytes: &[u8]) -> Result<Node, OutOfMemory> {
-    let mut outer = outer;
-    outer.items.push(Item::Block(inner))?;
-    outer.items.push(text(alloc, bytes)?)?;
-    Ok(outer)
-}
-
-fn block(node: Node) -> Result<Block, Fail> {
-    match Block::new(node) {
-        Ok(block) => Ok(block),
-        Err(_) => Err("no block".into()),
+// Whether the item gets its place, where there is one.
+fn is_added(node: &mut Node, item: Option<Item>) -> bool {
+    match item {
+        Some(item) => node.items.push(item).is_ok(),
+        None => false,
     }
 }
 
+// A node with one text.
+fn leaf(alloc: Global, channel: bool, name: &[u8], bytes: &[u8]) -> Option<Node> {
+    let mut leaf = node(alloc, channel, name)?;
+    if is_added(&mut leaf, text(alloc, bytes)) {
+        Some(leaf)
+    } else {
+        None
+    }
+}
+
+// The node with this one behind it, and a text behind that.
+fn with(alloc: Global, outer: Node, inner: Node, bytes: &[u8]) -> Option<Node> {
+    let mut outer = outer;
+    let block = is_added(&mut outer, Some(Item::Block(inner)));
+    let text = is_added(&mut outer, text(alloc, bytes));
+    if block && text { Some(outer) } else { None }
+}
+
 // verbatim:4 prompt#> 2
-fn answer_with_prompt(alloc: Global) -> Result<Block, Fail> {
+fn answer_with_prompt(alloc: Global) -> Option<Block> {
     let answer = leaf(alloc, false, b"verbatim", b"4")?;
     let prompt = leaf(alloc, true, b"prompt", b"> ")?;
-    block(with(alloc, answer, prompt, b"2")?)
+    Block::new(with(alloc, answer, prompt, b"2")?).ok()
 }
 
 // Whether the output of the block is this other one.
-fn puts_out(alloc: Global, whole: &Block, output: Node) -> Result<bool, Fail> {
-    let output = block(output)?;
-    Ok(output_of(alloc, whole)? == output && *whole != output)
+fn puts_out(alloc: Global, whole: &Block, output: Node) -> Option<bool> {
+    let output = Block::new(output).ok()?;
+    Some(output_of(alloc, whole).ok()? == output && *whole != output)
 }
 
 // Whether the text of the channel is this one.
-fn says(alloc: Global, whole: &Block, channel: &[u8], text: &[u8]) -> Result<bool, OutOfMemory> {
-    let text = Octets::from_slice(alloc, text)?;
-    Ok(channel_text(alloc, whole, channel)? == Some(text))
+fn says(alloc: Global, whole: &Block, channel: &[u8], text: &[u8]) -> Option<bool> {
+    let text = Octets::from_slice(alloc, text).ok()?;
+    Some(channel_text(alloc, whole, channel).ok()? == Some(text))
+}
+
+// Whether the answer without its prompt is one text.
+fn is_put_out(alloc: Global) -> Option<bool> {
+    let whole = answer_with_prompt(alloc)?;
+    puts_out(alloc, &whole, leaf(alloc, false, b"verbatim", b"42")?)
+}
+
+fn is_copied(alloc: Global) -> Option<bool> {
+    let whole = answer_with_prompt(alloc)?;
+    Some(whole.copy().ok()? == whole)
 }
 
 #[test]
-fn output_leaves_the_prompt_and_joins_texts(rt: HostRuntime) -> Result<(), Fail> {
-    let alloc = rt.alloc();
+fn output_leaves_the_prompt_and_joins_texts(rt: HostRuntime) {
+    assert!(rt; is_put_out(rt.alloc()) == Some(true));
+    assert!(rt; is_copied(rt.alloc()) == Some(true));
+}
+
+fn says_its_prompt(alloc: Global) -> Option<bool> {
+    says(alloc, &answer_with_prompt(alloc)?, b"prompt", b"> ")
+}
+
+fn has_no_input(alloc: Global) -> Option<bool> {
     let whole = answer_with_prompt(alloc)?;
-    assert!(rt; puts_out(alloc, &whole, leaf(alloc, false, b"verbatim", b"42")?)?);
-    assert!(rt; whole.copy()? == whole);
-    Ok(())
+    Some(channel_text(alloc, &whole, b"input").ok()?.is_none())
 }
 
 #[test]
-fn channels_have_texts(rt: HostRuntime) -> Result<(), Fail> {
-    let alloc = rt.alloc();
-    let whole = answer_with_prompt(alloc)?;
-    assert!(rt; says(alloc, &whole, b"prompt", b"> ")?);
-    assert!(rt; channel_text(alloc, &whole, b"input")?.is_none());
-    Ok(())
+fn channels_have_texts(rt: HostRuntime) {
+    assert!(rt; says_its_prompt(rt.alloc()) == Some(true));
+    assert!(rt; has_no_input(rt.alloc()) == Some(true));
 }
 
 // prompt#A prompt#B C
-fn two_prompts(alloc: Global) -> Result<Block, Fail> {
+fn two_prompts(alloc: Global) -> Option<Block> {
     let outer = leaf(alloc, true, b"prompt", b"A")?;
     let inner = leaf(alloc, true, b"prompt", b"B")?;
-    block(with(alloc, outer, inner, b"C")?)
+    Block::new(with(alloc, outer, inner, b"C")?).ok()
+}
+
+fn says_the_inner_one(alloc: Global) -> Option<bool> {
+    says(alloc, &two_prompts(alloc)?, b"prompt", b"B")
+}
+
+fn puts_out_nothing(alloc: Global) -> Option<bool> {
+    let whole = two_prompts(alloc)?;
+    puts_out(alloc, &whole, node(alloc, false, b"verbatim")?)
 }
 
 // The block that opens last gives the text, and the outer one has no output.
 #[test]
-fn the_last_to_open_is_the_prompt(rt: HostRuntime) -> Result<(), Fail> {
-    let alloc = rt.alloc();
-    let whole = two_prompts(alloc)?;
-    assert!(rt; says(alloc, &whole, b"prompt", b"B")?);
-    assert!(rt; puts_out(alloc, &whole, node(alloc, false, b"verbatim")?)?);
-    Ok(())
+fn the_last_to_open_is_the_prompt(rt: HostRuntime) {
+    assert!(rt; says_the_inner_one(rt.alloc()) == Some(true));
+    assert!(rt; puts_out_nothing(rt.alloc()) == Some(true));
 }
 
 // Whether a queue gives back two numbers in their order.
@@ -108,16 +131,14 @@ fn sequence_keeps(alloc: Global) -> bool {
 }
 
 // Whether a text is what its string was, and a copy of it too.
-fn text_keeps(alloc: Global, string: &str) -> Result<bool, OutOfMemory> {
-    let text = Text::from_string(String::from_str(alloc, string)?);
-    Ok(text.copy()? == text && text.as_str() == string)
+fn text_keeps(alloc: Global, string: &str) -> Option<bool> {
+    let text = Text::from_string(String::from_str(alloc, string).ok()?);
+    Some(text.copy().ok()? == text && text.as_str() == string)
 }
 
 #[test]
-fn lists_keep_what_they_are_given(rt: HostRuntime) -> Result<(), Fail> {
-    let alloc = rt.alloc();
-    assert!(rt; queue_keeps(alloc));
-    assert!(rt; sequence_keeps(alloc));
-    assert!(rt; text_keeps(alloc, "é")?);
-    Ok(())
+fn lists_keep_what_they_are_given(rt: HostRuntime) {
+    assert!(rt; queue_keeps(rt.alloc()));
+    assert!(rt; sequence_keeps(rt.alloc()));
+    assert!(rt; text_keeps(rt.alloc(), "é") == Some(true));
 }

@@ -1,10 +1,9 @@
 //! Streams: worked examples, limits, and where a stream ends.
 mod random;
 
+use block_tree::Block;
 use meta_format::{FeedFault, Found, ReadFault, Reader, Seen, next_outer, read_block, write_block};
 use std::alloc::Global;
-use std::process::Abort;
-use std::test::Fail;
 
 /// How a stream ends: between blocks, in one that began there, or at a fault.
 #[derive(Clone, Copy, Debug, PartialEq, Eq)]
@@ -14,73 +13,112 @@ enum End {
     BadTag(u64),
     TooDeep(u64),
     TooLong(u64),
-    Other,
+    /// A block stands where the end was wanted.
+    Block,
+    /// No memory is left.
+    NoMemory,
+}
+
+/// Where a block starts and stops, and its canonical spelling.
+type Wanted<'a> = (u64, u64, &'a [u8]);
+
+/// Puts what was found behind what there is.
+fn append(all: &mut Vec<Found>, found: Vec<Found>, end: Option<End>) -> Option<End> {
+    let mut found = found;
+    match all.append(&mut found) {
+        Ok(()) => end,
+        Err(_) => Some(End::NoMemory),
+    }
 }
 
 /// Feeds a piece, and tells the fault.
-fn feed(reader: &mut Reader, all: &mut Vec<Found>, piece: &[u8]) -> Result<Option<End>, Fail> {
-    let (mut found, end) = match reader.feed(piece) {
-        Ok(found) => (found, None),
-        Err(FeedFault::BadTag { offset, found }) => (found, Some(End::BadTag(offset))),
-        Err(FeedFault::TooDeep { offset, found }) => (found, Some(End::TooDeep(offset))),
-        Err(FeedFault::TooLong { offset, found }) => (found, Some(End::TooLong(offset))),
-        Err(_) => return Ok(Some(End::Other)),
-    };
-    all.append(&mut found)?;
-    Ok(end)
+fn feed(reader: &mut Reader, all: &mut Vec<Found>, piece: &[u8]) -> Option<End> {
+    match reader.feed(piece) {
+        Ok(found) => append(all, found, None),
+        Err(FeedFault::BadTag { offset, found }) => append(all, found, Some(End::BadTag(offset))),
+        Err(FeedFault::TooDeep { offset, found }) => {
+            append(all, found, Some(End::TooDeep(offset)))
+        }
+        Err(FeedFault::TooLong { offset, found }) => {
+            append(all, found, Some(End::TooLong(offset)))
+        }
+        Err(_) => Some(End::NoMemory),
+    }
+}
+
+/// How a stream ends that goes on behind each of its pieces.
+fn end_behind(reader: &Reader) -> End {
+    match reader.pending() {
+        None => End::Whole,
+        Some(start) => End::Open(start),
+    }
+}
+
+fn feed_all(reader: &mut Reader, all: &mut Vec<Found>, stream: &[u8], size: usize) -> End {
+    for piece in stream.chunks(size.max(1)) {
+        if let Some(end) = feed(reader, all, piece) {
+            return end;
+        }
+    }
+    end_behind(reader)
 }
 
 /// Feeds pieces of this size, and tells how the stream ends.
-fn read(alloc: Global, stream: &[u8], size: usize) -> Result<(Vec<Found>, End), Fail> {
+fn read(alloc: Global, stream: &[u8], size: usize) -> (Vec<Found>, End) {
     let mut reader = Reader::new(alloc);
     let mut all = Vec::new(alloc);
-    for piece in stream.chunks(size.max(1)) {
-        if let Some(end) = feed(&mut reader, &mut all, piece)? {
-            return Ok((all, end));
-        }
+    let end = feed_all(&mut reader, &mut all, stream, size);
+    (all, end)
+}
+
+fn feed_both(reader: &mut Reader, all: &mut Vec<Found>, first: &[u8], second: &[u8]) -> End {
+    if let Some(end) = feed(reader, all, first) {
+        return end;
     }
-    match reader.pending() {
-        None => Ok((all, End::Whole)),
-        Some(start) => Ok((all, End::Open(start))),
+    match feed(reader, all, second) {
+        Some(end) => end,
+        None => end_behind(reader),
     }
 }
 
 /// The same, in two pieces.
-fn read_cut(alloc: Global, stream: &[u8], at: usize) -> Result<(Vec<Found>, End), Fail> {
+fn read_cut(alloc: Global, stream: &[u8], at: usize) -> (Vec<Found>, End) {
     let mut reader = Reader::new(alloc);
     let mut all = Vec::new(alloc);
     let (first, second) = stream.split_at(at.min(stream.len()));
-    if let Some(end) = feed(&mut reader, &mut all, first)? {
-        return Ok((all, end));
-    }
-    if let Some(end) = feed(&mut reader, &mut all, second)? {
-        return Ok((all, end));
-    }
-    match reader.pending() {
-        None => Ok((all, End::Whole)),
-        Some(start) => Ok((all, End::Open(start))),
-    }
+    let end = feed_both(&mut reader, &mut all, first, second);
+    (all, end)
 }
 
-/// Checks the offsets and the canonical spellings of the blocks.
-fn expect(
-    rt: &impl Abort,
-    alloc: Global,
-    got: (Vec<Found>, End),
-    want: &[(u64, u64, &[u8])],
-    end: End,
-) -> Result<(), Fail> {
-    let (found, ended) = got;
-    assert_eq!(rt; ended, end);
-    assert_eq!(rt; found.len(), want.len());
-    for (f, w) in found.iter().zip(want) {
-        assert_eq!(rt; f.start, w.0);
-        assert_eq!(rt; f.stop, w.1);
-        let mut spelling = Vec::new(alloc);
-        write_block(&f.block, &mut spelling)?;
-        assert!(rt; spelling.as_slice() == w.2);
+fn is_spelled(alloc: Global, block: &Block, spelling: &[u8]) -> bool {
+    let mut text = Vec::new(alloc);
+    write_block(block, &mut text).is_ok() && text.as_slice() == spelling
+}
+
+/// Whether these are the offsets and the canonical spellings of the blocks.
+fn are(alloc: Global, found: &[Found], want: &[Wanted<'_>]) -> bool {
+    if found.len() != want.len() {
+        return false;
     }
-    Ok(())
+    for (found, (start, stop, spelling)) in found.iter().zip(want) {
+        let is_there = found.start == *start && found.stop == *stop;
+        if !is_there || !is_spelled(alloc, &found.block, spelling) {
+            return false;
+        }
+    }
+    true
+}
+
+/// Whether a stream gives these blocks and this end in pieces of this size.
+fn reads(alloc: Global, stream: &[u8], size: usize, want: &[Wanted<'_>], end: End) -> bool {
+    let (found, ended) = read(alloc, stream, size);
+    ended == end && are(alloc, found.as_slice(), want)
+}
+
+/// The same in two pieces.
+fn reads_cut(alloc: Global, stream: &[u8], at: usize, want: &[Wanted<'_>], end: End) -> bool {
+    let (found, ended) = read_cut(alloc, stream, at);
+    ended == end && are(alloc, found.as_slice(), want)
 }
 
 /// What is seen from there on in a stream that is held whole.
@@ -99,160 +137,215 @@ fn end_of(seen: Option<Seen>) -> End {
         Some(Seen::BadTag { offset }) => End::BadTag(offset as u64),
         Some(Seen::TooDeep { offset }) => End::TooDeep(offset as u64),
         Some(Seen::TooLong { offset }) => End::TooLong(offset as u64),
-        Some(Seen::Outer { .. }) | None => End::Other,
+        Some(Seen::Outer { .. }) | None => End::Block,
     }
 }
 
-/// Checks the offsets that are seen in a stream, one block after another, and how it ends.
-fn expect_seen(rt: &impl Abort, stream: &[u8], want: &[(u64, u64, &[u8])], end: End) {
+/// Whether these are the offsets that are seen in a stream, one block after another, and its end.
+fn shows(stream: &[u8], want: &[Wanted<'_>], end: End) -> bool {
     let mut from = 0;
-    for w in want {
+    for (first, last, _) in want {
         match seen(stream, from) {
-            Some(Seen::Outer { start, stop }) => {
-                assert_eq!(rt; start as u64, w.0);
-                assert_eq!(rt; stop as u64, w.1);
+            Some(Seen::Outer { start, stop }) if start as u64 == *first && stop as u64 == *last => {
                 from = stop;
             }
-            _ => panic!(rt; "no block"),
+            _ => return false,
         }
     }
-    assert_eq!(rt; end_of(seen(stream, from)), end);
+    end_of(seen(stream, from)) == end
 }
 
-/// Looks through a stream, and reads it in single bytes, and cut at each place.
-fn expect_all(
-    rt: &impl Abort,
-    alloc: Global,
-    stream: &[u8],
-    want: &[(u64, u64, &[u8])],
-    end: End,
-) -> Result<(), Fail> {
-    expect_seen(rt, stream, want, end);
-    expect(rt, alloc, read(alloc, stream, 1)?, want, end)?;
+/// Whether these blocks and this end are seen in a stream, and read in single bytes and cut at each place.
+fn gives(alloc: Global, stream: &[u8], want: &[Wanted<'_>], end: End) -> bool {
     for at in 0..=stream.len() {
-        expect(rt, alloc, read_cut(alloc, stream, at)?, want, end)?;
+        if !reads_cut(alloc, stream, at, want, end) {
+            return false;
+        }
     }
-    Ok(())
-}
-
-/// So many times these bytes.
-fn times(alloc: Global, bytes: &[u8], count: usize) -> Result<Vec<u8>, Fail> {
-    let mut all = Vec::new(alloc);
-    for _ in 0..count {
-        all.extend_from_slice(bytes)?;
-    }
-    Ok(all)
+    shows(stream, want, end) && reads(alloc, stream, 1, want, end)
 }
 
 #[test]
-fn noise_around_a_block(rt: HostRuntime) -> Result<(), Fail> {
-    let alloc = rt.alloc();
-    expect_all(&rt, alloc, b"", &[], End::Whole)?;
+fn noise_around_a_block(rt: HostRuntime) {
     let stream = b"noise\x02verbatim:Hi there!\x05\n";
     let block = b"\x02verbatim:Hi there!\x05".as_slice();
-    expect_all(&rt, alloc, stream, &[(5, 25, block)], End::Whole)
+    assert!(rt; gives(rt.alloc(), b"", &[], End::Whole));
+    assert!(rt; gives(rt.alloc(), stream, &[(5, 25, block)], End::Whole));
+}
+
+// Whether the block with this spelling is written as it is read.
+fn is_read_back(alloc: Global, spelling: &[u8]) -> bool {
+    match read_block(alloc, spelling) {
+        Ok(block) => is_spelled(alloc, &block, spelling),
+        Err(_) => false,
+    }
+}
+
+// The fault of a spelling with a byte behind it.
+fn fault_of_longer(alloc: Global, spelling: &[u8]) -> Option<ReadFault> {
+    let mut longer = spelling.to_vec(alloc).ok()?;
+    longer.push(b'x').ok()?;
+    read_block(alloc, longer.as_slice()).err()
 }
 
 #[test]
-fn escapes_of_a_text(rt: HostRuntime) -> Result<(), Fail> {
-    let alloc = rt.alloc();
+fn escapes_of_a_text(rt: HostRuntime) {
     let stream = b"\x02verbatim:\x1b\x02\x1b\x05\x1b\x1b\x1b[\x05";
     let canonical = b"\x02verbatim:\x1b\x02\x1b\x05\x1b\x1b\x1b\x1b[\x05".as_slice();
-    assert_eq!(rt; canonical.len(), 20);
-    expect_all(&rt, alloc, stream, &[(0, 19, canonical)], End::Whole)?;
-    let mut spelling = Vec::new(alloc);
-    match read_block(alloc, canonical) {
-        Ok(block) => write_block(&block, &mut spelling)?,
-        Err(_) => panic!(rt; "no block"),
-    }
-    assert!(rt; spelling.as_slice() == canonical);
-    spelling.push(b'x')?;
-    assert!(rt; read_block(alloc, spelling.as_slice()).err() == Some(ReadFault::NotABlock));
-    Ok(())
+    assert!(rt; canonical.len() == 20);
+    assert!(rt; gives(rt.alloc(), stream, &[(0, 19, canonical)], End::Whole));
+    assert!(rt; is_read_back(rt.alloc(), canonical));
+    assert!(rt; fault_of_longer(rt.alloc(), canonical) == Some(ReadFault::NotABlock));
 }
 
-#[test]
-fn wrong_tags(rt: HostRuntime) -> Result<(), Fail> {
-    let alloc = rt.alloc();
-    expect_all(&rt, alloc, b"\x02:x\x05", &[], End::BadTag(1))?;
-    expect_all(&rt, alloc, b"ab\x02verb\x02", &[], End::BadTag(7))?;
-    let mut tag = times(alloc, b"\x02", 1)?;
-    tag.append(&mut times(alloc, b"a", 64)?)?;
-    let mut long = tag.as_slice().to_vec(alloc)?;
-    long.push(b'a')?;
-    expect_all(&rt, alloc, long.as_slice(), &[], End::BadTag(65))?;
-    tag.extend_from_slice(b":\x05")?;
-    expect_all(
-        &rt,
+// A block's begin, so many bytes of this kind, and these behind them.
+fn joined(alloc: Global, front: &[u8], (byte, count): (u8, usize), back: &[u8]) -> Option<Vec<u8>> {
+    let middle = Vec::from_elem(alloc, byte, count).ok()?;
+    let mut all = front.to_vec(alloc).ok()?;
+    all.extend_from_slice(middle.as_slice()).ok()?;
+    all.extend_from_slice(back).ok()?;
+    Some(all)
+}
+
+// Whether a tag of 64 bytes makes a block, and one of 65 a fault at its last.
+fn longest_tag(alloc: Global) -> Option<bool> {
+    let tag = joined(alloc, b"\x02", (b'a', 64), b":\x05")?;
+    let longer = joined(alloc, b"\x02", (b'a', 65), b"")?;
+    let is_block = gives(
         alloc,
         tag.as_slice(),
         &[(0, 67, tag.as_slice())],
         End::Whole,
-    )
+    );
+    Some(is_block && gives(alloc, longer.as_slice(), &[], End::BadTag(65)))
 }
 
 #[test]
-fn block_before_a_fault(rt: HostRuntime) -> Result<(), Fail> {
+fn wrong_tags(rt: HostRuntime) {
+    assert!(rt; gives(rt.alloc(), b"\x02:x\x05", &[], End::BadTag(1)));
+    assert!(rt; gives(rt.alloc(), b"ab\x02verb\x02", &[], End::BadTag(7)));
+    assert!(rt; longest_tag(rt.alloc()) == Some(true));
+}
+
+#[test]
+fn block_before_a_fault(rt: HostRuntime) {
     let block = b"\x02verbatim:A\x05".as_slice();
     let stream = b"\x02verbatim:A\x05\x02:";
-    expect_all(&rt, rt.alloc(), stream, &[(0, 12, block)], End::BadTag(13))
+    assert!(rt; gives(rt.alloc(), stream, &[(0, 12, block)], End::BadTag(13)));
 }
 
 #[test]
-fn unfinished(rt: HostRuntime) -> Result<(), Fail> {
-    expect_all(&rt, rt.alloc(), b"\x02verbatim:x", &[], End::Open(0))
+fn unfinished(rt: HostRuntime) {
+    assert!(rt; gives(rt.alloc(), b"\x02verbatim:x", &[], End::Open(0)));
 }
 
-#[test]
-fn greatest_depth(rt: HostRuntime) -> Result<(), Fail> {
-    let alloc = rt.alloc();
-    let mut stream = times(alloc, b"\x02a:", 32)?;
-    stream.append(&mut times(alloc, b"\x05", 32)?)?;
-    let block = stream.as_slice();
-    expect_all(&rt, alloc, block, &[(0, 128, block)], End::Whole)?;
-    let deep = times(alloc, b"\x02a:", 33)?;
-    expect_all(&rt, alloc, deep.as_slice(), &[], End::TooDeep(96))
-}
-
-#[test]
-fn longest_block(rt: HostRuntime) -> Result<(), Fail> {
-    let alloc = rt.alloc();
-    let mut stream = times(alloc, b"\x02verbatim:", 1)?;
-    stream.append(&mut times(alloc, b"x", 16_777_205)?)?;
-    let mut longer = stream.as_slice().to_vec(alloc)?;
-    stream.push(5)?;
-    longer.extend_from_slice(b"x\x05")?;
-    let whole = [(0, 16_777_216, stream.as_slice())];
-    expect_seen(&rt, stream.as_slice(), &whole, End::Whole);
-    expect_seen(&rt, longer.as_slice(), &[], End::TooLong(16_777_215));
-    for size in [20_000_000, 65_536, 4_099, 1] {
-        let block = stream.as_slice();
-        let got = read(alloc, block, size)?;
-        expect(&rt, alloc, got, &[(0, 16_777_216, block)], End::Whole)?;
-        let got = read(alloc, longer.as_slice(), size)?;
-        expect(&rt, alloc, got, &[], End::TooLong(16_777_215))?;
+// So many blocks that begin in one another, and so many ends.
+fn nested(alloc: Global, begins: usize, ends: usize) -> Option<Vec<u8>> {
+    let mut stream = Vec::new(alloc);
+    for _ in 0..begins {
+        stream.extend_from_slice(b"\x02a:").ok()?;
     }
-    Ok(())
+    let ends = Vec::from_elem(alloc, 5u8, ends).ok()?;
+    stream.extend_from_slice(ends.as_slice()).ok()?;
+    Some(stream)
+}
+
+// Whether 32 levels make a block, and the next one a fault.
+fn deepest(alloc: Global) -> Option<bool> {
+    let block = nested(alloc, 32, 32)?;
+    let deeper = nested(alloc, 33, 0)?;
+    let is_block = gives(
+        alloc,
+        block.as_slice(),
+        &[(0, 128, block.as_slice())],
+        End::Whole,
+    );
+    Some(is_block && gives(alloc, deeper.as_slice(), &[], End::TooDeep(96)))
 }
 
 #[test]
-fn many_blocks_in_single_bytes(rt: HostRuntime) -> Result<(), Fail> {
-    let alloc = rt.alloc();
-    let mut reader = Reader::new(alloc);
-    let mut count = 0u64;
-    let mut last = (0, 0);
-    for _ in 0..100_000u32 {
-        for byte in b"\x02verbatim:x\x05" {
-            let mut found = Vec::new(alloc);
-            assert!(rt; feed(&mut reader, &mut found, &[*byte])?.is_none());
-            for f in &found {
-                count = count.saturating_add(1);
-                last = (f.start, f.stop);
-            }
+fn greatest_depth(rt: HostRuntime) {
+    assert!(rt; deepest(rt.alloc()) == Some(true));
+}
+
+// The sizes of pieces that a long block is read in.
+const SIZES: [usize; 4] = [20_000_000, 65_536, 4_099, 1];
+
+// Whether a stream that is too long to be cut everywhere gives this.
+fn gives_long(alloc: Global, stream: &[u8], want: &[Wanted<'_>], end: End) -> bool {
+    for size in SIZES {
+        if !reads(alloc, stream, size, want, end) {
+            return false;
         }
     }
-    assert_eq!(rt; count, 100_000);
-    assert_eq!(rt; last, (1_199_988, 1_200_000));
-    assert_eq!(rt; reader.offset(), 1_200_000);
-    Ok(())
+    shows(stream, want, end)
+}
+
+// Whether 16,777,216 bytes make a block, and one more a fault at the last.
+fn longest(alloc: Global) -> Option<bool> {
+    let block = joined(alloc, b"\x02verbatim:", (b'x', 16_777_205), b"\x05")?;
+    let longer = joined(alloc, b"\x02verbatim:", (b'x', 16_777_206), b"\x05")?;
+    let whole = [(0, 16_777_216, block.as_slice())];
+    let is_block = gives_long(alloc, block.as_slice(), &whole, End::Whole);
+    Some(is_block && gives_long(alloc, longer.as_slice(), &[], End::TooLong(16_777_215)))
+}
+
+#[test]
+fn longest_block(rt: HostRuntime) {
+    assert!(rt; longest(rt.alloc()) == Some(true));
+}
+
+/// How many blocks were found, and where the last one starts and stops.
+#[derive(Clone, Copy, PartialEq, Eq)]
+struct Tally {
+    blocks: u64,
+    last: (u64, u64),
+}
+
+fn count(tally: &mut Tally, found: &[Found]) {
+    for found in found {
+        tally.blocks = tally.blocks.saturating_add(1);
+        tally.last = (found.start, found.stop);
+    }
+}
+
+// Feeds one byte, and counts what is found. Whether there is no fault.
+fn feed_byte(alloc: Global, reader: &mut Reader, tally: &mut Tally, byte: u8) -> bool {
+    let mut found = Vec::new(alloc);
+    let end = feed(reader, &mut found, &[byte]);
+    count(tally, found.as_slice());
+    end.is_none()
+}
+
+fn feed_bytes(alloc: Global, reader: &mut Reader, tally: &mut Tally, bytes: &[u8]) -> bool {
+    for byte in bytes {
+        if !feed_byte(alloc, reader, tally, *byte) {
+            return false;
+        }
+    }
+    true
+}
+
+// What is found where a block of 12 bytes is fed so many times, byte by byte, and the offset behind them.
+fn found_in(alloc: Global, times: u32) -> Option<(Tally, u64)> {
+    let mut reader = Reader::new(alloc);
+    let mut tally = Tally {
+        blocks: 0,
+        last: (0, 0),
+    };
+    for _ in 0..times {
+        if !feed_bytes(alloc, &mut reader, &mut tally, b"\x02verbatim:x\x05") {
+            return None;
+        }
+    }
+    Some((tally, reader.offset()))
+}
+
+#[test]
+fn many_blocks_in_single_bytes(rt: HostRuntime) {
+    let tally = Tally {
+        blocks: 100_000,
+        last: (1_199_988, 1_200_000),
+    };
+    assert!(rt; found_in(rt.alloc(), 100_000) == Some((tally, 1_200_000)));
 }
