@@ -8,5 +8,6 @@ pub mod Renewals
 pub mod Asking
 pub mod Completing
 pub mod Playing
+pub mod Committing
 pub mod Losing
 pub mod Losses

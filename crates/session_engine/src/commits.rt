@@ -10,7 +10,7 @@ ghost use Rattle.plugin_core.specs.Items.{first_line_of};
 ghost use Rattle.session_engine.specs.Does.{closed_told, op_by};
 ghost use Rattle.session_engine.specs.inside.Words.{op_of_end};
 ghost use Rattle.session_engine.specs.World.{fits_in};
-ghost use Rattle.session_engine.specs.inside.Commits.{Commits, AllowedIf, CommittedIf, HasFieldIf, IsEitherIf, LosesField, NotKept, NotLost, answer_op, kept_for};
+ghost use Rattle.session_engine.specs.inside.Commits.{Commits, AllowedIf, CommittedIf, HasFieldIf, IsEitherIf, LosesField, NotKept, NotLost, answer_op, kept_for, refusal_for};
 
 use block_tree::{Queue, Reason};
 use disk_model::{Disk, DiskFault};
@@ -18,6 +18,17 @@ use host_events::{Closed, HostFault};
 use plugin_core::{Answered, Ended, Item};
 use recovery::{CommitFault, Store};
 use worksheet::{Op, Refusal};
+
+/// The refusal that a fault of the store is, unless its disk has failed.
+fn refusal_of(fault: &CommitFault) -> Option<Refusal>
+    ensures { result ≡ refusal_for fault.now }
+{
+    match fault {
+        CommitFault::Full(_) => Some(Refusal::JournalFull),
+        CommitFault::OutOfMemory(_) => Some(Refusal::OutOfMemory),
+        CommitFault::Disk | CommitFault::Closed => None,
+    }
+}
 
 /// Commits an op, or says why it is refused.
 pub(crate) fn commit<D: Disk>(store: &mut Store<D>, op: Op) -> Result<Option<Refusal>, DiskFault>
@@ -35,10 +46,14 @@ pub(crate) fn commit<D: Disk>(store: &mut Store<D>, op: Op) -> Result<Option<Ref
 {
     match store.commit(op) {
         Ok(()) => Ok(None),
-        Err(CommitFault::Full(_)) => Ok(Some(Refusal::JournalFull)),
-        Err(CommitFault::OutOfMemory(_)) => Ok(Some(Refusal::OutOfMemory)),
-        Err(CommitFault::Disk) => Err(DiskFault),
-        Err(CommitFault::Closed) => unreachable!(),
+        Err(fault) => {
+            let refusal = refusal_of(&fault);
+            drop(fault);
+            match refusal {
+                Some(refusal) => Ok(Some(refusal)),
+                None => Err(DiskFault),
+            }
+        }
     }
 }
 

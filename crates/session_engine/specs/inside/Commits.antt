@@ -10,6 +10,8 @@ use Rattle.worksheet.specs.Ops.{sheet_of}
 use Rattle.worksheet.specs.Checks.{first_of, first_refusal, has_field}
 use Rattle.block_tree.specs.declared.reason.Reason.{Reason}
 use Rattle.recovery.specs.Code.{code_of}
+use Rattle.recovery.specs.declared.fault.CommitFault.{CommitFault}
+use Rattle.recovery.specs.declared.fault.CommitFault.TheVariants as commits
 use Rattle.recovery.specs.Sheets.{StoreView, IsSheetImage, IsEither, SameStore}
 use Rattle.host_events.specs.declared.outcome.HostFault.{HostFault}
 use Rattle.host_events.specs.declared.outcome.HostFault.TheVariants as faults
@@ -52,6 +54,13 @@ pub record NotCommitted (old : StoreView) (o : Op) (new : StoreView) (r : Refusa
 abbrev pub Commits : StoreView → List Op → Op → StoreView → Option Refusal → Type 0
 Commits old ops o new None = Committed old ops o new
 Commits old ops o new (Some r) = NotCommitted old o new r
+
+-- the refusal that a fault of the store is, unless its disk has failed
+abbrev pub refusal_for : CommitFault → Option Refusal
+refusal_for (commits.Full back) = Some refusal.JournalFull
+refusal_for (commits.OutOfMemory back) = Some refusal.OutOfMemory
+refusal_for commits.Disk = None
+refusal_for commits.Closed = None
 
 -- The same of an op that may be there.
 

@@ -1,4 +1,5 @@
 use Rattle.std.proofs.Common.{IsTrue, ◌++◌, ◌∷◌, [], List, ℕ, length, take, arith, ap, sym, ◌∙◌, subst, length-append}
+use Rattle.std.proofs.lemmas.Grind.{common_steps}
 use Rattle.disk_model.specs.Disk.{area_of, bytes_on}
 use Rattle.journal.specs.Area.{StandsFor, closed_gate}
 use Rattle.journal.specs.Limits.{longest_payload}
@@ -64,3 +65,15 @@ loop-next-preserved g c =
           subst (λ (ps : List (List ℕ)). StandsFor longest_payload (area_of c.args.area (bytes_on (g.D.Disk.view c.lay_batch.new.disk))) ps) (sym b.2.split)
           (c.in_ok-lay_batch.ensures.laid model1 (take c.loop-next.next payloads) b.2.those b.2.each (is ∙ ap (λ (l : List ℕ). l ++ closed_gate ∷ []) b.2.are) before.end (before.laid model headed));
     }
+
+pub overflow_sub-end : goal.overflow_sub-end
+overflow_sub-end g c = grind (arith, common_steps)
+
+pub returns-clause-end : goal.returns-clause-end
+returns-clause-end g c = grind (arith, common_steps)
+
+pub returns-clause-inside : goal.returns-clause-inside
+returns-clause-inside g c = grind (arith, common_steps)
+
+pub returns-clause-laid : goal.returns-clause-laid
+returns-clause-laid g c = grind (arith, common_steps)

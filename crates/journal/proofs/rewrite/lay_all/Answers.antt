@@ -1,4 +1,5 @@
 use Rattle.std.proofs.Common.{◌≡◌, ◌+◌, ◌<◌, IsTrue, ◌++◌, ◌∷◌, [], List, ℕ, length, take, arith, ap, sym, ◌∙◌, subst, length-append}
+use Rattle.std.proofs.lemmas.Grind.{common_steps}
 use Rattle.std.proofs.lemmas.List.{take_more}
 use Rattle.disk_model.specs.Disk.{area_of, bytes_on}
 use Rattle.journal.specs.Area.{StandsFor, body_of, closed_gate}
@@ -67,3 +68,9 @@ loop-frame-preserved g c =
           subst (λ (ps : List (List ℕ)). StandsFor longest_payload (area_of c.args.area (bytes_on (g.D.Disk.view c.lay_record.new.disk))) ps) all
           (c.in_ok-lay_record.ensures.laid model1 (take i c.args.frames.now) f c.bytes-bytes.ensures.payload c.bytes-bytes.ensures.bytes before.end (before.laid model headed));
     }
+
+pub returns-clause-inside : goal.returns-clause-inside
+returns-clause-inside g c = grind (arith, common_steps)
+
+pub returns-clause-laid : goal.returns-clause-laid
+returns-clause-laid g c = grind (arith, common_steps)
