@@ -1,6 +1,6 @@
 -- Bytes written after bytes.
 use Rattle.std.proofs.KnownBytes.{Appends-trans, Appends-nil}
-use Rattle.std.proofs.Common.{◌≡◌, ℕ, Bool, true, false, cond, List, [], ◌∷◌, ◌++◌, map, flat_map, refl, ap, sym, ◌∙◌, subst, append_assoc, append-nil, Option, length, take, get_or, ◌<◌, ◌≤◌, ◌+◌}
+use Rattle.std.proofs.Common.{◌≡◌, ℕ, Bool, true, false, cond, List, [], ◌∷◌, ◌++◌, map, flat_map, refl, ap, sym, ◌∙◌, subst, append-nil, Option, length, take, get_or, ◌<◌, ◌≤◌, ◌+◌}
 use Rattle.std.proofs.lemmas.List.{take_more, take_all}
 use Rattle.std.proofs.lemmas.Grind.{flat_map-append}
 use Rattle.std.specs.Io.KnownBytes.{Appends}
@@ -8,19 +8,13 @@ use Rattle.block_tree.specs.Tree.{Items, Piece, text_piece, block_piece, items_f
 use Rattle.block_tree.specs.View.{piece_of, tree_of, piece_text, piece_block, tree_out}
 use Rattle.block_tree.specs.declared.tree.Item.{Item}
 use Rattle.block_tree.specs.declared.tree.Node.{Node, out-Node}
-use Rattle.sheet_export.specs.References.{html_text}
-use Rattle.sheet_text.specs.Blocks.{sign, is_bare}
-use Rattle.sheet_export.specs.Html.{framed_html, shown_html, items_html, block_html, piece_html}
+use Rattle.sheet_text.specs.Blocks.{is_bare}
+use Rattle.sheet_export.specs.Html.{block_start, block_end, framed_html, shown_html, items_html, block_html, piece_html}
 
 pub ruleset steps = (Appends-trans, Appends-nil)
 
--- a byte, others, a byte
-pub between : (a b c d : Option (List ℕ)) (x y : ℕ) (xs : List ℕ) → Appends a b (x ∷ []) → Appends b c xs → Appends c d (y ∷ []) → Appends a d (x ∷ (xs ++ y ∷ []))
-between a b c d x y xs p q r = Appends-trans a b d (x ∷ []) (xs ++ y ∷ []) p (Appends-trans b c d xs (y ∷ []) q r)
-
-pub in_frame : (a b c d : Option (List ℕ)) (channel : Bool) (name xs : List ℕ) → Appends a b (123 ∷ (html_text false name ++ sign channel ∷ [])) → Appends b c xs → Appends c d (125 ∷ []) → Appends a d (framed_html channel name xs)
-in_frame a b c d channel name xs p q r = subst (Appends a d) (ap (λ t. 123 ∷ t) (append_assoc (html_text false name) (sign channel ∷ []) (xs ++ 125 ∷ [])))
-    (Appends-trans a b d (123 ∷ (html_text false name ++ sign channel ∷ [])) (xs ++ 125 ∷ []) p (Appends-trans b c d xs (125 ∷ []) q r))
+pub in_frame : (a b c d : Option (List ℕ)) (channel : Bool) (name xs : List ℕ) → Appends a b (block_start channel name) → Appends b c xs → Appends c d (block_end channel name) → Appends a d (framed_html channel name xs)
+in_frame a b c d channel name xs p q r = Appends-trans a b d (block_start channel name) (xs ++ block_end channel name) p (Appends-trans b c d xs (block_end channel name) q r)
 
 put_html : (p : Piece) (rest : Items) → items_html (put p rest) ≡ piece_html p ++ items_html rest
 put_html (text_piece t) rest = refl
@@ -46,7 +40,7 @@ pub all_items : {A : Type 0} (f : A → List ℕ) (xs ys : List A) (i : ℕ) →
 all_items f xs ys i h e = ap (flat_map f) (take_all i xs h ∙ e)
 
 pub framed_done : (n : Node) (xs : List Item) (i : ℕ) (bare : Bool) (a b c d : Option (List ℕ)) → bare ≡ is_bare (out-Node n).tag.channel (out-Node n).tag.name → bare ≡ false → length xs ≤ i → xs ≡ (out-Node n).items.items
-    → Appends a b (123 ∷ (html_text false (out-Node n).tag.name ++ sign (out-Node n).tag.channel ∷ [])) → Appends b c (flat_map (λ x. piece_html (piece_of x)) (take i xs)) → Appends c d (125 ∷ []) → Appends a d (block_html (tree_of n))
+    → Appends a b (block_start (out-Node n).tag.channel (out-Node n).tag.name) → Appends b c (flat_map (λ x. piece_html (piece_of x)) (take i xs)) → Appends c d (block_end (out-Node n).tag.channel (out-Node n).tag.name) → Appends a d (block_html (tree_of n))
 framed_done n xs i bare a b c d is shut h e p q r =
     subst (Appends a d) (sym (block_html_out n ∙ ap (λ s. cond s (flat_map (λ x. piece_html (piece_of x)) (out-Node n).items.items) (framed_html (out-Node n).tag.channel (out-Node n).tag.name (flat_map (λ x. piece_html (piece_of x)) (out-Node n).items.items))) (sym is ∙ shut)))
     (in_frame a b c d (out-Node n).tag.channel (out-Node n).tag.name _ p (subst (Appends b c) (all_items (λ x. piece_html (piece_of x)) xs _ i h e) q) r)

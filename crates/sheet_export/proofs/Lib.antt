@@ -4,6 +4,7 @@ pub mod Appending
 pub mod Fields
 pub mod Lines
 pub mod NoMarks
+pub mod Spans
 pub mod ReadLines
 pub mod Scans
 pub mod FencesHold

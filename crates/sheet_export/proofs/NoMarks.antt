@@ -8,7 +8,7 @@ use Rattle.sheet_text.specs.Escape.{hex, is_plain, escaped_byte}
 use Rattle.sheet_export.specs.References.{belonging, reference, html_behind, html_byte}
 use Rattle.sheet_export.specs.Laws.{has_references_alone, is_mark, TextsHaveNoMarks}
 
-abbrev passes : ℕ → Bool
+abbrev pub passes : ℕ → Bool
 passes byte = not (is_mark byte)
 
 unmarked : (n : ℕ) → (n == 60) ≡ false → (n == 62) ≡ false → (n == 34) ≡ false → (n == 39) ≡ false → passes n ≡ true
@@ -59,7 +59,7 @@ byte_passes keeps_lines belongs b = go (belongs && is_plain keeps_lines b)
     go true = reference_passes b
     go false = escaped_passes b
 
-unmarked_text : (keeps_lines : Bool) (left : ℕ) (bytes : List ℕ) → list_all passes (html_behind keeps_lines left bytes) ≡ true
+pub unmarked_text : (keeps_lines : Bool) (left : ℕ) (bytes : List ℕ) → list_all passes (html_behind keeps_lines left bytes) ≡ true
 unfolding html_behind
 unmarked_text keeps_lines left [] = refl
 unmarked_text keeps_lines left (b ∷ bytes) =

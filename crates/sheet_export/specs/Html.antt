@@ -1,7 +1,8 @@
 -- The page of a worksheet: fixed parts, with texts between them.
-use Rattle.std.specs.Prelude.{ℕ, Bool, true, false, List, [], ◌∷◌, ◌++◌, Option, Some, None, cond}
+use Rattle.std.specs.Prelude.{ℕ, ◌&&◌, not, Bool, true, false, List, [], ◌∷◌, ◌++◌, Option, Some, None, codes, cond}
 use Rattle.std.specs.Fmt.{decimal}
 use Rattle.std.specs.List.{flat_map}
+use Rattle.std.specs.Str.{bytes_eq}
 use Rattle.block_tree.specs.Tree.{Items, Tree, Piece, end, text, block, text_piece, block_piece}
 use Rattle.block_tree.specs.declared.reason.Reason.{Reason}
 use Rattle.worksheet.specs.Contents.{Contents}
@@ -13,9 +14,20 @@ use Rattle.sheet_text.specs.Texts.{prompt_shown}
 use Rattle.sheet_export.specs.References.{html_text}
 use Rattle.sheet_export.specs.Parts as part
 
--- '{', the tag, what stands in it, '}'
+-- whether a block is of the format `latex`
+abbrev pub is_tex : Bool → List ℕ → Bool
+is_tex channel name = not channel && bytes_eq name (codes "latex")
+
+-- what stands in front of what a block holds: the beginning of a span, or '{' and the tag
+abbrev pub block_start : Bool → List ℕ → List ℕ
+block_start channel name = cond (is_tex channel name) part.tex_start (123 ∷ (html_text false name ++ sign channel ∷ []))
+
+-- and behind it: the end of the span, or '}'
+abbrev pub block_end : Bool → List ℕ → List ℕ
+block_end channel name = cond (is_tex channel name) part.tex_end (125 ∷ [])
+
 abbrev pub framed_html : Bool → List ℕ → List ℕ → List ℕ
-framed_html channel name inside = 123 ∷ (html_text false name ++ sign channel ∷ (inside ++ 125 ∷ []))
+framed_html channel name inside = block_start channel name ++ (inside ++ block_end channel name)
 
 abbrev pub shown_html : Bool → List ℕ → List ℕ → List ℕ
 shown_html channel name inside = cond (is_bare channel name) inside (framed_html channel name inside)

@@ -1,6 +1,7 @@
 -- Laws of the definitions.
-use Rattle.std.specs.Prelude.{ℕ, Bool, List, [], ◌∷◌, ◌++◌, ◌≡◌, ◌≤◌, ◌==◌, ◌||◌, ◌&&◌, not, nat_eq, true, Some, codes}
+use Rattle.std.specs.Prelude.{ℕ, ◌+◌, ◌-◌, Bool, List, [], ◌∷◌, ◌++◌, ◌≡◌, ◌≤◌, ◌==◌, ◌||◌, ◌&&◌, not, nat_eq, nat_lt, true, Some, codes, cond}
 use Rattle.std.specs.List.{list_all, list_any, starts_with}
+use Rattle.block_tree.specs.Tree.{Tree}
 use Rattle.host_events.specs.declared.command.Command.TheVariants as command
 use Rattle.sheet_text.specs.Script.{greatest_number, line_of}
 use Rattle.sheet_text.specs.declared.script.ScriptLine.TheVariants as line
@@ -9,6 +10,7 @@ use Rattle.worksheet.specs.Names.{is_name}
 use Rattle.worksheet.specs.declared.field.Field.{Field}
 use Rattle.worksheet.specs.declared.field.Session.{Session}
 use Rattle.sheet_export.specs.Fences.{fence_length, fence_of}
+use Rattle.sheet_export.specs.Html.{block_html}
 use Rattle.sheet_export.specs.References.{html_text}
 use Rattle.sheet_export.specs.Script.{field_line, has_no_space, session_line}
 
@@ -34,6 +36,18 @@ abbrev pub TextsHaveNoMarks : Type 0
 TextsHaveNoMarks = (keeps_lines : Bool) (bytes : List ℕ)
     → (list_all (λ byte. not (is_mark byte)) (html_text keeps_lines bytes) ≡ true)
     × (has_references_alone (html_text keeps_lines bytes) ≡ true)
+
+-- Whether the spans of a text nest, of which so many are open: each '<' begins one, or the end of one that is open, and at the end
+-- of the text none is.
+abbrev pub nests : ℕ → List ℕ → Bool
+nests depth [] = depth == 0
+nests depth (byte ∷ rest) = cond (byte == 60)
+    (cond (starts_with nat_eq rest (codes "span class=\"tex\">")) (nests (depth + 1) rest) (nat_lt 0 depth && starts_with nat_eq rest (codes "/span>") && nests (depth - 1) rest))
+    (nests depth rest)
+
+-- Spans of formulas are the one markup in an output, and they nest: none is begun or ended by a text.
+abbrev pub SpansNest : Type 0
+SpansNest = (output : Tree) → nests 0 (block_html output) ≡ true
 
 -- The line of a session whose words have no space is read as the command that makes it.
 abbrev pub SessionLinesAreRead : Type 0

@@ -73,10 +73,18 @@ output_start = codes "<pre class=\"out\" dir=\"ltr\">\n"
 abbrev pub output_end : List ℕ
 output_end = codes "</pre>\n"
 
+-- in front of what stands in a block `latex`
+abbrev pub tex_start : List ℕ
+tex_start = codes "<span class=\"tex\">"
+
+-- behind that
+abbrev pub tex_end : List ℕ
+tex_end = codes "</span>"
+
 -- behind a field
 abbrev pub field_end : List ℕ
 field_end = codes "</section>\n"
 
 -- the style
 abbrev pub style : List ℕ
-style = codes ":root{color-scheme:light dark;--ink:#1c2733;--dim:#66727f;--page:#f6f7f9;--card:#fff;--line:#dfe4ea;--mark:#0b62c4;--warn:#a15c00}\n@media (prefers-color-scheme:dark){:root{--ink:#dce3ea;--dim:#93a0ad;--page:#11161c;--card:#19212a;--line:#2c3844;--mark:#6db3ff;--warn:#e5b567}}\n*{box-sizing:border-box}\nbody{margin:0 auto;padding:2rem 1rem 4rem;max-width:52rem;background:var(--page);color:var(--ink);font:16px/1.5 system-ui,sans-serif}\nh1{margin:0 0 1.5rem;font-size:1.6rem;font-weight:650;overflow-wrap:anywhere}\nsection{margin:0 0 1rem;border:1px solid var(--line);border-radius:.6rem;background:var(--card);overflow:hidden}\nsection:target{border-color:var(--mark);box-shadow:0 0 0 1px var(--mark)}\nheader{display:flex;gap:.6rem;padding:.35rem .9rem;border-bottom:1px solid var(--line);color:var(--dim);font-size:.8rem}\nheader a{color:var(--mark);text-decoration:none}\npre{margin:0;padding:.6rem .9rem;font:.9rem/1.5 ui-monospace,Consolas,monospace;white-space:pre-wrap;overflow-wrap:anywhere;tab-size:4}\n.in bdi{color:var(--dim);user-select:none}\n.in code{font:inherit;font-weight:600}\n.out{border-top:1px dashed var(--line)}\n.none{margin:0;padding:.6rem .9rem;border-top:1px dashed var(--line);color:var(--warn);font-size:.85rem;font-style:italic}\n@media print{:root{--ink:#000;--dim:#444;--page:#fff;--card:#fff;--line:#999;--mark:#000;--warn:#000}body{max-width:none;padding:0}section{break-inside:avoid}}\n"
+style = codes ":root{color-scheme:light dark;--ink:#1c2733;--dim:#66727f;--page:#f6f7f9;--card:#fff;--line:#dfe4ea;--mark:#0b62c4;--warn:#a15c00}\n@media (prefers-color-scheme:dark){:root{--ink:#dce3ea;--dim:#93a0ad;--page:#11161c;--card:#19212a;--line:#2c3844;--mark:#6db3ff;--warn:#e5b567}}\n*{box-sizing:border-box}\nbody{margin:0 auto;padding:2rem 1rem 4rem;max-width:52rem;background:var(--page);color:var(--ink);font:16px/1.5 system-ui,sans-serif}\nh1{margin:0 0 1.5rem;font-size:1.6rem;font-weight:650;overflow-wrap:anywhere}\nsection{margin:0 0 1rem;border:1px solid var(--line);border-radius:.6rem;background:var(--card);overflow:hidden}\nsection:target{border-color:var(--mark);box-shadow:0 0 0 1px var(--mark)}\nheader{display:flex;gap:.6rem;padding:.35rem .9rem;border-bottom:1px solid var(--line);color:var(--dim);font-size:.8rem}\nheader a{color:var(--mark);text-decoration:none}\npre{margin:0;padding:.6rem .9rem;font:.9rem/1.5 ui-monospace,Consolas,monospace;white-space:pre-wrap;overflow-wrap:anywhere;tab-size:4}\n.in bdi{color:var(--dim);user-select:none}\n.in code{font:inherit;font-weight:600}\n.out{border-top:1px dashed var(--line);overflow-x:auto}\n.none{margin:0;padding:.6rem .9rem;border-top:1px dashed var(--line);color:var(--warn);font-size:.85rem;font-style:italic}\n@media print{:root{--ink:#000;--dim:#444;--page:#fff;--card:#fff;--line:#999;--mark:#000;--warn:#000}body{max-width:none;padding:0}section{break-inside:avoid}}\n"

@@ -150,6 +150,20 @@ pub(crate) fn write_output_end<W: Write>(out: &mut W) -> Result<(), WriteFault>
     write_bytes(b"</pre>\n", out)
 }
 
+/// Writes what stands in front of a formula.
+pub(crate) fn write_tex_start<W: Write>(out: &mut W) -> Result<(), WriteFault>
+    ensures { OnOk result (Appends (W.contents out.old) (W.contents out.new) part.tex_start) }
+{
+    write_bytes(b"<span class=\"tex\">", out)
+}
+
+/// Writes what stands behind a formula.
+pub(crate) fn write_tex_end<W: Write>(out: &mut W) -> Result<(), WriteFault>
+    ensures { OnOk result (Appends (W.contents out.old) (W.contents out.new) part.tex_end) }
+{
+    write_bytes(b"</span>", out)
+}
+
 /// Writes what stands behind a field.
 pub(crate) fn write_field_end<W: Write>(out: &mut W) -> Result<(), WriteFault>
     ensures { OnOk result (Appends (W.contents out.old) (W.contents out.new) part.field_end) }

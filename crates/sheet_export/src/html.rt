@@ -33,6 +33,39 @@ fn open_tag<W: Write>(tag: &Tag, out: &mut W) -> Result<(), WriteFault>
     }
 }
 
+/// Whether a block of this tag is of the format `latex`.
+fn is_tex_tag(tag: &Tag) -> bool
+    ensures { result ≡ html.is_tex tag.now.channel tag.now.name }
+{
+    !tag.channel && tag.name.as_slice() == b"latex".as_slice()
+}
+
+/// Writes what stands in front of what a block holds: the beginning of a span, or a brace and the tag.
+fn open_block<W: Write>(tag: &Tag, out: &mut W) -> Result<(), WriteFault>
+    ensures { OnOk result
+        (Appends (W.contents out.old) (W.contents out.new)
+        (html.block_start tag.now.channel tag.now.name)) }
+{
+    if is_tex_tag(tag) {
+        fixed::write_tex_start(out)
+    } else {
+        open_tag(tag, out)
+    }
+}
+
+/// Writes what stands behind it: the end of the span, or a brace.
+fn close_block<W: Write>(tag: &Tag, out: &mut W) -> Result<(), WriteFault>
+    ensures { OnOk result
+        (Appends (W.contents out.old) (W.contents out.new)
+        (html.block_end tag.now.channel tag.now.name)) }
+{
+    if is_tex_tag(tag) {
+        fixed::write_tex_end(out)
+    } else {
+        write_bytes(b"}", out)
+    }
+}
+
 /// Whether the tag isn't shown.
 pub(crate) fn is_bare_tag(tag: &Tag) -> bool
     ensures { result ≡ is_bare tag.now.channel tag.now.name }
@@ -51,7 +84,7 @@ fn write_shown<W: Write>(node: &Node, out: &mut W) -> Result<(), WriteFault>
 {
     let bare = is_bare_tag(&node.tag);
     if !bare {
-        open_tag(&node.tag, out)?;
+        open_block(&node.tag, out)?;
     }
     for item in &node.items {
         match item {
@@ -60,7 +93,7 @@ fn write_shown<W: Write>(node: &Node, out: &mut W) -> Result<(), WriteFault>
         }
     }
     if !bare {
-        write_bytes(b"}", out)?;
+        close_block(&node.tag, out)?;
     }
     Ok(())
 }

@@ -1,11 +1,16 @@
 //! Laws of the definitions that the contracts cite. Each function does nothing: its contract is the
 //! law.
 ghost use Rattle.sheet_export.specs.Replay.{ScriptsMakeThemAnew, ScriptsRun, ScriptsRunAlike, ScriptsSayTheirOps};
-ghost use Rattle.sheet_export.specs.Laws.{FieldLinesAreRead, NoTextClosesItsFence, SessionLinesAreRead, TextsHaveNoMarks};
+ghost use Rattle.sheet_export.specs.Laws.{FieldLinesAreRead, NoTextClosesItsFence, SessionLinesAreRead, SpansNest, TextsHaveNoMarks};
 
 /// No text of a page has `<`, `>`, `"` or an apostrophe, and each `&` in it begins a reference.
 pub fn texts_have_no_marks()
     ensures { TextsHaveNoMarks }
+{}
+
+/// The one markup in an output are the spans of its formulas, and they nest: no text begins or ends one.
+pub fn spans_nest()
+    ensures { SpansNest }
 {}
 
 /// Each line of a script that makes a session is read as the command that makes it.

@@ -14,6 +14,6 @@ pub(crate) const STYLE: &[u8] =
     pre{margin:0;padding:.6rem .9rem;font:.9rem/1.5 ui-monospace,Consolas,monospace;white-space:pre-wrap;overflow-wrap:anywhere;tab-size:4}\n\
     .in bdi{color:var(--dim);user-select:none}\n\
     .in code{font:inherit;font-weight:600}\n\
-    .out{border-top:1px dashed var(--line)}\n\
+    .out{border-top:1px dashed var(--line);overflow-x:auto}\n\
     .none{margin:0;padding:.6rem .9rem;border-top:1px dashed var(--line);color:var(--warn);font-size:.85rem;font-style:italic}\n\
     @media print{:root{--ink:#000;--dim:#444;--page:#fff;--card:#fff;--line:#999;--mark:#000;--warn:#000}body{max-width:none;padding:0}section{break-inside:avoid}}\n";

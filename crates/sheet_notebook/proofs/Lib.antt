@@ -1,4 +1,5 @@
 pub mod Pieces
+pub mod Still
 pub mod Adding
 pub mod Blocks
 pub mod Cells

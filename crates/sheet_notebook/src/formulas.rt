@@ -1,5 +1,5 @@
 //! Outputs that are a formula between dollars.
-ghost use Rattle.std.specs.Prelude.{◌≡◌, ◌<◌, ◌≤◌, ◌+◌, length, cond, Some, None, map};
+ghost use Rattle.std.specs.Prelude.{◌≡◌, ◌<◌, ◌≤◌, ◌+◌, false, length, cond, Some, None, map};
 ghost use Rattle.std.specs.List.{list_all};
 ghost use Rattle.std.specs.Option.{option_copied};
 ghost use Rattle.block_tree.specs.Tree.{items_from};
@@ -13,16 +13,65 @@ use sheet_text::is_plain;
 fn is_formula_byte(byte: u8) -> bool
     ensures { result ≡ formula.is_formula_byte byte }
 {
-    is_plain(byte, false) && !(byte == b'$' || byte == b'&' || byte == b'<' || byte == b'`')
+    is_plain(byte, false) && byte != b'`'
 }
 
-/// Whether `](` stands in a text.
-fn has_link(bytes: &[u8]) -> bool
-    ensures { result ≡ formula.has_link bytes.now }
+/// Whether the address of a link could begin, behind spaces or at once.
+fn opens_address(bytes: &[u8]) -> bool
+    ensures { result ≡ formula.opens_address bytes.now }
 {
     let mut rest = bytes;
-    while let Some((_, others)) = rest.split_first() {
-        if rest.starts_with(b"](") {
+    while let Some((byte, others)) = rest.split_first() {
+        if *byte != b' ' {
+            return *byte == b'(';
+        }
+        rest = others;
+    }
+    false
+}
+
+/// Whether a link, an image, an element, a remark or an address could begin with a byte and those behind it.
+fn begins_markup(byte: u8, rest: &[u8]) -> bool
+    ensures { result ≡ formula.begins_markup byte rest.now }
+{
+    (byte == b']' && opens_address(rest)) || (byte == b'<' && !rest.starts_with(b" "))
+}
+
+/// Whether attributes of what stands in front of them could begin.
+fn begins_attributes(byte: u8, rest: &[u8]) -> bool
+    ensures { result ≡ formula.begins_attributes byte rest.now }
+{
+    byte == b'{' && rest.starts_with(b":")
+}
+
+/// Whether two backslashes stand before a brace, which pandoc reads as escaped within `\text`.
+fn hides_brace(byte: u8, rest: &[u8]) -> bool
+    ensures { result ≡ formula.hides_brace byte rest.now }
+{
+    byte == b'\\' && (rest.starts_with(b"\\{") || rest.starts_with(b"\\}"))
+}
+
+/// Whether a reader could take what stands beside a byte and those behind it for something else.
+fn changes_marks(byte: u8, rest: &[u8]) -> bool
+    ensures { result ≡ formula.changes_marks byte rest.now }
+{
+    begins_attributes(byte, rest) || hides_brace(byte, rest)
+}
+
+/// Whether markup could begin with a byte and those behind it, as some reader sees them.
+fn may_begin_markup(byte: u8, rest: &[u8]) -> bool
+    ensures { result ≡ formula.may_begin_markup byte rest.now }
+{
+    begins_markup(byte, rest) || changes_marks(byte, rest)
+}
+
+/// Whether one could anywhere in a text.
+fn has_markup(bytes: &[u8]) -> bool
+    ensures { result ≡ formula.has_markup bytes.now }
+{
+    let mut rest = bytes;
+    while let Some((byte, others)) = rest.split_first() {
+        if may_begin_markup(*byte, others) {
             return true;
         }
         rest = others;
@@ -31,24 +80,93 @@ fn has_link(bytes: &[u8]) -> bool
 }
 
 /// Whether each byte stands for itself in a formula.
-fn are_plain(inside: &[u8]) -> bool
-    ensures { result ≡ list_all formula.is_formula_byte inside.now }
+fn are_plain(text: &[u8]) -> bool
+    ensures { result ≡ list_all formula.is_formula_byte text.now }
 {
-    inside.iter().all(|byte| is_formula_byte(*byte))
+    text.iter().all(|byte| is_formula_byte(*byte))
 }
 
-/// Whether bytes, and a dollar behind them, stay what they are.
-fn are_formula_bytes(inside: &[u8]) -> bool
-    ensures { result ≡ formula.are_formula_bytes inside.now }
+/// Whether a text is no more than text, whatever reads it.
+fn is_still(text: &[u8]) -> bool
+    ensures { result ≡ formula.is_still text.now }
 {
-    are_plain(inside) && !inside.ends_with(b"\\")
+    are_plain(text) && !has_markup(text)
 }
 
-/// Whether a text may stand between dollars.
+fn is_no_dollar(byte: u8) -> bool
+    ensures { result ≡ formula.is_no_dollar byte }
+{
+    byte != b'$'
+}
+
+/// Whether a text has no dollar.
+fn has_no_dollar(text: &[u8]) -> bool
+    ensures { result ≡ list_all formula.is_no_dollar text.now }
+{
+    text.iter().all(|byte| is_no_dollar(*byte))
+}
+
+/// Whether bytes have no dollar, and no backslash at their end, which would make the dollar behind it another one.
 fn is_inside(inside: &[u8]) -> bool
     ensures { result ≡ formula.is_inside inside.now }
 {
-    are_formula_bytes(inside) && !has_link(inside)
+    has_no_dollar(inside) && !inside.ends_with(b"\\")
+}
+
+/// Whether there is a byte that shows something.
+fn is_seen(byte: Option<u8>) -> bool
+    ensures { result ≡ formula.is_seen byte }
+{
+    match byte {
+        None => false,
+        Some(byte) => byte > b' ' && byte < 127,
+    }
+}
+
+/// Whether such bytes stand at both ends.
+fn is_tight(inside: &[u8]) -> bool
+    ensures { result ≡ formula.is_tight inside.now }
+{
+    is_seen(inside.first().copied()) && is_seen(inside.last().copied())
+}
+
+/// How many braces are open behind a byte that closes none.
+fn depth_with(depth: usize, byte: u8) -> usize
+    requires { depth < 9223372036854775807 }
+    ensures { result ≡ formula.depth_with depth byte }
+{
+    if byte == b'{' { depth + 1 } else { depth }
+}
+
+/// Whether each brace that closes one has it, and none stays open.
+fn closes(bytes: &[u8]) -> bool
+    ensures { result ≡ formula.closes false 0 bytes.now }
+{
+    let mut rest = bytes;
+    let mut depth = 0;
+    let mut escaped = false;
+    while let Some((byte, others)) = rest.split_first() {
+        if escaped {
+            escaped = false;
+        } else if *byte == b'}' {
+            if depth == 0 {
+                return false;
+            }
+            depth -= 1;
+        } else {
+            escaped = *byte == b'\\';
+            depth = depth_with(depth, *byte);
+        }
+        rest = others;
+    }
+    depth == 0
+}
+
+/// Whether a text may stand between these dollars.
+fn may_stand(dollars: &[u8], inside: &[u8]) -> bool
+    ensures { result ≡ formula.may_stand dollars.now inside.now }
+{
+    is_inside(inside) && closes(inside) && (dollars.len() == 2 || is_tight(inside))
 }
 
 /// Whether a text has these dollars at both ends.
@@ -64,7 +182,7 @@ fn stands_between(dollars: &[u8], text: &[u8]) -> bool
     ensures { result ≡ formula.stands_between dollars.now text.now }
 {
     let size = dollars.len();
-    has_ends(dollars, text) && is_inside(&text[size..text.len() - size])
+    has_ends(dollars, text) && may_stand(dollars, &text[size..text.len() - size])
 }
 
 /// Whether a text is something between these dollars.
@@ -75,11 +193,12 @@ fn is_between(dollars: &[u8], text: &[u8]) -> bool
     dollars.len() + dollars.len() < text.len() && stands_between(dollars, text)
 }
 
-/// Whether a text is a formula within a line, or on its own.
+/// Whether a text is a formula within a line, or on its own, that is no more than text where no reader knows it.
+#[tactic(auto, unfolding(crate::specs::Formulas::is_formula))]
 fn is_formula(text: &[u8]) -> bool
     ensures { result ≡ formula.is_formula text.now }
 {
-    is_between(b"$", text) || is_between(b"$$", text)
+    is_still(text) && (is_between(b"$", text) || is_between(b"$$", text))
 }
 
 /// The text, if it is a formula.
@@ -119,7 +238,7 @@ fn formula_of_node(node: &Node) -> Option<&[u8]>
 }
 
 /// The formula that an output is, if it is one: a block of the format `latex` with one text, between
-/// single or double dollars, that stays a formula wherever Markdown is read.
+/// single or double dollars, that is no more than text where a reader of Markdown knows no formulas.
 pub fn formula_of(output: &Block) -> Option<&[u8]>
     ensures { option_copied result ≡ formula.formula_of output.now }
 {

@@ -2,6 +2,7 @@
 #![tactic(auto)]
 
 mod formulas;
+pub mod laws;
 mod notebook;
 mod strings;
 

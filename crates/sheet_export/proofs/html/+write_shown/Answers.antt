@@ -1,11 +1,11 @@
-use Rattle.std.proofs.Common.{true, take, ◌∷◌, [], flat_map, ap, sym, ◌∙◌, subst}
+use Rattle.std.proofs.Common.{true, take, flat_map, ap, sym, ◌∙◌, subst}
 use Rattle.std.proofs.lemmas.Bool.{true≢false}
 use Rattle.std.specs.Io.KnownBytes.{Appends}
 use Rattle.block_tree.specs.View.{piece_text, piece_block, piece_of}
 use Rattle.sheet_export.specs.References.{html_text}
 use Rattle.sheet_export.specs.Html.{piece_html}
 use Rattle.sheet_export.proofs.Appending.{next_item, framed_done, bare_done}
-use Rattle.sheet_export.proofs.html.+write_shown.Goals.{in-Text+in_ok-write_text-in-Text, in-Block+in_ok-write_shown-in-Block, then-not-bare+in_ok-open_tag, else-not-bare}
+use Rattle.sheet_export.proofs.html.+write_shown.Goals.{in-Text+in_ok-write_text-in-Text, in-Block+in_ok-write_shown-in-Block, then-not-bare+in_ok-open_block, else-not-bare}
 use Rattle.sheet_export.proofs.html.+write_shown.Goals as goal
 
 pub loop-item-preserved : goal.loop-item-preserved
@@ -21,20 +21,19 @@ loop-item-preserved g t c =
           w.in_ok-write_shown-in-Block.ensures)
     ]
 
-pub returns-in_ok-write_bytes : goal.returns-in_ok-write_bytes
-returns-in_ok-write_bytes g t c =
-    let last : Appends (g.W.Write.contents c.loop-item.out) (g.W.Write.contents c.write_bytes.new.out) (125 ∷ []) = c.in_ok-write_bytes.ensures in
+pub returns-in_ok-close_block : goal.returns-in_ok-close_block
+returns-in_ok-close_block g t c =
     elim c.if-not-bare.branch [
-      | then-not-bare+in_ok-open_tag w ↦
+      | then-not-bare+in_ok-open_block w ↦
           framed_done c.args.node.now _ _ _ _ _ _ _ c.is_bare_tag-bare.ensures c.if-not-bare-2.true c.loop-item-test.false c.deref-item-items.ensures.value
-          (subst (λ o. Appends _ (g.W.Write.contents o) _) (sym w.out-is) w.in_ok-open_tag.ensures) c.loop-item.invariant last
+          (subst (λ o. Appends _ (g.W.Write.contents o) _) (sym w.out-is) w.in_ok-open_block.ensures) c.loop-item.invariant c.in_ok-close_block.ensures
       | else-not-bare w ↦ absurd (true≢false (sym w.if-not-bare.false ∙ c.if-not-bare-2.true))
     ]
 
 pub returns-else-not-bare-2 : goal.returns-else-not-bare-2
 returns-else-not-bare-2 g t c =
     elim c.if-not-bare.branch [
-      | then-not-bare+in_ok-open_tag w ↦ absurd (true≢false (sym c.if-not-bare-2.false ∙ w.if-not-bare.true))
+      | then-not-bare+in_ok-open_block w ↦ absurd (true≢false (sym c.if-not-bare-2.false ∙ w.if-not-bare.true))
       | else-not-bare w ↦ bare_done c.args.node.now _ _ _ (g.W.Write.contents c.args.out.now) (g.W.Write.contents c.loop-item.out) c.is_bare_tag-bare.ensures c.if-not-bare-2.false c.loop-item-test.false c.deref-item-items.ensures.value
           (subst (λ o. Appends (g.W.Write.contents o) (g.W.Write.contents c.loop-item.out) (flat_map (λ x. piece_html (piece_of x)) (take c.loop-item.item-index c.deref-item-items.result.now))) w.out-is c.loop-item.invariant)
     ]
