@@ -29,10 +29,18 @@ class Live:
             return [refused(2)] if place is None else lines[place : place + 3]
         if verb == "print":
             return model.printed().splitlines()
+        if verb == "interrupt":
+            return [self.interrupted(words[0])]
         if verb not in VERBS:
             return [f"bad line {number}"]
         refusal = model.refusal(verb, words)
         return [refused(refusal)] if refusal else model.do(verb, words)
+
+    def interrupted(self, name):
+        """What is told of an interrupt. The interpreters of these talks ignore the signal, so nothing comes of it."""
+        if name not in self.model.sessions:
+            return refused(1)
+        return f"interrupted {name}" if self.model.sessions[name].waiting else f"idle {name}"
 
     def take_line(self):
         """Takes the next line of which something is told, and gives that; nothing where there is none, or a wait holds it back."""

@@ -1,5 +1,5 @@
 -- What was read of an input and isn't given yet, and the lines still to come.
-use Rattle.std.specs.Prelude.{◌≡◌, ◌≢◌, ℕ, ◌+◌, ◌≤◌, ◌<◌, Bool, true, false, List, [], ◌∷◌, ◌++◌, Option, Some, IfSome, option_map, length, slice_index, if◌then◌else◌}
+use Rattle.std.specs.Prelude.{◌≡◌, ◌≢◌, ◌⊎◌, ℕ, ◌+◌, ◌≤◌, ◌<◌, Bool, true, false, List, [], ◌∷◌, ◌++◌, Option, Some, IfSome, option_map, length, slice_index, if◌then◌else◌}
 use Rattle.arrivals.specs.Lines.{InputLine, whole, too_long, longest_line, input_lines, behind_line}
 use Rattle.arrivals.specs.declared.buffer.NextLine.{NextLine}
 use Rattle.arrivals.specs.declared.buffer.NextLine.TheVariants as next
@@ -42,6 +42,22 @@ KeepsLines old new = IfSome old (λ lines. new ≡ Some lines)
 -- none of these bytes is a line feed
 abbrev pub IsUnended : List ℕ → Type 0
 IsUnended bytes = (k : ℕ) → k < length bytes → slice_index bytes k ≢ 10
+
+-- a line feed is among these bytes
+abbrev pub HasFeed : List ℕ → Type 0
+HasFeed bytes = (k : ℕ) × (k < length bytes) × (slice_index bytes k ≡ 10)
+
+-- Whether `next` has something to give: a line feed is held, or the input was read to its end.
+abbrev pub Readiness : Held → Bool → Type 0
+Readiness h true = (h.ended ≡ true) ⊎ HasFeed h.bytes
+Readiness h false = (h.ended ≡ false) × IsUnended h.bytes
+
+-- whether this is anything but that more must be read
+abbrev pub is_given : NextLine → Bool
+is_given next.Line = true
+is_given next.TooLong = true
+is_given next.More = false
+is_given next.End = true
 
 -- What a call of `next` gave and what it leaves, whatever reads give later: a line is the first of those
 -- to come and is taken off; at the end there is none; more is asked for only where no whole line is held.

@@ -2,7 +2,7 @@
 ghost use Rattle.std.specs.Prelude.{◌≡◌, ◌≤◌, ◌<◌, ◌+◌, ◌-◌, ℕ, List, [], IfOk, OnOk, OnErr, true, false, length, take, drop, slice_range};
 ghost use Rattle.std.specs.Io.KnownBytes.{IsAtEnd, ReadConsumes};
 ghost use Rattle.bstr.specs.Text.{without_terminator};
-ghost use Rattle.arrivals.specs.Held.{ReadAdds, GivesLine, IsUnended, KeepsLines, Same, nothing_held, to_come};
+ghost use Rattle.arrivals.specs.Held.{ReadAdds, GivesLine, IsUnended, KeepsLines, Readiness, Same, is_given, nothing_held, to_come};
 ghost use Rattle.arrivals.specs.inside.Buffers.{Tells, dropping_of, first_line, kept_of};
 
 use memchr::memchr;
@@ -140,7 +140,7 @@ impl LineBuffer {
 
     /// Whether `next` has something to give but that more must be read.
     pub(crate) fn is_ready(&self) -> bool
-        ensures { result ≡ false → (self.now.ended ≡ false) × IsUnended self.now.bytes }
+        ensures { Readiness self.now result }
     {
         if self.ended {
             return true;
@@ -165,6 +165,7 @@ impl LineBuffer {
         ensures dropping { self.new.dropping ≡ false }
         ensures ended { self.new.ended ≡ self.old.ended }
         ensures told { Tells result self.new (first_line self.old.dropping (take len self.old.bytes)) }
+        ensures given { is_given result ≡ true }
     {
         let start = self.start;
         let is_rest = self.dropping;
@@ -198,6 +199,7 @@ impl LineBuffer {
     fn next_unended(&mut self) -> NextLine
         requires { IsUnended self.old.bytes }
         ensures gives { GivesLine self.old result self.new }
+        ensures ready { Readiness self.old (is_given result) }
         ensures ended { self.new.ended ≡ self.old.ended }
     {
         if !self.ended {
@@ -214,6 +216,7 @@ impl LineBuffer {
     /// Gives the next line, where it is held whole.
     pub(crate) fn next(&mut self) -> NextLine
         ensures gives { GivesLine self.old result self.new }
+        ensures ready { Readiness self.old (is_given result) }
         ensures ended { self.new.ended ≡ self.old.ended }
     {
         match memchr(b'\n', &self.room[self.start..self.end]) {

@@ -2,7 +2,7 @@
 ghost use Rattle.std.specs.Prelude.{◌≡◌, IfOk, List, ℕ, OnOk, OnErr, false, option_map, true};
 ghost use Rattle.std.specs.Io.KnownBytes.{IsAtEnd};
 ghost use Rattle.arrivals.specs.Lines.{input_lines};
-ghost use Rattle.arrivals.specs.Held.{ReadAdds, GivesLine, IsUnended, KeepsLines, Same, nothing_held, to_come};
+ghost use Rattle.arrivals.specs.Held.{ReadAdds, GivesLine, KeepsLines, Readiness, Same, is_given, nothing_held, to_come};
 
 use crate::buffer::{LineBuffer, NextLine};
 use std::alloc::{AllocError, Global};
@@ -59,6 +59,7 @@ impl<R: Read> InputLines<R> {
     /// Gives the next line, where it is held whole. Nothing is read.
     pub fn next(&mut self) -> NextLine
         ensures gives { GivesLine self.old.held result self.new.held }
+        ensures ready { Readiness self.old.held (is_given result) }
         ensures ended { self.new.held.ended ≡ self.old.held.ended }
         ensures reader { self.new.reader ≡ self.old.reader }
     {
@@ -74,7 +75,7 @@ impl<R: Read> InputLines<R> {
 
     /// Whether `next` has something to give but that more must be read.
     pub fn is_ready(&self) -> bool
-        ensures { result ≡ false → (self.now.held.ended ≡ false) × IsUnended self.now.held.bytes }
+        ensures { Readiness self.now.held result }
     {
         self.held.is_ready()
     }

@@ -162,6 +162,10 @@ impl<R: process::Processes + Drop, K: Clock + Drop> Children for Polled<R, K> {
         self.children.receive(name, life)
     }
 
+    fn interrupt(&mut self, name: Name, life: u32) -> Result<(), ChildFault> {
+        self.children.interrupt(name, life)
+    }
+
     fn stop(&mut self, name: Name, life: u32) -> Result<(), ChildFault> {
         self.children.stop(name, life)
     }
@@ -172,6 +176,8 @@ where
     <R::Started as OpenProcess>::Stdout: AsRawFd,
 {
     ghost wakes = { λ _ _ _ _. Unit {0} };
+
+    ghost clock = { λ _ _. Unit {0} };
 
     /// Since the clock's own start; 0 where it can't be read.
     fn now(&self) -> u64 {

@@ -54,6 +54,10 @@ impl Children for ScriptedSources {
         self.children.receive(name, life)
     }
 
+    fn interrupt(&mut self, name: Name, life: u32) -> Result<(), ChildFault> {
+        self.children.interrupt(name, life)
+    }
+
     fn stop(&mut self, name: Name, life: u32) -> Result<(), ChildFault> {
         self.children.stop(name, life)
     }
@@ -100,6 +104,8 @@ impl Sources for ScriptedSources {
     ghost use Rattle.arrivals.specs.Turns.{ByTurns};
 
     ghost wakes = { ByTurns };
+
+    ghost clock = { λ s millis. millis ≡ 0 };
 
     /// Always the same moment.
     fn now(&self) -> u64 {

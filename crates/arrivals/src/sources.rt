@@ -40,8 +40,12 @@ pub trait Sources: Children {
     /// The sources before a watch, what it was asked, what it told (none: a fault), and the sources after it.
     ghost wakes: { Self → Asked → Option Woken → Self → Type 0 };
 
+    /// The sources, and what their clock may read while they stand so.
+    ghost clock: { Self → ℕ → Type 0 };
+
     /// Milliseconds since some moment of its own, which never goes back.
-    fn now(&self) -> u64;
+    fn now(&self) -> u64
+        ensures { clock self.now result };
 
     /// Waits until it is someone's turn, for at most `patience` milliseconds where there is a limit, and for
     /// as long as it takes where there is none.

@@ -6,7 +6,7 @@ use Rattle.child_calls.specs.declared.children.Received.TheVariants as got
 use Rattle.child_calls.specs.declared.children.ReceiveFault.{ReceiveFault}
 use Rattle.child_calls.specs.declared.children.ReceiveFault.TheVariants as lost
 
--- what a start, a send or a stop answered
+-- what a start, a send, an interrupt or a stop answered
 abbrev pub sent : {T E : Type 0} → Result T E → Answer
 sent (Ok x) = done
 sent (Err e) = fault

@@ -6,6 +6,8 @@ pub data Call : Type 0 where
   start : List ℕ → ℕ → List (List ℕ) → Call
   send : List ℕ → ℕ → List ℕ → Call
   receive : List ℕ → ℕ → Call
+  -- by the signal SIGINT
+  interrupt : List ℕ → ℕ → Call
   stop : List ℕ → ℕ → Call
 
 pub data Answer : Type 0 where

@@ -4,7 +4,7 @@ use Rattle.std.specs.Str.{bytes_eq}
 use Rattle.child_calls.specs.declared.scripted.Part.{Part}
 use Rattle.child_calls.specs.declared.scripted.Got.{Got}
 use Rattle.child_calls.specs.declared.scripted.Got.TheVariants as got
-use Rattle.child_calls.specs.Calls.{Call, start, send, receive, stop, Answer, done, fault, piece, end, no_memory}
+use Rattle.child_calls.specs.Calls.{Call, start, send, receive, interrupt, stop, Answer, done, fault, piece, end, no_memory}
 
 abbrev pub is_of : List ℕ → ℕ → Part → Bool
 is_of name life p = bytes_eq p.name name && (p.life == life)
@@ -53,4 +53,5 @@ ByParts ps (send name life bytes) a qs =
     ByFirst (position (is_of name life) ps) ps ((a ≡ fault) × (qs ≡ ps)) (λ i p. (a ≡ sends p.sends) × (qs ≡ slice_set ps i (after_send p)))
 ByParts ps (receive name life) a qs =
     ByFirst (position (is_of name life) ps) ps ((a ≡ fault) × (qs ≡ ps)) (λ i p. ((a ≡ gives p.receives) × (qs ≡ slice_set ps i (after_receive (drop 1 p.receives) p))) ⊎ ((a ≡ no_memory) × (qs ≡ ps)))
+ByParts ps (interrupt name life) a qs = (qs ≡ ps) × ByFirst (position (is_of name life) ps) ps (a ≡ fault) (λ i p. a ≡ done_if p.interrupt)
 ByParts ps (stop name life) a qs = (qs ≡ ps) × ByFirst (position (is_of name life) ps) ps (a ≡ fault) (λ i p. a ≡ done_if p.stop)

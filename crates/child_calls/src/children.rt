@@ -32,7 +32,7 @@ pub enum ReceiveFault {
 /// it as narrow as it can: that of `Scripted` is exact, that of `Processes` allows every answer.
 pub trait Children {
     ghost use Rattle.std.specs.Prelude.{◌≡◌, Err};
-    ghost use Rattle.child_calls.specs.Calls.{Answer, Call, receive, send, start, stop};
+    ghost use Rattle.child_calls.specs.Calls.{Answer, Call, interrupt, receive, send, start, stop};
     ghost use Rattle.child_calls.specs.Answers.{HasSize, received, sent};
     ghost use Rattle.std.specs.Prelude.{IfOk};
 
@@ -53,6 +53,11 @@ pub trait Children {
         ensures gives { after self.old (receive name life) (received result) self.new }
         ensures unchanged { result ≡ Err ReceiveFault.OutOfMemory → self.new ≡ self.old }
         ensures size { IfOk result HasSize };
+
+    /// Interrupts it by the signal SIGINT, and waits for nothing that it does then: it may end, end what it
+    /// is at, or do nothing at all.
+    fn interrupt(&mut self, name: Name, life: u32) -> Result<(), ChildFault>
+        ensures { after self.old (interrupt name life) (sent result) self.new };
 
     /// Stops it: it is gone afterwards, where that succeeds.
     fn stop(&mut self, name: Name, life: u32) -> Result<(), ChildFault>

@@ -118,6 +118,35 @@ impl<R: process::Processes + Drop> Processes<R> {
         }
     }
 
+    /// Sends a child the signal SIGINT, and waits until it is sent.
+    ///
+    /// std has no call for it, so `sh` does it by its own `kill`. The number is this child's as long as nobody
+    /// has waited for it, which `end` alone does.
+    fn signal(&mut self, name: Name, life: u32) -> io::Result<()> {
+        let Some(at) = self.place(name, life) else {
+            return Err(io::Error::from(ErrorKind::NotFound));
+        };
+        let Some(running) = self.running.get(at) else {
+            return Err(io::Error::from(ErrorKind::NotFound));
+        };
+        let mut number = String::new(self.alloc);
+        write!(number, "{}", running.child.id())?;
+        let mut command = Command::new(self.alloc, "/bin/sh")?;
+        command.arg("-c")?;
+        command.arg("kill -INT \"$0\"")?;
+        command.arg(number.as_str())?;
+        command
+            .stdin(Stdio::null())
+            .stdout(Stdio::null())
+            .stderr(Stdio::null());
+        let mut sender = command.spawn(&self.runtime)?;
+        if sender.wait()?.success() {
+            Ok(())
+        } else {
+            Err(io::Error::from(ErrorKind::NotFound))
+        }
+    }
+
     /// Kills a child, closes its pipes and waits for its exit.
     fn end(&mut self, name: Name, life: u32) -> io::Result<()> {
         let Some(at) = self.place(name, life) else {
@@ -228,6 +257,10 @@ impl<R: process::Processes + Drop> Children for Processes<R> {
             Ok(received) => Ok(received),
             Err(_) => Err(ReceiveFault::Child),
         }
+    }
+
+    fn interrupt(&mut self, name: Name, life: u32) -> Result<(), ChildFault> {
+        answer(self.signal(name, life))
     }
 
     fn stop(&mut self, name: Name, life: u32) -> Result<(), ChildFault> {

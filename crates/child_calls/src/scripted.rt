@@ -69,6 +69,8 @@ pub struct Part {
     pub sends: Queue<bool>,
     /// What it gives, in order.
     pub receives: Queue<Got>,
+    /// Whether it can be interrupted. What it gives stays as it is.
+    pub interrupt: bool,
     /// Whether it can be stopped.
     pub stop: bool,
 }
@@ -172,6 +174,13 @@ impl Children for Scripted {
         }
         let _ = self.parts[i].receives.pop();
         got
+    }
+
+    fn interrupt(&mut self, name: Name, life: u32) -> Result<(), ChildFault> {
+        let Some(i) = place(self.parts.as_slice(), name, life) else {
+            return Err(ChildFault);
+        };
+        answer(self.parts[i].interrupt)
     }
 
     fn stop(&mut self, name: Name, life: u32) -> Result<(), ChildFault> {

@@ -5,3 +5,4 @@ pub mod Timeline
 pub mod Stepping
 pub mod Faulting
 pub mod Seating
+pub mod Signals

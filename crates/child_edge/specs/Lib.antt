@@ -8,3 +8,4 @@ pub mod Edge
 pub mod Moments
 pub mod Steps
 pub mod Stops
+pub mod Interrupts

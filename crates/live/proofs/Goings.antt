@@ -1,6 +1,6 @@
 -- What came, one after the other.
-use Rattle.std.proofs.Common.{◌≡◌, ◌+◌, inl, inr, ℕ, length, arith, List, [], ◌∷◌, ◌++◌, Option, Some, None, refl, ap, sym, ◌∙◌, subst, append_assoc, append-nil}
-use Rattle.std.specs.Prelude.{◌⊎◌, IfOk, IfSome, Result, Ok, Err}
+use Rattle.std.proofs.Common.{◌≡◌, ◌+◌, inr, ℕ, Bool, true, false, length, arith, List, [], ◌∷◌, ◌++◌, Option, Some, None, refl, ap, sym, ◌∙◌, subst, append_assoc, append-nil}
+use Rattle.std.specs.Prelude.{IfOk, IfSome, Result, Ok, Err}
 use Rattle.std.proofs.KnownBytes.{Appends-nil, Appends-trans}
 use Rattle.std.specs.Io.KnownBytes.{Appends}
 use Rattle.session_engine.specs.World.{World}
@@ -13,50 +13,51 @@ use Rattle.sheet_programs.specs.Lines.{beats_text}
 use Rattle.offline_programs.specs.declared.fault.RunFault.{RunFault}
 use Rattle.offline_programs.specs.declared.fault.RunFault.TheVariants as fault
 use Rattle.live.specs.declared.stepping.Stand.{Stand}
+use Rattle.live.specs.Saying.{Clock}
 use Rattle.live.specs.Arrivals.{Arrival, LivePlace, Watch, WatchTells, Comes, TakesArrival, Lived, lines_in, place, woken_at}
 use Rattle.live.specs.Broken.{LivedBefore}
-use Rattle.live.specs.Live.{AreTooMany, MayHaveWatched}
+use Rattle.live.specs.Live.{AreTooMany}
 use Rattle.live.specs.inside.Taking.{ComingFailed, IsFront, LivedThrough, LivingFailed, Steps, TakesLines, Turns, TurnFailed, TurnTook}
-use Rattle.live.proofs.Coming.{comes_by, lines_on}
+use Rattle.live.proofs.Coming.{comes_by, input_told, lines_on}
 
 -- A step.
 
-module _ {C : Type 0} (R : Relation C) (W : Watch C) (p : LivePlace C) (mid : C) (told : Woken) (h : HostView) (c : C) (out now : Option (List ℕ)) (old new : Option (List InputLine)) (turn : Turns W p.held p.run.children mid told) where
-  watched : c ≡ mid → WatchTells W p.run.children told mid ⊎ ((told ≡ woken.TimeOver) × (mid ≡ p.run.children)) → MayHaveWatched W p.run.children c
-  watched same (inl t) = inr (t.0, Some told, subst (λ d. W p.run.children t.0 (Some told) d) (sym same) t.1)
-  watched same (inr t) = inl (same ∙ t.1)
+module _ {C : Type 0} (R : Relation C) (K : Clock C) (W : Watch C) (p : LivePlace C) (mid : C) (told : Woken) (is_there : Bool) (h : HostView) (c : C) (out now : Option (List ℕ)) (old new : Option (List InputLine))
+    (turn : Turns K W p.held p.run.children is_there mid told) where
+  watched : (there : Bool) → c ≡ mid → told ≡ woken.Input → is_there ≡ there → WatchTells K W p.held p.run.children there (Some woken.Input) c
+  watched there same input is = subst (λ d. WatchTells K W p.held p.run.children there (Some woken.Input) d) (sym same) (input_told K W p.held p.run.children is_there there mid told turn input is)
 
-  pub stepped : (next : Option Stand) → TurnTook R (woken_at p mid) told h c out now old new next → Steps R W p h c out now old new next
-  stepped (Some stand) t = (t.0, mid, comes_by W p.held p.run.children mid told t.0 turn t.1, t.2, t.3)
-  stepped None t = (t.0, watched t.1 turn.1, t.2, t.3)
+  pub stepped : (next : Option Stand) → TurnTook R K (woken_at p mid) told is_there h c out now old new next → Steps R K W p h c out now old new next
+  stepped (Some stand) t = (t.0, mid, comes_by K W p.held p.run.children is_there mid told t.0 turn t.1, t.2, t.3)
+  stepped None t = (t.0, (t.3, watched true t.1 t.4 t.5), t.2)
 
-  pub step_failed : (f : RunFault) → TurnFailed R (woken_at p mid) told h c out now old new f → ComingFailed R W p h c out now old new f
-  step_failed fault.Input t = (t.0, watched t.1 turn.1)
+  pub step_failed : (f : RunFault) → TurnFailed R K (woken_at p mid) told is_there h c out now old new f → ComingFailed R K W p h c out now old new f
+  step_failed fault.Input t = (t.0, inr (t.2, watched false t.1 t.3 t.4))
   step_failed fault.InputTooLong t = absurd t
   step_failed (fault.Open why) t = absurd t
   step_failed fault.InUse t = absurd t
-  step_failed (fault.Host f) t = (t.0, mid, comes_by W p.held p.run.children mid told t.0 turn t.1, t.2, t.3)
-  step_failed fault.OutOfMemory t = (t.0, mid, comes_by W p.held p.run.children mid told t.0 turn t.1, t.2, t.3)
-  step_failed fault.Output t = (t.0, mid, comes_by W p.held p.run.children mid told t.0 turn t.1, t.2, t.3)
+  step_failed (fault.Host f) t = (t.0, mid, comes_by K W p.held p.run.children is_there mid told t.0 turn t.1, t.2, t.3)
+  step_failed fault.OutOfMemory t = (t.0, mid, comes_by K W p.held p.run.children is_there mid told t.0 turn t.1, t.2, t.3)
+  step_failed fault.Output t = (t.0, mid, comes_by K W p.held p.run.children is_there mid told t.0 turn t.1, t.2, t.3)
 
 -- One arrival more.
 
-pub lived-more : {C : Type 0} (R : Relation C) (W : Watch C) (p : LivePlace C) (came : List Arrival) (beats : List Beat) (text : List ℕ) (mid : LivePlace C) (a : Arrival) (c : C) (more : List Beat) (last : List ℕ) (q : LivePlace C)
-    → Lived R W p came beats text mid → Comes W mid.run.children a c → TakesArrival R (woken_at mid c) a more last q → Lived R W p (came ++ a ∷ []) (beats ++ more) (text ++ last) q
-lived-more R W p [] beats text mid a c more last q h comes takes = (
+pub lived-more : {C : Type 0} (R : Relation C) (K : Clock C) (W : Watch C) (p : LivePlace C) (came : List Arrival) (beats : List Beat) (text : List ℕ) (mid : LivePlace C) (a : Arrival) (c : C) (more : List Beat) (last : List ℕ) (q : LivePlace C)
+    → Lived R K W p came beats text mid → Comes K W mid.held mid.run.children a c → TakesArrival R K (woken_at mid c) a more last q → Lived R K W p (came ++ a ∷ []) (beats ++ more) (text ++ last) q
+lived-more R K W p [] beats text mid a c more last q h comes takes = (
   c,
   q,
   more,
   [],
   last,
   [],
-  subst (λ m. Comes W m.run.children a c) h.2 comes,
-  subst (λ m. TakesArrival R (woken_at m c) a more last q) h.2 takes,
+  subst (λ m. Comes K W m.held m.run.children a c) h.2 comes,
+  subst (λ m. TakesArrival R K (woken_at m c) a more last q) h.2 takes,
   (refl, refl, refl),
   ap (λ x. x ++ more) h.0 ∙ sym (append-nil more),
   ap (λ x. x ++ last) h.1 ∙ sym (append-nil last),
 )
-lived-more R W p (b ∷ came) beats text mid a c more last q h comes takes = (
+lived-more R K W p (b ∷ came) beats text mid a c more last q h comes takes = (
   h.0,
   h.1,
   h.2,
@@ -65,7 +66,7 @@ lived-more R W p (b ∷ came) beats text mid a c more last q h comes takes = (
   h.5 ++ last,
   h.6,
   h.7,
-  lived-more R W h.1 came h.3 h.5 mid a c more last q h.8 comes takes,
+  lived-more R K W h.1 came h.3 h.5 mid a c more last q h.8 comes takes,
   ap (λ y. y ++ more) h.9 ∙ append_assoc h.2 h.3 more,
   ap (λ y. y ++ last) h.10 ∙ append_assoc h.4 h.5 last,
 )
@@ -94,47 +95,47 @@ one_more [] a = refl
 one_more (b ∷ came) a = omega (arith, one_more came a)
 
 -- So much came, and all of it was taken.
-pub record LivingSoFar {C : Type 0} (R : Relation C) (W : Watch C) (p : LivePlace C) (stand : Stand) (h : HostView) (c : C) (out now : Option (List ℕ)) (old new : Option (List InputLine)) : Type 0 where
+pub record LivingSoFar {C : Type 0} (R : Relation C) (K : Clock C) (W : Watch C) (p : LivePlace C) (stand : Stand) (h : HostView) (c : C) (out now : Option (List ℕ)) (old new : Option (List InputLine)) : Type 0 where
   pub came : List Arrival
   pub beats : List Beat
   pub text : List ℕ
   pub leads : World
-  pub lived : Lived R W p came beats text (place (at leads c h.store.disk) stand.number stand.held)
+  pub lived : Lived R K W p came beats text (place (at leads c h.store.disk) stand.number stand.held)
   pub stands : IsHost h leads
   pub wrote : Appends out now text
   pub lines : LinesLeft old new came
 
-pub none_lived : {C : Type 0} (R : Relation C) (W : Watch C) (w : World) (h : HostView) (c : C) (stand : Stand) (out : Option (List ℕ)) (old : Option (List InputLine)) → IsHost h w
-    → LivingSoFar R W (place (at w c h.store.disk) stand.number stand.held) stand h c out out old old
-none_lived R W w h c stand out old stands = record { came = []; beats = []; text = []; leads = w; lived = (refl, refl, refl); stands = stands; wrote = Appends-nil out; lines = left old }
+pub none_lived : {C : Type 0} (R : Relation C) (K : Clock C) (W : Watch C) (w : World) (h : HostView) (c : C) (stand : Stand) (out : Option (List ℕ)) (old : Option (List InputLine)) → IsHost h w
+    → LivingSoFar R K W (place (at w c h.store.disk) stand.number stand.held) stand h c out out old old
+none_lived R K W w h c stand out old stands = record { came = []; beats = []; text = []; leads = w; lived = (refl, refl, refl); stands = stands; wrote = Appends-nil out; lines = left old }
   where
     left : (o : Option (List InputLine)) → LinesLeft o o []
     left None = tt
     left (Some lines) = (lines, refl, refl)
 
-pub none_came : {C : Type 0} (R : Relation C) (W : Watch C) (w : World) (h : HostView) (c : C) (stand : Stand) (out : Option (List ℕ)) (old : Option (List InputLine)) (stands : IsHost h w)
-    → length (none_lived R W w h c stand out old stands).came ≡ 0
+pub none_came : {C : Type 0} (R : Relation C) (K : Clock C) (W : Watch C) (w : World) (h : HostView) (c : C) (stand : Stand) (out : Option (List ℕ)) (old : Option (List InputLine)) (stands : IsHost h w)
+    → length (none_lived R K W w h c stand out old stands).came ≡ 0
 unfolding none_lived
-none_came R W w h c stand out old stands = refl
+none_came R K W w h c stand out old stands = refl
 
-module _ {C : Type 0} (R : Relation C) (W : Watch C) (p : LivePlace C) (stand : Stand) (h g : HostView) (c d : C) (out now later : Option (List ℕ)) (old new behind : Option (List InputLine)) (so : LivingSoFar R W p stand h c out now old new) where
-  pub one_lived : (next : Stand) → Steps R W (place (at so.leads c h.store.disk) stand.number stand.held) g d now later new behind (Some next) → LivingSoFar R W p next g d out later old behind
+module _ {C : Type 0} (R : Relation C) (K : Clock C) (W : Watch C) (p : LivePlace C) (stand : Stand) (h g : HostView) (c d : C) (out now later : Option (List ℕ)) (old new behind : Option (List InputLine)) (so : LivingSoFar R K W p stand h c out now old new) where
+  pub one_lived : (next : Stand) → Steps R K W (place (at so.leads c h.store.disk) stand.number stand.held) g d now later new behind (Some next) → LivingSoFar R K W p next g d out later old behind
   one_lived next t = let took = t.4 in record {
     came = so.came ++ t.0 ∷ [];
     beats = so.beats ++ took.0;
     text = so.text ++ took.1;
     leads = took.2;
-    lived = lived-more R W p so.came so.beats so.text (place (at so.leads c h.store.disk) stand.number stand.held) t.0 t.1 took.0 took.1 (place (at took.2 d g.store.disk) next.number next.held) so.lived t.2 took.3;
+    lived = lived-more R K W p so.came so.beats so.text (place (at so.leads c h.store.disk) stand.number stand.held) t.0 t.1 took.0 took.1 (place (at took.2 d g.store.disk) next.number next.held) so.lived t.2 took.3;
     stands = took.4;
     wrote = Appends-trans out now later so.text took.1 so.wrote took.5;
     lines = lines-more old new behind so.came t.0 so.lines t.3;
   }
 
-  pub one_came : (next : Stand) (t : Steps R W (place (at so.leads c h.store.disk) stand.number stand.held) g d now later new behind (Some next)) → length (one_lived next t).came ≡ length so.came + 1
+  pub one_came : (next : Stand) (t : Steps R K W (place (at so.leads c h.store.disk) stand.number stand.held) g d now later new behind (Some next)) → length (one_lived next t).came ≡ length so.came + 1
   unfolding one_lived
   one_came next t = one_more so.came t.0
 
-  pub all_lived : Steps R W (place (at so.leads c h.store.disk) stand.number stand.held) g d now later new behind None → LivedThrough R W p g d out later old
+  pub all_lived : Steps R K W (place (at so.leads c h.store.disk) stand.number stand.held) g d now later new behind None → LivedThrough R K W p g d out later old
   all_lived t = (
     so.came,
     so.beats,
@@ -146,13 +147,12 @@ module _ {C : Type 0} (R : Relation C) (W : Watch C) (p : LivePlace C) (stand : 
     t.1,
     subst (Appends out later) (append-nil so.text) (Appends-trans out now later so.text [] so.wrote t.0.2),
     lines-end old new so.came so.lines t.2,
-    t.3,
   )
 
-  before : (a : Arrival) (mid : C) → Comes W c a mid → LivedBefore R W p (so.came ++ a ∷ []) a so.beats so.text (woken_at (place (at so.leads c h.store.disk) stand.number stand.held) mid)
+  before : (a : Arrival) (mid : C) → Comes K W stand.held c a mid → LivedBefore R K W p (so.came ++ a ∷ []) a so.beats so.text (woken_at (place (at so.leads c h.store.disk) stand.number stand.held) mid)
   before a mid comes = record { before = so.came; mid = place (at so.leads c h.store.disk) stand.number stand.held; sources = mid; are = refl; lived = so.lived; comes = comes; here = refl }
 
-  pub living_failed : (f : RunFault) → ComingFailed R W (place (at so.leads c h.store.disk) stand.number stand.held) g d now later new behind f → LivingFailed R W p g d out later old f
+  pub living_failed : (f : RunFault) → ComingFailed R K W (place (at so.leads c h.store.disk) stand.number stand.held) g d now later new behind f → LivingFailed R K W p g d out later old f
   living_failed fault.Input t = (
     so.came,
     so.beats,
@@ -200,10 +200,10 @@ module _ {C : Type 0} (R : Relation C) (W : Watch C) (p : LivePlace C) (stand : 
   )
 
 -- as many came as are counted
-pub too_many : {C : Type 0} (R : Relation C) (W : Watch C) (p : LivePlace C) (stand : Stand) (h : HostView) (c : C) (out now : Option (List ℕ)) (old new : Option (List InputLine)) → (so : LivingSoFar R W p stand h c out now old new)
-    → AreTooMany so.came → LivingFailed R W p h c out now old fault.InputTooLong
-too_many R W p stand h c out now old new so many =
-    (so.came, so.beats, so.text, place (at so.leads c h.store.disk) stand.number stand.held, so.lived, so.stands, refl, inl refl, so.wrote, lines-front old new so.came so.lines, many)
+pub too_many : {C : Type 0} (R : Relation C) (K : Clock C) (W : Watch C) (p : LivePlace C) (stand : Stand) (h : HostView) (c : C) (out now : Option (List ℕ)) (old new : Option (List InputLine)) → (so : LivingSoFar R K W p stand h c out now old new)
+    → AreTooMany so.came → LivingFailed R K W p h c out now old fault.InputTooLong
+too_many R K W p stand h c out now old new so many =
+    (so.came, so.beats, so.text, place (at so.leads c h.store.disk) stand.number stand.held, so.lived, so.stands, refl, refl, so.wrote, lines-front old new so.came so.lines, many)
 
 pub if_ok_then : {T E : Type 0} (r : Result T E) (P Q : T → Type 0) → ((x : T) → P x → Q x) → IfOk r P → IfOk r Q
 if_ok_then (Ok x) P Q f p = f x p

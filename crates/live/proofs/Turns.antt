@@ -23,7 +23,7 @@ use Rattle.offline_programs.specs.declared.fault.RunFault.{RunFault}
 use Rattle.offline_programs.specs.declared.fault.RunFault.TheVariants as fault
 use Rattle.live.specs.declared.holding.Hold.{Hold}
 use Rattle.live.specs.declared.holding.Hold.TheVariants as hold
-use Rattle.live.specs.Saying.{WaitGoesOn, IsTimed}
+use Rattle.live.specs.Saying.{Clock, WaitGoesOn, IsTimed}
 use Rattle.arrivals.specs.Lines.{InputLine}
 use Rattle.live.specs.Arrivals.{line, life, time_over, LivePlace, place, said_by}
 use Rattle.live.specs.Broken.{TakesLed}
@@ -65,15 +65,15 @@ goes_on_somehow held w = go (waits w) refl
     go [] e = (hold.Free, inl (e, refl))
     go (s ∷ ss) e = (held, inr (λ none. let wrong : s ∷ ss ≡ [] = sym e ∙ none in absurd cc, refl))
 
-module _ {C : Type 0} (R : Relation C) (p : LivePlace C) (h : HostView) (c : C) (a b : Option (List ℕ)) where
-  led-life : (seat : Seat) (t : At C) → HeardLed R true seat p.run t → TakesLed R p (life seat) t
+module _ {C : Type 0} (R : Relation C) (K : Clock C) (p : LivePlace C) (h : HostView) (c : C) (a b : Option (List ℕ)) where
+  led-life : (seat : Seat) (t : At C) → HeardLed R true seat p.run t → TakesLed R K p (life seat) t
   led-life seat t (inside.all beats q) =
       let on = goes_on_somehow p.held t.world in
       broken.all beats (beats_text beats) (place t p.number on.0) (refl, q, refl, on.1) refl
   led-life seat t (inside.up_to beats e q) = broken.up_to beats e q
   led-life seat t (inside.none q) = broken.so_far [] (refl, q)
 
-  pub life_failed : (seat : Seat) (f : RunFault) → HearingFailed R true seat p.run h c a b f → TakingFailed R p (life seat) h c a b f
+  pub life_failed : (seat : Seat) (f : RunFault) → HearingFailed R true seat p.run h c a b f → TakingFailed R K p (life seat) h c a b f
   life_failed seat (fault.Host f) q = q
   life_failed seat fault.OutOfMemory q = ([], q.0, (refl, q.1), q.2, q.3)
   life_failed seat fault.Output q = (q.0, q.1, led-life seat (at q.0 c q.1) q.2, q.3)
@@ -82,11 +82,11 @@ module _ {C : Type 0} (R : Relation C) (p : LivePlace C) (h : HostView) (c : C) 
   life_failed seat (fault.Open why) q = absurd q
   life_failed seat fault.InUse q = absurd q
 
-  led-time : (timed : IsTimed p.held) (t : At C) → StallingLed R (waits p.run.world) p.run t → TakesLed R p time_over t
+  led-time : (timed : IsTimed p.held) (t : At C) → StallingLed R (waits p.run.world) p.run t → TakesLed R K p time_over t
   led-time timed t (inside.first beats q) = broken.so_far beats (timed, q)
   led-time timed t (inside.up_to beats e q) = broken.up_to beats e (timed, q)
 
-  pub time_failed : IsTimed p.held → (f : RunFault) → StallingFailed R (waits p.run.world) p.run h c a b f → TakingFailed R p time_over h c a b f
+  pub time_failed : IsTimed p.held → (f : RunFault) → StallingFailed R (waits p.run.world) p.run h c a b f → TakingFailed R K p time_over h c a b f
   time_failed timed (fault.Host f) q = (q.0, q.1, q.2, q.3, (timed, q.4), q.5, q.6)
   time_failed timed fault.OutOfMemory q = (q.0, q.1, (timed, q.2), q.3, q.4)
   time_failed timed fault.Output q = (q.0, q.1, led-time timed (at q.0 c q.1) q.2, q.3)
@@ -144,8 +144,8 @@ module _ {C : Type 0} (R : Relation C) (seats : List Seat) (k : ℕ) (seat : Sea
 
 -- A line.
 
-module _ {C : Type 0} (R : Relation C) (s : At C) (before : ℕ) (h : HostView) (c : C) (a b : Option (List ℕ)) where
-  led-line : (l : InputLine) (t : At C) → SaidLed R (said_by l) s t → TakesLed R (place s before hold.Free) (line l) t
+module _ {C : Type 0} (R : Relation C) (K : Clock C) (s : At C) (before : ℕ) (h : HostView) (c : C) (a b : Option (List ℕ)) where
+  led-line : (l : InputLine) (t : At C) → SaidLed R K (said_by l) s t → TakesLed R K (place s before hold.Free) (line l) t
   led-line l t (inside.all begun begins done) =
       let on = goes_on_somehow begun t.world in
       let said = done (before + 1) in
@@ -153,7 +153,7 @@ module _ {C : Type 0} (R : Relation C) (s : At C) (before : ℕ) (h : HostView) 
   led-line l t (inside.up_to beats e q) = broken.up_to beats e q
   led-line l t (inside.none is q) = broken.so_far [] (is, refl, q)
 
-  pub line_failed : (l : InputLine) (f : RunFault) → SayingFailed R (said_by l) s h c a b f → TakingFailed R (place s before hold.Free) (line l) h c a b f
+  pub line_failed : (l : InputLine) (f : RunFault) → SayingFailed R K (said_by l) s h c a b f → TakingFailed R K (place s before hold.Free) (line l) h c a b f
   line_failed l (fault.Host f) q = q
   line_failed l fault.OutOfMemory q = ([], q.1, (q.0, refl, q.2), q.3, q.4)
   line_failed l fault.Output q = (q.0, q.1, led-line l (at q.0 c q.1) q.2, q.3)

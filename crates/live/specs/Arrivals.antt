@@ -1,10 +1,12 @@
 -- What came to a live worksheet, one after the other, and what came of it. (docs/EDGE.md, "Live".)
-use Rattle.std.specs.Prelude.{◌≡◌, ◌⊎◌, ℕ, ◌+◌, false, true, List, [], ◌∷◌, ◌++◌, Option, Some, None}
+use Rattle.std.specs.Prelude.{◌≡◌, ◌⊎◌, ℕ, ◌+◌, ◌-◌, ◌≤◌, Bool, false, true, List, [], ◌∷◌, ◌++◌, Option, Some, None}
 use Rattle.child_calls.specs.declared.seat.Seat.{Seat}
 use Rattle.child_edge.specs.Faithful.{Relation, At, at, Beat, Taken, OneTurn}
 use Rattle.child_edge.specs.Seats.{waits}
 use Rattle.arrivals.specs.Lines.{InputLine, whole, too_long}
-use Rattle.arrivals.specs.Watching.{Asked}
+use Rattle.arrivals.specs.Watching.{Asked, asked}
+use Rattle.arrivals.specs.declared.sources.Input.{Input}
+use Rattle.arrivals.specs.declared.sources.Input.TheVariants as input
 use Rattle.arrivals.specs.declared.sources.Woken.{Woken}
 use Rattle.arrivals.specs.declared.sources.Woken.TheVariants as woken
 use Rattle.sheet_text.specs.LiveLines.{live_line_of}
@@ -12,7 +14,7 @@ use Rattle.sheet_text.specs.declared.live_line.LiveLine.{LiveLine}
 use Rattle.sheet_programs.specs.Lines.{beats_text}
 use Rattle.live.specs.declared.holding.Hold.{Hold}
 use Rattle.live.specs.declared.holding.Hold.TheVariants as hold
-use Rattle.live.specs.Saying.{SaidDone, IsTimed, Begins, WaitGoesOn}
+use Rattle.live.specs.Saying.{Clock, SaidDone, IsTimed, Begins, WaitGoesOn}
 
 -- what came
 pub data Arrival : Type 0 where
@@ -55,32 +57,55 @@ woken_at p c = place (at p.run.world c p.run.disk) p.number p.held
 abbrev pub Watch : Type 0 → Type 1
 Watch C = C → Asked → Option Woken → C → Type 0
 
--- a watch told this, whatever it was asked
-abbrev pub WatchTells : {C : Type 0} → Watch C → C → Woken → C → Type 0
-WatchTells W c told d = (a : Asked) × W c a (Some told) d
+-- How the input stands where a line is there or not: a wait holds it back.
+abbrev pub input_at : Hold → Bool → Input
+input_at hold.Free true = input.Ready
+input_at hold.Free false = input.Empty
+input_at hold.Wait is_there = input.HeldBack
+input_at (hold.Until end) is_there = input.HeldBack
 
--- This came, and these are the sources behind the watch that told it. That a time is over is told by a watch, or by the clock.
-abbrev pub Comes : {C : Type 0} → Watch C → C → Arrival → C → Type 0
-Comes W c (line l) d = WatchTells W c woken.Input d
-Comes W c part d = WatchTells W c woken.Input d
-Comes W c (life seat) d = WatchTells W c (woken.Life seat) d
-Comes W c time_over d = WatchTells W c woken.TimeOver d ⊎ (d ≡ c)
+-- For how long a watch may take where the clock reads this: for what is left of a wait's time, and else without a limit.
+abbrev pub patience_at : Hold → ℕ → Option ℕ
+patience_at hold.Free now = None
+patience_at hold.Wait now = None
+patience_at (hold.Until end) now = Some (end - now)
+
+-- a wait has a time, and it is over where the clock reads this
+abbrev pub IsOver : Hold → ℕ → Type 0
+IsOver hold.Free now = ⊥
+IsOver hold.Wait now = ⊥
+IsOver (hold.Until end) now = end ≤ now
+
+-- A watch told this (none: a fault) while this wait held the lines back. The clock was read before it, and no time was over there;
+-- what the watch was asked follows from the wait, from that reading, and from whether a line was there already.
+abbrev pub WatchTells : {C : Type 0} → Clock C → Watch C → Hold → C → Bool → Option Woken → C → Type 0
+WatchTells K W held c is_there told d =
+    (now : ℕ) × K c now × (IsOver held now → ⊥) × W c (asked (input_at held is_there) (patience_at held now)) told d
+
+-- This came while this wait held the lines back, and these are the sources behind the watch that told it: a line where one was there, and
+-- a part of one where none was. That a time is over is told by a watch, or by the clock, which is read before each of them.
+abbrev pub Comes : {C : Type 0} → Clock C → Watch C → Hold → C → Arrival → C → Type 0
+Comes K W held c (line l) d = WatchTells K W held c true (Some woken.Input) d
+Comes K W held c part d = WatchTells K W held c false (Some woken.Input) d
+Comes K W held c (life seat) d = (is_there : Bool) × WatchTells K W held c is_there (Some (woken.Life seat)) d
+Comes K W held c time_over d =
+    ((is_there : Bool) × WatchTells K W held c is_there (Some woken.TimeOver) d) ⊎ ((now : ℕ) × K c now × IsOver held now × (d ≡ c))
 
 -- What came of an arrival, by what it is: the beats, what is written of them, and the place behind it.
-abbrev pub TakesArrival : {C : Type 0} → Relation C → LivePlace C → Arrival → List Beat → List ℕ → LivePlace C → Type 0
-TakesArrival R p (line l) beats text q =
+abbrev pub TakesArrival : {C : Type 0} → Relation C → Clock C → LivePlace C → Arrival → List Beat → List ℕ → LivePlace C → Type 0
+TakesArrival R K p (line l) beats text q =
     (p.held ≡ hold.Free) × (q.number ≡ p.number + 1) × SaidDone R q.number (said_by l) p.run beats text q.run
-    × ((begun : Hold) × Begins (said_by l) begun × WaitGoesOn begun q.run.world q.held)
-TakesArrival R p part beats text q = (p.held ≡ hold.Free) × (beats ≡ []) × (text ≡ []) × (q ≡ p)
-TakesArrival R p (life seat) beats text q =
+    × ((begun : Hold) × Begins K p.run.children (said_by l) begun × WaitGoesOn begun q.run.world q.held)
+TakesArrival R K p part beats text q = (p.held ≡ hold.Free) × (beats ≡ []) × (text ≡ []) × (q ≡ p)
+TakesArrival R K p (life seat) beats text q =
     (q.number ≡ p.number) × Taken R true None seat p.run beats q.run × (text ≡ beats_text beats) × WaitGoesOn p.held q.run.world q.held
-TakesArrival R p time_over beats text q =
+TakesArrival R K p time_over beats text q =
     IsTimed p.held × (q.number ≡ p.number) × OneTurn R false (waits p.run.world) p.run beats q.run × (text ≡ beats_text beats) × (q.held ≡ hold.Free)
 
 -- These came, one after the other, and each was taken when it came.
-abbrev pub Lived : {C : Type 0} → Relation C → Watch C → LivePlace C → List Arrival → List Beat → List ℕ → LivePlace C → Type 0
-Lived R W p [] beats text q = (beats ≡ []) × (text ≡ []) × (q ≡ p)
-Lived {C = C} R W p (a ∷ came) beats text q =
+abbrev pub Lived : {C : Type 0} → Relation C → Clock C → Watch C → LivePlace C → List Arrival → List Beat → List ℕ → LivePlace C → Type 0
+Lived R K W p [] beats text q = (beats ≡ []) × (text ≡ []) × (q ≡ p)
+Lived {C = C} R K W p (a ∷ came) beats text q =
     (c : C) × (mid : LivePlace C) × (before : List Beat) × (behind : List Beat) × (first : List ℕ) × (rest : List ℕ)
-    × Comes W p.run.children a c × TakesArrival R (woken_at p c) a before first mid × Lived R W mid came behind rest q
+    × Comes K W p.held p.run.children a c × TakesArrival R K (woken_at p c) a before first mid × Lived R K W mid came behind rest q
     × (beats ≡ before ++ behind) × (text ≡ first ++ rest)

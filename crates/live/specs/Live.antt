@@ -1,5 +1,5 @@
 -- A live worksheet: what it leaves at the end of its input, and what a fault of it leaves.
-use Rattle.std.specs.Prelude.{◌≡◌, ◌+◌, ◌^◌, ◌≤◌, ◌⊎◌, ℕ, List, ◌++◌, Option, IfSome, length}
+use Rattle.std.specs.Prelude.{◌≡◌, ◌+◌, ◌^◌, ◌≤◌, ◌⊎◌, ℕ, Bool, false, true, List, ◌++◌, Option, Some, None, IfSome, length}
 use Rattle.std.specs.Io.KnownBytes.{Appends}
 use Rattle.disk_model.specs.Disk.{DiskView, InModel, SameDisk, bytes_on}
 use Rattle.recovery.specs.Sheets.{TellsOfSheet}
@@ -14,14 +14,15 @@ use Rattle.child_edge.specs.Moments.{LeavesFronts, LeavesFrontsUpTo}
 use Rattle.child_edge.specs.Seats.{running}
 use Rattle.child_edge.specs.Stops.{Stops}
 use Rattle.arrivals.specs.Lines.{InputLine, input_lines}
-use Rattle.arrivals.specs.Watching.{Asked}
-use Rattle.arrivals.specs.declared.sources.Woken.{Woken}
+use Rattle.arrivals.specs.declared.sources.Woken.TheVariants as woken
 use Rattle.sheet_programs.specs.Run.{OpenedOn}
 use Rattle.sheet_programs.specs.Told.{LeavesFrontsAnyhow}
 use Rattle.offline_programs.specs.declared.fault.RunFault.{RunFault}
 use Rattle.offline_programs.specs.declared.fault.RunFault.TheVariants as fault
+use Rattle.live.specs.declared.holding.Hold.{Hold}
 use Rattle.live.specs.declared.holding.Hold.TheVariants as hold
-use Rattle.live.specs.Arrivals.{Arrival, LivePlace, Watch, Lived, lines_in, place}
+use Rattle.live.specs.Saying.{Clock}
+use Rattle.live.specs.Arrivals.{Arrival, LivePlace, Watch, WatchTells, Lived, lines_in, place}
 use Rattle.live.specs.Broken.{LivedUpTo, LivedSoFar, LivedLed, taken_beats}
 
 -- a host that was just opened, with no line taken
@@ -36,14 +37,19 @@ AreFirst stream came = IfSome stream (λ bytes. (rest : List InputLine) × (inpu
 abbrev pub AreTooMany : List Arrival → Type 0
 AreTooMany came = 2 ^ 64 ≤ length came + 1
 
--- the sources as they were, or behind a last watch
-abbrev pub MayHaveWatched : {C : Type 0} → Watch C → C → C → Type 0
-MayHaveWatched W c d = (d ≡ c) ⊎ ((a : Asked) × (told : Option Woken) × W c a told d)
+-- The end of the input came: a watch told the input while no wait held it back and something was there, and that was its end.
+abbrev pub EndComes : {C : Type 0} → Clock C → Watch C → Hold → C → C → Type 0
+EndComes K W held c d = (held ≡ hold.Free) × WatchTells K W held c true (Some woken.Input) d
+
+-- No more could come: a watch had no answer, or it told the input while no line was there, and the read that followed failed.
+abbrev pub NoMoreComes : {C : Type 0} → Clock C → Watch C → Hold → C → C → Type 0
+NoMoreComes K W held c d =
+    ((is_there : Bool) × WatchTells K W held c is_there None d) ⊎ ((held ≡ hold.Free) × WatchTells K W held c false (Some woken.Input) d)
 
 -- Where the input came to its end, and no wait holds back that end: all of its lines were taken, this text was written, then each life
 -- that goes on was stopped, and each image of the disk that is given back is one of the worksheet behind all events. At every moment since the opening each image
 -- was one of the worksheet behind some of the first of them.
-pub record LiveDone {C : Type 0} (R : Relation C) (W : Watch C) (stream : Option (List ℕ)) (disk : DiskView) (c d : C) (a b : Option (List ℕ)) (back : DiskView) : Type 0 where
+pub record LiveDone {C : Type 0} (R : Relation C) (K : Clock C) (W : Watch C) (stream : Option (List ℕ)) (disk : DiskView) (c d : C) (a b : Option (List ℕ)) (back : DiskView) : Type 0 where
   pub start : World
   pub now : DiskView
   pub opened : OpenedOn disk start now
@@ -52,10 +58,9 @@ pub record LiveDone {C : Type 0} (R : Relation C) (W : Watch C) (stream : Option
   pub text : List ℕ
   pub leads : LivePlace C
   pub sources : C
-  pub lived : Lived R W (begin_at start c now) arrivals beats text leads
+  pub lived : Lived R K W (begin_at start c now) arrivals beats text leads
   pub lines : IfSome stream (λ bytes. input_lines bytes ≡ lines_in arrivals)
-  pub free : leads.held ≡ hold.Free
-  pub watched : MayHaveWatched W leads.run.children sources
+  pub ended : EndComes K W leads.held leads.run.children sources
   pub stops : Stops R (running leads.run.world) sources d
   pub wrote : Appends a b text
   pub back_is : back ≡ leads.run.disk
@@ -64,7 +69,7 @@ pub record LiveDone {C : Type 0} (R : Relation C) (W : Watch C) (stream : Option
 
 -- At an event the host had this fault, and its disk was left as told. What was told before is written, and each life that goes on
 -- was stopped.
-pub record LiveStopped {C : Type 0} (R : Relation C) (W : Watch C) (stream : Option (List ℕ)) (disk : DiskView) (c d : C) (a b : Option (List ℕ)) (f : HostFault) : Type 0 where
+pub record LiveStopped {C : Type 0} (R : Relation C) (K : Clock C) (W : Watch C) (stream : Option (List ℕ)) (disk : DiskView) (c d : C) (a b : Option (List ℕ)) (f : HostFault) : Type 0 where
   pub start : World
   pub now : DiskView
   pub opened : OpenedOn disk start now
@@ -73,7 +78,7 @@ pub record LiveStopped {C : Type 0} (R : Relation C) (W : Watch C) (stream : Opt
   pub text : List ℕ
   pub failed : Event
   pub leads : At C
-  pub lived : LivedUpTo R W (begin_at start c now) arrivals beats text failed leads
+  pub lived : LivedUpTo R K W (begin_at start c now) arrivals beats text failed leads
   pub lines : AreFirst stream arrivals
   pub host : HostView
   pub same : SameDisk disk host.store.disk
@@ -83,7 +88,7 @@ pub record LiveStopped {C : Type 0} (R : Relation C) (W : Watch C) (stream : Opt
   pub wrote : Appends a b text
 
 -- Memory was refused. What was told before is written, and each life that goes on was stopped.
-pub record LiveSoFar {C : Type 0} (R : Relation C) (W : Watch C) (stream : Option (List ℕ)) (disk : DiskView) (c d : C) (a b : Option (List ℕ)) : Type 0 where
+pub record LiveSoFar {C : Type 0} (R : Relation C) (K : Clock C) (W : Watch C) (stream : Option (List ℕ)) (disk : DiskView) (c d : C) (a b : Option (List ℕ)) : Type 0 where
   pub start : World
   pub now : DiskView
   pub opened : OpenedOn disk start now
@@ -91,14 +96,14 @@ pub record LiveSoFar {C : Type 0} (R : Relation C) (W : Watch C) (stream : Optio
   pub beats : List Beat
   pub text : List ℕ
   pub leads : At C
-  pub lived : LivedSoFar R W (begin_at start c now) arrivals beats text leads
+  pub lived : LivedSoFar R K W (begin_at start c now) arrivals beats text leads
   pub lines : AreFirst stream arrivals
   pub moments : LeavesFronts start beats now leads.disk
   pub stops : Stops R (running leads.world) leads.children d
   pub wrote : Appends a b text
 
 -- The input couldn't be read any more, or as many came as are counted. All that came was taken, and what was told is written.
-pub record LiveUnread {C : Type 0} (R : Relation C) (W : Watch C) (stream : Option (List ℕ)) (disk : DiskView) (c d : C) (a b : Option (List ℕ)) : Type 0 where
+pub record LiveUnread {C : Type 0} (R : Relation C) (K : Clock C) (W : Watch C) (stream : Option (List ℕ)) (disk : DiskView) (c d : C) (a b : Option (List ℕ)) : Type 0 where
   pub start : World
   pub now : DiskView
   pub opened : OpenedOn disk start now
@@ -107,21 +112,20 @@ pub record LiveUnread {C : Type 0} (R : Relation C) (W : Watch C) (stream : Opti
   pub text : List ℕ
   pub leads : LivePlace C
   pub sources : C
-  pub lived : Lived R W (begin_at start c now) arrivals beats text leads
+  pub lived : Lived R K W (begin_at start c now) arrivals beats text leads
   pub lines : AreFirst stream arrivals
-  pub watched : MayHaveWatched W leads.run.children sources
   pub moments : LeavesFronts start beats now leads.run.disk
   pub stops : Stops R (running leads.run.world) sources d
   pub wrote : Appends a b text
 
 -- The writer failed. What came until then is on the disk as ever, and each life that goes on was stopped.
-pub record LiveLed {C : Type 0} (R : Relation C) (W : Watch C) (stream : Option (List ℕ)) (disk : DiskView) (c d : C) : Type 0 where
+pub record LiveLed {C : Type 0} (R : Relation C) (K : Clock C) (W : Watch C) (stream : Option (List ℕ)) (disk : DiskView) (c d : C) : Type 0 where
   pub start : World
   pub now : DiskView
   pub opened : OpenedOn disk start now
   pub arrivals : List Arrival
   pub leads : At C
-  pub lived : LivedLed R W (begin_at start c now) arrivals leads
+  pub lived : LivedLed R K W (begin_at start c now) arrivals leads
   pub lines : AreFirst stream arrivals
   pub host : HostView
   pub same : SameDisk disk host.store.disk
@@ -129,11 +133,13 @@ pub record LiveLed {C : Type 0} (R : Relation C) (W : Watch C) (stream : Option 
   pub stops : Stops R (running leads.world) leads.children d
 
 -- What a fault tells, where the reader gives this stream: where the disk wasn't opened, nothing was done.
-abbrev pub TellsLive : {C : Type 0} → Relation C → Watch C → Option (List ℕ) → DiskView → C → C → Option (List ℕ) → Option (List ℕ) → Type 0 → RunFault → Type 0
-TellsLive R W stream disk c d a b nothing fault.Input = LiveUnread R W stream disk c d a b
-TellsLive R W stream disk c d a b nothing fault.InputTooLong = (unread : LiveUnread R W stream disk c d a b) × AreTooMany unread.arrivals
-TellsLive R W stream disk c d a b nothing (fault.Open why) = nothing × InModel disk (TellsOfSheet (bytes_on disk) why)
-TellsLive R W stream disk c d a b nothing fault.InUse = ⊥
-TellsLive R W stream disk c d a b nothing (fault.Host f) = LiveStopped R W stream disk c d a b f
-TellsLive R W stream disk c d a b nothing fault.OutOfMemory = nothing ⊎ LiveSoFar R W stream disk c d a b
-TellsLive R W stream disk c d a b nothing fault.Output = LiveLed R W stream disk c d
+abbrev pub TellsLive : {C : Type 0} → Relation C → Clock C → Watch C → Option (List ℕ) → DiskView → C → C → Option (List ℕ) → Option (List ℕ) → Type 0 → RunFault → Type 0
+TellsLive R K W stream disk c d a b nothing fault.Input =
+    (unread : LiveUnread R K W stream disk c d a b) × NoMoreComes K W unread.leads.held unread.leads.run.children unread.sources
+TellsLive R K W stream disk c d a b nothing fault.InputTooLong =
+    (unread : LiveUnread R K W stream disk c d a b) × AreTooMany unread.arrivals × (unread.sources ≡ unread.leads.run.children)
+TellsLive R K W stream disk c d a b nothing (fault.Open why) = nothing × InModel disk (TellsOfSheet (bytes_on disk) why)
+TellsLive R K W stream disk c d a b nothing fault.InUse = ⊥
+TellsLive R K W stream disk c d a b nothing (fault.Host f) = LiveStopped R K W stream disk c d a b f
+TellsLive R K W stream disk c d a b nothing fault.OutOfMemory = nothing ⊎ LiveSoFar R K W stream disk c d a b
+TellsLive R K W stream disk c d a b nothing fault.Output = LiveLed R K W stream disk c d

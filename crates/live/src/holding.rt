@@ -1,9 +1,10 @@
 //! Waits that hold back the lines behind them.
-ghost use Rattle.std.specs.Prelude.{◌≡◌, true};
+ghost use Rattle.std.specs.Prelude.{◌≡◌, false, true};
 ghost use Rattle.session_engine.specs.World.{World};
 ghost use Rattle.session_engine.specs.Host.{IsHost};
 ghost use Rattle.arrivals.specs.Watching.{InputMayCome, TimeMayCome};
 ghost use Rattle.live.specs.Saying.{WaitGoesOn, IsTimed};
+ghost use Rattle.live.specs.Arrivals.{IsOver, input_at, patience_at};
 
 use arrivals::Input;
 use child_edge::is_idle;
@@ -30,7 +31,8 @@ pub(crate) fn go_on<D: Disk>(held: Hold, host: &Host<D>) -> Hold
 
 /// How the input stands, where a line is there or not.
 pub(crate) fn input(held: Hold, is_ready: bool) -> Input
-    ensures { InputMayCome result → held ≡ Hold.Free }
+    ensures value { result ≡ input_at held is_ready }
+    ensures free { InputMayCome result → held ≡ Hold.Free }
 {
     match held {
         Hold::Free => { if is_ready { Input::Ready } else { Input::Empty } }
@@ -40,7 +42,8 @@ pub(crate) fn input(held: Hold, is_ready: bool) -> Input
 
 /// The milliseconds that are left at this moment, where there is a limit.
 pub(crate) fn patience(held: Hold, now: u64) -> Option<u64>
-    ensures { TimeMayCome result → IsTimed held }
+    ensures value { result ≡ patience_at held now }
+    ensures timed { TimeMayCome result → IsTimed held }
 {
     match held {
         Hold::Free | Hold::Wait => None,
@@ -50,7 +53,9 @@ pub(crate) fn patience(held: Hold, now: u64) -> Option<u64>
 
 /// Whether the time of a wait is over at this moment.
 pub(crate) fn is_over(held: Hold, now: u64) -> bool
-    ensures { result ≡ true → IsTimed held }
+    ensures over { result ≡ true → IsOver held now }
+    ensures not_over { result ≡ false → IsOver held now → ⊥ }
+    ensures timed { result ≡ true → IsTimed held }
 {
     match held {
         Hold::Free | Hold::Wait => false,

@@ -30,11 +30,11 @@ fn live_on<R: Read, D: Disk, S: Sources, W: Write>(
     writer: &mut W,
 ) -> Result<(), RunFault>
     ensures same { SameDisk host.old.store.disk host.new.store.disk }
-    ensures ok { (w : World) → IsHost host.old w → OnOk result (LivedThrough S.after S.wakes
+    ensures ok { (w : World) → IsHost host.old w → OnOk result (LivedThrough S.after S.clock S.wakes
         (begin_at w sources.old host.old.store.disk) host.new sources.new
         (W.contents writer.old) (W.contents writer.new)
         (to_come lines.old.held (R.remaining lines.old.reader))) }
-    ensures err { (w : World) → IsHost host.old w → IfErr result (LivingFailed S.after S.wakes
+    ensures err { (w : World) → IsHost host.old w → IfErr result (LivingFailed S.after S.clock S.wakes
         (begin_at w sources.old host.old.store.disk) host.new sources.new
         (W.contents writer.old) (W.contents writer.new)
         (to_come lines.old.held (R.remaining lines.old.reader))) }
@@ -62,11 +62,11 @@ fn live_and_stop<R: Read, D: Disk, S: Sources, W: Write>(
     writer: &mut W,
 ) -> Result<(), RunFault>
     ensures same { SameDisk host.old.store.disk host.new.store.disk }
-    ensures ok { (w : World) → IsHost host.old w → OnOk result (Ended S.after S.wakes
+    ensures ok { (w : World) → IsHost host.old w → OnOk result (Ended S.after S.clock S.wakes
         (begin_at w sources.old host.old.store.disk) host.new sources.new
         (W.contents writer.old) (W.contents writer.new)
         (to_come lines.old.held (R.remaining lines.old.reader))) }
-    ensures err { (w : World) → IsHost host.old w → IfErr result (EndedBy S.after S.wakes
+    ensures err { (w : World) → IsHost host.old w → IfErr result (EndedBy S.after S.clock S.wakes
         (begin_at w sources.old host.old.store.disk) host.new sources.new
         (W.contents writer.old) (W.contents writer.new)
         (to_come lines.old.held (R.remaining lines.old.reader))) }
@@ -98,10 +98,10 @@ pub fn live<R: Read, W: Write, D: Disk, S: Sources>(
 ) -> Result<D, RunFault>
 where
     R: Drop,
-    ensures lived { IfOk result (λ back. LiveDone S.after S.wakes (R.remaining reader) (D.view disk)
+    ensures lived { IfOk result (λ back. LiveDone S.after S.clock S.wakes (R.remaining reader) (D.view disk)
         sources.old sources.new (W.contents writer.old) (W.contents writer.new) (D.view back)) }
     ensures same { IfOk result (λ back. SameDisk (D.view disk) (D.view back)) }
-    ensures fault { IfErr result (TellsLive S.after S.wakes (R.remaining reader) (D.view disk)
+    ensures fault { IfErr result (TellsLive S.after S.clock S.wakes (R.remaining reader) (D.view disk)
         sources.old sources.new (W.contents writer.old) (W.contents writer.new)
         ((writer.new ≡ writer.old) × (sources.new ≡ sources.old))) }
 

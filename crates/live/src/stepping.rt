@@ -1,12 +1,11 @@
 //! What comes next, and what comes of it.
-ghost use Rattle.std.specs.Prelude.{◌≡◌, ◌+◌, ◌<◌, ◌≤◌, ◌^◌, ℕ, IfErr, IfOk, IfSome, OnErr};
+ghost use Rattle.std.specs.Prelude.{◌≡◌, ◌+◌, ◌<◌, ◌≤◌, ◌^◌, ℕ, Bool, IfErr, IfOk, IfSome, None, OnErr};
 ghost use Rattle.disk_model.specs.Disk.{SameDisk};
 ghost use Rattle.session_engine.specs.World.{World};
 ghost use Rattle.session_engine.specs.Host.{IsHost};
 ghost use Rattle.child_edge.specs.Faithful.{at};
-ghost use Rattle.arrivals.specs.Held.{to_come};
-ghost use Rattle.live.specs.Arrivals.{place};
-ghost use Rattle.live.specs.Live.{MayHaveWatched};
+ghost use Rattle.arrivals.specs.Held.{Readiness, to_come};
+ghost use Rattle.live.specs.Arrivals.{WatchTells, place};
 ghost use Rattle.live.specs.inside.Taking.{ComingFailed, MayTurn, Steps, TurnFailed, TurnTook, Turns};
 
 use crate::holding::{Hold, input, is_over, patience};
@@ -37,13 +36,15 @@ fn take_input<R: Read, D: Disk, S: Sources, W: Write>(
 ) -> Result<Option<Stand>, RunFault>
     requires { number + 1 < 2 ^ 64 }
     ensures same { SameDisk host.old.store.disk host.new.store.disk }
-    ensures ok { (w : World) → IsHost host.old w → IfOk result (TurnTook S.after
-        (place (at w sources.old host.old.store.disk) number Hold.Free) Woken.Input host.new sources.new
+    ensures ok { (is_there : Bool) (w : World) → Readiness lines.old.held is_there → IsHost host.old w
+        → IfOk result (TurnTook S.after S.clock
+        (place (at w sources.old host.old.store.disk) number Hold.Free) Woken.Input is_there host.new sources.new
         (W.contents writer.old) (W.contents writer.new)
         (to_come lines.old.held (R.remaining lines.old.reader))
         (to_come lines.new.held (R.remaining lines.new.reader))) }
-    ensures err { (w : World) → IsHost host.old w → IfErr result (TurnFailed S.after
-        (place (at w sources.old host.old.store.disk) number Hold.Free) Woken.Input host.new sources.new
+    ensures err { (is_there : Bool) (w : World) → Readiness lines.old.held is_there → IsHost host.old w
+        → IfErr result (TurnFailed S.after S.clock
+        (place (at w sources.old host.old.store.disk) number Hold.Free) Woken.Input is_there host.new sources.new
         (W.contents writer.old) (W.contents writer.new)
         (to_come lines.old.held (R.remaining lines.old.reader))
         (to_come lines.new.held (R.remaining lines.new.reader))) }
@@ -90,13 +91,15 @@ fn take_turn<R: Read, D: Disk, S: Sources, W: Write>(
     requires few { stand.number + 1 < 2 ^ 64 }
     requires turn { MayTurn stand.held woken }
     ensures same { SameDisk host.old.store.disk host.new.store.disk }
-    ensures ok { (w : World) → IsHost host.old w → IfOk result (TurnTook S.after
-        (place (at w sources.old host.old.store.disk) stand.number stand.held) woken host.new sources.new
+    ensures ok { (is_there : Bool) (w : World) → Readiness lines.old.held is_there → IsHost host.old w
+        → IfOk result (TurnTook S.after S.clock
+        (place (at w sources.old host.old.store.disk) stand.number stand.held) woken is_there host.new sources.new
         (W.contents writer.old) (W.contents writer.new)
         (to_come lines.old.held (R.remaining lines.old.reader))
         (to_come lines.new.held (R.remaining lines.new.reader))) }
-    ensures err { (w : World) → IsHost host.old w → IfErr result (TurnFailed S.after
-        (place (at w sources.old host.old.store.disk) stand.number stand.held) woken host.new sources.new
+    ensures err { (is_there : Bool) (w : World) → Readiness lines.old.held is_there → IsHost host.old w
+        → IfErr result (TurnFailed S.after S.clock
+        (place (at w sources.old host.old.store.disk) stand.number stand.held) woken is_there host.new sources.new
         (W.contents writer.old) (W.contents writer.new)
         (to_come lines.old.held (R.remaining lines.old.reader))
         (to_come lines.new.held (R.remaining lines.new.reader))) }
@@ -121,8 +124,8 @@ fn take_turn<R: Read, D: Disk, S: Sources, W: Write>(
 
 /// Waits until it is someone's turn. A wait whose time is over ends, whatever else has something.
 fn next_turn<S: Sources>(sources: &mut S, held: Hold, is_ready: bool) -> Result<Woken, WatchFault>
-    ensures ok { IfOk result (Turns S.wakes held sources.old sources.new) }
-    ensures err { OnErr result (MayHaveWatched S.wakes sources.old sources.new) }
+    ensures ok { IfOk result (Turns S.clock S.wakes held sources.old is_ready sources.new) }
+    ensures err { OnErr result (WatchTells S.clock S.wakes held sources.old is_ready None sources.new) }
 {
     let now = sources.now();
     if is_over(held, now) {
@@ -142,12 +145,12 @@ pub(crate) fn step<R: Read, D: Disk, S: Sources, W: Write>(
 ) -> Result<Option<Stand>, RunFault>
     requires { stand.number + 1 < 2 ^ 64 }
     ensures same { SameDisk host.old.store.disk host.new.store.disk }
-    ensures ok { (w : World) → IsHost host.old w → IfOk result (Steps S.after S.wakes
+    ensures ok { (w : World) → IsHost host.old w → IfOk result (Steps S.after S.clock S.wakes
         (place (at w sources.old host.old.store.disk) stand.number stand.held) host.new sources.new
         (W.contents writer.old) (W.contents writer.new)
         (to_come lines.old.held (R.remaining lines.old.reader))
         (to_come lines.new.held (R.remaining lines.new.reader))) }
-    ensures err { (w : World) → IsHost host.old w → IfErr result (ComingFailed S.after S.wakes
+    ensures err { (w : World) → IsHost host.old w → IfErr result (ComingFailed S.after S.clock S.wakes
         (place (at w sources.old host.old.store.disk) stand.number stand.held) host.new sources.new
         (W.contents writer.old) (W.contents writer.new)
         (to_come lines.old.held (R.remaining lines.old.reader))

@@ -84,10 +84,10 @@ pub(crate) fn take_life<D: Disk, S: Sources, W: Write>(
     writer: &mut W,
 ) -> Result<Hold, RunFault>
     ensures same { SameDisk host.old.store.disk host.new.store.disk }
-    ensures ok { (number : ℕ) (w : World) → IsHost host.old w → IfOk result (Took S.after
+    ensures ok { (number : ℕ) (w : World) → IsHost host.old w → IfOk result (Took S.after S.clock
         (place (at w sources.old host.old.store.disk) number held) (life seat) host.new sources.new
         (W.contents writer.old) (W.contents writer.new) number) }
-    ensures err { (number : ℕ) (w : World) → IsHost host.old w → IfErr result (TakingFailed S.after
+    ensures err { (number : ℕ) (w : World) → IsHost host.old w → IfErr result (TakingFailed S.after S.clock
         (place (at w sources.old host.old.store.disk) number held) (life seat) host.new sources.new
         (W.contents writer.old) (W.contents writer.new)) }
 {
@@ -129,10 +129,10 @@ pub(crate) fn end_wait<D: Disk, S: Sources, W: Write>(
     writer: &mut W,
 ) -> Result<(), RunFault>
     ensures same { SameDisk host.old.store.disk host.new.store.disk }
-    ensures ok { (number : ℕ) (held : Hold) (w : World) → IsTimed held → IsHost host.old w → OnOk result (Took S.after
+    ensures ok { (number : ℕ) (held : Hold) (w : World) → IsTimed held → IsHost host.old w → OnOk result (Took S.after S.clock
         (place (at w sources.old host.old.store.disk) number held) time_over host.new sources.new
         (W.contents writer.old) (W.contents writer.new) number Hold.Free) }
-    ensures err { (number : ℕ) (held : Hold) (w : World) → IsTimed held → IsHost host.old w → IfErr result (TakingFailed S.after
+    ensures err { (number : ℕ) (held : Hold) (w : World) → IsTimed held → IsHost host.old w → IfErr result (TakingFailed S.after S.clock
         (place (at w sources.old host.old.store.disk) number held) time_over host.new sources.new
         (W.contents writer.old) (W.contents writer.new)) }
 {

@@ -6,6 +6,7 @@ use Rattle.journal.specs.declared.opening.OpenCause.TheVariants as opens
 use Rattle.host_events.specs.declared.outcome.HostFault.TheVariants as hosts
 use Rattle.child_edge.specs.Faithful.{Relation}
 use Rattle.live.specs.Arrivals.{Watch}
+use Rattle.live.specs.Saying.{Clock}
 use Rattle.live.specs.Live.{LiveDone, TellsLive}
 use Rattle.offline_programs.specs.Faults.{FailedSince}
 use Rattle.offline_programs.specs.declared.fault.RunFault.{RunFault}
@@ -14,10 +15,10 @@ use Rattle.sheet_programs.proofs.Runs.{err_same}
 use Rattle.program_endings.specs.Ending.{ProgramAnswer}
 use Rattle.program_endings.specs.Programs.{LiveAnswer, answer_of}
 
-module _ {D C : Type 0} (view : D → DiskView) (R : Relation C) (W : Watch C) (stream : Option (List ℕ)) (disk : D) (c d : C) (a b : Option (List ℕ)) (nothing : Type 0) where
-  pub live_answered : (r : Result D RunFault) → IfOk r (λ back. LiveDone R W stream (view disk) c d a b (view back)) → IfOk r (λ back. SameDisk (view disk) (view back))
-      → IfErr r (TellsLive R W stream (view disk) c d a b nothing) → (IsErrOf r (fault.Open opens.Disk) → FailedSince view disk) → (IsErrOf r (fault.Host hosts.Disk) → FailedSince view disk)
-      → LiveAnswer view R W stream disk c d a b nothing (answer_of r)
+module _ {D C : Type 0} (view : D → DiskView) (R : Relation C) (K : Clock C) (W : Watch C) (stream : Option (List ℕ)) (disk : D) (c d : C) (a b : Option (List ℕ)) (nothing : Type 0) where
+  pub live_answered : (r : Result D RunFault) → IfOk r (λ back. LiveDone R K W stream (view disk) c d a b (view back)) → IfOk r (λ back. SameDisk (view disk) (view back))
+      → IfErr r (TellsLive R K W stream (view disk) c d a b nothing) → (IsErrOf r (fault.Open opens.Disk) → FailedSince view disk) → (IsErrOf r (fault.Host hosts.Disk) → FailedSince view disk)
+      → LiveAnswer view R K W stream disk c d a b nothing (answer_of r)
   live_answered (Ok back) lived same told unopened failed = record {
     lived = (refl, (back, same, lived));
     unopened = λ e. no-error (fault.Open opens.Disk) e;

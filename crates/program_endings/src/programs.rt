@@ -179,7 +179,7 @@ fn live_on<R: Read, W: Write, D: Disk, S: Sources>(
     disk: D,
     sources: &mut S,
 ) -> Result<bool, RunFault>
-    ensures { LiveAnswer D.view S.after S.wakes (R.remaining input.old) disk sources.old sources.new
+    ensures { LiveAnswer D.view S.after S.clock S.wakes (R.remaining input.old) disk sources.old sources.new
         (W.contents output.old) (W.contents output.new)
         ((output.new ≡ output.old) × (sources.new ≡ sources.old)) result }
 {
@@ -196,7 +196,7 @@ fn end_live<R: Read, W: Write, E: Write, D: Disk, S: Sources>(
     sources: &mut S,
 ) -> Ending
     ensures { (answer : ProgramAnswer)
-        × LiveAnswer D.view S.after S.wakes (R.remaining input.old) disk sources.old sources.new
+        × LiveAnswer D.view S.after S.clock S.wakes (R.remaining input.old) disk sources.old sources.new
         (W.contents output.old) (W.contents output.new)
         ((output.new ≡ output.old) × (sources.new ≡ sources.old)) answer
         × (result.status ≡ status_of answer)
@@ -223,7 +223,7 @@ pub fn run_live<R: Read, W: Write, E: Write, D: Disk, S: Sources>(
         × TellsFault E.contents errors.old errors.new result.told (Err (printed.no_files why))) }
 
     ensures files { IfOk files (λ disk. (answer : ProgramAnswer)
-        × LiveAnswer D.view S.after S.wakes (R.remaining input.old) disk sources.old sources.new
+        × LiveAnswer D.view S.after S.clock S.wakes (R.remaining input.old) disk sources.old sources.new
         (W.contents output.old) (W.contents output.new)
         ((output.new ≡ output.old) × (sources.new ≡ sources.old)) answer
         × (result.status ≡ status_of answer)

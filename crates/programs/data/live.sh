@@ -33,6 +33,11 @@ wait 1 1
 wait 1s
 waits 1
 wait1
+interrupt
+interrupt 
+interrupt a/b
+interrupt  a
+interrupts a
 checkpoint 
 checkpoint 1
 session
@@ -54,7 +59,7 @@ complete 1  1
 stop
 END_OF_LINES
 printf 'wait\r\r\nwait 1\r\r\nprint 1\r\r\n\r\r\n\357\273\277print\nprint 1\r' >>given
-lives 'lines of no form' "$(printf 'bad line %s\\n' $(seq 55))" '' <given
+lives 'lines of no form' "$(printf 'bad line %s\\n' $(seq 60))" '' <given
 
 # Lines of scripts, in the words of `run`.
 live 'each line of a script' \
@@ -277,6 +282,57 @@ say 'wait 1\n'
 hears 'two lines that stall' 'ended a Stalled lost 2\n'
 hang_up 'two lines that stall' '' '#1 a\n> x\n? Stalled\n#2 a\n> y\n?\n'
 sent 'two lines that stall' 'start \nsend x'
+
+# An interrupt goes to the interpreter of its session where a line waits in it, and to no other. One that is made for it answers and
+# keeps what it has; another ends.
+cat >loops.py <<'END_OF_CHILD'
+import signal, sys, time
+
+
+def answer(text):
+    sys.stdout.write("\2verbatim:" + text + "\5")
+    sys.stdout.flush()
+
+
+def interrupted(number, frame):
+    raise KeyboardInterrupt
+
+
+signal.signal(signal.SIGINT, interrupted if sys.argv[1] == "keeps" else signal.SIG_DFL)
+lines = 0
+answer("")
+for line in sys.stdin:
+    lines += 1
+    if line == "loop\n":
+        try:
+            open("looping", "w").close()
+            time.sleep(20)
+        except KeyboardInterrupt:
+            answer("interrupted")
+            continue
+    answer(f"line {lines}")
+END_OF_CHILD
+looping() {
+    for n in $(seq 100); do [ -e looping ] && break; sleep 0.05; done
+    rm -f looping
+}
+rm -f looping
+talk
+say 'session a plain python3 loops.py keeps\nsession b plain python3 loops.py ends\nnew 0 a loop\nnew 1 b loop\nnew 2 a x\ninterrupt a\ninterrupt c\n'
+hears 'nothing to interrupt' 'ok\nok\nfield 1\nfield 2\nfield 3\nidle a\nrefused 1 NoSession\n'
+say 'eval 1\n'
+hears 'a line that loops' 'asked\nbanner a\n'
+looping
+say 'interrupt b\ninterrupt a\n'
+hears 'an interrupt' 'idle b\ninterrupted a\nanswered 1\n'
+say 'eval 3\n'
+hears 'the line after it' 'asked\nanswered 3\n'
+say 'interrupt a\neval 2\n'
+hears 'a line of another session' 'idle a\nasked\nbanner b\n'
+looping
+say 'interrupt b\n'
+hears 'an interrupt that ends' 'interrupted b\nended b Ended lost 1\n'
+hang_up 'interrupts' '' '#1 a\n> loop\ninterrupted\n#2 b\n> loop\n? Ended\n#3 a\n> x\nline 2\n'
 
 # The end of the input while a line is evaluated.
 interpreter p "$banner" '' ''

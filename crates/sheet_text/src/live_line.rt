@@ -8,6 +8,7 @@ use crate::numbers::read_number;
 use crate::parts::split_space;
 use crate::{LineFault, ScriptLine, read_line};
 use std::alloc::Global;
+use worksheet::Name;
 
 /// The most seconds that a line can have a wait last.
 pub const MOST_SECONDS: u32 = 1_000_000;
@@ -21,6 +22,8 @@ pub enum LiveLine {
     PrintField(u32),
     /// The host waits for its interpreters' answers, for so many seconds at most.
     WaitFor(u32),
+    /// The interpreter of this session is interrupted.
+    Interrupt(Name),
 }
 
 /// `wait SECONDS`
@@ -49,6 +52,16 @@ fn read_print(rest: &[u8]) -> Option<LiveLine>
     }
 }
 
+/// `interrupt NAME`
+fn read_interrupt(rest: &[u8]) -> Option<LiveLine>
+    ensures { result ≡ live.interrupt_of rest.now }
+{
+    match Name::new(rest) {
+        None => None,
+        Some(name) => Some(LiveLine::Interrupt(name)),
+    }
+}
+
 /// The form of this name, with what stands behind the space after the name.
 fn read_form(name: &[u8], rest: &[u8]) -> Option<LiveLine>
     ensures { result ≡ live.form_named name.now rest.now }
@@ -57,6 +70,8 @@ fn read_form(name: &[u8], rest: &[u8]) -> Option<LiveLine>
         read_print(rest)
     } else if name == b"wait".as_slice() {
         read_wait(rest)
+    } else if name == b"interrupt".as_slice() {
+        read_interrupt(rest)
     } else {
         None
     }
@@ -79,7 +94,7 @@ fn read_other(line: &[u8]) -> Result<LiveLine, LineFault>
 }
 
 /// What a line says that comes while interpreters work: a line of a script as `read_line` has it,
-/// `print ID`, or `wait SECONDS` (docs/SCRIPT.md, "Live"). The line comes without its end.
+/// `print ID`, `wait SECONDS`, or `interrupt NAME` (docs/SCRIPT.md, "Live"). The line comes without its end.
 ///
 /// `BadLine` exactly where no form fits. `OutOfMemory` only where the line is a command with bytes of
 /// its own.

@@ -47,6 +47,7 @@ fn part(alloc: Global, pieces: &[&[u8]]) -> Option<Part> {
         start: true,
         sends: Queue::new(alloc),
         receives,
+        interrupt: true,
         stop: true,
     })
 }

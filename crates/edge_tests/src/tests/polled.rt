@@ -188,3 +188,41 @@ fn piped(rt: &HostRuntime) -> Option<[u8; 3]> {
 fn an_input_is_told_and_read_to_its_end(rt: HostRuntime) {
     assert!(rt; piped(&rt) == Some(*b"ot-"));
 }
+
+// Where a host was started with SIGINT ignored its children would be, too.
+const HANDLER: &str =
+    "exec env --default-signal=INT sh -c 'trap \"echo I\" INT; echo; while :; do :; done'";
+
+const NO_HANDLER: &str = "exec env --default-signal=INT sh -c 'echo; while :; do :; done'";
+
+// The turns of a child that goes on behind an interrupt, of one that ends of it, and of one beside them.
+fn turns_of_interrupted(alloc: Global, real: &mut Real<'_>) -> Option<[u8; 6]> {
+    let handler = Name::new(b"h")?;
+    let none = Name::new(b"n")?;
+    let mut turns = [0; 6];
+    start(alloc, real, b"o", "echo; exec sleep 60")?;
+    turns[0] = turn(real, Input::HeldBack, None);
+    start(alloc, real, b"h", HANDLER)?;
+    turns[1] = turn(real, Input::HeldBack, None);
+    real.interrupt(handler, 1).ok()?;
+    turns[2] = turn(real, Input::HeldBack, None);
+    start(alloc, real, b"n", NO_HANDLER)?;
+    turns[3] = turn(real, Input::HeldBack, None);
+    real.interrupt(none, 1).ok()?;
+    turns[4] = turn(real, Input::HeldBack, None);
+    turns[5] = turn(real, Input::HeldBack, Some(20));
+    real.stop(handler, 1).ok()?;
+    real.stop(Name::new(b"o")?, 1).ok()?;
+    Some(turns)
+}
+
+fn interrupted(rt: &HostRuntime) -> Option<[u8; 6]> {
+    let mut real = real(rt, -1)?;
+    turns_of_interrupted(rt.alloc(), &mut real)
+}
+
+// The one with a handler writes and goes on, the one without is at its end, and nothing else is touched.
+#[test]
+fn an_interrupt_is_told_to_its_life_alone(rt: HostRuntime) {
+    assert!(rt; interrupted(&rt) == Some(*b"ohhnN-"));
+}

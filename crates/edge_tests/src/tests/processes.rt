@@ -134,6 +134,43 @@ fn a_stop_kills_and_waits_and_forgets(rt: HostRuntime) {
     assert!(rt; is_stopped(rt.alloc(), &calls));
 }
 
+// Whether this life of session `a` is interrupted.
+fn interrupts<R: process::Processes + Drop>(children: &mut Processes<R>, life: u32) -> bool {
+    match name() {
+        Some(name) => children.interrupt(name, life).is_ok(),
+        None => false,
+    }
+}
+
+// Whether an interrupt of this life alone starts another program, with three words and no pipe, and is a fault
+// where that can't be waited for. The child isn't killed and goes on.
+fn is_interrupted(alloc: Global, calls: &Calls) -> bool {
+    let mut children = Processes::new(calls.runtime(), alloc);
+    let is_started = starts(alloc, &mut children, &WORDS);
+    let another = (interrupts(&mut children, 2), calls.starts.get());
+    let unsent = (interrupts(&mut children, 1), calls.starts.get());
+    calls.kills.set(1);
+    let it = (
+        interrupts(&mut children, 1),
+        calls.starts.get(),
+        calls.kills.get(),
+    );
+    let goes_on = sends(&mut children, 1);
+    is_started
+        && another == (false, 1)
+        && unsent == (false, 2)
+        && it == (true, 3, 1)
+        && calls.words.get() == 3
+        && !calls.pipes.get()
+        && goes_on
+}
+
+#[test]
+fn an_interrupt_is_sent_by_a_program(rt: HostRuntime) {
+    let calls = Calls::none(rt.alloc());
+    assert!(rt; is_interrupted(rt.alloc(), &calls));
+}
+
 // Whether a child whose start takes all memory is started, and can be stopped.
 fn is_kept(alloc: Global, calls: &Calls) -> bool {
     let mut children = Processes::new(calls.runtime(), alloc);

@@ -61,6 +61,10 @@ impl Children for Silent {
         Ok(got)
     }
 
+    fn interrupt(&mut self, _name: Name, _life: u32) -> Result<(), ChildFault> {
+        Ok(())
+    }
+
     fn stop(&mut self, _name: Name, _life: u32) -> Result<(), ChildFault> {
         self.stops = self.stops.wrapping_add(1);
         Ok(())
@@ -110,6 +114,10 @@ impl Children for Turned {
             return Ok(got);
         }
         piece(self.alloc, b"\x02verbatim:A\x05")
+    }
+
+    fn interrupt(&mut self, _name: Name, _life: u32) -> Result<(), ChildFault> {
+        Ok(())
     }
 
     fn stop(&mut self, _name: Name, _life: u32) -> Result<(), ChildFault> {

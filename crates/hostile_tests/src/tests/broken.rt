@@ -80,6 +80,11 @@ impl Children for Broken {
         }
     }
 
+    // No effect of a host is an interrupt.
+    fn interrupt(&mut self, _name: Name, _life: u32) -> Result<(), ChildFault> {
+        Err(ChildFault)
+    }
+
     fn stop(&mut self, _name: Name, _life: u32) -> Result<(), ChildFault> {
         self.count(Kind::Stop)
     }

@@ -34,6 +34,7 @@ fn life(alloc: Global, receives: Queue<Got>, stop: bool) -> Option<Part> {
         start: true,
         sends: Queue::new(alloc),
         receives,
+        interrupt: true,
         stop,
     })
 }

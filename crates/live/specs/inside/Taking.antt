@@ -1,5 +1,5 @@
 -- What the functions of a live worksheet promise each other. No public contract names this.
-use Rattle.std.specs.Prelude.{◌≡◌, ◌⊎◌, ℕ, Bool, false, List, [], ◌∷◌, ◌++◌, Option, Some, None, IfSome}
+use Rattle.std.specs.Prelude.{◌≡◌, ◌⊎◌, ℕ, Bool, false, true, List, [], ◌∷◌, ◌++◌, Option, Some, None, IfSome}
 use Rattle.std.specs.Io.KnownBytes.{Appends}
 use Rattle.disk_model.specs.Disk.{DiskView}
 use Rattle.host_events.specs.declared.event.Event.{Event}
@@ -23,10 +23,10 @@ use Rattle.offline_programs.specs.declared.fault.RunFault.TheVariants as fault
 use Rattle.live.specs.declared.holding.Hold.{Hold}
 use Rattle.live.specs.declared.holding.Hold.TheVariants as hold
 use Rattle.live.specs.declared.stepping.Stand.{Stand}
-use Rattle.live.specs.Saying.{IsCommand, SaidDone, SaidUpTo, Begins, IsTimed}
-use Rattle.live.specs.Arrivals.{Arrival, line, part, life, time_over, LivePlace, Watch, Comes, TakesArrival, Lived, lines_in, WatchTells, place, woken_at}
+use Rattle.live.specs.Saying.{Clock, IsCommand, SaidDone, SaidUpTo, Begins, IsTimed}
+use Rattle.live.specs.Arrivals.{Arrival, line, part, life, time_over, LivePlace, Watch, Comes, IsOver, TakesArrival, Lived, lines_in, WatchTells, place, woken_at}
 use Rattle.live.specs.Broken.{TakesUpTo, TakesSoFar, TakesLed, LivedUpTo, LivedSoFar, LivedLed}
-use Rattle.live.specs.Live.{AreTooMany, MayHaveWatched}
+use Rattle.live.specs.Live.{AreTooMany, EndComes, NoMoreComes}
 
 -- One life was taken, and what it gave is written.
 abbrev pub Heard : {C : Type 0} → Relation C → Bool → Seat → At C → HostView → C → Option (List ℕ) → Option (List ℕ) → Type 0
@@ -50,25 +50,26 @@ HearingFailed R listens seat s h c a b (fault.Open why) = ⊥
 HearingFailed R listens seat s h c a b fault.InUse = ⊥
 
 -- A line was done, and what it gave is written; it begins this wait, if it does.
-abbrev pub Said : {C : Type 0} → Relation C → ℕ → Option LiveLine → At C → HostView → C → Option (List ℕ) → Option (List ℕ) → Hold → Type 0
-Said R number l s h c a b begun = (beats : List Beat) × (text : List ℕ) × (t : World) × SaidDone R number l s beats text (at t c h.store.disk) × Begins l begun × IsHost h t × Appends a b text
+abbrev pub Said : {C : Type 0} → Relation C → Clock C → ℕ → Option LiveLine → At C → HostView → C → Option (List ℕ) → Option (List ℕ) → Hold → Type 0
+Said R K number l s h c a b begun =
+    (beats : List Beat) × (text : List ℕ) × (t : World) × SaidDone R number l s beats text (at t c h.store.disk) × Begins K s.children l begun × IsHost h t × Appends a b text
 
 -- a line that was done, or a part of it, led from here to there
-pub data SaidLed {C : Type 0} (R : Relation C) (l : Option LiveLine) (s t : At C) : Type 0 where
-  all : (begun : Hold) → Begins l begun → ((number : ℕ) → (beats : List Beat) × (text : List ℕ) × SaidDone R number l s beats text t) → SaidLed R l s t
-  up_to : (beats : List Beat) (e : Event) → SaidUpTo R l s beats e t → SaidLed R l s t
-  none : IsCommand l → t ≡ s → SaidLed R l s t
+pub data SaidLed {C : Type 0} (R : Relation C) (K : Clock C) (l : Option LiveLine) (s t : At C) : Type 0 where
+  all : (begun : Hold) → Begins K s.children l begun → ((number : ℕ) → (beats : List Beat) × (text : List ℕ) × SaidDone R number l s beats text t) → SaidLed R K l s t
+  up_to : (beats : List Beat) (e : Event) → SaidUpTo R l s beats e t → SaidLed R K l s t
+  none : IsCommand l → t ≡ s → SaidLed R K l s t
 
 -- what a fault of that leaves
-abbrev pub SayingFailed : {C : Type 0} → Relation C → Option LiveLine → At C → HostView → C → Option (List ℕ) → Option (List ℕ) → RunFault → Type 0
-SayingFailed R l s h c a b (fault.Host f) =
+abbrev pub SayingFailed : {C : Type 0} → Relation C → Clock C → Option LiveLine → At C → HostView → C → Option (List ℕ) → Option (List ℕ) → RunFault → Type 0
+SayingFailed R K l s h c a b (fault.Host f) =
     (beats : List Beat) × (e : Event) × (t : World) × (d : DiskView) × SaidUpTo R l s beats e (at t c d) × Stopped d h t e f × Appends a b (beats_text beats)
-SayingFailed R l s h c a b fault.OutOfMemory = IsCommand l × (t : World) × (at t c h.store.disk ≡ s) × IsHost h t × Appends a b []
-SayingFailed R l s h c a b fault.Output = (t : World) × (d : DiskView) × SaidLed R l s (at t c d) × StandsOrStopped h t d
-SayingFailed R l s h c a b fault.Input = ⊥
-SayingFailed R l s h c a b fault.InputTooLong = ⊥
-SayingFailed R l s h c a b (fault.Open why) = ⊥
-SayingFailed R l s h c a b fault.InUse = ⊥
+SayingFailed R K l s h c a b fault.OutOfMemory = IsCommand l × (t : World) × (at t c h.store.disk ≡ s) × IsHost h t × Appends a b []
+SayingFailed R K l s h c a b fault.Output = (t : World) × (d : DiskView) × SaidLed R K l s (at t c d) × StandsOrStopped h t d
+SayingFailed R K l s h c a b fault.Input = ⊥
+SayingFailed R K l s h c a b fault.InputTooLong = ⊥
+SayingFailed R K l s h c a b (fault.Open why) = ⊥
+SayingFailed R K l s h c a b fault.InUse = ⊥
 
 -- Each of these lives was told that it stalled, and what came of it is written.
 abbrev pub Stalled : {C : Type 0} → Relation C → List Seat → At C → HostView → C → Option (List ℕ) → Option (List ℕ) → Type 0
@@ -92,21 +93,21 @@ StallingFailed R seats s h c a b (fault.Open why) = ⊥
 StallingFailed R seats s h c a b fault.InUse = ⊥
 
 -- An arrival was taken, and what came of it is written.
-abbrev pub Took : {C : Type 0} → Relation C → LivePlace C → Arrival → HostView → C → Option (List ℕ) → Option (List ℕ) → ℕ → Hold → Type 0
-Took R p a h c out now number held =
-    (beats : List Beat) × (text : List ℕ) × (t : World) × TakesArrival R p a beats text (place (at t c h.store.disk) number held) × IsHost h t × Appends out now text
+abbrev pub Took : {C : Type 0} → Relation C → Clock C → LivePlace C → Arrival → HostView → C → Option (List ℕ) → Option (List ℕ) → ℕ → Hold → Type 0
+Took R K p a h c out now number held =
+    (beats : List Beat) × (text : List ℕ) × (t : World) × TakesArrival R K p a beats text (place (at t c h.store.disk) number held) × IsHost h t × Appends out now text
 
 -- what a fault of that leaves
-abbrev pub TakingFailed : {C : Type 0} → Relation C → LivePlace C → Arrival → HostView → C → Option (List ℕ) → Option (List ℕ) → RunFault → Type 0
-TakingFailed R p a h c out now (fault.Host f) =
+abbrev pub TakingFailed : {C : Type 0} → Relation C → Clock C → LivePlace C → Arrival → HostView → C → Option (List ℕ) → Option (List ℕ) → RunFault → Type 0
+TakingFailed R K p a h c out now (fault.Host f) =
     (beats : List Beat) × (e : Event) × (t : World) × (d : DiskView) × TakesUpTo R p a beats e (at t c d) × Stopped d h t e f × Appends out now (beats_text beats)
-TakingFailed R p a h c out now fault.OutOfMemory =
+TakingFailed R K p a h c out now fault.OutOfMemory =
     (beats : List Beat) × (t : World) × TakesSoFar R p a beats (at t c h.store.disk) × IsHost h t × Appends out now (beats_text beats)
-TakingFailed R p a h c out now fault.Output = (t : World) × (d : DiskView) × TakesLed R p a (at t c d) × StandsOrStopped h t d
-TakingFailed R p a h c out now fault.Input = ⊥
-TakingFailed R p a h c out now fault.InputTooLong = ⊥
-TakingFailed R p a h c out now (fault.Open why) = ⊥
-TakingFailed R p a h c out now fault.InUse = ⊥
+TakingFailed R K p a h c out now fault.Output = (t : World) × (d : DiskView) × TakesLed R K p a (at t c d) × StandsOrStopped h t d
+TakingFailed R K p a h c out now fault.Input = ⊥
+TakingFailed R K p a h c out now fault.InputTooLong = ⊥
+TakingFailed R K p a h c out now (fault.Open why) = ⊥
+TakingFailed R K p a h c out now fault.InUse = ⊥
 
 -- what an arrival takes of the lines to come
 abbrev pub TakesLines : Arrival → Option (List InputLine) → Option (List InputLine) → Type 0
@@ -115,20 +116,20 @@ TakesLines part old new = KeepsLines old new
 TakesLines (life seat) old new = KeepsLines old new
 TakesLines time_over old new = KeepsLines old new
 
--- this arrival comes of this turn
-abbrev pub IsBy : Woken → Arrival → Type 0
-IsBy woken.Input (line l) = Unit {0}
-IsBy woken.Input part = Unit {0}
-IsBy woken.Input (life seat) = ⊥
-IsBy woken.Input time_over = ⊥
-IsBy (woken.Life at) (line l) = ⊥
-IsBy (woken.Life at) part = ⊥
-IsBy (woken.Life at) (life seat) = at ≡ seat
-IsBy (woken.Life at) time_over = ⊥
-IsBy woken.TimeOver (line l) = ⊥
-IsBy woken.TimeOver part = ⊥
-IsBy woken.TimeOver (life seat) = ⊥
-IsBy woken.TimeOver time_over = Unit {0}
+-- this arrival comes of this turn, where a line is there or not
+abbrev pub IsBy : Woken → Bool → Arrival → Type 0
+IsBy woken.Input is_there (line l) = is_there ≡ true
+IsBy woken.Input is_there part = is_there ≡ false
+IsBy woken.Input is_there (life seat) = ⊥
+IsBy woken.Input is_there time_over = ⊥
+IsBy (woken.Life at) is_there (line l) = ⊥
+IsBy (woken.Life at) is_there part = ⊥
+IsBy (woken.Life at) is_there (life seat) = at ≡ seat
+IsBy (woken.Life at) is_there time_over = ⊥
+IsBy woken.TimeOver is_there (line l) = ⊥
+IsBy woken.TimeOver is_there part = ⊥
+IsBy woken.TimeOver is_there (life seat) = ⊥
+IsBy woken.TimeOver is_there time_over = Unit {0}
 
 -- whose turn it may be where this wait holds back the lines
 abbrev pub MayTurn : Hold → Woken → Type 0
@@ -137,102 +138,104 @@ MayTurn held (woken.Life seat) = Unit {0}
 MayTurn held woken.TimeOver = IsTimed held
 
 -- whose turn it is: a watch told it, or the clock that the time is over
-abbrev pub Turns : {C : Type 0} → Watch C → Hold → C → C → Woken → Type 0
-Turns W held c d told = MayTurn held told × (WatchTells W c told d ⊎ ((told ≡ woken.TimeOver) × (d ≡ c)))
+abbrev pub Turns : {C : Type 0} → Clock C → Watch C → Hold → C → Bool → C → Woken → Type 0
+Turns K W held c is_there d told =
+    MayTurn held told × (WatchTells K W held c is_there (Some told) d ⊎ ((told ≡ woken.TimeOver) × ((now : ℕ) × K c now × IsOver held now × (d ≡ c))))
 
 -- the host goes on where it did, and nothing is written
 abbrev pub Rests : {C : Type 0} → LivePlace C → HostView → Option (List ℕ) → Option (List ℕ) → Type 0
 Rests p h out now = (h.store.disk ≡ p.run.disk) × IsHost h p.run.world × Appends out now []
 
 -- what came of a turn: an arrival was taken, or the input is at its end, and no wait holds it back
-abbrev pub TurnTook : {C : Type 0} → Relation C → LivePlace C → Woken → HostView → C → Option (List ℕ) → Option (List ℕ) → Option (List InputLine) → Option (List InputLine) → Option Stand → Type 0
-TurnTook R p told h c out now old new (Some stand) = (a : Arrival) × IsBy told a × TakesLines a old new × Took R p a h c out now stand.number stand.held
-TurnTook R p told h c out now old new None = Rests p h out now × (c ≡ p.run.children) × IfSome old (λ lines. lines ≡ []) × (p.held ≡ hold.Free)
+abbrev pub TurnTook : {C : Type 0} → Relation C → Clock C → LivePlace C → Woken → Bool → HostView → C → Option (List ℕ) → Option (List ℕ) → Option (List InputLine) → Option (List InputLine) → Option Stand → Type 0
+TurnTook R K p told is_there h c out now old new (Some stand) = (a : Arrival) × IsBy told is_there a × TakesLines a old new × Took R K p a h c out now stand.number stand.held
+TurnTook R K p told is_there h c out now old new None =
+    Rests p h out now × (c ≡ p.run.children) × IfSome old (λ lines. lines ≡ []) × (p.held ≡ hold.Free) × (told ≡ woken.Input) × (is_there ≡ true)
 
 -- what a fault at a turn leaves
-abbrev pub TurnFailed : {C : Type 0} → Relation C → LivePlace C → Woken → HostView → C → Option (List ℕ) → Option (List ℕ) → Option (List InputLine) → Option (List InputLine) → RunFault → Type 0
-TurnFailed R p told h c out now old new fault.Input = Rests p h out now × (c ≡ p.run.children)
-TurnFailed R p told h c out now old new fault.InputTooLong = ⊥
-TurnFailed R p told h c out now old new (fault.Open why) = ⊥
-TurnFailed R p told h c out now old new fault.InUse = ⊥
-TurnFailed R p told h c out now old new (fault.Host f) = (a : Arrival) × IsBy told a × TakesLines a old new × TakingFailed R p a h c out now (fault.Host f)
-TurnFailed R p told h c out now old new fault.OutOfMemory = (a : Arrival) × IsBy told a × TakesLines a old new × TakingFailed R p a h c out now fault.OutOfMemory
-TurnFailed R p told h c out now old new fault.Output = (a : Arrival) × IsBy told a × TakesLines a old new × TakingFailed R p a h c out now fault.Output
+abbrev pub TurnFailed : {C : Type 0} → Relation C → Clock C → LivePlace C → Woken → Bool → HostView → C → Option (List ℕ) → Option (List ℕ) → Option (List InputLine) → Option (List InputLine) → RunFault → Type 0
+TurnFailed R K p told is_there h c out now old new fault.Input =
+    Rests p h out now × (c ≡ p.run.children) × (p.held ≡ hold.Free) × (told ≡ woken.Input) × (is_there ≡ false)
+TurnFailed R K p told is_there h c out now old new fault.InputTooLong = ⊥
+TurnFailed R K p told is_there h c out now old new (fault.Open why) = ⊥
+TurnFailed R K p told is_there h c out now old new fault.InUse = ⊥
+TurnFailed R K p told is_there h c out now old new (fault.Host f) = (a : Arrival) × IsBy told is_there a × TakesLines a old new × TakingFailed R K p a h c out now (fault.Host f)
+TurnFailed R K p told is_there h c out now old new fault.OutOfMemory = (a : Arrival) × IsBy told is_there a × TakesLines a old new × TakingFailed R K p a h c out now fault.OutOfMemory
+TurnFailed R K p told is_there h c out now old new fault.Output = (a : Arrival) × IsBy told is_there a × TakesLines a old new × TakingFailed R K p a h c out now fault.Output
 
 -- An arrival came and was taken.
-abbrev pub Came : {C : Type 0} → Relation C → Watch C → LivePlace C → HostView → C → Option (List ℕ) → Option (List ℕ) → Option (List InputLine) → Option (List InputLine) → ℕ → Hold → Type 0
-Came {C = C} R W p h c out now old new number held =
-    (a : Arrival) × (mid : C) × Comes W p.run.children a mid × TakesLines a old new × Took R (woken_at p mid) a h c out now number held
+abbrev pub Came : {C : Type 0} → Relation C → Clock C → Watch C → LivePlace C → HostView → C → Option (List ℕ) → Option (List ℕ) → Option (List InputLine) → Option (List InputLine) → ℕ → Hold → Type 0
+Came {C = C} R K W p h c out now old new number held =
+    (a : Arrival) × (mid : C) × Comes K W p.held p.run.children a mid × TakesLines a old new × Took R K (woken_at p mid) a h c out now number held
 
 -- An arrival came, and at it there was this fault; or the input couldn't be read.
-abbrev pub ComingFailed : {C : Type 0} → Relation C → Watch C → LivePlace C → HostView → C → Option (List ℕ) → Option (List ℕ) → Option (List InputLine) → Option (List InputLine) → RunFault → Type 0
-ComingFailed R W p h c out now old new fault.Input = Rests p h out now × MayHaveWatched W p.run.children c
-ComingFailed R W p h c out now old new fault.InputTooLong = ⊥
-ComingFailed R W p h c out now old new (fault.Open why) = ⊥
-ComingFailed R W p h c out now old new fault.InUse = ⊥
-ComingFailed {C = C} R W p h c out now old new (fault.Host f) = (a : Arrival) × (mid : C) × Comes W p.run.children a mid × TakesLines a old new × TakingFailed R (woken_at p mid) a h c out now (fault.Host f)
-ComingFailed {C = C} R W p h c out now old new fault.OutOfMemory = (a : Arrival) × (mid : C) × Comes W p.run.children a mid × TakesLines a old new × TakingFailed R (woken_at p mid) a h c out now fault.OutOfMemory
-ComingFailed {C = C} R W p h c out now old new fault.Output = (a : Arrival) × (mid : C) × Comes W p.run.children a mid × TakesLines a old new × TakingFailed R (woken_at p mid) a h c out now fault.Output
+abbrev pub ComingFailed : {C : Type 0} → Relation C → Clock C → Watch C → LivePlace C → HostView → C → Option (List ℕ) → Option (List ℕ) → Option (List InputLine) → Option (List InputLine) → RunFault → Type 0
+ComingFailed R K W p h c out now old new fault.Input = Rests p h out now × NoMoreComes K W p.held p.run.children c
+ComingFailed R K W p h c out now old new fault.InputTooLong = ⊥
+ComingFailed R K W p h c out now old new (fault.Open why) = ⊥
+ComingFailed R K W p h c out now old new fault.InUse = ⊥
+ComingFailed {C = C} R K W p h c out now old new (fault.Host f) = (a : Arrival) × (mid : C) × Comes K W p.held p.run.children a mid × TakesLines a old new × TakingFailed R K (woken_at p mid) a h c out now (fault.Host f)
+ComingFailed {C = C} R K W p h c out now old new fault.OutOfMemory = (a : Arrival) × (mid : C) × Comes K W p.held p.run.children a mid × TakesLines a old new × TakingFailed R K (woken_at p mid) a h c out now fault.OutOfMemory
+ComingFailed {C = C} R K W p h c out now old new fault.Output = (a : Arrival) × (mid : C) × Comes K W p.held p.run.children a mid × TakesLines a old new × TakingFailed R K (woken_at p mid) a h c out now fault.Output
 
 -- what one step of a live worksheet gives: an arrival came and was taken, or the input is at its end
-abbrev pub Steps : {C : Type 0} → Relation C → Watch C → LivePlace C → HostView → C → Option (List ℕ) → Option (List ℕ) → Option (List InputLine) → Option (List InputLine) → Option Stand → Type 0
-Steps R W p h c out now old new (Some stand) = Came R W p h c out now old new stand.number stand.held
-Steps R W p h c out now old new None =
-    Rests p h out now × MayHaveWatched W p.run.children c × IfSome old (λ lines. lines ≡ []) × (p.held ≡ hold.Free)
+abbrev pub Steps : {C : Type 0} → Relation C → Clock C → Watch C → LivePlace C → HostView → C → Option (List ℕ) → Option (List ℕ) → Option (List InputLine) → Option (List InputLine) → Option Stand → Type 0
+Steps R K W p h c out now old new (Some stand) = Came R K W p h c out now old new stand.number stand.held
+Steps R K W p h c out now old new None =
+    Rests p h out now × EndComes K W p.held p.run.children c × IfSome old (λ lines. lines ≡ [])
 
 -- the lines that came are the first ones of those to come
 abbrev pub IsFront : Option (List InputLine) → List Arrival → Type 0
 IsFront old came = IfSome old (λ lines. (rest : List InputLine) × (lines ≡ lines_in came ++ rest))
 
 -- All came and was taken, up to the end of the input.
-abbrev pub LivedThrough : {C : Type 0} → Relation C → Watch C → LivePlace C → HostView → C → Option (List ℕ) → Option (List ℕ) → Option (List InputLine) → Type 0
-LivedThrough {C = C} R W p h c out now old =
-    (came : List Arrival) × (beats : List Beat) × (text : List ℕ) × (q : LivePlace C) × Lived R W p came beats text q
-    × IsHost h q.run.world × (q.run.disk ≡ h.store.disk) × MayHaveWatched W q.run.children c × Appends out now text × IfSome old (λ lines. lines ≡ lines_in came)
-    × (q.held ≡ hold.Free)
+abbrev pub LivedThrough : {C : Type 0} → Relation C → Clock C → Watch C → LivePlace C → HostView → C → Option (List ℕ) → Option (List ℕ) → Option (List InputLine) → Type 0
+LivedThrough {C = C} R K W p h c out now old =
+    (came : List Arrival) × (beats : List Beat) × (text : List ℕ) × (q : LivePlace C) × Lived R K W p came beats text q
+    × IsHost h q.run.world × (q.run.disk ≡ h.store.disk) × EndComes K W q.held q.run.children c × Appends out now text × IfSome old (λ lines. lines ≡ lines_in came)
 
 -- what a fault of that leaves
-abbrev pub LivingFailed : {C : Type 0} → Relation C → Watch C → LivePlace C → HostView → C → Option (List ℕ) → Option (List ℕ) → Option (List InputLine) → RunFault → Type 0
-LivingFailed {C = C} R W p h c out now old fault.Input =
-    (came : List Arrival) × (beats : List Beat) × (text : List ℕ) × (q : LivePlace C) × Lived R W p came beats text q
-    × IsHost h q.run.world × (q.run.disk ≡ h.store.disk) × MayHaveWatched W q.run.children c × Appends out now text × IsFront old came
-LivingFailed {C = C} R W p h c out now old fault.InputTooLong =
-    (came : List Arrival) × (beats : List Beat) × (text : List ℕ) × (q : LivePlace C) × Lived R W p came beats text q
-    × IsHost h q.run.world × (q.run.disk ≡ h.store.disk) × MayHaveWatched W q.run.children c × Appends out now text × IsFront old came × AreTooMany came
-LivingFailed R W p h c out now old (fault.Open why) = ⊥
-LivingFailed R W p h c out now old fault.InUse = ⊥
-LivingFailed R W p h c out now old (fault.Host f) =
-    (came : List Arrival) × (beats : List Beat) × (text : List ℕ) × (e : Event) × (t : World) × (d : DiskView) × LivedUpTo R W p came beats text e (at t c d)
+abbrev pub LivingFailed : {C : Type 0} → Relation C → Clock C → Watch C → LivePlace C → HostView → C → Option (List ℕ) → Option (List ℕ) → Option (List InputLine) → RunFault → Type 0
+LivingFailed {C = C} R K W p h c out now old fault.Input =
+    (came : List Arrival) × (beats : List Beat) × (text : List ℕ) × (q : LivePlace C) × Lived R K W p came beats text q
+    × IsHost h q.run.world × (q.run.disk ≡ h.store.disk) × NoMoreComes K W q.held q.run.children c × Appends out now text × IsFront old came
+LivingFailed {C = C} R K W p h c out now old fault.InputTooLong =
+    (came : List Arrival) × (beats : List Beat) × (text : List ℕ) × (q : LivePlace C) × Lived R K W p came beats text q
+    × IsHost h q.run.world × (q.run.disk ≡ h.store.disk) × (c ≡ q.run.children) × Appends out now text × IsFront old came × AreTooMany came
+LivingFailed R K W p h c out now old (fault.Open why) = ⊥
+LivingFailed R K W p h c out now old fault.InUse = ⊥
+LivingFailed R K W p h c out now old (fault.Host f) =
+    (came : List Arrival) × (beats : List Beat) × (text : List ℕ) × (e : Event) × (t : World) × (d : DiskView) × LivedUpTo R K W p came beats text e (at t c d)
     × Stopped d h t e f × Appends out now text × IsFront old came
-LivingFailed R W p h c out now old fault.OutOfMemory =
-    (came : List Arrival) × (beats : List Beat) × (text : List ℕ) × (t : World) × LivedSoFar R W p came beats text (at t c h.store.disk)
+LivingFailed R K W p h c out now old fault.OutOfMemory =
+    (came : List Arrival) × (beats : List Beat) × (text : List ℕ) × (t : World) × LivedSoFar R K W p came beats text (at t c h.store.disk)
     × IsHost h t × Appends out now text × IsFront old came
-LivingFailed R W p h c out now old fault.Output =
-    (came : List Arrival) × (t : World) × (d : DiskView) × LivedLed R W p came (at t c d) × StandsOrStopped h t d × IsFront old came
+LivingFailed R K W p h c out now old fault.Output =
+    (came : List Arrival) × (t : World) × (d : DiskView) × LivedLed R K W p came (at t c d) × StandsOrStopped h t d × IsFront old came
 
 -- The same, and each life that goes on was stopped behind it.
-abbrev pub Ended : {C : Type 0} → Relation C → Watch C → LivePlace C → HostView → C → Option (List ℕ) → Option (List ℕ) → Option (List InputLine) → Type 0
-Ended {C = C} R W p h d out now old =
-    (came : List Arrival) × (beats : List Beat) × (text : List ℕ) × (q : LivePlace C) × (c : C) × Lived R W p came beats text q
-    × IsHost h q.run.world × (q.run.disk ≡ h.store.disk) × MayHaveWatched W q.run.children c × Appends out now text × IfSome old (λ lines. lines ≡ lines_in came)
-    × Stops R (running q.run.world) c d × (q.held ≡ hold.Free)
-
-abbrev pub EndedBy : {C : Type 0} → Relation C → Watch C → LivePlace C → HostView → C → Option (List ℕ) → Option (List ℕ) → Option (List InputLine) → RunFault → Type 0
-EndedBy {C = C} R W p h d out now old fault.Input =
-    (came : List Arrival) × (beats : List Beat) × (text : List ℕ) × (q : LivePlace C) × (c : C) × Lived R W p came beats text q
-    × IsHost h q.run.world × (q.run.disk ≡ h.store.disk) × MayHaveWatched W q.run.children c × Appends out now text × IsFront old came
+abbrev pub Ended : {C : Type 0} → Relation C → Clock C → Watch C → LivePlace C → HostView → C → Option (List ℕ) → Option (List ℕ) → Option (List InputLine) → Type 0
+Ended {C = C} R K W p h d out now old =
+    (came : List Arrival) × (beats : List Beat) × (text : List ℕ) × (q : LivePlace C) × (c : C) × Lived R K W p came beats text q
+    × IsHost h q.run.world × (q.run.disk ≡ h.store.disk) × EndComes K W q.held q.run.children c × Appends out now text × IfSome old (λ lines. lines ≡ lines_in came)
     × Stops R (running q.run.world) c d
-EndedBy {C = C} R W p h d out now old fault.InputTooLong =
-    (came : List Arrival) × (beats : List Beat) × (text : List ℕ) × (q : LivePlace C) × (c : C) × Lived R W p came beats text q
-    × IsHost h q.run.world × (q.run.disk ≡ h.store.disk) × MayHaveWatched W q.run.children c × Appends out now text × IsFront old came
+
+abbrev pub EndedBy : {C : Type 0} → Relation C → Clock C → Watch C → LivePlace C → HostView → C → Option (List ℕ) → Option (List ℕ) → Option (List InputLine) → RunFault → Type 0
+EndedBy {C = C} R K W p h d out now old fault.Input =
+    (came : List Arrival) × (beats : List Beat) × (text : List ℕ) × (q : LivePlace C) × (c : C) × Lived R K W p came beats text q
+    × IsHost h q.run.world × (q.run.disk ≡ h.store.disk) × NoMoreComes K W q.held q.run.children c × Appends out now text × IsFront old came
+    × Stops R (running q.run.world) c d
+EndedBy {C = C} R K W p h d out now old fault.InputTooLong =
+    (came : List Arrival) × (beats : List Beat) × (text : List ℕ) × (q : LivePlace C) × (c : C) × Lived R K W p came beats text q
+    × IsHost h q.run.world × (q.run.disk ≡ h.store.disk) × (c ≡ q.run.children) × Appends out now text × IsFront old came
     × Stops R (running q.run.world) c d × AreTooMany came
-EndedBy R W p h d out now old (fault.Open why) = ⊥
-EndedBy R W p h d out now old fault.InUse = ⊥
-EndedBy {C = C} R W p h d out now old (fault.Host f) =
-    (came : List Arrival) × (beats : List Beat) × (text : List ℕ) × (e : Event) × (t : At C) × LivedUpTo R W p came beats text e t
+EndedBy R K W p h d out now old (fault.Open why) = ⊥
+EndedBy R K W p h d out now old fault.InUse = ⊥
+EndedBy {C = C} R K W p h d out now old (fault.Host f) =
+    (came : List Arrival) × (beats : List Beat) × (text : List ℕ) × (e : Event) × (t : At C) × LivedUpTo R K W p came beats text e t
     × Stopped t.disk h t.world e f × Appends out now text × IsFront old came × Stops R (running t.world) t.children d
-EndedBy {C = C} R W p h d out now old fault.OutOfMemory =
-    (came : List Arrival) × (beats : List Beat) × (text : List ℕ) × (t : At C) × LivedSoFar R W p came beats text t
+EndedBy {C = C} R K W p h d out now old fault.OutOfMemory =
+    (came : List Arrival) × (beats : List Beat) × (text : List ℕ) × (t : At C) × LivedSoFar R K W p came beats text t
     × IsHost h t.world × (t.disk ≡ h.store.disk) × Appends out now text × IsFront old came × Stops R (running t.world) t.children d
-EndedBy {C = C} R W p h d out now old fault.Output =
-    (came : List Arrival) × (t : At C) × LivedLed R W p came t × StandsOrStopped h t.world t.disk × IsFront old came × Stops R (running t.world) t.children d
+EndedBy {C = C} R K W p h d out now old fault.Output =
+    (came : List Arrival) × (t : At C) × LivedLed R K W p came t × StandsOrStopped h t.world t.disk × IsFront old came × Stops R (running t.world) t.children d

@@ -11,26 +11,26 @@ use Rattle.live.proofs.saying.say_line.Goals as goal
 pub returns-in-Ok-clause-err : goal.returns-in-Ok-clause-err
 returns-in-Ok-clause-err g c = λ w h.
     subst
-    (λ l. IfErr c.say.result (SayingFailed g.S.Children.after l (at w c.args.sources.now c.args.host.now.store.disk) c.say.new.host c.say.new.sources
+    (λ l. IfErr c.say.result (SayingFailed g.S.Children.after g.S.Sources.clock l (at w c.args.sources.now c.args.host.now.store.disk) c.say.new.host c.say.new.sources
     (g.W.Write.contents c.args.writer.now) (g.W.Write.contents c.say.new.writer)))
     (sym c.in-Ok.ensures.ok) (c.say.ensures.err w h)
 
 pub returns-in-Ok-tell_bad_line-clause-ok : goal.returns-in-Ok-tell_bad_line-clause-ok
 returns-in-Ok-tell_bad_line-clause-ok g c = λ w h.
     subst
-    (λ l. Said g.S.Children.after c.args.number l (at w c.args.sources.now c.args.host.now.store.disk) c.args.host.now c.args.sources.now
+    (λ l. Said g.S.Children.after g.S.Sources.clock c.args.number l (at w c.args.sources.now c.args.host.now.store.disk) c.args.host.now c.args.sources.now
     (g.W.Write.contents c.args.writer.now) (g.W.Write.contents c.tell_bad_line.new.writer) hold.Free)
     (sym (c.in-Err-BadLine.ensures.bad (ap (λ e. Err e) c.in-Err-BadLine.field-0-is)))
-    (said_still g.S.Children.after c.args.number None w c.args.host.now c.args.sources.now (g.W.Write.contents c.args.writer.now) (g.W.Write.contents c.tell_bad_line.new.writer) hold.Free (bad_line c.args.number)
+    (said_still g.S.Children.after g.S.Sources.clock c.args.number None w c.args.host.now c.args.sources.now (g.W.Write.contents c.args.writer.now) (g.W.Write.contents c.tell_bad_line.new.writer) hold.Free (bad_line c.args.number)
     (refl, refl, refl) refl h c.in-Ok-tell_bad_line.ensures.ok)
 
 pub returns-in-Err-clause-err : goal.returns-in-Err-clause-err
 returns-in-Err-clause-err g c = λ w h.
     subst
-    (λ l. SayingFailed g.S.Children.after l (at w c.args.sources.now c.args.host.now.store.disk) c.args.host.now c.args.sources.now
+    (λ l. SayingFailed g.S.Children.after g.S.Sources.clock l (at w c.args.sources.now c.args.host.now.store.disk) c.args.host.now c.args.sources.now
     (g.W.Write.contents c.args.writer.now) (g.W.Write.contents c.tell_bad_line.new.writer) c.in-Err.fault)
     (sym (c.in-Err-BadLine.ensures.bad (ap (λ e. Err e) c.in-Err-BadLine.field-0-is)))
-    (still_unwritten g.S.Children.after None w c.args.host.now c.args.sources.now (g.W.Write.contents c.args.writer.now) (g.W.Write.contents c.tell_bad_line.new.writer) hold.Free c.in-Err.fault refl
+    (still_unwritten g.S.Children.after g.S.Sources.clock None w c.args.host.now c.args.sources.now (g.W.Write.contents c.args.writer.now) (g.W.Write.contents c.tell_bad_line.new.writer) hold.Free c.in-Err.fault refl
     (λ number. (bad_line number, (refl, refl, refl))) h c.in-Err.ensures.err)
 
 pub returns-in-Err-OutOfMemory-clause-err : goal.returns-in-Err-OutOfMemory-clause-err

@@ -17,7 +17,7 @@ returns-in_default-clause-err g c = λ number held w timed h. (
 
 pub returns-clause-err : goal.returns-clause-err
 returns-clause-err g c = λ number held w timed h.
-    time_failed g.S.Children.after (place (at w c.args.sources.now c.args.host.now.store.disk) number held) c.stall_each.new.host c.stall_each.new.sources
+    time_failed g.S.Children.after g.S.Sources.clock (place (at w c.args.sources.now c.args.host.now.store.disk) number held) c.stall_each.new.host c.stall_each.new.sources
     (g.W.Write.contents c.args.writer.now) (g.W.Write.contents c.stall_each.new.writer) timed c.in-Err.fault
     (subst (λ seats. StallingFailed g.S.Children.after seats (at w c.args.sources.now c.args.host.now.store.disk) c.stall_each.new.host c.stall_each.new.sources
     (g.W.Write.contents c.args.writer.now) (g.W.Write.contents c.stall_each.new.writer) c.in-Err.fault)

@@ -1,0 +1,33 @@
+-- Interrupts, of which no event comes.
+use Rattle.std.specs.Prelude.{◌≡◌, List, [], ◌∷◌, ℕ, Option, Some, None, option_map}
+use Rattle.worksheet.specs.Checks.{session_named}
+use Rattle.worksheet.specs.declared.field.Session.{Session}
+use Rattle.session_engine.specs.declared.host.LifeView.{LifeView}
+use Rattle.session_engine.specs.World.{World, life_of, sheet_in}
+use Rattle.child_calls.specs.declared.seat.Seat.{Seat}
+use Rattle.child_calls.specs.Calls.{interrupt, Answer, done, fault, piece, end, no_memory}
+use Rattle.child_edge.specs.Faithful.{Relation}
+use Rattle.child_edge.specs.Seats.{life_view, seat_of}
+use Rattle.child_edge.specs.declared.interrupting.Interrupted.{Interrupted}
+use Rattle.child_edge.specs.declared.interrupting.Interrupted.TheVariants as interrupted
+
+-- what is told of an interrupt by what its call was answered
+abbrev pub interrupt_told : Answer → Interrupted
+interrupt_told done = interrupted.Sent
+interrupt_told fault = interrupted.Failed
+interrupt_told (piece bytes) = interrupted.Failed
+interrupt_told end = interrupted.Failed
+interrupt_told no_memory = interrupted.Failed
+
+-- the first of these lives is interrupted by one call, and where there is none nothing is done
+abbrev pub InterruptsFirst : {C : Type 0} → Relation C → List Seat → C → Interrupted → C → Type 0
+InterruptsFirst R [] c told d = (told ≡ interrupted.Idle) × (d ≡ c)
+InterruptsFirst R (seat ∷ seats) c told d = (a : Answer) × R c (interrupt seat.name seat.life) a d × (told ≡ interrupt_told a)
+
+abbrev pub InterruptsOf : {C : Type 0} → Relation C → List ℕ → Option Session → Option LifeView → C → Interrupted → C → Type 0
+InterruptsOf R name None life c told d = (told ≡ interrupted.NoSession) × (d ≡ c)
+InterruptsOf R name (Some session) life c told d = InterruptsFirst R (seat_of name life) c told d
+
+-- the life of the session with this name is interrupted where an item waits in it
+abbrev pub Interrupts : {C : Type 0} → Relation C → World → List ℕ → C → Interrupted → C → Type 0
+Interrupts R w name c told d = InterruptsOf R name (session_named (sheet_in w).sessions name) (option_map life_view (life_of w name)) c told d
