@@ -11,8 +11,7 @@ use Rattle.journal.specs.Limits.{longest_payload}
 use Rattle.journal.specs.inside.Anew.{IsReadyToTurn, SparedBy, Spares, Went, naming}
 use Rattle.journal.specs.inside.Standing.{at_active, keeps_images, same_named}
 use Rattle.journal.proofs.Actives.{changed}
-use Rattle.journal.proofs.Bytes.{Laid, after_gate, after_stage, end-push}
-use Rattle.journal.proofs.Givens.{end-append}
+use Rattle.journal.proofs.Bytes.{Laid, after_gate, after_stage, end-append, end-push, one_group}
 
 -- How long the records are.
 
@@ -181,8 +180,9 @@ module _ (area : Area) (end : ℕ) (bytes : List ℕ) (payloads : List (List ℕ
       → StandsFor longest_payload (area_of area c) (payloads ++ payload ∷ [])
   one_laid first second =
       let sel = standing.header_is.selector in
-      let one = after_stage longest_payload sel (area_of area a) payloads laid end ends payload is_payload bytes (area_of area b) are (changed area _ a b first) in
-      let two = after_gate longest_payload sel (area_of area a) payloads laid end ends payload is_payload _ (area_of area c)
+      let group = one_group payload bytes are in
+      let one = after_stage longest_payload sel (area_of area a) payloads laid end ends (payload ∷ []) (is_payload, tt) bytes group (area_of area b) (changed area _ a b first) in
+      let two = after_gate longest_payload sel (area_of area a) payloads laid end ends (payload ∷ []) (is_payload, tt) bytes group _ (area_of area c)
       (changed area _ b c second ∙ ap (λ (l : List ℕ). overwritten l end (open_gate ∷ [])) one) in
       record {
         rest = records (payloads ++ payload ∷ []) ++ two.gate ∷ two.rest;

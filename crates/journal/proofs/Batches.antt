@@ -8,8 +8,7 @@ use Rattle.journal.specs.Limits.{longest_payload}
 use Rattle.journal.specs.Sources.{HoldsEach}
 use Rattle.journal.specs.inside.Batches.{IsBatch}
 use Rattle.journal.proofs.Actives.{changed}
-use Rattle.journal.proofs.Bytes.{ArePayloads-push, records-push}
-use Rattle.journal.proofs.Givens.{end-append, records-append}
+use Rattle.journal.proofs.Bytes.{ArePayloads-append, ArePayloads-push, end-append, records-append, records-push}
 
 pub batch_none : (payloads : List (List ℕ)) (from : ℕ) → IsBatch payloads from from []
 batch_none payloads from = record { those = []; split = sym (append-nil (take from payloads)); are = refl; each = tt }
@@ -32,10 +31,6 @@ holds_more c d payloads holds more = λ i some. omega (arith, holds i some, more
 pub end_behind : (payloads : List (List ℕ)) (from next : ℕ) (bytes : List ℕ) → IsBatch payloads from next bytes → end_of (take next payloads) ≡ end_of (take from payloads) + length bytes
 end_behind payloads from next bytes batch =
     omega (arith, ap end_of batch.split, end-append (take from payloads) batch.those, ap length batch.are)
-
-ArePayloads-append : (limit : ℕ) (a b : List (List ℕ)) → ArePayloads limit a → ArePayloads limit b → ArePayloads limit (a ++ b)
-ArePayloads-append limit [] b one two = two
-ArePayloads-append limit (p ∷ a) b one two = (one.0, ArePayloads-append limit a b one.1 two)
 
 -- a batch in place of the closed gate
 pub batch_laid : (area : Area) (end : ℕ) (bytes : List ℕ) (payloads more : List (List ℕ)) → ArePayloads longest_payload more → bytes ≡ records more ++ closed_gate ∷ [] → end ≡ end_of payloads → (a b : Image)

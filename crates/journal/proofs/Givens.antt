@@ -10,15 +10,8 @@ use Rattle.journal.specs.Limits.{longest_payload}
 use Rattle.journal.specs.Opening.{HasGiven, OpeningView}
 use Rattle.journal.specs.Payloads.{payloads_in, AreGates}
 use Rattle.journal.specs.declared.walk.Payload.{Payload}
-use Rattle.journal.proofs.Bytes.{end-push}
+use Rattle.journal.proofs.Bytes.{end-append, end-push, records-append}
 use Rattle.journal.proofs.Loads.{keeps_on}
-
-pub records-append : (a b : List (List ℕ)) → records (a ++ b) ≡ records a ++ records b
-records-append [] b = refl
-records-append (p ∷ a) b = ap (λ (l : List ℕ). record_of p ++ l) (records-append a b) ∙ sym (append_assoc (record_of p) (records a) (records b))
-
-pub end-append : (a b : List (List ℕ)) → end_of (a ++ b) ≡ end_of a + length (records b)
-end-append a b = omega (arith, ap length (records-append a b), length-append (records a) (records b))
 
 next_is_payload : (limit : ℕ) (given others : List (List ℕ)) (payload : List ℕ) → ArePayloads limit (given ++ payload ∷ others) → IsPayload limit payload
 next_is_payload limit [] others payload each = each.0

@@ -10,3 +10,5 @@ pub mod Windows
 pub mod Creating
 pub mod Anew
 pub mod Batches
+pub mod Groups
+pub mod Owing

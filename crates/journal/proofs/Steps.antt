@@ -3,14 +3,14 @@ use Rattle.std.proofs.Common.{◌≡◌, inl, inr, ⊎_elim, ℕ, ◌+◌, ◌�
 use Rattle.disk_model.specs.Disk.{Image, History, IsImage, Torn, LeavesOnly, Writes, Syncs, area_of, content_of, other_area, overwritten}
 use Rattle.disk_model.specs.declared.disk.Area.{Area}
 use Rattle.disk_model.specs.inside.Moments.{started, goes_on, weakens, at_end, stays}
-use Rattle.journal.specs.Area.{StandsFor, body_of, closed_gate, first_gate, header, IsPayload, open_gate}
+use Rattle.journal.specs.Area.{ArePayloads, StandsFor, closed_gate, first_gate, header, open_gate, records}
 use Rattle.journal.specs.Limits.{longest_payload}
-use Rattle.journal.specs.Kept.{Keeps, BeforeOrAfter, OtherUntouched, active_area}
+use Rattle.journal.specs.Kept.{Keeps, BeforeOrAll, OtherUntouched, active_area}
 use Rattle.journal.specs.inside.Standing.{at_active}
 use Rattle.journal.proofs.Actives.{Works, at_other, changed, first_of_both, kept, stands_there, works_as, works_on}
-use Rattle.journal.proofs.Bytes.{Laid, torn_behind, staged, after_stage, torn_gate, after_gate, end-push}
+use Rattle.journal.proofs.Bytes.{Laid, torn_behind, staged, after_stage, torn_gate, after_gate, end-append}
 
-module _ (h0 : History) (end : ℕ) (payloads : List (List ℕ)) (keeps : Keeps h0 end payloads) (payload : List ℕ) (is_payload : IsPayload longest_payload payload) (bytes : List ℕ) (are : bytes ≡ body_of payload ++ closed_gate ∷ []) (area : Area) (named : active_area (content_of h0) ≡ area) where
+module _ (h0 : History) (end : ℕ) (payloads : List (List ℕ)) (keeps : Keeps h0 end payloads) (more : List (List ℕ)) (each : ArePayloads longest_payload more) (bytes : List ℕ) (are : open_gate ∷ bytes ≡ records more ++ closed_gate ∷ []) (area : Area) (named : active_area (content_of h0) ≡ area) where
   abbrev pub limit : ℕ
   limit = longest_payload
 
@@ -45,7 +45,7 @@ module _ (h0 : History) (end : ℕ) (payloads : List (List ℕ)) (keeps : Keeps 
   untouched c d image one two same = (d, image, at_other area c one.named ∙ same ∙ sym (at_other area d two.named))
 
   abbrev pub P : Image → Type 0
-  P = BeforeOrAfter h0.now payloads payload
+  P = BeforeOrAll h0.now payloads more
 
   pub record Q (i : Image) : Type 0 where
     pub either : P i
@@ -77,7 +77,7 @@ module _ (h0 : History) (end : ℕ) (payloads : List (List ℕ)) (keeps : Keeps 
       }) w.moments
 
   abbrev pub stage : List ℕ → List ℕ
-  stage rest = staged limit selector (area_of area old) payloads laid end keeps.end_is payload is_payload rest
+  stage rest = staged limit selector (area_of area old) payloads laid end keeps.end_is more each bytes are rest
 
   -- the gate's write, once the record is on the disk
   pub opening : {T E : Type 0} (r : Result T E) (h2 h3 : History) (rest : List ℕ) → LeavesOnly Q h0 h2
@@ -94,8 +94,8 @@ module _ (h0 : History) (end : ℕ) (payloads : List (List ℕ)) (keeps : Keeps 
         either = (
           ⊎_elim
               (λ before. inl (stands_there area old c selector payloads works before))
-              (λ after. inr (stands_there area old c selector (payloads ++ payload ∷ []) works after))
-              (torn_gate limit selector (area_of area old) payloads laid end keeps.end_is payload is_payload rest (area_of area c) torn),
+              (λ after. inr (stands_there area old c selector (payloads ++ more) works after))
+              (torn_gate limit selector (area_of area old) payloads laid end keeps.end_is more each bytes are rest (area_of area c) torn),
           (second.0, second.1, at_other area c works.named ∙ same ∙ sym (at_other area d here.works.named) ∙ second.2),
         );
         works = works;
@@ -119,7 +119,7 @@ module _ (h0 : History) (end : ℕ) (payloads : List (List ℕ)) (keeps : Keeps 
       module _ (s1 : Syncs area good h1 h2) where
         is_staged : area_of area (content_of h2) ≡ stage rest
         is_staged = at _ _ s1.content
-            ∙ after_stage limit selector (area_of area old) payloads laid end keeps.end_is payload is_payload bytes _ are (changed area (λ before after. after ≡ overwritten before (end + 1) bytes) _ _ w1.written)
+            ∙ after_stage limit selector (area_of area old) payloads laid end keeps.end_is more each bytes are _ (changed area (λ before after. after ≡ overwritten before (end + 1) bytes) _ _ w1.written)
 
         pub after3 : (r : Result T E) (h3 : History) → Writes area end (open_gate ∷ []) r h2 h3 → LeavesOnly Q h0 h3
         after3 r h3 w2 = opening r h2 h3 rest (after2 good s1) (λ i image. s1.durable i image ∙ sym (at _ _ s1.content) ∙ is_staged) w2
@@ -138,14 +138,14 @@ module _ (h0 : History) (end : ℕ) (payloads : List (List ℕ)) (keeps : Keeps 
           there : (i : Image) → IsImage h4.now i → area_of area i ≡ area_of area (content_of h4)
           there i image = s2.durable i image ∙ sym (at _ _ s2.content)
 
-          is_added : Laid limit selector (area_of area (content_of h4)) (payloads ++ payload ∷ [])
-          is_added = after_gate limit selector (area_of area old) payloads laid end keeps.end_is payload is_payload rest _
+          is_added : Laid limit selector (area_of area (content_of h4)) (payloads ++ more)
+          is_added = after_gate limit selector (area_of area old) payloads laid end keeps.end_is more each bytes are rest _
               (at _ _ s2.content ∙ changed area (λ before after. after ≡ overwritten before end (open_gate ∷ [])) _ _ w2.written ∙ ap (λ (l : List ℕ). overwritten l end (open_gate ∷ [])) is_staged)
 
-          pub added : Keeps h4 (end + length bytes) (payloads ++ payload ∷ [])
+          pub added : Keeps h4 (end + length bytes) (payloads ++ more)
           added = record {
-            stands = stands_there area old (content_of h4) selector (payloads ++ payload ∷ []) at_last is_added;
-            end_is = omega (arith, keeps.end_is, end-push payloads payload, ap length are, length-append (body_of payload) (closed_gate ∷ []));
+            stands = stands_there area old (content_of h4) selector (payloads ++ more) at_last is_added;
+            end_is = omega (arith, keeps.end_is, end-append payloads more, ap length are, length-append (records more) (closed_gate ∷ []));
             durable = λ i image.
                 let works = (at_end Q h0 h4 (after4 good good h3 h4 w2 s2) i image).works in
                 at_active area i works.named ∙ there i image ∙ sym (at_active area (content_of h4) at_last.named);

@@ -94,6 +94,15 @@ pub record StandsFor (limit : ℕ) (bytes : List ℕ) (payloads : List (List ℕ
 abbrev pub added_at : ℕ → List ℕ → List ℕ → List ℕ
 added_at end payload old = overwritten old end (record_of payload ++ closed_gate ∷ [])
 
+-- the same of several payloads: all their records, and the next gate
+abbrev pub all_added_at : ℕ → List (List ℕ) → List ℕ → List ℕ
+all_added_at end payloads old = overwritten old end (records payloads ++ closed_gate ∷ [])
+
+-- the records of these payloads, and a closed gate behind them
+pub record IsGroup (limit : ℕ) (bytes : List ℕ) (payloads : List (List ℕ)) : Type 0 where
+  pub is : bytes ≡ records payloads ++ closed_gate ∷ []
+  pub each : ArePayloads limit payloads
+
 -- an area that was just created: the header, its selector written as `A`, and the first gate,
 -- written closed
 abbrev pub created : List ℕ

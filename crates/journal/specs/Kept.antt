@@ -1,8 +1,8 @@
 -- What a journal keeps on its disk.
-use Rattle.std.specs.Prelude.{◌≡◌, ◌⊎◌, ℕ, ◌+◌, ◌≤◌, List, [], ◌∷◌, ◌++◌, get_or}
+use Rattle.std.specs.Prelude.{◌≡◌, ◌⊎◌, ℕ, ◌+◌, ◌≤◌, List, [], ◌∷◌, ◌++◌, get_or, length}
 use Rattle.disk_model.specs.Disk.{Image, DiskState, DiskView, History, IsImage, area_of, content_of, other_area}
 use Rattle.disk_model.specs.declared.disk.Area.{Area}
-use Rattle.journal.specs.Area.{HasHeader, StandsFor, end_of, named_by, selector_at}
+use Rattle.journal.specs.Area.{HasHeader, StandsFor, end_of, named_by, records, selector_at}
 use Rattle.journal.specs.Limits.{longest_payload}
 
 -- the active area, in which the journal is: the one that the selector in area First names
@@ -34,11 +34,15 @@ pub record Keeps (h : History) (end : ℕ) (payloads : List (List ℕ)) : Type 0
 abbrev pub OtherUntouched : DiskState → Image → Type 0
 OtherUntouched s i = (j : Image) × IsImage s j × (other_of i ≡ other_of j)
 
--- the image stands for the payloads, with this one behind them or without it, and the other area is
+-- the image stands for the payloads, with all of these behind them or with none, and the other area is
 -- untouched
+abbrev pub BeforeOrAll : DiskState → List (List ℕ) → List (List ℕ) → Image → Type 0
+BeforeOrAll s payloads more i =
+    (ImageStandsFor i payloads ⊎ ImageStandsFor i (payloads ++ more)) × OtherUntouched s i
+
+-- the same of one payload
 abbrev pub BeforeOrAfter : DiskState → List (List ℕ) → List ℕ → Image → Type 0
-BeforeOrAfter s payloads payload i =
-    (ImageStandsFor i payloads ⊎ ImageStandsFor i (payloads ++ payload ∷ [])) × OtherUntouched s i
+BeforeOrAfter s payloads payload i = BeforeOrAll s payloads (payload ∷ []) i
 
 -- a journal as contracts see it: its disk, and the offset of the closed gate
 pub record JournalView : Type 0 where
@@ -48,6 +52,10 @@ pub record JournalView : Type 0 where
 -- a payload of n bytes, its record and the next gate fit behind the end
 abbrev pub Fits : ℕ → ℕ → ℕ → Type 0
 Fits room end n = (n ≤ longest_payload) × (end + 5 + n + 1 ≤ room)
+
+-- these payloads, their records and the next gate fit behind the end
+abbrev pub FitsAll : ℕ → ℕ → List (List ℕ) → Type 0
+FitsAll room end payloads = end + length (records payloads) + 1 ≤ room
 
 -- the image stands for the payloads from before, or for these
 abbrev pub EitherStands : List (List ℕ) → List (List ℕ) → Image → Type 0

@@ -1,11 +1,13 @@
 -- Laws of areas.
 use Rattle.std.specs.Prelude.{◌≡◌, ℕ, Bool, ◌+◌, ◌<◌, ◌^◌, List, [], ◌∷◌, ◌++◌, length}
-use Rattle.disk_model.specs.Disk.{Image}
-use Rattle.journal.specs.Area.{StandsFor, end_of}
+use Rattle.disk_model.specs.Disk.{DiskView, Image, IsImage, LeavesOnly, bytes_on}
+use Rattle.journal.specs.Area.{ArePayloads, IsPayload, StandsFor, end_of, records}
 use Rattle.journal.specs.Damage.{IsDamaged}
 use Rattle.journal.specs.Front.{HasFront}
-use Rattle.journal.specs.Kept.{ImageStandsFor}
+use Rattle.journal.specs.Kept.{BeforeOrAfter, ImageStandsFor, Keeps, other_of}
+use Rattle.journal.specs.Limits.{longest_payload}
 use Rattle.journal.specs.Open.{IsPassing, Tells}
+use Rattle.journal.specs.Owed.{owed_disk}
 use Rattle.journal.specs.declared.opening.OpenCause.{OpenCause}
 
 -- an area stands for at most one list of payloads, where their lengths fit four bytes
@@ -39,3 +41,11 @@ StandingOpens = (i : Image) (payloads : List (List ℕ)) (cause : OpenCause)
 abbrev pub GateBehind : Type 0
 GateBehind = (end_of [] ≡ 10)
     × ((payloads : List (List ℕ)) (payload : List ℕ) → end_of (payloads ++ payload ∷ []) ≡ end_of payloads + 5 + length payload)
+
+-- A disk to which payloads are owed keeps them behind its own. One more that is owed is an append by itself: at every moment of it each
+-- image stands for the payloads from before it, with the new one or without, and the area that isn't active is left alone.
+abbrev pub OwesMore : Type 0
+OwesMore = (v : DiskView) (end : ℕ) (before ps : List (List ℕ)) (payload : List ℕ) → IsImage v.history.now (bytes_on v) → Keeps v.history end before → ArePayloads longest_payload ps → IsPayload longest_payload payload
+    → Keeps (owed_disk v end ps).history (end + length (records ps)) (before ++ ps)
+    × LeavesOnly (BeforeOrAfter (owed_disk v end ps).history.now (before ++ ps) payload) (owed_disk v end ps).history (owed_disk v end (ps ++ payload ∷ [])).history
+    × (other_of (bytes_on (owed_disk v end (ps ++ payload ∷ []))) ≡ other_of (bytes_on (owed_disk v end ps)))

@@ -2,6 +2,7 @@ pub mod Limits
 pub mod Area
 pub mod Damage
 pub mod Kept
+pub mod Owed
 pub mod Journal
 pub mod Sources
 pub mod Open

@@ -1,5 +1,6 @@
 pub mod Active
 pub mod Frame
+pub mod Group
 pub mod Reads
 pub mod Standing
 pub mod Anew

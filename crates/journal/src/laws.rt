@@ -1,6 +1,6 @@
 //! Laws of the definitions that the contracts cite. Each function does nothing: its contract is the
 //! law.
-ghost use Rattle.journal.specs.Laws.{GateBehind, NoDamage, OneDamage, OneFront, OneList, StandingOpens};
+ghost use Rattle.journal.specs.Laws.{GateBehind, OwesMore, NoDamage, OneDamage, OneFront, OneList, StandingOpens};
 
 /// An area stands for at most one list of payloads.
 pub fn one_list()
@@ -31,4 +31,9 @@ pub fn standing_opens()
 /// The gate behind payloads stands behind their records.
 pub fn gate_behind()
     ensures { GateBehind }
+{}
+
+/// Payloads that are owed to a disk are kept by it as it would be, and one more that is owed is an append.
+pub fn owes_more()
+    ensures { OwesMore }
 {}

@@ -7,6 +7,7 @@
 mod append;
 mod frame;
 mod front;
+mod group;
 mod journal;
 pub mod laws;
 mod opening;
@@ -20,6 +21,7 @@ mod window;
 pub use disk_model::OutOfMemory;
 pub use frame::{Frame, LONGEST_PAYLOAD};
 pub use front::{Front, InFront};
+pub use group::Group;
 pub use journal::{AppendFault, Journal, OpenFault};
 pub use opening::{CreateCause, CreateFault, OpenCause, create};
 pub use payloads::{Next, Opening};

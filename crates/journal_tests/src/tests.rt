@@ -3,6 +3,7 @@ mod batches;
 mod crashes;
 mod desk;
 mod disks;
+mod groups;
 mod memory;
 mod openings;
 mod records;
