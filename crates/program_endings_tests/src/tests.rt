@@ -4,6 +4,7 @@ mod file_calls;
 mod file_disk;
 mod limits;
 mod made_up;
+mod memory_files;
 mod places;
 mod programs;
 mod running;

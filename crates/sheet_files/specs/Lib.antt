@@ -1,1 +1,3 @@
-pub mod Files
+pub mod DiskFile
+pub mod MemoryFile
+pub mod inside

@@ -1,48 +1,44 @@
 //! A disk of two files.
-ghost use Rattle.std.specs.Prelude.{◌≡◌, ◌≤◌, IfOk, Ok};
-ghost use Rattle.disk_model.specs.Disk.{Called, greatest_room};
-ghost use Rattle.sheet_files.specs.Files.{file_view};
+ghost use Rattle.std.specs.Prelude.{◌≡◌, ◌+◌, ◌≤◌, IfOk, IsErr, Ok, MatchResult, OnOk, length, take, drop, false};
+ghost use Rattle.disk_model.specs.Disk.{Called, InModel, Looks, Syncs, Writes, area_of, bytes_on, greatest_room};
+ghost use Rattle.sheet_files.specs.DiskFile.{FileSynced, FileView, InFile, IsStill, Passes, WithoutFailure, history_of, second_of, tells_nothing_to_sync, two_files};
 
 use crate::pairing::{
     are_two, folder_of, is_in_use, look_for, make_file, open_first, open_if_there, open_or_make,
     resolved, second_path, sync_folder,
 };
-use crate::{FilesFault, Lock, MakeFault, SheetFile};
+use crate::{DiskFile, FilesFault, Lock, MakeFault, SheetFile};
 use disk_model::{Area, Disk, DiskFault, GREATEST_ROOM};
 use std::alloc::Global;
-use std::fs::OpenFile;
 use std::io;
 use std::io::ErrorKind;
-use std::os::unix::fs::FileExt;
 use std::rt::Files;
 
 /// A worksheet's two files: area First is the file at a path, and area Second the one at that path
 /// with `.alt` behind it. Each can grow to 2,147,483,648 bytes. The first one is locked, as long as
 /// the disk isn't dropped.
 ///
-/// Of what a real file holds nothing is claimed. It counts its failures, as each disk does. A file
-/// that is longer than the room is a failure of the disk.
+/// It keeps the model where both files do: its view is made of theirs. Of what a real file holds nothing
+/// is claimed. It counts its failures, as each disk does. A file that is longer than the room is a failure
+/// of the disk, and so is each call behind a sync that failed.
 #[derive(Drop)]
-pub struct FileDisk<F: SheetFile + Drop> {
+pub struct FileDisk<F: DiskFile + Drop> {
     first: F,
     second: Option<F>,
     lock: Lock,
+    failed: bool,
+    moment: u64,
     failures: u64,
-}
-
-/// The length of a file, where it isn't longer than the room.
-fn file_len<F: OpenFile>(file: &F) -> io::Result<u64>
-    ensures { IfOk result (λ len. len ≤ greatest_room) }
-{
-    let len = file.metadata()?.len();
-    if len > GREATEST_ROOM {
-        return Err(io::Error::from(ErrorKind::FileTooLarge));
-    }
-    Ok(len)
+    ghost first_still: { IsStill moment (F.view first) },
+    ghost second_still: { IsStill moment (second_of F.view second) },
+    ghost first_sound: { failed ≡ false → (F.view first).lost ≡ false },
+    ghost second_sound: { failed ≡ false → (second_of F.view second).lost ≡ false },
 }
 
 /// Whether a file system that can only be read tells by this that it has nothing to bring out.
-fn has_nothing_to_sync(kind: ErrorKind) -> bool {
+fn has_nothing_to_sync(kind: ErrorKind) -> bool
+    ensures { result ≡ tells_nothing_to_sync kind }
+{
     matches!(
         kind,
         ErrorKind::InvalidInput | ErrorKind::ReadOnlyFilesystem
@@ -50,11 +46,29 @@ fn has_nothing_to_sync(kind: ErrorKind) -> bool {
 }
 
 /// Brings a file's data onto the disk. What lies on a file system that can only be read is there.
-fn sync_file<F: OpenFile>(file: &F, lock: Lock) -> io::Result<()> {
-    match file.sync_data() {
-        Err(error) if lock == Lock::Shared && has_nothing_to_sync(error.kind()) => Ok(()),
-        synced => synced,
+fn sync_file<F: DiskFile>(file: &mut F, moment: u64, lock: Lock) -> io::Result<()>
+    requires { IsStill moment (F.view file.old) }
+
+    ensures passes { Passes moment (F.view file.old) (F.view file.new) }
+    ensures lost { OnOk result ((F.view file.new).lost ≡ (F.view file.old).lost) }
+    ensures syncs { InFile (F.view file.old) ((F.view file.old).lost ≡ false
+        → FileSynced result ((F.view file.old).before moment)
+        ((F.view file.new).before (moment + 1))) }
+{
+    match file.sync(moment) {
+        Ok(()) => Ok(()),
+        Err(error) => {
+            if lock == Lock::Shared && has_nothing_to_sync(error.kind()) {
+                return Ok(());
+            }
+            Err(error)
+        }
     }
+}
+
+/// Behind a sync that failed nothing is believed.
+fn sync_failed() -> io::Error {
+    io::Error::from(ErrorKind::Other)
 }
 
 impl<F: SheetFile + Drop> FileDisk<F> {
@@ -78,12 +92,7 @@ impl<F: SheetFile + Drop> FileDisk<F> {
         first.sync_all()?;
         second.sync_all()?;
         sync_folder(rt, folder_of(path))?;
-        Ok(FileDisk {
-            first,
-            second: Some(second),
-            lock: Lock::Exclusive,
-            failures: 0,
-        })
+        Ok(FileDisk::of(first, Some(second), Lock::Exclusive)?)
     }
 
     /// Opens both files, first the one that `path` leads to, which is locked before anything is read
@@ -102,12 +111,7 @@ impl<F: SheetFile + Drop> FileDisk<F> {
         let first = open_first(rt, path.as_str(), Lock::Exclusive)?;
         let second = open_or_make(rt, alt.as_str(), &first)?;
         are_two(&first, &second)?;
-        Ok(FileDisk {
-            first,
-            second: Some(second),
-            lock: Lock::Exclusive,
-            failures: 0,
-        })
+        Ok(FileDisk::of(first, Some(second), Lock::Exclusive)?)
     }
 
     /// The same, to read alone: the lock is one that other readers may have too, the files needn't be
@@ -125,57 +129,141 @@ impl<F: SheetFile + Drop> FileDisk<F> {
         if let Some(second) = &second {
             are_two(&first, second)?;
         }
+        Ok(FileDisk::of(first, second, Lock::Shared)?)
+    }
+}
+
+impl<F: DiskFile + Drop> FileDisk<F> {
+    /// A disk of files that were opened. It fails where a sync of one has failed.
+    pub fn of(first: F, second: Option<F>, lock: Lock) -> io::Result<FileDisk<F>> {
+        let begins = first.begins()?;
+        let moment = match &second {
+            None => begins,
+            Some(second) => begins.max(second.begins()?),
+        };
         Ok(FileDisk {
             first,
             second,
-            lock: Lock::Shared,
+            lock,
+            failed: false,
+            moment,
             failures: 0,
         })
     }
 
-    /// The file of an area. The second one may be missing of a disk that is only read.
-    fn file(&self, area: Area) -> io::Result<&F> {
+    /// The length of an area's file.
+    fn area_len(&mut self, area: Area) -> io::Result<u64>
+        ensures same { (two_files self.new.failures self.new.moment (F.view self.new.first) (second_of F.view self.new.second)) ≡ (two_files self.old.failures self.old.moment (F.view self.old.first) (second_of F.view self.old.second)) }
+        ensures bound { IfOk result (λ len. len ≤ greatest_room) }
+        ensures length { InModel (two_files self.old.failures self.old.moment (F.view self.old.first) (second_of F.view self.old.second))
+            (IfOk result (λ n. n ≡ length (area_of area (bytes_on (two_files self.old.failures self.old.moment (F.view self.old.first) (second_of F.view self.old.second)))))) }
+    {
+        if self.failed {
+            return Err(sync_failed());
+        }
+        let len = match area {
+            Area::First => self.first.len()?,
+            Area::Second => match &mut self.second {
+                Some(second) => second.len()?,
+                None => return Err(io::Error::from(ErrorKind::NotFound)),
+            },
+        };
+        if len > GREATEST_ROOM {
+            return Err(io::Error::from(ErrorKind::FileTooLarge));
+        }
+        Ok(len)
+    }
+
+    /// Writes bytes to an area's file, where the disk isn't one that is only read.
+    fn write(&mut self, area: Area, offset: u64, bytes: &[u8]) -> io::Result<()>
+        requires { InModel (two_files self.old.failures self.old.moment (F.view self.old.first) (second_of F.view self.old.second))
+            ((offset ≤ length (area_of area (bytes_on (two_files self.old.failures self.old.moment (F.view self.old.first) (second_of F.view self.old.second)))))
+            × (offset + length bytes.now ≤ greatest_room)) }
+
+        ensures kept { WithoutFailure (two_files self.old.failures self.old.moment (F.view self.old.first) (second_of F.view self.old.second)) (two_files self.new.failures self.new.moment (F.view self.new.first) (second_of F.view self.new.second)) }
+        ensures writes { InModel (two_files self.old.failures self.old.moment (F.view self.old.first) (second_of F.view self.old.second))
+            (Writes area offset bytes.now result (two_files self.old.failures self.old.moment (F.view self.old.first) (second_of F.view self.old.second)).history (two_files self.new.failures self.new.moment (F.view self.new.first) (second_of F.view self.new.second)).history) }
+    {
+        if self.lock == Lock::Shared {
+            return Err(io::Error::from(ErrorKind::PermissionDenied));
+        }
+        let moment = self.moment;
+        if self.failed || moment == u64::MAX {
+            return Err(sync_failed());
+        }
         match area {
-            Area::First => Ok(&self.first),
-            Area::Second => match &self.second {
-                Some(second) => Ok(second),
+            Area::First => {
+                let written = self.first.write(moment, bytes, offset);
+                self.moment = moment + 1;
+                written
+            }
+            Area::Second => match &mut self.second {
+                Some(second) => {
+                    let written = second.write(moment, bytes, offset);
+                    self.moment = moment + 1;
+                    written
+                }
                 None => Err(io::Error::from(ErrorKind::NotFound)),
             },
         }
     }
 
-    /// The length of an area's file.
-    fn area_len(&self, area: Area) -> io::Result<u64>
-        ensures { IfOk result (λ len. len ≤ greatest_room) }
-    {
-        match self.file(area) {
-            Ok(file) => file_len(file),
-            Err(error) => Err(error),
-        }
-    }
-
-    /// Writes bytes to an area's file, where the disk isn't one that is only read.
-    fn write(&self, area: Area, offset: u64, bytes: &[u8]) -> io::Result<()> {
-        match self.lock {
-            Lock::Exclusive => self.file(area)?.write_all_at(bytes, offset),
-            Lock::Shared => Err(io::Error::from(ErrorKind::PermissionDenied)),
-        }
-    }
-
     /// Reads bytes of an area's file.
-    fn read_into(&self, area: Area, offset: u64, buffer: &mut [u8]) -> io::Result<()> {
-        self.file(area)?.read_exact_at(buffer, offset)
+    fn read_into(&mut self, area: Area, offset: u64, buffer: &mut [u8]) -> io::Result<()>
+        requires { InModel (two_files self.old.failures self.old.moment (F.view self.old.first) (second_of F.view self.old.second))
+            (offset + length buffer.old ≤ length (area_of area (bytes_on (two_files self.old.failures self.old.moment (F.view self.old.first) (second_of F.view self.old.second))))) }
+
+        ensures same { (two_files self.new.failures self.new.moment (F.view self.new.first) (second_of F.view self.new.second)) ≡ (two_files self.old.failures self.old.moment (F.view self.old.first) (second_of F.view self.old.second)) }
+        ensures bytes { InModel (two_files self.old.failures self.old.moment (F.view self.old.first) (second_of F.view self.old.second))
+            (OnOk result (buffer.new ≡ take (length buffer.old)
+            (drop offset (area_of area (bytes_on (two_files self.old.failures self.old.moment (F.view self.old.first) (second_of F.view self.old.second))))))) }
+    {
+        if self.failed {
+            return Err(sync_failed());
+        }
+        match area {
+            Area::First => self.first.read(buffer, offset),
+            Area::Second => match &mut self.second {
+                Some(second) => second.read(buffer, offset),
+                None => Err(io::Error::from(ErrorKind::NotFound)),
+            },
+        }
     }
 
-    /// Brings an area's file onto the disk.
-    fn sync_area(&self, area: Area) -> io::Result<()> {
-        sync_file(self.file(area)?, self.lock)
+    /// Brings an area's file onto the disk. Behind a sync that failed no other is believed.
+    fn sync_area(&mut self, area: Area) -> io::Result<()>
+        ensures kept { WithoutFailure (two_files self.old.failures self.old.moment (F.view self.old.first) (second_of F.view self.old.second)) (two_files self.new.failures self.new.moment (F.view self.new.first) (second_of F.view self.new.second)) }
+        ensures syncs { InModel (two_files self.old.failures self.old.moment (F.view self.old.first) (second_of F.view self.old.second))
+            (Syncs area result (two_files self.old.failures self.old.moment (F.view self.old.first) (second_of F.view self.old.second)).history (two_files self.new.failures self.new.moment (F.view self.new.first) (second_of F.view self.new.second)).history) }
+    {
+        let moment = self.moment;
+        if self.failed || moment == u64::MAX {
+            return Err(sync_failed());
+        }
+        match area {
+            Area::First => {
+                let synced = sync_file(&mut self.first, moment, self.lock);
+                self.moment = moment + 1;
+                self.failed = synced.is_err();
+                synced
+            }
+            Area::Second => match &mut self.second {
+                Some(second) => {
+                    let synced = sync_file(second, moment, self.lock);
+                    self.moment = moment + 1;
+                    self.failed = synced.is_err();
+                    synced
+                }
+                None => Err(io::Error::from(ErrorKind::NotFound)),
+            },
+        }
     }
 
     /// What a call answers that succeeded or not, where each failure is counted.
     fn answer<T: Drop>(&mut self, called: io::Result<T>) -> Result<T, DiskFault>
-        ensures called { Called result (file_view self.old.failures) (file_view self.new.failures) }
-        ensures value { IfOk result (λ value. called ≡ Ok value) }
+        ensures called { Called result (two_files self.old.failures self.old.moment (F.view self.old.first) (second_of F.view self.old.second)) (two_files self.new.failures self.new.moment (F.view self.new.first) (second_of F.view self.new.second)) }
+        ensures history { (two_files self.new.failures self.new.moment (F.view self.new.first) (second_of F.view self.new.second)).history ≡ (two_files self.old.failures self.old.moment (F.view self.old.first) (second_of F.view self.old.second)).history }
+        ensures value { MatchResult called (λ value. result ≡ Ok value) (λ _. IsErr result) }
     {
         let before = self.failures;
         match called {
@@ -188,15 +276,17 @@ impl<F: SheetFile + Drop> FileDisk<F> {
     }
 }
 
-impl<F: SheetFile + Drop> Disk for FileDisk<F> {
+impl<F: DiskFile + Drop> Disk for FileDisk<F> {
     ghost use Rattle.std.proofs.Math.Nat.{le_refl};
-    ghost use Rattle.disk_model.specs.Disk.{unclaimed};
+    ghost use Rattle.sheet_files.specs.inside.Two.{content_is_image, second_stays};
 
-    ghost view = { λ disk. file_view disk.failures };
+    ghost view = { λ disk. two_files disk.failures disk.moment (F.view disk.first) (second_of F.view disk.second) };
 
     ghost small = { λ _. le_refl greatest_room };
 
-    ghost content_stays = { λ _ kept. unclaimed kept };
+    ghost content_stays = { λ disk kept. content_is_image disk.moment (F.view disk.first)
+        (second_of F.view disk.second) disk.first_still disk.second_still
+        (F.content_stays disk.first) (second_stays F.view F.content_stays disk.second) kept };
 
     fn room(&self) -> u64 {
         GREATEST_ROOM

@@ -2,15 +2,19 @@
 //! in `program_endings`.
 #![tactic(auto)]
 
+mod disk_file;
 mod file_disk;
 mod files_fault;
 mod holding;
+mod memory_file;
 mod pairing;
 mod places;
 mod sheet_file;
 
+pub use disk_file::DiskFile;
 pub use file_disk::FileDisk;
 pub use files_fault::{FilesFault, HoldFault, MakeFault};
 pub use holding::{Closed, Held, hold_closed};
+pub use memory_file::MemoryFile;
 pub use places::{FilePlaces, Places};
 pub use sheet_file::{Identity, Lock, SheetFile};

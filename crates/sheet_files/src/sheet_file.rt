@@ -1,4 +1,5 @@
 //! What a worksheet asks of a file, beside that it is read, written and synced.
+use crate::DiskFile;
 use std::fs::{File, OpenFile, TryLockError};
 use std::io;
 use std::os::unix::fs::{FileExt, MetadataExt};
@@ -26,7 +27,7 @@ pub struct Identity {
 }
 
 /// An open file in which a worksheet can lie.
-pub trait SheetFile: OpenFile + FileExt {
+pub trait SheetFile: OpenFile + FileExt + DiskFile {
     /// Takes a lock, without waiting for it. It is this open's own, so no other has it, and it goes
     /// when the file is closed, also by the end of a program that was killed. `WouldBlock` where
     /// another open has one that forbids it; another error where the file system has no locks.

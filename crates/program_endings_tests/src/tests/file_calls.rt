@@ -375,3 +375,37 @@ fn a_sync_that_fails_is_a_fault(rt: HostRuntime) {
     assert!(rt; syncs(alloc, Area::First, ErrorKind::InvalidInput) == nothing);
     assert!(rt; syncs(alloc, Area::Second, ErrorKind::ReadOnlyFilesystem) == nothing);
 }
+
+// Whether nothing comes to a file behind a sync of this area that failed: a later sync that works would say
+// nothing of what the first one left out.
+fn ends_by_a_failed_sync(alloc: Global, area: Area, lines: &str) -> bool {
+    let calls = over(alloc, There::All);
+    let Ok(mut disk) = FileDisk::open(
+        &MadeUp {
+            alloc,
+            calls: &calls,
+        },
+        alloc,
+        "s",
+    ) else {
+        return false;
+    };
+    calls.stuck.set(Some(ErrorKind::Other));
+    let failed = disk.sync(area).is_err();
+    calls.stuck.set(None);
+    let mut bytes = [0u8; 5];
+    let ended = disk.sync(Area::First).is_err()
+        && disk.sync(Area::Second).is_err()
+        && disk.len(area).is_err()
+        && disk.read(area, 1, &mut bytes).is_err()
+        && disk.write_at(area, 7, b"abcd").is_err();
+    failed && ended && calls.end_in(lines)
+}
+
+#[test]
+fn no_sync_is_believed_behind_one_that_failed(rt: HostRuntime) {
+    let first = "identify s.alt\nsync the data of s\n";
+    let second = "identify s.alt\nsync the data of s.alt\n";
+    assert!(rt; ends_by_a_failed_sync(rt.alloc(), Area::First, first));
+    assert!(rt; ends_by_a_failed_sync(rt.alloc(), Area::Second, second));
+}

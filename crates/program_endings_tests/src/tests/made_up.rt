@@ -1,5 +1,7 @@
 //! Files that are made up: each call on them is listed, and they hold nothing.
-use sheet_files::{Identity, Lock, SheetFile};
+ghost use Rattle.sheet_files.specs.DiskFile.{unclaimed_file};
+
+use sheet_files::{DiskFile, Identity, Lock, SheetFile};
 use std::alloc::{Allocator, Global};
 use std::cell::{Cell, RefCell};
 use std::fmt::Write;
@@ -278,6 +280,36 @@ impl SheetFile for MadeUpFile<'_> {
             names: if second { others } else { names },
             is_plain: self.calls.plain.get(),
         })
+    }
+}
+
+// Nothing is claimed of what it holds, as of a real file.
+impl DiskFile for MadeUpFile<'_> {
+    ghost use Rattle.std.specs.Prelude.{refl};
+    ghost use Rattle.disk_model.specs.Disk.{unclaimed};
+
+    ghost view = { λ _. unclaimed_file };
+
+    ghost content_stays = { λ _ kept. unclaimed kept };
+
+    fn begins(&self) -> io::Result<u64> {
+        Ok(0)
+    }
+
+    fn len(&mut self) -> io::Result<u64> {
+        Ok(self.metadata()?.len())
+    }
+
+    fn read(&mut self, buffer: &mut [u8], offset: u64) -> io::Result<()> {
+        self.read_exact_at(buffer, offset)
+    }
+
+    fn write(&mut self, _moment: u64, bytes: &[u8], offset: u64) -> io::Result<()> {
+        self.write_all_at(bytes, offset)
+    }
+
+    fn sync(&mut self, _moment: u64) -> io::Result<()> {
+        self.sync_data()
     }
 }
 

@@ -1,0 +1,35 @@
+//! The program's own file code over files in memory, which keep the model of a file.
+use child_calls::Scripted;
+use offline_programs::show;
+use sheet_files::{FileDisk, Lock, MemoryFile};
+use sheet_programs::run;
+use std::alloc::Global;
+
+// What `show` prints of a new worksheet after this script.
+fn shown_after(alloc: Global, script: &[u8]) -> Option<Vec<u8>> {
+    let first = MemoryFile::new(alloc);
+    let second = MemoryFile::new(alloc);
+    let disk = FileDisk::of(first, Some(second), Lock::Exclusive).ok()?;
+    let disk = journal::create(disk).ok()?;
+    let mut children = Scripted::new(alloc, Vec::new(alloc));
+    let mut reader = script;
+    let mut text: Vec<u8> = Vec::new(alloc);
+    let disk = run(alloc, &mut reader, &mut text, disk, &mut children).ok()?;
+    let mut shown: Vec<u8> = Vec::new(alloc);
+    show(alloc, disk, &mut shown).ok()?;
+    Some(shown)
+}
+
+fn shows(alloc: Global, script: &[u8], text: &[u8]) -> bool {
+    match shown_after(alloc, script) {
+        Some(shown) => shown.as_slice() == text,
+        None => false,
+    }
+}
+
+#[test]
+fn a_worksheet_in_files_in_memory(rt: HostRuntime) {
+    let script = b"session b plain p\nnew 0 b first\nnew 1 b second\ncheckpoint\nset 1 changed\n";
+    let text = b"#1 b\n> changed\n?\n#2 b\n> second\n?\n";
+    assert!(rt; shows(rt.alloc(), script.as_slice(), text.as_slice()));
+}

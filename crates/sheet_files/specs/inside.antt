@@ -1,0 +1,2 @@
+pub mod Two
+pub mod Replayed

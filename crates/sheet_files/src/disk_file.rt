@@ -1,0 +1,93 @@
+//! A file as a disk speaks to it.
+ghost use Rattle.std.specs.Prelude.{◌≡◌, ◌+◌, ◌≤◌, length, take, drop, IsTrue, IfOk, OnOk, false};
+ghost use Rattle.disk_model.specs.Disk.{greatest_room};
+ghost use Rattle.sheet_files.specs.DiskFile.{FileView, FileImage, FileSyncs, FileWrites, InFile, IsFresh, IsStill, Loses, Now, Passes, unclaimed_file};
+
+use std::fs::{File, OpenFile};
+use std::io;
+use std::os::unix::fs::FileExt;
+
+/// An open file, of which a disk asks four things. A call that may change something is told the
+/// moment at which it is made, which is the number of that call among all on the disk's files.
+///
+/// A file that keeps the model has a state at each moment: what a read gives, and what a crash may
+/// leave. A real file keeps none, and nothing is claimed of it.
+pub trait DiskFile {
+    /// The file as contracts see it.
+    ghost view: { Self → FileView };
+
+    /// A moment from which on nothing has happened to the file. It fails where a sync of this
+    /// opening has failed.
+    fn begins(&self) -> io::Result<u64>
+        ensures { IfOk result (λ moment. IsFresh moment (view self.now)) };
+
+    /// Its length in bytes.
+    fn len(&mut self) -> io::Result<u64>
+        ensures same { view self.new ≡ view self.old }
+        ensures length { InFile (view self.old) ((view self.old).lost ≡ false
+            → IfOk result (λ n. Now (view self.old) (λ a. n ≡ length a.content))) };
+
+    /// Fills the buffer with the bytes from `offset` on, where all of them are within the length.
+    fn read(&mut self, buffer: &mut [u8], offset: u64) -> io::Result<()>
+        ensures same { view self.new ≡ view self.old }
+        ensures bytes { InFile (view self.old) ((view self.old).lost ≡ false
+            → OnOk result (Now (view self.old)
+            (λ a. offset + length buffer.old ≤ length a.content
+            → buffer.new ≡ take (length buffer.old) (drop offset a.content)))) };
+
+    /// Puts bytes over what stands at `offset`, and past the end. They begin at most at the length.
+    fn write(&mut self, moment: u64, bytes: &[u8], offset: u64) -> io::Result<()>
+        requires { IsStill moment (view self.old) }
+
+        ensures passes { Passes moment (view self.old) (view self.new) }
+        ensures sound { (view self.new).lost ≡ (view self.old).lost }
+        ensures writes { InFile (view self.old)
+            (offset ≤ length ((view self.old).before moment).content
+            → offset + length bytes.now ≤ greatest_room
+            → FileWrites offset bytes.now result
+            ((view self.old).before moment) ((view self.new).before (moment + 1))) };
+
+    /// Brings its data onto the disk.
+    fn sync(&mut self, moment: u64) -> io::Result<()>
+        requires { IsStill moment (view self.old) }
+
+        ensures passes { Passes moment (view self.old) (view self.new) }
+        ensures lost { Loses result (view self.old) (view self.new) }
+        ensures syncs { InFile (view self.old) ((view self.old).lost ≡ false
+            → FileSyncs result ((view self.old).before moment)
+            ((view self.new).before (moment + 1))) };
+
+    /// What a read gives is one of the images that a crash may leave.
+    ghost content_stays: { (file : Self)
+        → InFile (view file) (Now (view file) (λ a. FileImage a a.content)) };
+}
+
+/// A real file, of which nothing is claimed.
+impl DiskFile for File {
+    ghost use Rattle.std.specs.Prelude.{refl};
+    ghost use Rattle.disk_model.specs.Disk.{unclaimed};
+
+    ghost view = { λ _. unclaimed_file };
+
+    ghost content_stays = { λ _ kept. unclaimed kept };
+
+    fn begins(&self) -> io::Result<u64> {
+        Ok(0)
+    }
+
+    fn len(&mut self) -> io::Result<u64> {
+        Ok(self.metadata()?.len())
+    }
+
+    fn read(&mut self, buffer: &mut [u8], offset: u64) -> io::Result<()> {
+        self.read_exact_at(buffer, offset)
+    }
+
+    fn write(&mut self, _moment: u64, bytes: &[u8], offset: u64) -> io::Result<()> {
+        self.write_all_at(bytes, offset)
+    }
+
+    fn sync(&mut self, _moment: u64) -> io::Result<()> {
+        self.sync_data()
+    }
+}
