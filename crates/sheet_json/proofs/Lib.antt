@@ -1,0 +1,11 @@
+pub mod Utf8
+pub mod Lists
+pub mod Nodes
+pub mod Back
+pub mod Within
+pub mod Tellings
+pub mod Wholes
+pub mod ReadFields
+pub mod PlainValues
+pub mod Apart
+pub mod Wholly

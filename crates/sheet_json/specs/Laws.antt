@@ -1,0 +1,48 @@
+-- Laws of the definitions.
+use Rattle.std.specs.Prelude.{◌≡◌, ℕ, List, Some, map}
+use Rattle.std.specs.List.{AllByRecursion, flat_map}
+use Rattle.serde_json.specs.Data.{Data}
+use Rattle.serde_json.specs.Written.{compact_text}
+use Rattle.base64.specs.GeneralPurpose.{IsBytes}
+use Rattle.block_tree.specs.Tree.{Tree}
+use Rattle.sheet_json.specs.Bytes.{bytes_data}
+use Rattle.sheet_json.specs.Blocks.{tree_data}
+use Rattle.sheet_json.specs.Lines.{HasCounts, json_line}
+use Rattle.sheet_json.specs.Objects.{field_data, session_data, telling_data}
+use Rattle.sheet_json.specs.Plain.{IsPlain, IsSoundTelling}
+use Rattle.sheet_json.specs.Reading.{bytes_in, tree_in, HasBytes}
+use Rattle.sheet_json.specs.Tellings.{EventTold, FieldShown, Reply, SessionShown, Telling}
+use Rattle.sheet_json.specs.Tellings as told
+use Rattle.sheet_json.specs.Told.{field_read, session_in, told_in, EventHasBytes, StateHasBytes}
+
+-- Bytes read back, whatever they are.
+abbrev pub BytesReadBack : Type 0
+BytesReadBack = (bytes : List ℕ) → IsBytes bytes → bytes_in (bytes_data bytes) ≡ Some bytes
+
+-- A block reads back, with all its tags and texts.
+abbrev pub BlocksReadBack : Type 0
+BlocksReadBack = (b : Tree) → HasBytes b → tree_in (tree_data b) ≡ Some b
+
+-- A reply reads back, with its line.
+abbrev pub RepliesReadBack : Type 0
+RepliesReadBack = (line : ℕ) (r : Reply) → told_in (telling_data (told.reply line r)) ≡ Some (told.reply line r)
+
+-- What comes of an interpreter reads back.
+abbrev pub EventsReadBack : Type 0
+EventsReadBack = (session : List ℕ) (life : ℕ) (e : EventTold) → IsBytes session → EventHasBytes e → told_in (telling_data (told.event session life e)) ≡ Some (told.event session life e)
+
+-- So do fields and sessions.
+abbrev pub FieldsReadBack : Type 0
+FieldsReadBack = (f : FieldShown) → IsBytes f.session → StateHasBytes f.state → field_read (field_data f) ≡ Some f
+
+abbrev pub SessionsReadBack : Type 0
+SessionsReadBack = (s : SessionShown) → IsBytes s.name → AllByRecursion IsBytes s.words → session_in (session_data s) ≡ Some s
+
+-- What a program tells has no float, no number of more than 64 bits, and nests 67 deep at most. So of each telling `line_bytes` gives
+-- the line of the definition, which is one line and reads back.
+abbrev pub TellingsArePlain : Type 0
+TellingsArePlain = (t : Telling) → IsSoundTelling t → IsPlain 67 (telling_data t)
+
+-- Lines one after another are cut in one way: two lists of values with one text are written by the same texts.
+abbrev pub LinesApart : Type 0
+LinesApart = (ds es : List Data) → AllByRecursion HasCounts ds → AllByRecursion HasCounts es → flat_map json_line ds ≡ flat_map json_line es → map compact_text ds ≡ map compact_text es

@@ -1,0 +1,13 @@
+pub mod inside
+pub mod Bytes
+pub mod Blocks
+pub mod Reading
+pub mod Lines
+pub mod Tellings
+pub mod Objects
+pub mod Plain
+pub mod Shown
+pub mod Replies
+pub mod Sheets
+pub mod Told
+pub mod Laws

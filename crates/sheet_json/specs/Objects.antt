@@ -1,0 +1,122 @@
+-- What is told, as JSON: the members of each object in the order of their names. (DESIGN.md, "Objects".)
+use Rattle.std.specs.Prelude.{ℕ, true, false, List, Option, Some, None, codes, map}
+use Rattle.block_tree.specs.Tree.{Tree}
+use Rattle.worksheet.specs.Refusals.{refusal_number, refusal_name}
+use Rattle.scheme_text.specs.declared.answer.Completions.{Completions}
+use Rattle.plugin_core.specs.declared.item.Item.{Item}
+use Rattle.plugin_core.specs.declared.item.Item.TheVariants as item
+use Rattle.sheet_text.specs.Blocks.{block_text}
+use Rattle.sheet_text.specs.Replies.{reason_name}
+use Rattle.serde_json.specs.Data.{Data, Members, null, boolean, number, unsigned, string, array, object, member, no_members}
+use Rattle.serde_json.specs.View.{items_of}
+use Rattle.sheet_json.specs.Bytes.{bytes_data}
+use Rattle.sheet_json.specs.Blocks.{tree_data}
+use Rattle.sheet_json.specs.Tellings.{Telling, Reply, EventTold, FieldShown, SessionShown, State}
+use Rattle.sheet_json.specs.Tellings as told
+
+abbrev pub count : ℕ → Data
+count n = number (unsigned n)
+
+-- the member `type`, and none behind it
+abbrev pub typed : List ℕ → Members
+typed name = member (codes "type") (string name) no_members
+
+-- an output: its blocks, and as a worksheet shows it
+abbrev pub shown_data : Tree → Data
+shown_data output = bytes_data (block_text output)
+
+-- an item that was lost: a line, or a request of completions
+abbrev pub lost_data : Item → Data
+lost_data (item.Line id line) = object (member (codes "id") (count id) (member (codes "text") (bytes_data line) no_members))
+lost_data (item.Complete id line cursor) = object (member (codes "cursor") (count cursor) (member (codes "id") (count id) (member (codes "text") (string line) no_members)))
+
+abbrev pub losts_data : List Item → Data
+losts_data lost = array (items_of (map lost_data lost))
+
+-- Replies to lines.
+abbrev pub reply_data : ℕ → Reply → Data
+reply_data line told.done = object (member (codes "line") (count line) (typed (codes "done")))
+reply_data line (told.made id) = object (member (codes "id") (count id) (member (codes "line") (count line) (typed (codes "made"))))
+reply_data line (told.asked life) = object (member (codes "life") (count life) (member (codes "line") (count line) (typed (codes "asked"))))
+reply_data line (told.refused why) = object (member (codes "line") (count line) (member (codes "name") (string (refusal_name why)) (member (codes "number") (count (refusal_number why)) (typed (codes "refused")))))
+reply_data line told.bad = object (member (codes "line") (count line) (typed (codes "bad")))
+reply_data line told.nothing = object (member (codes "line") (count line) (typed (codes "nothing")))
+reply_data line (told.waited true) = object (member (codes "line") (count line) (member (codes "over") (string (codes "time")) (typed (codes "waited"))))
+reply_data line (told.waited false) = object (member (codes "line") (count line) (member (codes "over") (string (codes "idle")) (typed (codes "waited"))))
+
+abbrev pub stopped_data : ℕ → List ℕ → ℕ → List Item → Data
+stopped_data line session life lost =
+    object (member (codes "life") (count life) (member (codes "line") (count line) (member (codes "lost") (losts_data lost) (member (codes "session") (bytes_data session) (typed (codes "stopped"))))))
+
+-- What comes of interpreters.
+
+-- texts in a row
+abbrev pub texts_data : List (List ℕ) → Data
+texts_data texts = array (items_of (map bytes_data texts))
+
+-- the completions, or that the answer tells none
+abbrev pub completions_data : Option Completions → Data
+completions_data None = null
+completions_data (Some told) = object (member (codes "rest") (texts_data told.rest) (member (codes "root") (bytes_data told.root) no_members))
+
+abbrev pub event_data : List ℕ → ℕ → EventTold → Data
+event_data session life (told.banner output) =
+    object (member (codes "life") (count life) (member (codes "output") (tree_data output) (member (codes "session") (bytes_data session)
+    (member (codes "shown") (shown_data output) (typed (codes "banner"))))))
+event_data session life (told.answer id prompt output) =
+    object (member (codes "id") (count id) (member (codes "life") (count life) (member (codes "output") (tree_data output) (member (codes "prompt") (bytes_data prompt)
+    (member (codes "session") (bytes_data session) (member (codes "shown") (shown_data output) (typed (codes "answered"))))))))
+event_data session life (told.completed id completions) =
+    object (member (codes "id") (count id) (member (codes "life") (count life) (member (codes "session") (bytes_data session) (member (codes "told") (completions_data completions) (typed (codes "completed"))))))
+event_data session life (told.input line) =
+    object (member (codes "life") (count life) (member (codes "session") (bytes_data session) (member (codes "text") (bytes_data line) (typed (codes "default")))))
+event_data session life (told.ended why lost) =
+    object (member (codes "life") (count life) (member (codes "lost") (losts_data lost) (member (codes "reason") (string (reason_name why)) (member (codes "session") (bytes_data session) (typed (codes "ended"))))))
+
+-- Worksheets.
+
+-- by its number, session and input, and by how it stands
+abbrev pub field_with : ℕ → List ℕ → List ℕ → State → Data
+field_with id session input (told.answered prompt output) =
+    object (member (codes "id") (count id) (member (codes "input") (string input) (member (codes "output") (tree_data output) (member (codes "prompt") (bytes_data prompt)
+    (member (codes "session") (bytes_data session) (member (codes "shown") (shown_data output) (member (codes "state") (string (codes "answered")) no_members)))))))
+field_with id session input (told.lost why) =
+    object (member (codes "id") (count id) (member (codes "input") (string input) (member (codes "reason") (string (reason_name why))
+    (member (codes "session") (bytes_data session) (member (codes "state") (string (codes "lost")) no_members)))))
+field_with id session input told.waiting =
+    object (member (codes "id") (count id) (member (codes "input") (string input) (member (codes "session") (bytes_data session) (member (codes "state") (string (codes "waiting")) no_members))))
+field_with id session input told.empty =
+    object (member (codes "id") (count id) (member (codes "input") (string input) (member (codes "session") (bytes_data session) (member (codes "state") (string (codes "empty")) no_members))))
+
+abbrev pub field_data : FieldShown → Data
+field_data field = field_with field.id field.session field.input field.state
+
+abbrev pub life_data : Option ℕ → Data
+life_data None = null
+life_data (Some life) = count life
+
+abbrev pub session_data : SessionShown → Data
+session_data s =
+    object (member (codes "life") (life_data s.life) (member (codes "name") (bytes_data s.name) (member (codes "tab") (boolean s.tab) (member (codes "waiting") (count s.waiting)
+    (member (codes "words") (texts_data s.words) no_members)))))
+
+abbrev pub ids_data : List ℕ → Data
+ids_data ids = array (items_of (map count ids))
+
+abbrev pub sessions_data : List SessionShown → Data
+sessions_data sessions = array (items_of (map session_data sessions))
+
+-- All that is told.
+abbrev pub telling_data : Telling → Data
+telling_data told.hello = object (member (codes "format") (count 1) (member (codes "program") (string (codes "tmhost")) (member (codes "protocol") (count 1) (member (codes "type") (string (codes "hello")) (member (codes "version") (string (codes "0")) no_members)))))
+telling_data (told.reply line r) = reply_data line r
+telling_data (told.stopped line session life lost) = stopped_data line session life lost
+telling_data (told.event session life e) = event_data session life e
+telling_data (told.field line f) = object (member (codes "field") (field_data f) (member (codes "line") (count line) (typed (codes "field"))))
+telling_data (told.part line f) = object (member (codes "field") (field_data f) (member (codes "line") (count line) (member (codes "more") (boolean true) (typed (codes "field")))))
+telling_data (told.shown f) = object (member (codes "field") (field_data f) (typed (codes "field")))
+telling_data (told.sheet line ids next sessions) = object (member (codes "fields") (ids_data ids) (member (codes "line") (count line) (member (codes "next") (count next) (member (codes "sessions") (sessions_data sessions) (typed (codes "sheet"))))))
+telling_data (told.whole ids next sessions) = object (member (codes "fields") (ids_data ids) (member (codes "next") (count next) (member (codes "sessions") (sessions_data sessions) (typed (codes "sheet")))))
+telling_data (told.fault n name None) = object (member (codes "name") (string name) (member (codes "number") (count n) (typed (codes "fault"))))
+telling_data (told.fault n name (Some offset)) = object (member (codes "name") (string name) (member (codes "number") (count n) (member (codes "offset") (count offset) (typed (codes "fault")))))
+telling_data (told.end lines) = object (member (codes "lines") (count lines) (typed (codes "end")))

@@ -1,0 +1,44 @@
+-- How a worksheet's fields and sessions are shown.
+use Rattle.std.specs.Prelude.{ℕ, Bool, true, false, List, [], ◌∷◌, ◌++◌, Option, Some, None, map}
+use Rattle.block_tree.specs.declared.reason.Reason.{Reason}
+use Rattle.worksheet.specs.Contents.{Contents}
+use Rattle.worksheet.specs.declared.field.Answer.{Answer}
+use Rattle.worksheet.specs.declared.field.Field.{Field}
+use Rattle.worksheet.specs.declared.field.Session.{Session}
+use Rattle.sheet_json.specs.Tellings.{FieldShown, SessionShown, State, Telling}
+use Rattle.sheet_json.specs.Tellings as told
+
+-- by its answer, by the reason why it has none, and by whether its line waits for one
+abbrev pub state_shown : Bool → Option Answer → Option Reason → State
+state_shown waits (Some answer) lost = told.answered answer.prompt answer.output
+state_shown waits None (Some why) = told.lost why
+state_shown true None None = told.waiting
+state_shown false None None = told.empty
+
+abbrev pub field_told : Bool → Field → FieldShown
+field_told waits field = record { id = field.id; session = field.session; input = field.input; state = state_shown waits field.answer field.lost }
+
+abbrev pub session_shown : Option ℕ → ℕ → Session → SessionShown
+session_shown life waiting s = record { name = s.name; tab = s.tab; words = s.words; life = life; waiting = waiting }
+
+abbrev pub ids_of : Contents → List ℕ
+ids_of sheet = map (λ f. f.id) sheet.fields
+
+-- of a worksheet that no host has no life goes on, and nothing waits
+
+abbrev pub still_session : Session → SessionShown
+still_session s = session_shown None 0 s
+
+abbrev pub still_sessions : Contents → List SessionShown
+still_sessions sheet = map still_session sheet.sessions
+
+abbrev pub still_field : Field → Telling
+still_field field = told.shown (field_told false field)
+
+-- what it is together
+abbrev pub whole_of : Contents → Telling
+whole_of sheet = told.whole (ids_of sheet) sheet.next (still_sessions sheet)
+
+-- all that is told of it: its fields in order, and what they are together
+abbrev pub sheet_tellings : Contents → List Telling
+sheet_tellings sheet = told.hello ∷ (map still_field sheet.fields ++ whole_of sheet ∷ told.end 0 ∷ [])

@@ -1,0 +1,68 @@
+-- What is told, apart from how it is written. (DESIGN.md, "Objects".)
+use Rattle.std.specs.Prelude.{ℕ, Bool, List, Option}
+use Rattle.block_tree.specs.Tree.{Tree}
+use Rattle.block_tree.specs.declared.reason.Reason.{Reason}
+use Rattle.worksheet.specs.declared.refusal.Refusal.{Refusal}
+use Rattle.scheme_text.specs.declared.answer.Completions.{Completions}
+use Rattle.plugin_core.specs.declared.item.Item.{Item}
+
+-- how a field stands: what it was answered, with the prompt of that; why its line was lost; that its line waits; or none of these
+pub data State : Type 0 where
+  answered : List ℕ → Tree → State
+  lost : Reason → State
+  waiting : State
+  empty : State
+
+-- a field: its number, session and input, and how it stands
+pub record FieldShown : Type 0 where
+  pub id : ℕ
+  pub session : List ℕ
+  pub input : List ℕ
+  pub state : State
+
+-- a session: its name, whether its interpreter answers requests of completions, its words, the number of its life if one goes on,
+-- and how many items wait in it
+pub record SessionShown : Type 0 where
+  pub name : List ℕ
+  pub tab : Bool
+  pub words : List (List ℕ)
+  pub life : Option ℕ
+  pub waiting : ℕ
+
+-- what a line gives, but a stop that ends a life and what a print writes
+pub data Reply : Type 0 where
+  done : Reply
+  made : ℕ → Reply
+  asked : ℕ → Reply
+  refused : Refusal → Reply
+  bad : Reply
+  nothing : Reply
+  waited : Bool → Reply
+
+-- what comes of an interpreter
+pub data EventTold : Type 0 where
+  banner : Tree → EventTold
+  answer : ℕ → List ℕ → Tree → EventTold
+  completed : ℕ → Option Completions → EventTold
+  input : List ℕ → EventTold
+  ended : Reason → List Item → EventTold
+
+pub data Telling : Type 0 where
+  hello : Telling
+  -- of the line with this number
+  reply : ℕ → Reply → Telling
+  -- of that line, which ended the life of this session that has this number
+  stopped : ℕ → List ℕ → ℕ → List Item → Telling
+  -- of the life of this session that has this number
+  event : List ℕ → ℕ → EventTold → Telling
+  -- a field: asked for alone by a line, one of those that a line asks for, or of a worksheet that no line asks for
+  field : ℕ → FieldShown → Telling
+  part : ℕ → FieldShown → Telling
+  shown : FieldShown → Telling
+  -- the numbers of the fields in their order, the number of the next one, and the sessions
+  sheet : ℕ → List ℕ → ℕ → List SessionShown → Telling
+  whole : List ℕ → ℕ → List SessionShown → Telling
+  -- the number of a fault and its name, and the offset of a damage
+  fault : ℕ → List ℕ → Option ℕ → Telling
+  -- how many lines were taken
+  end : ℕ → Telling

@@ -1,0 +1,147 @@
+-- What an object reads as: the way back of `Objects`. Members are looked up by their names, as a client does; members that it
+-- doesn't know are passed over.
+use Rattle.std.specs.Prelude.{ℕ, ◌-◌, Bool, true, false, List, [], ◌∷◌, Option, Some, None, codes, cond, option_map, option_and_then, slice_get}
+use Rattle.std.specs.List.{AllByRecursion}
+use Rattle.std.specs.Str.{bytes_eq}
+use Rattle.base64.specs.GeneralPurpose.{IsBytes}
+use Rattle.block_tree.specs.declared.reason.Reason.{Reason}
+use Rattle.block_tree.specs.declared.reason.Reason.TheVariants as reason
+use Rattle.worksheet.specs.declared.refusal.Refusal.{Refusal}
+use Rattle.worksheet.specs.declared.refusal.Refusal.TheVariants as refusal
+use Rattle.scheme_text.specs.declared.answer.Completions.{Completions}
+use Rattle.plugin_core.specs.declared.item.Item.{Item}
+use Rattle.plugin_core.specs.declared.item.Item.TheVariants as lost
+use Rattle.serde_json.specs.Data.{Data, Items, null, number, unsigned, array, item, no_items}
+use Rattle.serde_json.specs.Find.{get, as_bool, as_str}
+use Rattle.sheet_json.specs.Reading.{bytes_in, tree_in, HasBytes}
+use Rattle.sheet_json.specs.Tellings.{Telling, Reply, EventTold, FieldShown, SessionShown, State}
+use Rattle.sheet_json.specs.Tellings as told
+
+abbrev pub count_in : Data → Option ℕ
+count_in (number (unsigned n)) = Some n
+count_in _ = None
+
+abbrev pub member_in : {A : Type 0} → (Data → Option A) → List ℕ → Data → Option A
+member_in read name d = option_and_then read (get name d)
+
+-- the values of both, or of all
+abbrev pub both : {A B C : Type 0} → (A → B → C) → Option A → Option B → Option C
+both f (Some a) (Some b) = Some (f a b)
+both f _ _ = None
+
+-- a function, and what it is of
+abbrev pub of : {A B : Type 0} → Option (A → B) → Option A → Option B
+of (Some f) (Some a) = Some (f a)
+of _ _ = None
+
+abbrev pub each_in : {A : Type 0} → (Data → Option A) → Items → Option (List A)
+each_in read no_items = Some []
+each_in read (item d ds) = of (option_map (λ x xs. x ∷ xs) (read d)) (each_in read ds)
+
+abbrev pub list_in : {A : Type 0} → (Data → Option A) → Data → Option (List A)
+list_in read (array ds) = each_in read ds
+list_in read _ = None
+
+-- none, or some
+abbrev pub option_in : {A : Type 0} → (Data → Option A) → Data → Option (Option A)
+option_in read null = Some None
+option_in read d = option_map (λ x. Some x) (read d)
+
+abbrev pub numbered_refusals : List Refusal
+numbered_refusals = refusal.NoSession ∷ refusal.NoField ∷ refusal.InFlight ∷ refusal.SessionExists ∷ refusal.BadName ∷ refusal.BadWords ∷ refusal.BadInput ∷ refusal.SamePlace
+    ∷ refusal.TooManySessions ∷ refusal.TooManyFields ∷ refusal.IdsSpent ∷ refusal.NoTab ∷ refusal.BadCursor ∷ refusal.QueueFull ∷ refusal.LivesSpent ∷ refusal.JournalFull ∷ refusal.OutOfMemory ∷ []
+
+abbrev pub refusal_in : Data → Option Refusal
+refusal_in d = option_and_then (λ n. slice_get numbered_refusals (n - 1)) (count_in d)
+
+abbrev pub reason_named : List ℕ → Option Reason
+reason_named name =
+    cond (bytes_eq name (codes "StartRefused")) (Some reason.StartRefused) (cond (bytes_eq name (codes "Ended")) (Some reason.Ended) (cond (bytes_eq name (codes "ReadFault")) (Some reason.ReadFault)
+    (cond (bytes_eq name (codes "SendFault")) (Some reason.SendFault) (cond (bytes_eq name (codes "Stalled")) (Some reason.Stalled) (cond (bytes_eq name (codes "BadTag")) (Some reason.BadTag)
+    (cond (bytes_eq name (codes "TooDeep")) (Some reason.TooDeep) (cond (bytes_eq name (codes "TooLong")) (Some reason.TooLong) (cond (bytes_eq name (codes "Stopped")) (Some reason.Stopped) None))))))))
+
+abbrev pub reason_in : Data → Option Reason
+reason_in d = option_and_then reason_named (as_str d)
+
+-- an item that was lost, by its cursor if it has one
+abbrev pub lost_with : Option Data → Data → Option Item
+lost_with None d = of (option_map (λ id line. lost.Line id line) (member_in count_in (codes "id") d)) (member_in bytes_in (codes "text") d)
+lost_with (Some cursor) d = of (of (option_map (λ id line c. lost.Complete id line c) (member_in count_in (codes "id") d)) (member_in as_str (codes "text") d)) (count_in cursor)
+
+abbrev pub lost_in : Data → Option Item
+lost_in d = lost_with (get (codes "cursor") d) d
+
+abbrev pub completions_in : Data → Option Completions
+completions_in d = of (option_map (λ root rest. record { root = root; rest = rest }) (member_in bytes_in (codes "root") d)) (member_in (list_in bytes_in) (codes "rest") d)
+
+-- how a field stands
+abbrev pub state_named : List ℕ → Data → Option State
+state_named name d =
+    cond (bytes_eq name (codes "answered")) (of (option_map (λ prompt output. told.answered prompt output) (member_in bytes_in (codes "prompt") d)) (member_in tree_in (codes "output") d))
+    (cond (bytes_eq name (codes "lost")) (option_map (λ why. told.lost why) (member_in reason_in (codes "reason") d))
+    (cond (bytes_eq name (codes "waiting")) (Some told.waiting) (cond (bytes_eq name (codes "empty")) (Some told.empty) None)))
+
+abbrev pub state_in : Data → Option State
+state_in d = option_and_then (λ name. state_named name d) (member_in as_str (codes "state") d)
+
+abbrev pub field_read : Data → Option FieldShown
+field_read d = of (of (of (option_map (λ id session input state. record { id = id; session = session; input = input; state = state }) (member_in count_in (codes "id") d)) (member_in bytes_in (codes "session") d)) (member_in as_str (codes "input") d)) (state_in d)
+
+abbrev pub session_in : Data → Option SessionShown
+session_in d = of (of (of (of (option_map (λ name tab words life waiting. record { name = name; tab = tab; words = words; life = life; waiting = waiting }) (member_in bytes_in (codes "name") d)) (member_in as_bool (codes "tab") d))
+    (member_in (list_in bytes_in) (codes "words") d)) (member_in (option_in count_in) (codes "life") d)) (member_in count_in (codes "waiting") d)
+
+abbrev pub over_named : List ℕ → Option Bool
+over_named name = cond (bytes_eq name (codes "time")) (Some true) (cond (bytes_eq name (codes "idle")) (Some false) None)
+
+-- of a line
+abbrev pub reply_named : List ℕ → Data → Option Reply
+reply_named name d =
+    cond (bytes_eq name (codes "done")) (Some told.done) (cond (bytes_eq name (codes "made")) (option_map (λ id. told.made id) (member_in count_in (codes "id") d))
+    (cond (bytes_eq name (codes "asked")) (option_map (λ life. told.asked life) (member_in count_in (codes "life") d)) (cond (bytes_eq name (codes "refused")) (option_map (λ why. told.refused why) (member_in refusal_in (codes "number") d))
+    (cond (bytes_eq name (codes "bad")) (Some told.bad) (cond (bytes_eq name (codes "nothing")) (Some told.nothing)
+    (cond (bytes_eq name (codes "waited")) (option_map (λ over. told.waited over) (option_and_then over_named (member_in as_str (codes "over") d))) None))))))
+
+-- of an interpreter
+abbrev pub event_named : List ℕ → Data → Option EventTold
+event_named name d =
+    cond (bytes_eq name (codes "banner")) (option_map (λ output. told.banner output) (member_in tree_in (codes "output") d))
+    (cond (bytes_eq name (codes "answered")) (of (of (option_map (λ id prompt output. told.answer id prompt output) (member_in count_in (codes "id") d)) (member_in bytes_in (codes "prompt") d)) (member_in tree_in (codes "output") d))
+    (cond (bytes_eq name (codes "completed")) (of (option_map (λ id told_ones. told.completed id told_ones) (member_in count_in (codes "id") d)) (member_in (option_in completions_in) (codes "told") d))
+    (cond (bytes_eq name (codes "default")) (option_map (λ line. told.input line) (member_in bytes_in (codes "text") d))
+    (cond (bytes_eq name (codes "ended")) (of (option_map (λ why items. told.ended why items) (member_in reason_in (codes "reason") d)) (member_in (list_in lost_in) (codes "lost") d)) None))))
+
+-- a reply has a line, and what comes of an interpreter has none
+abbrev pub with_line : Option ℕ → List ℕ → Data → Option Telling
+with_line (Some line) name d = option_map (λ r. told.reply line r) (reply_named name d)
+with_line None name d = of (of (option_map (λ session life e. told.event session life e) (member_in bytes_in (codes "session") d)) (member_in count_in (codes "life") d)) (event_named name d)
+
+abbrev pub told_named : List ℕ → Data → Option Telling
+told_named name d = with_line (member_in count_in (codes "line") d) name d
+
+-- a reply, or what comes of an interpreter
+abbrev pub told_in : Data → Option Telling
+told_in d = option_and_then (λ name. told_named name d) (member_in as_str (codes "type") d)
+
+-- what a program's bytes are
+
+abbrev pub ItemHasBytes : Item → Type 0
+ItemHasBytes (lost.Line id line) = IsBytes line
+ItemHasBytes (lost.Complete id line cursor) = Unit {0}
+
+abbrev pub CompletionsHaveBytes : Option Completions → Type 0
+CompletionsHaveBytes None = Unit {0}
+CompletionsHaveBytes (Some told) = IsBytes told.root × AllByRecursion IsBytes told.rest
+
+abbrev pub EventHasBytes : EventTold → Type 0
+EventHasBytes (told.banner output) = HasBytes output
+EventHasBytes (told.answer id prompt output) = IsBytes prompt × HasBytes output
+EventHasBytes (told.completed id completions) = CompletionsHaveBytes completions
+EventHasBytes (told.input line) = IsBytes line
+EventHasBytes (told.ended why items) = AllByRecursion ItemHasBytes items
+
+abbrev pub StateHasBytes : State → Type 0
+StateHasBytes (told.answered prompt output) = IsBytes prompt × HasBytes output
+StateHasBytes (told.lost why) = Unit {0}
+StateHasBytes told.waiting = Unit {0}
+StateHasBytes told.empty = Unit {0}

@@ -1,0 +1,29 @@
+//! Worksheets and what is told of them as JSON.
+#![tactic(auto)]
+
+mod blocks;
+mod bytes;
+mod ends;
+mod events;
+mod fields;
+pub mod laws;
+mod lines;
+mod replies;
+mod sheets;
+mod told;
+mod whole;
+
+pub use blocks::block_value;
+pub use bytes::bytes_value;
+pub use ends::{end_value, fault_value, hello_value};
+pub use events::{
+    answered_value, banner_value, completed_value, default_value, ended_value, stopped_value,
+};
+pub use fields::{asked_field_value, part_value, shown_field_value};
+pub use lines::line_bytes;
+pub use replies::{
+    asked_value, bad_value, done_value, made_value, nothing_value, refused_value, waited_value,
+};
+pub use sheets::whole_value;
+pub use told::{closed_value, reply_value};
+pub use whole::sheet_bytes;

@@ -1,0 +1,25 @@
+//! A value on a line of its own.
+ghost use Rattle.std.specs.Prelude.{◌≡◌, ◌≤◌, ◌++◌, ◌∷◌, [], IfOk, List, ℕ, Some, false};
+ghost use Rattle.serde_json.specs.Data.{depth};
+ghost use Rattle.serde_json.specs.Read.{max_depth, read};
+ghost use Rattle.serde_json.specs.View.{view};
+ghost use Rattle.serde_json.specs.Written.{has_float};
+ghost use Rattle.sheet_json.specs.Lines.{HasCounts, IsWithinLine, json_line};
+ghost use Rattle.sheet_json.specs.Lines as lines;
+
+use serde_json::Value;
+use std::alloc::{AllocError, Global};
+
+/// The line of a value: its text without a space, and a line feed.
+///
+/// What stands in front of the line feed reads as the value, by the reader of `serde_json`; and no byte
+/// of that ends a line, whatever stands in the value's strings.
+pub fn line_bytes(alloc: Global, value: &Value) -> Result<Vec<u8>, AllocError>
+    ensures text { IfOk result (λ bytes. has_float (view value.now) ≡ false → bytes.items ≡ json_line (view value.now)) }
+    ensures reads { IfOk result (λ bytes. depth (view value.now) ≤ max_depth → lines.ReadsAs bytes.items (view value.now)) }
+    ensures within { IfOk result (λ bytes. has_float (view value.now) ≡ false → HasCounts (view value.now) → lines.IsOneLine bytes.items) }
+{
+    let mut bytes = value.to_vec(alloc)?;
+    bytes.push(b'\n')?;
+    Ok(bytes)
+}

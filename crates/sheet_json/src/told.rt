@@ -1,0 +1,90 @@
+//! A host's replies as JSON.
+ghost use Rattle.std.specs.Prelude.{◌≡◌, IfOk, option_map, option_and_then};
+ghost use Rattle.std.specs.Option.{option_copied};
+ghost use Rattle.serde_json.specs.View.{view};
+ghost use Rattle.sheet_json.specs.Objects.{event_data, reply_data};
+ghost use Rattle.sheet_json.specs.Replies as replies;
+
+use crate::events::{answered_value, banner_value, completed_value};
+use crate::replies::{asked_value, done_value, made_value, refused_value};
+use host_events::{Closed, Reply};
+use serde_json::Value;
+use std::alloc::{AllocError, Global};
+use worksheet::{Answer, Field, Sheet};
+
+/// What a command gives, where it is a reply to its line.
+pub fn reply_value(alloc: Global, line: u64, reply: &Reply) -> Result<Option<Value>, AllocError>
+    ensures { IfOk result (λ value. option_map view value
+        ≡ option_map (reply_data line) (replies.reply_of reply.now)) }
+{
+    match reply {
+        Reply::Done => Ok(Some(done_value(alloc, line)?)),
+        Reply::Field(id) => Ok(Some(made_value(alloc, line, *id)?)),
+        Reply::Asked(life) => Ok(Some(asked_value(alloc, line, *life)?)),
+        Reply::Refused(why) => Ok(Some(refused_value(alloc, line, *why)?)),
+        Reply::Child(_) => Ok(None),
+        Reply::Nothing => Ok(None),
+    }
+}
+
+/// The answer that a field shows.
+fn answer_value(
+    alloc: Global,
+    session: &[u8],
+    life: u32,
+    id: u32,
+    answer: &Option<Answer>,
+) -> Result<Option<Value>, AllocError>
+    ensures { IfOk result (λ value. option_map view value
+        ≡ option_map (event_data session.now life) (replies.answer_event id answer.now)) }
+{
+    match answer {
+        None => Ok(None),
+        Some(answer) => {
+            let prompt = answer.prompt.as_slice();
+            Ok(Some(answered_value(alloc, session, life, id, prompt, &answer.output)?))
+        }
+    }
+}
+
+/// The answer that a field shows, where there is the field.
+fn shown_answer_value(
+    alloc: Global,
+    session: &[u8],
+    life: u32,
+    id: u32,
+    field: Option<&Field>,
+) -> Result<Option<Value>, AllocError>
+    ensures { IfOk result (λ value. option_map view value
+        ≡ option_map (event_data session.now life)
+        (replies.answer_shown id (option_copied field.entry))) }
+{
+    match field {
+        None => Ok(None),
+        Some(field) => answer_value(alloc, session, life, id, &field.answer),
+    }
+}
+
+/// What closed, where this is the worksheet behind it.
+pub fn closed_value(
+    alloc: Global,
+    sheet: &Sheet,
+    session: &[u8],
+    life: u32,
+    closed: &Closed,
+) -> Result<Option<Value>, AllocError>
+    ensures { IfOk result (λ value. option_map view value
+        ≡ option_map (event_data session.now life)
+        (replies.closed_event sheet.now.contents closed.now)) }
+{
+    match closed {
+        Closed::Banner(output) => Ok(Some(banner_value(alloc, session, life, output)?)),
+        Closed::Line(id) => shown_answer_value(alloc, session, life, *id, sheet.field(*id)),
+        Closed::Complete(id, Ok(given)) => {
+            Ok(Some(completed_value(alloc, session, life, *id, Some(given))?))
+        }
+        Closed::Complete(id, Err(_)) => {
+            Ok(Some(completed_value(alloc, session, life, *id, None)?))
+        }
+    }
+}

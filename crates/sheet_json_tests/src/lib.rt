@@ -1,0 +1,5 @@
+//! The tests of `sheet_json`.
+#![tactic(auto)]
+
+#[cfg(test)]
+mod tests;
