@@ -35,6 +35,7 @@ use Rattle.host_events.specs.declared.command.Command.{Command}
 use Rattle.host_events.specs.declared.command.Command.TheVariants as command
 use Rattle.host_events.specs.declared.event.ChildEvent.{ChildEvent}
 use Rattle.host_events.specs.declared.event.ChildEvent.TheVariants as child
+use Rattle.host_events.specs.declared.event.Event.{Event}
 use Rattle.host_events.specs.declared.event.Event.TheVariants as event
 use Rattle.host_events.specs.declared.outcome.Outcome.{Outcome}
 use Rattle.session_engine.specs.Named.{without_named, replace_named}
@@ -308,3 +309,8 @@ child_grown m w v g = grown_to w v (with_op_if g.given g.on) g.is (go g.given g.
     go (Some (op.Answer id prompt output)) mine = one (op.Answer id prompt output) tt
     go (Some (op.Lost id why)) mine = one (op.Lost id why) tt
     go (Some (op.Ids number)) mine = absurd mine
+
+-- what holds of the owners holds after each event
+pub owned_step : (w : World) (e : Event) (o : Outcome) (v : World) → Owned w → GivesByParts w e o v → Owned v
+owned_step w (event.Command c) o v h g = (command_grows w c o v h g).owned
+owned_step w (event.Child m number c) o v h g = (child_grown m w v (child_grows m w number c o v h g)).owned

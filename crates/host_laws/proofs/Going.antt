@@ -22,9 +22,11 @@ use Rattle.session_engine.specs.World.{World, world_at_opening, sheet_in}
 use Rattle.session_engine.specs.Does.{Does, MayDo, Runs, behind}
 use Rattle.session_engine.specs.Host.{EndsAt, HostView}
 use Rattle.session_engine.specs.Crash.{HasPlayed, LeftAmong, StoppedAt}
-use Rattle.host_laws.specs.Turns.{Has, HostStep, StepsOf, no_step, step_first, KeepField, AnsweredIn, HostTurn, Turned, EachTurned, WentOn, no_host, host_first, LeftInTurn, HostsInTurn, EvaluatedAnew, LeftByTurn, PlaysAreTurns}
+use Rattle.host_laws.specs.Turns.{Has, HostStep, StepsOf, no_step, step_first, KeepField, AnsweredIn, HostTurn, Turned, EachTurned, no_host, host_first, LeftInTurn, HostsInTurn, EvaluatedAnew, LeftByTurn, PlaysAreTurns}
 use Rattle.host_laws.proofs.FieldLaws.{cleared}
 use Rattle.session_engine.proofs.Playing.{EitherSheet, either_sheet, run_on}
+use Rattle.host_laws.proofs.ApartOwners.{Owned, opened_owned, owned_step}
+use Rattle.host_laws.proofs.ByParts.{by_parts}
 use Rattle.host_laws.proofs.Living.{Sound}
 use Rattle.host_laws.proofs.Showing.{stepped}
 use Rattle.host_laws.proofs.Same.{by_ops, runs}
@@ -70,21 +72,24 @@ abbrev IsShown : Contents → List HostStep → Field → Type 0
 IsShown sheet steps f = (Has sheet f × KeepField f steps) ⊎ AnsweredIn steps f
 
 -- what a field shows in the end
-shown : {w v : World} {es : List Event} {os : List Outcome} {steps : List HostStep} → StepsOf w es os steps v → Sound w
+shown : {w v : World} {es : List Event} {os : List Outcome} {steps : List HostStep} → StepsOf w es os steps v → Sound w → Owned w
     → (f : Field) (a : Answer) → f.answer ≡ Some a → Has (sheet_in v) f → IsShown (sheet_in w) steps f
-shown no_step h f a some has = inl (has, tt)
-shown (step_first {w} {mid} {v} {e} {o} {es} {os} {steps} gives more) h f a some has =
+shown no_step h own f a some has = inl (has, tt)
+shown (step_first {w} {mid} {v} {e} {o} {es} {os} {steps} gives more) h own f a some has =
     let s = stepped w e o mid h gives in
     ⊎_elim
     (λ stays. ⊎_elim
     (λ before. inl (before, stays))
     (λ closes. inr (record { earlier = []; step = record { before = w; event = e; behind = mid }; later = steps; split = refl; closes = closes; stays = stays }))
-    (s.shown f a some stays.0))
+    (s.shown own f a some stays.0))
     (λ later. inr (in_later f (record { before = w; event = e; behind = mid } ∷ []) steps later))
-    (shown more s.sound f a some has)
+    (shown more s.sound (owned_step w e o mid own (by_parts w e o mid gives)) f a some has)
 
 pub sound : (ops : List Op) (room end : ℕ) → Allowed ops → Sound (world_at_opening ops room end)
 sound ops room end allowed = record { allowed = allowed; lives = tt }
+
+owned : (ops : List Op) (room end : ℕ) → Allowed ops → Owned (world_at_opening ops room end)
+owned ops room end allowed = opened_owned (world_at_opening ops room end) (refl, allowed)
 
 go_on : OneSheet → (room : ℕ) (first : List Op) (before : Image) (turns : List HostTurn) (after : Image) → Allowed first → IsSheetImage (sheet_of first) before
     → EachTurned room before turns after → LeftInTurn room first before after turns
@@ -128,7 +133,7 @@ go_on one room first before (turn ∷ turns) after allowed image each =
           (λ stays. ⊎_elim
           (λ before. inl (before.0, keeps_both f did.0 more.steps before.1 stays.1))
           (λ answered. inr (behind_more f did.0 more.steps answered stays.1))
-          (shown did.1 (sound first room t.end allowed) f a some stays.0))
+          (shown did.1 (sound first room t.end allowed) (owned first room t.end allowed) f a some stays.0))
           (λ later. inr (in_later f did.0 more.steps later))
           (more.shows f a has some);
     }
@@ -142,10 +147,17 @@ sounds w [] (o ∷ os) v h run = absurd run
 sounds w (e ∷ es) [] v h run = absurd run
 sounds w (e ∷ es) (o ∷ os) v h run = sounds run.0 es os v (stepped w e o run.0 h run.1).sound run.2
 
+owners : (w : World) (es : List Event) (os : List Outcome) (v : World) → Owned w → Runs w es os v → Owned v
+owners w [] [] v h run = subst Owned (sym run) h
+owners w [] (o ∷ os) v h run = absurd run
+owners w (e ∷ es) [] v h run = absurd run
+owners w (e ∷ es) (o ∷ os) v h run = owners run.0 es os v (owned_step w e o run.0 h (by_parts w e o run.0 run.1)) run.2
+
 pub evaluated_anew : EvaluatedAnew
 evaluated_anew found room end es os w allowed run id o mid given clears later told steps v more f a number has some =
     let before = sounds (world_at_opening found room end) es os w (sound found room end allowed) run in
     let after = (stepped w (event.Command (command.Eval id)) o mid before given).sound in
+    let own = owned_step w (event.Command (command.Eval id)) o mid (owners (world_at_opening found room end) es os w (owned found room end allowed) run) (by_parts w (event.Command (command.Eval id)) o mid given) in
     ⊎_elim
     (λ stays.
     let here : field_in (sheet_of (w.ops ++ op.Clear id ∷ [])).fields id ≡ Some f =
@@ -154,7 +166,7 @@ evaluated_anew found room end es os w allowed run id o mid given clears later to
     let none = cleared w.ops id f (subst Allowed clears after.allowed) here in
     absurd (let no : None ≡ Some a = sym none ∙ some in cc))
     (λ answered. answered)
-    (shown more after f a some has)
+    (shown more after own f a some has)
 
 -- Plays behind other events.
 

@@ -52,7 +52,7 @@ use Rattle.host_laws.proofs.ByParts.{by_parts}
 use Rattle.session_engine.proofs.Losing.{if_lost, if_stopped}
 use Rattle.session_engine.proofs.Stopping.{without_none_here}
 use Rattle.host_laws.proofs.ApartFields.{HasOwner}
-use Rattle.host_laws.proofs.ApartOwners.{Owned, OwnsItems, opened_owned, command_grows, child_grows, child_grown}
+use Rattle.host_laws.proofs.ApartOwners.{Owned, OwnsItems, opened_owned, owned_step}
 use Rattle.host_laws.proofs.Growing.{one_answer}
 use Rattle.host_laws.proofs.FieldLaws.{HasInput, is_there}
 use Rattle.host_laws.proofs.Living.{HasLine, Sound, SoundLife, the_life}
@@ -374,10 +374,6 @@ pub record Waits (w : World) : Type 0 where
   pub sound_so : Sound w
   pub owned : Owned w
   pub quiet : (id : ℕ) → IsQuiet id w
-
-owned_step : (w : World) (e : Event) (o : Outcome) (v : World) → Owned w → GivesByParts w e o v → Owned v
-owned_step w (event.Command c) o v h g = (command_grows w c o v h g).owned
-owned_step w (event.Child m number c) o v h g = (child_grown m w v (child_grows m w number c o v h g)).owned
 
 pub waits_step : (w : World) (e : Event) (o : Outcome) (v : World) → Waits w → Gives w e o v → Waits v
 waits_step w e o v h g = record {

@@ -11,7 +11,7 @@ use Rattle.worksheet.specs.declared.op.Op.TheVariants as op
 use Rattle.worksheet.specs.declared.refusal.Refusal.{Refusal}
 use Rattle.worksheet.specs.declared.field.Field.{Field}
 use Rattle.worksheet.specs.declared.field.Answer.{Answer}
-use Rattle.worksheet.specs.Ops.{sheet_of}
+use Rattle.worksheet.specs.Ops.{sheet_of, field_of}
 use Rattle.worksheet.specs.Checks.{has_field, field_in, first_of, first_refusal}
 use Rattle.worksheet.proofs.Finds.{none_applies, true_from_not}
 use Rattle.plugin_core.specs.declared.item.Item.{Item}
@@ -53,17 +53,21 @@ use Rattle.host_laws.proofs.Growing.{Answers, one_answer}
 use Rattle.session_engine.proofs.Losing.{first_has, if_lost, kept_allowed, line_allowed}
 use Rattle.session_engine.proofs.Changing.{as_op, first_before, allowed_by}
 use Rattle.session_engine.proofs.Asking.{line_is}
+use Rattle.session_engine.proofs.Standing.{all_at}
+use Rattle.session_engine.proofs.Tables.{first_has_name}
 use Rattle.host_laws.specs.Turns.{Has, ClosesAnswer}
-use Rattle.host_laws.proofs.FieldLaws.{HasInput, AnsweredBy, by_op}
+use Rattle.host_laws.proofs.FieldLaws.{HasInput, AnsweredBy, by_op, is_there}
+use Rattle.host_laws.proofs.ApartFields.{HasOwner}
+use Rattle.host_laws.proofs.ApartOwners.{Owned, OwnsItems}
 use Rattle.host_laws.proofs.Living.{HasLine, SoundLife, Sound, gone, put, the_life, asked, pieced, committed, every_line, checked}
 
 -- Where an event has led: what holds everywhere holds there, and a field that shows an answer did so before, or the event closed it.
 pub record Stepped (w : World) (e : Event) (v : World) : Type 0 where
   pub sound : Sound v
-  pub shown : (f : Field) (a : Answer) → f.answer ≡ Some a → Has (sheet_in v) f → Has (sheet_in w) f ⊎ ClosesAnswer w e f
+  pub shown : Owned w → (f : Field) (a : Answer) → f.answer ≡ Some a → Has (sheet_in v) f → Has (sheet_in w) f ⊎ ClosesAnswer w e f
 
 pub stays : (w : World) (e : Event) (v : World) → Sound w → v ≡ w → Stepped w e v
-stays w e v h is = subst (λ (x : World). Stepped w e x) (sym is) (record { sound = h; shown = λ f a some has. inl has })
+stays w e v h is = subst (λ (x : World). Stepped w e x) (sym is) (record { sound = h; shown = λ own f a some has. inl has })
 
 -- Ops of commands.
 
@@ -77,7 +81,7 @@ first_part rs qs h = go (first_of rs) refl
 with_command_op : (w : World) (e : Event) (o : Op) → Sound w → first_of (refusals_but_room w o) ≡ None → ((id : ℕ) (prompt : List ℕ) (out : Tree) → o ≡ op.Answer id prompt out → ⊥) → Stepped w e (with_op o w)
 with_command_op w e o h free other = record {
   sound = committed o w h (allowed_by w o free) (checked w o free);
-  shown = λ f a some has. ⊎_elim (λ same. inl same) (λ by. absurd (other f.id by.prompt by.output by.is)) (by_op w.ops f a h.allowed some o (allowed_by w o free) has);
+  shown = λ own f a some has. ⊎_elim (λ same. inl same) (λ by. absurd (other f.id by.prompt by.output by.is)) (by_op w.ops f a h.allowed some o (allowed_by w o free) has);
 }
 
 -- An answer.
@@ -109,6 +113,11 @@ first_dropped : (P : Item → Type 0) (n : ℕ) (items : List Item) (i : Item) �
 first_dropped P n [] i h all = cc
 first_dropped P zero (x ∷ items) i h all = let e : x ≡ i = cc in subst P e all.0
 first_dropped P (suc n) (x ∷ items) i h all = first_dropped P n items i h all
+
+first_got : (P : Item → Type 0) (n : ℕ) (items : List Item) (i : Item) → slice_get items n ≡ Some i → AllByRecursion P items → P i
+first_got P n [] i h all = cc
+first_got P zero (x ∷ items) i h all = let e : x ≡ i = cc in subst P e all.0
+first_got P (suc n) (x ∷ items) i h all = first_got P n items i h all.1
 
 module _ (os : List Op) (past : List LifeEvent) (before after : List Outer) (piece : List ℕ) (id : ℕ) (prompt : List ℕ) (out : Tree) (all : AllByRecursion (HasLine os) (waiting_of past before)) where
   by_item : (a : Outer) (ys : List Outer) (b : Outer) (i : Option Item) → answers_of past before ≡ a ∷ ys → slice_get (answers_of (past ++ received piece ∷ []) after) (suc (length ys)) ≡ Some b → slice_get (items_of past) (length ys) ≡ i
@@ -176,13 +185,13 @@ loses_field w l piece blocks (Some kind) h reads =
 -- a line that is lost shows no answer
 lost_step : (w : World) (e : Event) (u : World) (room end : ℕ) (why : Reason) (line : Option ℕ) → Sound w → Sound u → u.ops ≡ w.ops → HasFieldIf (sheet_in w) line → Stepped w e (with_op_if (kept_for room end why line) u)
 lost_step w e u room end why line h sound same has = if_lost (λ p. Stepped w e (with_op_if p u)) room end why line
-    (record { sound = sound; shown = λ f a some there. inl (subst (λ (os : List Op). Has (sheet_of os) f) same there) })
+    (record { sound = sound; shown = λ own f a some there. inl (subst (λ (os : List Op). Has (sheet_of os) f) same there) })
     (λ id is.
     let o : Op = op.Lost id why in
     let next : first_refusal (sheet_in w) o ≡ None = line_allowed (sheet_in w) line id why has is in
     record {
       sound = committed o u sound (subst (λ (os : List Op). first_refusal (sheet_of os) o ≡ None) (sym same) next) (every_line o u (λ n. tt));
-      shown = λ f a some there. ⊎_elim (λ before. inl before) (λ by. absurd (let no : op.Lost id why ≡ op.Answer f.id by.prompt by.output = by.is in cc))
+      shown = λ own f a some there. ⊎_elim (λ before. inl before) (λ by. absurd (let no : op.Lost id why ≡ op.Answer f.id by.prompt by.output = by.is in cc))
           (by_op w.ops f a h.allowed some o next (subst (λ (os : List Op). Has (sheet_of (os ++ o ∷ [])) f) same there));
     })
 
@@ -202,8 +211,20 @@ module _ (w : World) (name : List ℕ) (number : ℕ) (l : Going) (piece : List 
   one : Answers l.past piece l.blocks blocks
   one = one_answer l.past piece l.blocks blocks fault life.reads reads
 
-  closes : (id : ℕ) (prompt : List ℕ) (out : Tree) → IsClosing w.ops l.past l.blocks blocks piece id prompt out → (f : Field) → AnsweredBy w.ops (op.Answer id prompt out) f → ClosesAnswer w (event.Child name number (child.Piece piece)) f
-  closes id prompt out c f by =
+  -- the session of the field whose line is answered
+  session_is : Owned w → (id : ℕ) (prompt : List ℕ) (out : Tree) → IsClosing w.ops l.past l.blocks blocks piece id prompt out → (f : Field) → AnsweredBy w.ops (op.Answer id prompt out) f → f.session ≡ name
+  session_is own id prompt out c f by =
+      let same : op.Answer id prompt out ≡ op.Answer f.id by.prompt by.output = by.is in
+      let number_is : id ≡ f.id = cc in
+      let lives : life_of w name ≡ Some l = numbered number (life_of w name) l is in
+      let items : OwnsItems w.ops l = all_at (OwnsItems w.ops) (λ (m : Going). m.name) name l w.lives own.lives lives in
+      let owner : HasOwner w.ops l.name (item.Line id c.text) = first_got (HasOwner w.ops l.name) c.line (items_of l.past) (item.Line id c.text) c.asked items in
+      let before : field_of w.ops f.id ≡ by.before = (is_there w.ops f.id by.before h.allowed by.found).is in
+      ap (λ (g : Field). g.session) by.now ∙ sym (ap (λ (g : Field). g.session) before) ∙ ap (λ (n : ℕ). (field_of w.ops n).session) (sym number_is)
+      ∙ owner.1 ∙ first_has_name (λ (g : Going). g.name) name w.lives l lives
+
+  closes : Owned w → (id : ℕ) (prompt : List ℕ) (out : Tree) → IsClosing w.ops l.past l.blocks blocks piece id prompt out → (f : Field) → AnsweredBy w.ops (op.Answer id prompt out) f → ClosesAnswer w (event.Child name number (child.Piece piece)) f
+  closes own id prompt out c f by =
       let same : op.Answer id prompt out ≡ op.Answer f.id by.prompt by.output = by.is in
       let number_is : id ≡ f.id = cc in
       let line : HasInput w.ops id c.text = c.waits in
@@ -217,6 +238,7 @@ module _ (w : World) (name : List ℕ) (number : ℕ) (l : Going) (piece : List 
         number = number;
         piece = piece;
         is = refl;
+        of_session = session_is own id prompt out c f by;
         life = l;
         goes_on = is;
         blocks = blocks;
@@ -232,7 +254,7 @@ module _ (w : World) (name : List ℕ) (number : ℕ) (l : Going) (piece : List 
       }
 
   without_op : (u : World) → u.ops ≡ w.ops → Sound u → Stepped w (event.Child name number (child.Piece piece)) u
-  without_op u e sound = record { sound = sound; shown = λ f answer some has. inl (subst (λ (os : List Op). Has (sheet_of os) f) e has) }
+  without_op u e sound = record { sound = sound; shown = λ own f answer some has. inl (subst (λ (os : List Op). Has (sheet_of os) f) e has) }
 
   with_answer : (u : World) → u.ops ≡ w.ops → Sound u → (x : Option Answered) (y : Option Ended) → (step_of l.past l.blocks piece blocks fault).answered ≡ x → LosesField (sheet_in w) y
       → Stepped w (event.Child name number (child.Piece piece)) (with_op_if (op_by w.room w.end x y) u)
@@ -246,7 +268,7 @@ module _ (w : World) (name : List ℕ) (number : ℕ) (l : Going) (piece : List 
       let next : first_refusal (sheet_in w) o ≡ None = subst (λ (x : Option Answered). AllowedIf (sheet_in w) (answer_op x)) a (answer_allowed w l piece blocks fault life) in
       record {
         sound = committed o u sound (subst (λ (os : List Op). first_refusal (sheet_of os) o ≡ None) (sym e) next) (every_line o u (λ n. tt));
-        shown = λ f answer some has. ⊎_elim (λ same. inl same) (λ by. inr (closes id prompt out (closing w.ops l.past l.blocks blocks piece id prompt out life.lines a) f by))
+        shown = λ own f answer some has. ⊎_elim (λ same. inl same) (λ by. inr (closes own id prompt out (closing w.ops l.past l.blocks blocks piece id prompt out life.lines a) f by))
             (by_op w.ops f answer h.allowed some o next (subst (λ (os : List Op). Has (sheet_of (os ++ o ∷ [])) f) e has));
       }
 
@@ -318,7 +340,7 @@ as_evaluated w id h first =
     let sound : Sound u = asked w name i life refl h has in
     record {
       sound = committed o u sound (subst (λ (os : List Op). first_refusal (sheet_of os) o ≡ None) (sym same) next) (every_line o u (λ n. tt));
-      shown = λ f a some shows. ⊎_elim (λ before. inl before) (λ by. absurd (let no : op.Clear id ≡ op.Answer f.id by.prompt by.output = by.is in cc))
+      shown = λ own f a some shows. ⊎_elim (λ before. inl before) (λ by. absurd (let no : op.Clear id ≡ op.Answer f.id by.prompt by.output = by.is in cc))
           (by_op w.ops f a h.allowed some o next (subst (λ (os : List Op). Has (sheet_of (os ++ o ∷ [])) f) same shows));
     }
 
@@ -328,7 +350,7 @@ as_completed w id cursor h =
     let i = request_of_field w id cursor in
     record {
       sound = asked w name i (life_of w name) refl h tt;
-      shown = λ f a some shows. inl (subst (λ (os : List Op). Has (sheet_of os) f) (ops_item w name i (life_of w name)) shows);
+      shown = λ own f a some shows. inl (subst (λ (os : List Op). Has (sheet_of os) f) (ops_item w name i (life_of w name)) shows);
     }
 
 accepted : (w : World) (c : Command) → Sound w → first_of (command_refusals w c) ≡ None → Stepped w (event.Command c) (after w c)
@@ -343,9 +365,9 @@ accepted w (command.Complete id cursor) h first = as_completed w id cursor h
 accepted w (command.Stop name) h first = go (life_of w name) refl
   where
     go : (k : Option Going) → life_of w name ≡ k → Stepped w (event.Command (command.Stop name)) (with_op_if (kept_at_end w reason.Stopped k) (without_life name w))
-    go None e = record { sound = gone name w h; shown = λ f a some has. inl has }
+    go None e = record { sound = gone name w h; shown = λ own f a some has. inl has }
     go (Some l) e = lost_step w (event.Command (command.Stop name)) (without_life name w) w.room w.end reason.Stopped (first_line_of (waiting_in l)) h (gone name w h) refl (has_first w l (the_life name l w h e))
-accepted w command.Checkpoint h first = record { sound = record { allowed = h.allowed; lives = h.lives }; shown = λ f a some has. inl has }
+accepted w command.Checkpoint h first = record { sound = record { allowed = h.allowed; lives = h.lives }; shown = λ own f a some has. inl has }
 
 -- Events of children.
 

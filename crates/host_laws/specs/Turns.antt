@@ -36,8 +36,8 @@ use Rattle.session_engine.specs.Crash.{LeftAmong, HasPlayed, StoppedAt}
 abbrev pub Has : Contents → Field → Type 0
 Has sheet f = field_in sheet.fields f.id ≡ Some f
 
--- The event closes the answer that the field shows. It is a piece of a life that goes on, in which a
--- line with the field's input is the first item that waits. The stream of that life, with the piece,
+-- The event closes the answer that the field shows. It is a piece of a life of the field's session that
+-- goes on, in which a line with the field's input is the first item that waits. The stream of that life, with the piece,
 -- has a whole block which by the ask points is the answer to that line, and its last byte is one of
 -- the piece. The field shows the output of this block.
 pub record ClosesAnswer (w : World) (e : Event) (f : Field) : Type 0 where
@@ -45,6 +45,7 @@ pub record ClosesAnswer (w : World) (e : Event) (f : Field) : Type 0 where
   pub number : ℕ
   pub piece : List ℕ
   pub is : e ≡ event.Child name number (child.Piece piece)
+  pub of_session : f.session ≡ name
   pub life : Going
   pub goes_on : with_number number (life_of w name) ≡ Some life
   pub blocks : List Outer
