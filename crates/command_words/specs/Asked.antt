@@ -65,10 +65,14 @@ abbrev pub help_alone : Text → App
 help_alone name =
     let a = new_app name in record a { top = record a.top { arg_required_else_help = true } }
 
+-- the command line before its subcommands: it has a version
+abbrev pub bare_tmhost : App
+bare_tmhost = let a = new_app (codes "tmhost") in record a { top = record a.top { has_version = true } }
+
 -- the command line of `tmhost`: subcommands, five of them with a path, `run` with a flag beside it, one with two, and one with a format and a path
 abbrev pub tmhost : App
 tmhost = with_subcommand (with_subcommand (with_subcommand (with_subcommand (with_subcommand (with_subcommand (with_subcommand (with_subcommand
-    (with_subcommand (new_app (codes "tmhost")) (new_app (codes "blocks")).top)
+    (with_subcommand bare_tmhost (new_app (codes "blocks")).top)
     (with_path (codes "create")).top) (with_strict (codes "run")).top) (with_path (codes "live")).top)
     (with_path (codes "show")).top) (with_path (codes "check")).top) (with_paths (codes "rescue")).top) (with_format_and_path (codes "export")).top) (help_alone (codes "faults")).top
 

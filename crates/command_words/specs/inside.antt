@@ -1,2 +1,3 @@
 -- What only proofs and private clauses use.
-pub mod Parts
+pub mod Rows
+pub mod Table

@@ -2,6 +2,7 @@
 //! What is then done stands in `host_cli`.
 #![tactic(auto)]
 
+mod table;
 mod words;
 
 pub use words::{Task, read_words};

@@ -1,11 +1,12 @@
 //! The words of a command line.
-ghost use Rattle.std.specs.Prelude.{◌≡◌, Bool, IfOk, None, Option, Some, false, map, option_map, string_bytes};
-ghost use Rattle.clap.specs.Words.{FailsBy, Text, app_of, fault_of, new_app, subcommand_rows_of};
+ghost use Rattle.std.specs.Prelude.{◌≡◌, ◌<◌, Bool, IfOk, None, Option, Some, false, map, option_map, string_bytes};
+ghost use Rattle.clap.specs.Words.{FailsBy, Text, app_of, fault_of, new_app, subcommand_rows_of, with_subcommand};
 ghost use Rattle.clap.specs.declared.builder.command.Command.TheViews.{out-Command as fields_of};
 ghost use Rattle.command_words.specs.Asked.{asked_by, by_subcommand, by_words, tmhost, task_view};
 ghost use Rattle.command_words.specs.Asked as asked;
-ghost use Rattle.command_words.specs.inside.Parts as parts;
+ghost use Rattle.command_words.specs.inside.Table as table;
 
+use crate::table::{NOTES, Row, Shape, VERSION, row_at};
 use clap::{Arg, ArgAction, ArgMatches, Command, Error};
 use std::alloc::{AllocError, Global};
 
@@ -33,162 +34,33 @@ pub enum Task<'a> {
     Export(&'a str, &'a str),
 }
 
-/// What the help of the program says below its lists.
-const NOTES: &str = "Without a command it is `blocks`.\n\n\
-Status: 0 where all was done, or help was shown; 1 at a fault, which is told on\n\
-standard error as `fault N NAME`, where the stream of `blocks` has a fault or an\n\
-open block, and where `check` finds a difference; 2 where the words are refused; 3\n\
-where `run --strict` stops.\n\
-`tmhost help faults` says what each fault means.\n\n\
-Example: tmhost create sheet.tm && tmhost run sheet.tm <script.txt";
-
-const BLOCKS_NOTES: &str =
-    "A line is the offset of the block's first byte, the offset behind its last one,\n\
-and the block with its tags.\n\n\
-Status: 0 where the stream is whole; 1 where it has a fault or an open block, or\n\
-at a fault of the program; 2 where the words are refused.\n\n\
-Example: printf '\\002verbatim:Hi\\005' | tmhost blocks";
-
-const CREATE_NOTES: &str =
-    "Where PATH or PATH.alt exists nothing is made, and the fault is 34 NotEmpty.\n\
-A creation that was cut off may leave files that are no worksheet, which `run`\n\
-tells as the fault 31: remove PATH and PATH.alt, and create it again.\n\n\
-Status: 0 where the worksheet is on the disk; 1 at a fault; 2 where the words are\n\
-refused.\n\n\
-Example: tmhost create sheet.tm";
-
-const RUN_NOTES: &str =
-    "The script is read whole from standard input. What each line of it gives is\n\
-written before the next one is taken, and what is told as done is on the disk.\n\
-Where another program has the worksheet the script isn't read and nothing is\n\
-done: that is the fault 35 InUse.\n\n\
-With --strict it stops behind the first line that is bad or refused, or by which\n\
-lines were lost since an interpreter ended: what that line gives is written, what\n\
-was told is on the disk, and standard error tells `stopped at line N`.\n\n\
-Status: 0 where the script ran to its end, without --strict also where it has bad\n\
-lines and refused commands; 1 at a fault; 2 where the words are refused; 3 where\n\
---strict stopped it.\n\n\
-Example: tmhost run sheet.tm <script.txt";
-
-const LIVE_NOTES: &str =
-    "Each line of standard input is taken when it comes, and what an interpreter\n\
-writes is taken when it comes: what either gives is written and flushed at once,\n\
-and what is told as done is on the disk. Lines are those of `run`, of 65,536 bytes\n\
-at most, and `print ID` and `wait SECONDS`. A `wait` holds back the lines behind it\n\
-until no answer is awaited, or its time is over. At the end of the input each\n\
-interpreter is stopped.\n\n\
-Status: 0 where the input came to its end, also where it had bad lines and refused\n\
-commands; 1 at a fault; 2 where the words are refused.\n\n\
-Example: printf 'print\\n' | tmhost live sheet.tm";
-
-const SHOW_NOTES: &str =
-    "It writes and makes no file. A field without an output shows `?`. Where a program\n\
-runs the worksheet nothing is shown: that is the fault 35 InUse.\n\n\
-Status: 0 where all was written; 1 at a fault; 2 where the words are refused.\n\n\
-Example: tmhost show sheet.tm";
-
-const CHECK_NOTES: &str =
-    "Each field that shows an answer is evaluated anew, in the worksheet's order and\n\
-with interpreters of its own, on a copy in memory; the worksheet stays as it is.\n\
-Where another output comes the field's line, its prompt and input, the lines that\n\
-it shows behind `- `, and those that came behind `+ ` are written at once, or `+ ?`\n\
-where no answer came. Prompts aren't compared. The last line has the counts, as\n\
-`same 4 differ 1 unanswered 0`.\n\n\
-Status: 0 where all outputs are the same; 1 where one differs or didn't come, or\n\
-at a fault; 2 where the words are refused.\n\n\
-Example: tmhost check sheet.tm";
-
-const RESCUE_NOTES: &str =
-    "It reads PATH alone, and makes NEW as `create` does. NEW has the worksheet of the\n\
-changes that stand in PATH before the first damage, whether that is a broken gate\n\
-or a change that can't be read or isn't allowed there; nothing behind it is read.\n\
-(`show` tells a broken gate first, also where it stands behind such a change.)\n\
-It writes `kept N, damaged at OFFSET`, where N counts the changes that were kept,\n\
-or `kept N, whole`.\n\n\
-Where PATH is no worksheet (31), can't be read (32), or is run by another program\n\
-(35), NEW isn't made. Where NEW or NEW.alt exists, the fault is 34 NotEmpty. A\n\
-rescue that was cut off may leave NEW empty, or no worksheet: remove NEW and\n\
-NEW.alt, and give it again.\n\n\
-Status: 0 where NEW is on the disk and that was told, be PATH whole or damaged; 1\n\
-at a fault; 2 where the words are refused.\n\n\
-Example: tmhost rescue sheet.tm new.tm";
-
-const EXPORT_NOTES: &str = "FORMAT is one of these:\n\
-script    the lines that make the worksheet anew, for `run` on an empty one: its\n\
-\x20         sessions, and a `new` for each field. Answers are no part of it. A\n\
-\x20         session with a space in a word has no such line: that is the fault\n\
-\x20         36 NoScript, and nothing is written\n\
-markdown  each input and each output as a block of code; an output that is one\n\
-\x20         formula between dollars as that formula\n\
-html      one page that stands alone, without scripts: prompts, inputs and outputs,\n\
-\x20         all of them as texts\n\
-notebook  a notebook of Jupyter: each field as a cell of code, with its output as\n\
-\x20         text, and beside it as the formula where it is one\n\n\
-It reads PATH as `show` does, and writes and makes no file.\n\n\
-Status: 0 where all was written; 1 at a fault; 2 where the words are refused.\n\n\
-Example: tmhost export html sheet.tm >sheet.html";
-
-const FAULTS_NOTES: &str = "A fault is told on standard error as `fault N NAME`, with status 1.\n\n\
-21 Disk          a write failed while the script ran; all that was told is kept:\n\
-\x20                make room, then `show`\n\
-22 OutOfMemory   while the script ran; all that was told is kept: run the rest again\n\
-23 JournalFull   an answer doesn't fit the file; it isn't kept: `checkpoint`, or a new\n\
-\x20                worksheet. Of `rescue`: the worksheet doesn't fit a new file\n\
-30 Damaged G     no whole change stands at offset G of the file; what stands before it\n\
-\x20                is whole: leave the file as it is, and `rescue` it\n\
-31 NotASheet     no worksheet of this version; nothing was written: look at the path.\n\
-\x20                What a `create` leaves that was cut off: remove PATH and PATH.alt\n\
-32 Disk          a file can't be opened, made, read or synced, or has a second name;\n\
-\x20                nothing was written to a worksheet: look at the path, make room\n\
-33 OutOfMemory   while the worksheet was opened; nothing was written: run it again. Of\n\
-\x20                `rescue`: remove NEW and NEW.alt first, where they were made\n\
-34 NotEmpty      PATH or PATH.alt is there already; nothing was changed: another path\n\
-35 InUse         another program has the worksheet; nothing was done: wait for its end\n\
-36 NoScript      a session has a word with a space, which no line of a script makes;\n\
-\x20                nothing was written: export it in another format\n\
-40 Input         standard input can't be read; nothing was done: give it again. Of\n\
-\x20                `live`: at some line; all that was told is kept\n\
-41 InputTooLong  more than 67,108,864 bytes; nothing was done: cut it into parts\n\
-42 Output        standard output can't be written; what was done is on the disk, and\n\
-\x20                one line more than was told may be: `show` says where it stands\n\
-43 OutOfMemory   outside of the worksheet; all that was told is kept: run the rest again\n\n\
-docs/FAULTS.md has more of each.";
-
 /// A command without arguments, with a text above and one below its help.
-fn plain<'a>(alloc: Global, name: &'a str, about: &'a str, notes: &'a str) -> Command<'a>
-    ensures made { app_of result ≡ new_app name.entry.now }
+fn plain<'a>(alloc: Global, row: Row) -> Command<'a>
+    ensures made { app_of result ≡ new_app row.name.now }
     ensures local { (fields_of result).has_globals ≡ false }
 {
-    Command::new(alloc, name).about(about).after_help(notes)
+    Command::new(alloc, row.name)
+        .about(row.about)
+        .after_help(row.notes)
 }
 
 /// A subcommand with a path.
-fn with_path<'a>(
-    alloc: Global,
-    name: &'a str,
-    about: &'a str,
-    notes: &'a str,
-) -> Result<Command<'a>, AllocError>
-    ensures made { IfOk result (λ command. app_of command ≡ asked.with_path name.entry.now) }
+fn with_path<'a>(alloc: Global, row: Row) -> Result<Command<'a>, AllocError>
+    ensures made { IfOk result (λ command. app_of command ≡ asked.with_path row.name.now) }
     ensures local { IfOk result (λ command. (fields_of command).has_globals ≡ false) }
 {
     let path = Arg::new(alloc, "PATH")
         .help("The worksheet, which is the files PATH and PATH.alt")
         .required(true);
-    plain(alloc, name, about, notes).arg(path)
+    plain(alloc, row).arg(path)
 }
 
 /// A subcommand with a path, and with a flag that makes it strict.
-fn with_strict<'a>(
-    alloc: Global,
-    name: &'a str,
-    about: &'a str,
-    notes: &'a str,
-) -> Result<Command<'a>, AllocError>
-    ensures made { IfOk result (λ command. app_of command ≡ asked.with_strict name.entry.now) }
+fn with_strict<'a>(alloc: Global, row: Row) -> Result<Command<'a>, AllocError>
+    ensures made { IfOk result (λ command. app_of command ≡ asked.with_strict row.name.now) }
     ensures local { IfOk result (λ command. (fields_of command).has_globals ≡ false) }
 {
-    let first = with_path(alloc, name, about, notes)?;
+    let first = with_path(alloc, row)?;
     first.arg(
         Arg::new(alloc, "strict")
             .long("strict")
@@ -198,16 +70,11 @@ fn with_strict<'a>(
 }
 
 /// A subcommand with a path, and with that of a new worksheet behind it.
-fn with_paths<'a>(
-    alloc: Global,
-    name: &'a str,
-    about: &'a str,
-    notes: &'a str,
-) -> Result<Command<'a>, AllocError>
-    ensures made { IfOk result (λ command. app_of command ≡ asked.with_paths name.entry.now) }
+fn with_paths<'a>(alloc: Global, row: Row) -> Result<Command<'a>, AllocError>
+    ensures made { IfOk result (λ command. app_of command ≡ asked.with_paths row.name.now) }
     ensures local { IfOk result (λ command. (fields_of command).has_globals ≡ false) }
 {
-    let first = with_path(alloc, name, about, notes)?;
+    let first = with_path(alloc, row)?;
     first.arg(
         Arg::new(alloc, "NEW")
             .help("The new worksheet, which will be the files NEW and NEW.alt")
@@ -216,16 +83,11 @@ fn with_paths<'a>(
 }
 
 /// A subcommand with a format.
-fn with_format<'a>(
-    alloc: Global,
-    name: &'a str,
-    about: &'a str,
-    notes: &'a str,
-) -> Result<Command<'a>, AllocError>
-    ensures made { IfOk result (λ command. app_of command ≡ asked.with_format name.entry.now) }
+fn with_format<'a>(alloc: Global, row: Row) -> Result<Command<'a>, AllocError>
+    ensures made { IfOk result (λ command. app_of command ≡ asked.with_format row.name.now) }
     ensures local { IfOk result (λ command. (fields_of command).has_globals ≡ false) }
 {
-    plain(alloc, name, about, notes).arg(
+    plain(alloc, row).arg(
         Arg::new(alloc, "FORMAT")
             .help("What the worksheet is written as: script, markdown, html or notebook")
             .required(true),
@@ -233,17 +95,12 @@ fn with_format<'a>(
 }
 
 /// A subcommand with a format, and with a path behind it.
-fn with_format_and_path<'a>(
-    alloc: Global,
-    name: &'a str,
-    about: &'a str,
-    notes: &'a str,
-) -> Result<Command<'a>, AllocError>
+fn with_format_and_path<'a>(alloc: Global, row: Row) -> Result<Command<'a>, AllocError>
     ensures made { IfOk result (λ command.
-        app_of command ≡ asked.with_format_and_path name.entry.now) }
+        app_of command ≡ asked.with_format_and_path row.name.now) }
     ensures local { IfOk result (λ command. (fields_of command).has_globals ≡ false) }
 {
-    let first = with_format(alloc, name, about, notes)?;
+    let first = with_format(alloc, row)?;
     first.arg(
         Arg::new(alloc, "PATH")
             .help("The worksheet, which is the files PATH and PATH.alt")
@@ -252,96 +109,72 @@ fn with_format_and_path<'a>(
 }
 
 /// A subcommand that shows its help alone.
-fn help_alone<'a>(alloc: Global, name: &'a str, about: &'a str, notes: &'a str) -> Command<'a>
-    ensures made { app_of result ≡ asked.help_alone name.entry.now }
+fn help_alone<'a>(alloc: Global, row: Row) -> Command<'a>
+    ensures made { app_of result ≡ asked.help_alone row.name.now }
     ensures local { (fields_of result).has_globals ≡ false }
 {
-    plain(alloc, name, about, notes).arg_required_else_help(true)
+    plain(alloc, row).arg_required_else_help(true)
 }
 
-/// A command line with the subcommands that make a worksheet and run scripts, and with `blocks` before
-/// them.
-fn with_runs<'a>(alloc: Global, command: Command<'a>) -> Result<Command<'a>, AllocError>
-    ensures { IfOk result (λ more. app_of more ≡ parts.with_runs (app_of command.entry)) }
+/// The subcommand of a row.
+fn command_of<'a>(alloc: Global, row: Row) -> Result<Command<'a>, AllocError>
+    ensures made { IfOk result (λ command. app_of command ≡ table.app_for row.shape row.name.now) }
+    ensures local { IfOk result (λ command. (fields_of command).has_globals ≡ false) }
 {
-    let blocks = plain(
-        alloc,
-        "blocks",
-        "Write the blocks of the stream on standard input, a line each",
-        BLOCKS_NOTES,
-    );
-    let first = command.subcommand(blocks)?;
-    let create = with_path(alloc, "create", "Make an empty worksheet", CREATE_NOTES)?;
-    let second = first.subcommand(create)?;
-    let run = with_strict(
-        alloc,
-        "run",
-        "Run the script on standard input over a worksheet",
-        RUN_NOTES,
-    )?;
-    let third = second.subcommand(run)?;
-    Ok(third)
+    match row.shape {
+        Shape::Bare => Ok(plain(alloc, row)),
+        Shape::Path => with_path(alloc, row),
+        Shape::Strict => with_strict(alloc, row),
+        Shape::Paths => with_paths(alloc, row),
+        Shape::Format => with_format_and_path(alloc, row),
+        Shape::Help => Ok(help_alone(alloc, row)),
+    }
 }
 
-/// A command line with the subcommands that hold a worksheet open, show and check it.
-fn with_looks<'a>(alloc: Global, command: Command<'a>) -> Result<Command<'a>, AllocError>
-    ensures { IfOk result (λ more. app_of more ≡ parts.with_looks (app_of command.entry)) }
+/// The subcommand of the row with this number.
+fn command_at<'a>(alloc: Global, at: usize) -> Result<Command<'a>, AllocError>
+    requires { at < 9 }
+    ensures made { IfOk result (λ command. app_of command ≡ table.app_at at) }
+    ensures local { IfOk result (λ command. (fields_of command).has_globals ≡ false) }
 {
-    let live = with_path(
-        alloc,
-        "live",
-        "Hold a worksheet open for lines that come on standard input",
-        LIVE_NOTES,
-    )?;
-    let first = command.subcommand(live)?;
-    let show = with_path(alloc, "show", "Write a worksheet", SHOW_NOTES)?;
-    let second = first.subcommand(show)?;
-    let check = with_path(
-        alloc,
-        "check",
-        "Evaluate a worksheet anew, and write what differs",
-        CHECK_NOTES,
-    )?;
-    let third = second.subcommand(check)?;
-    Ok(third)
+    command_of(alloc, row_at(at))
 }
 
-/// A command line with the subcommands that write a worksheet elsewhere, and with the help of faults.
-fn with_copies<'a>(alloc: Global, command: Command<'a>) -> Result<Command<'a>, AllocError>
-    ensures { IfOk result (λ more. app_of more ≡ parts.with_copies (app_of command.entry)) }
+/// A command line with one subcommand more.
+fn with_one<'a>(alloc: Global, command: Command<'a>, at: usize) -> Result<Command<'a>, AllocError>
+    requires { at < 9 }
+    ensures { IfOk result (λ more. app_of more
+        ≡ with_subcommand (app_of command.entry) (table.app_at at).top) }
 {
-    let rescue = with_paths(
-        alloc,
-        "rescue",
-        "Write what stands before a damage to a new worksheet",
-        RESCUE_NOTES,
-    )?;
-    let first = command.subcommand(rescue)?;
-    let export = with_format_and_path(
-        alloc,
-        "export",
-        "Write a worksheet as a script, Markdown, a page or a notebook",
-        EXPORT_NOTES,
-    )?;
-    let second = first.subcommand(export)?;
-    let faults = help_alone(alloc, "faults", "What each fault means", FAULTS_NOTES);
-    let third = second.subcommand(faults)?;
-    Ok(third)
+    command.subcommand(command_at(alloc, at)?)
+}
+
+/// A command line with the subcommands of all rows, in their order.
+fn with_all<'a>(alloc: Global, command: Command<'a>) -> Result<Command<'a>, AllocError>
+    ensures { IfOk result (λ more. app_of more ≡ table.with_rows (app_of command.entry) 9) }
+{
+    let mut command = command;
+    for at in 0..9usize {
+        command = with_one(alloc, command, at)?;
+    }
+    Ok(command)
+}
+
+/// The command line before its subcommands.
+fn top<'a>(alloc: Global) -> Command<'a>
+    ensures { app_of result ≡ asked.bare_tmhost }
+{
+    Command::new(alloc, "tmhost")
+        .about("A worksheet host for interpreters that speak the plugin protocol of GNU TeXmacs")
+        .after_help(NOTES)
+        .version(VERSION)
 }
 
 /// The command line of the program.
 fn tmhost_command<'a>(alloc: Global) -> Result<Command<'a>, AllocError>
     ensures { IfOk result (λ command. app_of command ≡ tmhost) }
 {
-    let none = plain(
-        alloc,
-        "tmhost",
-        "A worksheet host for interpreters that speak the plugin protocol of GNU TeXmacs",
-        NOTES,
-    );
-    let runs = with_runs(alloc, none)?;
-    let looks = with_looks(alloc, runs)?;
-    with_copies(alloc, looks)
+    with_all(alloc, top(alloc))
 }
 
 /// Whether a flag is given, by its value.

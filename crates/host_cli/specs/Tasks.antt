@@ -1,208 +1,216 @@
--- Which program runs for which words, over which streams and files.
-use Rattle.std.specs.Prelude.{◌≡◌, ◌≢◌, ◌⊎◌, ℕ, true, List, [], Option, Result, Ok, Err, IfOk, IfErr, MatchOption, MatchResult, Bool, false}
+-- Which program runs for which words, over all that is outside.
+use Rattle.std.specs.Prelude.{◌≡◌, ◌≢◌, ◌⊎◌, ℕ, true, false, Bool, List, Option, Result, Ok, Err, IfOk, IfErr, MatchOption, MatchResult}
 use Rattle.std.specs.Io.KnownBytes.{Appends}
-use Rattle.std.specs.Io.Buffered.{writer_buffer, writer_contents, writer_inner}
-use Rattle.std.specs.declared.alloc.Global.{Global}
-use Rattle.std.specs.declared.io.buffered.BufWriter.{BufWriter}
-use Rattle.clap.specs.Words.{Text}
+use Rattle.std.specs.declared.io.ErrorKind.{ErrorKind as IoKind}
+use Rattle.std.specs.declared.io.ErrorKind.TheVariants as io_kind
+use Rattle.std.specs.declared.io.Read as read
+use Rattle.std.specs.declared.io.Write as write
+use Rattle.clap.specs.Words.{FailsBy, Text, fault_of, kind_of}
+use Rattle.clap.specs.declared.error.Error.{Error}
 use Rattle.clap.specs.declared.error.kind.ErrorKind.{ErrorKind}
 use Rattle.clap.specs.declared.error.kind.ErrorKind.TheVariants as kind
 use Rattle.disk_model.specs.Disk.{DiskView}
+use Rattle.disk_model.specs.declared.disk.Disk as disks
 use Rattle.child_edge.specs.Faithful.{Relation}
-use Rattle.command_words.specs.Asked.{TaskView}
+use Rattle.command_words.specs.Asked.{TaskView, asked_by, task_view, tmhost}
+use Rattle.command_words.specs.declared.words.Task.{Task}
 use Rattle.command_words.specs.Asked as asked
 use Rattle.host_cli.specs.Refused.{ShowsText, no_format_text}
-use Rattle.sheet_export.specs.Formats.{format_named, last_part}
-use Rattle.sheet_export.specs.declared.formats.Format.{Format}
-use Rattle.program_endings.specs.ExportProgram.{ExportEnds}
-use Rattle.program_endings.specs.Ending.{BlocksAnswer, ProgramAnswer, TellsFault, status_of}
-use Rattle.program_endings.specs.Faults.{no_files, no_place}
+use Rattle.host_cli.specs.declared.outside.Outside.{Outside}
 use Rattle.live.specs.Arrivals.{Watch}
+use Rattle.live.specs.Saying.{Clock}
+use Rattle.offline_programs.specs.declared.fault.RunFault.{RunFault}
+use Rattle.offline_programs.specs.declared.fault.RunFault.TheVariants as fault
 use Rattle.program_endings.specs.CheckProgram.{CheckEnds}
-use Rattle.program_endings.specs.Programs.{CreateAnswer, Creates, LiveAnswer, RunAnswer, ShowAnswer, TellsCreate, TellsMake, create_status}
+use Rattle.program_endings.specs.Ending.{BlocksAnswer, ProgramAnswer, TellsFault, status_of}
+use Rattle.program_endings.specs.ExportProgram.{ExportEnds}
+use Rattle.program_endings.specs.Faults.{no_files, no_place}
+use Rattle.program_endings.specs.Programs.{CreateAnswer, LiveAnswer, RunAnswer, ShowAnswer, TellsCreate, TellsMake, create_status}
+use Rattle.program_endings.specs.Programs as programs
 use Rattle.program_endings.specs.RescueProgram.{FilesAreRead, RescueEnds}
 use Rattle.program_endings.specs.StrictProgram.{StrictEnded}
-use Rattle.recovery.specs.declared.rescuing.Rescued.{Rescued}
 use Rattle.program_endings.specs.declared.ending.Ending.{Ending}
+use Rattle.recovery.specs.declared.rescuing.Rescued.{Rescued}
+use Rattle.sheet_export.specs.Formats.{format_named, last_part}
+use Rattle.sheet_export.specs.declared.formats.Format.{Format}
 use Rattle.sheet_files.specs.declared.files_fault.FilesFault.{FilesFault}
 use Rattle.sheet_files.specs.declared.files_fault.HoldFault.{HoldFault}
 use Rattle.sheet_files.specs.declared.files_fault.MakeFault.{MakeFault}
-use Rattle.offline_programs.specs.declared.fault.RunFault.{RunFault}
-use Rattle.offline_programs.specs.declared.fault.RunFault.TheVariants as fault
+use Rattle.sheet_files.specs.declared.places.Places as places
 
--- how a program with this answer ends, and what it says on the stream of errors
-abbrev pub EndsWith : {E : Type 0} → (E → Option (List ℕ)) → E → E → Ending → ProgramAnswer → Type 0
-EndsWith said old new ending answer = (ending.status ≡ status_of answer) × TellsFault said old new ending.told answer
+-- How what is outside is seen, and what calls on it may lead to.
+pub record OutsideView (D P S I W E : Type 0) : Type 1 where
+  pub places : places.Ghosts P D
+  pub view : D → DiskView
+  pub after : Relation S
+  pub clock : Clock S
+  pub wakes : Watch S
+  pub stream : I → Option (List ℕ)
+  pub written : W → Option (List ℕ)
+  pub brought : W → Bool → W → Type 0
+  pub said : E → Option (List ℕ)
 
--- The places of the standard streams are held before anything else is done. Where they can't be, that is the fault.
-abbrev pub HeldFirst : {P : Type 0} → (P → Result Unit HoldFault → P → Type 0) → P → P → (RunFault → Type 0) → (P → Type 0) → Type 0
-HeldFirst {P = P} holds old new faulted then =
-    ((f : HoldFault) × holds old (Err f) new × faulted (no_place f)) ⊎ ((held : P) × holds old (Ok tt) held × then held)
+abbrev pub outer : {D P S I W E : Type 0} → places.Ghosts P D → disks.Ghosts D → Relation S → Clock S → Watch S → read.Ghosts I → write.Ghosts W → (W → Bool → W → Type 0) → write.Ghosts E → OutsideView D P S I W E
+outer p d after clock wakes i w b e = record { places = p; view = d.view; after = after; clock = clock; wakes = wakes; stream = i.remaining; written = w.contents; brought = b; said = e.contents }
 
--- The program ran with an empty buffer before its output, or memory for that was refused.
-abbrev pub Buffered : {W : Type 0} → W → (BufWriter W Global → BufWriter W Global → Type 0) → Type 0 → Type 0
-Buffered {W = W} output ran refused =
-    ((first : BufWriter W Global) × (last : BufWriter W Global) × (writer_inner first ≡ output) × (writer_buffer first ≡ []) × ran first last) ⊎ refused
+module _ {Y D P S I W E Q : Type 0} where
+  -- nothing but the places and the stream of errors was touched
+  abbrev pub OnlyHeld : Outside Y D P S I W E Q → Outside Y D P S I W E Q → Type 0
+  OnlyHeld old new = (new.sources ≡ old.sources) × (new.input ≡ old.input) × (new.output ≡ old.output) × (new.progress ≡ old.progress)
 
--- how `blocks` ends over a stream and these writers
-abbrev pub BlocksEnds : {W E : Type 0} → Option (List ℕ) → (W → Option (List ℕ)) → W → W → (E → Option (List ℕ)) → E → E → Ending → Type 0
-BlocksEnds stream written a b said old new ending =
-    (answer : ProgramAnswer) × BlocksAnswer stream written a b answer × EndsWith said old new ending answer
+  -- What a task isn't given stays as it was.
+  abbrev pub LeavesAlone : Outside Y D P S I W E Q → Outside Y D P S I W E Q → TaskView → Type 0
+  LeavesAlone old new asked.blocks = (new.places ≡ old.places) × (new.sources ≡ old.sources) × (new.progress ≡ old.progress)
+  LeavesAlone old new (asked.create path) = (new.sources ≡ old.sources) × (new.input ≡ old.input) × (new.output ≡ old.output) × (new.progress ≡ old.progress)
+  LeavesAlone old new (asked.run path) = new.progress ≡ old.progress
+  LeavesAlone old new (asked.run_strictly path) = new.progress ≡ old.progress
+  LeavesAlone old new (asked.live path) = new.progress ≡ old.progress
+  LeavesAlone old new (asked.show path) = (new.sources ≡ old.sources) × (new.input ≡ old.input) × (new.progress ≡ old.progress)
+  LeavesAlone old new (asked.check path) = new.input ≡ old.input
+  LeavesAlone old new (asked.rescue path new_path) = (new.sources ≡ old.sources) × (new.input ≡ old.input) × (new.progress ≡ old.progress)
+  LeavesAlone old new (asked.export format path) = (new.sources ≡ old.sources) × (new.input ≡ old.input) × (new.progress ≡ old.progress)
 
--- how `create` ends on its files, or on why they weren't made
-abbrev pub CreateEnds : {D E : Type 0} → (D → DiskView) → Result D MakeFault → (E → Option (List ℕ)) → E → E → Ending → Type 0
-CreateEnds {D = D} view files said old new ending =
-    IfErr files (λ why. (ending.status ≡ 1) × TellsMake said old new ending.told why)
-    × IfOk files (λ disk. (later : D) × (answer : CreateAnswer) × Creates (view disk) (view later) answer
-    × (ending.status ≡ create_status answer) × TellsCreate said old new ending.told answer)
+  -- nothing but the output and the stream of errors was touched
+  abbrev pub OnlyWritten : Outside Y D P S I W E Q → Outside Y D P S I W E Q → Type 0
+  OnlyWritten old new = (new.places ≡ old.places) × (new.sources ≡ old.sources) × (new.input ≡ old.input) × (new.progress ≡ old.progress)
 
--- how `show` ends on its files, or on why they weren't opened
-abbrev pub ShowEnds : {D W E : Type 0} → (D → DiskView) → Result D FilesFault → (W → Option (List ℕ)) → W → W → (E → Option (List ℕ)) → E → E → Ending → Type 0
-ShowEnds view files written a b said old new ending =
-    (answer : ProgramAnswer) × ShowAnswer view written files a b answer × EndsWith said old new ending answer
+module _ {Y D P S I W E Q : Type 0} (o : OutsideView D P S I W E) where
+  -- how a program with this answer ends, and what it says on the stream of errors
+  abbrev pub EndsWith : Outside Y D P S I W E Q → Outside Y D P S I W E Q → Ending → ProgramAnswer → Type 0
+  EndsWith old new ending answer = (ending.status ≡ status_of answer) × TellsFault o.said old.errors new.errors ending.told answer
 
--- how `run` ends on its files, or on why they weren't opened, from children c to d; then its script is unread
-abbrev pub RunEnds : {D C W E : Type 0} → (D → DiskView) → Relation C → Type 0 → Option (List ℕ) → Result D FilesFault → C → C → (W → Option (List ℕ)) → W → W → (E → Option (List ℕ)) → E → E → Ending → Type 0
-RunEnds view R unread stream files c d written a b said old new ending =
-    IfErr files (λ why. unread × (b ≡ a) × (d ≡ c) × (ending.status ≡ 1) × TellsFault said old new ending.told (Err (no_files why)))
-    × IfOk files (λ disk. (answer : ProgramAnswer)
-    × RunAnswer view R stream disk c d (written a) (written b) ((b ≡ a) × (d ≡ c)) answer
-    × (ending.status ≡ status_of answer) × TellsFault said old new ending.told answer)
+  -- The places of the standard streams are held before anything else is done. Where they can't be, that is the fault.
+  abbrev pub HeldFirst : Outside Y D P S I W E Q → Outside Y D P S I W E Q → (RunFault → Type 0) → (P → Type 0) → Type 0
+  HeldFirst old new faulted then =
+      ((f : HoldFault) × o.places.holds old.places (Err f) new.places × OnlyHeld old new × faulted (no_place f)) ⊎ ((held : P) × o.places.holds old.places (Ok tt) held × then held)
 
--- how `run` ends that is strict
-abbrev pub StrictEnds : {D C W E : Type 0} → (D → DiskView) → Relation C → Type 0 → Option (List ℕ) → Result D FilesFault → C → C → (W → Option (List ℕ)) → W → W → (E → Option (List ℕ)) → E → E → Ending → Type 0
-StrictEnds view R unread stream files c d written a b said old new ending =
-    IfErr files (λ why. unread × (b ≡ a) × (d ≡ c) × (ending.status ≡ 1) × TellsFault said old new ending.told (Err (no_files why)))
-    × IfOk files (λ disk. StrictEnded view R stream disk c d (written a) (written b) ((b ≡ a) × (d ≡ c)) said old new ending)
+  -- `blocks`
+  abbrev pub DoesBlocks : Outside Y D P S I W E Q → Outside Y D P S I W E Q → Ending → Type 0
+  DoesBlocks old new ending = (answer : ProgramAnswer) × BlocksAnswer (o.stream old.input) o.written old.output new.output answer × EndsWith old new ending answer
 
--- how `run` ends, which is strict or not
-abbrev pub RunEndsBy : {D C W E : Type 0} → Bool → (D → DiskView) → Relation C → Type 0 → Option (List ℕ) → Result D FilesFault → C → C → (W → Option (List ℕ)) → W → W → (E → Option (List ℕ)) → E → E → Ending → Type 0
-RunEndsBy false view R unread stream files c d written a b said old new ending = RunEnds view R unread stream files c d written a b said old new ending
-RunEndsBy true view R unread stream files c d written a b said old new ending = StrictEnds view R unread stream files c d written a b said old new ending
+  -- `create` of what the places make at a path, or of why they don't
+  abbrev pub DoesCreate : Outside Y D P S I W E Q → Outside Y D P S I W E Q → Ending → Text → Type 0
+  DoesCreate old new ending path =
+      HeldFirst old new (λ why. EndsWith old new ending (Err why)) (λ held. (files : Result D MakeFault) × o.places.creates held path files new.places
+      × IfErr files (λ why. (ending.status ≡ 1) × TellsMake o.said old.errors new.errors ending.told why)
+      × IfOk files (λ disk. (later : D) × (answer : CreateAnswer) × programs.Creates (o.view disk) (o.view later) answer
+      × (ending.status ≡ create_status answer) × TellsCreate o.said old.errors new.errors ending.told answer))
 
--- how `live` ends on its files, or on why they weren't opened, from children c to d; then no line is read
-abbrev pub LiveEnds : {D C W E : Type 0} → (D → DiskView) → Relation C → Watch C → Type 0 → Option (List ℕ) → Result D FilesFault → C → C → (W → Option (List ℕ)) → W → W → (E → Option (List ℕ)) → E → E → Ending → Type 0
-LiveEnds view R watch unread stream files c d written a b said old new ending =
-    IfErr files (λ why. unread × (b ≡ a) × (d ≡ c) × (ending.status ≡ 1) × TellsFault said old new ending.told (Err (no_files why)))
-    × IfOk files (λ disk. (answer : ProgramAnswer)
-    × LiveAnswer view R watch stream disk c d (written a) (written b) ((b ≡ a) × (d ≡ c)) answer
-    × (ending.status ≡ status_of answer) × TellsFault said old new ending.told answer)
+  -- `show` of what they open to read at a path
+  abbrev pub DoesShow : Outside Y D P S I W E Q → Outside Y D P S I W E Q → Ending → Text → Type 0
+  DoesShow old new ending path =
+      HeldFirst old new (λ why. EndsWith old new ending (Err why)) (λ held. (files : Result D FilesFault) × o.places.reads held path files new.places
+      × ((answer : ProgramAnswer) × ShowAnswer o.view o.written files old.output new.output answer × EndsWith old new ending answer))
 
--- `blocks` over a stream and the buffered output
-abbrev pub BlocksTo : {W E : Type 0} → Option (List ℕ) → (W → Option (List ℕ)) → W → (E → Option (List ℕ)) → E → E → Ending → Type 0
-BlocksTo stream written output said old new ending =
-    Buffered output (λ first last. BlocksEnds stream (writer_contents written) first last said old new ending) (EndsWith said old new ending (Err fault.OutOfMemory))
+  -- `check` of the same
+  abbrev pub DoesCheck : Outside Y D P S I W E Q → Outside Y D P S I W E Q → Ending → Text → Type 0
+  DoesCheck old new ending path =
+      HeldFirst old new (λ why. (new.sources ≡ old.sources) × EndsWith old new ending (Err why)) (λ held. (files : Result D FilesFault) × o.places.reads held path files new.places
+      × CheckEnds o.view o.after files old.sources new.sources o.written old.output new.output o.said old.errors new.errors ending)
 
--- `create` of what the places make at a path
-abbrev pub CreateAt : {P D E : Type 0} → (P → Result Unit HoldFault → P → Type 0) → (P → List ℕ → Result D MakeFault → P → Type 0) → (D → DiskView)
-    → P → P → (E → Option (List ℕ)) → E → E → Ending → Text → Type 0
-CreateAt {D = D} holds creates view p q said old new ending path =
-    HeldFirst holds p q (λ why. EndsWith said old new ending (Err why))
-    (λ held. (files : Result D MakeFault) × creates held path files q × CreateEnds view files said old new ending)
+  -- files that weren't opened: nothing is read or written, and no child is called
+  abbrev pub Unopened : Outside Y D P S I W E Q → Outside Y D P S I W E Q → Ending → FilesFault → Type 0
+  Unopened old new ending why =
+      (new.input ≡ old.input) × (new.output ≡ old.output) × (new.sources ≡ old.sources) × (ending.status ≡ 1) × TellsFault o.said old.errors new.errors ending.told (Err (no_files why))
 
--- `show` of files to the buffered output
-abbrev pub ShowTo : {D W E : Type 0} → (D → DiskView) → Result D FilesFault → (W → Option (List ℕ)) → W → (E → Option (List ℕ)) → E → E → Ending → Type 0
-ShowTo view files written output said old new ending =
-    Buffered output (λ first last. ShowEnds view files (writer_contents written) first last said old new ending) (EndsWith said old new ending (Err fault.OutOfMemory))
+  -- nothing was written, and no child was called
+  abbrev pub Nothing : Outside Y D P S I W E Q → Outside Y D P S I W E Q → Type 0
+  Nothing old new = (new.output ≡ old.output) × (new.sources ≡ old.sources)
 
--- `show` of what the places open to read at a path
-abbrev pub ShowAt : {P D W E : Type 0} → (P → Result Unit HoldFault → P → Type 0) → (P → List ℕ → Result D FilesFault → P → Type 0) → (D → DiskView)
-    → P → P → (W → Option (List ℕ)) → W → (E → Option (List ℕ)) → E → E → Ending → Text → Type 0
-ShowAt {D = D} holds reads view p q written output said old new ending path =
-    HeldFirst holds p q (λ why. EndsWith said old new ending (Err why))
-    (λ held. (files : Result D FilesFault) × reads held path files q × ShowTo view files written output said old new ending)
+  -- `run` on a disk, strict or not
+  abbrev pub RunsOn : Bool → Outside Y D P S I W E Q → Outside Y D P S I W E Q → Ending → D → Type 0
+  RunsOn false old new ending disk = (answer : ProgramAnswer)
+      × RunAnswer o.view o.after (o.stream old.input) disk old.sources new.sources (o.written old.output) (o.written new.output) (Nothing old new) answer
+      × (ending.status ≡ status_of answer) × TellsFault o.said old.errors new.errors ending.told answer
+  RunsOn true old new ending disk =
+      StrictEnded o.view o.after (o.stream old.input) disk old.sources new.sources (o.written old.output) (o.written new.output) (Nothing old new) o.said old.errors new.errors ending
 
--- `check` of files to the buffered output
-abbrev pub CheckTo : {D C W E : Type 0} → (D → DiskView) → Relation C → Result D FilesFault → C → C → (W → Option (List ℕ)) → W → (E → Option (List ℕ)) → E → E → Ending → Type 0
-CheckTo view R files c d written output said old new ending =
-    Buffered output (λ first last. CheckEnds view R files c d (writer_contents written) first last said old new ending)
-    ((d ≡ c) × EndsWith said old new ending (Err fault.OutOfMemory))
+  -- `run` over what the places open at a path
+  abbrev pub DoesRun : Bool → Outside Y D P S I W E Q → Outside Y D P S I W E Q → Ending → Text → Type 0
+  DoesRun strict old new ending path =
+      HeldFirst old new (λ why. (new.sources ≡ old.sources) × EndsWith old new ending (Err why)) (λ held. (files : Result D FilesFault) × o.places.opens held path files new.places
+      × IfErr files (Unopened old new ending) × IfOk files (RunsOn strict old new ending))
 
--- `check` of what the places open to read at a path
-abbrev pub CheckAt : {P D C W E : Type 0} → (P → Result Unit HoldFault → P → Type 0) → (P → List ℕ → Result D FilesFault → P → Type 0) → (D → DiskView) → Relation C
-    → P → P → C → C → (W → Option (List ℕ)) → W → (E → Option (List ℕ)) → E → E → Ending → Text → Type 0
-CheckAt {D = D} holds reads view R p q c d written output said old new ending path =
-    HeldFirst holds p q (λ why. (d ≡ c) × EndsWith said old new ending (Err why))
-    (λ held. (files : Result D FilesFault) × reads held path files q × CheckTo view R files c d written output said old new ending)
+  -- `live` over the same
+  abbrev pub DoesLive : Outside Y D P S I W E Q → Outside Y D P S I W E Q → Ending → Text → Type 0
+  DoesLive old new ending path =
+      HeldFirst old new (λ why. (new.sources ≡ old.sources) × EndsWith old new ending (Err why)) (λ held. (files : Result D FilesFault) × o.places.opens held path files new.places
+      × IfErr files (Unopened old new ending) × IfOk files (λ disk. (answer : ProgramAnswer)
+      × LiveAnswer o.view o.after o.clock o.wakes (o.stream old.input) disk old.sources new.sources (o.written old.output) (o.written new.output) (Nothing old new) answer
+      × (ending.status ≡ status_of answer) × TellsFault o.said old.errors new.errors ending.told answer))
 
--- `run` over files of the script of a stream, to the buffered output
-abbrev pub RunTo : {D C W E : Type 0} → Bool → (D → DiskView) → Relation C → Type 0 → Option (List ℕ) → Result D FilesFault → C → C → (W → Option (List ℕ)) → W → (E → Option (List ℕ)) → E → E → Ending → Type 0
-RunTo strict view R unread stream files c d written output said old new ending =
-    Buffered output (λ first last. RunEndsBy strict view R unread stream files c d (writer_contents written) first last said old new ending)
-    ((d ≡ c) × EndsWith said old new ending (Err fault.OutOfMemory))
+  -- `rescue` of what was found, to what the places make at a new path
+  abbrev pub RescuesTo : Rescued D → Outside Y D P S I W E Q → Outside Y D P S I W E Q → Ending → Text → Type 0
+  RescuesTo found old new ending to = (made : Result D MakeFault) × o.places.creates old.places to made new.places
+      × RescueEnds o.view made found o.written old.output new.output o.said old.errors new.errors ending
 
--- `run` over what the places open at a path
-abbrev pub RunAt : {P D C W E : Type 0} → Bool → (P → Result Unit HoldFault → P → Type 0) → (P → List ℕ → Result D FilesFault → P → Type 0) → (D → DiskView) → Relation C → Type 0 → Option (List ℕ)
-    → P → P → C → C → (W → Option (List ℕ)) → W → (E → Option (List ℕ)) → E → E → Ending → Text → Type 0
-RunAt {D = D} strict holds opens view R unread stream p q c d written output said old new ending path =
-    HeldFirst holds p q (λ why. (d ≡ c) × EndsWith said old new ending (Err why))
-    (λ held. (files : Result D FilesFault) × opens held path files q × RunTo strict view R unread stream files c d written output said old new ending)
+  -- `rescue` of files, or of why they weren't opened; nothing is made where nothing was found
+  abbrev pub RescuesFrom : Result D FilesFault → Outside Y D P S I W E Q → Outside Y D P S I W E Q → Ending → Text → Type 0
+  RescuesFrom files old new ending to = (answer : Result (Rescued D) RunFault) × FilesAreRead o.view files answer × MatchResult answer
+      (λ found. RescuesTo found old new ending to) (λ why. (new.places ≡ old.places) × EndsWith old new ending (Err why))
 
--- `rescue` of files, or of why they weren't opened, to what the places make at a new path: they make
--- nothing where nothing was found
-abbrev pub RescueFrom : {P D W E : Type 0} → (P → List ℕ → Result D MakeFault → P → Type 0) → (D → DiskView) → Result D FilesFault
-    → P → P → (W → Option (List ℕ)) → W → (E → Option (List ℕ)) → E → E → Ending → Text → Type 0
-RescueFrom {D = D} {W = W} creates view files p q written output said old new ending to =
-    (answer : Result (Rescued D) RunFault) × FilesAreRead view files answer × MatchResult answer
-    (λ found. (made : Result D MakeFault) × creates p to made q × ((last : W) × RescueEnds view made found written output last said old new ending))
-    (λ why. (q ≡ p) × EndsWith said old new ending (Err why))
+  -- `rescue` of what the places open to read at a path, to a new one
+  abbrev pub DoesRescue : Outside Y D P S I W E Q → Outside Y D P S I W E Q → Ending → Text → Text → Type 0
+  DoesRescue old new ending path to =
+      HeldFirst old new (λ why. EndsWith old new ending (Err why)) (λ held. (files : Result D FilesFault) × (opened : P) × o.places.reads held path files opened
+      × RescuesFrom files (record old { places = opened }) new ending to)
 
--- `rescue` of what the places open to read at a path, to a new one
-abbrev pub RescueAt : {P D W E : Type 0} → (P → Result Unit HoldFault → P → Type 0) → (P → List ℕ → Result D FilesFault → P → Type 0) → (P → List ℕ → Result D MakeFault → P → Type 0) → (D → DiskView)
-    → P → P → (W → Option (List ℕ)) → W → (E → Option (List ℕ)) → E → E → Ending → Text → Text → Type 0
-RescueAt {P = P} {D = D} holds reads creates view p q written output said old new ending path to =
-    HeldFirst holds p q (λ why. EndsWith said old new ending (Err why))
-    (λ held. (files : Result D FilesFault) × (read : P) × reads held path files read × RescueFrom creates view files read q written output said old new ending to)
+  -- `export` of what the places open to read at a path, whose last part is the title
+  abbrev pub ExportsAs : Outside Y D P S I W E Q → Outside Y D P S I W E Q → Ending → Text → Format → Type 0
+  ExportsAs old new ending path format =
+      HeldFirst old new (λ why. EndsWith old new ending (Err why)) (λ held. (files : Result D FilesFault) × o.places.reads held path files new.places
+      × ExportEnds o.view files format (last_part path) o.written old.output new.output o.said old.errors new.errors ending)
 
--- `export` of files to the buffered output, in a format and with a title
-abbrev pub ExportTo : {D W E : Type 0} → (D → DiskView) → Result D FilesFault → Format → List ℕ → (W → Option (List ℕ)) → W → (E → Option (List ℕ)) → E → E → Ending → Type 0
-ExportTo view files format title written output said old new ending =
-    Buffered output (λ first last. ExportEnds view files format title (writer_contents written) first last said old new ending) (EndsWith said old new ending (Err fault.OutOfMemory))
+  -- where there is no format of that name the words are refused, and nothing is done
+  abbrev pub RefusesFormat : Outside Y D P S I W E Q → Outside Y D P S I W E Q → Ending → Type 0
+  RefusesFormat old new ending = (new.places ≡ old.places) × (new.output ≡ old.output) × (ending.status ≡ 2) × (ending.told ≡ true → Appends (o.said old.errors) (o.said new.errors) no_format_text)
 
--- `export` of what the places open to read at a path, whose last part is the title
-abbrev pub ExportFrom : {P D W E : Type 0} → (P → Result Unit HoldFault → P → Type 0) → (P → List ℕ → Result D FilesFault → P → Type 0) → (D → DiskView)
-    → P → P → (W → Option (List ℕ)) → W → (E → Option (List ℕ)) → E → E → Ending → Text → Format → Type 0
-ExportFrom {D = D} holds reads view p q written output said old new ending path format =
-    HeldFirst holds p q (λ why. EndsWith said old new ending (Err why))
-    (λ held. (files : Result D FilesFault) × reads held path files q × ExportTo view files format (last_part path) written output said old new ending)
+  -- `export` in the format of this name
+  abbrev pub DoesExport : Outside Y D P S I W E Q → Outside Y D P S I W E Q → Ending → Text → Text → Type 0
+  DoesExport old new ending name path = MatchOption (format_named name) (RefusesFormat old new ending) (ExportsAs old new ending path)
 
--- where there is no format of that name the words are refused, and nothing is done
-abbrev pub RefusesFormat : {P E : Type 0} → P → P → (E → Option (List ℕ)) → E → E → Ending → Type 0
-RefusesFormat p q said old new ending = (q ≡ p) × (ending.status ≡ 2) × (ending.told ≡ true → Appends (said old) (said new) no_format_text)
+  -- what is done, by the task
+  abbrev pub DoesTask : Outside Y D P S I W E Q → Outside Y D P S I W E Q → Ending → TaskView → Type 0
+  DoesTask old new ending asked.blocks = DoesBlocks old new ending
+  DoesTask old new ending (asked.create path) = DoesCreate old new ending path
+  DoesTask old new ending (asked.run path) = DoesRun false old new ending path
+  DoesTask old new ending (asked.run_strictly path) = DoesRun true old new ending path
+  DoesTask old new ending (asked.live path) = DoesLive old new ending path
+  DoesTask old new ending (asked.show path) = DoesShow old new ending path
+  DoesTask old new ending (asked.check path) = DoesCheck old new ending path
+  DoesTask old new ending (asked.rescue path new_path) = DoesRescue old new ending path new_path
+  DoesTask old new ending (asked.export format path) = DoesExport old new ending format path
 
--- `export` in the format of this name
-abbrev pub ExportAt : {P D W E : Type 0} → (P → Result Unit HoldFault → P → Type 0) → (P → List ℕ → Result D FilesFault → P → Type 0) → (D → DiskView)
-    → P → P → (W → Option (List ℕ)) → W → (E → Option (List ℕ)) → E → E → Ending → Text → Text → Type 0
-ExportAt holds reads view p q written output said old new ending name path =
-    MatchOption (format_named name) (RefusesFormat p q said old new ending) (ExportFrom holds reads view p q written output said old new ending path)
+  -- How the program ends where `clap` gave no task, by the kind of its error.
+  pub record Refuses (old new : Outside Y D P S I W E Q) (ending : Ending) (k : ErrorKind) : Type 0 where
+    pub memory : k ≡ kind.OutOfMemory → (new.output ≡ old.output) × EndsWith old new ending (Err fault.OutOfMemory)
+    pub shown : ShowsText k → ((ending.status ≡ 0) × (new.errors ≡ old.errors)) ⊎ EndsWith old new ending (Err fault.Output)
+    pub refused : k ≢ kind.OutOfMemory → (ShowsText k → ⊥) → (new.output ≡ old.output) × (ending.status ≡ 2)
 
--- `live` over files with the lines of a stream, to the buffered output
-abbrev pub LiveTo : {D C W E : Type 0} → (D → DiskView) → Relation C → Watch C → Type 0 → Option (List ℕ) → Result D FilesFault → C → C → (W → Option (List ℕ)) → W → (E → Option (List ℕ)) → E → E → Ending → Type 0
-LiveTo view R watch unread stream files c d written output said old new ending =
-    Buffered output (λ first last. LiveEnds view R watch unread stream files c d (writer_contents written) first last said old new ending)
-    ((d ≡ c) × EndsWith said old new ending (Err fault.OutOfMemory))
+  -- the words ask for a task, which is done, or they are refused
+  abbrev pub DoesAsked : List Text → Outside Y D P S I W E Q → Outside Y D P S I W E Q → Ending → Type 0
+  DoesAsked texts old new ending = (read : Result Task Error) × FailsBy (fault_of tmhost texts) read
+      × IfOk read (λ task. task_view task ≡ asked_by texts)
+      × MatchResult read (λ task. DoesTask old new ending (task_view task) × LeavesAlone old new (task_view task))
+      (λ error. Refuses old new ending (kind_of error) × OnlyWritten old new)
 
--- `live` over what the places open at a path
-abbrev pub LiveAt : {P D C W E : Type 0} → (P → Result Unit HoldFault → P → Type 0) → (P → List ℕ → Result D FilesFault → P → Type 0) → (D → DiskView) → Relation C → Watch C → Type 0 → Option (List ℕ)
-    → P → P → C → C → (W → Option (List ℕ)) → W → (E → Option (List ℕ)) → E → E → Ending → Text → Type 0
-LiveAt {D = D} holds opens view R watch unread stream p q c d written output said old new ending path =
-    HeldFirst holds p q (λ why. (d ≡ c) × EndsWith said old new ending (Err why))
-    (λ held. (files : Result D FilesFault) × opens held path files q × LiveTo view R watch unread stream files c d written output said old new ending)
+  -- How the program ends by its words, before its output is brought out. Words that can't be had are no text, or there was no memory for them.
+  pub record EndsBy {T : Type 0} (texts : T → List Text) (words : Result T IoKind) (old new : Outside Y D P S I W E Q) (ending : Ending) : Type 0 where
+    pub no_memory : IfErr words (λ k. k ≡ io_kind.OutOfMemory → EndsWith old new ending (Err fault.OutOfMemory))
+    pub no_text : IfErr words (λ k. k ≢ io_kind.OutOfMemory → (new.errors ≡ old.errors) × (ending.status ≡ 2))
+    pub no_words : IfErr words (λ k. OnlyWritten old new × (new.output ≡ old.output))
+    pub asked : IfOk words (λ all. DoesAsked (texts all) old new ending)
 
--- what is done, by the task
-abbrev pub ByTask : Type 0 → (Text → Type 0) → (Text → Type 0) → (Text → Type 0) → (Text → Type 0) → (Text → Type 0) → (Text → Type 0) → (Text → Text → Type 0) → (Text → Text → Type 0) → TaskView → Type 0
-ByTask blocks create run strictly live show check rescue export asked.blocks = blocks
-ByTask blocks create run strictly live show check rescue export (asked.create path) = create path
-ByTask blocks create run strictly live show check rescue export (asked.run path) = run path
-ByTask blocks create run strictly live show check rescue export (asked.run_strictly path) = strictly path
-ByTask blocks create run strictly live show check rescue export (asked.live path) = live path
-ByTask blocks create run strictly live show check rescue export (asked.show path) = show path
-ByTask blocks create run strictly live show check rescue export (asked.check path) = check path
-ByTask blocks create run strictly live show check rescue export (asked.rescue path new) = rescue path new
-ByTask blocks create run strictly live show check rescue export (asked.export format path) = export format path
+  -- how the program ends where all that it wrote was brought out, or not: then it is the fault of an end that has none
+  abbrev pub EndsBrought : Bool → Outside Y D P S I W E Q → Outside Y D P S I W E Q → Ending → Ending → Type 0
+  EndsBrought true old new alone ending = (ending ≡ alone) × (new.errors ≡ old.errors)
+  EndsBrought false old new alone ending = (alone.status ≡ 1 → (ending ≡ alone) × (new.errors ≡ old.errors))
+      × (alone.status ≢ 1 → EndsWith old new ending (Err fault.Output))
 
--- How the program ends where `clap` gave no task, by the kind of its error.
-pub record Refuses {W E : Type 0} (a b : W) (said : E → Option (List ℕ)) (old new : E) (ending : Ending) (k : ErrorKind) : Type 0 where
-  pub memory : k ≡ kind.OutOfMemory → (b ≡ a) × EndsWith said old new ending (Err fault.OutOfMemory)
-  pub shown : ShowsText k → ((ending.status ≡ 0) × (new ≡ old)) ⊎ EndsWith said old new ending (Err fault.Output)
-  pub refused : k ≢ kind.OutOfMemory → (ShowsText k → ⊥) → (b ≡ a) × (ending.status ≡ 2)
+  -- Last of all the output is brought out, behind what the program came to.
+  abbrev pub BringsOut : Outside Y D P S I W E Q → Outside Y D P S I W E Q → Ending → Ending → Type 0
+  BringsOut old new alone ending = OnlyWritten old new × ((all : Bool) × o.brought old.output all new.output × EndsBrought all old new alone ending)
+
+  -- the whole program: it ends by its words, and then its output is brought out
+  abbrev pub Performs : {T : Type 0} → (T → List Text) → Result T IoKind → Outside Y D P S I W E Q → Outside Y D P S I W E Q → Ending → Type 0
+  Performs texts words old new ending = (mid : Outside Y D P S I W E Q) × (alone : Ending) × EndsBy texts words old mid alone × BringsOut mid new alone ending

@@ -3,8 +3,12 @@
 //! `program_endings`, and a worksheet's files in `sheet_files`.
 #![tactic(auto)]
 
+mod outlet;
+mod outside;
 mod refusing;
 mod tasks;
 
+pub use outlet::Outlet;
+pub use outside::{Outside, System};
 pub use refusing::{refuse_unread_words, refuse_words};
-pub use tasks::{do_task, run_words};
+pub use tasks::{do_task, perform};

@@ -44,7 +44,7 @@ told 'another topic' "error: unrecognized subcommand 'fault'" help fault
 told 'another task' "error: unrecognized subcommand 'remove'" remove a
 told 'one word' "error: unrecognized subcommand 'foo'" foo
 told 'a word behind blocks' "error: unexpected argument 'x' found" blocks x
-told 'a version' "error: unexpected argument '--version' found" --version
+told 'the version of a task' "error: unexpected argument '--version' found" run --version
 told 'a task behind dashes' "error: unexpected argument 'blocks' found" -- blocks
 set --
 for count in $(seq 40); do
@@ -69,6 +69,14 @@ helps check 'Evaluate a worksheet anew, and write what differs' "Usage: ${tmhost
 helps rescue 'Write what stands before a damage to a new worksheet' "Usage: ${tmhost##*/} rescue <PATH> <NEW>" 'Example: tmhost rescue sheet.tm new.tm' 1
 
 helps export 'Write a worksheet as a script, Markdown, a page or a notebook' "Usage: ${tmhost##*/} export <FORMAT> <PATH>" 'Example: tmhost export html sheet.tm >sheet.html' 1
+
+# The version: the name of the program and a number.
+"$tmhost" --version >text 2>errors
+compare 'the version' "$? $(wc -c <errors) $(bytes text)" "0 0 $(printf 'tmhost 0.1.0\n' >wanted; bytes wanted)"
+"$tmhost" -V >same 2>errors
+compare 'the version by a letter' "$? $(wc -c <errors) $(bytes same)" "0 0 $(bytes text)"
+"$tmhost" --version >/dev/full 2>errors
+compare 'a version over a full output' "$? $(cat errors)" '1 fault 42 Output'
 
 # What `help faults` has of each fault that a program tells: its number and its name.
 "$tmhost" help faults >text 2>errors

@@ -5,8 +5,6 @@
 //! how a case is added.
 #![tactic(auto)]
 
-mod start;
-
 use offline_programs::run_memory;
 use program_endings::end_program;
 use std::io;
@@ -51,7 +49,7 @@ fn asked_by(words: &[String]) -> Asked<'_> {
 }
 
 fn main(rt: HostRuntime) -> ExitCode {
-    let words = start::words(&rt);
+    let words = startup::words(&rt);
     if let Ok(all) = &words {
         match asked_by(all.as_slice()) {
             Asked::Steps(program, script) => {
@@ -61,5 +59,5 @@ fn main(rt: HostRuntime) -> ExitCode {
             Asked::Nothing => {}
         }
     }
-    ExitCode::from(start::start(&rt, words))
+    ExitCode::from(startup::start(&rt, words))
 }

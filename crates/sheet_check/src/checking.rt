@@ -1,5 +1,5 @@
 //! The check of a worksheet.
-ghost use Rattle.std.specs.Prelude.{◌≡◌, ◌+◌, ◌≤◌, ◌<◌, ◌^◌, List, Err, IfErr, IfOk, OnOk, Some, length};
+ghost use Rattle.std.specs.Prelude.{◌≡◌, ◌+◌, ◌≤◌, ◌<◌, ◌^◌, List, Err, IfErr, IfNone, IfOk, IfSome, OnOk, Some, length};
 ghost use Rattle.std.specs.Io.KnownBytes.{Appends};
 ghost use Rattle.worksheet.specs.declared.op.Op.{Op};
 ghost use Rattle.recovery.specs.Sheets.{Makes};
@@ -15,7 +15,7 @@ ghost use Rattle.sheet_check.specs.Evaluated.{came_if, shown_in};
 ghost use Rattle.sheet_check.specs.Check.{CheckAnswer, OnlyRead, SheetAnswer};
 ghost use Rattle.sheet_check.specs.Progress.{CheckShows, FieldsLeft, FieldsShow, LeavesLine, MakesRoom, SheetShows, answered};
 ghost use Rattle.sheet_check.specs.declared.progress.Sight.TheVariants as sight;
-ghost use Rattle.sheet_check.specs.inside.Checking.{FieldFailed, FieldShown, FieldWrote, FieldsEnded, FieldsFailed, FieldsStopped, FieldsWrote, ShownWrote, Untold, total};
+ghost use Rattle.sheet_check.specs.inside.Checking.{FieldFailed, FieldShown, FieldWrote, FieldsEnded, FieldsFailed, FieldsStopped, FieldsWrote, OnCopy, ShownWrote, Untold, total};
 
 use crate::copying::open_copy;
 use crate::evaluating::{ask, wait_for_all};
@@ -250,6 +250,29 @@ fn check_and_stop<D: Disk, C: Children, W: Write, P: Progress>(
     counted
 }
 
+/// Checks a worksheet on a copy of it, whose host ends here. None where there is no memory for the copy.
+fn checked_on_copy<C: Children, W: Write, P: Progress>(
+    alloc: Global,
+    sheet: &Sheet,
+    children: &mut C,
+    progress: &mut P,
+    writer: &mut W,
+) -> Option<Result<Counts, RunFault>>
+    requires made { (ops : List Op) × Makes ops sheet.now.contents }
+    requires few { length sheet.now.contents.fields < 2 ^ 31 }
+    ensures none { IfNone result ((children.new ≡ children.old) × (writer.new ≡ writer.old)
+        × (progress.new ≡ progress.old)) }
+    ensures some { IfSome result (λ counted. OnCopy C.after sheet.now.contents children.old children.new
+        (W.contents writer.old) (W.contents writer.new) counted) }
+    ensures shown { IfSome result (λ counted. SheetShows P.shows (answered sheet.now.contents.fields)
+        progress.old progress.new counted) }
+{
+    match open_copy(alloc, sheet) {
+        Some(mut host) => Some(check_and_stop(alloc, sheet, &mut host, children, progress, writer)),
+        None => None,
+    }
+}
+
 /// Checks a worksheet on a copy of it, and tells the counts.
 fn check_sheet<C: Children, W: Write, P: Progress>(
     alloc: Global,
@@ -266,11 +289,11 @@ fn check_sheet<C: Children, W: Write, P: Progress>(
         progress.old progress.new result }
 {
     worksheet::laws::ops_make_worksheets();
-    let Some(mut host) = open_copy(alloc, sheet) else {
+    let Some(counted) = checked_on_copy(alloc, sheet, children, progress, writer) else {
         progress.show(Sight::Nothing);
         return Err(RunFault::OutOfMemory);
     };
-    match check_and_stop(alloc, sheet, &mut host, children, progress, writer) {
+    match counted {
         Ok(counts) => match tell_counts(counts, writer) {
             Ok(()) => Ok(counts),
             Err(fault) => Err(fault),

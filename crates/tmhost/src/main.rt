@@ -2,11 +2,9 @@
 //! what it says where, and with which status it ends, `host_cli` decides.
 #![tactic(auto)]
 
-mod start;
-
 use std::process::ExitCode;
 
 fn main(rt: HostRuntime) -> ExitCode {
-    let words = start::words(&rt);
-    ExitCode::from(start::start(&rt, words))
+    let words = startup::words(&rt);
+    ExitCode::from(startup::start(&rt, words))
 }

@@ -1,5 +1,5 @@
 -- What the functions of a check promise each other. No public contract names this.
-use Rattle.std.specs.Prelude.{◌≡◌, ◌+◌, ◌⊎◌, ℕ, List, [], ◌∷◌, ◌++◌, Option}
+use Rattle.std.specs.Prelude.{◌≡◌, ◌+◌, ◌⊎◌, ℕ, List, [], ◌∷◌, ◌++◌, Option, Result, IfOk, IfErr}
 use Rattle.host_events.specs.declared.event.Event.{Event}
 use Rattle.host_events.specs.declared.outcome.HostFault.TheVariants as hosts
 use Rattle.child_edge.specs.declared.serving.EdgeCause.{EdgeCause}
@@ -24,7 +24,8 @@ use Rattle.sheet_check.specs.declared.verdict.Verdict.{Verdict}
 use Rattle.sheet_check.specs.Verdicts.{Compared, counted_with, counts_of}
 use Rattle.sheet_check.specs.Texts.{verdict_text}
 use Rattle.sheet_check.specs.Evaluated.{Evaluated, FieldChecked, FieldsChecked}
-use Rattle.sheet_check.specs.Check.{FirstLed, FirstUpTo, NotOfDisk}
+use Rattle.worksheet.specs.Contents.{Contents}
+use Rattle.sheet_check.specs.Check.{FirstLed, FirstUpTo, IsCopy, NotOfDisk}
 use Rattle.sheet_check.specs.declared.progress.Sight.{Sight}
 use Rattle.sheet_check.specs.declared.progress.Sight.TheVariants as sight
 use Rattle.sheet_check.specs.Progress.{MakesRoom}
@@ -149,3 +150,8 @@ pub record FieldsStopped {C : Type 0} (R : Relation C) (fields : List Field) (s 
 abbrev pub FieldShown : {P : Type 0} → (P → Sight → P → Type 0) → ℕ → Counts → Counts → P → P → Type 0
 FieldShown {P = P} S all counts after p q = ((after ≡ counts) × (q ≡ p))
     ⊎ ((one : Verdict) × (free : P) × (after ≡ counted_with one counts) × MakesRoom S one p free × S free (sight.Line after all) q)
+
+-- The worksheet was checked on a copy of it, and each life that goes on was stopped.
+abbrev pub OnCopy : {C : Type 0} → Relation C → Contents → C → C → Option (List ℕ) → Option (List ℕ) → Result Counts RunFault → Type 0
+OnCopy R sheet c d a b counted = (w : World) × (copy : DiskView) × IsCopy sheet w copy
+    × IfOk counted (FieldsEnded R sheet.fields (at w c copy) d a b) × IfErr counted (FieldsStopped R sheet.fields (at w c copy) d a b)

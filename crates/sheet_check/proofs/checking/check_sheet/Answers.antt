@@ -1,39 +1,47 @@
-use Rattle.std.proofs.Common.{[], inl, refl}
+use Rattle.std.proofs.Common.{[], inl, refl, subst}
+use Rattle.sheet_programs.proofs.Runs.{if_err_is, if_ok_is}
 use Rattle.sheet_check.specs.Verdicts.{counts_of}
-use Rattle.sheet_check.specs.Progress.{none}
+use Rattle.sheet_check.specs.Progress.{SheetShows, answered, none}
+use Rattle.sheet_check.specs.declared.progress.Sight.TheVariants as sight
 use Rattle.sheet_check.proofs.Ends.{sheet_checked, counts_untold, stopped_tells}
 use Rattle.sheet_check.proofs.checking.check_sheet.Goals as goal
 
 pub returns-in-Ok-tell_counts-clause-checked : goal.returns-in-Ok-tell_counts-clause-checked
 returns-in-Ok-tell_counts-clause-checked g c =
-    let o = c.in-Some.ensures in
-    sheet_checked g.C.Children.after c.args.sheet.now.contents o.0 c.in-Some.host.store.disk o.2 c.args.children.now c.check_and_stop.new.children (g.W.Write.contents c.args.writer.now) (g.W.Write.contents c.check_and_stop.new.writer)
-    (g.W.Write.contents c.tell_counts.new.writer) c.in-Ok.counts (c.in-Ok.ensures.ok o.0 o.1) c.in-Ok-tell_counts.ensures.ok
+    let o = c.in-Some.ensures.some in
+    sheet_checked g.C.Children.after c.args.sheet.now.contents o.0 o.1 o.2 c.args.children.now c.checked_on_copy.new.children (g.W.Write.contents c.args.writer.now) (g.W.Write.contents c.checked_on_copy.new.writer)
+    (g.W.Write.contents c.tell_counts.new.writer) c.in-Ok.counts (if_ok_is c.in-Some.counted _ c.in-Ok.counts c.in-Ok.is o.3) c.in-Ok-tell_counts.ensures.ok
 
-pub returns-in-Ok-clause-checked : goal.returns-in-Ok-clause-checked
-returns-in-Ok-clause-checked g c =
-    let o = c.in-Some.ensures in
-    counts_untold g.C.Children.after c.args.sheet.now.contents o.0 c.in-Some.host.store.disk o.2 c.args.children.now c.check_and_stop.new.children (g.W.Write.contents c.args.writer.now) (g.W.Write.contents c.check_and_stop.new.writer)
-    (g.W.Write.contents c.tell_counts.new.writer) c.in-Ok.counts _ c.in-Err-tell_counts.fault (c.in-Ok.ensures.ok o.0 o.1) c.in-Err-tell_counts.ensures.err
+pub returns-in-Err-tell_counts-clause-checked : goal.returns-in-Err-tell_counts-clause-checked
+returns-in-Err-tell_counts-clause-checked g c =
+    let o = c.in-Some.ensures.some in
+    counts_untold g.C.Children.after c.args.sheet.now.contents o.0 o.1 o.2 c.args.children.now c.checked_on_copy.new.children (g.W.Write.contents c.args.writer.now) (g.W.Write.contents c.checked_on_copy.new.writer)
+    (g.W.Write.contents c.tell_counts.new.writer) c.in-Ok.counts _ c.in-Err-tell_counts.fault (if_ok_is c.in-Some.counted _ c.in-Ok.counts c.in-Ok.is o.3) c.in-Err-tell_counts.ensures.err
 
-pub returns-clause-checked : goal.returns-clause-checked
-returns-clause-checked g c =
-    let o = c.in-Some.ensures in
-    stopped_tells g.C.Children.after c.args.sheet.now.contents o.0 c.in-Some.host.store.disk o.2 c.args.children.now c.check_and_stop.new.children (g.W.Write.contents c.args.writer.now) (g.W.Write.contents c.check_and_stop.new.writer) _
-    c.in-Err.fault (c.in-Err.ensures.err o.0 o.1)
+pub returns-in-Err-clause-checked : goal.returns-in-Err-clause-checked
+returns-in-Err-clause-checked g c =
+    let o = c.in-Some.ensures.some in
+    stopped_tells g.C.Children.after c.args.sheet.now.contents o.0 o.1 o.2 c.args.children.now c.checked_on_copy.new.children (g.W.Write.contents c.args.writer.now) (g.W.Write.contents c.checked_on_copy.new.writer) _
+    c.in-Err.fault (if_err_is c.in-Some.counted _ c.in-Err.fault c.in-Err.is o.4)
 
 -- The line of progress is taken away at each end.
 
 pub returns-in-Ok-tell_counts-clause-shown : goal.returns-in-Ok-tell_counts-clause-shown
-returns-in-Ok-tell_counts-clause-shown g c = c.in-Ok.ensures.shown
+returns-in-Ok-tell_counts-clause-shown g c =
+    subst (SheetShows g.P.Progress.shows (answered c.args.sheet.now.contents.fields) c.args.progress.now c.checked_on_copy.new.progress) c.in-Ok.is c.in-Some.ensures.shown
 
-pub returns-in-Ok-clause-shown : goal.returns-in-Ok-clause-shown
-returns-in-Ok-clause-shown g c =
-    let p = c.in-Ok.ensures.shown in
+pub returns-in-Err-tell_counts-clause-shown : goal.returns-in-Err-tell_counts-clause-shown
+returns-in-Err-tell_counts-clause-shown g c =
+    let p = subst (SheetShows g.P.Progress.shows (answered c.args.sheet.now.contents.fields) c.args.progress.now c.checked_on_copy.new.progress) c.in-Ok.is c.in-Some.ensures.shown in
     (p.0, (c.in-Ok.counts, p.0, p.1, inl refl), p.2)
 
-pub returns-clause-shown : goal.returns-clause-shown
-returns-clause-shown g c = c.in-Err.ensures.shown
+pub returns-in-Err-clause-shown : goal.returns-in-Err-clause-shown
+returns-in-Err-clause-shown g c =
+    subst (SheetShows g.P.Progress.shows (answered c.args.sheet.now.contents.fields) c.args.progress.now c.checked_on_copy.new.progress) c.in-Err.is c.in-Some.ensures.shown
 
 pub returns-in_default-clause-shown : goal.returns-in_default-clause-shown
-returns-in_default-clause-shown g c = (c.args.progress.now, (counts_of [], c.args.progress.now, none, inl refl), c.show.ensures)
+returns-in_default-clause-shown g c = (
+  c.args.progress.now,
+  (counts_of [], c.args.progress.now, none, inl refl),
+  subst (λ p. g.P.Progress.shows p sight.Nothing c.show.new.self) c.in_default.ensures.none.2 c.show.ensures,
+)

@@ -1,0 +1,24 @@
+-- The command line of the table's rows.
+use Rattle.std.specs.Prelude.{ℕ, zero, suc}
+use Rattle.clap.specs.Words.{App, Text, new_app, with_subcommand}
+use Rattle.command_words.specs.Asked.{help_alone, with_format_and_path, with_path, with_paths, with_strict}
+use Rattle.command_words.specs.declared.table.Shape.{Shape}
+use Rattle.command_words.specs.declared.table.Shape.TheVariants as shape
+use Rattle.command_words.specs.inside.Rows.{listed_at}
+
+-- the subcommand of a row
+abbrev pub app_for : Shape → Text → App
+app_for shape.Bare name = new_app name
+app_for shape.Path name = with_path name
+app_for shape.Strict name = with_strict name
+app_for shape.Paths name = with_paths name
+app_for shape.Format name = with_format_and_path name
+app_for shape.Help name = help_alone name
+
+abbrev pub app_at : ℕ → App
+app_at n = app_for (listed_at n).1 (listed_at n).0
+
+-- with the subcommands of the first rows
+abbrev pub with_rows : App → ℕ → App
+with_rows a zero = a
+with_rows a (suc n) = with_subcommand (with_rows a n) (app_at n).top

@@ -1,0 +1,221 @@
+//! The table of the subcommands: who adds one adds a row here, and one in `specs/inside/Rows.antt`.
+ghost use Rattle.std.specs.Prelude.{◌≡◌, ◌<◌};
+ghost use Rattle.command_words.specs.inside.Rows.{IsRow};
+
+/// Which words a subcommand has.
+#[derive(Clone, Copy, Debug, PartialEq, Eq)]
+pub(crate) enum Shape {
+    /// None.
+    Bare,
+    /// PATH.
+    Path,
+    /// PATH, and the flag `--strict`.
+    Strict,
+    /// PATH and NEW.
+    Paths,
+    /// FORMAT and PATH.
+    Format,
+    /// None; its help is all that it has.
+    Help,
+}
+
+/// A row of the table.
+#[derive(Clone, Copy)]
+pub(crate) struct Row {
+    pub(crate) name: &'static str,
+    pub(crate) shape: Shape,
+    pub(crate) about: &'static str,
+    pub(crate) notes: &'static str,
+}
+
+/// The number of this version, which `--version` shows behind the name of the program.
+pub(crate) const VERSION: &str = "0.1.0";
+
+/// What the help of the program says below its lists.
+pub(crate) const NOTES: &str = "Without a command it is `blocks`.\n\n\
+Status: 0 where all was done, or help was shown; 1 at a fault, which is told on\n\
+standard error as `fault N NAME`, where the stream of `blocks` has a fault or an\n\
+open block, and where `check` finds a difference; 2 where the words are refused; 3\n\
+where `run --strict` stops.\n\
+`tmhost help faults` says what each fault means.\n\n\
+Example: tmhost create sheet.tm && tmhost run sheet.tm <script.txt";
+
+const BLOCKS_NOTES: &str =
+    "A line is the offset of the block's first byte, the offset behind its last one,\n\
+and the block with its tags.\n\n\
+Status: 0 where the stream is whole; 1 where it has a fault or an open block, or\n\
+at a fault of the program; 2 where the words are refused.\n\n\
+Example: printf '\\002verbatim:Hi\\005' | tmhost blocks";
+
+const CREATE_NOTES: &str =
+    "Where PATH or PATH.alt exists nothing is made, and the fault is 34 NotEmpty.\n\
+A creation that was cut off may leave files that are no worksheet, which `run`\n\
+tells as the fault 31: remove PATH and PATH.alt, and create it again.\n\n\
+Status: 0 where the worksheet is on the disk; 1 at a fault; 2 where the words are\n\
+refused.\n\n\
+Example: tmhost create sheet.tm";
+
+const RUN_NOTES: &str =
+    "The script is read whole from standard input. What each line of it gives is\n\
+written before the next one is taken, and what is told as done is on the disk.\n\
+Where another program has the worksheet the script isn't read and nothing is\n\
+done: that is the fault 35 InUse.\n\n\
+With --strict it stops behind the first line that is bad or refused, or by which\n\
+lines were lost since an interpreter ended: what that line gives is written, what\n\
+was told is on the disk, and standard error tells `stopped at line N`.\n\n\
+Status: 0 where the script ran to its end, without --strict also where it has bad\n\
+lines and refused commands; 1 at a fault; 2 where the words are refused; 3 where\n\
+--strict stopped it.\n\n\
+Example: tmhost run sheet.tm <script.txt";
+
+const LIVE_NOTES: &str =
+    "Each line of standard input is taken when it comes, and what an interpreter\n\
+writes is taken when it comes: what either gives is written and flushed at once,\n\
+and what is told as done is on the disk. Lines are those of `run`, of 65,536 bytes\n\
+at most, and `print ID`, `wait SECONDS` and `interrupt NAME`, which sends SIGINT to\n\
+an interpreter that is at something. A `wait` holds back the lines behind it until\n\
+no answer is awaited, or its time is over. At the end of the input each interpreter\n\
+is stopped.\n\n\
+Status: 0 where the input came to its end, also where it had bad lines and refused\n\
+commands; 1 at a fault; 2 where the words are refused.\n\n\
+Example: printf 'print\\n' | tmhost live sheet.tm";
+
+const SHOW_NOTES: &str =
+    "It writes and makes no file. A field without an output shows `?`. Where a program\n\
+runs the worksheet nothing is shown: that is the fault 35 InUse.\n\n\
+Status: 0 where all was written; 1 at a fault; 2 where the words are refused.\n\n\
+Example: tmhost show sheet.tm";
+
+const CHECK_NOTES: &str =
+    "Each field that shows an answer is evaluated anew, in the worksheet's order and\n\
+with interpreters of its own, on a copy in memory; the worksheet stays as it is.\n\
+Where another output comes the field's line, its prompt and input, the lines that\n\
+it shows behind `- `, and those that came behind `+ ` are written at once, or `+ ?`\n\
+where no answer came. Prompts aren't compared. The last line has the counts, as\n\
+`same 4 differ 1 unanswered 0`.\n\n\
+Status: 0 where all outputs are the same; 1 where one differs or didn't come, or\n\
+at a fault; 2 where the words are refused.\n\n\
+Example: tmhost check sheet.tm";
+
+const RESCUE_NOTES: &str =
+    "It reads PATH alone, and makes NEW as `create` does. NEW has the worksheet of the\n\
+changes that stand in PATH before the first damage, whether that is a broken gate\n\
+or a change that can't be read or isn't allowed there; nothing behind it is read.\n\
+(`show` tells a broken gate first, also where it stands behind such a change.)\n\
+It writes `kept N, damaged at OFFSET`, where N counts the changes that were kept,\n\
+or `kept N, whole`.\n\n\
+Where PATH is no worksheet (31), can't be read (32), or is run by another program\n\
+(35), NEW isn't made. Where NEW or NEW.alt exists, the fault is 34 NotEmpty. A\n\
+rescue that was cut off may leave NEW empty, or no worksheet: remove NEW and\n\
+NEW.alt, and give it again.\n\n\
+Status: 0 where NEW is on the disk and that was told, be PATH whole or damaged; 1\n\
+at a fault; 2 where the words are refused.\n\n\
+Example: tmhost rescue sheet.tm new.tm";
+
+const EXPORT_NOTES: &str = "FORMAT is one of these:\n\
+script    the lines that make the worksheet anew, for `run` on an empty one: its\n\
+\x20         sessions, and a `new` for each field. Answers are no part of it. A\n\
+\x20         session with a space in a word has no such line: that is the fault\n\
+\x20         36 NoScript, and nothing is written\n\
+markdown  each input and each output as a block of code; an output that is one\n\
+\x20         formula between dollars as that formula\n\
+html      one page that stands alone, without scripts: prompts, inputs and outputs,\n\
+\x20         all of them as texts\n\
+notebook  a notebook of Jupyter: each field as a cell of code, with its output as\n\
+\x20         text, and beside it as the formula where it is one\n\n\
+It reads PATH as `show` does, and writes and makes no file.\n\n\
+Status: 0 where all was written; 1 at a fault; 2 where the words are refused.\n\n\
+Example: tmhost export html sheet.tm >sheet.html";
+
+const FAULTS_NOTES: &str = "A fault is told on standard error as `fault N NAME`, with status 1.\n\n\
+21 Disk          a write failed while the script ran; all that was told is kept:\n\
+\x20                make room, then `show`\n\
+22 OutOfMemory   while the script ran; all that was told is kept: run the rest again\n\
+23 JournalFull   an answer doesn't fit the file; it isn't kept: `checkpoint`, or a new\n\
+\x20                worksheet. Of `rescue`: the worksheet doesn't fit a new file\n\
+30 Damaged G     no whole change stands at offset G of the file; what stands before it\n\
+\x20                is whole: leave the file as it is, and `rescue` it\n\
+31 NotASheet     no worksheet of this version; nothing was written: look at the path.\n\
+\x20                What a `create` leaves that was cut off: remove PATH and PATH.alt\n\
+32 Disk          a file can't be opened, made, read or synced, or has a second name;\n\
+\x20                nothing was written to a worksheet: look at the path, make room\n\
+33 OutOfMemory   while the worksheet was opened; nothing was written: run it again. Of\n\
+\x20                `rescue`: remove NEW and NEW.alt first, where they were made\n\
+34 NotEmpty      PATH or PATH.alt is there already; nothing was changed: another path\n\
+35 InUse         another program has the worksheet; nothing was done: wait for its end\n\
+36 NoScript      a session has a word with a space, which no line of a script makes;\n\
+\x20                nothing was written: export it in another format\n\
+40 Input         standard input can't be read; nothing was done: give it again. Of\n\
+\x20                `live`: at some line; all that was told is kept\n\
+41 InputTooLong  more than 67,108,864 bytes; nothing was done: cut it into parts\n\
+42 Output        standard output can't be written; what was done is on the disk, and\n\
+\x20                one line more than was told may be: `show` says where it stands\n\
+43 OutOfMemory   outside of the worksheet; all that was told is kept: run the rest again\n\n\
+docs/FAULTS.md has more of each.";
+
+/// A row.
+fn listed(name: &'static str, shape: Shape, about: &'static str, notes: &'static str) -> Row
+    ensures name { result.name.now ≡ name.entry.now }
+    ensures shape { result.shape ≡ shape }
+{
+    Row {
+        name,
+        shape,
+        about,
+        notes,
+    }
+}
+
+/// The row with this number, in the order of the help.
+pub(crate) fn row_at(at: usize) -> Row
+    requires { at < 9 }
+    ensures { IsRow at result }
+{
+    match at {
+        0 => listed(
+            "blocks",
+            Shape::Bare,
+            "Write the blocks of the stream on standard input, a line each",
+            BLOCKS_NOTES,
+        ),
+        1 => listed(
+            "create",
+            Shape::Path,
+            "Make an empty worksheet",
+            CREATE_NOTES,
+        ),
+        2 => listed(
+            "run",
+            Shape::Strict,
+            "Run the script on standard input over a worksheet",
+            RUN_NOTES,
+        ),
+        3 => listed(
+            "live",
+            Shape::Path,
+            "Hold a worksheet open for lines that come on standard input",
+            LIVE_NOTES,
+        ),
+        4 => listed("show", Shape::Path, "Write a worksheet", SHOW_NOTES),
+        5 => listed(
+            "check",
+            Shape::Path,
+            "Evaluate a worksheet anew, and write what differs",
+            CHECK_NOTES,
+        ),
+        6 => listed(
+            "rescue",
+            Shape::Paths,
+            "Write what stands before a damage to a new worksheet",
+            RESCUE_NOTES,
+        ),
+        7 => listed(
+            "export",
+            Shape::Format,
+            "Write a worksheet as a script, Markdown, a page or a notebook",
+            EXPORT_NOTES,
+        ),
+        8 => listed("faults", Shape::Help, "What each fault means", FAULTS_NOTES),
+        _ => unreachable!(),
+    }
+}

@@ -1,0 +1,28 @@
+//! An output that keeps text back.
+ghost use Rattle.std.specs.Prelude.{◌≡◌, [], Bool, true};
+ghost use Rattle.std.specs.Result.{is_ok};
+ghost use Rattle.std.specs.Io.Buffered.{writer_buffer};
+
+use std::io;
+use std::io::{BufWriter, Write};
+
+/// An output that may keep text back until it is brought out.
+///
+/// What a call on a real stream brings about no contract can say. That the call was made, after all that was
+/// written, the relation says: generic code has it by that call alone.
+pub trait Outlet: Write {
+    /// The output before the call, whether all was brought out, and the output after it.
+    ghost brought: { Self → Bool → Self → Type 0 };
+
+    /// Brings out what is kept back.
+    fn bring_out(&mut self) -> io::Result<()>
+        ensures { brought self.old (is_ok result) self.new };
+}
+
+impl<W: Write + Drop> Outlet for BufWriter<W> {
+    ghost brought = { λ _ all after. all ≡ true → writer_buffer after ≡ [] };
+
+    fn bring_out(&mut self) -> io::Result<()> {
+        self.flush()
+    }
+}

@@ -1,0 +1,36 @@
+//! All that is outside of the program, as one value.
+use crate::Outlet;
+use arrivals::Sources;
+use disk_model::Disk;
+use sheet_check::Progress;
+use sheet_files::Places;
+use std::io::{Read, Write};
+
+/// Of what kinds all that is outside of the program is.
+pub trait System {
+    /// Where a worksheet lies.
+    type Disk: Disk + Drop;
+    /// Where disks are, each at a path.
+    type Places: Places<Self::Disk> + Drop;
+    /// Interpreters, whose turn it is of these and the input, and a clock.
+    type Sources: Sources + Drop;
+    /// Standard input.
+    type Input: Read + Drop;
+    /// Standard output.
+    type Output: Outlet + Drop;
+    /// Standard error.
+    type Errors: Write + Drop;
+    /// Whoever shows how far a check is.
+    type Progress: Progress + Drop;
+}
+
+/// All that is outside of the program. Each task lends the fields that it needs.
+#[derive(Drop)]
+pub struct Outside<Y: System> {
+    pub places: Y::Places,
+    pub sources: Y::Sources,
+    pub input: Y::Input,
+    pub output: Y::Output,
+    pub errors: Y::Errors,
+    pub progress: Y::Progress,
+}
