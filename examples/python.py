@@ -2,6 +2,7 @@
 import contextlib
 import io
 import os
+import signal
 import sys
 
 names = {"__name__": "__main__"}
@@ -24,16 +25,30 @@ def compiled(line):
 
 def run(line):
     """What the line prints, and its value, or the error that it raised. An exit() is told as one too."""
+    global is_at_a_line
     written = io.StringIO()
     sys.stdin = io.StringIO()
     with contextlib.redirect_stdout(written):
         try:
+            is_at_a_line = True
             value = eval(compiled(line.lstrip(" \t")), names)
             if value is not None:
                 print(repr(value))
-        except (Exception, SystemExit) as error:
+        except (Exception, SystemExit, KeyboardInterrupt) as error:
+            is_at_a_line = False
             print(f"{type(error).__name__}: {error}")
+        is_at_a_line = False
     return written.getvalue()
+
+
+def interrupted(number, frame):
+    """SIGINT ends the line that runs; between lines there is nothing to end."""
+    if is_at_a_line:
+        raise KeyboardInterrupt
+
+
+is_at_a_line = False
+signal.signal(signal.SIGINT, interrupted)
 
 
 def escaped(text):

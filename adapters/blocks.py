@@ -1,0 +1,224 @@
+"""What the adapters share: blocks of the protocol, lines as they come, and an interpreter that runs as a child.
+
+An adapter reads lines and writes exactly one block for each, the banner's block first. It ends where its interpreter
+ends, at the end of its input, and where nobody reads its output any more.
+"""
+import contextlib
+import ctypes
+import os
+import re
+import select
+import signal
+import subprocess
+import sys
+import time
+from typing import Any, Callable, Iterator, List, Optional, Set
+
+LONGEST = 8_000_000  # bytes of an answer; escapes may double them, and a block may have 16,777,216
+PIECE = 65_536  # bytes that are read at once
+SPARED = 0.1  # seconds of a line in which it isn't interrupted
+GRACE = 5.0  # seconds that an interpreter has for an interrupt at the end of its time; it ends behind two of them
+NEVER = 1e6  # seconds
+KILL_WITH_PARENT = 1  # PR_SET_PDEATHSIG of prctl(2)
+LINE_SEPARATOR = "\u2028".encode()
+REQUEST = b"\x10"  # a line that begins so asks for completions
+
+
+def escaped(text: bytes) -> bytes:
+    """The text as it stands in a block: an escape before each byte that has a meaning there."""
+    return re.sub(rb"[\x02\x05\x1b]", lambda found: b"\x1b" + found[0], text)
+
+
+def block(tag: bytes, body: bytes) -> bytes:
+    """A block of what is escaped already; the tag ends in its separator."""
+    return b"\x02" + tag + body + b"\x05"
+
+
+def with_prompt(tag: bytes, body: bytes, prompt: bytes) -> bytes:
+    """An answer with the prompt of the next line; an empty prompt is left out, and the host's own is shown."""
+    return block(tag, body + block(b"prompt#", escaped(prompt)) if prompt else body)
+
+
+def verbatim(text: bytes, prompt: bytes = b"") -> bytes:
+    return with_prompt(b"verbatim:", escaped(text), prompt)
+
+
+NO_COMPLETIONS = block(b"scheme:", b"(tuple)")
+
+
+def write(data: bytes, descriptor: int = 1) -> None:
+    while data:
+        data = data[os.write(descriptor, data):]
+
+
+class Signals:
+    """The signals that have come, SIGINT among them: Python writes the number of each to a pipe, so they can be waited for beside
+    what else comes, and none is taken for that of another line."""
+
+    def __init__(self) -> None:
+        self.descriptor, theirs = os.pipe()
+        for end in (self.descriptor, theirs):
+            os.set_blocking(end, False)
+        signal.set_wakeup_fd(theirs)
+        for number in (signal.SIGINT, signal.SIGALRM):
+            signal.signal(number, lambda number, frame: None)
+
+    def take(self) -> bytes:
+        """The numbers of those that have come since the last call."""
+        with contextlib.suppress(BlockingIOError):
+            return os.read(self.descriptor, PIECE)
+        return b""
+
+
+def lines(signals: Signals) -> Iterator[bytes]:
+    """The lines of our input. A LINE SEPARATOR in one stands for a line feed. What has no end is no line: its writer has ended. Where
+    no line is there, a signal has nothing to end; one that has come with a line is left for it."""
+    waiting, rest = select.poll(), b""
+    waiting.register(0, select.POLLIN)
+    waiting.register(signals.descriptor, select.POLLIN)
+    while True:
+        line, end, behind = rest.partition(b"\n")
+        if end:
+            rest = behind
+            yield line.replace(LINE_SEPARATOR, b"\n")
+        elif any(descriptor == 0 for descriptor, _ in waiting.poll()):
+            piece = os.read(0, PIECE)
+            if not piece:
+                return
+            rest += piece
+        else:
+            signals.take()
+
+
+def serve(banner: bytes, answer: Callable[[bytes], Optional[bytes]], signals: Signals) -> None:
+    """Writes the banner, and then the block that answers each line, until there is no line, or None for one."""
+    write(banner)
+    for line in lines(signals):
+        told = NO_COMPLETIONS if line.startswith(REQUEST) else answer(line)
+        if told is None:
+            break
+        write(told)
+
+
+def new_name() -> bytes:
+    """A name of 128 random bits that stands in no text but on purpose."""
+    return b"m" + os.urandom(16).hex().encode()
+
+
+class Said:
+    """What an interpreter says until a mark comes: the first LONGEST bytes, and the last ones, which may be a part of the mark."""
+
+    def __init__(self) -> None:
+        self.kept = bytearray()
+        self.left_out = 0
+        self.last = 0  # where the last piece begins
+
+    def add(self, piece: bytes) -> None:
+        surplus = max(0, len(self.kept) - LONGEST - PIECE)
+        del self.kept[LONGEST:LONGEST + surplus]
+        self.left_out += surplus
+        self.last = len(self.kept)
+        self.kept += piece
+
+    def find(self, mark: bytes) -> int:
+        """Where the mark begins that ends in the last piece, or -1."""
+        return self.kept.find(mark, max(0, self.last + 1 - len(mark)))
+
+    def before(self, end: int) -> bytes:
+        """The text up to a place, and how much of it was left out."""
+        if end <= LONGEST and not self.left_out:
+            return bytes(self.kept[:end])
+        return bytes(self.kept[:LONGEST]) + b"\n[%d bytes more]" % (end + self.left_out - LONGEST)
+
+
+def before_it_runs() -> None:
+    """It dies with its parent, and SIGINT isn't ignored, as it is where a script has started the host by `&`."""
+    ctypes.CDLL(None).prctl(KILL_WITH_PARENT, signal.SIGKILL)
+    signal.signal(signal.SIGINT, signal.SIG_DFL)
+
+
+class Child:
+    """An interpreter that runs, in a group of processes of its own, so that a signal reaches what a line has started, too."""
+
+    def __init__(self, words: List[str], output: Optional[int] = None, **streams: Any) -> None:
+        """`output` is where it is heard, if not by a pipe; `streams` are words of Popen."""
+        self.process: "subprocess.Popen[bytes]" = subprocess.Popen(
+            words, preexec_fn=before_it_runs, start_new_session=True, **streams)
+        if output is None:
+            assert self.process.stdout
+            output = self.process.stdout.fileno()
+        self.output = output
+        self.its_end = os.pidfd_open(self.process.pid)
+        self.signals = Signals()
+        self.interrupts = 0  # how many it was sent
+        self.due: Optional[float] = None  # when it is sent the one that has come for it
+        self.spared_until = 0.0
+        self.alarms = 0
+
+    @contextlib.contextmanager
+    def at_a_line(self, seconds: float = 0.0) -> Iterator[None]:
+        """While a line is evaluated, signals are passed on, and it is interrupted behind these seconds. What comes too late for a line is
+        dropped."""
+        self.spared_until = time.monotonic() + SPARED
+        self.alarms = 0
+        signal.setitimer(signal.ITIMER_REAL, seconds, GRACE)
+        try:
+            yield
+        finally:
+            signal.setitimer(signal.ITIMER_REAL, 0)
+            self.due = None
+            self.signals.take()
+
+    def pass_signals_on(self) -> None:
+        """Sends the interpreter, and what the line has started, SIGINT. One that has just begun a line, or was just interrupted, is spared
+        for a moment: it may not be at the line yet, or be done with it, and some would end by the signal then."""
+        numbers, now = self.signals.take(), time.monotonic()
+        self.alarms += numbers.count(signal.SIGALRM)
+        if self.alarms > 2:
+            self.end()
+        if numbers and self.due is None:
+            self.due = max(now, self.spared_until)
+        if self.due is not None and now >= self.due:
+            self.due, self.spared_until = None, now + SPARED
+            self.interrupts += 1
+            with contextlib.suppress(ProcessLookupError):
+                os.killpg(self.process.pid, signal.SIGINT)
+
+    def said(self, seconds: float = NEVER) -> Optional[bytes]:
+        """What it says next: nothing where it has ended, or nobody reads our own output; None where nothing comes in time."""
+        waiting = select.poll()
+        for descriptor in (self.output, self.its_end, self.signals.descriptor):
+            waiting.register(descriptor, select.POLLIN)
+        waiting.register(1, 0)  # the end of its reader is told without being asked for
+        until = time.monotonic() + seconds
+        found: Set[int] = set()
+        while not found:
+            next_time = until if self.due is None else min(until, self.due)
+            found = {descriptor for descriptor, _ in waiting.poll(max(0.0, 1000 * (next_time - time.monotonic())))}
+            self.pass_signals_on()
+            found.discard(self.signals.descriptor)
+            if not found and time.monotonic() >= until:
+                return None
+        if 1 in found or self.output not in found:  # what it has started may keep its output open
+            return b""
+        try:
+            return os.read(self.output, PIECE)
+        except OSError:  # a terminal whose other end was closed
+            return b""
+
+    def drop_what_was_said(self) -> bool:
+        """Drops what came before a line, as of a thread, which answers nothing; false where the interpreter has ended."""
+        while piece := self.said(0.0):
+            pass
+        return piece is None
+
+    def end(self) -> None:
+        self.process.kill()
+
+
+def run(program: Callable[[], None]) -> None:
+    """Runs an adapter to its end. One whose interpreter isn't there, or whose reader has gone, says so."""
+    try:
+        program()
+    except (BrokenPipeError, FileNotFoundError) as error:
+        sys.exit(str(error))

@@ -1,0 +1,192 @@
+"""Lines for each adapter with what their outputs are, as `show` prints them; `try` evaluates them.
+
+Of an output that begins with `..` it is what the output has somewhere. A line with True behind it is interrupted behind a while.
+"""
+import dataclasses
+from typing import List, Tuple, Union
+
+Case = Union[Tuple[str, str], Tuple[str, str, bool]]
+
+
+@dataclasses.dataclass(frozen=True)
+class Trial:
+    """What is tried of an adapter."""
+
+    words: str  # behind the folder of the adapters
+    program: str  # that has to be here
+    leaving: str  # a line that ends it
+    busy: str  # a line without an end
+    cases: List[Case]
+
+
+def ones(length: int) -> str:
+    """A sum of ones of so many bytes."""
+    return "+".join(["1"] * ((length + 1) // 2)) + (" " if length % 2 == 0 else "")
+
+
+MESSAGE = "  ***   at top-level: %s\n  ***                 %s\n  *** %s"
+
+# From the manual of gp: 2.1 (errors), 2.5 (lines), 2.7 (metacommands), 2.12 (defaults), 3 (functions).
+GP: List[Case] = [
+    ("1 + 1", r"{latex:$\%1 = 2$}"),
+    ("% + 1", r"{latex:$\%2 = 3$}"),
+    ("%1", r"{latex:$\%3 = 2$}"),
+    ("%`", r"{latex:$\%4 = 3$}"),
+    ("x^2 / 3 + 1", r"{latex:$\%5 = \frac{1}{3}\,x^2 + 1$}"),
+    ("(z + 1) / (z - 1)", r"{latex:$\%6 = \frac{z + 1}{z - 1}$}"),
+    ("\\p 9", "   realprecision = 19 significant digits (9 digits displayed)"),
+    ("Pi", r"{latex:$\%7 = 3.14159265$}"),
+    ("Pi / 10^20", r"{latex:$\%8 = 3.14159265 \cdot 10^{-20}$}"),
+    ("2 + 3*I", r"{latex:$\%9 = 2 + 3\,I$}"),
+    ("Mod(3, 7)", r"{latex:$\%10 = 3 \bmod 7$}"),
+    ("[1, 2; 3, 4]", r"{latex:$\%11 = \begin{pmatrix}1&2\\ 3&4\end{pmatrix}$}"),
+    ("[1, 2; 3, 4]^-1", r"{latex:$\%12 = \begin{pmatrix}-2&1\\ \frac{3}{2}&-\frac{1}{2}\end{pmatrix}$}"),
+    ("[5, 6]", r"{latex:$\%13 = \begin{pmatrix}5&6\end{pmatrix}$}"),
+    ("[5, 6]~", r"{latex:$\%14 = \begin{pmatrix}5\\ 6\end{pmatrix}$}"),
+    ("[;]", r"{latex:$\%15 = \begin{pmatrix}\end{pmatrix}$}"),
+    ("default(output, 0)", ""),
+    ("[1, 2; 3, 4]", r"{latex:$\%17 = \begin{pmatrix}1&2\\ 3&4\end{pmatrix}$}"),
+    ('"a b"', '%18 = "a b"'),
+    ("f(x) = x^2", "%19 = (x)->x^2"),
+    ("f(3)", r"{latex:$\%20 = 9$}"),
+    ('["a  b", f]', '%21 = ["a  b",(x)->x^2]'),
+    ("y = 5;", ""),
+    ("y", r"{latex:$\%23 = 5$}"),
+    ("6; 7", r"{latex:$\%24 = 7$}"),
+    ('print("a  b"); 8', "a  b\n" r"{latex:$\%25 = 8$}"),
+    ('print1("a"); print1("b")', "ab"),
+    ("for (i = 1, 3, print(i))", "1\n2\n3"),
+    ("", ""),
+    ("1/0", "  ***   at top-level: 1/0\n  ***                  ^--\n  *** _/_: impossible inverse in gdiv: 0."),
+    ('error("boo")', MESSAGE % ('error("boo")', "^------------", "  user error: boo")),
+    ("g(", "..syntax error"),
+    ("g(1)", "..not a function"),
+    ("{1 + 2", r"{latex:$\%28 = 3$}"),
+    ("{1 + 2}", r"{latex:$\%29 = 3$}"),
+    ("1 + 3 \\", r"{latex:$\%30 = 4$}"),
+    ("h =", "..syntax error"),
+    ("/* a remark", "  ***   Warning: run-away comment. Closing it."),
+    ("1 + 4 /* a remark */", r"{latex:$\%31 = 5$}"),
+    ("1 + 5 \\\\ a remark {", r"{latex:$\%32 = 6$}"),
+    ('"a', "..run-away string"),
+    ('"a}{"', '%33 = "a}{"'),
+    (ones(1_022), r"{latex:$\%34 = 511$}"),
+    (ones(1_023), r"{latex:$\%35 = 512$}"),
+    (ones(1_024), r"{latex:$\%36 = 512$}"),
+    (ones(4_095), r"{latex:$\%37 = 2048$}"),
+    ("{" + ones(4_093) + "}", r"{latex:$\%38 = 2047$}"),
+    ("print(Strchr([65, 5, 66]))", "A\\x05B"),
+    ("print(Strchr([65, 2, 66]))", "A\\x02B"),
+    ("Strchr([2, 5, 27])", '%41 = "\\x02\\x05\\e"'),
+    ("while (1, )", "..user interrupt", True),
+    ("y", r"{latex:$\%42 = 5$}"),
+    ("forprime (p = 2, , print(p))", "..user interrupt", True),
+    ("while (1, )\u2028y = 6", "..user interrupt", True),
+    ("{while (1, )}", "..user interrupt", True),
+    ("y", r"{latex:$\%43 = 5$}"),
+    ("input()", MESSAGE % ("input()", "^-------", "a line has no input of its own")),
+    ("y = input() + 1", "..a line has no input of its own"),
+    ("iferr(input(), E, 9)", r"{latex:$\%44 = 9$}"),
+    ('system("cat"); y', r"{latex:$\%45 = 5$}"),
+    ("k(n) = {\u2028  my(s = 0);\u2028  for (i = 1, n,\u2028    if (i % 2,\u2028      s += i,\u2028      s -= i\u2028    )\u2028  );\u2028  s\u2028}",
+     "%46 = (n)->my(s=0);for(i=1,n,if(i%2,s+=i,s-=i));s"),
+    ("k(10)", r"{latex:$\%47 = -5$}"),
+    ("1 + 1\u20282 + 2;\u20283 + 3", "{latex:$\\%48 = 2$}\n{latex:$\\%50 = 6$}"),
+    ("1 + 1\u20281/0\u20283 + 3", "{latex:$\\%51 = 2$}\n  ***   at top-level: 1/0\n  ***                  ^--\n  *** _/_: impossible inverse in gdiv: 0."),
+    ("a =\u2028  7", r"{latex:$\%52 = 7$}"),
+    ("?sin", "sin(x): sine of x."),
+    ("#", "   timer = 1 (on)"),
+    ("%", r"{latex:$\%53 = 7$}"),
+    ("allocatemem(10^7)", "..new stack size = 10000000"),
+    ("%1", r"{latex:$\%54 = 2$}"),
+]
+
+GP_TEXT: List[Case] = [
+    ("1 + 1", "%1 = 2"), ("x^2 / 3 + 1", "%2 = 1/3*x^2 + 1"), ("[1, 2; 3, 4]", "%3 = \n[1 2]\n\n[3 4]"), ("default(output, 0)", ""),
+    ("[1, 2; 3, 4]", "%5 = [1,2;3,4]"), ('"a b"', '%6 = "a b"'), ('print("a"); 8', "a\n%7 = 8"), ("%1", "%8 = 2"), ("y = 5;", ""), ("{1 + 2", "%10 = 3"),
+    (ones(4_095), "%11 = 2048"), ("1/0", "..impossible inverse in gdiv: 0."), ("Strchr([2, 5, 27])", '%12 = "\\x02\\x05\\e"'),
+    ("while (1, )", "..user interrupt", True), ("y", "%13 = 5"), ("input()", "..a line has no input of its own"),
+    ("1 + 1\u20282 + 2;\u20283 + 3", "%14 = 2\n%16 = 6"), ("[1..3000]", "..2999,3000]"),
+]
+
+PYTHON: List[Case] = [
+    ("1 + 1", "2"), ("_ + 1", "3"), ("x = 1; y = 2; x + y", "3"), ("def f(n):\u2028    return 1 / n\u2028f(2)", "0.5"), ("for i in range(3):\u2028    print(i)\u2028i", "0\n1\n2\n2"),
+    ("raise ValueError('no')", "Traceback (most recent call last):\n  File \"<line 6>\", line 1, in <module>\n    raise ValueError('no')\nValueError: no"),
+    ("f(0)", "..ZeroDivisionError"), ("print(", "..SyntaxError"), ("", ""), ("# a remark", ""), ("None", ""), ("'a'", "'a'"), ("input()", "..EOFError"), ("exit()", "..SystemExit"), ("x", "1"),
+    ("class F:\u2028    def _repr_latex_(self): return '$x^2$'", ""), ("F()", "{latex:$x^2$}"), ("print('a'); F()", "a\n{latex:$x^2$}"), ("print('a', end=''); 2", "a\n2"),
+    ("print('\\x02\\x05')", "\\x02\\x05"), ("'x' * 9000000", "..[1000002 bytes more]"),
+    ("while True: pass", "..KeyboardInterrupt", True), ("import time; time.sleep(100)", "..KeyboardInterrupt", True), ("x", "1"),
+    ("import os; os.system('echo a; echo b >&2; cat')", "a\nb\n0"), ("os.close(1)", ""), ("print('a')", "a"), ("os.fork() and 3", "3"), ("4", "4"),
+]
+
+PROMPTED_PYTHON: List[Case] = [
+    ("1 + 1", "2"), ("for i in range(2): print(i)", "0\n1"), ("", ""), ("1 / 0", "..ZeroDivisionError"), ("print(", "..SyntaxError"), ("x = 'a'", ""),
+    ("x", "'a'"), ("input()", "..EOFError"), ("print('\\x02\\x05')", "\\x02\\x05"), ("len('x' * 9000000)", "9000000"), ("_ + 1", "9000001"),
+    ("x = 1; x", "1"), ("for i in range(2):\u2028    print(i)\u2028x + 1", "0\n1\n2"), ("while True: pass", "..KeyboardInterrupt", True), ("x + _", "3"),
+]
+
+SH: List[Case] = [
+    ("echo a; echo b", "a\nb"), ("x=5", ""), ("echo $x", "5"), ("", ""), ('echo "a', "..unexpected EOF"), ("cat", ""), ("ls /nowhere", "..No such file"),
+    ("printf a", "a"), ("echo 'it'", "it"), ("(exit 7)", ""), ("echo $?", "7"), ("for i in 1 2\u2028do echo $i\u2028done", "1\n2"),
+    ("head -c 9000000 /dev/zero | tr '\\0' a", "..[1000000 bytes more]"), ("while :; do :; done", "", True), ("sleep 100", "", True), ("echo $x", "5"),
+]
+
+BC: List[Case] = [("2 ^ 10", "1024"), ("a = 5", ""), ("a", "5"), ("1 / 0", "..Divide by zero"), ("1 +", "..syntax error"), ("", ""), ("1; 2", "1\n2"), ("last", "2")]
+
+OCTAVE: List[Case] = [
+    ("1 + 1", "ans = 2"), ("ans", "ans = 2"), ("x = [1 2; 3 4]", "..   3   4"), ("x(5, 5)", "..out of bound"), ("disp('a')", "a"), ('disp("a\\tb")', "a\tb"),
+    ("1 +", "..parse error"), ("", ""), ("y = 3;", ""), ("y", "y = 3"), ("for i = 1:2\u2028  disp(i)\u2028end", "1\n2"), ("while true, end", "", True), ("ans + y", "ans = 5"),
+]
+
+R: List[Case] = [
+    ("1 + 1", "[1] 2"), (".Last.value", "[1] 2"), ("x <- c(1, 2)", ""), (".Last.value", "[1] 1 2"), ("", ""), ("# a remark", ""), (".Last.value", "[1] 1 2"),
+    ("x; x", "[1] 1 2\n[1] 1 2"), ("5; .Last.value + 1", "[1] 5\n[1] 6"), ('stop("no")', "..: no"), ("1 +", "..unexpected end"), (".Last.value", "[1] 6"), ('cat("a\\n")', "a"),
+    ("f <- function(n) {\u2028  n + 1\u2028}\u2028f(2)", "[1] 3"), ("while (TRUE) 0", "", True), (".Last.value", "[1] 3"),
+]
+
+GAP: List[Case] = [
+    ("1 + 1", "2"), ("x := Factors(100);", "[ 2, 2, 5, 5 ]"), ("last", "[ 2, 2, 5, 5 ]"), ("1 / 0;", "..must not be zero"), ('Print("a\\nb")', "a\nb"),
+    ("1 +;", "..Syntax error"), ("", ""), ("x", "[ 2, 2, 5, 5 ]"), ("while true do od;", "..user interrupt", True), ("last", "[ 2, 2, 5, 5 ]"),
+]
+
+MAXIMA: List[Case] = [
+    ("diff(x^2, x);", "2*x"), ("%", "2*x"), ("a: 5$", ""), ("%", "5"), ("a", "5"), ("1 / 0", "..undefined"), ("%", "5"), ("1 +", "..incorrect syntax"), ("", ""), ("%", "5"), ("%o1", "2*x"),
+    ("%th(2)", "5"), ('sconcat("a", "b")', '"ab"'), ("1; 2", "1\n2"), ("while true do 0", "..interrupt", True), ("%", "2"), ("f(", "..incorrect syntax"), ('"a', "..end of file"),
+    ("integrate(y^n, y)", "..a line has no input of its own"), ('read("a")', "..false"), ("%", "false"), ("g(n) := block([s: 0],\u2028  for i thru n do s: s + i,\u2028  s)$\u2028g(10)", "55"),
+    ('"a\\"b\\\\"', '"a\\"b\\\\"'),
+]
+
+SINGULAR: List[Case] = [
+    ("1 + 1", "2"), ("_ + 1", "3"), ("ring r = 0, (x, y), dp", ""), ("ideal i = x2, y; i", "i[1]=x2\ni[2]=y"), ("foo", "..`foo` is undefined"), ("1 +;", "..error"), ("", ""),
+    ("std(i);", "_[1]=y\n_[2]=x2"),
+]
+
+GNUPLOT: List[Case] = [
+    ("print 1 + 1", "2"), ("x = 3", ""), ("print x", "3"), ("foo", "..invalid command"), ('print "a\\"b"', 'a"b'), ("", ""), ("y = 4\u2028print x + y", "7"),
+    ("while (1) { z = 1 }", "", True), ("print x", "3"),
+]
+
+YACAS: List[Case] = [
+    ("1 + 1", "2"), ("D(x) x^2", "2*x"), ("foo(", "..closing bracket"), ("a := 3", "3"), ("a", "3"), ("", ""), ("While(True) b := 1;", "..interrupted", True), ("a", "3"),
+]
+
+
+def by_prompted(profile: str, program: str, leaving: str, busy: str, cases: List[Case]) -> Trial:
+    return Trial(f"prompted.py {profile}", program, leaving, busy, cases)
+
+
+TRIALS = {
+    "gp": Trial("gp", "gp", "quit", "while (1, )", GP),
+    "gp_text": Trial("gp --text", "gp", "\\q", "while (1, )", GP_TEXT),
+    "python": Trial("python", "python3", "os._exit(0)", "while True: pass", PYTHON),
+    "prompted_python": by_prompted("python", "python3", "quit()", "while True: pass", PROMPTED_PYTHON),
+    "sh": by_prompted("sh", "bash", "exit", "while :; do :; done", SH),
+    "bc": by_prompted("bc", "bc", "quit", "while (1) a = a + 1", BC),
+    "octave": by_prompted("octave", "octave-cli", "quit", "while true, end", OCTAVE),
+    "R": by_prompted("R", "R", "q()", "while (TRUE) 0", R),
+    "gap": by_prompted("gap", "gap", "quit;", "while true do od;", GAP),
+    "maxima": by_prompted("maxima", "maxima", "quit();", "while true do 0;", MAXIMA),
+    "singular": by_prompted("singular", "Singular", "quit;", "while (1) { int k = 1; kill k; }", SINGULAR),
+    "gnuplot": by_prompted("gnuplot", "gnuplot", "quit", "while (1) { x = 1 }", GNUPLOT),
+    "yacas": by_prompted("yacas", "yacas", "quit", "While(True) a := 1;", YACAS),
+}
