@@ -5,6 +5,7 @@ DESTDIR ?=
 PROGRAM = crates/tmhost/out/tmhost
 PAGES = crates/tmhost/out/pages
 SHARE = $(DESTDIR)$(PREFIX)/share
+ADAPTERS = gp python prompted.py blocks.py python_lines.py
 
 .PHONY: all install uninstall
 
@@ -18,8 +19,15 @@ install: all
 	install -Dm 644 $(PAGES)/tmhost.bash $(SHARE)/bash-completion/completions/tmhost
 	install -Dm 644 $(PAGES)/_tmhost $(SHARE)/zsh/site-functions/_tmhost
 	install -Dm 644 $(PAGES)/tmhost.fish $(SHARE)/fish/vendor_completions.d/tmhost.fish
-	install -D adapters/prompted.py $(SHARE)/tmhost/prompted.py
+	install -d $(SHARE)/tmhost
+	install $(addprefix adapters/,$(ADAPTERS)) $(SHARE)/tmhost
+	install -d $(SHARE)/tmhost/import/tmhost_import
+	install clients/import/tmhost-import $(SHARE)/tmhost/import
+	install -m 644 clients/import/tmhost_import/*.py $(SHARE)/tmhost/import/tmhost_import
+	ln -sf ../share/tmhost/import/tmhost-import $(DESTDIR)$(PREFIX)/bin/tmhost-import
 
 uninstall:
 	rm -f $(DESTDIR)$(PREFIX)/bin/tmhost $(SHARE)/man/man1/tmhost.1 $(SHARE)/bash-completion/completions/tmhost
-	rm -f $(SHARE)/zsh/site-functions/_tmhost $(SHARE)/fish/vendor_completions.d/tmhost.fish $(SHARE)/tmhost/prompted.py
+	rm -rf $(SHARE)/tmhost/__pycache__ $(SHARE)/tmhost/import
+	rm -f $(DESTDIR)$(PREFIX)/bin/tmhost-import
+	rm -f $(SHARE)/zsh/site-functions/_tmhost $(SHARE)/fish/vendor_completions.d/tmhost.fish $(addprefix $(SHARE)/tmhost/,$(ADAPTERS))

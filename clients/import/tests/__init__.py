@@ -1,0 +1,1 @@
+"""Tests of tmhost-import: python3 -B -m unittest discover -s clients/import/tests -t clients/import"""

@@ -1,0 +1,194 @@
+"""Worksheets that are made by the real program, and what is left where none is made."""
+import glob
+import os
+import random
+import resource
+import shutil
+import signal
+import subprocess
+import time
+
+from .support import COMMAND, LINE_END, PROGRAM, ROOT, Case, Done, code, needs_program, notebook
+
+ECHO = f"sh {ROOT}/examples/echo.sh"
+# Programs that stand before tmhost, each a text for sh; `$REAL` is tmhost itself.
+STOPS = "[ $1 = run ] || exec $REAL \"$@\"\nsed '3s/.*/bad/' | $REAL \"$@\"\n"
+WAITS = '[ $1 = run ] || exec $REAL "$@"\nexec sleep 60\n'
+MEANWHILE = '[ $1 = run ] || exec $REAL "$@"\nprintf theirs >$TAKEN\nexec $REAL "$@"\n'
+SILENT = '[ $1 = run ] || exec $REAL "$@"\nexec cat >/dev/null\n'
+# Not the byte 127, which an exported notebook has as four characters.
+LETTERS = "abcxyz 019+-*/=()[]{}?#\"'\\\t\u00e9\u2211\U0001f600\u2028\u2029"
+NAMES = "abcXYZ019_-"
+
+
+def random_sheet(rng: random.Random) -> list[tuple[str, str]]:
+    """The sessions and inputs of some fields."""
+    names = ["".join(rng.choices(NAMES, k=rng.randint(1, 32))) for _ in range(rng.randint(1, 4))]
+    return [(rng.choice(names), "".join(rng.choices(LETTERS, k=rng.choice([0, 3, 40, 900])))) for _ in range(rng.randint(1, 25))]
+
+
+@needs_program
+class Making(Case):
+    def before(self, text: str) -> dict[str, str]:
+        """The environment in which a program stands before tmhost."""
+        os.chmod(self.write("before.sh", "#!/bin/sh\n" + text), 0o700)
+        return {"TMHOST": self.path("before.sh"), "REAL": os.path.abspath(PROGRAM), "TAKEN": self.path("new")}
+
+    def states(self) -> dict[str, tuple[int, int, int]]:
+        """What the system tells of each name in the folder, which changes with what it names."""
+        told = {name: os.lstat(self.path(name)) for name in os.listdir(self.folder)}
+        return {name: (state.st_ino, state.st_mtime_ns, state.st_ctime_ns) for name, state in told.items()}
+
+    def not_made(self, said: str, **environment: str) -> None:
+        """Nothing is made of a good notebook, and nothing is left of it."""
+        before = set(os.listdir(self.folder))
+        done = self.do("new", data=notebook(code("x"), code("y")), **environment)
+        self.assertEqual((done.status, done.out), (1, ""), done.errors)
+        self.assertIn(said, done.errors)
+        self.assertEqual(set(os.listdir(self.folder)), before)
+
+    def test_the_worksheet_is_that_of_the_script(self) -> None:
+        text = notebook(code("x = 1\ny = 2"), code("", "gp"), code(" z "))
+        document = self.write("a.ipynb", text)
+        self.assertEqual(self.do(document, "new").status, 0)
+        self.assertEqual(self.host("export", "script", "new"), self.do("--script", document).out)
+        self.assertEqual(sorted(os.listdir(self.folder)), ["a.ipynb", "new", "new.alt"])
+
+    def test_what_tmhost_exports_comes_back(self) -> None:
+        for seed in range(12):
+            fields = random_sheet(random.Random(seed))
+            names = list(dict.fromkeys(name for name, _ in fields))
+            lines = [f"session {name} plain {ECHO}" for name in names]
+            lines += [f"new {after} {name} {given}" for after, (name, given) in enumerate(fields)]
+            old, new = f"old{seed}", f"new{seed}"
+            self.host("create", old)
+            self.host("run", old, data="\n".join([*lines, "eval 1", "wait"]) + "\n")
+            options = [word for name in names for word in ("--session", f"{name}={ECHO}")]
+            done = self.do(*options, new, data=self.host("export", "notebook", old))
+            self.assertEqual(done.status, 0, done.errors)
+            self.assertEqual(self.host("export", "script", new), self.host("export", "script", old))
+            self.assertIn('"output_type"', self.host("export", "notebook", old))
+            self.assertNotIn('"output_type"', self.host("export", "notebook", new))
+
+    def test_fields_of_several_lines_are_evaluated(self) -> None:
+        self.assertEqual(self.do("new", data=notebook(code("def f(n):\n    return n + 1\n\nx = 4"), code("y = x\nf(y)"))).status, 0)
+        shown = self.host("run", "new", data="eval 1\neval 2\nwait\nprint\n")
+        self.assertTrue(shown.endswith(f"y = x{LINE_END}f(y)\n5\n"), shown)
+
+    def test_what_is_there_stays(self) -> None:
+        self.assertEqual(self.do("sheet", data=notebook(code("x"))).status, 0)
+        self.write("file", "text")
+        self.write("second.alt", "text")
+        os.mkdir(self.path("folder"))
+        os.symlink("nowhere", self.path("link"))
+        before = self.states()
+        for name in ("sheet", "file", "second", "folder", "link"):
+            done = self.do(name, data=notebook(code("y")))
+            self.assertEqual(done.status, 1)
+            self.assertIn("is there already, and stays as it is", done.errors)
+            self.assertEqual(self.states(), before)
+
+    def test_a_run_that_stops(self) -> None:
+        self.not_made("tmhost run ended with status 3: stopped at line 3 (cell 2)", **self.before(STOPS))
+
+    def test_a_run_that_tells_nothing(self) -> None:
+        self.not_made("told something else", **self.before(SILENT))
+
+    def test_programs_that_are_none(self) -> None:
+        self.not_made("can't be started", TMHOST="/nowhere/tmhost")
+        self.not_made("no tmhost on PATH", TMHOST="", PATH="/nowhere")
+        self.not_made("tmhost create ended with status 1", TMHOST="/bin/false")
+
+    def test_a_folder_that_is_not_there(self) -> None:
+        done = self.do("nowhere/new", data=notebook(code("x")))
+        self.assertEqual(done.status, 1)
+        self.assertIn("can't be made: No such file or directory", done.errors)
+
+    def test_files_that_others_make_meanwhile(self) -> None:
+        for taken in ("new", "new.alt"):
+            environment = self.before(MEANWHILE)
+            done = self.do("new", data=notebook(code("x")), **{**environment, "TAKEN": self.path(taken)})
+            self.assertEqual((done.status, done.out), (1, ""), done.errors)
+            self.assertEqual({name: data for name, data in self.files().items() if name != "before.sh"}, {taken: b"theirs"})
+            os.unlink(self.path(taken))
+
+    def test_a_limit_of_the_file_size(self) -> None:
+        """The limit is one that the program's file meets when some of its fields are there."""
+        document = self.write("a.ipynb", notebook(*[code("x" * 4000)] * 20))
+        limit = lambda: resource.setrlimit(resource.RLIMIT_FSIZE, (30_000, 30_000))
+        done = subprocess.run([COMMAND, document, "new"], capture_output=True, cwd=self.folder, env={**os.environ, "TMHOST": PROGRAM}, preexec_fn=limit)
+        self.assertEqual(done.returncode, 1)
+        self.assertIn(f"tmhost run ended with signal {int(signal.SIGXFSZ)}".encode(), done.stderr)
+        self.assertEqual(os.listdir(self.folder), ["a.ipynb"])
+
+    def test_signals(self) -> None:
+        document = self.write("a.ipynb", notebook(code("x")))
+        environment = {**os.environ, **self.before(WAITS)}
+        for number, status in ((signal.SIGINT, 130), (signal.SIGTERM, 143), (signal.SIGHUP, 129)):
+            process = subprocess.Popen([COMMAND, document, "new"], cwd=self.folder, env=environment)
+            while not glob.glob(self.path(".tmhost-import-*/sheet.alt")):
+                self.assertIsNone(process.poll())
+                time.sleep(0.01)
+            process.send_signal(number)
+            self.assertEqual(process.wait(60), status)
+            self.assertEqual(sorted(os.listdir(self.folder)), ["a.ipynb", "before.sh"])
+
+    def test_two_at_once(self) -> None:
+        for turn in range(4):
+            new = f"new{turn}"
+            documents = [self.write(f"{name}.ipynb", notebook(*[code(name)] * 30)) for name in ("a", "b")]
+            environment = {**os.environ, "TMHOST": PROGRAM}
+            two = [subprocess.Popen([COMMAND, document, new], cwd=self.folder, env=environment, stderr=subprocess.DEVNULL) for document in documents]
+            statuses = [process.wait(120) for process in two]
+            self.assertEqual(sorted(statuses), [0, 1])
+            self.assertEqual(self.host("export", "script", new), self.do("--script", documents[statuses.index(0)]).out)
+            self.assertFalse(glob.glob(self.path(".tmhost-import-*")))
+
+
+class Words(Case):
+    def status(self, *words: str) -> Done:
+        return self.do(*words, data=notebook(code("x")))
+
+    def test_refused_words(self) -> None:
+        for line in ("", "a b c", "--script a b", "--nothing a", "--format tex a", "--session a b", "--session =a b"):
+            done = self.status(*line.split())
+            self.assertEqual((done.status, done.out), (2, ""), line)
+        for words in ("", " ", "a\tb", "x" * 1025, "x " * 17):
+            self.assertEqual(self.status("--session", f"python={words}", "new").status, 2, words)
+        self.assertEqual(os.listdir(self.folder), [])
+
+    def test_words_in_any_order(self) -> None:
+        document = self.write("a.ipynb", notebook(code("x")))
+        for words in ([document, "--script"], ["--script", document, "--split"], ["--script", "-"], ["--script"]):
+            self.assertIn("new 0 python3 x\n", self.status(*words).out)
+
+    def test_an_installed_command(self) -> None:
+        """It finds its parts and the adapters beside itself, also through a link."""
+        share, here = self.path("share/tmhost"), os.path.dirname(COMMAND)
+        shutil.copytree(os.path.join(here, "tmhost_import"), os.path.join(share, "import/tmhost_import"))
+        shutil.copy(COMMAND, os.path.join(share, "import"))
+        shutil.copy(os.path.join(ROOT, "adapters/prompted.py"), share)
+        os.symlink("share/tmhost/import/tmhost-import", self.path("link"))
+        done = subprocess.run([self.path("link"), "--script"], input=notebook(code("x")).encode("utf-8"), capture_output=True)
+        words = f"python3 {os.path.realpath(share)}/prompted.py python"
+        self.assertEqual(done.stdout.decode("utf-8"), f"session python3 plain {words}\nnew 0 python3 x\n")
+
+    def test_formats(self) -> None:
+        self.assertEqual(self.do("--script", data="text").errors, "tmhost-import: its name doesn't say what it is: give --format\n")
+        for name, text in (("a.org", "#+begin_src sh\nx\n#+end_src"), ("a.MD", "```sh\nx\n```"), ("b", notebook(code("x")))):
+            self.assertIn(" x\n", self.do("--script", self.write(name, text)).out)
+
+    def test_documents_that_can_not_be_read(self) -> None:
+        for path, said in (("nowhere.md", "No such file"), ("/", "Is a directory")):
+            self.assertIn(f"it can't be read: {said}", self.status(path, "new").errors)
+
+    def test_the_longest_document(self) -> None:
+        longest = b"```sh\nx\n```\n" + b" " * (67_108_864 - 12)
+        self.assertEqual(self.inputs(longest, form="markdown"), [("sh", "x")])
+        self.refused(longest + b" ", "it has more than 67,108,864 bytes", form="markdown")
+
+    def test_a_full_output(self) -> None:
+        document = self.write("a.ipynb", notebook(code("x")))
+        with open("/dev/full", "wb") as full:
+            done = subprocess.run([COMMAND, "--script", document], stdout=full, stderr=subprocess.PIPE)
+        self.assertEqual((done.returncode, done.stderr), (1, b"tmhost-import: the script can't be written: No space left on device\n"))

@@ -1,0 +1,119 @@
+"""Org files and texts with fences."""
+from tmhost_import import fences, org
+
+from .support import LINE_END, Case
+
+# Texts in Org, each with the places, sessions, languages and texts of its blocks.
+ORG: dict[str, list[tuple[int, str | None, str, str]]] = {
+    "#+begin_src python\nx\n#+end_src": [(1, None, "python", "x")],
+    "text\n  #+BEGIN_SRC R :session *R* :results output\n    a\n\n      b\n\t c\n  #+End_Src\n": [(2, "*R*", "R", "a\n\n  b\n     c")],
+    "#+begin_src sh -n 5 :exports both :session a b :x\n1\n#+end_src": [(1, "a b", "sh", "1")],
+    "#+begin_src sh :session none\n1\n#+end_src\n#+begin_src sh :session\n2\n#+end_src": [(1, None, "sh", "1"), (4, None, "sh", "2")],
+    "#+begin_src sh :session a :session b\n1\n#+end_src": [(1, "b", "sh", "1")],
+    "#+begin_src org\n,* a\n,,* b\n  ,#+c\n, d\n,e\n#+end_src": [(1, None, "org", "* a\n,* b\n  #+c\n, d\n,e")],
+    "#+begin_src c -i\n  a\n #+end_src": [(1, None, "c", "  a")],
+    "#+begin_src make\n\ta:\n\t\tb\n \tc\n#+end_src": [(1, None, "make", "a:\n\tb\nc")],
+    "#+begin_src make\n   a\n\tb\n#+end_src": [(1, None, "make", "a\n     b")],
+    "#+begin_src x\n  \n#+end_src": [(1, None, "x", "")],
+    "#+begin_src x :eval no-export\n1\n#+end_src": [(1, None, "x", "1")],
+    "#+begin_example\n#+begin_src x\n#+end_example\n#+begin_src y\n#+end_src": [(4, None, "y", "")],
+    "#+begin_example\n#+begin_src x\n1\n#+end_src": [(2, None, "x", "1")],
+    "#+begin_srcx\n#+begin_src y\r\n1\r\n#+end_src\r\n": [(2, None, "y", "1")],
+}
+# Texts in CommonMark, each with the lines and info strings of its fences, and what stands in them.
+FENCES: dict[str, list[tuple[int, str, list[str]]]] = {
+    "```python\nx\n```": [(1, "python", ["x"])],
+    "~~~~ r  \n~~~\n```\n~~~~~  \n": [(1, "r", ["~~~", "```"])],
+    "   ```x\n   a\n b\n    c\n    ```\n  ```\n": [(1, "x", ["a", "b", " c", " ```"])],
+    "    ```x\n    ```\n": [],
+    "``` a`b\n": [],
+    "text\n```x\n1": [(2, "x", ["1"])],
+    "> ```x\n> 1\n>2\n> ```\n> ~~~y\ntext\n": [(1, "x", ["1", "2"]), (5, "y", [])],
+    "- ```x\n  1\n   2\n  ```\n- text\n\n      ```y\n      ```\n": [(1, "x", ["1", " 2"])],
+    "1.  a\n\n    ~~~x\n    1\n\n    2\n\n```y\n": [(3, "x", ["1", "", "2", ""]), (8, "y", [])],
+    "- a\n  > ```x\n  > 1\n  > ```\n": [(2, "x", ["1"])],
+    "-\n\n  ```x\n a\n": [(3, "x", ["a"])],
+    "-\n  ```x\n  1\n": [(2, "x", ["1"])],
+    "<!--\n```x\n-->\n```y\n": [(4, "y", [])],
+    "<div>\n```x\n\n```y\n": [(4, "y", [])],
+    "<b c='d'>\n```x\n\n```y\n": [(4, "y", [])],
+    "text <pre>\n```x\n": [(2, "x", [])],
+    "* * *\n\t```x\n": [],
+    "*\t```x\n\t1\n": [(1, "x", ["1"])],
+    "a\n2. ```x\n": [],
+    "a\n1. ```x\n": [(2, "x", [])],
+    "```x\r\n1\r2\r\n```": [(1, "x", ["1", "2"])],
+}
+MARKDOWN = "```{python, echo=FALSE}\na\n\n  b\n```\n\n- ~~~ {.R .numberLines}\n  1\n  ~~~\n\n```json\n{}\n```\n\n```\nout\n```\n\n``` Py x=1\nc\n```\n"
+
+
+class Org(Case):
+    def test_blocks(self) -> None:
+        for text, blocks in ORG.items():
+            with self.subTest(text):
+                found = [(cell.place, cell.session, cell.hints[0], cell.text) for cell in org.read(text).cells]
+                self.assertEqual(found, [(f"the block in line {line}", *rest) for line, *rest in blocks])
+
+    def test_blocks_that_are_left_out(self) -> None:
+        blocks = ["python", "R :eval no", "R :eval never :x y", "", "dot :eval yes", "R"]
+        text = "#+header: :eval no\n" + "".join(f"#+begin_src {block}\n1\n#+end_src\n" for block in blocks)
+        done = self.do("--script", "--format", "org", data=text)
+        self.assertEqual([line.split(" ")[:3] for line in done.out.split("\n")[2:4]], [["new", "0", "python"], ["new", "1", "R"]])
+        self.assertEqual(
+            done.errors.split("\n")[:2],
+            [
+                "tmhost-import: left out: blocks with :eval no: 2; blocks without a language: 1; blocks of dot, for which there is no session: 1",
+                "tmhost-import: header arguments beside those of #+begin_src are not read: 1 lines have some",
+            ],
+        )
+
+    def test_sessions_that_org_keeps_apart(self) -> None:
+        blocks = ["python :session s", "R :session s", "python :session s", "python", "python :session *python*", "python :session python"]
+        text = "".join(f"#+begin_src {block}\n1\n#+end_src\n" for block in blocks)
+        self.assertEqual([name for name, _ in self.inputs(text, form="org")], ["s", "s-2", "s", "python", "python-2", "python"])
+
+    def test_blocks_without_an_end(self) -> None:
+        self.refused("\n#+begin_src python\n1\n", "line 2: the block that begins here has no end", form="org")
+        self.refused("#+begin_src python\n* 1\n#+end_src\n", "line 1: the block that begins here has no end before the headline in line 2", form="org")
+
+    def test_many_blocks_without_an_end_that_are_no_code(self) -> None:
+        self.assertEqual(org.read("#+begin_example\n" * 200_000).cells, [])
+
+    def test_a_block_that_no_field_can_hold(self) -> None:
+        self.refused("#+begin_src R\n1\n#+end_src\n#+begin_src R\na\n\fb\n#+end_src\n", "the block in line 4: no field can hold the control character U+000C", form="org")
+
+
+class Fences(Case):
+    def test_fences(self) -> None:
+        for text, blocks in FENCES.items():
+            with self.subTest(text):
+                self.assertEqual([(fence.line, fence.info, fence.lines) for fence in fences.fences_of(text)], blocks)
+
+    def test_languages(self) -> None:
+        self.assertEqual(self.inputs(MARKDOWN, form="markdown"), [("python", f"a{LINE_END}{LINE_END}  b"), ("R", "1"), ("python", "c")])
+        done = self.do("--script", "--format", "markdown", "--session", "json=sh x", data=MARKDOWN)
+        self.assertIn("session json plain sh x\n", done.out)
+        self.assertIn("left out: blocks without a language: 1\n", done.errors)
+
+    def test_a_text_without_code(self) -> None:
+        self.refused("# Title\n\n```julia\n1\n```\n", "nothing in it to make a field of", form="markdown")
+
+    def test_deep_containers(self) -> None:
+        for text in (">" * 100_000 + "```x\n", "- " * 100_000 + "```x\n", " " * 100_000 + "```x\n"):
+            self.assertEqual(fences.fences_of(text), [])
+
+
+class Split(Case):
+    def test_lines_and_those_that_go_on(self) -> None:
+        source = "x = 1\n\ny = 2\nif x:\n    a\n\n    b\nelse:\n    c\n@d\ndef f():\n\treturn [\n\t1\n]\nendpoint = 3\nprint(\n  1\n)\nwhile y\n y--\nendwhile\n"
+        wanted = ["x = 1", "y = 2", "if x:|    a||    b|else:|    c", "@d|def f():|\treturn [|\t1|]", "endpoint = 3", "print(|  1|)", "while y| y--|endwhile"]
+        text = f"```python\n{source}```\n"
+        self.assertEqual([given.replace(LINE_END, "|") for _, given in self.inputs(text, "--split", form="markdown")], wanted)
+
+    def test_places(self) -> None:
+        self.refused("```sh\na\n\nb\x01\n```\n", "the block in line 1, its line 3: no field can hold the control character U+0001", "--split", form="markdown")
+
+    def test_a_long_block_of_short_lines(self) -> None:
+        text = "```sh\n" + "echo a line\n" * 2000 + "```\n"
+        self.refused(text, "the block in line 1: it has 27,997 bytes as an input, and a field has at most 4,095", form="markdown")
+        self.assertEqual(len(self.inputs(text, "--split", form="markdown")), 2000)

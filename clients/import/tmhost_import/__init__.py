@@ -1,0 +1,1 @@
+"""New worksheets of tmhost from notebooks, Org files and texts with fences."""

@@ -1,0 +1,46 @@
+"""What a reader finds in a document: its cells, and what of it is left out."""
+import collections
+import dataclasses
+
+LONGEST_SHOWN = 100  # characters of a name from a document that a message shows
+
+
+class Trouble(Exception):
+    """Why no worksheet is made: one or more lines for the user, each with its place in the document."""
+
+    def __init__(self, *lines: str) -> None:
+        super().__init__("\n".join(lines))
+        self.lines = lines
+
+
+@dataclasses.dataclass(frozen=True)
+class Cell:
+    """A piece of code, and what the document says of the interpreter that evaluates it."""
+
+    place: str
+    text: str  # its lines, between line feeds
+    session: str | None  # the name of its session, where the document gives one
+    hints: tuple[str, ...]  # languages and kernels, the surest first, by which an interpreter is looked for
+    is_optional: bool  # whether it is left out where there is no interpreter for it
+    kind: str  # what it is called where it is left out
+
+
+@dataclasses.dataclass
+class Document:
+    cells: list[Cell] = dataclasses.field(default_factory=list)
+    left_out: collections.Counter[str] = dataclasses.field(default_factory=collections.Counter)
+    notes: list[str] = dataclasses.field(default_factory=list)
+
+
+def plain(text: str) -> str:
+    """A text of a document as a message may have it: on one line, in ASCII, cut where it is long."""
+    return ascii(text[:LONGEST_SHOWN])[1:-1] + (".." if len(text) > LONGEST_SHOWN else "")
+
+
+def shown(text: str) -> str:
+    return f"'{plain(text)}'"
+
+
+def code_text(text: str) -> str:
+    """The lines of a cell, without line ends behind the last."""
+    return text.replace("\r\n", "\n").rstrip("\n")

@@ -1,0 +1,137 @@
+"""The command line of tmhost-import."""
+import argparse
+import os
+import signal
+import sys
+
+from . import fences, notebook, org
+from .cells import Document, Trouble
+from .fields import Sheet
+from .making import make, refuse_taken
+from .sessions import LANGUAGES, given_session
+
+LONGEST_DOCUMENT = 67_108_864  # bytes, as of the standard input of tmhost
+MOST_KINDS = 10  # of what was left out, in a message
+FORMATS = ("notebook", "org", "markdown")
+SUFFIXES = {".ipynb": "notebook", ".org": "org", ".md": "markdown", ".markdown": "markdown", ".rmd": "markdown", ".qmd": "markdown"}
+ABOUT = "Makes a new worksheet of tmhost from a Jupyter notebook, an Org file or a CommonMark text with fences."
+NOTES = f"""
+Each code cell or block becomes a field. Its lines are one input, with U+2028 between them; nothing is evaluated.
+Languages with an interpreter: {", ".join(LANGUAGES)}.
+The program is the one that TMHOST names, or tmhost on PATH. The status is 0 where the worksheet is made, 1 where it
+isn't, which is told, and 2 where the words are refused.
+"""
+
+
+def arguments(words: list[str]) -> argparse.Namespace:
+    usage = "%(prog)s [OPTIONS] [DOCUMENT] NEW\n       %(prog)s [OPTIONS] --script [DOCUMENT]"
+    parser = argparse.ArgumentParser("tmhost-import", usage, ABOUT, NOTES, formatter_class=argparse.RawDescriptionHelpFormatter)
+    parser.add_argument("paths", nargs="*", metavar="DOCUMENT, NEW", help="what is read (- or nothing: standard input), and the new worksheet")
+    parser.add_argument("--format", choices=FORMATS, help="what the document is, where its name doesn't say it")
+    parser.add_argument("--session", action="append", default=[], metavar="NAME=WORDS", help="the words that start the session or the language NAME")
+    parser.add_argument("--kernel", metavar="NAME", help="the kernel of a notebook, in place of the one that it names")
+    parser.add_argument("--split", action="store_true", help="a field for each line, and those behind it that are indented")
+    parser.add_argument("--script", action="store_true", help="write the script in place of making a worksheet")
+    given = parser.parse_intermixed_args(words)
+    if not (0 if given.script else 1) <= len(given.paths) <= (1 if given.script else 2):
+        parser.error("with --script at most a DOCUMENT is wanted" if given.script else "a DOCUMENT and NEW are wanted, or NEW alone")
+    try:
+        given.session = dict(map(given_session, given.session))
+    except Trouble as trouble:
+        parser.error(str(trouble))
+    return given
+
+
+def read_bytes(path: str) -> bytes:
+    try:
+        with open(0 if path == "-" else path, "rb", closefd=path != "-") as file:
+            data = file.read(LONGEST_DOCUMENT + 1)
+    except OSError as error:
+        raise Trouble(f"it can't be read: {error.strerror}") from error
+    if len(data) > LONGEST_DOCUMENT:
+        raise Trouble(f"it has more than {LONGEST_DOCUMENT:,} bytes")
+    return data
+
+
+def text_of(data: bytes) -> str:
+    try:
+        return data.decode("utf-8").removeprefix("\ufeff")
+    except UnicodeDecodeError as error:
+        line = data.count(b"\n", 0, error.start) + 1
+        raise Trouble(f"line {line}: it is no UTF-8 from its byte {error.start} on") from error
+
+
+def format_of(path: str, text: str) -> str:
+    """The format by the name, else by what it begins with."""
+    found = SUFFIXES.get(os.path.splitext(path)[1].lower())
+    if found is None and text.lstrip(" \t\r\n").startswith("{"):
+        found = "notebook"
+    if found is None:
+        raise Trouble("its name doesn't say what it is: give --format")
+    return found
+
+
+def read(given: argparse.Namespace, path: str) -> Document:
+    text = text_of(read_bytes(path))
+    chosen = given.format or format_of(path, text)
+    if chosen == "notebook":
+        return notebook.read(text, given.kernel)
+    return org.read(text) if chosen == "org" else fences.read(text)
+
+
+def say(*lines: str) -> None:
+    for line in lines:
+        print(f"tmhost-import: {line}", file=sys.stderr)
+
+
+def tell(document: Document, sheet: Sheet) -> None:
+    """What of the document is no field, or is another one than it looks there."""
+    kinds = [f"{kind}: {count}" for kind, count in sheet.left_out.items()]
+    more = [f"{len(kinds) - MOST_KINDS} kinds more"] if len(kinds) > MOST_KINDS else []
+    if kinds:
+        say("left out: " + "; ".join(kinds[:MOST_KINDS] + more))
+    say(*document.notes, *sheet.sessions.renamed())
+    if count := sheet.count_of_many_lines():
+        say(f"fields of several lines, with U+2028 between them: {count}")
+
+
+def write_script(sheet: Sheet) -> None:
+    try:
+        with open(1, "wb", closefd=False) as out:
+            out.write("".join(line + "\n" for line in sheet.script()).encode("utf-8"))
+    except OSError as error:
+        raise Trouble(f"the script can't be written: {error.strerror}") from error
+
+
+def do(given: argparse.Namespace) -> None:
+    *before, new = given.paths if not given.script else [*given.paths, ""]
+    path = before[0] if before else "-"
+    if not given.script:
+        refuse_taken(new)
+    document = read(given, path)
+    sheet = Sheet(document, given.session, given.split)
+    tell(document, sheet)
+    if not sheet.fields:
+        raise Trouble("there is nothing in it to make a field of")
+    if given.script:
+        write_script(sheet)
+    else:
+        make(new, sheet)
+
+
+def end_by(number: int, _: object) -> None:
+    """A signal ends the program as an error does, so that nothing is left behind."""
+    sys.exit(128 + number)
+
+
+def main(words: list[str]) -> int:
+    signal.signal(signal.SIGTERM, end_by)
+    signal.signal(signal.SIGHUP, end_by)
+    try:
+        do(arguments(words))
+    except Trouble as trouble:
+        say(*trouble.lines)
+        return 1
+    except KeyboardInterrupt:
+        return 130
+    return 0

@@ -1,0 +1,132 @@
+"""Which interpreter evaluates a cell, and what its session is called."""
+import os
+import re
+
+from .cells import Cell, Trouble, shown
+
+NAME = re.compile(r"[A-Za-z0-9_-]{1,32}")
+LONGEST_NAME = 32
+MOST_SESSIONS = 64
+MOST_WORDS = 16
+LONGEST_WORD = 1024  # bytes
+HERE = os.path.dirname(os.path.realpath(__file__))
+# Where the adapters lie, seen from here: in the repository, and where they may be installed.
+ADAPTERS = tuple(os.path.join(HERE, *folders) for folders in (("..", "..", "..", "adapters"), ("..", "..", "adapters"), ("..", "..")))
+WRAPPER = "prompted.py"
+PROFILES = ("bc", "gap", "gnuplot", "maxima", "octave", "python", "R", "sh", "singular", "yacas")  # of the wrapper
+# Interpreters that write blocks themselves.
+OWN_MODE = {"giac": ("giac", "--texmacs"), "gp": ("gp", "--texmacs"), "macaulay2": ("M2", "--texmacs")}
+LANGUAGES = tuple(sorted([*PROFILES, *OWN_MODE], key=str.lower))
+# Other names that kernels, Org and fences have for them, in lower case.
+ALIASES = {
+    "bash": "sh",
+    "gap-4": "gap",
+    "gap 4": "gap",
+    "ipython": "python",
+    "ir": "R",
+    "m2": "macaulay2",
+    "pari": "gp",
+    "pari-gp": "gp",
+    "pari_jupyter": "gp",
+    "py": "python",
+    "python3": "python",
+    "shell": "sh",
+}
+
+
+def adapter(name: str) -> str | None:
+    """The path of an adapter."""
+    files = [os.path.realpath(os.path.join(folder, name)) for folder in ADAPTERS]
+    return next((file for file in files if os.path.isfile(file)), None)
+
+
+def language_of(hint: str) -> str | None:
+    """The language of the table that goes by this name, in capitals or not."""
+    found = ALIASES.get(hint.lower(), hint)
+    return next((language for language in LANGUAGES if language.lower() == found.lower()), None)
+
+
+def table_words(language: str) -> tuple[str, ...]:
+    """The words for a language of the table: its own adapter, else its profile of the wrapper, else its own mode."""
+    own, wrapper = adapter(language), adapter(WRAPPER)
+    if own:
+        return ("python3", own)
+    if language in OWN_MODE:
+        return OWN_MODE[language]
+    if not wrapper:
+        raise Trouble(f"{WRAPPER} is not where it was installed: say --session {language}=WORDS")
+    return ("python3", wrapper, language)
+
+
+def word_trouble(word: str) -> str | None:
+    """Why no session can be started with a word."""
+    try:
+        code = word.encode("utf-8")
+    except UnicodeEncodeError:
+        return "is no UTF-8"
+    if len(code) > LONGEST_WORD:
+        return f"has more than {LONGEST_WORD} bytes"
+    return "has a space or a control character" if any(byte <= 32 for byte in code) else None
+
+
+def checked(words: tuple[str, ...]) -> tuple[str, ...]:
+    if not 1 <= len(words) <= MOST_WORDS:
+        raise Trouble(f"a session is started with 1 to {MOST_WORDS} words, not {len(words)}")
+    for word in words:
+        if reason := word_trouble(word):
+            raise Trouble(f"the word {shown(word)} of a session {reason}")
+    return words
+
+
+def given_session(option: str) -> tuple[str, tuple[str, ...]]:
+    """The name and the words of an option NAME=WORDS."""
+    name, equals, words = option.partition("=")
+    if not name or not equals:
+        raise Trouble(f"--session {shown(option)} is not of the form NAME=WORDS")
+    return name, checked(tuple(word for word in words.split(" ") if word))
+
+
+class Sessions:
+    """The sessions that the cells so far have asked for. `words` has those of each, by its name."""
+
+    def __init__(self, given: dict[str, tuple[str, ...]]) -> None:
+        self.given = given
+        self.words: dict[str, tuple[str, ...]] = {}
+        self.names: dict[tuple[str, tuple[str, ...]], str] = {}  # by what the document calls it, and its words
+
+    def of_cell(self, cell: Cell) -> str | None:
+        """The name of a cell's session, which is made where it is the first one of it; none where there is no interpreter for it."""
+        given = [(hint, self.given[hint]) for hint in (cell.session or "", *cell.hints) if hint in self.given]
+        known = [(language, table_words(language)) for language in map(language_of, cell.hints) if language]
+        if not given + known:
+            return None
+        name, words = (given + known)[0]
+        return self.named(cell.session or name, checked(words))
+
+    def named(self, wanted: str, words: tuple[str, ...]) -> str:
+        """The session that a document calls so, with these words. Two that it keeps apart have two names."""
+        if (wanted, words) not in self.names:
+            if len(self.words) == MOST_SESSIONS:
+                raise Trouble(f"a worksheet has at most {MOST_SESSIONS} sessions")
+            name = self.free_name(allowed_name(wanted))
+            self.names[wanted, words] = name
+            self.words[name] = words
+        return self.names[wanted, words]
+
+    def free_name(self, name: str) -> str:
+        number, free = 1, name
+        while free in self.words:
+            number += 1
+            free = f"{name[: LONGEST_NAME - len(str(number)) - 1]}-{number}"
+        return free
+
+    def renamed(self) -> list[str]:
+        """What is to be told of sessions that have another name than in the document."""
+        return [f"the session {shown(wanted)} is named {name}" for (wanted, _), name in self.names.items() if wanted != name]
+
+
+def allowed_name(wanted: str) -> str:
+    """The nearest name that a session may have."""
+    if NAME.fullmatch(wanted):
+        return wanted
+    return re.sub(r"[^A-Za-z0-9_-]+", "-", wanted).strip("-")[:LONGEST_NAME] or "session"

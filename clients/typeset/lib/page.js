@@ -1,0 +1,162 @@
+"use strict";
+// The formulas of a page that `tmhost export html` wrote, and the same page with them set.
+//
+// In an output of such a page each `<` begins `<span class="tex">` or its `</span>`, whatever an interpreter wrote. So a span's end
+// needs no guess. All of this works on bytes: what is no formula is copied as it is.
+
+const OUTPUT_START = Buffer.from('<pre class="out"');
+const OUTPUT_END = Buffer.from("</pre>");
+const SPAN_START = Buffer.from('<span class="tex">');
+const SPAN_END = Buffer.from("</span>");
+const HEAD_END = Buffer.from("</head>");
+const MARK = 60; // <
+const LINE_FEED = 10;
+const BLANKS = [32, 9];
+const MOST_SPANS = 100; // a browser cuts a tree at a depth of some 512 elements; MathML may have 200 of them
+const MOST_STEPS = 1000; // bytes and tags beside a span that are looked at
+
+const REFERENCES = new Map([["&amp;", "&"], ["&lt;", "<"], ["&gt;", ">"], ["&quot;", '"'], ["&#39;", "'"]]);
+const ESCAPES = new Map([...REFERENCES].map(([reference, character]) => [character, reference]));
+
+// Fonts that have a table for mathematics, of those that are installed; and what MathML Core leaves to styles.
+const STYLE = `<style>
+math{font-family:"Latin Modern Math","STIX Two Math","Libertinus Math","DejaVu Math TeX Gyre","Cambria Math",math;font-size:1.1em}
+mtext[mathvariant="monospace"]{font-family:ui-monospace,Consolas,monospace}
+mtext[mathvariant*="sans-serif"]{font-family:system-ui,sans-serif}
+mtext[mathvariant*="bold"]{font-weight:bold}
+mtext[mathvariant*="italic"]{font-style:italic}
+mtd[columnalign="left"]{text-align:left}
+mtd[columnalign="right"]{text-align:right;text-align:-webkit-right}
+.tex-over{border-top:.06em solid;padding-top:.12em}
+.tex-under{border-bottom:.06em solid;padding-bottom:.12em}
+</style>
+`;
+
+/**
+ * What stands in an innermost span: its bytes are `start` up to `end` of the page.
+ * @typedef {{start: number, end: number, depth: number, alone: boolean}} Span
+ */
+
+/** @type {(page: Buffer, at: number, word: Buffer) => boolean} */
+function standsAt(page, at, word) {
+  return at >= 0 && word.equals(page.subarray(at, at + word.length));
+}
+
+/**
+ * The innermost spans of one output, which is the whole buffer.
+ * @type {(output: Buffer) => Omit<Span, "alone">[]}
+ */
+function spansWithin(output) {
+  const spans = [];
+  let depth = 0;
+  let start = -1;
+  for (let at = output.indexOf(MARK); at >= 0; at = output.indexOf(MARK, at + 1)) {
+    if (standsAt(output, at, SPAN_START)) {
+      depth += 1;
+      start = at + SPAN_START.length;
+    } else {
+      if (standsAt(output, at, SPAN_END)) {
+        if (start >= 0) spans.push({ start, end: at, depth });
+        depth -= 1;
+      }
+      start = -1;
+    }
+  }
+  return spans;
+}
+
+/**
+ * Whether only blanks and tags of spans stand between a place and the beginning of its line.
+ * @type {(output: Buffer, at: number) => boolean}
+ */
+function isFirst(output, at) {
+  for (let steps = 0; steps < MOST_STEPS; steps += 1) {
+    if (at === 0 || output[at - 1] === LINE_FEED) return true;
+    const tag = [SPAN_START, SPAN_END].find((word) => standsAt(output, at - word.length, word));
+    if (tag) at -= tag.length;
+    else if (BLANKS.includes(output[at - 1])) at -= 1;
+    else return false;
+  }
+  return false;
+}
+
+/**
+ * Whether only blanks and tags of spans stand between a place and the end of its line.
+ * @type {(output: Buffer, at: number) => boolean}
+ */
+function isLast(output, at) {
+  for (let steps = 0; steps < MOST_STEPS; steps += 1) {
+    if (at >= output.length || output[at] === LINE_FEED) return true;
+    const tag = [SPAN_START, SPAN_END].find((word) => standsAt(output, at, word));
+    if (tag) at += tag.length;
+    else if (BLANKS.includes(output[at])) at += 1;
+    else return false;
+  }
+  return false;
+}
+
+/**
+ * The innermost spans of all outputs of a page, in their order.
+ * @type {(page: Buffer) => Span[]}
+ */
+function spansOf(page) {
+  /** @type {Span[]} */
+  const spans = [];
+  for (let at = page.indexOf(OUTPUT_START); at >= 0; at = page.indexOf(OUTPUT_START, at)) {
+    const from = page.indexOf(">", at) + 1;
+    const to = page.indexOf(OUTPUT_END, at);
+    if (from === 0 || to < from) break;
+    const output = page.subarray(from, to);
+    for (const { start, end, depth } of spansWithin(output)) {
+      const alone = isFirst(output, start) && isLast(output, end);
+      if (depth <= MOST_SPANS) spans.push({ start: from + start, end: from + end, depth, alone });
+    }
+    at = to;
+  }
+  return spans;
+}
+
+/**
+ * The text that stands in bytes of a page; null where they are none of an export.
+ * @type {(bytes: Buffer) => string | null}
+ */
+function textOf(bytes) {
+  let escaped;
+  try {
+    escaped = new TextDecoder("utf-8", { fatal: true, ignoreBOM: true }).decode(bytes);
+  } catch {
+    return null;
+  }
+  if (/&(?!amp;|lt;|gt;|quot;|#39;)|[<>"']/.test(escaped)) return null;
+  return escaped.replace(/&[^;]*;/g, (reference) => REFERENCES.get(reference) ?? reference);
+}
+
+/**
+ * A text as a page has it.
+ * @type {(text: string) => string}
+ */
+function escapedText(text) {
+  return text.replace(/[&<>"']/g, (character) => ESCAPES.get(character) ?? character);
+}
+
+/**
+ * The page with other contents of some spans, and a style in its head if there is one of them.
+ * @type {(page: Buffer, made: {span: Span, html: string}[]) => Buffer}
+ */
+function pageWith(page, made) {
+  const head = page.indexOf(HEAD_END);
+  const pieces = [];
+  let at = 0;
+  if (made.length > 0 && head >= 0) {
+    pieces.push(page.subarray(0, head), Buffer.from(STYLE));
+    at = head;
+  }
+  for (const { span, html } of made) {
+    pieces.push(page.subarray(at, span.start), Buffer.from(html));
+    at = span.end;
+  }
+  pieces.push(page.subarray(at));
+  return Buffer.concat(pieces);
+}
+
+module.exports = { spansOf, textOf, escapedText, pageWith, STYLE };

@@ -1,0 +1,115 @@
+"use strict";
+// A headless Chromium, driven through its pipe for tools: what it loads, what its page has, how it looks.
+
+const { spawn } = require("node:child_process");
+const fs = require("node:fs");
+const os = require("node:os");
+const path = require("node:path");
+const { pathToFileURL } = require("node:url");
+
+/** @typedef {Record<string, any>} Told what Chromium's protocol tells */
+
+const CHROMIUM = "/usr/bin/chromium";
+const WORDS = [
+  "--headless", "--no-sandbox", "--disable-gpu", "--hide-scrollbars", "--no-first-run", "--disable-background-networking",
+  "--disable-component-update", "--remote-debugging-pipe",
+];
+
+class Browser {
+  constructor() {
+    this.folder = fs.mkdtempSync(path.join(os.tmpdir(), "typeset-"));
+    this.process = spawn(CHROMIUM, [...WORDS, `--user-data-dir=${this.folder}/profile`, "about:blank"], {
+      stdio: ["ignore", "ignore", "ignore", "pipe", "pipe"],
+    });
+    const [, , , toBrowser, fromBrowser] = /** @type {any[]} */ (this.process.stdio);
+    this.toBrowser = toBrowser;
+    /** @type {Map<number, {resolve: (told: Told) => void, reject: (error: Error) => void}>} */
+    this.asked = new Map();
+    /** @type {{resolve: () => void}[]} */
+    this.loading = [];
+    /** @type {string[]} */
+    this.requests = [];
+    this.rest = "";
+    this.count = 0;
+    fromBrowser.setEncoding("utf8").on("data", (/** @type {string} */ piece) => this.hear(piece));
+  }
+
+  /** @param {string} piece */
+  hear(piece) {
+    const lines = (this.rest + piece).split("\0");
+    this.rest = lines.pop() ?? "";
+    for (const line of lines) this.take(JSON.parse(line));
+  }
+
+  /** @param {Told} told */
+  take(told) {
+    const waiting = this.asked.get(told.id);
+    if (waiting && told.error) waiting.reject(new Error(told.error.message));
+    if (waiting && !told.error) waiting.resolve(told.result);
+    if (told.method === "Network.requestWillBeSent") this.requests.push(told.params.request.url);
+    if (told.method === "Page.javascriptDialogOpening") this.requests.push(`dialog: ${told.params.message}`);
+    if (told.method === "Page.loadEventFired") this.loading.splice(0).forEach(({ resolve }) => resolve());
+  }
+
+  /** @type {(method: string, params?: Told) => Promise<Told>} */
+  ask(method, params = {}) {
+    this.count += 1;
+    const id = this.count;
+    const told = new Promise((resolve, reject) => this.asked.set(id, { resolve, reject }));
+    this.toBrowser.write(`${JSON.stringify({ id, method, params, sessionId: this.session })}\0`);
+    return /** @type {Promise<Told>} */ (told);
+  }
+
+  /** Begins to look at the one tab. */
+  async start() {
+    const { targetInfos } = await this.ask("Target.getTargets");
+    const tab = targetInfos.find((/** @type {Told} */ one) => one.type === "page");
+    this.session = (await this.ask("Target.attachToTarget", { targetId: tab.targetId, flatten: true })).sessionId;
+    for (const domain of ["Page", "Network", "Runtime"]) await this.ask(`${domain}.enable`);
+  }
+
+  /**
+   * Loads a page, in a window of this width.
+   * @type {(page: Buffer | string, width?: number) => Promise<void>}
+   */
+  async load(page, width = 900) {
+    const file = path.join(this.folder, "page.html");
+    fs.writeFileSync(file, page);
+    await this.ask("Emulation.setDeviceMetricsOverride", { width, height: 800, deviceScaleFactor: 1, mobile: false });
+    this.requests.length = 0;
+    const loaded = /** @type {Promise<void>} */ (new Promise((resolve) => this.loading.push({ resolve })));
+    await this.ask("Page.navigate", { url: pathToFileURL(file).href });
+    await loaded;
+  }
+
+  /**
+   * What a JavaScript expression has for value in the page.
+   * @type {(expression: string) => Promise<any>}
+   */
+  async value(expression) {
+    const told = await this.ask("Runtime.evaluate", { expression, returnByValue: true });
+    if (told.exceptionDetails) throw new Error(told.exceptionDetails.exception?.description ?? told.exceptionDetails.text);
+    return told.result.value;
+  }
+
+  /**
+   * A picture of the whole page, as PNG.
+   * @type {(width?: number) => Promise<Buffer>}
+   */
+  async picture(width = 900) {
+    const height = await this.value("document.documentElement.scrollHeight");
+    const clip = { x: 0, y: 0, width, height, scale: 1 };
+    const { data } = await this.ask("Page.captureScreenshot", { format: "png", captureBeyondViewport: true, clip });
+    return Buffer.from(data, "base64");
+  }
+
+  /** Ends it, and removes what it wrote. */
+  async stop() {
+    const ended = new Promise((resolve) => this.process.once("exit", resolve));
+    await this.ask("Browser.close").catch(() => {});
+    await ended;
+    fs.rmSync(this.folder, { recursive: true, force: true, maxRetries: 5, retryDelay: 200 });
+  }
+}
+
+module.exports = { Browser, CHROMIUM };

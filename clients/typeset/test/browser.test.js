@@ -1,0 +1,115 @@
+"use strict";
+// Typeset pages in a headless Chromium: nothing runs, nothing is loaded, and formulas are drawn as formulas.
+
+const assert = require("node:assert/strict");
+const fs = require("node:fs");
+const { test, before, after } = require("node:test");
+const { Browser, CHROMIUM } = require("./browser.js");
+const { FORMULAS } = require("./formulas.js");
+const { HOSTILE } = require("./hostile.js");
+const { pageOf, span } = require("./pages.js");
+const { run } = require("./run.js");
+
+const options = { skip: !fs.existsSync(CHROMIUM) };
+const browser = options.skip ? null : new Browser();
+before(() => browser?.start());
+after(() => browser?.stop());
+
+/** @type {() => Browser} */
+const open = () => /** @type {Browser} */ (browser);
+
+// Runs in the page: what of its outputs is neither text, a span of the export nor MathML.
+const STRANGERS = `[...document.querySelectorAll(".out *")].filter((one) => {
+  const isSpan = one.localName === "span" && one.namespaceURI.endsWith("/xhtml") && one.attributes.length === 1 && one.className === "tex";
+  const isMath = one.namespaceURI.endsWith("/MathML") && !/^(annotation|maction|semantics|mglyph)/.test(one.localName);
+  return !(isSpan || (isMath && [...one.attributes].every(({ name }) => !/^(on|href|src|style|id|xlink)/.test(name))));
+}).map((one) => one.outerHTML)`;
+
+// Runs in the page: all of it but its outputs and styles.
+const AROUND = `(() => {
+  const copy = document.documentElement.cloneNode(true);
+  copy.querySelectorAll(".out, style").forEach((one) => one.replaceChildren());
+  copy.querySelectorAll("style + style").forEach((one) => one.remove());
+  return copy.outerHTML.replace(/\\s+/g, " ");
+})()`;
+
+// Runs in the page: parts of formulas that don't stand as they should.
+const MISPLACED = `(() => {
+  const box = (node) => node.getBoundingClientRect();
+  const middle = (node) => (box(node).top + box(node).bottom) / 2;
+  const rules = {
+    mfrac: ([over, under]) => box(over).bottom <= box(under).top + 1,
+    msup: ([base, script]) => middle(script) < middle(base),
+    msub: ([base, script]) => middle(script) > middle(base),
+    msubsup: ([base, sub, sup]) => middle(sup) < middle(base) && middle(base) < middle(sub),
+    munderover: ([base, under, over]) => box(over).bottom <= box(base).top + 3 && box(base).bottom <= box(under).top + 3,
+    munder: ([base, under]) => middle(base) < middle(under),
+    mover: ([base, over]) => middle(over) < middle(base),
+    mtable: (rows) => rows.every((row, index) => index === 0 || middle(rows[index - 1]) < middle(row)),
+    mtr: (cells) => cells.every((cell, index) => index === 0 || box(cells[index - 1]).right <= box(cell).left + 1),
+    math: (parts) => parts.every((part) => box(part).width > 0 && box(part).height > 0),
+  };
+  return Object.entries(rules).flatMap(([name, stands]) => [...document.querySelectorAll(name)].filter((node) => !stands([...node.children])))
+    .map((node) => node.outerHTML);
+})()`;
+
+test("formulas are drawn as formulas", options, async () => {
+  const page = run(pageOf("formulas", FORMULAS.map(({ from, tex }) => ({ session: from, input: tex, output: span(tex) })))).page;
+  await open().load(page);
+  assert.equal(open().requests.length, 1, open().requests.join(" "));
+  assert.equal(await open().value("document.scripts.length"), 0);
+  assert.ok(await open().value("document.querySelectorAll('math').length") >= FORMULAS.length);
+  assert.deepEqual(await open().value(STRANGERS), []);
+  assert.deepEqual(await open().value(MISPLACED), []);
+});
+
+test("a function's name stands apart, letters have their alphabets, fences are as high as what they hold", options, async () => {
+  const page = run(pageOf("x", ["$\\sin x$", "$\\left|\\frac{a}{b}\\right|$", "$\\overline{a+b}$"].map((tex) => ({ output: span(tex) })))).page;
+  await open().load(page);
+  const [gap, fence, line] = await open().value(`(() => {
+    const box = (name, index = 0) => document.querySelectorAll(name)[index].getBoundingClientRect();
+    const [sin, x] = [box("mi", 0), box("mi", 1)];
+    const bars = [...document.querySelectorAll("mo")].filter((one) => one.textContent === "|").map((one) => one.getBoundingClientRect().height);
+    const over = document.querySelector(".tex-over");
+    return [x.left - sin.right, Math.min(...bars) / box("mfrac").height, getComputedStyle(over).borderTopStyle];
+  })()`);
+  assert.ok(gap > 1, `${gap} pixels`);
+  assert.ok(fence > 0.9, `${fence} of the height`);
+  assert.equal(line, "solid");
+});
+
+for (const width of [900, 360]) {
+  test(`a wide formula scrolls in its output, in a window of ${width} pixels`, options, async () => {
+    const wide = `$${Array.from({ length: 80 }, (_, index) => `\\frac{x^{${index}}}{${index}!}`).join("+")}$`;
+    await open().load(run(pageOf("wide", [{ output: span(wide) }, { output: `%1 = ${span(wide)}` }, { output: span("$x$") }])).page, width);
+    const [scrolls, page, seen, others] = await open().value(`(() => {
+      const outputs = [...document.querySelectorAll(".out")];
+      const scrolls = outputs.map((output) => output.scrollWidth > output.clientWidth);
+      const page = document.documentElement.scrollWidth - innerWidth;
+      const seen = outputs.slice(0, 2).map((output) => {
+        output.scrollLeft = 1e6;
+        return output.querySelector("math").lastElementChild.getBoundingClientRect().right - output.getBoundingClientRect().right;
+      });
+      return [scrolls, page, Math.max(...seen), document.querySelectorAll("mfrac").length];
+    })()`);
+    assert.deepEqual(scrolls, [true, true, false]);
+    assert.ok(page <= 0, `the page is ${page} pixels wider than the window`);
+    assert.ok(seen <= 0, `${seen} pixels of it can't be reached`);
+    assert.equal(others, 160);
+  });
+}
+
+test("hostile formulas: nothing runs, nothing is loaded, all around them stays", options, async () => {
+  const given = pageOf("hostile </title>", HOSTILE.map(({ name, tex }) => ({ session: name, input: tex.slice(0, 100), output: span(tex) })));
+  await open().load(given);
+  const around = await open().value(AROUND);
+  await open().load(run(given).page);
+  assert.equal(open().requests.length, 1, open().requests.join(" "));
+  assert.equal(await open().value("document.scripts.length"), 0);
+  assert.equal(await open().value("document.title"), "hostile </title>");
+  assert.equal(await open().value("document.querySelectorAll('section').length"), HOSTILE.length);
+  assert.deepEqual(await open().value(STRANGERS), []);
+  assert.equal(await open().value(AROUND), around);
+  const [count, set] = [await open().value("document.querySelectorAll('math').length"), HOSTILE.filter(({ shows }) => shows !== undefined)];
+  assert.ok(count <= set.length && count >= set.filter(({ slow }) => !slow).length, `${count} are set`);
+});

@@ -1,0 +1,107 @@
+"use strict";
+// The command's words, streams and statuses.
+
+const assert = require("node:assert/strict");
+const { spawnSync, spawn } = require("node:child_process");
+const fs = require("node:fs");
+const os = require("node:os");
+const path = require("node:path");
+const { test, after } = require("node:test");
+const { pageOf, span, parts } = require("./pages.js");
+const { run, contentsOf, COMMAND } = require("./run.js");
+
+const folder = fs.mkdtempSync(path.join(os.tmpdir(), "typeset-"));
+after(() => fs.rmSync(folder, { recursive: true }));
+const page = pageOf("page", [{ output: span("$x$") }, { output: span("$\\nonsense$") }]);
+
+test("a file and standard input give the same", () => {
+  const file = path.join(folder, "page.html");
+  fs.writeFileSync(file, page);
+  const [fromInput, fromFile] = [run(page), run("", file)];
+  assert.equal(fromInput.status, 0);
+  assert.deepEqual(fromFile.page, fromInput.page);
+  assert.equal(contentsOf(page, fromInput.page)[1], "$\\nonsense$");
+  assert.equal(fromInput.told, "tmhost-typeset: 1 of 2 formulas stay as their TeX\n");
+});
+
+test("--report says why, on one line that a terminal may show", () => {
+  const { told } = run(pageOf("page", [{ output: span("$\\nonsense \u009b\n\u202e$") }]), "--report");
+  assert.equal(told, 'left "$\\\\nonsense \\u{9b}\\n\\u{202e}$": "a character that is not seen"\ntmhost-typeset: 1 of 1 formulas stay as their TeX\n');
+});
+
+test("a page without formulas stays, byte for byte", () => {
+  for (const same of ["", "x", "\0\xff", pageOf("empty", []), pageOf("x", [{ output: "<" }]), '<pre class="out"', '<pre class="out">\n<span class="tex">']) {
+    const bytes = Buffer.from(same, "latin1");
+    const made = run(bytes);
+    assert.deepEqual([made.page, made.status, made.told], [bytes, 0, ""]);
+  }
+});
+
+test("bytes that are no UTF-8 stay, beside formulas and in them", () => {
+  const before = pageOf("\u00e9\u0080", [{ output: `\u00ff${span("$x$")}\u00fe` }, { output: parts.tex_start + "$\u00ff$" + parts.tex_end }]);
+  const bytes = Buffer.from(before, "latin1");
+  const made = run(bytes).page.toString("latin1");
+  assert.ok(made.includes(`\u00ff${parts.tex_start}<math `) && made.includes(`</math>${parts.tex_end}\u00fe`));
+  assert.ok(made.includes(`${parts.tex_start}$\u00ff$${parts.tex_end}`));
+  assert.ok(made.includes("<title>\u00e9\u0080</title>"));
+});
+
+test("formulas outside of outputs are none", () => {
+  const before = pageOf("$x$", [{ session: "$x$", prompt: "$x$", input: '<span class="tex">$x$</span>', output: "$x$" }]);
+  assert.equal(run(before).page.toString(), before);
+});
+
+test("a page twice is a page once", () => {
+  const once = run(page).page;
+  const twice = run(once);
+  assert.deepEqual(twice.page, once);
+  assert.equal(twice.told, "tmhost-typeset: 1 of 1 formulas stay as their TeX\n");
+});
+
+test("without time all stays", () => {
+  assert.equal(run(page, "--seconds", "0").page.toString(), page);
+});
+
+test("faults", () => {
+  assert.deepEqual([run(page, "--katex", "/nowhere.js").status, run(page, "--katex", "/nowhere.js").page.length], [1, 0]);
+  assert.match(run(page, "--katex", "/nowhere.js").told, /KaTeX can't be started from \/nowhere.js/);
+  assert.match(run("", "/nowhere.html").told, /the page can't be read/);
+  assert.equal(run("", "/nowhere.html").status, 1);
+});
+
+test("words that are refused", () => {
+  for (const words of [["--nonsense"], ["a", "b"], ["--seconds", "x"], ["--seconds", "-1"], ["--katex"], ["--report=1"]]) {
+    const { status, page: written, told } = run(page, ...words);
+    assert.deepEqual([status, written.length], [2, 0], words.join(" "));
+    assert.match(told, /^tmhost-typeset: .*\nusage: /s);
+  }
+});
+
+test("--help", () => {
+  const { status, page: written, told } = run("", "--help");
+  assert.deepEqual([status, told], [0, ""]);
+  assert.match(written.toString(), /^usage: tmhost-typeset /);
+});
+
+test("through a link, as it is installed", () => {
+  const link = path.join(folder, "tmhost-typeset");
+  fs.symlinkSync(COMMAND, link);
+  assert.deepEqual(spawnSync(process.execPath, [link], { input: page }).stdout, run(page).page);
+});
+
+test("a reader that goes away", async () => {
+  const large = pageOf("large", [{ output: "x".repeat(1 << 22) }]);
+  const child = spawn(process.execPath, [COMMAND], { stdio: ["pipe", "pipe", "pipe"] });
+  child.stdin.on("error", () => {}).end(large);
+  child.stdout.once("data", () => child.stdout.destroy());
+  const status = await new Promise((resolve) => child.once("exit", resolve));
+  assert.equal(status, 1);
+});
+
+test("a large page", () => {
+  const fields = Array.from({ length: 20_000 }, (_, index) => ({ output: index % 20 === 0 ? span(`$x_{${index}}$`) : "text\n".repeat(10) }));
+  const before = pageOf("large", fields);
+  const { page: made, seconds } = run(before);
+  assert.ok(contentsOf(before, made).every((content) => content.startsWith("<math")));
+  assert.ok(seconds < 60, `${seconds} seconds`);
+});
