@@ -1,235 +1,276 @@
 #!/usr/bin/env python3
-"""Writes docs/THEOREM.md: the headline, and under it each definition that it needs, in the order in which a reader meets them.
+"""Writes docs/THEOREM.md: the theorem, and under it each definition and type that it needs, in the order in which a reader meets them.
 
     theorem/page.py           writes the page, and prints how many definitions and lines it has
     theorem/page.py --check   says whether the page is the one that would be written; status 1 where it isn't
 
-The first part of the page is theorem/head.md, in which {crate.Module.name} stands for a link to a definition. The script reads the text
-of crates/*/specs, not the prover's terms: a word of a definition is linked where the file imports it or defines it.
+The first part of the page is theorem/head.md. In it {crate.Module.name} and {crate::Type} are links to what the page then has, and
+{file crate.Module.name} is one to the file. {clause F N} is the clause N of the host's function F, {law F} a link to the function whose
+contract is a law, and {mutant N} one to an edit that the proofs refuse. Both forms of the command fail where a word of the page's code is of
+the repository and isn't linked.
 """
-import dataclasses
-import glob
+from __future__ import annotations
+
+import collections
 import html
 import os
 import re
 import sys
 
-ROOT = os.path.dirname(os.path.dirname(os.path.abspath(__file__)))
-HEAD = os.path.join(ROOT, "theorem", "head.md")
-PAGE = os.path.join(ROOT, "docs", "THEOREM.md")
-BEGINS = re.compile(r"(?:abbrev |unfoldable )?pub (?:record |data )?([^\s:]+)[\s:]")
-LISTED = re.compile(r"use Rattle\.([\w.]+?)\.specs\.([\w.]+?)\.\{(.*)\}")
-RENAMED = re.compile(r"use Rattle\.([\w.]+?)\.specs\.([\w.]+) as (\w+)")
-WORD = re.compile(r"[A-Za-z_][\w'.]*")
+sys.dont_write_bytecode = True
+from sources import ROOT, Definition, Key, Sources, files, read  # noqa: E402
 
-# Relations that calls hand on from one to the next, whose own words no reader needs, and why.
-HANDED_ON = {
-    ("session_engine.Host", "IsHost"): "`open` gives it, and each `step` and `play` takes it and gives it again for the world behind the events; "
-    "a relation that meant less would make the contracts promise more. What is seen of a host, its replies, its worksheet and its disk, "
-    "is said in the other words of this page.",
-    ("session_engine.Faults", "Failed"): "`step` gives it where an event had a fault, and the law of steps takes it: a crash then ends a turn like any "
-    "other, and the host is closed. It also says which event may have which fault (docs/HOST.md, \"Faults\").",
-    ("session_engine.Host", "EndsAt"): "`open` gives it of the disk that it read, with the host's own end of the journal, and the laws take it. Where the "
-    "journal ends behind an event, and so when it is full, the other words of this page say.",
-    ("recovery.Sheets", "IsSheetImage"): "each call says that a crash at any moment of it leaves such an image, and `open` that on such an image it gives a "
-    "host with this very worksheet, where the disk doesn't fail and memory isn't refused: what is seen of an image is what the next host shows. No "
-    "image is one of two worksheets (`one_sheet`).",
-    ("recovery.Code", "code_of"): "they are bytes of the journal's own format (docs/FORMAT.md), and this page needs their length alone, which says when "
-    "the journal is full. No two ops have one payload (`one_op`).",
-    ("worksheet.Rewrite", "rewrite_of"): "they make this worksheet (`rewrite_makes_the_same`), and this page needs the lengths of their payloads alone, which "
-    "say where a journal that is written anew ends.",
+HEAD = "theorem/head.md"
+PAGE = "docs/THEOREM.md"
+HOST = "crates/session_engine/src/host.rt"
+PLACE = re.compile(r"\{(?:(?P<kind>clause \w+|law|mutant) (?P<word>\w+)|(?P<file>file )?(?P<module>\w+::|\w+(?:\.\w+)*\.)(?P<name>[\w']+))\}")
+
+# Definitions that the page links to in their files. What they say isn't needed: a definition that has them for words is followed by a law
+# that says all a reader needs of it, or REMARKS has the reason.
+NOT_EXPANDED: set[Key] = {
+    ("session_engine.Host", "Lives"),
+    ("session_engine.Host", "HaveFields"),
+    ("journal.Kept", "ImageStandsFor"),
+    ("journal.Area", "ArePayloads"),
+    ("journal.Area", "records"),
+    ("recovery.Code", "IsTyped"),
+    ("recovery.Code", "kind_of"),
+    ("recovery.Code", "parts_of"),
+    ("worksheet.Rewrite", "session_op"),
+    ("worksheet.Rewrite", "fields_ops"),
+    ("plugin_core.Answers", "answers_from"),
+    ("plugin_core.Answers", "asked_places"),
+    ("plugin_core.Past", "ends_from"),
+    ("scheme_text.Told", "told_by_text"),
 }
 
-# Values that are computed, and the law that says what each one is: who reads the law needs no line of how.
-BY_LAW = {
-    ("scheme_text.Told", "told_by"): ("scheme_text.Laws", "ToldAsAValue", "told_as_a_value"),
-    ("plugin_core.Answers", "answers_of"): ("plugin_core.AskPoints", "AnswersByAskPoints", "answers_by_ask_points"),
-    ("journal.Area", "end_of"): ("journal.Laws", "GateBehind", "gate_behind"),
+# Sentences above definitions that lean on what their file has before them, or say more than the definition: words as they are, and those that
+# the page has for them. A sentence without such words stands as it is.
+REWORDED: dict[Key, tuple[str, str]] = {
+    ("host_laws.Turns", "StepsAreTurns"): ("So are single steps. ", ""),
+    ("host_laws.Turns", "EvaluatedAnew"): (
+        ": not where it was Stopped, nor where its interpreter ended before",
+        ", also where it was Stopped or its interpreter ended first",
+    ),
+    ("host_laws.Laws", "may_want"): ("refused so", "refused for want of memory"),
+    ("session_engine.Host", "number_in"): ("its number", "the number of the life of a session that a host runs"),
+    ("recovery.Laws", "OneSheet"): ("and is that", "An image is that"),
+    ("disk_model.Disk", "bytes_on"): ("the same of a disk", "what a read gives of a disk"),
+    ("disk_model.Disk", "Called"): (
+        "as above, and",
+        "the same room, the model kept or not as before, no failure forgotten; and",
+    ),
+    ("sheet_files.DiskFile", "Loses"): (
+        "no sync is forgotten that failed, and one that did is on record",
+        "a sync that succeeds, or that has nothing to bring out, doesn't change whether one failed; of another error nothing is claimed here",
+    ),
+    ("plugin_core.AskPoints", "AnswersByAskPoints"): ("has them and", "has the answers by ask points and"),
+    ("block_tree.Output", "output"): ("the output of a block:", "the output of a block: what it has but prompts and default inputs;"),
+    ("block_tree.Shape", "is_tag_byte"): ("no control character", "none below 32"),
 }
 
+# What follows the sentence of a definition.
+REMARKS: dict[Key, str] = {
+    ("disk_model.Disk", "area_of"): "the bytes of an area",
+    ("session_engine.Host", "IsHost"): "Any invariant would do in its place: `open` establishes it ([stands](#open.stands)), `step` and `play` "
+    "need it and keep it for the world after the events, and other clauses say what is claimed of replies, worksheet and disk.",
+    ("recovery.Sheets", "IsSheetImage"): "Any relation would do in its place: each call that writes establishes it of all that a crash may "
+    "leave, and `open` turns it into a host with this worksheet ([exact](#open.exact)).",
+    ("session_engine.Host", "EndsAt"): "`open` gives it of the disk that it has read (clause `ends`), and the laws take it: so the end of the "
+    "journal in the world is that of the bytes.",
+    ("host_events::", "HostFault"): "[CauseOf](#session_engine.Faults.CauseOf) says which events can have which of them: OutOfMemory also an "
+    "end of a life at which a field keeps the reason.",
+    ("recovery.Code", "code_of"): "This page needs the length alone, which says when the journal is full. No two ops have one payload (the law "
+    "`one_op`).",
+    ("worksheet.Rewrite", "rewrite_of"): "This page needs the lengths of their payloads alone, which say where a journal ends after a checkpoint. "
+    "They make this worksheet (the law `rewrite_makes_the_same`).",
+    ("host_laws.Turns", "EachTurned"): "The ops `found` by a host are any that make the worksheet of the image. It is the worksheet that the "
+    "host before it left, since no image is one of two ([OneSheet](#recovery.Laws.OneSheet)).",
+}
 
-@dataclasses.dataclass
-class Definition:
-    """A definition of `specs`: where it stands, the sentences above it, and its lines."""
+# A law that the page has right after a definition, and the sentence that leads to it.
+LAWS_BESIDE: dict[Key, tuple[Key, str]] = {
+    ("host_laws.Turns", "ClosesAnswer"): (
+        ("host_laws.Laws", "NothingIsShownInFlight"),
+        "LAW adds that a line which waits is the input, as it is now, of a field of its life's session, and that this field shows nothing "
+        "meanwhile.",
+    ),
+    ("scheme_text.Told", "told_by"): (("scheme_text.Laws", "ToldAsAValue"), "It is computed byte by byte; LAW says what it is."),
+    ("plugin_core.Answers", "answers_of"): (("plugin_core.AskPoints", "AnswersByAskPoints"), "It is computed; LAW says which blocks it has."),
+    ("journal.Area", "end_of"): (("journal.Laws", "GateBehind"), "LAW says what it is."),
+}
 
-    key: tuple  # the module and the name
-    file: str
-    line: int
-    sentences: list
-    lines: list
-
-    def code(self):
-        return [line for line in self.lines if not line.lstrip().startswith("--")]
-
-
-@dataclasses.dataclass
-class Module:
-    """A file of `specs`: its definitions, and the names that it takes of others."""
-
-    definitions: list = dataclasses.field(default_factory=list)
-    listed: dict = dataclasses.field(default_factory=dict)  # a name to a definition's key
-    renamed: dict = dataclasses.field(default_factory=dict)  # a prefix to a module
-
-
-def imported(module, line):
-    """Takes an import of a file, where the line is one."""
-    if match := LISTED.match(line):
-        for item in re.split(r",\s*", match[3]):
-            name, _, here = item.partition(" as ")
-            module.listed[(here or name).strip()] = (f"{match[1]}.{match[2]}", name.strip())
-    elif match := RENAMED.match(line):
-        module.renamed[match[3]] = f"{match[1]}.{match[2]}"
-    return line.startswith("use ")
-
-
-def read_module(name, path):
-    """The definitions of a file. One ends at the next empty line that is followed by no line of it."""
-    module, sentences, current = Module(), [], None
-    with open(path, encoding="utf-8") as file:
-        lines = file.read().split("\n")
-    for number, line in enumerate(lines, 1):
-        if imported(module, line) or line.startswith("pub mod "):
-            continue
-        begins = BEGINS.match(line)
-        if begins:
-            current = Definition((name, begins[1]), os.path.relpath(path, ROOT), number, sentences, [line])
-            module.definitions.append(current)
-            sentences = []
-        elif line.startswith("--"):
-            sentences.append(line[2:].strip())
-        elif line.strip() and current:
-            current.lines.append(line)
-        elif not line.strip():
-            sentences = []
-    return module
+# The headings under which definitions stand, each with the modules that it takes.
+SECTIONS: list[tuple[str, tuple[str, ...]]] = [
+    ("The claims", ("host_laws.", "session_engine.Host.", "session_engine.Faults.", "session_engine.Crash.")),
+    ("The disk, and what it stands for", ("disk_model.", "journal.", "recovery.")),
+    ("A file, of which a disk is made", ("sheet_files.",)),
+    ("What events do", ("session_engine.", "host_events.")),
+    ("The worksheet", ("worksheet.",)),
+    ("Which block answers which line", ("plugin_core.",)),
+    ("What a block is", ("block_tree.", "meta_format.", "scheme_text.")),
+]
 
 
-def read_all():
-    modules = {}
-    for path in sorted(glob.glob(os.path.join(ROOT, "crates", "*", "specs", "**", "*.antt"), recursive=True)):
-        parts = os.path.relpath(path, os.path.join(ROOT, "crates"))[: -len(".antt")].split(os.sep)
-        modules[".".join([parts[0], *parts[2:]])] = read_module(".".join([parts[0], *parts[2:]]), path)
-    return modules
+def anchor(key: Key) -> str:
+    return (key[0] + ("" if key[0].endswith("::") else ".") + key[1]).replace("'", "_")
 
 
-class Tree:
-    """All definitions, and which words of one are others."""
+class Page:
+    """What the page has, as links and as entries."""
 
-    def __init__(self):
-        self.modules = read_all()
-        self.definitions = {d.key: d for module in self.modules.values() for d in module.definitions}
-        self.constructors = {(d.key[0], word): d.key for d in self.definitions.values() for word in constructors(d)}
+    def __init__(self, sources: Sources) -> None:
+        self.sources = sources
+        self.roots: list[Key] = []
+        self.clauses: dict[str, Definition] = {}  # by the places of the head
+        self.printed: dict[Key, Definition] = {}
 
-    def found(self, key):
-        return key if key in self.definitions else self.constructors.get(key)
-
-    def meaning(self, module, word):
-        """The definition that a word of a module names, if it is one of the repository's."""
-        first, _, rest = word.partition(".")
-        if rest and first in self.modules[module].renamed:
-            return self.found((self.modules[module].renamed[first], rest))
-        return self.found((module, first)) or self.found(self.modules[module].listed.get(first))
-
-    def words(self, definition):
-        """The words of a definition that name others, each with that."""
-        named = {}
-        if definition.key in HANDED_ON:
-            return named
-        if definition.key in BY_LAW:
-            module, law, _ = BY_LAW[definition.key]
-            return {law: (module, law)}
-        for line in definition.code():
-            for word in WORD.findall(line):
-                key = self.meaning(definition.key[0], word)
-                if key and key != definition.key:
-                    named[word] = key
-        return named
-
-    def order(self, roots):
-        """The definitions that these need, themselves first, level by level."""
-        seen, waiting = {}, list(roots)
+    def gather(self) -> None:
+        """All that the roots need, themselves first, level by level, and a law right after the definition that it is about."""
+        waiting = collections.deque(self.roots)
         while waiting:
-            key = waiting.pop(0)
-            if key not in seen:
-                seen[key] = self.definitions[key]
-                waiting += dict.fromkeys(self.words(self.definitions[key]).values())
-        return list(seen.values())
+            key = waiting.popleft()
+            if key in self.printed or key in NOT_EXPANDED or key in self.sources.values:
+                continue
+            self.printed[key] = self.sources.definitions[key]
+            if key in LAWS_BESIDE:
+                waiting.appendleft(LAWS_BESIDE[key][0])
+            waiting.extend(self.sources.needs(self.printed[key]))
+
+    # Text.
+
+    def link(self, key: Key) -> str:
+        return f"#{anchor(key)}" if key in self.printed else self.sources.definitions[key].place
+
+    def code(self, definition: Definition) -> str:
+        """The lines of a definition as HTML, each of its words a link to what it names."""
+        lines = []
+        for line, tokens in zip(definition.lines, self.sources.tokens(definition)):
+            done, text = 0, ""
+            for token in tokens:
+                if token.key and token.key != definition.key:
+                    text += f'{html.escape(line[done : token.start], quote=False)}<a href="{self.link(token.key)}">{html.escape(token.word)}</a>'
+                    done = token.end
+            lines.append(text + html.escape(line[done:], quote=False))
+        return "<pre>" + "\n".join(lines) + "</pre>"
+
+    def told(self, definition: Definition) -> str:
+        """What is said of a definition: the sentences above it, a remark, the law beside it, and where it is proved."""
+        key = definition.key
+        told = [" ".join(definition.sentences).replace(*REWORDED.get(key, ("", ""))), REMARKS.get(key, "")]
+        if not any(told):
+            sys.exit(f"{definition.file}:{definition.line}: no sentence stands above {key[1]}")
+        if key in LAWS_BESIDE:
+            law, sentence = LAWS_BESIDE[key]
+            told.append(sentence.replace("LAW", f"[{law[1]}](#{anchor(law)})"))
+        if key in self.sources.laws:
+            function, file, line = self.sources.laws[key]
+            told.append(f"Proved: the contract of [`{function}`](../{file}#L{line}).")
+        return " ".join(sentence if sentence.endswith(".") else sentence + "." for sentence in filter(None, told))
+
+    def entry(self, definition: Definition) -> str:
+        key = definition.key
+        head = f'<a id="{anchor(key)}"></a>\n**{key[1]}** ([{key[0].removesuffix("::")}]({definition.place}))'
+        if definition.is_type:
+            return f"{head}{': ' * (key in REMARKS)}{REMARKS.get(key, '')}\n{self.code(definition)}\n"
+        left = [other for other in self.sources.needs(definition) if other not in self.printed and other not in self.sources.values]
+        links = ", ".join(f"[{other[1]}]({self.link(other)})" for other in left)
+        beneath = f"\nNot expanded here: {links}.\n" if left else ""
+        return f"{head}: {self.told(definition)}\n{self.code(definition)}\n{beneath}"
+
+    def values(self) -> str:
+        """The types that contracts see as another value."""
+        needed = {key for definition in self.printed.values() for key in self.sources.needs(definition) if key in self.sources.values}
+        shown = [f"[`{key[1]}`]({self.sources.definitions[key].place}) as {self.value(key)}" for key in sorted(needed, key=lambda key: key[1])]
+        return "Contracts see " + ", ".join(shown) + "."
+
+    def value(self, key: Key) -> str:
+        """What contracts see in the place of a type, with a link to the one definition that it names."""
+        value = self.sources.values[key]
+        named = self.sources.meaning(self.sources.definitions[key].scope, value)
+        return f"[`{value}`]({self.link(named)})" if named else f"`{value}`"
+
+    def strange(self) -> list[str]:
+        """Words of the page's code that are of the repository, or of nobody, and have no link."""
+        shown = [*self.clauses.values(), *self.printed.values()]
+        return [f"{d.file}:{d.line}: {word} isn't linked" for d in shown for word in dict.fromkeys(self.sources.strange(d))]
+
+    # The head.
+
+    def key_of(self, match: re.Match[str]) -> Key:
+        key = (match["module"].removesuffix(".") if "." in match["module"] else match["module"], match["name"])
+        if key not in self.sources.definitions:
+            sys.exit(f"theorem/head.md names {match[0]}, and there is no such definition")
+        return key
+
+    def take(self, match: re.Match[str]) -> str:
+        """Takes for a root what a place of the head names."""
+        if match["kind"] and match["kind"].startswith("clause "):
+            clause = self.sources.clause(HOST, match["kind"].removeprefix("clause "), match["word"])
+            self.clauses[match[0]] = clause
+            self.roots.extend(self.sources.needs(clause))
+        elif match["name"] and not match["file"]:
+            self.roots.append(self.key_of(match))
+        return match[0]
+
+    def put(self, match: re.Match[str]) -> str:
+        """What the page has in such a place."""
+        if match[0] in self.clauses:
+            clause, function = self.clauses[match[0]], match["kind"].removeprefix("clause ")
+            head = f'<a id="{function}.{match["word"]}"></a>\n**{match["word"]}** ([{function}]({clause.place}))'
+            return f"{head}\n{self.code(clause)}"
+        if match["kind"]:
+            found = self.laws() if match["kind"] == "law" else edits()
+            if match["word"] not in found:
+                sys.exit(f"theorem/head.md names {match[0]}, and there is none")
+            return f"[`{match['word']}`](../{found[match['word']]})"
+        key = self.key_of(match)
+        return f"[`{key[1]}`]({self.sources.definitions[key].place if match['file'] else self.link(key)})"
+
+    def laws(self) -> dict[str, str]:
+        return {function: f"{file}#L{line}" for function, file, line in self.sources.laws.values()}
+
+    # The whole.
+
+    def sections(self) -> list[str]:
+        """The definitions under their headings, and then the types."""
+        left = list(self.printed.values())
+        parts = []
+        for title, modules in SECTIONS:
+            taken = [d for d in left if (d.key[0] + ".").startswith(modules)]
+            left = [d for d in left if d not in taken]
+            parts += [f"## {title} ({len(taken)})\n", *map(self.entry, taken)]
+        if others := [d for d in left if not d.is_type]:
+            sys.exit(f"no section has {others[0].key[0]}")
+        return [*parts, f"## Types of the code ({len(left)})\n", self.values() + "\n", *map(self.entry, left)]
+
+    def text(self) -> tuple[str, str]:
+        """The page, and what it counts."""
+        head = read(HEAD)
+        PLACE.sub(self.take, head)
+        self.gather()
+        definitions = [d for d in self.printed.values() if not d.is_type]
+        lines = sum(len(d.lines) for d in definitions)
+        counts = f"{len(definitions)} definitions of {lines:,} lines, and {len(self.printed) - len(definitions)} types of the code"
+        return "\n".join([PLACE.sub(self.put, head).replace("{counts}", counts), *self.sections()]), counts
 
 
-def constructors(definition):
-    if " data " not in " " + definition.lines[0]:
-        return []
-    return [match[1] for line in definition.lines[1:] if (match := re.match(r"\s+(\w+)\s*:", line))]
+def edits() -> dict[str, str]:
+    """The wrong bodies that the proofs must refuse, by name."""
+    return {os.path.basename(file).removesuffix(".edit"): file for file in files("crates/*/must-fail/*.edit")}
 
 
-def anchor(key):
-    return f"{key[0]}.{key[1]}".replace("'", "_")
-
-
-def linked(tree, definition):
-    """The lines of a definition as HTML, each of its words a link to what it names."""
-    named = tree.words(definition)
-
-    def link(match):
-        word = match[0]
-        return f'<a href="#{anchor(named[word])}">{html.escape(word)}</a>' if word in named else html.escape(word)
-
-    return "\n".join(re.sub(r"[A-Za-z_][\w'.]*|[^A-Za-z_]+", link, line) for line in definition.lines)
-
-
-def entry(tree, definition):
-    told = " ".join(definition.sentences) or sys.exit(f"{definition.file}:{definition.line}: no sentence stands above {definition.key[1]}")
-    place = f"../{definition.file}#L{definition.line}"
-    if definition.key in HANDED_ON:
-        told = f"{told.rstrip('.')}. Its words are left out: {HANDED_ON[definition.key]}"
-        return entry_of(definition, place, told, html.escape(definition.lines[0]))
-    if definition.key in BY_LAW:
-        module, law, function = BY_LAW[definition.key]
-        told = f"{told.rstrip('.')}. The law `{function}` says what it is: [{law}](#{anchor((module, law))})"
-        return entry_of(definition, place, told, html.escape(definition.lines[0]))
-    return entry_of(definition, place, told, linked(tree, definition))
-
-
-def entry_of(definition, place, told, code):
-    return f'<a id="{anchor(definition.key)}"></a>\n**{definition.key[1]}** ([{definition.key[0]}]({place})): {told}\n<pre>{code}</pre>\n'
-
-
-def closed(definition):
-    return definition.key in HANDED_ON or definition.key in BY_LAW
-
-
-def page():
-    """The page, and what it counts."""
-    tree = Tree()
-    with open(HEAD, encoding="utf-8") as file:
-        head = file.read()
-    roots = []
-
-    def link(match):
-        module, _, name = match[1].rpartition(".")
-        key = (module, name)
-        if key not in tree.definitions:
-            sys.exit(f"theorem/head.md names {match[1]}, and there is no such definition")
-        roots.append(key)
-        return f"[`{name}`](#{anchor(key)})"
-
-    head = re.sub(r"\{(\w+\.[\w.]+)\}", link, head)
-    definitions = tree.order(roots)
-    lines = sum(1 if closed(definition) else len(definition.lines) for definition in definitions)
-    inside = sum(".inside." in definition.key[0] for definition in definitions)
-    counts = f"{len(definitions)} definitions, {lines} lines; {inside or 'none'} of them inside of a crate"
-    head = head.replace("{counts}", counts)
-    return head + "\n" + "\n".join(entry(tree, definition) for definition in definitions), counts
-
-
-def main(words):
-    text, counts = page()
+def main(words: list[str]) -> int:
+    page = Page(Sources())
+    text, counts = page.text()
+    if strange := page.strange():
+        print("\n".join(strange))
+        return 1
     if words == ["--check"]:
-        with open(PAGE, encoding="utf-8") as file:
-            same = file.read() == text
+        same = read(PAGE) == text
         print("docs/THEOREM.md is " + ("as the definitions are" if same else "another than the definitions: run theorem/page.py"))
         return 0 if same else 1
-    with open(PAGE, "w", encoding="utf-8") as file:
+    with open(os.path.join(ROOT, PAGE), "w", encoding="utf-8") as file:
         file.write(text)
     print(counts)
     return 0
