@@ -8,7 +8,6 @@ const { alphabetOf, inAlphabet } = require("./letters.js");
 /** @typedef {import("./markup.js").Element} Element */
 
 const APPLICATION = "\u2061";
-const THIN = "0.1667em";
 const TOKENS = ["mi", "mn", "mo", "mtext"];
 const ROWS = ["mrow", "mstyle", "mtd", "msqrt", "mpadded", "mphantom"];
 const SCRIPTED = ["msub", "msup", "msubsup", "munder", "mover", "munderover"];
@@ -17,6 +16,8 @@ const LINE = "\u203e";
 const PRIME = "\u2032";
 // Signs that KaTeX writes and no font stretches, and those that fonts do.
 const STRETCHED = new Map([["\u2223", "|"], ["\u2225", "\u2016"], ["^", "\u0302"], ["~", "\u0303"]]);
+/** @type {[string, string][]} */
+const OF_A_FENCE = [["stretchy", "true"], ["lspace", "0em"], ["rspace", "0em"]];
 
 /** @type {(node: Element | string | undefined) => node is Element} */
 function isElement(node) {
@@ -59,9 +60,6 @@ function inLetters(node) {
   if (!alphabet) throw new Refused("a variant that is unknown");
   return element(node.name, rest, node.children.map((child) => (isElement(child) ? child : inAlphabet(child, alphabet))));
 }
-
-/** @type {[string, string][]} */
-const OF_A_FENCE = [["stretchy", "true"], ["lspace", "0em"], ["rspace", "0em"]];
 
 /**
  * A sign: one that is stretched by another that fonts stretch, and a fence stretched, without the space of a relation.
@@ -143,21 +141,25 @@ function space(node) {
   return element("mspace", attributesWithout(node, "mathbackground"), node.children);
 }
 
+/** @type {(node: Element | string | undefined) => boolean} */
+function isApplication(node) {
+  return isElement(node) && node.name === "mo" && textIn(node) === APPLICATION;
+}
+
 /**
  * Whether a function's name ends here, with scripts or without.
- * @type {(node: Element | string) => boolean}
+ * @type {(node: Element | string | undefined) => boolean}
  */
 function endsFunction(node) {
-  if (!isElement(node)) return false;
-  if (node.name === "mo") return textIn(node) === APPLICATION;
-  const base = node.children[0];
-  const last = isElement(base) && base.name === "mrow" ? base.children[base.children.length - 1] : "";
-  return SCRIPTED.includes(node.name) && isElement(last) && endsFunction(last);
+  if (!isElement(node) || !SCRIPTED.includes(node.name)) return isApplication(node);
+  const [base] = node.children;
+  return isElement(base) && base.name === "mrow" && endsFunction(base.children[base.children.length - 1]);
 }
 
 /** @type {(node: Element | string | undefined) => boolean} */
 function isOperand(node) {
-  return isElement(node) && !NO_OPERANDS.includes(node.name) && !/^\s*$/.test(node.name === "mtext" ? textIn(node) : "x");
+  if (!isElement(node) || NO_OPERANDS.includes(node.name)) return false;
+  return node.name !== "mtext" || /\S/.test(textIn(node));
 }
 
 /**
@@ -165,13 +167,11 @@ function isOperand(node) {
  * @type {(children: (Element | string)[]) => (Element | string)[]}
  */
 function withSpaces(children) {
-  const space = element("mspace", [["width", THIN]]);
+  const thin = element("mspace", [["width", "0.1667em"]]);
   return children.flatMap((child, index) => {
-    const next = children[index + 1];
-    const begins = (next !== undefined && isElement(next) && next.name === "mo" && endsFunction(next))
-      || (isElement(child) && child.name !== "mo" && endsFunction(child));
-    const before = begins && isOperand(children[index - 1]) ? [space] : [];
-    return [...before, child, ...(endsFunction(child) && isOperand(next) ? [space] : [])];
+    const [last, next] = [children[index - 1], children[index + 1]];
+    const begins = isApplication(next) || (endsFunction(child) && !isApplication(child));
+    return [...(begins && isOperand(last) ? [thin] : []), child, ...(endsFunction(child) && isOperand(next) ? [thin] : [])];
   });
 }
 
