@@ -25,9 +25,13 @@ install: all
 	install clients/import/tmhost-import $(SHARE)/tmhost/import
 	install -m 644 clients/import/tmhost_import/*.py $(SHARE)/tmhost/import/tmhost_import
 	ln -sf ../share/tmhost/import/tmhost-import $(DESTDIR)$(PREFIX)/bin/tmhost-import
+	install -d $(SHARE)/tmhost/typeset/lib
+	install clients/typeset/tmhost-typeset $(SHARE)/tmhost/typeset
+	install -m 644 clients/typeset/lib/*.js $(SHARE)/tmhost/typeset/lib
+	ln -sf ../share/tmhost/typeset/tmhost-typeset $(DESTDIR)$(PREFIX)/bin/tmhost-typeset
 
 uninstall:
 	rm -f $(DESTDIR)$(PREFIX)/bin/tmhost $(SHARE)/man/man1/tmhost.1 $(SHARE)/bash-completion/completions/tmhost
-	rm -rf $(SHARE)/tmhost/__pycache__ $(SHARE)/tmhost/import
-	rm -f $(DESTDIR)$(PREFIX)/bin/tmhost-import
+	rm -rf $(SHARE)/tmhost/__pycache__ $(SHARE)/tmhost/import $(SHARE)/tmhost/typeset
+	rm -f $(DESTDIR)$(PREFIX)/bin/tmhost-import $(DESTDIR)$(PREFIX)/bin/tmhost-typeset
 	rm -f $(SHARE)/zsh/site-functions/_tmhost $(SHARE)/fish/vendor_completions.d/tmhost.fish $(addprefix $(SHARE)/tmhost/,$(ADAPTERS))
