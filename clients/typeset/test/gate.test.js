@@ -65,6 +65,14 @@ test("markup that is not of the list", () => {
   assert.match(told, new RegExp(`${REFUSED.length} of ${REFUSED.length} formulas stay`));
 });
 
+test("a formula that is too long when it is laid out", () => {
+  const file = fake("long", `return ${JSON.stringify(whole(`<mrow>${'<mo fence="true">(</mo>'.repeat(60)}</mrow>`))};`);
+  const before = pageOf("long", [{ output: span("$1$") }, { output: span(`$${"1".repeat(50)}$`) }]);
+  const [short, long] = contentsOf(before, run(before, "--katex", file).page);
+  assert.equal(short, "$1$");
+  assert.equal(readContent(long).map(textOf).join(""), "(".repeat(60));
+});
+
 test("what stands around a formula", () => {
   const good = whole("<mi>x</mi>");
   const told = [
