@@ -78,6 +78,13 @@ impl<T> Queue<T> {
         self.values.pop_front()
     }
 
+    /// The value at this place, from 0.
+    pub fn get(&self, place: usize) -> Option<&T>
+        ensures { option_copied result ≡ slice_get self.now place }
+    {
+        self.values.get(place)
+    }
+
     /// The first value.
     pub fn front(&self) -> Option<&T>
         ensures { option_copied result ≡ slice_get self.now 0 }

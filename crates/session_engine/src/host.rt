@@ -8,12 +8,12 @@ ghost use Rattle.worksheet.specs.Ops.{sheet_of};
 ghost use Rattle.worksheet.specs.Checks.{Allowed};
 ghost use Rattle.recovery.specs.Sheets.{IsSheetImage, TellsOfSheet};
 ghost use Rattle.plugin_core.specs.Items.{prompt_of};
-ghost use Rattle.session_engine.specs.World.{World, life_of, world_at_opening, sheet_in, waiting_in};
+ghost use Rattle.session_engine.specs.World.{World, in_flight, life_of, world_at_opening, sheet_in, waiting_in};
 ghost use Rattle.session_engine.specs.Host.{EndsAt, HostGivesSheet, IsHost, Took, disk_of_opening, number_in};
 ghost use Rattle.session_engine.specs.Faults.{Failed};
 
 use crate::engine::Engine;
-use crate::table::place_of;
+use crate::table::{place_of, waits};
 use disk_model::Disk;
 use host_events::{Command, Event, HostFault, Outcome};
 use journal::{OpenCause, OpenFault};
@@ -188,6 +188,14 @@ impl<D: Disk> Host<D> {
             }
             None => None,
         }
+    }
+
+    /// Whether the line of the field with this number waits for an answer, be it sent or not. After a
+    /// fault nothing is claimed of it.
+    pub fn is_waiting(&self, id: u32) -> bool
+        ensures { (w : World) → IsHost self.now w → result ≡ in_flight w id }
+    {
+        waits(&self.engine.lives, id)
     }
 
     /// The prompt that a line of this session would have if it were asked now, where a life of it goes
