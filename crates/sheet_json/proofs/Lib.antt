@@ -9,3 +9,4 @@ pub mod ReadFields
 pub mod PlainValues
 pub mod Apart
 pub mod Wholly
+pub mod NoFloats

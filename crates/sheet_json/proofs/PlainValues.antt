@@ -137,6 +137,7 @@ reply_plain line told.bad l s = an_object (a_member (a_count l) a_type)
 reply_plain line told.nothing l s = an_object (a_member (a_count l) a_type)
 reply_plain line (told.waited true) l s = an_object (a_member (a_count l) (a_member a_text a_type))
 reply_plain line (told.waited false) l s = an_object (a_member (a_count l) (a_member a_text a_type))
+reply_plain line (told.interrupted outcome) l s = an_object (a_member (a_count l) (a_member a_text a_type))
 
 lost_plain : (i : Item) → IsSoundItem i → IsPlain 2 (lost_data i)
 lost_plain (item.Line id line) s = an_object (a_member (a_count s) (a_member (some_bytes line) no_more))
@@ -196,4 +197,4 @@ tellings_are_plain (told.sheet line ids next sessions) s =
 tellings_are_plain (told.whole ids next sessions) s = an_object (a_member (ids_plain ids s.0) (a_member (a_count s.1) (a_member (sessions_plain sessions s.2) a_type)))
 tellings_are_plain (told.fault n name None) s = an_object (a_member a_text (a_member (a_count s) a_type))
 tellings_are_plain (told.fault n name (Some offset)) s = an_object (a_member a_text (a_member (a_count s.0) (a_member (a_count s.1) a_type)))
-tellings_are_plain (told.end lines) s = an_object (a_member (a_count s) a_type)
+tellings_are_plain told.end s = an_object a_type

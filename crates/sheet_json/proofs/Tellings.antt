@@ -63,6 +63,7 @@ replies_read_back line told.bad = refl
 replies_read_back line told.nothing = refl
 replies_read_back line (told.waited true) = refl
 replies_read_back line (told.waited false) = refl
+replies_read_back line (told.interrupted outcome) = refl
 
 tree_back : (b : Tree) → HasBytes b → tree_in (tree_data b) ≡ Some b
 tree_back = blocks_read_back

@@ -43,6 +43,7 @@ reply_data line told.bad = object (member (codes "line") (count line) (typed (co
 reply_data line told.nothing = object (member (codes "line") (count line) (typed (codes "nothing")))
 reply_data line (told.waited true) = object (member (codes "line") (count line) (member (codes "over") (string (codes "time")) (typed (codes "waited"))))
 reply_data line (told.waited false) = object (member (codes "line") (count line) (member (codes "over") (string (codes "idle")) (typed (codes "waited"))))
+reply_data line (told.interrupted outcome) = object (member (codes "line") (count line) (member (codes "outcome") (string outcome) (typed (codes "interrupted"))))
 
 abbrev pub stopped_data : ℕ → List ℕ → ℕ → List Item → Data
 stopped_data line session life lost =
@@ -108,7 +109,7 @@ sessions_data sessions = array (items_of (map session_data sessions))
 
 -- All that is told.
 abbrev pub telling_data : Telling → Data
-telling_data told.hello = object (member (codes "format") (count 1) (member (codes "program") (string (codes "tmhost")) (member (codes "protocol") (count 1) (member (codes "type") (string (codes "hello")) (member (codes "version") (string (codes "0")) no_members)))))
+telling_data told.hello = object (member (codes "format") (count 1) (member (codes "program") (string (codes "tmhost")) (member (codes "protocol") (count 1) (member (codes "type") (string (codes "hello")) (member (codes "version") (string (codes "0.1.0")) no_members)))))
 telling_data (told.reply line r) = reply_data line r
 telling_data (told.stopped line session life lost) = stopped_data line session life lost
 telling_data (told.event session life e) = event_data session life e
@@ -119,4 +120,4 @@ telling_data (told.sheet line ids next sessions) = object (member (codes "fields
 telling_data (told.whole ids next sessions) = object (member (codes "fields") (ids_data ids) (member (codes "next") (count next) (member (codes "sessions") (sessions_data sessions) (typed (codes "sheet")))))
 telling_data (told.fault n name None) = object (member (codes "name") (string name) (member (codes "number") (count n) (typed (codes "fault"))))
 telling_data (told.fault n name (Some offset)) = object (member (codes "name") (string name) (member (codes "number") (count n) (member (codes "offset") (count offset) (typed (codes "fault")))))
-telling_data (told.end lines) = object (member (codes "lines") (count lines) (typed (codes "end")))
+telling_data told.end = object (typed (codes "end"))

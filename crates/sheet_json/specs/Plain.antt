@@ -42,6 +42,7 @@ IsSoundReply (told.refused why) = Unit {0}
 IsSoundReply told.bad = Unit {0}
 IsSoundReply told.nothing = Unit {0}
 IsSoundReply (told.waited over) = Unit {0}
+IsSoundReply (told.interrupted outcome) = Unit {0}
 
 abbrev pub IsSoundEvent : EventTold → Type 0
 IsSoundEvent (told.banner output) = is_block output ≡ true
@@ -78,4 +79,4 @@ IsSoundTelling (told.sheet line ids next sessions) = Is64 line × AllByRecursion
 IsSoundTelling (told.whole ids next sessions) = AllByRecursion Is64 ids × Is64 next × AllByRecursion IsSoundSession sessions
 IsSoundTelling (told.fault n name None) = Is64 n
 IsSoundTelling (told.fault n name (Some offset)) = Is64 n × Is64 offset
-IsSoundTelling (told.end lines) = Is64 lines
+IsSoundTelling told.end = Unit {0}

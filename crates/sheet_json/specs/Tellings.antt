@@ -38,6 +38,8 @@ pub data Reply : Type 0 where
   bad : Reply
   nothing : Reply
   waited : Bool → Reply
+  -- what came of an interrupt, as a word
+  interrupted : List ℕ → Reply
 
 -- what comes of an interpreter
 pub data EventTold : Type 0 where
@@ -64,5 +66,5 @@ pub data Telling : Type 0 where
   whole : List ℕ → ℕ → List SessionShown → Telling
   -- the number of a fault and its name, and the offset of a damage
   fault : ℕ → List ℕ → Option ℕ → Telling
-  -- how many lines were taken
-  end : ℕ → Telling
+  -- the input came to its end
+  end : Telling

@@ -100,7 +100,8 @@ reply_named name d =
     cond (bytes_eq name (codes "done")) (Some told.done) (cond (bytes_eq name (codes "made")) (option_map (λ id. told.made id) (member_in count_in (codes "id") d))
     (cond (bytes_eq name (codes "asked")) (option_map (λ life. told.asked life) (member_in count_in (codes "life") d)) (cond (bytes_eq name (codes "refused")) (option_map (λ why. told.refused why) (member_in refusal_in (codes "number") d))
     (cond (bytes_eq name (codes "bad")) (Some told.bad) (cond (bytes_eq name (codes "nothing")) (Some told.nothing)
-    (cond (bytes_eq name (codes "waited")) (option_map (λ over. told.waited over) (option_and_then over_named (member_in as_str (codes "over") d))) None))))))
+    (cond (bytes_eq name (codes "waited")) (option_map (λ over. told.waited over) (option_and_then over_named (member_in as_str (codes "over") d)))
+    (cond (bytes_eq name (codes "interrupted")) (option_map (λ outcome. told.interrupted outcome) (member_in as_str (codes "outcome") d)) None)))))))
 
 -- of an interpreter
 abbrev pub event_named : List ℕ → Data → Option EventTold

@@ -11,14 +11,14 @@ use std::alloc::{AllocError, Global};
 pub fn hello_value(alloc: Global) -> Result<Value, AllocError>
     ensures { IfOk result (λ value. view value ≡ telling_data told.hello) }
 {
-    json!(in alloc; {"format": 1, "program": "tmhost", "protocol": 1, "type": "hello", "version": "0"})
+    json!(in alloc; {"format": 1, "program": "tmhost", "protocol": 1, "type": "hello", "version": "0.1.0"})
 }
 
-/// The end of the input, behind so many lines.
-pub fn end_value(alloc: Global, lines: u64) -> Result<Value, AllocError>
-    ensures { IfOk result (λ value. view value ≡ telling_data (told.end lines)) }
+/// The last object, where the input came to its end.
+pub fn end_value(alloc: Global) -> Result<Value, AllocError>
+    ensures { IfOk result (λ value. view value ≡ telling_data told.end) }
 {
-    json!(in alloc; {"lines": lines, "type": "end"})
+    json!(in alloc; {"type": "end"})
 }
 
 /// A fault, and the offset of a damage.

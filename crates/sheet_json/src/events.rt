@@ -10,7 +10,7 @@ ghost use Rattle.sheet_text.specs.Blocks as printed;
 
 use crate::blocks::block_value;
 use crate::bytes::bytes_value;
-use block_tree::{Block, Octets, Reason};
+use block_tree::{Block, Octets, Queue, Reason};
 use plugin_core::Item;
 use scheme_text::Completions;
 use serde_json::{Value, json};
@@ -152,15 +152,17 @@ fn lost_value(alloc: Global, item: &Item) -> Result<Value, AllocError>
     }
 }
 
-#[tactic(auto, using(crate::proofs::Lists::list_steps))]
+#[tactic(auto, using(crate::proofs::Lists::queue_steps))]
 /// The items that were lost, in order.
-fn losts_value(alloc: Global, lost: &[Item]) -> Result<Value, AllocError>
+fn losts_value(alloc: Global, lost: &Queue<Item>) -> Result<Value, AllocError>
     ensures { IfOk result (λ value. view value ≡ json.losts_data lost.now) }
 {
     let mut values = Vec::new(alloc);
-    for item in lost {
-        let value = lost_value(alloc, item)?;
-        values.push(value)?;
+    for place in 0..lost.len() {
+        if let Some(item) = lost.get(place) {
+            let value = lost_value(alloc, item)?;
+            values.push(value)?;
+        }
     }
     Ok(Value::Array(values))
 }
@@ -171,7 +173,7 @@ pub fn ended_value(
     session: &[u8],
     life: u32,
     why: Reason,
-    lost: &[Item],
+    lost: &Queue<Item>,
 ) -> Result<Value, AllocError>
     ensures { IfOk result (λ value. view value
         ≡ telling_data (told.event session.now life (told.ended why lost.now))) }
@@ -188,7 +190,7 @@ pub fn stopped_value(
     line: u64,
     session: &[u8],
     life: u32,
-    lost: &[Item],
+    lost: &Queue<Item>,
 ) -> Result<Value, AllocError>
     ensures { IfOk result (λ value. view value
         ≡ telling_data (told.stopped line session.now life lost.now)) }

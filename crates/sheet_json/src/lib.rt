@@ -20,10 +20,11 @@ pub use events::{
     answered_value, banner_value, completed_value, default_value, ended_value, stopped_value,
 };
 pub use fields::{asked_field_value, part_value, shown_field_value};
-pub use lines::line_bytes;
+pub use lines::{line_bytes, told_bytes};
 pub use replies::{
-    asked_value, bad_value, done_value, made_value, nothing_value, refused_value, waited_value,
+    asked_value, bad_value, done_value, interrupted_value, made_value, nothing_value,
+    refused_value, waited_value,
 };
-pub use sheets::whole_value;
+pub use sheets::{session_value, sheet_value, whole_value};
 pub use told::{closed_value, reply_value};
 pub use whole::sheet_bytes;

@@ -6,6 +6,9 @@ ghost use Rattle.serde_json.specs.View.{view};
 ghost use Rattle.serde_json.specs.Written.{has_float};
 ghost use Rattle.sheet_json.specs.Lines.{HasCounts, IsWithinLine, json_line};
 ghost use Rattle.sheet_json.specs.Lines as lines;
+ghost use Rattle.sheet_json.specs.Objects.{telling_data};
+ghost use Rattle.sheet_json.specs.Sheets.{telling_line};
+ghost use Rattle.sheet_json.specs.Tellings.{Telling};
 
 use serde_json::Value;
 use std::alloc::{AllocError, Global};
@@ -22,4 +25,11 @@ pub fn line_bytes(alloc: Global, value: &Value) -> Result<Vec<u8>, AllocError>
     let mut bytes = value.to_vec(alloc)?;
     bytes.push(b'\n')?;
     Ok(bytes)
+}
+
+/// The line of what is told.
+pub fn told_bytes(alloc: Global, value: &Value) -> Result<Vec<u8>, AllocError>
+    ensures { (t : Telling) → view value.now ≡ telling_data t → IfOk result (λ bytes. bytes.items ≡ telling_line t) }
+{
+    line_bytes(alloc, value)
 }

@@ -52,6 +52,13 @@ pub fn nothing_value(alloc: Global, line: u64) -> Result<Value, AllocError>
     json!(in alloc; {"line": line, "type": "nothing"})
 }
 
+/// The interpreter of a session was interrupted, or not: what came of it, as a word.
+pub fn interrupted_value(alloc: Global, line: u64, outcome: &str) -> Result<Value, AllocError>
+    ensures { IfOk result (λ value. view value ≡ telling_data (told.reply line (told.interrupted outcome.now))) }
+{
+    json!(in alloc; {"line": line, "outcome": outcome, "type": "interrupted"})
+}
+
 /// A wait is over, since no item waits, or since its time is over.
 pub fn waited_value(alloc: Global, line: u64, timed_out: bool) -> Result<Value, AllocError>
     ensures { IfOk result (λ value. view value ≡ telling_data (told.reply line (told.waited timed_out))) }

@@ -1,10 +1,12 @@
 //! A worksheet as lines of JSON.
-ghost use Rattle.std.specs.Prelude.{◌≡◌, IfOk};
+ghost use Rattle.std.specs.Prelude.{◌≡◌, IfOk, List, map};
 ghost use Rattle.serde_json.specs.View.{view};
 ghost use Rattle.sheet_json.specs.Objects.{telling_data};
 ghost use Rattle.sheet_json.specs.Objects as json;
 ghost use Rattle.sheet_json.specs.Shown as shown;
 ghost use Rattle.sheet_json.specs.inside.Rows as rows;
+ghost use Rattle.sheet_json.specs.Tellings.{SessionShown};
+ghost use Rattle.sheet_json.specs.Tellings as told;
 
 use crate::bytes::bytes_value;
 use crate::events::texts_value;
@@ -12,13 +14,30 @@ use serde_json::{Value, json};
 use std::alloc::{AllocError, Global};
 use worksheet::{Session, Sheet};
 
-/// A session of a worksheet that no host has.
-fn session_value(alloc: Global, session: &Session) -> Result<Value, AllocError>
-    ensures { IfOk result (λ value. view value ≡ json.session_data (shown.still_session session.now)) }
+/// The number of a life, where one goes on.
+fn life_value(alloc: Global, life: Option<u32>) -> Result<Value, AllocError>
+    ensures { IfOk result (λ value. view value ≡ json.life_data life) }
 {
+    match life {
+        None => json!(in alloc; null),
+        Some(number) => json!(in alloc; number),
+    }
+}
+
+/// A session, with the number of its life where one goes on, and with the number of items that wait in it.
+pub fn session_value(
+    alloc: Global,
+    session: &Session,
+    life: Option<u32>,
+    waiting: usize,
+) -> Result<Value, AllocError>
+    ensures { IfOk result (λ value. view value
+        ≡ json.session_data (shown.session_shown life waiting session.now)) }
+{
+    let life = life_value(alloc, life)?;
     let name = bytes_value(alloc, session.name.as_slice())?;
     let words = texts_value(alloc, session.words.as_slice())?;
-    json!(in alloc; {"life": null, "name": name, "tab": session.tab, "waiting": 0, "words": words})
+    json!(in alloc; {"life": life, "name": name, "tab": session.tab, "waiting": waiting, "words": words})
 }
 
 /// The sessions, in the order of their making.
@@ -29,7 +48,7 @@ fn sessions_row(alloc: Global, sheet: &Sheet) -> Result<Value, AllocError>
     let mut values = Vec::new(alloc);
     let mut sessions = sheet.sessions();
     while let Some(session) = sessions.next() {
-        let value = session_value(alloc, session)?;
+        let value = session_value(alloc, session, None, 0)?;
         values.push(value)?;
     }
     Ok(Value::Array(values))
@@ -61,6 +80,23 @@ fn ids_value(alloc: Global, sheet: &Sheet) -> Result<Value, AllocError>
     ensures { IfOk result (λ value. view value ≡ json.ids_data (shown.ids_of sheet.now.contents)) }
 {
     ids_row(alloc, sheet)
+}
+
+/// What stands behind the fields that a line asks for, where its sessions have these values.
+pub fn sheet_value(
+    alloc: Global,
+    line: u64,
+    sheet: &Sheet,
+    sessions: Vec<Value>,
+) -> Result<Value, AllocError>
+    ensures { (all : List SessionShown) → map view sessions.items ≡ map json.session_data all
+        → IfOk result (λ value. view value ≡ telling_data
+        (told.sheet line (shown.ids_of sheet.now.contents) sheet.now.contents.next all)) }
+{
+    let ids = ids_value(alloc, sheet)?;
+    let sessions = Value::Array(sessions);
+    let next = sheet.next_id();
+    json!(in alloc; {"fields": ids, "line": line, "next": next, "sessions": sessions, "type": "sheet"})
 }
 
 /// What stands behind the fields of a worksheet that no host has.

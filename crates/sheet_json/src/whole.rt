@@ -26,7 +26,7 @@ fn push_line(alloc: Global, value: &Value, bytes: &mut Vec<u8>) -> Result<(), Al
 }
 
 /// Adds the first object.
-#[tactic(auto, using(crate::proofs::Wholly::hello_has_none))]
+#[tactic(auto, using(crate::proofs::NoFloats::told_has_none))]
 fn push_hello(alloc: Global, bytes: &mut Vec<u8>) -> Result<(), AllocError>
     ensures { OnOk result (bytes.new.items ≡ bytes.old.items ++ telling_line told.hello) }
 {
@@ -35,7 +35,7 @@ fn push_hello(alloc: Global, bytes: &mut Vec<u8>) -> Result<(), AllocError>
 }
 
 /// Adds a field.
-#[tactic(auto, using(crate::proofs::Wholly::field_has_none))]
+#[tactic(auto, using(crate::proofs::NoFloats::field_has_none))]
 fn push_field(alloc: Global, field: &Field, bytes: &mut Vec<u8>) -> Result<(), AllocError>
     ensures { OnOk result (bytes.new.items ≡ bytes.old.items ++ telling_line (still_field field.now)) }
 {
@@ -57,7 +57,7 @@ fn push_fields(alloc: Global, sheet: &Sheet, bytes: &mut Vec<u8>) -> Result<(), 
 }
 
 /// Adds what the fields are together.
-#[tactic(auto, using(crate::proofs::Wholly::whole_has_none))]
+#[tactic(auto, using(crate::proofs::NoFloats::whole_has_none))]
 fn push_whole(alloc: Global, sheet: &Sheet, bytes: &mut Vec<u8>) -> Result<(), AllocError>
     ensures { OnOk result (bytes.new.items
         ≡ bytes.old.items ++ telling_line (whole_of sheet.now.contents)) }
@@ -67,11 +67,11 @@ fn push_whole(alloc: Global, sheet: &Sheet, bytes: &mut Vec<u8>) -> Result<(), A
 }
 
 /// Adds the last object.
-#[tactic(auto, using(crate::proofs::Wholly::end_has_none))]
+#[tactic(auto, using(crate::proofs::NoFloats::told_has_none))]
 fn push_end(alloc: Global, bytes: &mut Vec<u8>) -> Result<(), AllocError>
-    ensures { OnOk result (bytes.new.items ≡ bytes.old.items ++ telling_line (told.end 0)) }
+    ensures { OnOk result (bytes.new.items ≡ bytes.old.items ++ telling_line told.end) }
 {
-    let value = end_value(alloc, 0)?;
+    let value = end_value(alloc)?;
     push_line(alloc, &value, bytes)
 }
 

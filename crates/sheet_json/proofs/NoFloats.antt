@@ -1,0 +1,115 @@
+-- Nothing that is told has a float.
+use Rattle.std.proofs.Common.{◌≡◌, ℕ, Bool, true, false, cond, ◌||◌, List, [], ◌∷◌, map, Option, Some, None, refl, ap, ap₂, sym, subst}
+use Rattle.std.specs.Str.{is_utf8}
+use Rattle.block_tree.specs.Tree.{Items, Tree, end, text, block}
+use Rattle.scheme_text.specs.declared.answer.Completions.{Completions}
+use Rattle.plugin_core.specs.declared.item.Item.{Item}
+use Rattle.plugin_core.specs.declared.item.Item.TheVariants as item
+use Rattle.serde_json.specs.Data as json
+use Rattle.serde_json.specs.View.{items_of}
+use Rattle.serde_json.specs.Written.{has_float, items_have_float}
+use Rattle.sheet_json.specs.Bytes.{base64_data, bytes_data}
+use Rattle.sheet_json.specs.Blocks.{block_object, items_data, tree_data}
+use Rattle.sheet_json.specs.Lines.{json_line}
+use Rattle.sheet_json.specs.Objects.{completions_data, count, event_data, field_with, life_data, lost_data, reply_data, session_data, shown_data, telling_data}
+use Rattle.sheet_json.specs.Sheets.{telling_line}
+use Rattle.sheet_json.specs.Shown.{still_field, whole_of}
+use Rattle.worksheet.specs.Contents.{Contents}
+use Rattle.worksheet.specs.declared.field.Field.{Field}
+use Rattle.sheet_json.specs.Tellings.{EventTold, FieldShown, Reply, SessionShown, State, Telling}
+use Rattle.sheet_json.specs.Tellings as told
+
+bytes_none : (b : List ℕ) → has_float (bytes_data b) ≡ false
+bytes_none b = elim (is_utf8 b) as (λ t. has_float (cond t (json.string b) (base64_data b)) ≡ false) [ true ↦ refl | false ↦ refl ]
+
+framed_none : (channel : Bool) (name : List ℕ) (inside : json.Items) → items_have_float inside ≡ false → has_float (block_object channel name inside) ≡ false
+framed_none channel name inside h = ap₂ (λ a b. a || (b || false)) h (bytes_none name)
+
+items_none : (items : Items) → items_have_float (items_data items) ≡ false
+items_none end = refl
+items_none (text t rest) = ap₂ (λ a b. a || b) (bytes_none t) (items_none rest)
+items_none (block channel name inside rest) = ap₂ (λ a b. a || b) (framed_none channel name (items_data inside) (items_none inside)) (items_none rest)
+
+tree_none : (b : Tree) → has_float (tree_data b) ≡ false
+tree_none b = framed_none b.channel b.name (items_data b.items) (items_none b.items)
+
+two : (a b c : Bool) → a ≡ false → b ≡ false → c ≡ false → (a || (b || c)) ≡ false
+two a b c p q r = ap₂ (λ x y. x || y) p (ap₂ (λ x y. x || y) q r)
+
+field_none : (id : ℕ) (session input : List ℕ) (state : State) → has_float (field_with id session input state) ≡ false
+field_none id session input (told.answered prompt output) =
+    two (has_float (tree_data output)) (has_float (bytes_data prompt)) _ (tree_none output) (bytes_none prompt)
+    (two (has_float (bytes_data session)) (has_float (shown_data output)) false (bytes_none session) (bytes_none _) refl)
+field_none id session input (told.lost why) = ap (λ b. b || false) (bytes_none session)
+field_none id session input told.waiting = ap (λ b. b || false) (bytes_none session)
+field_none id session input told.empty = ap (λ b. b || false) (bytes_none session)
+
+row_none : {A : Type 0} (f : A → json.Data) → ((x : A) → has_float (f x) ≡ false) → (xs : List A) → items_have_float (items_of (map f xs)) ≡ false
+row_none f h [] = refl
+row_none f h (x ∷ xs) = ap₂ (λ a b. a || b) (h x) (row_none f h xs)
+
+life_none : (life : Option ℕ) → has_float (life_data life) ≡ false
+life_none None = refl
+life_none (Some life) = refl
+
+session_none : (s : SessionShown) → has_float (session_data s) ≡ false
+session_none s = two (has_float (life_data s.life)) (has_float (bytes_data s.name)) _ (life_none s.life) (bytes_none s.name) (ap (λ b. b || false) (row_none bytes_data bytes_none s.words))
+
+whole_none : (ids : List ℕ) (sessions : List SessionShown) (next : ℕ) → has_float (telling_data (told.whole ids next sessions)) ≡ false
+whole_none ids sessions next = ap₂ (λ a b. a || (b || false)) (row_none count (λ x. refl) ids) (row_none session_data session_none sessions)
+
+lost_none : (i : Item) → has_float (lost_data i) ≡ false
+lost_none (item.Line id line) = ap (λ b. b || false) (bytes_none line)
+lost_none (item.Complete id line cursor) = refl
+
+completions_none : (given : Option Completions) → has_float (completions_data given) ≡ false
+completions_none None = refl
+completions_none (Some c) = ap₂ (λ a b. a || (b || false)) (row_none bytes_data bytes_none c.rest) (bytes_none c.root)
+
+reply_none : (line : ℕ) (r : Reply) → has_float (reply_data line r) ≡ false
+reply_none line told.done = refl
+reply_none line (told.made id) = refl
+reply_none line (told.asked life) = refl
+reply_none line (told.refused why) = refl
+reply_none line told.bad = refl
+reply_none line told.nothing = refl
+reply_none line (told.waited true) = refl
+reply_none line (told.waited false) = refl
+reply_none line (told.interrupted outcome) = refl
+
+event_none : (session : List ℕ) (life : ℕ) (e : EventTold) → has_float (event_data session life e) ≡ false
+event_none session life (told.banner output) =
+    two (has_float (tree_data output)) (has_float (bytes_data session)) _ (tree_none output) (bytes_none session) (ap (λ b. b || false) (bytes_none _))
+event_none session life (told.answer id prompt output) =
+    two (has_float (tree_data output)) (has_float (bytes_data prompt)) _ (tree_none output) (bytes_none prompt)
+    (two (has_float (bytes_data session)) (has_float (shown_data output)) false (bytes_none session) (bytes_none _) refl)
+event_none session life (told.completed id given) = ap₂ (λ a b. a || (b || false)) (bytes_none session) (completions_none given)
+event_none session life (told.input line) = ap₂ (λ a b. a || (b || false)) (bytes_none session) (bytes_none line)
+event_none session life (told.ended why lost) = ap₂ (λ a b. a || (b || false)) (row_none lost_data lost_none lost) (bytes_none session)
+
+pub none_told : (t : Telling) → has_float (telling_data t) ≡ false
+none_told told.hello = refl
+none_told (told.reply line r) = reply_none line r
+none_told (told.stopped line session life lost) = ap₂ (λ a b. a || (b || false)) (row_none lost_data lost_none lost) (bytes_none session)
+none_told (told.event session life e) = event_none session life e
+none_told (told.field line f) = ap (λ b. b || false) (field_none f.id f.session f.input f.state)
+none_told (told.part line f) = ap (λ b. b || false) (field_none f.id f.session f.input f.state)
+none_told (told.shown f) = ap (λ b. b || false) (field_none f.id f.session f.input f.state)
+none_told (told.sheet line ids next sessions) = whole_none ids sessions next
+none_told (told.whole ids next sessions) = whole_none ids sessions next
+none_told (told.fault n name None) = refl
+none_told (told.fault n name (Some offset)) = refl
+none_told told.end = refl
+
+-- a value that is told has none
+pub told_has_none : (t : Telling) (d : json.Data) → d ≡ telling_data t → has_float d ≡ false
+told_has_none t d e = subst (λ (x : json.Data). has_float x ≡ false) (sym e) (none_told t)
+
+pub field_has_none : (field : Field) (d : json.Data) → d ≡ telling_data (still_field field) → has_float d ≡ false
+field_has_none field = told_has_none (still_field field)
+
+pub whole_has_none : (sheet : Contents) (d : json.Data) → d ≡ telling_data (whole_of sheet) → has_float d ≡ false
+whole_has_none sheet = told_has_none (whole_of sheet)
+
+pub told_line : (t : Telling) (d : json.Data) (bytes : List ℕ) → d ≡ telling_data t → bytes ≡ json_line d → bytes ≡ telling_line t
+told_line t d bytes e is = subst (λ (x : json.Data). bytes ≡ json_line x) e is
