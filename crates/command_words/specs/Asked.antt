@@ -3,6 +3,7 @@ use Rattle.std.specs.Prelude.{Bool, true, false, List, Option, Some, None, codes
 use Rattle.std.specs.Str.{bytes_eq}
 use Rattle.clap.specs.Words.{App, Row, Rule, Text, first_of, new_app, new_rule, subcommand_of, with_rule, with_subcommand}
 use Rattle.clap.specs.declared.builder.action.ArgAction.TheVariants.{SetTrue}
+use Rattle.command_words.specs.declared.words.Flags.{Flags}
 use Rattle.command_words.specs.declared.words.Task.{Task}
 use Rattle.command_words.specs.declared.words.Task.TheVariants as task
 
@@ -13,6 +14,7 @@ pub data TaskView : Type 0 where
   run : Text → TaskView
   run_strictly : Text → TaskView
   live : Text → TaskView
+  live_json : Text → TaskView
   show : Text → TaskView
   check : Text → TaskView
   rescue : Text → Text → TaskView
@@ -24,6 +26,7 @@ task_view (task.Create path) = create path.now
 task_view (task.Run path) = run path.now
 task_view (task.RunStrictly path) = run_strictly path.now
 task_view (task.Live path) = live path.now
+task_view (task.LiveJson path) = live_json path.now
 task_view (task.Show path) = show path.now
 task_view (task.Check path) = check path.now
 task_view (task.Rescue path new) = rescue path.now new.now
@@ -36,12 +39,18 @@ path_rule = record (new_rule (codes "PATH")) { required = true }
 abbrev pub with_path : Text → App
 with_path name = with_rule (new_app name) path_rule
 
--- and of the one with a flag before it or behind it
+-- and of those with a flag before it or behind it
 abbrev pub strict_rule : Rule
 strict_rule = record (new_rule (codes "strict")) { long = Some (codes "strict"); action = Some SetTrue }
 
 abbrev pub with_strict : Text → App
 with_strict name = with_rule (with_path name) strict_rule
+
+abbrev pub json_rule : Rule
+json_rule = record (new_rule (codes "json")) { long = Some (codes "json"); action = Some SetTrue }
+
+abbrev pub with_json : Text → App
+with_json name = with_rule (with_path name) json_rule
 
 -- and of the one with a second path behind the first
 abbrev pub second_rule : Rule
@@ -69,11 +78,11 @@ help_alone name =
 abbrev pub bare_tmhost : App
 bare_tmhost = let a = new_app (codes "tmhost") in record a { top = record a.top { has_version = true } }
 
--- the command line of `tmhost`: subcommands, five of them with a path, `run` with a flag beside it, one with two, and one with a format and a path
+-- the command line of `tmhost`: subcommands, five of them with a path, `run` and `live` with a flag beside it, one with two, and one with a format and a path
 abbrev pub tmhost : App
 tmhost = with_subcommand (with_subcommand (with_subcommand (with_subcommand (with_subcommand (with_subcommand (with_subcommand (with_subcommand
     (with_subcommand bare_tmhost (new_app (codes "blocks")).top)
-    (with_path (codes "create")).top) (with_strict (codes "run")).top) (with_path (codes "live")).top)
+    (with_path (codes "create")).top) (with_strict (codes "run")).top) (with_json (codes "live")).top)
     (with_path (codes "show")).top) (with_path (codes "check")).top) (with_paths (codes "rescue")).top) (with_format_and_path (codes "export")).top) (help_alone (codes "faults")).top
 
 -- a flag is given where its value is `true`
@@ -81,35 +90,43 @@ abbrev pub is_set : Option Text → Bool
 is_set None = false
 is_set (Some value) = bytes_eq value (codes "true")
 
+-- the flags among these words
+abbrev pub flags_in : List Row → Flags
+flags_in rows = record { strict = is_set (first_of (codes "strict") rows); json = is_set (first_of (codes "json") rows) }
+
 abbrev pub run_by : Bool → Text → TaskView
 run_by true path = run_strictly path
 run_by false path = run path
 
--- the task of a subcommand with a path, which the flag may make strict
-abbrev pub by_path : Text → Text → Bool → TaskView
-by_path name path strict = if bytes_eq name (codes "create") then create path
-    else (if bytes_eq name (codes "run") then run_by strict path
-    else (if bytes_eq name (codes "live") then live path
+abbrev pub live_by : Bool → Text → TaskView
+live_by true path = live_json path
+live_by false path = live path
+
+-- the task of a subcommand with a path, by its flags
+abbrev pub by_path : Text → Text → Flags → TaskView
+by_path name path flags = if bytes_eq name (codes "create") then create path
+    else (if bytes_eq name (codes "run") then run_by flags.strict path
+    else (if bytes_eq name (codes "live") then live_by flags.json path
     else (if bytes_eq name (codes "show") then show path
     else (if bytes_eq name (codes "check") then check path else blocks))))
 
 -- The task of a subcommand with two paths, or with one path, or with a format and a path.
-abbrev pub by_words : Text → Text → Option Text → Option Text → Bool → TaskView
-by_words name path None None strict = by_path name path strict
-by_words name path None (Some format) strict = if bytes_eq name (codes "export") then export format path else blocks
-by_words name path (Some new) format strict = if bytes_eq name (codes "rescue") then rescue path new else blocks
+abbrev pub by_words : Text → Text → Option Text → Option Text → Flags → TaskView
+by_words name path None None flags = by_path name path flags
+by_words name path None (Some format) flags = if bytes_eq name (codes "export") then export format path else blocks
+by_words name path (Some new) format flags = if bytes_eq name (codes "rescue") then rescue path new else blocks
 
 -- The task of a subcommand with its words; `blocks` has none. Where another has none, `clap` refuses
 -- the words.
-abbrev pub by_paths : Text → Option Text → Option Text → Option Text → Bool → TaskView
-by_paths name None new format strict = blocks
-by_paths name (Some path) new format strict = by_words name path new format strict
+abbrev pub by_paths : Text → Option Text → Option Text → Option Text → Flags → TaskView
+by_paths name None new format flags = blocks
+by_paths name (Some path) new format flags = by_words name path new format flags
 
 -- the task of a subcommand, and `blocks` where there is none
 abbrev pub by_subcommand : Option (Text × List Row) → TaskView
 by_subcommand None = blocks
 by_subcommand (Some subcommand) = by_paths subcommand.0 (first_of (codes "PATH") subcommand.1)
-    (first_of (codes "NEW") subcommand.1) (first_of (codes "FORMAT") subcommand.1) (is_set (first_of (codes "strict") subcommand.1))
+    (first_of (codes "NEW") subcommand.1) (first_of (codes "FORMAT") subcommand.1) (flags_in subcommand.1)
 
 -- the task that the words ask for, of which the first is the program's own name
 abbrev pub asked_by : List Text → TaskView

@@ -11,6 +11,8 @@ pub(crate) enum Shape {
     Path,
     /// PATH, and the flag `--strict`.
     Strict,
+    /// PATH, and the flag `--json`.
+    Json,
     /// PATH and NEW.
     Paths,
     /// FORMAT and PATH.
@@ -76,6 +78,7 @@ at most, and `print ID`, `wait SECONDS` and `interrupt NAME`, which sends SIGINT
 an interpreter that is at something. A `wait` holds back the lines behind it until\n\
 no answer is awaited, or its time is over. At the end of the input each interpreter\n\
 is stopped.\n\n\
+With --json each line is one object, which programs read (docs/JSON.md).\n\n\
 Status: 0 where the input came to its end, also where it had bad lines and refused\n\
 commands; 1 at a fault; 2 where the words are refused.\n\n\
 Example: printf 'print\\n' | tmhost live sheet.tm";
@@ -192,7 +195,7 @@ pub(crate) fn row_at(at: usize) -> Row
         ),
         3 => listed(
             "live",
-            Shape::Path,
+            Shape::Json,
             "Hold a worksheet open for lines that come on standard input",
             LIVE_NOTES,
         ),

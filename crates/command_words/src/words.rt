@@ -5,6 +5,7 @@ ghost use Rattle.clap.specs.declared.builder.command.Command.TheViews.{out-Comma
 ghost use Rattle.command_words.specs.Asked.{asked_by, by_subcommand, by_words, tmhost, task_view};
 ghost use Rattle.command_words.specs.Asked as asked;
 ghost use Rattle.command_words.specs.inside.Table as table;
+ghost use Rattle.command_words.specs.declared.words.Flags.{Flags as FlagsOf};
 
 use crate::table::{NOTES, Row, Shape, VERSION, row_at};
 use clap::{Arg, ArgAction, ArgMatches, Command, Error};
@@ -23,6 +24,8 @@ pub enum Task<'a> {
     RunStrictly(&'a str),
     /// Hold the worksheet at the path open for the lines that come in on standard input.
     Live(&'a str),
+    /// The same, and write lines of JSON.
+    LiveJson(&'a str),
     /// Write the worksheet at the path.
     Show(&'a str),
     /// Evaluate the worksheet at the path anew, and write what differs.
@@ -32,6 +35,13 @@ pub enum Task<'a> {
     Rescue(&'a str, &'a str),
     /// Write the worksheet at the path in the format of this name.
     Export(&'a str, &'a str),
+}
+
+/// The flags of a command line. A subcommand without a flag doesn't have it set.
+#[derive(Clone, Copy, Debug, PartialEq, Eq)]
+pub(crate) struct Flags {
+    pub(crate) strict: bool,
+    pub(crate) json: bool,
 }
 
 /// A command without arguments, with a text above and one below its help.
@@ -65,6 +75,20 @@ fn with_strict<'a>(alloc: Global, row: Row) -> Result<Command<'a>, AllocError>
         Arg::new(alloc, "strict")
             .long("strict")
             .help("Stop behind the first line that goes wrong")
+            .action(ArgAction::SetTrue),
+    )
+}
+
+/// A subcommand with a path, and with a flag that has it write JSON.
+fn with_json<'a>(alloc: Global, row: Row) -> Result<Command<'a>, AllocError>
+    ensures made { IfOk result (λ command. app_of command ≡ asked.with_json row.name.now) }
+    ensures local { IfOk result (λ command. (fields_of command).has_globals ≡ false) }
+{
+    let first = with_path(alloc, row)?;
+    first.arg(
+        Arg::new(alloc, "json")
+            .long("json")
+            .help("Write lines of JSON, which programs read")
             .action(ArgAction::SetTrue),
     )
 }
@@ -125,6 +149,7 @@ fn command_of<'a>(alloc: Global, row: Row) -> Result<Command<'a>, AllocError>
         Shape::Bare => Ok(plain(alloc, row)),
         Shape::Path => with_path(alloc, row),
         Shape::Strict => with_strict(alloc, row),
+        Shape::Json => with_json(alloc, row),
         Shape::Paths => with_paths(alloc, row),
         Shape::Format => with_format_and_path(alloc, row),
         Shape::Help => Ok(help_alone(alloc, row)),
@@ -198,14 +223,25 @@ fn task_of_run<'a>(path: &'a str, strict: bool) -> Task<'a>
     }
 }
 
+/// The task of `live`.
+fn task_of_live<'a>(path: &'a str, json: bool) -> Task<'a>
+    ensures { task_view result ≡ asked.live_by json path.entry.now }
+{
+    if json {
+        Task::LiveJson(path)
+    } else {
+        Task::Live(path)
+    }
+}
+
 /// The task of a subcommand with a path.
-fn task_with_path<'a>(name: &str, path: &'a str, strict: bool) -> Task<'a>
-    ensures { task_view result ≡ by_words name.now path.entry.now None None strict }
+fn task_with_path<'a>(name: &str, path: &'a str, flags: Flags) -> Task<'a>
+    ensures { task_view result ≡ by_words name.now path.entry.now None None flags }
 {
     match name {
         "create" => Task::Create(path),
-        "run" => task_of_run(path, strict),
-        "live" => Task::Live(path),
+        "run" => task_of_run(path, flags.strict),
+        "live" => task_of_live(path, flags.json),
         "show" => Task::Show(path),
         "check" => Task::Check(path),
         _ => Task::Blocks,
@@ -214,8 +250,8 @@ fn task_with_path<'a>(name: &str, path: &'a str, strict: bool) -> Task<'a>
 
 /// The task of a subcommand with two paths.
 fn task_with_paths<'a>(name: &str, path: &'a str, new: &'a str) -> Task<'a>
-    ensures { (format : Option Text) (strict : Bool)
-        → task_view result ≡ by_words name.now path.entry.now (Some new.entry.now) format strict }
+    ensures { (format : Option Text) (flags : FlagsOf)
+        → task_view result ≡ by_words name.now path.entry.now (Some new.entry.now) format flags }
 {
     match name {
         "rescue" => Task::Rescue(path, new),
@@ -225,8 +261,8 @@ fn task_with_paths<'a>(name: &str, path: &'a str, new: &'a str) -> Task<'a>
 
 /// The task of a subcommand with a format and a path.
 fn task_with_format<'a>(name: &str, format: &'a str, path: &'a str) -> Task<'a>
-    ensures { (strict : Bool)
-        → task_view result ≡ by_words name.now path.entry.now None (Some format.entry.now) strict }
+    ensures { (flags : FlagsOf)
+        → task_view result ≡ by_words name.now path.entry.now None (Some format.entry.now) flags }
 {
     match name {
         "export" => Task::Export(format, path),
@@ -249,7 +285,14 @@ fn task_of<'a>(matches: &ArgMatches<'a>) -> Task<'a>
     }
     match inner.get_str("FORMAT") {
         Some(format) => task_with_format(name, format, path),
-        None => task_with_path(name, path, is_set(inner.get_str("strict"))),
+        None => task_with_path(
+            name,
+            path,
+            Flags {
+                strict: is_set(inner.get_str("strict")),
+                json: is_set(inner.get_str("json")),
+            },
+        ),
     }
 }
 

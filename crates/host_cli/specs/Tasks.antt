@@ -25,8 +25,12 @@ use Rattle.program_endings.specs.CheckProgram.{CheckEnds}
 use Rattle.program_endings.specs.Ending.{BlocksAnswer, ProgramAnswer, TellsFault, status_of}
 use Rattle.program_endings.specs.ExportProgram.{ExportEnds}
 use Rattle.program_endings.specs.Faults.{no_files, no_place}
-use Rattle.program_endings.specs.Programs.{CreateAnswer, LiveAnswer, RunAnswer, ShowAnswer, TellsCreate, TellsMake, create_status}
+use Rattle.program_endings.specs.Programs.{CreateAnswer, RunAnswer, ShowAnswer, TellsCreate, TellsMake, create_status}
 use Rattle.program_endings.specs.Programs as programs
+use Rattle.program_endings.specs.LiveProgram.{LastTold, LiveAnswer}
+use Rattle.tellings.specs.Json.{in_json}
+use Rattle.tellings.specs.Voice.{Voice}
+use Rattle.tellings.specs.Words.{in_words}
 use Rattle.program_endings.specs.RescueProgram.{FilesAreRead, RescueEnds}
 use Rattle.program_endings.specs.StrictProgram.{StrictEnded}
 use Rattle.program_endings.specs.declared.ending.Ending.{Ending}
@@ -65,6 +69,7 @@ module _ {Y D P S I W E Q : Type 0} where
   LeavesAlone old new (asked.run path) = new.progress ≡ old.progress
   LeavesAlone old new (asked.run_strictly path) = new.progress ≡ old.progress
   LeavesAlone old new (asked.live path) = new.progress ≡ old.progress
+  LeavesAlone old new (asked.live_json path) = new.progress ≡ old.progress
   LeavesAlone old new (asked.show path) = (new.sources ≡ old.sources) × (new.input ≡ old.input) × (new.progress ≡ old.progress)
   LeavesAlone old new (asked.check path) = new.input ≡ old.input
   LeavesAlone old new (asked.rescue path new_path) = (new.sources ≡ old.sources) × (new.input ≡ old.input) × (new.progress ≡ old.progress)
@@ -131,12 +136,15 @@ module _ {Y D P S I W E Q : Type 0} (o : OutsideView D P S I W E) where
       HeldFirst old new (λ why. (new.sources ≡ old.sources) × EndsWith old new ending (Err why)) (λ held. (files : Result D FilesFault) × o.places.opens held path files new.places
       × IfErr files (Unopened old new ending) × IfOk files (RunsOn strict old new ending))
 
-  -- `live` over the same
-  abbrev pub DoesLive : Outside Y D P S I W E Q → Outside Y D P S I W E Q → Ending → Text → Type 0
-  DoesLive old new ending path =
+  -- `live` over the same, told in a voice
+  abbrev pub DoesLive : Voice → Outside Y D P S I W E Q → Outside Y D P S I W E Q → Ending → Text → Type 0
+  DoesLive V old new ending path =
       HeldFirst old new (λ why. (new.sources ≡ old.sources) × EndsWith old new ending (Err why)) (λ held. (files : Result D FilesFault) × o.places.opens held path files new.places
-      × IfErr files (Unopened old new ending) × IfOk files (λ disk. (answer : ProgramAnswer)
-      × LiveAnswer o.view o.after o.clock o.wakes (o.stream old.input) disk old.sources new.sources (o.written old.output) (o.written new.output) (Nothing old new) answer
+      × IfErr files (λ why. (new.input ≡ old.input) × (new.sources ≡ old.sources) × LastTold V o.written old.output new.output ending.told (Err (no_files why))
+      × (ending.status ≡ 1) × TellsFault o.said old.errors new.errors ending.told (Err (no_files why)))
+      × IfOk files (λ disk. (answer : ProgramAnswer) × (mid : W)
+      × LiveAnswer V o.view o.after o.clock o.wakes (o.stream old.input) disk old.sources new.sources o.written old.output mid answer
+      × LastTold V o.written mid new.output ending.told answer
       × (ending.status ≡ status_of answer) × TellsFault o.said old.errors new.errors ending.told answer))
 
   -- `rescue` of what was found, to what the places make at a new path
@@ -175,7 +183,8 @@ module _ {Y D P S I W E Q : Type 0} (o : OutsideView D P S I W E) where
   DoesTask old new ending (asked.create path) = DoesCreate old new ending path
   DoesTask old new ending (asked.run path) = DoesRun false old new ending path
   DoesTask old new ending (asked.run_strictly path) = DoesRun true old new ending path
-  DoesTask old new ending (asked.live path) = DoesLive old new ending path
+  DoesTask old new ending (asked.live path) = DoesLive in_words old new ending path
+  DoesTask old new ending (asked.live_json path) = DoesLive in_json old new ending path
   DoesTask old new ending (asked.show path) = DoesShow old new ending path
   DoesTask old new ending (asked.check path) = DoesCheck old new ending path
   DoesTask old new ending (asked.rescue path new_path) = DoesRescue old new ending path new_path

@@ -6,6 +6,8 @@ ghost use Rattle.host_cli.specs.Tasks.{BringsOut, DoesAsked, DoesBlocks, DoesChe
 ghost use Rattle.program_endings.specs.Ending.{TellsFault};
 ghost use Rattle.offline_programs.specs.declared.fault.RunFault.TheVariants as fault;
 ghost use Rattle.recovery.specs.Sheets.{Makes};
+ghost use Rattle.tellings.specs.Json.{in_json};
+ghost use Rattle.tellings.specs.Words.{in_words};
 ghost use Rattle.worksheet.specs.declared.op.Op.{Op};
 
 use crate::outlet::Outlet;
@@ -24,6 +26,7 @@ use sheet_files::{FilesFault, Places};
 use std::alloc::Global;
 use std::io;
 use std::io::Write;
+use tellings::{InJson, InWords, Tells};
 
 /// `blocks`.
 fn blocks<Y: System>(alloc: Global, outside: &mut Outside<Y>) -> Ending
@@ -125,16 +128,22 @@ fn run_strictly_at<Y: System>(alloc: Global, outside: &mut Outside<Y>, path: &st
     }
 }
 
-/// `live` with the lines of the input over the worksheet at a path.
-fn live_at<Y: System>(alloc: Global, outside: &mut Outside<Y>, path: &str) -> Ending
+/// `live` with the lines of the input over the worksheet at a path, told in this voice.
+fn live_told<Y: System, T: Tells>(
+    alloc: Global,
+    outside: &mut Outside<Y>,
+    tells: &T,
+    path: &str,
+) -> Ending
     ensures does { DoesLive (outer Y.Places.Places Y.Disk.Disk Y.Sources.after
-        Y.Sources.clock Y.Sources.wakes Y.Input.Read Y.Output.Write Y.Output.brought Y.Errors.Write) outside.old outside.new result path.now }
+        Y.Sources.clock Y.Sources.wakes Y.Input.Read Y.Output.Write Y.Output.brought Y.Errors.Write) T.voice outside.old outside.new result path.now }
     ensures leaves { LeavesAlone outside.old outside.new (asked.live path.now) }
 {
     match outside.places.hold() {
         Ok(()) => run_live(
             alloc,
             &mut outside.input,
+            tells,
             &mut outside.output,
             &mut outside.errors,
             outside.places.open(path),
@@ -142,6 +151,24 @@ fn live_at<Y: System>(alloc: Global, outside: &mut Outside<Y>, path: &str) -> En
         ),
         Err(why) => end_unheld(why, &mut outside.errors),
     }
+}
+
+/// `live` in words.
+fn live_at<Y: System>(alloc: Global, outside: &mut Outside<Y>, path: &str) -> Ending
+    ensures does { DoesLive (outer Y.Places.Places Y.Disk.Disk Y.Sources.after
+        Y.Sources.clock Y.Sources.wakes Y.Input.Read Y.Output.Write Y.Output.brought Y.Errors.Write) in_words outside.old outside.new result path.now }
+    ensures leaves { LeavesAlone outside.old outside.new (asked.live path.now) }
+{
+    live_told(alloc, outside, &InWords, path)
+}
+
+/// `live` in lines of JSON.
+fn live_json_at<Y: System>(alloc: Global, outside: &mut Outside<Y>, path: &str) -> Ending
+    ensures does { DoesLive (outer Y.Places.Places Y.Disk.Disk Y.Sources.after
+        Y.Sources.clock Y.Sources.wakes Y.Input.Read Y.Output.Write Y.Output.brought Y.Errors.Write) in_json outside.old outside.new result path.now }
+    ensures leaves { LeavesAlone outside.old outside.new (asked.live_json path.now) }
+{
+    live_told(alloc, outside, &InJson { alloc }, path)
 }
 
 /// `rescue` of what was found to a new path.
@@ -248,6 +275,7 @@ pub fn do_task<Y: System>(alloc: Global, task: Task<'_>, outside: &mut Outside<Y
         Task::Run(path) => run_at(alloc, outside, path),
         Task::RunStrictly(path) => run_strictly_at(alloc, outside, path),
         Task::Live(path) => live_at(alloc, outside, path),
+        Task::LiveJson(path) => live_json_at(alloc, outside, path),
         Task::Show(path) => show_at(alloc, outside, path),
         Task::Check(path) => check_at(alloc, outside, path),
         Task::Rescue(path, new) => rescue_at(alloc, outside, path, new),

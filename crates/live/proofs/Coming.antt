@@ -7,6 +7,7 @@ use Rattle.arrivals.specs.Held.{Held, KeepsLines, Readiness, left_with, to_come}
 use Rattle.arrivals.specs.declared.sources.Woken.{Woken}
 use Rattle.arrivals.specs.declared.sources.Woken.TheVariants as woken
 use Rattle.live.specs.declared.holding.Hold.{Hold}
+use Rattle.tellings.specs.Voice.{Voice}
 use Rattle.live.specs.Saying.{Clock}
 use Rattle.live.specs.Arrivals.{Arrival, line, part, life, time_over, Watch, Comes, IsOver, WatchTells, lines_in}
 use Rattle.session_engine.specs.Host.{HostView}
@@ -89,15 +90,15 @@ same_ready h false true x (inl ended) = absurd (true≢false (sym ended ∙ x.0)
 same_ready h false true x (inr feed) = absurd (x.1 feed.0 feed.1 feed.2)
 
 -- a fault of an arrival is one of its turn
-pub turn_failed : {C : Type 0} (R : Relation C) (K : Clock C) (p : LivePlace C) (told : Woken) (is_there : Bool) (h : HostView) (c : C) (out now : Option (List ℕ)) (old new : Option (List InputLine)) (a : Arrival) (f : RunFault)
-    → IsBy told is_there a → TakesLines a old new → TakingFailed R K p a h c out now f → TurnFailed R K p told is_there h c out now old new f
-turn_failed R K p told is_there h c out now old new a (fault.Host f) by lines failed = (a, by, lines, failed)
-turn_failed R K p told is_there h c out now old new a fault.OutOfMemory by lines failed = (a, by, lines, failed)
-turn_failed R K p told is_there h c out now old new a fault.Output by lines failed = (a, by, lines, failed)
-turn_failed R K p told is_there h c out now old new a fault.Input by lines failed = absurd failed
-turn_failed R K p told is_there h c out now old new a fault.InputTooLong by lines failed = absurd failed
-turn_failed R K p told is_there h c out now old new a (fault.Open why) by lines failed = absurd failed
-turn_failed R K p told is_there h c out now old new a fault.InUse by lines failed = absurd failed
+pub turn_failed : {C : Type 0} (V : Voice) (R : Relation C) (K : Clock C) (p : LivePlace C) (told : Woken) (is_there : Bool) (h : HostView) (c : C) (out now : Option (List ℕ)) (old new : Option (List InputLine)) (a : Arrival) (f : RunFault)
+    → IsBy told is_there a → TakesLines a old new → TakingFailed V R K p a h c out now f → TurnFailed V R K p told is_there h c out now old new f
+turn_failed V R K p told is_there h c out now old new a (fault.Host f) by lines failed = (a, by, lines, failed)
+turn_failed V R K p told is_there h c out now old new a fault.OutOfMemory by lines failed = (a, by, lines, failed)
+turn_failed V R K p told is_there h c out now old new a fault.Output by lines failed = (a, by, lines, failed)
+turn_failed V R K p told is_there h c out now old new a fault.Input by lines failed = absurd failed
+turn_failed V R K p told is_there h c out now old new a fault.InputTooLong by lines failed = absurd failed
+turn_failed V R K p told is_there h c out now old new a (fault.Open why) by lines failed = absurd failed
+turn_failed V R K p told is_there h c out now old new a fault.InUse by lines failed = absurd failed
 
 pub keeps_all : (lines : Option (List InputLine)) → KeepsLines lines lines
 keeps_all None = tt

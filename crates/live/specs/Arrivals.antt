@@ -11,10 +11,14 @@ use Rattle.arrivals.specs.declared.sources.Woken.{Woken}
 use Rattle.arrivals.specs.declared.sources.Woken.TheVariants as woken
 use Rattle.sheet_text.specs.LiveLines.{live_line_of}
 use Rattle.sheet_text.specs.declared.live_line.LiveLine.{LiveLine}
-use Rattle.sheet_programs.specs.Lines.{beats_text}
+use Rattle.session_engine.specs.World.{sheet_in}
+use Rattle.child_edge.specs.Told.{told}
+use Rattle.tellings.specs.Voice.{Voice, came_text, replied_text}
+use Rattle.tellings.specs.declared.note.Note.TheVariants as note
+use Rattle.worksheet.specs.Contents.{Contents}
 use Rattle.live.specs.declared.holding.Hold.{Hold}
 use Rattle.live.specs.declared.holding.Hold.TheVariants as hold
-use Rattle.live.specs.Saying.{Clock, SaidDone, IsTimed, Begins, WaitGoesOn}
+use Rattle.live.specs.Saying.{Clock, SaidDone, IsTimed, Begins, WaitGoesOn, over_text}
 
 -- what came
 pub data Arrival : Type 0 where
@@ -92,20 +96,30 @@ Comes K W held c time_over d =
     ((is_there : Bool) × WatchTells K W held c is_there (Some woken.TimeOver) d) ⊎ ((now : ℕ) × K c now × IsOver held now × (d ≡ c))
 
 -- What came of an arrival, by what it is: the beats, what is written of them, and the place behind it.
-abbrev pub TakesArrival : {C : Type 0} → Relation C → Clock C → LivePlace C → Arrival → List Beat → List ℕ → LivePlace C → Type 0
-TakesArrival R K p (line l) beats text q =
-    (p.held ≡ hold.Free) × (q.number ≡ p.number + 1) × SaidDone R q.number (said_by l) p.run beats text q.run
-    × ((begun : Hold) × Begins K p.run.children (said_by l) begun × WaitGoesOn begun q.run.world q.held)
-TakesArrival R K p part beats text q = (p.held ≡ hold.Free) × (beats ≡ []) × (text ≡ []) × (q ≡ p)
-TakesArrival R K p (life seat) beats text q =
-    (q.number ≡ p.number) × Taken R true None seat p.run beats q.run × (text ≡ beats_text beats) × WaitGoesOn p.held q.run.world q.held
-TakesArrival R K p time_over beats text q =
-    IsTimed p.held × (q.number ≡ p.number) × OneTurn R false (waits p.run.world) p.run beats q.run × (text ≡ beats_text beats) × (q.held ≡ hold.Free)
+abbrev pub TakesArrival : {C : Type 0} → Voice → Relation C → Clock C → LivePlace C → Arrival → List Beat → List ℕ → LivePlace C → Type 0
+TakesArrival V R K p (line l) beats text q =
+    (p.held ≡ hold.Free) × (q.number ≡ p.number + 1) × ((said : List ℕ) × SaidDone V R q.number (said_by l) p.run beats said q.run
+    × ((begun : Hold) × Begins K p.run.children (said_by l) begun × WaitGoesOn begun q.run.world q.held × (text ≡ said ++ over_text V q.number begun q.held)))
+TakesArrival V R K p part beats text q = (p.held ≡ hold.Free) × (beats ≡ []) × (text ≡ []) × (q ≡ p)
+TakesArrival V R K p (life seat) beats text q =
+    (q.number ≡ p.number) × Taken R true None seat p.run beats q.run
+    × (text ≡ came_text V (sheet_in q.run.world) (told beats) ++ over_text V q.number p.held q.held) × WaitGoesOn p.held q.run.world q.held
+TakesArrival V R K p time_over beats text q =
+    IsTimed p.held × (q.number ≡ p.number) × OneTurn R false (waits p.run.world) p.run beats q.run
+    × (text ≡ came_text V (sheet_in q.run.world) (told beats) ++ V.note (note.Waited q.number true)) × (q.held ≡ hold.Free)
+
+-- What is told of those beats of an arrival that came before a fault, where so many lines were taken before it and this is the worksheet
+-- after them.
+abbrev pub front_text : Voice → ℕ → Arrival → Contents → List Beat → List ℕ
+front_text V number (line l) sheet beats = replied_text V (number + 1) sheet (told beats)
+front_text V number part sheet beats = []
+front_text V number (life seat) sheet beats = came_text V sheet (told beats)
+front_text V number time_over sheet beats = came_text V sheet (told beats)
 
 -- These came, one after the other, and each was taken when it came.
-abbrev pub Lived : {C : Type 0} → Relation C → Clock C → Watch C → LivePlace C → List Arrival → List Beat → List ℕ → LivePlace C → Type 0
-Lived R K W p [] beats text q = (beats ≡ []) × (text ≡ []) × (q ≡ p)
-Lived {C = C} R K W p (a ∷ came) beats text q =
+abbrev pub Lived : {C : Type 0} → Voice → Relation C → Clock C → Watch C → LivePlace C → List Arrival → List Beat → List ℕ → LivePlace C → Type 0
+Lived V R K W p [] beats text q = (beats ≡ []) × (text ≡ []) × (q ≡ p)
+Lived {C = C} V R K W p (a ∷ came) beats text q =
     (c : C) × (mid : LivePlace C) × (before : List Beat) × (behind : List Beat) × (first : List ℕ) × (rest : List ℕ)
-    × Comes K W p.held p.run.children a c × TakesArrival R K (woken_at p c) a before first mid × Lived R K W mid came behind rest q
+    × Comes K W p.held p.run.children a c × TakesArrival V R K (woken_at p c) a before first mid × Lived V R K W mid came behind rest q
     × (beats ≡ before ++ behind) × (text ≡ first ++ rest)

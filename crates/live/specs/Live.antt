@@ -19,6 +19,7 @@ use Rattle.sheet_programs.specs.Run.{OpenedOn}
 use Rattle.sheet_programs.specs.Told.{LeavesFrontsAnyhow}
 use Rattle.offline_programs.specs.declared.fault.RunFault.{RunFault}
 use Rattle.offline_programs.specs.declared.fault.RunFault.TheVariants as fault
+use Rattle.tellings.specs.Voice.{Voice}
 use Rattle.live.specs.declared.holding.Hold.{Hold}
 use Rattle.live.specs.declared.holding.Hold.TheVariants as hold
 use Rattle.live.specs.Saying.{Clock}
@@ -49,7 +50,7 @@ NoMoreComes K W held c d =
 -- Where the input came to its end, and no wait holds back that end: all of its lines were taken, this text was written, then each life
 -- that goes on was stopped, and each image of the disk that is given back is one of the worksheet behind all events. At every moment since the opening each image
 -- was one of the worksheet behind some of the first of them.
-pub record LiveDone {C : Type 0} (R : Relation C) (K : Clock C) (W : Watch C) (stream : Option (List ℕ)) (disk : DiskView) (c d : C) (a b : Option (List ℕ)) (back : DiskView) : Type 0 where
+pub record LiveDone {C : Type 0} (V : Voice) (R : Relation C) (K : Clock C) (W : Watch C) (stream : Option (List ℕ)) (disk : DiskView) (c d : C) (a b : Option (List ℕ)) (back : DiskView) : Type 0 where
   pub start : World
   pub now : DiskView
   pub opened : OpenedOn disk start now
@@ -58,7 +59,7 @@ pub record LiveDone {C : Type 0} (R : Relation C) (K : Clock C) (W : Watch C) (s
   pub text : List ℕ
   pub leads : LivePlace C
   pub sources : C
-  pub lived : Lived R K W (begin_at start c now) arrivals beats text leads
+  pub lived : Lived V R K W (begin_at start c now) arrivals beats text leads
   pub lines : IfSome stream (λ bytes. input_lines bytes ≡ lines_in arrivals)
   pub ended : EndComes K W leads.held leads.run.children sources
   pub stops : Stops R (running leads.run.world) sources d
@@ -69,7 +70,7 @@ pub record LiveDone {C : Type 0} (R : Relation C) (K : Clock C) (W : Watch C) (s
 
 -- At an event the host had this fault, and its disk was left as told. What was told before is written, and each life that goes on
 -- was stopped.
-pub record LiveStopped {C : Type 0} (R : Relation C) (K : Clock C) (W : Watch C) (stream : Option (List ℕ)) (disk : DiskView) (c d : C) (a b : Option (List ℕ)) (f : HostFault) : Type 0 where
+pub record LiveStopped {C : Type 0} (V : Voice) (R : Relation C) (K : Clock C) (W : Watch C) (stream : Option (List ℕ)) (disk : DiskView) (c d : C) (a b : Option (List ℕ)) (f : HostFault) : Type 0 where
   pub start : World
   pub now : DiskView
   pub opened : OpenedOn disk start now
@@ -78,7 +79,7 @@ pub record LiveStopped {C : Type 0} (R : Relation C) (K : Clock C) (W : Watch C)
   pub text : List ℕ
   pub failed : Event
   pub leads : At C
-  pub lived : LivedUpTo R K W (begin_at start c now) arrivals beats text failed leads
+  pub lived : LivedUpTo V R K W (begin_at start c now) arrivals beats text failed leads
   pub lines : AreFirst stream arrivals
   pub host : HostView
   pub same : SameDisk disk host.store.disk
@@ -88,7 +89,7 @@ pub record LiveStopped {C : Type 0} (R : Relation C) (K : Clock C) (W : Watch C)
   pub wrote : Appends a b text
 
 -- Memory was refused. What was told before is written, and each life that goes on was stopped.
-pub record LiveSoFar {C : Type 0} (R : Relation C) (K : Clock C) (W : Watch C) (stream : Option (List ℕ)) (disk : DiskView) (c d : C) (a b : Option (List ℕ)) : Type 0 where
+pub record LiveSoFar {C : Type 0} (V : Voice) (R : Relation C) (K : Clock C) (W : Watch C) (stream : Option (List ℕ)) (disk : DiskView) (c d : C) (a b : Option (List ℕ)) : Type 0 where
   pub start : World
   pub now : DiskView
   pub opened : OpenedOn disk start now
@@ -96,14 +97,14 @@ pub record LiveSoFar {C : Type 0} (R : Relation C) (K : Clock C) (W : Watch C) (
   pub beats : List Beat
   pub text : List ℕ
   pub leads : At C
-  pub lived : LivedSoFar R K W (begin_at start c now) arrivals beats text leads
+  pub lived : LivedSoFar V R K W (begin_at start c now) arrivals beats text leads
   pub lines : AreFirst stream arrivals
   pub moments : LeavesFronts start beats now leads.disk
   pub stops : Stops R (running leads.world) leads.children d
   pub wrote : Appends a b text
 
 -- The input couldn't be read any more, or as many came as are counted. All that came was taken, and what was told is written.
-pub record LiveUnread {C : Type 0} (R : Relation C) (K : Clock C) (W : Watch C) (stream : Option (List ℕ)) (disk : DiskView) (c d : C) (a b : Option (List ℕ)) : Type 0 where
+pub record LiveUnread {C : Type 0} (V : Voice) (R : Relation C) (K : Clock C) (W : Watch C) (stream : Option (List ℕ)) (disk : DiskView) (c d : C) (a b : Option (List ℕ)) : Type 0 where
   pub start : World
   pub now : DiskView
   pub opened : OpenedOn disk start now
@@ -112,34 +113,35 @@ pub record LiveUnread {C : Type 0} (R : Relation C) (K : Clock C) (W : Watch C) 
   pub text : List ℕ
   pub leads : LivePlace C
   pub sources : C
-  pub lived : Lived R K W (begin_at start c now) arrivals beats text leads
+  pub lived : Lived V R K W (begin_at start c now) arrivals beats text leads
   pub lines : AreFirst stream arrivals
   pub moments : LeavesFronts start beats now leads.run.disk
   pub stops : Stops R (running leads.run.world) sources d
   pub wrote : Appends a b text
 
 -- The writer failed. What came until then is on the disk as ever, and each life that goes on was stopped.
-pub record LiveLed {C : Type 0} (R : Relation C) (K : Clock C) (W : Watch C) (stream : Option (List ℕ)) (disk : DiskView) (c d : C) : Type 0 where
+pub record LiveLed {C : Type 0} (V : Voice) (R : Relation C) (K : Clock C) (W : Watch C) (stream : Option (List ℕ)) (disk : DiskView) (c d : C) : Type 0 where
   pub start : World
   pub now : DiskView
   pub opened : OpenedOn disk start now
   pub arrivals : List Arrival
   pub leads : At C
-  pub lived : LivedLed R K W (begin_at start c now) arrivals leads
+  pub lived : LivedLed V R K W (begin_at start c now) arrivals leads
   pub lines : AreFirst stream arrivals
   pub host : HostView
   pub same : SameDisk disk host.store.disk
   pub moments : LeavesFrontsAnyhow start (lived.earlier ++ taken_beats lived.led) now host leads.world leads.disk
   pub stops : Stops R (running leads.world) leads.children d
 
--- What a fault tells, where the reader gives this stream: where the disk wasn't opened, nothing was done.
-abbrev pub TellsLive : {C : Type 0} → Relation C → Clock C → Watch C → Option (List ℕ) → DiskView → C → C → Option (List ℕ) → Option (List ℕ) → Type 0 → RunFault → Type 0
-TellsLive R K W stream disk c d a b nothing fault.Input =
-    (unread : LiveUnread R K W stream disk c d a b) × NoMoreComes K W unread.leads.held unread.leads.run.children unread.sources
-TellsLive R K W stream disk c d a b nothing fault.InputTooLong =
-    (unread : LiveUnread R K W stream disk c d a b) × AreTooMany unread.arrivals × (unread.sources ≡ unread.leads.run.children)
-TellsLive R K W stream disk c d a b nothing (fault.Open why) = nothing × InModel disk (TellsOfSheet (bytes_on disk) why)
-TellsLive R K W stream disk c d a b nothing fault.InUse = ⊥
-TellsLive R K W stream disk c d a b nothing (fault.Host f) = LiveStopped R K W stream disk c d a b f
-TellsLive R K W stream disk c d a b nothing fault.OutOfMemory = nothing ⊎ LiveSoFar R K W stream disk c d a b
-TellsLive R K W stream disk c d a b nothing fault.Output = LiveLed R K W stream disk c d
+-- What a fault tells, where the reader gives this stream: where the disk wasn't opened, nothing was done. A voice that takes memory may have
+-- none for a line: then it is as where the writer failed.
+abbrev pub TellsLive : {C : Type 0} → Voice → Relation C → Clock C → Watch C → Option (List ℕ) → DiskView → C → C → Option (List ℕ) → Option (List ℕ) → Type 0 → RunFault → Type 0
+TellsLive V R K W stream disk c d a b nothing fault.Input =
+    (unread : LiveUnread V R K W stream disk c d a b) × NoMoreComes K W unread.leads.held unread.leads.run.children unread.sources
+TellsLive V R K W stream disk c d a b nothing fault.InputTooLong =
+    (unread : LiveUnread V R K W stream disk c d a b) × AreTooMany unread.arrivals × (unread.sources ≡ unread.leads.run.children)
+TellsLive V R K W stream disk c d a b nothing (fault.Open why) = nothing × InModel disk (TellsOfSheet (bytes_on disk) why)
+TellsLive V R K W stream disk c d a b nothing fault.InUse = ⊥
+TellsLive V R K W stream disk c d a b nothing (fault.Host f) = LiveStopped V R K W stream disk c d a b f
+TellsLive V R K W stream disk c d a b nothing fault.OutOfMemory = nothing ⊎ (LiveSoFar V R K W stream disk c d a b ⊎ ((V.takes_memory ≡ true) × LiveLed V R K W stream disk c d))
+TellsLive V R K W stream disk c d a b nothing fault.Output = LiveLed V R K W stream disk c d

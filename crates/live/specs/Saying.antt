@@ -1,49 +1,33 @@
 -- What comes of one line of a live input. (docs/SCRIPT.md, "Live".)
-use Rattle.std.specs.Prelude.{◌≡◌, ◌≢◌, ◌⊎◌, ◌++◌, ◌∷◌, ℕ, ◌+◌, ◌-◌, ◌*◌, ◌^◌, min, List, [], Option, Some, None, codes}
-use Rattle.worksheet.specs.Checks.{field_in}
-use Rattle.worksheet.specs.declared.field.Field.{Field}
-use Rattle.worksheet.specs.declared.refusal.Refusal.TheVariants as refusal
+use Rattle.std.specs.Prelude.{◌≡◌, ◌≢◌, ◌⊎◌, ℕ, ◌+◌, ◌-◌, ◌*◌, ◌^◌, ◌&&◌, not, min, Bool, true, false, List, [], Option, Some, None, if◌then◌else◌}
 use Rattle.host_events.specs.declared.event.Event.{Event}
 use Rattle.host_events.specs.declared.event.Event.TheVariants as event
 use Rattle.session_engine.specs.World.{World, sheet_in}
 use Rattle.child_edge.specs.Faithful.{Relation, At, at, Beat, Served, ServedUpTo}
 use Rattle.child_edge.specs.Interrupts.{Interrupts}
 use Rattle.child_edge.specs.declared.interrupting.Interrupted.{Interrupted}
-use Rattle.child_edge.specs.declared.interrupting.Interrupted.TheVariants as interrupted
 use Rattle.child_edge.specs.Seats.{waits}
-use Rattle.sheet_text.specs.Texts.{field_text, refused_line, sheet_text}
+use Rattle.child_edge.specs.Told.{told}
 use Rattle.sheet_text.specs.declared.script.ScriptLine.TheVariants as line
 use Rattle.sheet_text.specs.declared.live_line.LiveLine.{LiveLine}
 use Rattle.sheet_text.specs.declared.live_line.LiveLine.TheVariants as live
-use Rattle.offline_programs.specs.Memory.{bad_line}
-use Rattle.sheet_programs.specs.Lines.{beats_text}
+use Rattle.tellings.specs.Voice.{Voice, came_text, replied_text}
+use Rattle.tellings.specs.declared.note.Note.TheVariants as note
 use Rattle.live.specs.declared.holding.Hold.{Hold}
 use Rattle.live.specs.declared.holding.Hold.TheVariants as hold
 
--- one field in print, or that there is none
-abbrev pub field_shown : Option Field → List ℕ
-field_shown (Some field) = field_text field
-field_shown None = refused_line refusal.NoField
-
--- what came of the wish to interrupt the interpreter of this session
-abbrev pub interrupt_text : List ℕ → Interrupted → List ℕ
-interrupt_text name interrupted.NoSession = refused_line refusal.NoSession
-interrupt_text name interrupted.Idle = codes "idle " ++ name ++ 10 ∷ []
-interrupt_text name interrupted.Sent = codes "interrupted " ++ name ++ 10 ∷ []
-interrupt_text name interrupted.Failed = codes "failed " ++ name ++ 10 ∷ []
-
 -- The line with this number was done: the beats that came of it, what is written of it, and where the run stands behind it. Of a
 -- wait nothing comes at once: it holds back the lines behind it. No event comes of an interrupt, and all but the children stays.
-abbrev pub SaidDone : {C : Type 0} → Relation C → ℕ → Option LiveLine → At C → List Beat → List ℕ → At C → Type 0
-SaidDone R number None s beats text t = (beats ≡ []) × (text ≡ bad_line number) × (t ≡ s)
-SaidDone R number (Some (live.Script line.Skip)) s beats text t = (beats ≡ []) × (text ≡ []) × (t ≡ s)
-SaidDone R number (Some (live.Script (line.Command c))) s beats text t = Served R s (event.Command c) beats t × (text ≡ beats_text beats)
-SaidDone R number (Some (live.Script line.Wait)) s beats text t = (beats ≡ []) × (text ≡ []) × (t ≡ s)
-SaidDone R number (Some (live.Script line.Print)) s beats text t = (beats ≡ []) × (text ≡ sheet_text (sheet_in s.world)) × (t ≡ s)
-SaidDone R number (Some (live.PrintField id)) s beats text t = (beats ≡ []) × (text ≡ field_shown (field_in (sheet_in s.world).fields id)) × (t ≡ s)
-SaidDone R number (Some (live.WaitFor seconds)) s beats text t = (beats ≡ []) × (text ≡ []) × (t ≡ s)
-SaidDone R number (Some (live.Interrupt name)) s beats text t =
-    (beats ≡ []) × ((told : Interrupted) × Interrupts R s.world name s.children told t.children × (text ≡ interrupt_text name told))
+abbrev pub SaidDone : {C : Type 0} → Voice → Relation C → ℕ → Option LiveLine → At C → List Beat → List ℕ → At C → Type 0
+SaidDone V R number None s beats text t = (beats ≡ []) × (text ≡ V.note (note.Bad number)) × (t ≡ s)
+SaidDone V R number (Some (live.Script line.Skip)) s beats text t = (beats ≡ []) × (text ≡ V.note (note.Nothing number)) × (t ≡ s)
+SaidDone V R number (Some (live.Script (line.Command c))) s beats text t = Served R s (event.Command c) beats t × (text ≡ replied_text V number (sheet_in t.world) (told beats))
+SaidDone V R number (Some (live.Script line.Wait)) s beats text t = (beats ≡ []) × (text ≡ []) × (t ≡ s)
+SaidDone V R number (Some (live.Script line.Print)) s beats text t = (beats ≡ []) × (text ≡ V.sheet number s.world) × (t ≡ s)
+SaidDone V R number (Some (live.PrintField id)) s beats text t = (beats ≡ []) × (text ≡ V.field number id s.world) × (t ≡ s)
+SaidDone V R number (Some (live.WaitFor seconds)) s beats text t = (beats ≡ []) × (text ≡ []) × (t ≡ s)
+SaidDone V R number (Some (live.Interrupt name)) s beats text t =
+    (beats ≡ []) × ((came : Interrupted) × Interrupts R s.world name s.children came t.children × (text ≡ V.note (note.Interrupted number name came)))
     × (t ≡ at s.world t.children s.disk)
 
 -- The line came up to this event, at which the host had a fault: these beats of it came before.
@@ -96,3 +80,13 @@ Begins K c (Some (live.Interrupt name)) held = held ≡ hold.Free
 -- a wait goes on as long as an item waits for an answer
 abbrev pub WaitGoesOn : Hold → World → Hold → Type 0
 WaitGoesOn held w behind = ((waits w ≡ []) × (behind ≡ hold.Free)) ⊎ ((waits w ≢ []) × (behind ≡ held))
+
+-- whether lines are held back
+abbrev pub is_held : Hold → Bool
+is_held hold.Free = false
+is_held hold.Wait = true
+is_held (hold.Until end) = true
+
+-- what is told of a wait of this line that goes on or not, by how it stood before and how it stands
+abbrev pub over_text : Voice → ℕ → Hold → Hold → List ℕ
+over_text V number before now = if is_held before && not (is_held now) then V.note (note.Waited number false) else []

@@ -1,15 +1,21 @@
 //! Waits that hold back the lines behind them.
-ghost use Rattle.std.specs.Prelude.{◌≡◌, false, true};
+ghost use Rattle.std.specs.Prelude.{◌≡◌, IfErr, IfOk, false, true};
+ghost use Rattle.std.specs.Io.KnownBytes.{Appends};
 ghost use Rattle.session_engine.specs.World.{World};
 ghost use Rattle.session_engine.specs.Host.{IsHost};
 ghost use Rattle.arrivals.specs.Watching.{InputMayCome, TimeMayCome};
-ghost use Rattle.live.specs.Saying.{WaitGoesOn, IsTimed};
+ghost use Rattle.tellings.specs.Voice.{IsUntold};
+ghost use Rattle.live.specs.Saying as saying;
+ghost use Rattle.live.specs.Saying.{IsTimed, WaitGoesOn, over_text};
 ghost use Rattle.live.specs.Arrivals.{IsOver, input_at, patience_at};
 
 use arrivals::Input;
 use child_edge::is_idle;
 use disk_model::Disk;
+use offline_programs::RunFault;
 use session_engine::Host;
+use std::io::Write;
+use tellings::{Note, Tells};
 
 /// Whether a wait holds back the next line.
 #[derive(Clone, Copy, Debug, PartialEq, Eq)]
@@ -27,6 +33,40 @@ pub(crate) fn go_on<D: Disk>(held: Hold, host: &Host<D>) -> Hold
     ensures { (w : World) → IsHost host.now w → WaitGoesOn held w result }
 {
     if is_idle(host) { Hold::Free } else { held }
+}
+
+/// Whether lines are held back.
+fn is_held(held: Hold) -> bool
+    ensures { result ≡ saying.is_held held }
+{
+    match held {
+        Hold::Free => false,
+        Hold::Wait | Hold::Until(_) => true,
+    }
+}
+
+/// The wait of a line that goes on behind an event, if it does. That it is over is told.
+pub(crate) fn tell_over<D: Disk, T: Tells, W: Write>(
+    held: Hold,
+    number: u64,
+    host: &Host<D>,
+    tells: &T,
+    writer: &mut W,
+) -> Result<Hold, RunFault>
+    ensures on { (w : World) → IsHost host.now w → IfOk result (WaitGoesOn held w) }
+    ensures told { IfOk result (λ now. Appends (W.contents writer.old) (W.contents writer.new)
+        (over_text T.voice number held now)) }
+    ensures err { IfErr result (IsUntold T.voice) }
+{
+    let now = go_on(held, host);
+    if is_held(held) && !is_held(now) {
+        match tells.note(Note::Waited(number, false), writer) {
+            Ok(()) => Ok(now),
+            Err(fault) => Err(fault),
+        }
+    } else {
+        Ok(now)
+    }
 }
 
 /// How the input stands, where a line is there or not.

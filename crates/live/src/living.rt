@@ -20,21 +20,23 @@ use offline_programs::RunFault;
 use session_engine::Host;
 use std::alloc::Global;
 use std::io::{Read, Write};
+use tellings::Tells;
 
 /// Takes what comes, one after the other, to the end of the input.
-fn live_on<R: Read, D: Disk, S: Sources, W: Write>(
+fn live_on<R: Read, D: Disk, S: Sources, T: Tells, W: Write>(
     alloc: Global,
     host: &mut Host<D>,
     sources: &mut S,
     lines: &mut InputLines<R>,
+    tells: &T,
     writer: &mut W,
 ) -> Result<(), RunFault>
     ensures same { SameDisk host.old.store.disk host.new.store.disk }
-    ensures ok { (w : World) → IsHost host.old w → OnOk result (LivedThrough S.after S.clock S.wakes
+    ensures ok { (w : World) → IsHost host.old w → OnOk result (LivedThrough T.voice S.after S.clock S.wakes
         (begin_at w sources.old host.old.store.disk) host.new sources.new
         (W.contents writer.old) (W.contents writer.new)
         (to_come lines.old.held (R.remaining lines.old.reader))) }
-    ensures err { (w : World) → IsHost host.old w → IfErr result (LivingFailed S.after S.clock S.wakes
+    ensures err { (w : World) → IsHost host.old w → IfErr result (LivingFailed T.voice S.after S.clock S.wakes
         (begin_at w sources.old host.old.store.disk) host.new sources.new
         (W.contents writer.old) (W.contents writer.new)
         (to_come lines.old.held (R.remaining lines.old.reader))) }
@@ -44,7 +46,7 @@ fn live_on<R: Read, D: Disk, S: Sources, W: Write>(
         held: Hold::Free,
     };
     for _ in 0..u64::MAX {
-        match step(alloc, host, sources, lines, stand, writer) {
+        match step(alloc, host, sources, lines, stand, tells, writer) {
             Ok(Some(next)) => stand = next,
             Ok(None) => return Ok(()),
             Err(fault) => return Err(fault),
@@ -54,32 +56,32 @@ fn live_on<R: Read, D: Disk, S: Sources, W: Write>(
 }
 
 /// The same, and each life that goes on is stopped then.
-fn live_and_stop<R: Read, D: Disk, S: Sources, W: Write>(
+fn live_and_stop<R: Read, D: Disk, S: Sources, T: Tells, W: Write>(
     alloc: Global,
     host: &mut Host<D>,
     sources: &mut S,
     lines: &mut InputLines<R>,
+    tells: &T,
     writer: &mut W,
 ) -> Result<(), RunFault>
     ensures same { SameDisk host.old.store.disk host.new.store.disk }
-    ensures ok { (w : World) → IsHost host.old w → OnOk result (Ended S.after S.clock S.wakes
+    ensures ok { (w : World) → IsHost host.old w → OnOk result (Ended T.voice S.after S.clock S.wakes
         (begin_at w sources.old host.old.store.disk) host.new sources.new
         (W.contents writer.old) (W.contents writer.new)
         (to_come lines.old.held (R.remaining lines.old.reader))) }
-    ensures err { (w : World) → IsHost host.old w → IfErr result (EndedBy S.after S.clock S.wakes
+    ensures err { (w : World) → IsHost host.old w → IfErr result (EndedBy T.voice S.after S.clock S.wakes
         (begin_at w sources.old host.old.store.disk) host.new sources.new
         (W.contents writer.old) (W.contents writer.new)
         (to_come lines.old.held (R.remaining lines.old.reader))) }
 {
-    let done = live_on(alloc, host, sources, lines, writer);
+    let done = live_on(alloc, host, sources, lines, tells, writer);
     stop_all(host, sources);
     done
 }
 
 /// Holds the worksheet on a disk open as long as an input lasts: its lines are taken while interpreters
-/// work, and what their children write is taken when it comes. What an event gives is written and flushed
-/// at once, in the words of `sheet_programs::run` (docs/SCRIPT.md, "Live", has the lines). It gives the
-/// disk back.
+/// work, and what their children write is taken when it comes. What an event gives is told at once, in words
+/// (docs/SCRIPT.md, "Live", has the lines) or as JSON (docs/JSON.md). It gives the disk back.
 ///
 /// A `wait` holds back the lines behind it until no item waits for an answer; `wait SECONDS` ends behind
 /// so many seconds too, and each session in which an item still waits is told that it stalled. At the end
@@ -88,20 +90,22 @@ fn live_and_stop<R: Read, D: Disk, S: Sources, W: Write>(
 /// All memory for lines is taken before the disk is opened. `Open` where the disk isn't opened: nothing
 /// was read or written. `Input` where the input can't be read or its sources can't be watched,
 /// `InputTooLong` behind 2^64 - 1 arrivals, `Host` where the host has a fault, `OutOfMemory`: what was told
-/// before is written. `Output` where the writer fails: a part of the text may have gone out.
-pub fn live<R: Read, W: Write, D: Disk, S: Sources>(
+/// before is written. `Output` where the writer fails: a part of the text may have gone out. A voice that
+/// takes memory has `OutOfMemory` for that too.
+pub fn live<R: Read, W: Write, D: Disk, S: Sources, T: Tells>(
     alloc: Global,
     reader: R,
+    tells: &T,
     writer: &mut W,
     disk: D,
     sources: &mut S,
 ) -> Result<D, RunFault>
 where
     R: Drop,
-    ensures lived { IfOk result (λ back. LiveDone S.after S.clock S.wakes (R.remaining reader) (D.view disk)
+    ensures lived { IfOk result (λ back. LiveDone T.voice S.after S.clock S.wakes (R.remaining reader) (D.view disk)
         sources.old sources.new (W.contents writer.old) (W.contents writer.new) (D.view back)) }
     ensures same { IfOk result (λ back. SameDisk (D.view disk) (D.view back)) }
-    ensures fault { IfErr result (TellsLive S.after S.clock S.wakes (R.remaining reader) (D.view disk)
+    ensures fault { IfErr result (TellsLive T.voice S.after S.clock S.wakes (R.remaining reader) (D.view disk)
         sources.old sources.new (W.contents writer.old) (W.contents writer.new)
         ((writer.new ≡ writer.old) × (sources.new ≡ sources.old))) }
 
@@ -116,7 +120,7 @@ where
         Ok(host) => host,
         Err(fault) => return Err(RunFault::Open(fault.cause)),
     };
-    let done = live_and_stop(alloc, &mut host, sources, &mut lines, writer);
+    let done = live_and_stop(alloc, &mut host, sources, &mut lines, tells, writer);
     let disk = host.close();
     match done {
         Ok(()) => Ok(disk),

@@ -17,6 +17,7 @@ use offline_programs::RunFault;
 use session_engine::Host;
 use std::alloc::Global;
 use std::io::{Read, Write};
+use tellings::Tells;
 
 /// How many lines were taken, and whether a wait holds back the next one.
 #[derive(Clone, Copy, Debug)]
@@ -26,24 +27,25 @@ pub(crate) struct Stand {
 }
 
 /// Takes the next line, or reads more of the input. `None` at its end.
-fn take_input<R: Read, D: Disk, S: Sources, W: Write>(
+fn take_input<R: Read, D: Disk, S: Sources, T: Tells, W: Write>(
     alloc: Global,
     host: &mut Host<D>,
     sources: &mut S,
     lines: &mut InputLines<R>,
     number: u64,
+    tells: &T,
     writer: &mut W,
 ) -> Result<Option<Stand>, RunFault>
     requires { number + 1 < 2 ^ 64 }
     ensures same { SameDisk host.old.store.disk host.new.store.disk }
     ensures ok { (is_there : Bool) (w : World) → Readiness lines.old.held is_there → IsHost host.old w
-        → IfOk result (TurnTook S.after S.clock
+        → IfOk result (TurnTook T.voice S.after S.clock
         (place (at w sources.old host.old.store.disk) number Hold.Free) Woken.Input is_there host.new sources.new
         (W.contents writer.old) (W.contents writer.new)
         (to_come lines.old.held (R.remaining lines.old.reader))
         (to_come lines.new.held (R.remaining lines.new.reader))) }
     ensures err { (is_there : Bool) (w : World) → Readiness lines.old.held is_there → IsHost host.old w
-        → IfErr result (TurnFailed S.after S.clock
+        → IfErr result (TurnFailed T.voice S.after S.clock
         (place (at w sources.old host.old.store.disk) number Hold.Free) Woken.Input is_there host.new sources.new
         (W.contents writer.old) (W.contents writer.new)
         (to_come lines.old.held (R.remaining lines.old.reader))
@@ -52,7 +54,7 @@ fn take_input<R: Read, D: Disk, S: Sources, W: Write>(
 {
     match lines.next() {
         NextLine::Line => {
-            match take_line(alloc, host, sources, lines.line(), number + 1, writer) {
+            match take_line(alloc, host, sources, lines.line(), number, tells, writer) {
                 Ok(held) => Ok(Some(Stand {
                     number: number + 1,
                     held,
@@ -60,7 +62,7 @@ fn take_input<R: Read, D: Disk, S: Sources, W: Write>(
                 Err(fault) => Err(fault),
             }
         }
-        NextLine::TooLong => match take_too_long(host, number + 1, writer) {
+        NextLine::TooLong => match take_too_long(host, number, tells, writer) {
             Ok(held) => Ok(Some(Stand {
                 number: number + 1,
                 held,
@@ -79,26 +81,27 @@ fn take_input<R: Read, D: Disk, S: Sources, W: Write>(
 }
 
 /// Takes what it is the turn of.
-fn take_turn<R: Read, D: Disk, S: Sources, W: Write>(
+fn take_turn<R: Read, D: Disk, S: Sources, T: Tells, W: Write>(
     alloc: Global,
     host: &mut Host<D>,
     sources: &mut S,
     lines: &mut InputLines<R>,
     stand: Stand,
     woken: Woken,
+    tells: &T,
     writer: &mut W,
 ) -> Result<Option<Stand>, RunFault>
     requires few { stand.number + 1 < 2 ^ 64 }
     requires turn { MayTurn stand.held woken }
     ensures same { SameDisk host.old.store.disk host.new.store.disk }
     ensures ok { (is_there : Bool) (w : World) → Readiness lines.old.held is_there → IsHost host.old w
-        → IfOk result (TurnTook S.after S.clock
+        → IfOk result (TurnTook T.voice S.after S.clock
         (place (at w sources.old host.old.store.disk) stand.number stand.held) woken is_there host.new sources.new
         (W.contents writer.old) (W.contents writer.new)
         (to_come lines.old.held (R.remaining lines.old.reader))
         (to_come lines.new.held (R.remaining lines.new.reader))) }
     ensures err { (is_there : Bool) (w : World) → Readiness lines.old.held is_there → IsHost host.old w
-        → IfErr result (TurnFailed S.after S.clock
+        → IfErr result (TurnFailed T.voice S.after S.clock
         (place (at w sources.old host.old.store.disk) stand.number stand.held) woken is_there host.new sources.new
         (W.contents writer.old) (W.contents writer.new)
         (to_come lines.old.held (R.remaining lines.old.reader))
@@ -107,12 +110,12 @@ fn take_turn<R: Read, D: Disk, S: Sources, W: Write>(
 {
     let Stand { number, held } = stand;
     match woken {
-        Woken::Input => take_input(alloc, host, sources, lines, number, writer),
-        Woken::Life(seat) => match take_life(alloc, host, sources, seat, held, writer) {
+        Woken::Input => take_input(alloc, host, sources, lines, number, tells, writer),
+        Woken::Life(seat) => match take_life(alloc, host, sources, seat, stand, tells, writer) {
             Ok(held) => Ok(Some(Stand { number, held })),
             Err(fault) => Err(fault),
         },
-        Woken::TimeOver => match end_wait(alloc, host, sources, writer) {
+        Woken::TimeOver => match end_wait(alloc, host, sources, number, tells, writer) {
             Ok(()) => Ok(Some(Stand {
                 number,
                 held: Hold::Free,
@@ -135,22 +138,23 @@ fn next_turn<S: Sources>(sources: &mut S, held: Hold, is_ready: bool) -> Result<
 }
 
 /// Waits until it is someone's turn, and takes what has come. `None` at the end of the input.
-pub(crate) fn step<R: Read, D: Disk, S: Sources, W: Write>(
+pub(crate) fn step<R: Read, D: Disk, S: Sources, T: Tells, W: Write>(
     alloc: Global,
     host: &mut Host<D>,
     sources: &mut S,
     lines: &mut InputLines<R>,
     stand: Stand,
+    tells: &T,
     writer: &mut W,
 ) -> Result<Option<Stand>, RunFault>
     requires { stand.number + 1 < 2 ^ 64 }
     ensures same { SameDisk host.old.store.disk host.new.store.disk }
-    ensures ok { (w : World) → IsHost host.old w → IfOk result (Steps S.after S.clock S.wakes
+    ensures ok { (w : World) → IsHost host.old w → IfOk result (Steps T.voice S.after S.clock S.wakes
         (place (at w sources.old host.old.store.disk) stand.number stand.held) host.new sources.new
         (W.contents writer.old) (W.contents writer.new)
         (to_come lines.old.held (R.remaining lines.old.reader))
         (to_come lines.new.held (R.remaining lines.new.reader))) }
-    ensures err { (w : World) → IsHost host.old w → IfErr result (ComingFailed S.after S.clock S.wakes
+    ensures err { (w : World) → IsHost host.old w → IfErr result (ComingFailed T.voice S.after S.clock S.wakes
         (place (at w sources.old host.old.store.disk) stand.number stand.held) host.new sources.new
         (W.contents writer.old) (W.contents writer.new)
         (to_come lines.old.held (R.remaining lines.old.reader))
@@ -158,7 +162,7 @@ pub(crate) fn step<R: Read, D: Disk, S: Sources, W: Write>(
     ensures count { IfOk result (λ next. IfSome next (λ after. after.number ≤ stand.number + 1)) }
 {
     match next_turn(sources, stand.held, lines.is_ready()) {
-        Ok(woken) => take_turn(alloc, host, sources, lines, stand, woken, writer),
+        Ok(woken) => take_turn(alloc, host, sources, lines, stand, woken, tells, writer),
         Err(_) => Err(RunFault::Input),
     }
 }

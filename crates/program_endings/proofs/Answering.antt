@@ -13,12 +13,13 @@ use Rattle.offline_programs.specs.declared.fault.RunFault.{RunFault}
 use Rattle.offline_programs.specs.declared.fault.RunFault.TheVariants as fault
 use Rattle.sheet_programs.proofs.Runs.{err_same}
 use Rattle.program_endings.specs.Ending.{ProgramAnswer}
-use Rattle.program_endings.specs.Programs.{LiveAnswer, answer_of}
+use Rattle.tellings.specs.Voice.{Voice}
+use Rattle.program_endings.specs.LiveProgram.{LivesOn, answer_of}
 
-module _ {D C : Type 0} (view : D → DiskView) (R : Relation C) (K : Clock C) (W : Watch C) (stream : Option (List ℕ)) (disk : D) (c d : C) (a b : Option (List ℕ)) (nothing : Type 0) where
-  pub live_answered : (r : Result D RunFault) → IfOk r (λ back. LiveDone R K W stream (view disk) c d a b (view back)) → IfOk r (λ back. SameDisk (view disk) (view back))
-      → IfErr r (TellsLive R K W stream (view disk) c d a b nothing) → (IsErrOf r (fault.Open opens.Disk) → FailedSince view disk) → (IsErrOf r (fault.Host hosts.Disk) → FailedSince view disk)
-      → LiveAnswer view R K W stream disk c d a b nothing (answer_of r)
+module _ {D C : Type 0} (V : Voice) (view : D → DiskView) (R : Relation C) (K : Clock C) (W : Watch C) (stream : Option (List ℕ)) (disk : D) (c d : C) (a b : Option (List ℕ)) (nothing : Type 0) where
+  pub live_answered : (r : Result D RunFault) → IfOk r (λ back. LiveDone V R K W stream (view disk) c d a b (view back)) → IfOk r (λ back. SameDisk (view disk) (view back))
+      → IfErr r (TellsLive V R K W stream (view disk) c d a b nothing) → (IsErrOf r (fault.Open opens.Disk) → FailedSince view disk) → (IsErrOf r (fault.Host hosts.Disk) → FailedSince view disk)
+      → LivesOn V view R K W stream disk c d a b nothing (answer_of r)
   live_answered (Ok back) lived same told unopened failed = record {
     lived = (refl, (back, same, lived));
     unopened = λ e. no-error (fault.Open opens.Disk) e;

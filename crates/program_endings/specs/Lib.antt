@@ -6,3 +6,4 @@ pub mod RescueProgram
 pub mod CheckProgram
 pub mod ExportProgram
 pub mod StrictProgram
+pub mod LiveProgram

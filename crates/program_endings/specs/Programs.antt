@@ -17,9 +17,6 @@ use Rattle.program_endings.specs.Ending.{ProgramAnswer}
 use Rattle.offline_programs.specs.Faults.{FailedSince, TellsShow}
 use Rattle.program_endings.specs.Faults.{create_fault_text, no_files}
 use Rattle.offline_programs.specs.Input.{longest_standard_input}
-use Rattle.live.specs.Arrivals.{Watch}
-use Rattle.live.specs.Saying.{Clock}
-use Rattle.live.specs.Live.{LiveDone, TellsLive}
 use Rattle.sheet_programs.specs.Run.{RunDone, TellsRun}
 use Rattle.sheet_files.specs.declared.files_fault.FilesFault.{FilesFault}
 use Rattle.sheet_files.specs.declared.files_fault.MakeFault.{MakeFault}
@@ -85,21 +82,3 @@ pub record RunAnswer {D C : Type 0} (view : D → DiskView) (R : Relation C)
   pub unopened : IsErrOf answer (fault.Open opens.Disk) → FailedSince view disk
   pub failed : IsErrOf answer (fault.Host hosts.Disk) → FailedSince view disk
   pub fault : IfErr answer (TellsRun R stream (view disk) c d a b nothing)
-
--- what a program answers that came to its end, or had a fault
-abbrev pub answer_of : {D : Type 0} → Result D RunFault → ProgramAnswer
-answer_of (Ok back) = Ok true
-answer_of (Err why) = Err why
-
--- What `live` answers on a disk, and what it has written and done then: its clauses. Its lines are those of the stream of its reader,
--- where that is known; `nothing` says that it wrote nothing and called no child.
-pub record LiveAnswer {D C : Type 0} (view : D → DiskView) (R : Relation C) (K : Clock C) (W : Watch C)
-    (stream : Option (List ℕ)) (disk : D) (c d : C) (a b : Option (List ℕ)) (nothing : Type 0)
-    (answer : ProgramAnswer) : Type 0 where
-  -- the disk that it gives back is the same one, after all that came
-  pub lived : IfOk answer (λ whole. (whole ≡ true) × ((back : D) × SameDisk (view disk) (view back)
-      × LiveDone R K W stream (view disk) c d a b (view back)))
-  -- that the disk failed, at the opening or later, is told only where it did
-  pub unopened : IsErrOf answer (fault.Open opens.Disk) → FailedSince view disk
-  pub failed : IsErrOf answer (fault.Host hosts.Disk) → FailedSince view disk
-  pub fault : IfErr answer (TellsLive R K W stream (view disk) c d a b nothing)

@@ -3,15 +3,13 @@
 ghost use Rattle.std.specs.Prelude.{◌≡◌, ◌≤◌, Err, IfErr, IfOk};
 ghost use Rattle.program_endings.specs.Ending.{ProgramAnswer, TellsFault, status_of};
 ghost use Rattle.program_endings.specs.Faults as printed;
-ghost use Rattle.program_endings.specs.Programs.{CreateAnswer, Creates, LiveAnswer, RunAnswer, answer_of, ShowAnswer, TellsCreate, TellsMake, create_status};
+ghost use Rattle.program_endings.specs.Programs.{CreateAnswer, Creates, RunAnswer, ShowAnswer, TellsCreate, TellsMake, create_status};
 
 use crate::ending::ended;
 use crate::telling::no_files;
 use crate::{Ending, create_fault_text, end_program};
-use arrivals::Sources;
 use child_calls::Children;
 use disk_model::Disk;
-use live::live;
 use offline_programs::{RunFault, show};
 use sheet_files::{FilesFault, MakeFault};
 use sheet_programs::run;
@@ -158,79 +156,5 @@ pub fn run_script<R: Read, W: Write, E: Write, D: Disk, C: Children>(
     match files {
         Ok(disk) => end_run(alloc, input, output, errors, disk, children),
         Err(why) => end_program(Err(no_files(why)), errors),
-    }
-}
-
-/// The answer of a program that gave its disk back, which is dropped, or had a fault.
-fn answered<D: Drop>(done: Result<D, RunFault>) -> Result<bool, RunFault>
-    ensures { result ≡ answer_of done }
-{
-    match done {
-        Ok(_) => Ok(true),
-        Err(fault) => Err(fault),
-    }
-}
-
-/// Holds the worksheet on a disk open, and drops the disk at the end.
-fn live_on<R: Read, W: Write, D: Disk, S: Sources>(
-    alloc: Global,
-    input: &mut R,
-    output: &mut W,
-    disk: D,
-    sources: &mut S,
-) -> Result<bool, RunFault>
-    ensures { LiveAnswer D.view S.after S.clock S.wakes (R.remaining input.old) disk sources.old sources.new
-        (W.contents output.old) (W.contents output.new)
-        ((output.new ≡ output.old) × (sources.new ≡ sources.old)) result }
-{
-    answered(live(alloc, input, output, disk, sources))
-}
-
-/// Holds the worksheet on a disk open, and tells the fault.
-fn end_live<R: Read, W: Write, E: Write, D: Disk, S: Sources>(
-    alloc: Global,
-    input: &mut R,
-    output: &mut W,
-    errors: &mut E,
-    disk: D,
-    sources: &mut S,
-) -> Ending
-    ensures { (answer : ProgramAnswer)
-        × LiveAnswer D.view S.after S.clock S.wakes (R.remaining input.old) disk sources.old sources.new
-        (W.contents output.old) (W.contents output.new)
-        ((output.new ≡ output.old) × (sources.new ≡ sources.old)) answer
-        × (result.status ≡ status_of answer)
-        × TellsFault E.contents errors.old errors.new result.told answer }
-{
-    let answer = live_on(alloc, input, output, disk, sources);
-    end_program(answer, errors)
-}
-
-/// The whole program `live` on its files, or on why they weren't opened: its lines come from `input`,
-/// which is read only where there are files, and what comes of them and of interpreters goes to `output`,
-/// flushed at once. The line of a fault goes to `errors`.
-pub fn run_live<R: Read, W: Write, E: Write, D: Disk, S: Sources>(
-    alloc: Global,
-    input: &mut R,
-    output: &mut W,
-    errors: &mut E,
-    files: Result<D, FilesFault>,
-    sources: &mut S,
-) -> Ending
-    // It is told before a line is read.
-    ensures unopened { IfErr files (λ why. (input.new ≡ input.old) × (output.new ≡ output.old)
-        × (sources.new ≡ sources.old) × (result.status ≡ 1)
-        × TellsFault E.contents errors.old errors.new result.told (Err (printed.no_files why))) }
-
-    ensures files { IfOk files (λ disk. (answer : ProgramAnswer)
-        × LiveAnswer D.view S.after S.clock S.wakes (R.remaining input.old) disk sources.old sources.new
-        (W.contents output.old) (W.contents output.new)
-        ((output.new ≡ output.old) × (sources.new ≡ sources.old)) answer
-        × (result.status ≡ status_of answer)
-        × TellsFault E.contents errors.old errors.new result.told answer) }
-{
-    match files {
-        Ok(disk) => end_live(alloc, input, output, errors, disk, sources),
-        Err(fault) => end_program(Err(no_files(fault)), errors),
     }
 }

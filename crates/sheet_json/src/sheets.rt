@@ -29,7 +29,7 @@ pub fn session_value(
     alloc: Global,
     session: &Session,
     life: Option<u32>,
-    waiting: usize,
+    waiting: u32,
 ) -> Result<Value, AllocError>
     ensures { IfOk result (λ value. view value
         ≡ json.session_data (shown.session_shown life waiting session.now)) }

@@ -10,7 +10,7 @@ rows =
     (codes "blocks", shape.Bare)
     ∷ (codes "create", shape.Path)
     ∷ (codes "run", shape.Strict)
-    ∷ (codes "live", shape.Path)
+    ∷ (codes "live", shape.Json)
     ∷ (codes "show", shape.Path)
     ∷ (codes "check", shape.Path)
     ∷ (codes "rescue", shape.Paths)

@@ -3,7 +3,8 @@ use Rattle.std.specs.Box.{box_value}
 use Rattle.clap.specs.Words.{Text, first_of, found_of, rows_of}
 use Rattle.clap.specs.declared.parser.matches.ArgMatches.TheViews.{out-ArgMatches, out-SubCommand}
 use Rattle.clap.proofs.WalkLemmas.{first_value-rows}
-use Rattle.command_words.specs.Asked.{by_paths, by_subcommand, is_set}
+use Rattle.command_words.specs.Asked.{by_paths, by_subcommand, flags_in, is_set}
+use Rattle.command_words.specs.declared.words.Flags.{Flags}
 use Rattle.command_words.proofs.Subcommands.{joined}
 use Rattle.command_words.proofs.words.task_of.Goals as goal
 
@@ -14,8 +15,8 @@ returns-in-Some-get_str-2 c =
     (λ b. rows_of (found_of (out-SubCommand (box_value b)).matches)) c.in-Some.name.now (rows_of found) c.in-Some.ensures.name c.in-Some.ensures.rows in
     let path_is : first_of (codes "PATH") (rows_of found) ≡ Some c.in-Some-get_str.path.now = sym (first_value-rows found (codes "PATH")) ∙ sym c.in-Some-get_str.ensures in
     let new_is : first_of (codes "NEW") (rows_of found) ≡ Some c.in-Some-get_str-2.new.now = sym (first_value-rows found (codes "NEW")) ∙ sym c.in-Some-get_str-2.ensures in
-    c.task_with_paths.ensures (first_of (codes "FORMAT") (rows_of found)) (is_set (first_of (codes "strict") (rows_of found))) ∙ sym (ap by_subcommand rows_are ∙ ap (λ (path : Option Text). by_paths c.in-Some.name.now path (first_of (codes "NEW") (rows_of found)) (first_of (codes "FORMAT") (rows_of found)) (is_set (first_of (codes "strict") (rows_of found)))) path_is
-    ∙ ap (λ (new : Option Text). by_paths c.in-Some.name.now (Some c.in-Some-get_str.path.now) new (first_of (codes "FORMAT") (rows_of found)) (is_set (first_of (codes "strict") (rows_of found)))) new_is)
+    c.task_with_paths.ensures (first_of (codes "FORMAT") (rows_of found)) (flags_in (rows_of found)) ∙ sym (ap by_subcommand rows_are ∙ ap (λ (path : Option Text). by_paths c.in-Some.name.now path (first_of (codes "NEW") (rows_of found)) (first_of (codes "FORMAT") (rows_of found)) (flags_in (rows_of found))) path_is
+    ∙ ap (λ (new : Option Text). by_paths c.in-Some.name.now (Some c.in-Some-get_str.path.now) new (first_of (codes "FORMAT") (rows_of found)) (flags_in (rows_of found))) new_is)
 
 pub returns-in-Some-get_str-3 : goal.returns-in-Some-get_str-3
 returns-in-Some-get_str-3 c =
@@ -25,8 +26,8 @@ returns-in-Some-get_str-3 c =
     let path_is : first_of (codes "PATH") (rows_of found) ≡ Some c.in-Some-get_str.path.now = sym (first_value-rows found (codes "PATH")) ∙ sym c.in-Some-get_str.ensures in
     let new_is : first_of (codes "NEW") (rows_of found) ≡ None = sym (first_value-rows found (codes "NEW")) ∙ sym c.in_default-get_str-2.ensures in
     let format_is : first_of (codes "FORMAT") (rows_of found) ≡ Some c.in-Some-get_str-3.format.now = sym (first_value-rows found (codes "FORMAT")) ∙ sym c.in-Some-get_str-3.ensures in
-    c.task_with_format.ensures (is_set (first_of (codes "strict") (rows_of found))) ∙ sym (ap by_subcommand rows_are ∙ ap (λ (path : Option Text). by_paths c.in-Some.name.now path (first_of (codes "NEW") (rows_of found)) (first_of (codes "FORMAT") (rows_of found)) (is_set (first_of (codes "strict") (rows_of found)))) path_is
-    ∙ ap₂ (λ (new format : Option Text). by_paths c.in-Some.name.now (Some c.in-Some-get_str.path.now) new format (is_set (first_of (codes "strict") (rows_of found)))) new_is format_is)
+    c.task_with_format.ensures (flags_in (rows_of found)) ∙ sym (ap by_subcommand rows_are ∙ ap (λ (path : Option Text). by_paths c.in-Some.name.now path (first_of (codes "NEW") (rows_of found)) (first_of (codes "FORMAT") (rows_of found)) (flags_in (rows_of found))) path_is
+    ∙ ap₂ (λ (new format : Option Text). by_paths c.in-Some.name.now (Some c.in-Some-get_str.path.now) new format (flags_in (rows_of found))) new_is format_is)
 
 pub returns-in-None : goal.returns-in-None
 returns-in-None c =
@@ -37,9 +38,11 @@ returns-in-None c =
     let new_is : first_of (codes "NEW") (rows_of found) ≡ None = sym (first_value-rows found (codes "NEW")) ∙ sym c.in_default-get_str-2.ensures in
     let format_is : first_of (codes "FORMAT") (rows_of found) ≡ None = sym (first_value-rows found (codes "FORMAT")) ∙ sym c.in-None.ensures in
     let strict_is : is_set (first_of (codes "strict") (rows_of found)) ≡ c.is_set.result = sym (c.is_set.ensures ∙ ap is_set (c.get_str-in-None.ensures ∙ first_value-rows found (codes "strict"))) in
-    c.task_with_path.ensures ∙ sym (ap by_subcommand rows_are ∙ ap (λ (path : Option Text). by_paths c.in-Some.name.now path (first_of (codes "NEW") (rows_of found)) (first_of (codes "FORMAT") (rows_of found)) (is_set (first_of (codes "strict") (rows_of found)))) path_is
-    ∙ ap₂ (λ (new format : Option Text). by_paths c.in-Some.name.now (Some c.in-Some-get_str.path.now) new format (is_set (first_of (codes "strict") (rows_of found)))) new_is format_is
-    ∙ ap (λ (strict : Bool). by_paths c.in-Some.name.now (Some c.in-Some-get_str.path.now) None None strict) strict_is)
+    let json_is : is_set (first_of (codes "json") (rows_of found)) ≡ c.is_set-in-None.result = sym (c.is_set-in-None.ensures ∙ ap is_set (c.get_str-in-None-2.ensures ∙ first_value-rows found (codes "json"))) in
+    let flags_are : flags_in (rows_of found) ≡ record { strict = c.is_set.result; json = c.is_set-in-None.result } = ap₂ (λ (a b : Bool). let x : Flags = record { strict = a; json = b } in x) strict_is json_is in
+    c.task_with_path.ensures ∙ sym (ap by_subcommand rows_are ∙ ap (λ (path : Option Text). by_paths c.in-Some.name.now path (first_of (codes "NEW") (rows_of found)) (first_of (codes "FORMAT") (rows_of found)) (flags_in (rows_of found))) path_is
+    ∙ ap₂ (λ (new format : Option Text). by_paths c.in-Some.name.now (Some c.in-Some-get_str.path.now) new format (flags_in (rows_of found))) new_is format_is
+    ∙ ap (λ (flags : Flags). by_paths c.in-Some.name.now (Some c.in-Some-get_str.path.now) None None flags) flags_are)
 
 pub returns-in_default-get_str : goal.returns-in_default-get_str
 returns-in_default-get_str c =
@@ -47,4 +50,4 @@ returns-in_default-get_str c =
     let rows_are = joined (out-ArgMatches c.args.matches.now).subcommand (λ b. (out-SubCommand (box_value b)).name.now)
     (λ b. rows_of (found_of (out-SubCommand (box_value b)).matches)) c.in-Some.name.now (rows_of found) c.in-Some.ensures.name c.in-Some.ensures.rows in
     let path_is : first_of (codes "PATH") (rows_of found) ≡ None = sym (first_value-rows found (codes "PATH")) ∙ sym c.in_default-get_str.ensures in
-    sym (ap by_subcommand rows_are ∙ ap (λ (path : Option Text). by_paths c.in-Some.name.now path (first_of (codes "NEW") (rows_of found)) (first_of (codes "FORMAT") (rows_of found)) (is_set (first_of (codes "strict") (rows_of found)))) path_is)
+    sym (ap by_subcommand rows_are ∙ ap (λ (path : Option Text). by_paths c.in-Some.name.now path (first_of (codes "NEW") (rows_of found)) (first_of (codes "FORMAT") (rows_of found)) (flags_in (rows_of found))) path_is)

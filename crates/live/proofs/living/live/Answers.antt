@@ -16,7 +16,7 @@ returns-in-Ok-done-clause-lived g c =
     let o = c.in-Ok-open.ensures.opens in
     let disk = g.D.Disk.view c.args.disk in
     let start = world_at_opening o.0 disk.room c.in-Ok-open.host.store.end in
-    live_done g.S.Children.after g.S.Sources.clock g.S.Sources.wakes (g.R.Read.remaining c.args.reader) disk c.in-Ok-open.host.store.disk c.args.sources.now c.live_and_stop-done.new.sources
+    live_done g.T.Tells.voice g.S.Children.after g.S.Sources.clock g.S.Sources.wakes (g.R.Read.remaining c.args.reader) disk c.in-Ok-open.host.store.disk c.args.sources.now c.live_and_stop-done.new.sources
     (g.W.Write.contents c.args.writer.now) (g.W.Write.contents c.live_and_stop-done.new.writer) start c.live_and_stop-done.new.host (to_come c.in-Ok.lines.held (g.R.Read.remaining c.in-Ok.lines.reader))
     (opened_on disk c.in-Ok-open.host o.0 o.1 c.in-Ok-open.ensures.found c.in-Ok-open.ensures.ends c.in-Ok-open.ensures.looks) o.1.stands.images c.in-Ok.ensures.lines
     (g.D.Disk.view c.close-disk.result) (on_ok_is c.live_and_stop-done.result _ c.in-Ok-done.is (c.live_and_stop-done.ensures.ok start o.1)) c.close-disk.ensures
@@ -26,7 +26,7 @@ returns-clause-fault g c =
     let o = c.in-Ok-open.ensures.opens in
     let disk = g.D.Disk.view c.args.disk in
     let start = world_at_opening o.0 disk.room c.in-Ok-open.host.store.end in
-    live_failed g.S.Children.after g.S.Sources.clock g.S.Sources.wakes (g.R.Read.remaining c.args.reader) disk c.in-Ok-open.host.store.disk c.args.sources.now c.live_and_stop-done.new.sources
+    live_failed g.T.Tells.voice g.S.Children.after g.S.Sources.clock g.S.Sources.wakes (g.R.Read.remaining c.args.reader) disk c.in-Ok-open.host.store.disk c.args.sources.now c.live_and_stop-done.new.sources
     (g.W.Write.contents c.args.writer.now) (g.W.Write.contents c.live_and_stop-done.new.writer) start c.live_and_stop-done.new.host (to_come c.in-Ok.lines.held (g.R.Read.remaining c.in-Ok.lines.reader))
     (opened_on disk c.in-Ok-open.host o.0 o.1 c.in-Ok-open.ensures.found c.in-Ok-open.ensures.ends c.in-Ok-open.ensures.looks) o.1.stands.images c.in-Ok.ensures.lines _ c.in-Err-done.fault
     (same-on disk c.in-Ok-open.host.store.disk c.live_and_stop-done.new.host.store.disk c.in-Ok-open.ensures.same c.live_and_stop-done.ensures.same)
@@ -37,7 +37,7 @@ returns-clause-unopened g c = λ e.
     let o = c.in-Ok-open.ensures.opens in
     let disk = g.D.Disk.view c.args.disk in
     let start = world_at_opening o.0 disk.room c.in-Ok-open.host.store.end in
-    absurd (ended_open g.S.Children.after g.S.Sources.clock g.S.Sources.wakes (begin_at start c.args.sources.now c.in-Ok-open.host.store.disk) c.live_and_stop-done.new.host c.live_and_stop-done.new.sources
+    absurd (ended_open g.T.Tells.voice g.S.Children.after g.S.Sources.clock g.S.Sources.wakes (begin_at start c.args.sources.now c.in-Ok-open.host.store.disk) c.live_and_stop-done.new.host c.live_and_stop-done.new.sources
     (g.W.Write.contents c.args.writer.now) (g.W.Write.contents c.live_and_stop-done.new.writer) (to_come c.in-Ok.lines.held (g.R.Read.remaining c.in-Ok.lines.reader)) c.in-Err-done.fault opens.Disk
     (if_err_is c.live_and_stop-done.result _ c.in-Err-done.fault c.in-Err-done.is (c.live_and_stop-done.ensures.err start o.1)) (err_same _ c.in-Err-done.fault (told.Open opens.Disk) refl e))
 
@@ -48,7 +48,7 @@ returns-clause-failed g c = λ e.
     let host = c.live_and_stop-done.new.host in
     let start = world_at_opening o.0 disk.room c.in-Ok-open.host.store.end in
     let same = same-on disk c.in-Ok-open.host.store.disk host.store.disk c.in-Ok-open.ensures.same c.live_and_stop-done.ensures.same in
-    let rises = live_failed_since g.S.Children.after g.S.Sources.clock g.S.Sources.wakes disk c.in-Ok-open.host.store.disk start c.args.sources.now c.live_and_stop-done.new.sources host
+    let rises = live_failed_since g.T.Tells.voice g.S.Children.after g.S.Sources.clock g.S.Sources.wakes disk c.in-Ok-open.host.store.disk start c.args.sources.now c.live_and_stop-done.new.sources host
     (g.W.Write.contents c.args.writer.now) (g.W.Write.contents c.live_and_stop-done.new.writer) (to_come c.in-Ok.lines.held (g.R.Read.remaining c.in-Ok.lines.reader)) c.in-Err-done.fault c.in-Ok-open.ensures.same
     (if_err_is c.live_and_stop-done.result _ c.in-Err-done.fault c.in-Err-done.is (c.live_and_stop-done.ensures.err start o.1)) (err_same _ c.in-Err-done.fault (told.Host hosts.Disk) refl e) in
     (c.close-disk.result, subst (λ v. SameDisk disk v) (sym c.close-disk.ensures) same, subst (λ (v : DiskView). Rises disk.faults v.faults) (sym c.close-disk.ensures) rises)

@@ -1,11 +1,9 @@
-use Rattle.std.proofs.Common.{[], ap, refl, sym, subst}
+use Rattle.std.proofs.Common.{[], refl, sym, subst}
 use Rattle.std.specs.Prelude.{Some, IfErr, IfOk}
 use Rattle.std.proofs.KnownBytes.{Appends-nil}
-use Rattle.worksheet.specs.Checks.{field_in}
 use Rattle.sheet_text.specs.declared.live_line.LiveLine.TheVariants as live
 use Rattle.child_edge.specs.Faithful.{at}
 use Rattle.live.specs.declared.holding.Hold.TheVariants as hold
-use Rattle.live.specs.Saying.{field_shown}
 use Rattle.live.specs.inside.Taking.{Said, SayingFailed}
 use Rattle.live.proofs.Said.{said_still, still_unwritten}
 use Rattle.live.proofs.saying.say.Goals as goal
@@ -13,48 +11,47 @@ use Rattle.live.proofs.saying.say.Goals as goal
 pub returns-in-Script-clause-err : goal.returns-in-Script-clause-err
 returns-in-Script-clause-err g c = λ w h.
     subst
-    (λ l. IfErr c.say_script.result (SayingFailed g.S.Children.after g.S.Sources.clock (Some l) (at w c.args.sources.now c.args.host.now.store.disk) c.say_script.new.host c.say_script.new.sources
+    (λ l. IfErr c.say_script.result (SayingFailed g.T.Tells.voice g.S.Children.after g.S.Sources.clock c.args.number (Some l) (at w c.args.sources.now c.args.host.now.store.disk) c.say_script.new.host c.say_script.new.sources
     (g.W.Write.contents c.args.writer.now) (g.W.Write.contents c.say_script.new.writer)))
     (sym c.in-Script.is) (c.say_script.ensures.err w h)
 
-pub returns-in-Ok-clause-ok : goal.returns-in-Ok-clause-ok
-returns-in-Ok-clause-ok g c = λ number w h.
-    subst
-    (λ l. Said g.S.Children.after g.S.Sources.clock number (Some l) (at w c.args.sources.now c.args.host.now.store.disk) c.args.host.now c.args.sources.now
-    (g.W.Write.contents c.args.writer.now) (g.W.Write.contents c.tell_field.new.writer) hold.Free)
-    (sym c.in-PrintField.is)
-    (said_still g.S.Children.after g.S.Sources.clock number (Some (live.PrintField c.in-PrintField.id)) w c.args.host.now c.args.sources.now (g.W.Write.contents c.args.writer.now) (g.W.Write.contents c.tell_field.new.writer) hold.Free
-    (field_shown (field_in c.sheet.result.now.contents.fields c.in-PrintField.id))
-    (refl, ap (λ s. field_shown (field_in s.fields c.in-PrintField.id)) (c.sheet.ensures.stands w h), refl) refl h c.in-Ok.ensures.ok)
-
-pub returns-in-Err-clause-err : goal.returns-in-Err-clause-err
-returns-in-Err-clause-err g c = λ w h.
-    subst
-    (λ l. SayingFailed g.S.Children.after g.S.Sources.clock (Some l) (at w c.args.sources.now c.args.host.now.store.disk) c.args.host.now c.args.sources.now
-    (g.W.Write.contents c.args.writer.now) (g.W.Write.contents c.tell_field.new.writer) c.in-Err.fault)
-    (sym c.in-PrintField.is)
-    (still_unwritten g.S.Children.after g.S.Sources.clock (Some (live.PrintField c.in-PrintField.id)) w c.args.host.now c.args.sources.now (g.W.Write.contents c.args.writer.now) (g.W.Write.contents c.tell_field.new.writer) hold.Free c.in-Err.fault refl
-    (λ number. (field_shown (field_in c.sheet.result.now.contents.fields c.in-PrintField.id), (refl, ap (λ s. field_shown (field_in s.fields c.in-PrintField.id)) (c.sheet.ensures.stands w h), refl))) h c.in-Err.ensures.err)
-
-pub returns-in-WaitFor-clause-ok : goal.returns-in-WaitFor-clause-ok
-returns-in-WaitFor-clause-ok g c = λ number w h.
-    subst
-    (λ l. Said g.S.Children.after g.S.Sources.clock number (Some l) (at w c.args.sources.now c.args.host.now.store.disk) c.args.host.now c.args.sources.now
-    (g.W.Write.contents c.args.writer.now) (g.W.Write.contents c.args.writer.now) c.wait_for.result)
-    (sym c.in-WaitFor.is)
-    (said_still g.S.Children.after g.S.Sources.clock number (Some (live.WaitFor c.in-WaitFor.seconds)) w c.args.host.now c.args.sources.now (g.W.Write.contents c.args.writer.now) (g.W.Write.contents c.args.writer.now) c.wait_for.result []
-    (refl, refl, refl) (c.now.result, c.now.ensures, c.wait_for.ensures) h (Appends-nil (g.W.Write.contents c.args.writer.now)))
-
 pub returns-in-Interrupt-clause-ok : goal.returns-in-Interrupt-clause-ok
-returns-in-Interrupt-clause-ok g c = λ number w h.
+returns-in-Interrupt-clause-ok g c = λ w h.
     subst
-    (λ l. IfOk c.say_interrupt.result (Said g.S.Children.after g.S.Sources.clock number (Some l) (at w c.args.sources.now c.args.host.now.store.disk) c.say_interrupt.new.host c.say_interrupt.new.sources
+    (λ l. IfOk c.say_interrupt.result (Said g.T.Tells.voice g.S.Children.after g.S.Sources.clock c.args.number (Some l) (at w c.args.sources.now c.args.host.now.store.disk) c.say_interrupt.new.host c.say_interrupt.new.sources
     (g.W.Write.contents c.args.writer.now) (g.W.Write.contents c.say_interrupt.new.writer)))
-    (sym c.in-Interrupt.is) (c.say_interrupt.ensures.ok number w h)
+    (sym c.in-Interrupt.is) (c.say_interrupt.ensures.ok w h)
 
 pub returns-in-Interrupt-clause-err : goal.returns-in-Interrupt-clause-err
 returns-in-Interrupt-clause-err g c = λ w h.
     subst
-    (λ l. IfErr c.say_interrupt.result (SayingFailed g.S.Children.after g.S.Sources.clock (Some l) (at w c.args.sources.now c.args.host.now.store.disk) c.say_interrupt.new.host c.say_interrupt.new.sources
+    (λ l. IfErr c.say_interrupt.result (SayingFailed g.T.Tells.voice g.S.Children.after g.S.Sources.clock c.args.number (Some l) (at w c.args.sources.now c.args.host.now.store.disk) c.say_interrupt.new.host c.say_interrupt.new.sources
     (g.W.Write.contents c.args.writer.now) (g.W.Write.contents c.say_interrupt.new.writer)))
     (sym c.in-Interrupt.is) (c.say_interrupt.ensures.err w h)
+
+pub returns-in-Ok-clause-ok : goal.returns-in-Ok-clause-ok
+returns-in-Ok-clause-ok g c = λ w h.
+    subst
+    (λ l. Said g.T.Tells.voice g.S.Children.after g.S.Sources.clock c.args.number (Some l) (at w c.args.sources.now c.args.host.now.store.disk) c.args.host.now c.args.sources.now
+    (g.W.Write.contents c.args.writer.now) (g.W.Write.contents c.field.new.writer) hold.Free)
+    (sym c.in-PrintField.is)
+    (said_still g.T.Tells.voice g.S.Children.after g.S.Sources.clock c.args.number (Some (live.PrintField c.in-PrintField.id)) w c.args.host.now c.args.sources.now (g.W.Write.contents c.args.writer.now) (g.W.Write.contents c.field.new.writer) hold.Free
+    (g.T.Tells.voice.field c.args.number c.in-PrintField.id w) (refl, refl, refl) refl h (c.in-Ok.ensures.ok w h))
+
+pub returns-in-Err-clause-err : goal.returns-in-Err-clause-err
+returns-in-Err-clause-err g c = λ w h.
+    subst
+    (λ l. SayingFailed g.T.Tells.voice g.S.Children.after g.S.Sources.clock c.args.number (Some l) (at w c.args.sources.now c.args.host.now.store.disk) c.args.host.now c.args.sources.now
+    (g.W.Write.contents c.args.writer.now) (g.W.Write.contents c.field.new.writer) c.in-Err.fault)
+    (sym c.in-PrintField.is)
+    (still_unwritten g.T.Tells.voice g.S.Children.after g.S.Sources.clock c.args.number (Some (live.PrintField c.in-PrintField.id)) w c.args.host.now c.args.sources.now (g.W.Write.contents c.args.writer.now) (g.W.Write.contents c.field.new.writer) hold.Free c.in-Err.fault refl
+    (λ line. (g.T.Tells.voice.field line c.in-PrintField.id w, (refl, refl, refl))) h c.in-Err.ensures.err)
+
+pub returns-in-WaitFor-clause-ok : goal.returns-in-WaitFor-clause-ok
+returns-in-WaitFor-clause-ok g c = λ w h.
+    subst
+    (λ l. Said g.T.Tells.voice g.S.Children.after g.S.Sources.clock c.args.number (Some l) (at w c.args.sources.now c.args.host.now.store.disk) c.args.host.now c.args.sources.now
+    (g.W.Write.contents c.args.writer.now) (g.W.Write.contents c.args.writer.now) c.wait_for.result)
+    (sym c.in-WaitFor.is)
+    (said_still g.T.Tells.voice g.S.Children.after g.S.Sources.clock c.args.number (Some (live.WaitFor c.in-WaitFor.seconds)) w c.args.host.now c.args.sources.now (g.W.Write.contents c.args.writer.now) (g.W.Write.contents c.args.writer.now) c.wait_for.result []
+    (refl, refl, refl) (c.now.result, c.now.ensures, c.wait_for.ensures) h (Appends-nil (g.W.Write.contents c.args.writer.now)))

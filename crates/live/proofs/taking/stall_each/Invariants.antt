@@ -8,6 +8,5 @@ use Rattle.live.proofs.taking.stall_each.Given as goal
 abbrev pub invariant-loop-seat : goal.invariant-loop-seat
 invariant-loop-seat g l = record {
   same : SameDisk l.initial.host.store.disk l.host.store.disk;
-  runs : (w : World) → IsHost l.initial.host w → StalledSoFar g.S.Children.after l.seats l.seat-index (at w l.initial.sources l.initial.host.store.disk) l.host l.sources
-      (g.W.Write.contents l.initial.writer) (g.W.Write.contents l.writer);
+  runs : (w : World) → IsHost l.initial.host w → StalledSoFar g.S.Children.after l.seats l.seat-index (at w l.initial.sources l.initial.host.store.disk) l.initial.replies.items l.host l.sources l.replies.items;
 }

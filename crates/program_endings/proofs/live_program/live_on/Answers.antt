@@ -1,13 +1,13 @@
 use Rattle.std.proofs.Common.{◌≡◌, sym, subst}
-use Rattle.program_endings.specs.Programs.{LiveAnswer}
+use Rattle.program_endings.specs.LiveProgram.{LivesOn}
 use Rattle.program_endings.proofs.Answering.{live_answered}
-use Rattle.program_endings.proofs.programs.live_on.Goals as goal
+use Rattle.program_endings.proofs.live_program.live_on.Goals as goal
 
 pub returns : goal.returns
 returns g c =
     subst
-    (LiveAnswer g.D.Disk.view g.S.Children.after g.S.Sources.clock g.S.Sources.wakes (g.R.Read.remaining c.args.input.now) c.args.disk c.args.sources.now c.live.new.sources (g.W.Write.contents c.args.output.now) (g.W.Write.contents c.live.new.writer)
+    (LivesOn g.T.Tells.voice g.D.Disk.view g.S.Children.after g.S.Sources.clock g.S.Sources.wakes (g.R.Read.remaining c.args.input.now) c.args.disk c.args.sources.now c.live.new.sources (g.W.Write.contents c.args.output.now) (g.W.Write.contents c.live.new.writer)
     ((c.live.new.writer ≡ c.args.output.now) × (c.live.new.sources ≡ c.args.sources.now)))
     (sym c.answered.ensures)
-    (live_answered g.D.Disk.view g.S.Children.after g.S.Sources.clock g.S.Sources.wakes (g.R.Read.remaining c.args.input.now) c.args.disk c.args.sources.now c.live.new.sources (g.W.Write.contents c.args.output.now) (g.W.Write.contents c.live.new.writer) _
+    (live_answered g.T.Tells.voice g.D.Disk.view g.S.Children.after g.S.Sources.clock g.S.Sources.wakes (g.R.Read.remaining c.args.input.now) c.args.disk c.args.sources.now c.live.new.sources (g.W.Write.contents c.args.output.now) (g.W.Write.contents c.live.new.writer) _
     c.live.result c.live.ensures.lived c.live.ensures.same c.live.ensures.fault c.live.ensures.unopened c.live.ensures.failed)

@@ -1,8 +1,8 @@
 use Rattle.std.proofs.Common.{sym, subst}
 use Rattle.std.specs.Prelude.{OnOk}
 use Rattle.std.specs.Io.KnownBytes.{Appends}
-use Rattle.live.specs.Saying.{interrupt_text}
-use Rattle.live.proofs.saying.show_interrupt.Goals as goal
+use Rattle.tellings.specs.Words.{interrupt_text}
+use Rattle.tellings.proofs.in_words.show_interrupt.Goals as goal
 
 pub returns-in-Sent-clause-ok : goal.returns-in-Sent-clause-ok
 returns-in-Sent-clause-ok g c =

@@ -1,0 +1,22 @@
+use Rattle.std.proofs.Common.{◌≡◌, Ok, refl, subst}
+use Rattle.program_endings.specs.LiveProgram.{LivesOn}
+use Rattle.program_endings.specs.LiveProgram as ends
+use Rattle.program_endings.proofs.live_program.live_framed.Goals as goal
+
+pub returns-in-Err : goal.returns-in-Err
+returns-in-Err g c = ends.ungreeted c.in-Err.fault refl c.in-Err.ensures.err.0 c.in-Err.ensures.err.1 refl
+
+pub returns-in-Ok-frame : goal.returns-in-Ok-frame
+returns-in-Ok-frame g c =
+    ends.lived c.frame.new.writer c.live_on.new.output (c.in_default.ensures.ok, c.in_default.ensures.still) c.in-Ok.ensures (c.in-Ok-frame.ensures.ok, c.in-Ok-frame.ensures.still) tt
+
+pub returns-in-Err-frame : goal.returns-in-Err-frame
+returns-in-Err-frame g c =
+    ends.unended c.in-Err-frame.fault c.frame.new.writer c.live_on.new.output refl c.in-Err-frame.ensures.err.0 c.in-Err-frame.ensures.err.1 (c.in_default.ensures.ok, c.in_default.ensures.still)
+    (subst (λ whole. LivesOn g.T.Tells.voice g.D.Disk.view g.S.Children.after g.S.Sources.clock g.S.Sources.wakes (g.R.Read.remaining c.args.input.now) c.args.disk c.args.sources.now c.live_on.new.sources
+    (g.W.Write.contents c.frame.new.writer) (g.W.Write.contents c.live_on.new.output) ((c.live_on.new.output ≡ c.frame.new.writer) × (c.live_on.new.sources ≡ c.args.sources.now)) (Ok whole))
+    c.in-Ok.ensures.lived.0 c.in-Ok.ensures)
+
+pub returns-in-Err-live_on : goal.returns-in-Err-live_on
+returns-in-Err-live_on g c =
+    ends.lived c.frame.new.writer c.live_on.new.output (c.in_default.ensures.ok, c.in_default.ensures.still) c.in-Err-live_on.ensures tt refl

@@ -1,0 +1,147 @@
+//! The program `live` over a worksheet's files, from its files on.
+ghost use Rattle.std.specs.Prelude.{◌≡◌, Err, IfErr, IfOk};
+ghost use Rattle.program_endings.specs.Ending.{ProgramAnswer, TellsFault, status_of};
+ghost use Rattle.program_endings.specs.Faults as printed;
+ghost use Rattle.program_endings.specs.LiveProgram.{LastTold, LiveAnswer, LivesOn, answer_of};
+
+use crate::telling::no_files;
+use crate::{Ending, end_program};
+use arrivals::Sources;
+use disk_model::Disk;
+use live::live;
+use offline_programs::RunFault;
+use sheet_files::FilesFault;
+use std::alloc::Global;
+use std::io::{Read, Write};
+use tellings::{Frame, Tells};
+
+/// The answer of a program that gave its disk back, which is dropped, or had a fault.
+fn answered<D: Drop>(done: Result<D, RunFault>) -> Result<bool, RunFault>
+    ensures { result ≡ answer_of done }
+{
+    match done {
+        Ok(_) => Ok(true),
+        Err(fault) => Err(fault),
+    }
+}
+
+/// Holds the worksheet on a disk open, and drops the disk at the end.
+fn live_on<R: Read, W: Write, D: Disk, S: Sources, T: Tells>(
+    alloc: Global,
+    input: &mut R,
+    tells: &T,
+    output: &mut W,
+    disk: D,
+    sources: &mut S,
+) -> Result<bool, RunFault>
+    ensures { LivesOn T.voice D.view S.after S.clock S.wakes (R.remaining input.old) disk sources.old sources.new
+        (W.contents output.old) (W.contents output.new)
+        ((output.new ≡ output.old) × (sources.new ≡ sources.old)) result }
+{
+    answered(live(alloc, input, tells, output, disk, sources))
+}
+
+/// The same, between what stands first and what stands last.
+fn live_framed<R: Read, W: Write, D: Disk, S: Sources, T: Tells>(
+    alloc: Global,
+    input: &mut R,
+    tells: &T,
+    output: &mut W,
+    disk: D,
+    sources: &mut S,
+) -> Result<bool, RunFault>
+    ensures { LiveAnswer T.voice D.view S.after S.clock S.wakes (R.remaining input.old) disk sources.old sources.new
+        W.contents output.old output.new result }
+{
+    if let Err(fault) = tells.frame(Frame::Hello, output) {
+        return Err(fault);
+    }
+    match live_on(alloc, input, tells, output, disk, sources) {
+        Ok(whole) => match tells.frame(Frame::End, output) {
+            Ok(()) => Ok(whole),
+            Err(fault) => Err(fault),
+        },
+        Err(fault) => Err(fault),
+    }
+}
+
+/// Tells a fault last, and whether all went out.
+fn tell_last<W: Write, T: Tells>(answer: Result<bool, RunFault>, tells: &T, output: &mut W) -> bool
+    ensures { LastTold T.voice W.contents output.old output.new result answer }
+{
+    match answer {
+        Ok(_) => true,
+        Err(fault) => tells.fault(fault, output),
+    }
+}
+
+/// Ends the program by what it answered: a fault is told on both streams.
+fn end_told<W: Write, E: Write, T: Tells>(
+    answer: Result<bool, RunFault>,
+    tells: &T,
+    output: &mut W,
+    errors: &mut E,
+) -> Ending
+    ensures last { LastTold T.voice W.contents output.old output.new result.told answer }
+    ensures status { result.status ≡ status_of answer }
+    ensures told { TellsFault E.contents errors.old errors.new result.told answer }
+{
+    let said = tell_last(answer, tells, output);
+    let ending = end_program(answer, errors);
+    Ending {
+        status: ending.status,
+        told: ending.told && said,
+    }
+}
+
+/// Holds the worksheet on a disk open, and tells the fault.
+fn end_live<R: Read, W: Write, E: Write, D: Disk, S: Sources, T: Tells>(
+    alloc: Global,
+    input: &mut R,
+    tells: &T,
+    output: &mut W,
+    errors: &mut E,
+    disk: D,
+    sources: &mut S,
+) -> Ending
+    ensures { (answer : ProgramAnswer) × (mid : W)
+        × LiveAnswer T.voice D.view S.after S.clock S.wakes (R.remaining input.old) disk sources.old sources.new
+        W.contents output.old mid answer
+        × LastTold T.voice W.contents mid output.new result.told answer
+        × (result.status ≡ status_of answer)
+        × TellsFault E.contents errors.old errors.new result.told answer }
+{
+    let answer = live_framed(alloc, input, tells, output, disk, sources);
+    end_told(answer, tells, output, errors)
+}
+
+/// The whole program `live` on its files, or on why they weren't opened: its lines come from `input`,
+/// which is read only where there are files, and what comes of them and of interpreters goes to `output`,
+/// brought out at once. The line of a fault goes to `errors`.
+pub fn run_live<R: Read, W: Write, E: Write, D: Disk, S: Sources, T: Tells>(
+    alloc: Global,
+    input: &mut R,
+    tells: &T,
+    output: &mut W,
+    errors: &mut E,
+    files: Result<D, FilesFault>,
+    sources: &mut S,
+) -> Ending
+    // It is told before a line is read.
+    ensures unopened { IfErr files (λ why. (input.new ≡ input.old) × (sources.new ≡ sources.old)
+        × LastTold T.voice W.contents output.old output.new result.told (Err (printed.no_files why))
+        × (result.status ≡ 1)
+        × TellsFault E.contents errors.old errors.new result.told (Err (printed.no_files why))) }
+
+    ensures files { IfOk files (λ disk. (answer : ProgramAnswer) × (mid : W)
+        × LiveAnswer T.voice D.view S.after S.clock S.wakes (R.remaining input.old) disk sources.old sources.new
+        W.contents output.old mid answer
+        × LastTold T.voice W.contents mid output.new result.told answer
+        × (result.status ≡ status_of answer)
+        × TellsFault E.contents errors.old errors.new result.told answer) }
+{
+    match files {
+        Ok(disk) => end_live(alloc, input, tells, output, errors, disk, sources),
+        Err(why) => end_told(Err(no_files(why)), tells, output, errors),
+    }
+}

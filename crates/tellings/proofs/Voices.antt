@@ -1,0 +1,54 @@
+-- What the voices write.
+use Rattle.std.proofs.Common.{◌≡◌, ◌<◌, ◌≤◌, ◌+◌, ◌-◌, arith, drop, ℕ, List, [], ◌∷◌, ◌++◌, Option, Some, None, append-nil, get_or, length, refl, ap, sym, ◌∙◌, subst, take}
+use Rattle.std.specs.List.{flat_map}
+use Rattle.std.proofs.KnownBytes.{Appends-trans}
+use Rattle.std.proofs.lemmas.List.{take_all, take_more}
+use Rattle.std.proofs.lemmas.Grind.{flat_map-append}
+use Rattle.std.specs.Prelude.{OnOk, Result, option_map}
+use Rattle.std.specs.Io.KnownBytes.{Appends}
+use Rattle.worksheet.specs.Contents.{Contents}
+use Rattle.host_events.specs.declared.reply.Reply.{Reply}
+use Rattle.offline_programs.specs.Memory.{replies_text}
+use Rattle.offline_programs.specs.declared.fault.RunFault.{RunFault}
+use Rattle.serde_json.specs.Data.{Data}
+use Rattle.sheet_json.specs.Objects.{event_data, telling_data}
+use Rattle.sheet_json.specs.Sheets.{telling_line}
+use Rattle.sheet_json.specs.Tellings.{EventTold, Telling}
+use Rattle.sheet_json.specs.Tellings as told
+use Rattle.tellings.specs.Json.{event_line, in_json, reply_json}
+use Rattle.tellings.specs.Voice.{came_text, replied_text}
+use Rattle.tellings.specs.Words.{in_words}
+
+-- a value of a life, where there is one, is on its line
+pub line_if : (r : Result (Unit {0}) RunFault) (a b : Option (List ℕ)) (d : Data) (session : List ℕ) (life : ℕ) (e : Option EventTold) → Some d ≡ option_map (event_data session life) e
+    → ((t : Telling) → d ≡ telling_data t → OnOk r (Appends a b (telling_line t))) → OnOk r (Appends a b (event_line session life e))
+line_if r a b d session life None is wrote = absurd (no is)
+  where
+    no : Some d ≡ None → ⊥
+    no h = cc h
+line_if r a b d session life (Some e) is wrote = wrote (told.event session life e) (same is)
+  where
+    same : Some d ≡ Some (event_data session life e) → d ≡ event_data session life e
+    same h = cc h
+
+-- in words what a command gave is the texts of its replies
+pub replied_in_words : (line : ℕ) (sheet : Contents) (replies : List Reply) → replied_text in_words line sheet replies ≡ replies_text replies
+replied_in_words line sheet [] = refl
+replied_in_words line sheet (r ∷ replies) = refl
+
+-- what came of one life more
+pub came_on : (f : Reply → List ℕ) (replies : List Reply) (i : ℕ) (r : Reply) (a b c : Option (List ℕ)) → i < length replies → r ≡ get_or replies i r
+    → Appends a b (flat_map f (take i replies)) → Appends b c (f r) → Appends a c (flat_map f (take (i + 1) replies))
+came_on f replies i r a b c h is before more =
+    subst (Appends a c) (ap (λ t. flat_map f (take i replies) ++ t) (sym (append-nil (f r))) ∙ sym (flat_map-append f (take i replies) (r ∷ []))
+    ∙ ap (flat_map f) (ap (λ x. take i replies ++ x ∷ []) is ∙ sym (take_more replies i r h)))
+    (Appends-trans a b c (flat_map f (take i replies)) (f r) before more)
+
+-- the reply, and what came of lives behind it
+pub replied_of : (line : ℕ) (sheet : Contents) (replies : List Reply) (first : Reply) → 1 ≤ length replies → first ≡ get_or replies 0 first
+    → reply_json line first ++ came_text in_json sheet (take (length replies - 1) (drop 1 replies)) ≡ replied_text in_json line sheet replies
+replied_of line sheet [] first few is = absurd (omega (arith, few))
+replied_of line sheet (r ∷ replies) first few is =
+    let all : length replies ≤ length (r ∷ replies) - 1 = omega arith in
+    ap (λ x. reply_json line x ++ came_text in_json sheet (take (length (r ∷ replies) - 1) replies)) is
+    ∙ ap (λ rs. reply_json line r ++ came_text in_json sheet rs) (take_all (length (r ∷ replies) - 1) replies all)

@@ -1,0 +1,12 @@
+use Rattle.std.proofs.Common.{sym, subst}
+use Rattle.std.specs.Prelude.{OnOk}
+use Rattle.std.specs.Io.KnownBytes.{Appends}
+use Rattle.sheet_json.specs.Tellings as told
+use Rattle.tellings.specs.Json.{frame_json}
+use Rattle.tellings.proofs.in_json.write_frame.Goals as goal
+
+pub returns-in-Hello-clause-ok : goal.returns-in-Hello-clause-ok
+returns-in-Hello-clause-ok g c = subst (λ x. OnOk c.write_made.result (Appends (g.W.Write.contents c.args.writer.now) (g.W.Write.contents c.write_made.new.writer) (frame_json x))) (sym c.in-Hello.is) (c.write_made.ensures.ok (told.hello) c.hello_value.ensures)
+
+pub returns-in-End-clause-ok : goal.returns-in-End-clause-ok
+returns-in-End-clause-ok g c = subst (λ x. OnOk c.write_made-in-End.result (Appends (g.W.Write.contents c.args.writer.now) (g.W.Write.contents c.write_made-in-End.new.writer) (frame_json x))) (sym c.in-End.is) (c.write_made-in-End.ensures.ok (told.end) c.end_value.ensures)

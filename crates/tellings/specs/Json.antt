@@ -1,0 +1,130 @@
+-- What is told, as lines of JSON. (docs/JSON.md.)
+use Rattle.std.specs.Prelude.{ℕ, true, Bool, List, [], ◌++◌, Option, Some, None, map, option_map, option_and_then, length, codes}
+use Rattle.std.specs.List.{flat_map}
+use Rattle.worksheet.specs.Checks.{field_in}
+use Rattle.worksheet.specs.Contents.{Contents}
+use Rattle.worksheet.specs.declared.field.Field.{Field}
+use Rattle.worksheet.specs.declared.field.Session.{Session}
+use Rattle.worksheet.specs.declared.refusal.Refusal.TheVariants as refusal
+use Rattle.plugin_core.specs.declared.step.Ended.{Ended}
+use Rattle.host_events.specs.declared.reply.ChildReply.{ChildReply}
+use Rattle.host_events.specs.declared.reply.Reply.{Reply}
+use Rattle.host_events.specs.declared.reply.Reply.TheVariants as reply
+use Rattle.session_engine.specs.World.{Going, World, in_flight, life_of, sheet_in, waiting_in}
+use Rattle.child_edge.specs.declared.interrupting.Interrupted.{Interrupted}
+use Rattle.child_edge.specs.declared.interrupting.Interrupted.TheVariants as interrupted
+use Rattle.offline_programs.specs.declared.fault.RunFault.{RunFault}
+use Rattle.sheet_json.specs.Replies.{closed_event, ended_event}
+use Rattle.sheet_json.specs.Sheets.{telling_line}
+use Rattle.sheet_json.specs.Shown.{field_told, ids_of, session_shown}
+use Rattle.sheet_json.specs.Tellings.{EventTold, SessionShown, Telling}
+use Rattle.sheet_json.specs.Tellings as told
+use Rattle.tellings.specs.Voice.{Voice}
+use Rattle.tellings.specs.Faults.{fault_name, fault_number, fault_offset}
+use Rattle.tellings.specs.declared.note.Frame.{Frame}
+use Rattle.tellings.specs.declared.note.Frame.TheVariants as frame
+use Rattle.tellings.specs.declared.note.Note.{Note}
+use Rattle.tellings.specs.declared.note.Note.TheVariants as note
+
+abbrev pub frame_json : Frame → List ℕ
+frame_json frame.Hello = telling_line told.hello
+frame_json frame.End = telling_line told.end
+
+-- what came of the wish to interrupt an interpreter
+abbrev pub interrupt_json : ℕ → Interrupted → List ℕ
+interrupt_json line interrupted.NoSession = telling_line (told.reply line (told.refused refusal.NoSession))
+interrupt_json line interrupted.Idle = telling_line (told.reply line (told.interrupted (codes "idle")))
+interrupt_json line interrupted.Sent = telling_line (told.reply line (told.interrupted (codes "sent")))
+interrupt_json line interrupted.Failed = telling_line (told.reply line (told.interrupted (codes "failed")))
+
+abbrev pub note_json : Note → List ℕ
+note_json (note.Bad line) = telling_line (told.reply line told.bad)
+note_json (note.Nothing line) = telling_line (told.reply line told.nothing)
+note_json (note.Waited line timed) = telling_line (told.reply line (told.waited timed))
+note_json (note.Interrupted line name told_of) = interrupt_json line told_of
+
+-- what is told of a life, if anything
+abbrev pub event_line : List ℕ → ℕ → Option EventTold → List ℕ
+event_line session life None = []
+event_line session life (Some e) = telling_line (told.event session life e)
+
+-- what closed, the default input of that, and the end of the life
+abbrev pub closed_json : Contents → ChildReply → List ℕ
+closed_json sheet child = event_line child.name child.life (option_and_then (closed_event sheet) child.closed)
+
+abbrev pub default_json : ChildReply → List ℕ
+default_json child = event_line child.name child.life (option_map (λ text. told.input text) child.default_input)
+
+abbrev pub ended_json : ChildReply → List ℕ
+ended_json child = event_line child.name child.life (option_map ended_event child.ended)
+
+abbrev pub child_json : Contents → ChildReply → List ℕ
+child_json sheet child = closed_json sheet child ++ (default_json child ++ ended_json child)
+
+abbrev pub event_json : Contents → Reply → List ℕ
+event_json sheet (reply.Child child) = child_json sheet child
+event_json sheet reply.Done = []
+event_json sheet (reply.Field id) = []
+event_json sheet (reply.Asked life) = []
+event_json sheet (reply.Refused why) = []
+event_json sheet reply.Nothing = []
+
+-- the life that a line stopped, with the items that were lost
+abbrev pub stopped_with : ℕ → ChildReply → Option Ended → List ℕ
+stopped_with line child None = telling_line (told.reply line told.done)
+stopped_with line child (Some ended) = telling_line (told.stopped line child.name child.life ended.lost)
+
+abbrev pub stopped_json : ℕ → ChildReply → List ℕ
+stopped_json line child = stopped_with line child child.ended
+
+-- the reply to a line; what comes of a life is one where the line stopped it
+abbrev pub reply_json : ℕ → Reply → List ℕ
+reply_json line reply.Done = telling_line (told.reply line told.done)
+reply_json line (reply.Field id) = telling_line (told.reply line (told.made id))
+reply_json line (reply.Asked life) = telling_line (told.reply line (told.asked life))
+reply_json line (reply.Refused why) = telling_line (told.reply line (told.refused why))
+reply_json line (reply.Child child) = stopped_json line child
+reply_json line reply.Nothing = telling_line (told.reply line told.nothing)
+
+-- a field of a print, by whether its line waits
+abbrev pub part_line : ℕ → World → Field → List ℕ
+part_line line w field = telling_line (told.part line (field_told (in_flight w field.id) field))
+
+abbrev pub parts_text : ℕ → World → List Field → List ℕ
+parts_text line w fields = flat_map (part_line line w) fields
+
+-- a session, by its life and by how many items wait in it
+abbrev pub waiting_count : Option Going → ℕ
+waiting_count None = 0
+waiting_count (Some life) = length (waiting_in life)
+
+abbrev pub session_at : World → Session → SessionShown
+session_at w s = session_shown (option_map (λ l. l.number) (life_of w s.name)) (waiting_count (life_of w s.name)) s
+
+-- what the fields and sessions are together
+abbrev pub whole_told : ℕ → World → Telling
+whole_told line w = told.sheet line (ids_of (sheet_in w)) (sheet_in w).next (map (session_at w) (sheet_in w).sessions)
+
+abbrev pub sheet_json : ℕ → World → List ℕ
+sheet_json line w = parts_text line w (sheet_in w).fields ++ telling_line (whole_told line w)
+
+-- the field that a line asks for, or that there is none
+abbrev pub field_json : ℕ → World → Option Field → List ℕ
+field_json line w None = telling_line (told.reply line (told.refused refusal.NoField))
+field_json line w (Some field) = telling_line (told.field line (field_told (in_flight w field.id) field))
+
+abbrev pub fault_json : RunFault → List ℕ
+fault_json why = telling_line (told.fault (fault_number why) (fault_name why) (fault_offset why))
+
+-- Lines of JSON, which programs read.
+abbrev pub in_json : Voice
+in_json = record {
+  frame = frame_json;
+  note = note_json;
+  reply = λ line sheet r. reply_json line r;
+  event = event_json;
+  sheet = sheet_json;
+  field = λ line id w. field_json line w (field_in (sheet_in w).fields id);
+  fault = fault_json;
+  takes_memory = true;
+}

@@ -1,0 +1,4 @@
+pub mod Voice
+pub mod Words
+pub mod Faults
+pub mod Json

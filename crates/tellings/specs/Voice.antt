@@ -1,0 +1,47 @@
+-- A way of writing what is told of a live worksheet: in words, or as JSON.
+use Rattle.std.specs.Prelude.{◌≡◌, ℕ, Bool, true, List, [], ◌∷◌, ◌++◌}
+use Rattle.std.specs.List.{flat_map}
+use Rattle.worksheet.specs.Contents.{Contents}
+use Rattle.host_events.specs.declared.reply.Reply.{Reply}
+use Rattle.session_engine.specs.World.{World}
+use Rattle.offline_programs.specs.declared.fault.RunFault.{RunFault}
+use Rattle.offline_programs.specs.declared.fault.RunFault.TheVariants as fault
+use Rattle.tellings.specs.declared.note.Frame.{Frame}
+use Rattle.tellings.specs.declared.note.Note.{Note}
+
+-- The texts of a voice. Of what is told of a line, the number of the line comes first.
+pub record Voice : Type 0 where
+  -- what stands first and last
+  pub frame : Frame → List ℕ
+  -- what is told of a line, or of a wait that it began, apart from replies
+  pub note : Note → List ℕ
+  -- the reply to a line, where this is the worksheet after it
+  pub reply : ℕ → Contents → Reply → List ℕ
+  -- what came of a life, where this is the worksheet after it
+  pub event : Contents → Reply → List ℕ
+  -- a worksheet, and the field with this number
+  pub sheet : ℕ → World → List ℕ
+  pub field : ℕ → ℕ → World → List ℕ
+  -- a fault, which is told last
+  pub fault : RunFault → List ℕ
+  -- whether memory is taken for what is written
+  pub takes_memory : Bool
+
+-- what came of lives, in order
+abbrev pub came_text : Voice → Contents → List Reply → List ℕ
+came_text V sheet replies = flat_map (V.event sheet) replies
+
+-- what a command gave: its reply, and behind it what came of lives
+abbrev pub replied_text : Voice → ℕ → Contents → List Reply → List ℕ
+replied_text V line sheet [] = []
+replied_text V line sheet (r ∷ replies) = V.reply line sheet r ++ came_text V sheet replies
+
+-- Why something isn't told: the writer failed, or there was no memory for it.
+abbrev pub IsUntold : Voice → RunFault → Type 0
+IsUntold V fault.Output = Unit {0}
+IsUntold V fault.OutOfMemory = V.takes_memory ≡ true
+IsUntold V fault.Input = ⊥
+IsUntold V fault.InputTooLong = ⊥
+IsUntold V (fault.Open why) = ⊥
+IsUntold V fault.InUse = ⊥
+IsUntold V (fault.Host why) = ⊥

@@ -1,0 +1,45 @@
+-- What is told, in words. (docs/SCRIPT.md, "Live".)
+use Rattle.std.specs.Prelude.{ℕ, false, List, [], ◌∷◌, ◌++◌, Option, Some, None, codes}
+use Rattle.worksheet.specs.Checks.{field_in}
+use Rattle.worksheet.specs.declared.field.Field.{Field}
+use Rattle.worksheet.specs.declared.refusal.Refusal.TheVariants as refusal
+use Rattle.session_engine.specs.World.{sheet_in}
+use Rattle.child_edge.specs.declared.interrupting.Interrupted.{Interrupted}
+use Rattle.child_edge.specs.declared.interrupting.Interrupted.TheVariants as interrupted
+use Rattle.sheet_text.specs.Texts.{field_text, refused_line, reply_text, sheet_text}
+use Rattle.offline_programs.specs.Memory.{bad_line}
+use Rattle.tellings.specs.Voice.{Voice}
+use Rattle.tellings.specs.declared.note.Note.{Note}
+use Rattle.tellings.specs.declared.note.Note.TheVariants as note
+
+-- one field in print, or that there is none
+abbrev pub field_shown : Option Field → List ℕ
+field_shown (Some field) = field_text field
+field_shown None = refused_line refusal.NoField
+
+-- what came of the wish to interrupt the interpreter of this session
+abbrev pub interrupt_text : List ℕ → Interrupted → List ℕ
+interrupt_text name interrupted.NoSession = refused_line refusal.NoSession
+interrupt_text name interrupted.Idle = codes "idle " ++ name ++ 10 ∷ []
+interrupt_text name interrupted.Sent = codes "interrupted " ++ name ++ 10 ∷ []
+interrupt_text name interrupted.Failed = codes "failed " ++ name ++ 10 ∷ []
+
+-- of a remark and of the end of a wait nothing is told
+abbrev pub note_words : Note → List ℕ
+note_words (note.Bad line) = bad_line line
+note_words (note.Nothing line) = []
+note_words (note.Waited line timed) = []
+note_words (note.Interrupted line name told) = interrupt_text name told
+
+-- Words that people read: the number of a line is told of a bad line alone, and a fault is told elsewhere.
+abbrev pub in_words : Voice
+in_words = record {
+  frame = λ f. [];
+  note = note_words;
+  reply = λ line sheet r. reply_text r;
+  event = λ sheet r. reply_text r;
+  sheet = λ line w. sheet_text (sheet_in w);
+  field = λ line id w. field_shown (field_in (sheet_in w).fields id);
+  fault = λ why. [];
+  takes_memory = false;
+}

@@ -1,0 +1,338 @@
+//! As lines of JSON.
+ghost use Rattle.std.specs.Prelude.{◌≡◌, IfErr, OnOk, true};
+ghost use Rattle.std.specs.Io.KnownBytes.{Appends};
+ghost use Rattle.tellings.specs.Json as texts;
+ghost use Rattle.tellings.specs.Voice.{IsUntold, came_text, replied_text};
+
+use crate::sheets_json::{write_field, write_sheet};
+use crate::writing::{write_if, write_made};
+use crate::{Frame, Note, Tells, faults};
+use block_tree::Octets;
+use child_edge::Interrupted;
+use disk_model::Disk;
+use host_events::{ChildReply, Closed, Reply};
+use offline_programs::RunFault;
+use plugin_core::Ended;
+use serde_json::Value;
+use session_engine::Host;
+use sheet_json::{
+    asked_value, bad_value, closed_value, default_value, done_value, end_value, ended_value,
+    fault_value, hello_value, interrupted_value, made_value, nothing_value, refused_value,
+    stopped_value, waited_value,
+};
+use std::alloc::{AllocError, Global};
+use std::io::Write;
+use worksheet::{Name, Refusal, Sheet};
+
+/// Lines of JSON, which programs read. Each is made whole in memory before its first byte is written.
+#[derive(Clone, Copy, Debug)]
+pub struct InJson {
+    pub alloc: Global,
+}
+
+/// What closed, where anything did.
+fn write_closed<W: Write>(
+    alloc: Global,
+    sheet: &Sheet,
+    child: &ChildReply,
+    writer: &mut W,
+) -> Result<(), RunFault>
+    ensures ok { OnOk result (Appends (W.contents writer.old) (W.contents writer.new)
+        (texts.closed_json sheet.now.contents child.now)) }
+    ensures err { IfErr result (IsUntold texts.in_json) }
+{
+    match &child.closed {
+        None => Ok(()),
+        Some(closed) => {
+            let name = child.name.as_slice();
+            write_if(
+                alloc,
+                closed_value(alloc, sheet, name, child.life, closed),
+                writer,
+            )
+        }
+    }
+}
+
+/// The default input of what closed, where it has one.
+fn write_default<W: Write>(
+    alloc: Global,
+    child: &ChildReply,
+    writer: &mut W,
+) -> Result<(), RunFault>
+    ensures ok { OnOk result (Appends (W.contents writer.old) (W.contents writer.new)
+        (texts.default_json child.now)) }
+    ensures err { IfErr result (IsUntold texts.in_json) }
+{
+    match &child.default_input {
+        None => Ok(()),
+        Some(text) => {
+            let name = child.name.as_slice();
+            write_made(
+                alloc,
+                default_value(alloc, name, child.life, text.as_slice()),
+                writer,
+            )
+        }
+    }
+}
+
+/// The end of the life, where it ended.
+fn write_ended<W: Write>(alloc: Global, child: &ChildReply, writer: &mut W) -> Result<(), RunFault>
+    ensures ok { OnOk result (Appends (W.contents writer.old) (W.contents writer.new)
+        (texts.ended_json child.now)) }
+    ensures err { IfErr result (IsUntold texts.in_json) }
+{
+    match &child.ended {
+        None => Ok(()),
+        Some(ended) => {
+            let name = child.name.as_slice();
+            let value = ended_value(alloc, name, child.life, ended.reason, &ended.lost);
+            write_made(alloc, value, writer)
+        }
+    }
+}
+
+/// What came of a life.
+fn write_child<W: Write>(
+    alloc: Global,
+    sheet: &Sheet,
+    child: &ChildReply,
+    writer: &mut W,
+) -> Result<(), RunFault>
+    ensures ok { OnOk result (Appends (W.contents writer.old) (W.contents writer.new)
+        (texts.child_json sheet.now.contents child.now)) }
+    ensures err { IfErr result (IsUntold texts.in_json) }
+{
+    write_closed(alloc, sheet, child, writer)?;
+    write_default(alloc, child, writer)?;
+    write_ended(alloc, child, writer)?;
+    Ok(())
+}
+
+/// What came of a life, and nothing of another reply.
+fn write_event<W: Write>(
+    alloc: Global,
+    sheet: &Sheet,
+    reply: &Reply,
+    writer: &mut W,
+) -> Result<(), RunFault>
+    ensures ok { OnOk result (Appends (W.contents writer.old) (W.contents writer.new)
+        (texts.event_json sheet.now.contents reply.now)) }
+    ensures err { IfErr result (IsUntold texts.in_json) }
+{
+    match reply {
+        Reply::Child(child) => write_child(alloc, sheet, child, writer),
+        Reply::Done | Reply::Field(_) | Reply::Asked(_) | Reply::Refused(_) | Reply::Nothing => Ok(
+            (),
+        ),
+    }
+}
+
+/// What came of lives, in order.
+fn write_events<W: Write>(
+    alloc: Global,
+    sheet: &Sheet,
+    replies: &[Reply],
+    writer: &mut W,
+) -> Result<(), RunFault>
+    ensures ok { OnOk result (Appends (W.contents writer.old) (W.contents writer.new)
+        (came_text texts.in_json sheet.now.contents replies.now)) }
+    ensures err { IfErr result (IsUntold texts.in_json) }
+{
+    for reply in replies {
+        write_event(alloc, sheet, reply, writer)?;
+    }
+    Ok(())
+}
+
+/// The end of a life that a line stopped.
+fn write_stopped<W: Write>(
+    alloc: Global,
+    line: u64,
+    child: &ChildReply,
+    writer: &mut W,
+) -> Result<(), RunFault>
+    ensures ok { OnOk result (Appends (W.contents writer.old) (W.contents writer.new)
+        (texts.stopped_json line child.now)) }
+    ensures err { IfErr result (IsUntold texts.in_json) }
+{
+    let name = child.name.as_slice();
+    match &child.ended {
+        None => write_made(alloc, done_value(alloc, line), writer),
+        Some(ended) => {
+            let value = stopped_value(alloc, line, name, child.life, &ended.lost);
+            write_made(alloc, value, writer)
+        }
+    }
+}
+
+/// The reply to a line.
+fn write_reply<W: Write>(
+    alloc: Global,
+    line: u64,
+    reply: &Reply,
+    writer: &mut W,
+) -> Result<(), RunFault>
+    ensures ok { OnOk result (Appends (W.contents writer.old) (W.contents writer.new)
+        (texts.reply_json line reply.now)) }
+    ensures err { IfErr result (IsUntold texts.in_json) }
+{
+    match reply {
+        Reply::Done => write_made(alloc, done_value(alloc, line), writer),
+        Reply::Field(id) => write_made(alloc, made_value(alloc, line, *id), writer),
+        Reply::Asked(life) => write_made(alloc, asked_value(alloc, line, *life), writer),
+        Reply::Refused(why) => write_made(alloc, refused_value(alloc, line, *why), writer),
+        Reply::Child(child) => write_stopped(alloc, line, child, writer),
+        Reply::Nothing => write_made(alloc, nothing_value(alloc, line), writer),
+    }
+}
+
+/// What a command gave.
+fn write_replies<W: Write>(
+    alloc: Global,
+    line: u64,
+    sheet: &Sheet,
+    replies: &[Reply],
+    writer: &mut W,
+) -> Result<(), RunFault>
+    ensures ok { OnOk result (Appends (W.contents writer.old) (W.contents writer.new)
+        (replied_text texts.in_json line sheet.now.contents replies.now)) }
+    ensures err { IfErr result (IsUntold texts.in_json) }
+{
+    match replies {
+        [] => Ok(()),
+        [first, rest @ ..] => {
+            write_reply(alloc, line, first, writer)?;
+            write_events(alloc, sheet, rest, writer)
+        }
+    }
+}
+
+/// What came of the wish to interrupt an interpreter.
+fn write_interrupt<W: Write>(
+    alloc: Global,
+    line: u64,
+    told: Interrupted,
+    writer: &mut W,
+) -> Result<(), RunFault>
+    ensures ok { OnOk result (Appends (W.contents writer.old) (W.contents writer.new)
+        (texts.interrupt_json line told)) }
+    ensures err { IfErr result (IsUntold texts.in_json) }
+{
+    match told {
+        Interrupted::NoSession => {
+            write_made(
+                alloc,
+                refused_value(alloc, line, Refusal::NoSession),
+                writer,
+            )
+        }
+        Interrupted::Idle => write_made(alloc, interrupted_value(alloc, line, "idle"), writer),
+        Interrupted::Sent => write_made(alloc, interrupted_value(alloc, line, "sent"), writer),
+        Interrupted::Failed => write_made(alloc, interrupted_value(alloc, line, "failed"), writer),
+    }
+}
+
+/// What is told of a line, or of a wait that it began.
+fn write_note<W: Write>(alloc: Global, note: Note, writer: &mut W) -> Result<(), RunFault>
+    ensures ok { OnOk result (Appends (W.contents writer.old) (W.contents writer.new) (texts.note_json note)) }
+    ensures err { IfErr result (IsUntold texts.in_json) }
+{
+    match note {
+        Note::Bad(line) => write_made(alloc, bad_value(alloc, line), writer),
+        Note::Nothing(line) => write_made(alloc, nothing_value(alloc, line), writer),
+        Note::Waited(line, timed) => write_made(alloc, waited_value(alloc, line, timed), writer),
+        Note::Interrupted(line, _, told) => write_interrupt(alloc, line, told, writer),
+    }
+}
+
+/// What stands first or last.
+fn write_frame<W: Write>(alloc: Global, frame: Frame, writer: &mut W) -> Result<(), RunFault>
+    ensures ok { OnOk result (Appends (W.contents writer.old) (W.contents writer.new) (texts.frame_json frame)) }
+    ensures err { IfErr result (IsUntold texts.in_json) }
+{
+    match frame {
+        Frame::Hello => write_made(alloc, hello_value(alloc), writer),
+        Frame::End => write_made(alloc, end_value(alloc), writer),
+    }
+}
+
+/// A fault.
+fn write_fault<W: Write>(alloc: Global, why: RunFault, writer: &mut W) -> Result<(), RunFault>
+    ensures ok { OnOk result (Appends (W.contents writer.old) (W.contents writer.new) (texts.fault_json why)) }
+{
+    let (number, name, offset) = (faults::number(why), faults::name(why), faults::offset(why));
+    write_made(alloc, fault_value(alloc, number, name, offset), writer)
+}
+
+impl Tells for InJson {
+    ghost use Rattle.tellings.specs.Json.{in_json};
+
+    ghost voice = { in_json };
+
+    fn frame<W: Write>(&self, frame: Frame, writer: &mut W) -> Result<(), RunFault> {
+        write_frame(self.alloc, frame, writer)?;
+        writer.flush().map_err(|_| RunFault::Output)?;
+        Ok(())
+    }
+
+    fn note<W: Write>(&self, note: Note, writer: &mut W) -> Result<(), RunFault> {
+        write_note(self.alloc, note, writer)?;
+        writer.flush().map_err(|_| RunFault::Output)?;
+        Ok(())
+    }
+
+    fn replies<W: Write>(
+        &self,
+        line: u64,
+        sheet: &Sheet,
+        replies: &[Reply],
+        writer: &mut W,
+    ) -> Result<(), RunFault> {
+        write_replies(self.alloc, line, sheet, replies, writer)?;
+        writer.flush().map_err(|_| RunFault::Output)?;
+        Ok(())
+    }
+
+    fn events<W: Write>(
+        &self,
+        sheet: &Sheet,
+        replies: &[Reply],
+        writer: &mut W,
+    ) -> Result<(), RunFault> {
+        write_events(self.alloc, sheet, replies, writer)?;
+        writer.flush().map_err(|_| RunFault::Output)?;
+        Ok(())
+    }
+
+    fn sheet<D: Disk, W: Write>(
+        &self,
+        line: u64,
+        host: &Host<D>,
+        writer: &mut W,
+    ) -> Result<(), RunFault> {
+        write_sheet(self.alloc, line, host, writer)?;
+        writer.flush().map_err(|_| RunFault::Output)?;
+        Ok(())
+    }
+
+    fn field<D: Disk, W: Write>(
+        &self,
+        line: u64,
+        id: u32,
+        host: &Host<D>,
+        writer: &mut W,
+    ) -> Result<(), RunFault> {
+        write_field(self.alloc, line, id, host, writer)?;
+        writer.flush().map_err(|_| RunFault::Output)?;
+        Ok(())
+    }
+
+    fn fault<W: Write>(&self, why: RunFault, writer: &mut W) -> bool {
+        match write_fault(self.alloc, why, writer) {
+            Ok(()) => writer.flush().is_ok(),
+            Err(_) => false,
+        }
+    }
+}

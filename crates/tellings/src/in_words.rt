@@ -1,0 +1,144 @@
+//! In words.
+ghost use Rattle.std.specs.Prelude.{◌≡◌, ◌++◌, ◌∷◌, [], IfErr, OnOk};
+ghost use Rattle.std.specs.Option.{option_copied};
+ghost use Rattle.std.specs.Io.KnownBytes.{Appends};
+ghost use Rattle.worksheet.specs.Checks.{field_in};
+ghost use Rattle.tellings.specs.Words.{field_shown, interrupt_text};
+
+use crate::{Frame, Note, Tells};
+use child_edge::Interrupted;
+use disk_model::Disk;
+use host_events::Reply;
+use offline_programs::{RunFault, tell_bad_line, tell_replies, tell_sheet};
+use session_engine::Host;
+use sheet_text::{field_text, reply_text};
+use std::io::Write;
+use worksheet::{Field, Name, Refusal, Sheet};
+
+/// Words that people read. Nothing is taken of memory.
+#[derive(Clone, Copy, Debug)]
+pub struct InWords;
+
+/// Writes one field, or that there is none.
+fn show_field<W: Write>(field: Option<&Field>, writer: &mut W) -> Result<(), RunFault>
+    ensures ok { OnOk result (Appends (W.contents writer.old) (W.contents writer.new)
+        (field_shown (option_copied field.entry))) }
+    ensures err { IfErr result (λ fault. fault ≡ RunFault.Output) }
+{
+    match field {
+        Some(field) => field_text(field, writer).map_err(|_| RunFault::Output),
+        None => reply_text(&Reply::Refused(Refusal::NoField), writer).map_err(|_| RunFault::Output),
+    }
+}
+
+/// Writes the field with this number, or that there is none, and brings it out.
+fn tell_field<W: Write>(sheet: &Sheet, id: u32, writer: &mut W) -> Result<(), RunFault>
+    ensures ok { OnOk result (Appends (W.contents writer.old) (W.contents writer.new)
+        (field_shown (field_in sheet.now.contents.fields id))) }
+    ensures err { IfErr result (λ fault. fault ≡ RunFault.Output) }
+{
+    show_field(sheet.field(id), writer)?;
+    writer.flush().map_err(|_| RunFault::Output)?;
+    Ok(())
+}
+
+/// Writes a line of a word, with the space behind it, and a session's name.
+fn write_named<W: Write>(word: &[u8], name: Name, writer: &mut W) -> Result<(), RunFault>
+    ensures ok { OnOk result (Appends (W.contents writer.old) (W.contents writer.new)
+        (word.now ++ name ++ 10 ∷ [])) }
+    ensures err { IfErr result (λ fault. fault ≡ RunFault.Output) }
+{
+    writer.write_all(word).map_err(|_| RunFault::Output)?;
+    writer
+        .write_all(name.as_slice())
+        .map_err(|_| RunFault::Output)?;
+    writer.write_all(b"\n").map_err(|_| RunFault::Output)?;
+    Ok(())
+}
+
+/// Writes what came of the wish to interrupt the interpreter of this session.
+fn show_interrupt<W: Write>(name: Name, told: Interrupted, writer: &mut W) -> Result<(), RunFault>
+    ensures ok { OnOk result (Appends (W.contents writer.old) (W.contents writer.new)
+        (interrupt_text name told)) }
+    ensures err { IfErr result (λ fault. fault ≡ RunFault.Output) }
+{
+    match told {
+        Interrupted::NoSession => reply_text(&Reply::Refused(Refusal::NoSession), writer).map_err(
+            |_| RunFault::Output,
+        ),
+        Interrupted::Idle => write_named(b"idle ", name, writer),
+        Interrupted::Sent => write_named(b"interrupted ", name, writer),
+        Interrupted::Failed => write_named(b"failed ", name, writer),
+    }
+}
+
+/// The same, and brings it out.
+fn tell_interrupt<W: Write>(name: Name, told: Interrupted, writer: &mut W) -> Result<(), RunFault>
+    ensures ok { OnOk result (Appends (W.contents writer.old) (W.contents writer.new)
+        (interrupt_text name told)) }
+    ensures err { IfErr result (λ fault. fault ≡ RunFault.Output) }
+{
+    show_interrupt(name, told, writer)?;
+    writer.flush().map_err(|_| RunFault::Output)?;
+    Ok(())
+}
+
+impl Tells for InWords {
+    ghost use Rattle.tellings.specs.Words.{in_words};
+
+    ghost voice = { in_words };
+
+    fn frame<W: Write>(&self, _frame: Frame, _writer: &mut W) -> Result<(), RunFault> {
+        Ok(())
+    }
+
+    fn note<W: Write>(&self, note: Note, writer: &mut W) -> Result<(), RunFault> {
+        match note {
+            Note::Bad(line) => tell_bad_line(line, writer),
+            Note::Nothing(_) | Note::Waited(_, _) => Ok(()),
+            Note::Interrupted(_, name, told) => tell_interrupt(name, told, writer),
+        }
+    }
+
+    fn replies<W: Write>(
+        &self,
+        _line: u64,
+        _sheet: &Sheet,
+        replies: &[Reply],
+        writer: &mut W,
+    ) -> Result<(), RunFault> {
+        tell_replies(replies, writer)
+    }
+
+    fn events<W: Write>(
+        &self,
+        _sheet: &Sheet,
+        replies: &[Reply],
+        writer: &mut W,
+    ) -> Result<(), RunFault> {
+        tell_replies(replies, writer)
+    }
+
+    fn sheet<D: Disk, W: Write>(
+        &self,
+        _line: u64,
+        host: &Host<D>,
+        writer: &mut W,
+    ) -> Result<(), RunFault> {
+        tell_sheet(host.sheet(), writer)
+    }
+
+    fn field<D: Disk, W: Write>(
+        &self,
+        _line: u64,
+        id: u32,
+        host: &Host<D>,
+        writer: &mut W,
+    ) -> Result<(), RunFault> {
+        tell_field(host.sheet(), id, writer)
+    }
+
+    fn fault<W: Write>(&self, _why: RunFault, _writer: &mut W) -> bool {
+        true
+    }
+}

@@ -1,0 +1,16 @@
+//! What is told of a live worksheet, apart from how it is written: in words that people read, or as lines of
+//! JSON that programs read.
+#![tactic(auto)]
+
+mod faults;
+mod in_json;
+mod in_words;
+pub mod note;
+mod sheets_json;
+mod tells;
+mod writing;
+
+pub use in_json::InJson;
+pub use in_words::InWords;
+pub use note::{Frame, Note};
+pub use tells::Tells;

@@ -1,0 +1,25 @@
+//! What is told once.
+use child_edge::Interrupted;
+use worksheet::Name;
+
+/// What stands first and last.
+#[derive(Clone, Copy, Debug, PartialEq, Eq)]
+pub enum Frame {
+    /// The worksheet's files are open.
+    Hello,
+    /// The input came to its end, and all is done.
+    End,
+}
+
+/// What is told of a line, or of a wait that it began, apart from replies. The number of the line, from 1, is first.
+#[derive(Clone, Copy, Debug, PartialEq, Eq)]
+pub enum Note {
+    /// The line has no known form, or is too long.
+    Bad(u64),
+    /// It is empty or a remark.
+    Nothing(u64),
+    /// Its wait is over: its time is, or no item waits.
+    Waited(u64, bool),
+    /// It asked for an interrupt of the interpreter of this session, and this came of it.
+    Interrupted(u64, Name, Interrupted),
+}

@@ -1,0 +1,85 @@
+//! How what is told is written.
+use crate::{Frame, Note};
+use disk_model::Disk;
+use host_events::Reply;
+use offline_programs::RunFault;
+use session_engine::Host;
+use std::io::Write;
+use worksheet::Sheet;
+
+/// A way of writing what is told. Each call brings out what it writes.
+///
+/// `Output` where the writer fails: a part may have gone out. `OutOfMemory` where a voice that takes memory
+/// has none for a line: what was written before it is whole.
+pub trait Tells {
+    ghost use Rattle.std.specs.Prelude.{IfErr, OnOk, Option, ◌≡◌, false, true};
+    ghost use Rattle.std.specs.Io.KnownBytes.{Appends};
+    ghost use Rattle.session_engine.specs.World.{World};
+    ghost use Rattle.session_engine.specs.Host.{IsHost};
+    ghost use Rattle.tellings.specs.Voice.{IsUntold, Voice, came_text, replied_text};
+
+    /// The texts that it writes.
+    ghost voice: { Voice };
+
+    /// Tells what stands first or last. Only a voice that takes memory can fail there.
+    fn frame<W: Write>(&self, frame: Frame, writer: &mut W) -> Result<(), RunFault>
+        ensures ok { OnOk result (Appends (W.contents writer.old) (W.contents writer.new) (voice.frame frame)) }
+        ensures still { voice.takes_memory ≡ false → writer.new ≡ writer.old }
+        ensures err { IfErr result (λ why. (voice.takes_memory ≡ true) × IsUntold voice why) };
+
+    /// Tells what comes of a line, or of a wait, apart from replies.
+    fn note<W: Write>(&self, note: Note, writer: &mut W) -> Result<(), RunFault>
+        ensures ok { OnOk result (Appends (W.contents writer.old) (W.contents writer.new) (voice.note note)) }
+        ensures err { IfErr result (IsUntold voice) };
+
+    /// Tells what the command on this line gave, where this is the worksheet after it.
+    fn replies<W: Write>(
+        &self,
+        line: u64,
+        sheet: &Sheet,
+        replies: &[Reply],
+        writer: &mut W,
+    ) -> Result<(), RunFault>
+        ensures ok { OnOk result (Appends (W.contents writer.old) (W.contents writer.new)
+            (replied_text voice line sheet.now.contents replies.now)) }
+        ensures err { IfErr result (IsUntold voice) };
+
+    /// Tells what came of lives, where this is the worksheet after it.
+    fn events<W: Write>(
+        &self,
+        sheet: &Sheet,
+        replies: &[Reply],
+        writer: &mut W,
+    ) -> Result<(), RunFault>
+        ensures ok { OnOk result (Appends (W.contents writer.old) (W.contents writer.new)
+            (came_text voice sheet.now.contents replies.now)) }
+        ensures err { IfErr result (IsUntold voice) };
+
+    /// Tells the worksheet, for which this line asks.
+    fn sheet<D: Disk, W: Write>(
+        &self,
+        line: u64,
+        host: &Host<D>,
+        writer: &mut W,
+    ) -> Result<(), RunFault>
+        ensures ok { (w : World) → IsHost host.now w
+            → OnOk result (Appends (W.contents writer.old) (W.contents writer.new) (voice.sheet line w)) }
+        ensures err { IfErr result (IsUntold voice) };
+
+    /// Tells the field with this number, for which this line asks, or that there is none.
+    fn field<D: Disk, W: Write>(
+        &self,
+        line: u64,
+        id: u32,
+        host: &Host<D>,
+        writer: &mut W,
+    ) -> Result<(), RunFault>
+        ensures ok { (w : World) → IsHost host.now w
+            → OnOk result (Appends (W.contents writer.old) (W.contents writer.new) (voice.field line id w)) }
+        ensures err { IfErr result (IsUntold voice) };
+
+    /// Tells a fault, last of all, and whether that went out.
+    fn fault<W: Write>(&self, why: RunFault, writer: &mut W) -> bool
+        ensures told { result ≡ true → Appends (W.contents writer.old) (W.contents writer.new) (voice.fault why) }
+        ensures still { voice.takes_memory ≡ false → writer.new ≡ writer.old };
+}

@@ -1,0 +1,63 @@
+//! Lines of JSON, each made whole before its first byte is written.
+ghost use Rattle.std.specs.Prelude.{◌≡◌, ℕ, IfErr, IfOk, List, OnOk, Option, option_map};
+ghost use Rattle.std.specs.Io.KnownBytes.{Appends};
+ghost use Rattle.serde_json.specs.View.{view};
+ghost use Rattle.sheet_json.specs.Objects.{event_data, telling_data};
+ghost use Rattle.sheet_json.specs.Sheets.{telling_line};
+ghost use Rattle.sheet_json.specs.Tellings.{EventTold, Telling};
+ghost use Rattle.tellings.specs.Json.{event_line, in_json};
+ghost use Rattle.tellings.specs.Voice.{IsUntold};
+
+use offline_programs::RunFault;
+use serde_json::Value;
+use sheet_json::told_bytes;
+use std::alloc::{AllocError, Global};
+use std::io::Write;
+
+/// Writes a value on its line.
+fn write_line<W: Write>(alloc: Global, value: &Value, writer: &mut W) -> Result<(), RunFault>
+    ensures ok { (t : Telling) → view value.now ≡ telling_data t
+        → OnOk result (Appends (W.contents writer.old) (W.contents writer.new) (telling_line t)) }
+    ensures err { IfErr result (IsUntold in_json) }
+{
+    match told_bytes(alloc, value) {
+        Ok(bytes) => writer
+            .write_all(bytes.as_slice())
+            .map_err(|_| RunFault::Output),
+        Err(_) => Err(RunFault::OutOfMemory),
+    }
+}
+
+/// Writes what was made on its line.
+pub(crate) fn write_made<W: Write>(
+    alloc: Global,
+    made: Result<Value, AllocError>,
+    writer: &mut W,
+) -> Result<(), RunFault>
+    ensures ok { (t : Telling) → IfOk made (λ value. view value ≡ telling_data t)
+        → OnOk result (Appends (W.contents writer.old) (W.contents writer.new) (telling_line t)) }
+    ensures err { IfErr result (IsUntold in_json) }
+{
+    match made {
+        Ok(value) => write_line(alloc, &value, writer),
+        Err(_) => Err(RunFault::OutOfMemory),
+    }
+}
+
+/// Writes what was made of a life, where anything was.
+pub(crate) fn write_if<W: Write>(
+    alloc: Global,
+    made: Result<Option<Value>, AllocError>,
+    writer: &mut W,
+) -> Result<(), RunFault>
+    ensures ok { (session : List ℕ) (life : ℕ) (e : Option EventTold)
+        → IfOk made (λ value. option_map view value ≡ option_map (event_data session life) e)
+        → OnOk result (Appends (W.contents writer.old) (W.contents writer.new) (event_line session life e)) }
+    ensures err { IfErr result (IsUntold in_json) }
+{
+    match made {
+        Ok(Some(value)) => write_line(alloc, &value, writer),
+        Ok(None) => Ok(()),
+        Err(_) => Err(RunFault::OutOfMemory),
+    }
+}
