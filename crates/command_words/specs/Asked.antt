@@ -16,6 +16,7 @@ pub data TaskView : Type 0 where
   live : Text → TaskView
   live_json : Text → TaskView
   show : Text → TaskView
+  show_json : Text → TaskView
   check : Text → TaskView
   rescue : Text → Text → TaskView
   export : Text → Text → TaskView
@@ -28,6 +29,7 @@ task_view (task.RunStrictly path) = run_strictly path.now
 task_view (task.Live path) = live path.now
 task_view (task.LiveJson path) = live_json path.now
 task_view (task.Show path) = show path.now
+task_view (task.ShowJson path) = show_json path.now
 task_view (task.Check path) = check path.now
 task_view (task.Rescue path new) = rescue path.now new.now
 task_view (task.Export format path) = export format.now path.now
@@ -78,12 +80,12 @@ help_alone name =
 abbrev pub bare_tmhost : App
 bare_tmhost = let a = new_app (codes "tmhost") in record a { top = record a.top { has_version = true } }
 
--- the command line of `tmhost`: subcommands, five of them with a path, `run` and `live` with a flag beside it, one with two, and one with a format and a path
+-- the command line of `tmhost`: subcommands, five of them with a path, `run`, `live` and `show` with a flag beside it, one with two, and one with a format and a path
 abbrev pub tmhost : App
 tmhost = with_subcommand (with_subcommand (with_subcommand (with_subcommand (with_subcommand (with_subcommand (with_subcommand (with_subcommand
     (with_subcommand bare_tmhost (new_app (codes "blocks")).top)
     (with_path (codes "create")).top) (with_strict (codes "run")).top) (with_json (codes "live")).top)
-    (with_path (codes "show")).top) (with_path (codes "check")).top) (with_paths (codes "rescue")).top) (with_format_and_path (codes "export")).top) (help_alone (codes "faults")).top
+    (with_json (codes "show")).top) (with_path (codes "check")).top) (with_paths (codes "rescue")).top) (with_format_and_path (codes "export")).top) (help_alone (codes "faults")).top
 
 -- a flag is given where its value is `true`
 abbrev pub is_set : Option Text → Bool
@@ -102,12 +104,16 @@ abbrev pub live_by : Bool → Text → TaskView
 live_by true path = live_json path
 live_by false path = live path
 
+abbrev pub show_by : Bool → Text → TaskView
+show_by true path = show_json path
+show_by false path = show path
+
 -- the task of a subcommand with a path, by its flags
 abbrev pub by_path : Text → Text → Flags → TaskView
 by_path name path flags = if bytes_eq name (codes "create") then create path
     else (if bytes_eq name (codes "run") then run_by flags.strict path
     else (if bytes_eq name (codes "live") then live_by flags.json path
-    else (if bytes_eq name (codes "show") then show path
+    else (if bytes_eq name (codes "show") then show_by flags.json path
     else (if bytes_eq name (codes "check") then check path else blocks))))
 
 -- The task of a subcommand with two paths, or with one path, or with a format and a path.

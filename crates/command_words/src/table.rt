@@ -85,7 +85,8 @@ Example: printf 'print\\n' | tmhost live sheet.tm";
 
 const SHOW_NOTES: &str =
     "It writes and makes no file. A field without an output shows `?`. Where a program\n\
-runs the worksheet nothing is shown: that is the fault 35 InUse.\n\n\
+runs the worksheet nothing is shown: that is the fault 35 InUse. With --json it\n\
+writes what `export json` does.\n\n\
 Status: 0 where all was written; 1 at a fault; 2 where the words are refused.\n\n\
 Example: tmhost show sheet.tm";
 
@@ -125,7 +126,9 @@ markdown  each input and each output as a block of code; an output that is one\n
 html      one page that stands alone, without scripts: prompts, inputs and outputs,\n\
 \x20         all of them as texts\n\
 notebook  a notebook of Jupyter: each field as a cell of code, with its output as\n\
-\x20         text, and beside it as the formula where it is one\n\n\
+\x20         text, and beside it as the formula where it is one\n\
+json      lines of JSON, which programs read (docs/JSON.md): a line for each field,\n\
+\x20         with its output as a tree of blocks\n\n\
 It reads PATH as `show` does, and writes and makes no file.\n\n\
 Status: 0 where all was written; 1 at a fault; 2 where the words are refused.\n\n\
 Example: tmhost export html sheet.tm >sheet.html";
@@ -199,7 +202,7 @@ pub(crate) fn row_at(at: usize) -> Row
             "Hold a worksheet open for lines that come on standard input",
             LIVE_NOTES,
         ),
-        4 => listed("show", Shape::Path, "Write a worksheet", SHOW_NOTES),
+        4 => listed("show", Shape::Json, "Write a worksheet", SHOW_NOTES),
         5 => listed(
             "check",
             Shape::Path,
@@ -215,7 +218,7 @@ pub(crate) fn row_at(at: usize) -> Row
         7 => listed(
             "export",
             Shape::Format,
-            "Write a worksheet as a script, Markdown, a page or a notebook",
+            "Write a worksheet as a script, Markdown, a page, a notebook or JSON",
             EXPORT_NOTES,
         ),
         8 => listed("faults", Shape::Help, "What each fault means", FAULTS_NOTES),

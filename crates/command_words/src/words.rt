@@ -28,6 +28,8 @@ pub enum Task<'a> {
     LiveJson(&'a str),
     /// Write the worksheet at the path.
     Show(&'a str),
+    /// The same, as lines of JSON.
+    ShowJson(&'a str),
     /// Evaluate the worksheet at the path anew, and write what differs.
     Check(&'a str),
     /// Write what stands in the worksheet at the first path, before its first damage, to a new one at
@@ -113,7 +115,7 @@ fn with_format<'a>(alloc: Global, row: Row) -> Result<Command<'a>, AllocError>
 {
     plain(alloc, row).arg(
         Arg::new(alloc, "FORMAT")
-            .help("What the worksheet is written as: script, markdown, html or notebook")
+            .help("What the worksheet is written as: script, markdown, html, notebook or json")
             .required(true),
     )
 }
@@ -234,6 +236,17 @@ fn task_of_live<'a>(path: &'a str, json: bool) -> Task<'a>
     }
 }
 
+/// The task of `show`.
+fn task_of_show<'a>(path: &'a str, json: bool) -> Task<'a>
+    ensures { task_view result ≡ asked.show_by json path.entry.now }
+{
+    if json {
+        Task::ShowJson(path)
+    } else {
+        Task::Show(path)
+    }
+}
+
 /// The task of a subcommand with a path.
 fn task_with_path<'a>(name: &str, path: &'a str, flags: Flags) -> Task<'a>
     ensures { task_view result ≡ by_words name.now path.entry.now None None flags }
@@ -242,7 +255,7 @@ fn task_with_path<'a>(name: &str, path: &'a str, flags: Flags) -> Task<'a>
         "create" => Task::Create(path),
         "run" => task_of_run(path, flags.strict),
         "live" => task_of_live(path, flags.json),
-        "show" => Task::Show(path),
+        "show" => task_of_show(path, flags.json),
         "check" => Task::Check(path),
         _ => Task::Blocks,
     }

@@ -9,4 +9,4 @@ ShowsText k = (k ≡ kind.DisplayHelp) ⊎ (k ≡ kind.DisplayVersion)
 
 -- what is told of a format that there isn't
 abbrev pub no_format_text : List ℕ
-no_format_text = codes "error: there is no such format: FORMAT is script, markdown, html or notebook\n\nFor more information, try 'tmhost export --help'.\n"
+no_format_text = codes "error: there is no such format: FORMAT is script, markdown, html, notebook or json\n\nFor more information, try 'tmhost export --help'.\n"

@@ -37,6 +37,7 @@ use Rattle.program_endings.specs.declared.ending.Ending.{Ending}
 use Rattle.recovery.specs.declared.rescuing.Rescued.{Rescued}
 use Rattle.sheet_export.specs.Formats.{format_named, last_part}
 use Rattle.sheet_export.specs.declared.formats.Format.{Format}
+use Rattle.sheet_export.specs.declared.formats.Format.TheVariants as formats
 use Rattle.sheet_files.specs.declared.files_fault.FilesFault.{FilesFault}
 use Rattle.sheet_files.specs.declared.files_fault.HoldFault.{HoldFault}
 use Rattle.sheet_files.specs.declared.files_fault.MakeFault.{MakeFault}
@@ -71,6 +72,7 @@ module _ {Y D P S I W E Q : Type 0} where
   LeavesAlone old new (asked.live path) = new.progress ≡ old.progress
   LeavesAlone old new (asked.live_json path) = new.progress ≡ old.progress
   LeavesAlone old new (asked.show path) = (new.sources ≡ old.sources) × (new.input ≡ old.input) × (new.progress ≡ old.progress)
+  LeavesAlone old new (asked.show_json path) = (new.sources ≡ old.sources) × (new.input ≡ old.input) × (new.progress ≡ old.progress)
   LeavesAlone old new (asked.check path) = new.input ≡ old.input
   LeavesAlone old new (asked.rescue path new_path) = (new.sources ≡ old.sources) × (new.input ≡ old.input) × (new.progress ≡ old.progress)
   LeavesAlone old new (asked.export format path) = (new.sources ≡ old.sources) × (new.input ≡ old.input) × (new.progress ≡ old.progress)
@@ -186,6 +188,7 @@ module _ {Y D P S I W E Q : Type 0} (o : OutsideView D P S I W E) where
   DoesTask old new ending (asked.live path) = DoesLive in_words old new ending path
   DoesTask old new ending (asked.live_json path) = DoesLive in_json old new ending path
   DoesTask old new ending (asked.show path) = DoesShow old new ending path
+  DoesTask old new ending (asked.show_json path) = ExportsAs old new ending path formats.Json
   DoesTask old new ending (asked.check path) = DoesCheck old new ending path
   DoesTask old new ending (asked.rescue path new_path) = DoesRescue old new ending path new_path
   DoesTask old new ending (asked.export format path) = DoesExport old new ending format path

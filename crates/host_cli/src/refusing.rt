@@ -78,7 +78,7 @@ pub(crate) fn refuse_format<E: Write>(errors: &mut E) -> Ending
         → Appends (E.contents errors.old) (E.contents errors.new) no_format_text }
 {
     let told = errors.write_all(
-        b"error: there is no such format: FORMAT is script, markdown, html or notebook\n\n\
+        b"error: there is no such format: FORMAT is script, markdown, html, notebook or json\n\n\
         For more information, try 'tmhost export --help'.\n",
     );
     refused(told.is_ok())

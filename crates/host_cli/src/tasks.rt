@@ -277,6 +277,7 @@ pub fn do_task<Y: System>(alloc: Global, task: Task<'_>, outside: &mut Outside<Y
         Task::Live(path) => live_at(alloc, outside, path),
         Task::LiveJson(path) => live_json_at(alloc, outside, path),
         Task::Show(path) => show_at(alloc, outside, path),
+        Task::ShowJson(path) => export_as(alloc, outside, Format::Json, path),
         Task::Check(path) => check_at(alloc, outside, path),
         Task::Rescue(path, new) => rescue_at(alloc, outside, path, new),
         Task::Export(format, path) => export_at(alloc, outside, format, path),

@@ -3,6 +3,7 @@ use Rattle.std.specs.Prelude.{◌≡◌, ◌==◌, ℕ, Bool, true, false, List,
 use Rattle.std.specs.Str.{bytes_eq}
 use Rattle.disk_model.specs.Disk.{DiskView}
 use Rattle.serde_json.specs.Read.{read}
+use Rattle.sheet_json.specs.Sheets.{sheet_lines}
 use Rattle.sheet_notebook.specs.Notebook.{notebook, notebook_text}
 use Rattle.offline_programs.specs.Faults.{TellsShow, fault_text}
 use Rattle.offline_programs.specs.declared.fault.RunFault.{RunFault}
@@ -22,6 +23,7 @@ has_text format.Script sheet = has_script sheet
 has_text format.Markdown sheet = true
 has_text format.Html sheet = true
 has_text format.Notebook sheet = true
+has_text format.Json sheet = true
 
 -- its text, with this title where the format has one
 abbrev pub text_in : Format → List ℕ → Contents → List ℕ
@@ -29,12 +31,14 @@ text_in format.Script title sheet = script_text sheet
 text_in format.Markdown title sheet = markdown sheet
 text_in format.Html title sheet = page title sheet
 text_in format.Notebook title sheet = notebook_text sheet
+text_in format.Json title sheet = sheet_lines sheet
 
 -- what the text of this format reads as, where a reader of the kit's knows it: a notebook's is UTF-8, and reads as the notebook
 abbrev pub ReadsBack : Format → Contents → Type 0
 ReadsBack format.Script sheet = Unit {0}
 ReadsBack format.Markdown sheet = Unit {0}
 ReadsBack format.Html sheet = Unit {0}
+ReadsBack format.Json sheet = Unit {0}
 ReadsBack format.Notebook sheet = IsUtf8 (notebook_text sheet) × (read (notebook_text sheet) ≡ Some (notebook sheet))
 
 -- whether the whole text is made before its first byte is written, which takes memory
@@ -43,13 +47,15 @@ is_made_whole format.Script = false
 is_made_whole format.Markdown = false
 is_made_whole format.Html = false
 is_made_whole format.Notebook = true
+is_made_whole format.Json = true
 
 -- the format of this name
 abbrev pub format_named : List ℕ → Option Format
 format_named name = if bytes_eq name (codes "script") then Some format.Script
     else (if bytes_eq name (codes "markdown") then Some format.Markdown
     else (if bytes_eq name (codes "html") then Some format.Html
-    else (if bytes_eq name (codes "notebook") then Some format.Notebook else None)))
+    else (if bytes_eq name (codes "notebook") then Some format.Notebook
+    else (if bytes_eq name (codes "json") then Some format.Json else None))))
 
 -- what stands behind the last slash of these bytes, and this part where they have none
 abbrev pub behind_slash : List ℕ → List ℕ → List ℕ

@@ -19,6 +19,7 @@ use disk_model::Disk;
 use journal::OpenFault;
 use offline_programs::RunFault;
 use recovery::Store;
+use sheet_json::sheet_bytes;
 use sheet_notebook::notebook_bytes;
 use std::alloc::Global;
 use std::io::Write;
@@ -35,9 +36,11 @@ pub enum Format {
     Html,
     /// A notebook of nbformat 4.5, with its answers as outputs.
     Notebook,
+    /// Lines of JSON, with its answers as trees of blocks.
+    Json,
 }
 
-/// The format of this name: `script`, `markdown`, `html` or `notebook`. None where there is none of it.
+/// The format of this name: `script`, `markdown`, `html`, `notebook` or `json`. None where there is none of it.
 pub fn format_named(name: &str) -> Option<Format>
     ensures { result ≡ exports.format_named name.now }
 {
@@ -46,6 +49,7 @@ pub fn format_named(name: &str) -> Option<Format>
         "markdown" => Some(Format::Markdown),
         "html" => Some(Format::Html),
         "notebook" => Some(Format::Notebook),
+        "json" => Some(Format::Json),
         _ => None,
     }
 }
@@ -138,6 +142,23 @@ pub fn write_notebook<W: Write>(
     }
 }
 
+/// Writes a worksheet as lines of JSON, which are made whole before the first byte is written.
+fn write_json<W: Write>(alloc: Global, sheet: &Sheet, out: &mut W) -> Result<(), ExportFault>
+    ensures ok { OnOk result
+        (Appends (W.contents out.old) (W.contents out.new)
+        (exports.text_in Format.Json [] sheet.now.contents)) }
+    ensures err { IfErr result
+        (TellsText Format.Json sheet.now.contents (out.new ≡ out.old)) }
+{
+    match sheet_bytes(alloc, sheet) {
+        Err(_) => Err(ExportFault::Run(RunFault::OutOfMemory)),
+        Ok(bytes) => match write_bytes(bytes.as_slice(), out) {
+            Ok(()) => Ok(()),
+            Err(_) => Err(ExportFault::Run(RunFault::Output)),
+        },
+    }
+}
+
 /// Writes a worksheet in a format.
 fn write_in<W: Write>(
     alloc: Global,
@@ -158,6 +179,7 @@ fn write_in<W: Write>(
         Format::Markdown => write_markdown(sheet, out),
         Format::Html => write_page(title, sheet, out),
         Format::Notebook => write_notebook(alloc, sheet, out),
+        Format::Json => write_json(alloc, sheet, out),
     }
 }
 
@@ -198,7 +220,8 @@ pub struct Exported<D: Disk> {
 /// The disk is only read: no byte of it changes.
 ///
 /// `Open` where the disk isn't opened, `NoScript` where the worksheet has no text in this format, and
-/// `OutOfMemory` where there is no memory for a notebook: nothing was written. `Output` where the writer fails: a part of the text may have gone out.
+/// `OutOfMemory` where there is no memory for a notebook or for JSON: nothing was written. `Output` where the
+/// writer fails: a part of the text may have gone out.
 pub fn export<D: Disk, W: Write>(
     alloc: Global,
     format: Format,

@@ -11,7 +11,7 @@ rows =
     ∷ (codes "create", shape.Path)
     ∷ (codes "run", shape.Strict)
     ∷ (codes "live", shape.Json)
-    ∷ (codes "show", shape.Path)
+    ∷ (codes "show", shape.Json)
     ∷ (codes "check", shape.Path)
     ∷ (codes "rescue", shape.Paths)
     ∷ (codes "export", shape.Format)

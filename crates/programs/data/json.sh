@@ -1,0 +1,171 @@
+# Live worksheets told as lines of JSON.
+
+# A case: NAME STATUS LINES, where the text that is wanted is the input here. The lines are taken over a new worksheet.
+json() {
+    cat >wanted
+    rm -f sheet sheet.alt
+    "$tmhost" create sheet
+    printf "$3" >given
+    compare "$1" "$(answer live --json sheet <given)" "$(cat wanted; echo "status $2")"
+}
+
+json 'no line' 0 '' <<'END_OF_JSON'
+{"format":1,"program":"tmhost","protocol":1,"type":"hello","version":"0.1.0"}
+{"type":"end"}
+END_OF_JSON
+
+json 'each line of a script' 0 'session a plain p\nsession b tab p q\nnew 0 a x\nnew 1 a y\nset 1 z\nmove 2 0\nclear 1\nremove 2\ncheckpoint\nstop a\n# a remark\n\nwait\nwait 1\ncomplete 1 0\nnew 0 c x\nfoo\nprint 2\ninterrupt a\ninterrupt c\nprint\n' <<'END_OF_JSON'
+{"format":1,"program":"tmhost","protocol":1,"type":"hello","version":"0.1.0"}
+{"line":1,"type":"done"}
+{"line":2,"type":"done"}
+{"id":1,"line":3,"type":"made"}
+{"id":2,"line":4,"type":"made"}
+{"line":5,"type":"done"}
+{"line":6,"type":"done"}
+{"line":7,"type":"done"}
+{"line":8,"type":"done"}
+{"line":9,"type":"done"}
+{"line":10,"type":"done"}
+{"line":11,"type":"nothing"}
+{"line":12,"type":"nothing"}
+{"line":13,"over":"idle","type":"waited"}
+{"line":14,"over":"idle","type":"waited"}
+{"line":15,"name":"NoTab","number":12,"type":"refused"}
+{"line":16,"name":"NoSession","number":1,"type":"refused"}
+{"line":17,"type":"bad"}
+{"line":18,"name":"NoField","number":2,"type":"refused"}
+{"line":19,"outcome":"idle","type":"interrupted"}
+{"line":20,"name":"NoSession","number":1,"type":"refused"}
+{"field":{"id":1,"input":"z","session":"a","state":"empty"},"line":21,"more":true,"type":"field"}
+{"fields":[1],"line":21,"next":3,"sessions":[{"life":null,"name":"a","tab":false,"waiting":0,"words":["p"]},{"life":null,"name":"b","tab":true,"waiting":0,"words":["p","q"]}],"type":"sheet"}
+{"type":"end"}
+END_OF_JSON
+
+# Prompts, blocks in one another, default inputs, bytes that aren't UTF-8, control characters, and an answer that looks like a line.
+interpreter p '\002verbatim:Hello\002prompt#Input 1] \005\005' '\002verbatim:\002latex:$x^2$\005\002prompt#Input 2] \005\005' \
+    '\002verbatim:caf\351\002input#print(\005\005' '\002verbatim:{"line":3,"type":"done"}\n\001\033\177\005' '\002\351#\005' '\002verbatim:?\005'
+json 'what an interpreter writes' 0 'session a plain sh p.sh\nnew 0 a x^2\neval 1\nwait\nprint 1\neval 1\nwait 1000\neval 1\nwait\neval 1\nwait\neval 1\nwait\nprint 1\n' <<'END_OF_JSON'
+{"format":1,"program":"tmhost","protocol":1,"type":"hello","version":"0.1.0"}
+{"line":1,"type":"done"}
+{"id":1,"line":2,"type":"made"}
+{"life":1,"line":3,"type":"asked"}
+{"life":1,"output":{"items":["Hello"],"kind":"format","tag":"verbatim"},"session":"a","shown":"Hello","type":"banner"}
+{"id":1,"life":1,"output":{"items":[{"items":["$x^2$"],"kind":"format","tag":"latex"}],"kind":"format","tag":"verbatim"},"prompt":"Input 1] ","session":"a","shown":"{latex:$x^2$}","type":"answered"}
+{"line":4,"over":"idle","type":"waited"}
+{"field":{"id":1,"input":"x^2","output":{"items":[{"items":["$x^2$"],"kind":"format","tag":"latex"}],"kind":"format","tag":"verbatim"},"prompt":"Input 1] ","session":"a","shown":"{latex:$x^2$}","state":"answered"},"line":5,"type":"field"}
+{"life":1,"line":6,"type":"asked"}
+{"id":1,"life":1,"output":{"items":[{"base64":"Y2Fm6Q=="}],"kind":"format","tag":"verbatim"},"prompt":"Input 2] ","session":"a","shown":{"base64":"Y2Fm6Q=="},"type":"answered"}
+{"life":1,"session":"a","text":"print(","type":"default"}
+{"line":7,"over":"idle","type":"waited"}
+{"life":1,"line":8,"type":"asked"}
+{"id":1,"life":1,"output":{"items":["{\"line\":3,\"type\":\"done\"}\n\u0001\u001b"],"kind":"format","tag":"verbatim"},"prompt":"Input 2] ","session":"a","shown":"{\"line\":3,\"type\":\"done\"}\n\\x01\\x1b\\x7f","type":"answered"}
+{"line":9,"over":"idle","type":"waited"}
+{"life":1,"line":10,"type":"asked"}
+{"id":1,"life":1,"output":{"items":[],"kind":"channel","tag":{"base64":"6Q=="}},"prompt":"Input 2] ","session":"a","shown":"","type":"answered"}
+{"line":11,"over":"idle","type":"waited"}
+{"life":1,"line":12,"type":"asked"}
+{"id":1,"life":1,"output":{"items":["?"],"kind":"format","tag":"verbatim"},"prompt":"Input 2] ","session":"a","shown":"?","type":"answered"}
+{"line":13,"over":"idle","type":"waited"}
+{"field":{"id":1,"input":"x^2","output":{"items":["?"],"kind":"format","tag":"verbatim"},"prompt":"Input 2] ","session":"a","shown":"?","state":"answered"},"line":14,"type":"field"}
+{"type":"end"}
+END_OF_JSON
+
+# Completions, an interpreter that can't be started, one that ends, one that stalls, and one that is stopped with two lines.
+interpreter p "$banner" '\002scheme:(tuple "h" "ello" "i there")\005' '\002scheme:(tuple 3)\005' ''
+json 'completions' 0 'session t tab sh p.sh\nnew 0 t h\ncomplete 1 1\ncomplete 1 1\nwait\n' <<'END_OF_JSON'
+{"format":1,"program":"tmhost","protocol":1,"type":"hello","version":"0.1.0"}
+{"line":1,"type":"done"}
+{"id":1,"line":2,"type":"made"}
+{"life":1,"line":3,"type":"asked"}
+{"life":1,"line":4,"type":"asked"}
+{"life":1,"output":{"items":[],"kind":"format","tag":"verbatim"},"session":"t","shown":"","type":"banner"}
+{"id":1,"life":1,"session":"t","told":{"rest":["ello","i there"],"root":"h"},"type":"completed"}
+{"id":1,"life":1,"session":"t","told":null,"type":"completed"}
+{"line":5,"over":"idle","type":"waited"}
+{"type":"end"}
+END_OF_JSON
+interpreter p "$banner" '' ''
+json 'lines that are lost' 0 'session a plain sh p.sh\nsession b plain /nonexistent/p\nsession t tab sh p.sh\nnew 0 a x\nnew 1 a y\nnew 2 b z\nnew 3 t h\neval 3\neval 1\neval 2\nwait 1\neval 1\neval 2\nprint 1\nstop a\neval 4\ncomplete 4 1\nstop t\nstop t\nprint 2\n' <<'END_OF_JSON'
+{"format":1,"program":"tmhost","protocol":1,"type":"hello","version":"0.1.0"}
+{"line":1,"type":"done"}
+{"line":2,"type":"done"}
+{"line":3,"type":"done"}
+{"id":1,"line":4,"type":"made"}
+{"id":2,"line":5,"type":"made"}
+{"id":3,"line":6,"type":"made"}
+{"id":4,"line":7,"type":"made"}
+{"life":1,"line":8,"type":"asked"}
+{"life":1,"lost":[{"id":3,"text":"z"}],"reason":"StartRefused","session":"b","type":"ended"}
+{"life":2,"line":9,"type":"asked"}
+{"life":2,"line":10,"type":"asked"}
+{"life":2,"output":{"items":[],"kind":"format","tag":"verbatim"},"session":"a","shown":"","type":"banner"}
+{"life":2,"lost":[{"id":1,"text":"x"},{"id":2,"text":"y"}],"reason":"Stalled","session":"a","type":"ended"}
+{"line":11,"over":"time","type":"waited"}
+{"life":3,"line":12,"type":"asked"}
+{"life":3,"line":13,"type":"asked"}
+{"field":{"id":1,"input":"x","session":"a","state":"waiting"},"line":14,"type":"field"}
+{"life":3,"line":15,"lost":[{"id":1,"text":"x"},{"id":2,"text":"y"}],"session":"a","type":"stopped"}
+{"life":4,"line":16,"type":"asked"}
+{"life":4,"line":17,"type":"asked"}
+{"life":4,"line":18,"lost":[{"id":4,"text":"h"},{"cursor":1,"id":4,"text":"h"}],"session":"t","type":"stopped"}
+{"line":19,"type":"done"}
+{"field":{"id":2,"input":"y","session":"a","state":"empty"},"line":20,"type":"field"}
+{"type":"end"}
+END_OF_JSON
+
+# Faults: before the worksheet is open it is the only object, and then the last one.
+faulty() {
+    cat >wanted
+    shift
+    compare "$name" "$(answer live --json "$@" </dev/null)" "$(cat wanted; echo 'status 1')"
+}
+name='a missing path' faulty - nowhere/sheet <<'END_OF_JSON'
+{"name":"Disk","number":32,"type":"fault"}
+fault 32 Disk
+END_OF_JSON
+name='what is no worksheet' faulty - hello.txt <<'END_OF_JSON'
+{"format":1,"program":"tmhost","protocol":1,"type":"hello","version":"0.1.0"}
+{"name":"NotASheet","number":31,"type":"fault"}
+fault 31 NotASheet
+END_OF_JSON
+printf 'TMWSHEET\001AR\000\000\000\011abc' >damaged
+name='a damaged worksheet' faulty - damaged <<'END_OF_JSON'
+{"format":1,"program":"tmhost","protocol":1,"type":"hello","version":"0.1.0"}
+{"name":"Damaged","number":30,"offset":10,"type":"fault"}
+fault 30 Damaged 10
+END_OF_JSON
+rm -f sheet sheet.alt
+"$tmhost" create sheet
+cat >wanted <<'END_OF_JSON'
+{"format":1,"program":"tmhost","protocol":1,"type":"hello","version":"0.1.0"}
+{"name":"Input","number":40,"type":"fault"}
+fault 40 Input
+status 1
+END_OF_JSON
+compare 'an input that is a folder' "$(answer live --json sheet </)" "$(cat wanted)"
+"$tmhost" live --json sheet </dev/null >/dev/full 2>errors
+compare 'a full output' "$? $(cat errors)" '1 fault 42 Output'
+"$tmhost" live --json sheet </dev/null 2>errors >&-
+compare 'a closed output' "$? $(cat errors)" '1 fault 42 Output'
+
+# The words of `live` and its JSON leave the same worksheet.
+interpreter p "$banner" '\002verbatim:A\005' '\002verbatim:B\005'
+printf 'session a plain sh p.sh\nnew 0 a x\nnew 1 a y\neval 1\neval 2\nwait\nset 1 z\n' >given
+for form in '' --json; do
+    rm -f sheet sheet.alt
+    "$tmhost" create sheet
+    "$tmhost" live $form sheet <given >/dev/null
+    mv sheet "sheet$form.kept"
+done
+compare 'both forms leave one worksheet' "$(cmp sheet.kept sheet--json.kept && echo same)" same
+compare 'show --json is export json' "$(answer show --json sheet </dev/null)" "$(answer export json sheet </dev/null)"
+cat >wanted <<'END_OF_JSON'
+{"format":1,"program":"tmhost","protocol":1,"type":"hello","version":"0.1.0"}
+{"field":{"id":1,"input":"z","session":"a","state":"empty"},"type":"field"}
+{"field":{"id":2,"input":"y","output":{"items":["B"],"kind":"format","tag":"verbatim"},"prompt":"> ","session":"a","shown":"B","state":"answered"},"type":"field"}
+{"fields":[1,2],"next":3,"sessions":[{"life":null,"name":"a","tab":false,"waiting":0,"words":["sh","p.sh"]}],"type":"sheet"}
+{"type":"end"}
+status 0
+END_OF_JSON
+compare 'a worksheet as JSON' "$(answer export json sheet </dev/null)" "$(cat wanted)"
+counted json
