@@ -152,7 +152,7 @@ fn write_json<W: Write>(alloc: Global, sheet: &Sheet, out: &mut W) -> Result<(),
 {
     match sheet_bytes(alloc, sheet) {
         Err(_) => Err(ExportFault::Run(RunFault::OutOfMemory)),
-        Ok(bytes) => match write_bytes(bytes.as_slice(), out) {
+        Ok(lines) => match write_bytes(lines.as_slice(), out) {
             Ok(()) => Ok(()),
             Err(_) => Err(ExportFault::Run(RunFault::Output)),
         },
