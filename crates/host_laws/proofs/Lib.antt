@@ -21,3 +21,4 @@ pub mod Totals
 pub mod Numbers
 pub mod InFlight
 pub mod ApartAdds
+pub mod OwnReplies

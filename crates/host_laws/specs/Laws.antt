@@ -15,7 +15,11 @@ use Rattle.host_events.specs.declared.event.Event.TheVariants as event
 use Rattle.host_events.specs.declared.outcome.Effect.{Effect}
 use Rattle.host_events.specs.declared.outcome.Effect.TheVariants as effect
 use Rattle.host_events.specs.declared.outcome.Outcome.{Outcome}
+use Rattle.host_events.specs.declared.reply.Reply.{Reply}
 use Rattle.host_events.specs.declared.reply.Reply.TheVariants as reply
+use Rattle.host_events.specs.declared.command.Command.{Command}
+use Rattle.plugin_core.specs.declared.step.Ended.{Ended}
+use Rattle.block_tree.specs.declared.reason.Reason.TheVariants as reason
 use Rattle.session_engine.specs.World.{World, Going, world_at_opening, sheet_in, life_of, with_number, waiting_in}
 use Rattle.session_engine.specs.Refused.{command_takes_memory}
 use Rattle.session_engine.specs.Does.{Does, MayDo, Gives, Runs, tells}
@@ -44,6 +48,21 @@ AnEventDoesOneThing = (w : World) (e : Event) (d f : Does) → MayDo w e d → M
 -- What was told settles where events have led.
 abbrev pub OutcomesLeadToOneWorld : Type 0
 OutcomesLeadToOneWorld = (w : World) (es : List Event) (os : List Outcome) (v u : World) → Runs w es os v → Runs w es os u → v ≡ u
+
+-- The replies of commands.
+
+-- a reply of a command's own: that it was done, or refused; or the end of the life that it stopped, with which nothing closes
+abbrev pub IsOwnReply : Reply → Type 0
+IsOwnReply reply.Done = Unit {0}
+IsOwnReply (reply.Field id) = Unit {0}
+IsOwnReply (reply.Asked life) = Unit {0}
+IsOwnReply (reply.Refused why) = Unit {0}
+IsOwnReply (reply.Child told) = (told.closed ≡ None) × ((ended : Ended) × (told.ended ≡ Some ended) × (ended.reason ≡ reason.Stopped))
+IsOwnReply reply.Nothing = ⊥
+
+-- Each command has a reply of its own. So of what is told of a command and of all that comes of it, the first reply is the command's.
+abbrev pub EachCommandHasAReply : Type 0
+EachCommandHasAReply = (w : World) (c : Command) (o : Outcome) (v : World) → Gives w (event.Command c) o v → IsOwnReply o.reply
 
 -- The numbers of lives.
 

@@ -4,7 +4,7 @@
 
 ghost use Rattle.host_laws.specs.Apart.{OthersAreSilent, SessionsAreIndependent, SessionsSeeTheirOwn};
 ghost use Rattle.host_laws.specs.Turns.{EvaluatedAnew, HostsInTurn, PlaysAreTurns, StepsAreTurns};
-ghost use Rattle.host_laws.specs.Laws.{AnEventDoesOneThing, EachEventHasAnOutcome, NothingIsShownInFlight, NothingOfAnEndedLife, NumbersAreGivenOnce, OutcomesLeadToOneWorld};
+ghost use Rattle.host_laws.specs.Laws.{AnEventDoesOneThing, EachCommandHasAReply, EachEventHasAnOutcome, NothingIsShownInFlight, NothingOfAnEndedLife, NumbersAreGivenOnce, OutcomesLeadToOneWorld};
 
 /// A session is told the same whatever others' interpreters do: two histories without refusals from
 /// worlds alike for it that agree in the merged list of all commands and this session's child events, and
@@ -71,6 +71,11 @@ pub fn outcomes_lead_to_one_world()
 {
     plugin_core::streams_read_one_way();
 }
+
+/// Each command has a reply of its own, whatever comes of it.
+pub fn each_command_has_a_reply()
+    ensures { EachCommandHasAReply }
+{}
 
 /// The lives that a host starts are numbered 1, 2 and so on. Of one session at most one goes on.
 pub fn numbers_are_given_once()
