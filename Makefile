@@ -6,6 +6,7 @@ PROGRAM = crates/tmhost/out/tmhost
 PAGES = crates/tmhost/out/pages
 SHARE = $(DESTDIR)$(PREFIX)/share
 ADAPTERS = gp python prompted.py blocks.py python_lines.py
+CLIENTS = import typeset notebook repl
 
 .PHONY: all install uninstall
 
@@ -29,9 +30,22 @@ install: all
 	install clients/typeset/tmhost-typeset $(SHARE)/tmhost/typeset
 	install -m 644 clients/typeset/lib/*.js $(SHARE)/tmhost/typeset/lib
 	ln -sf ../share/tmhost/typeset/tmhost-typeset $(DESTDIR)$(PREFIX)/bin/tmhost-typeset
+	install -d $(SHARE)/tmhost/python/tmhost
+	install -m 644 clients/python/tmhost/*.py clients/python/tmhost/py.typed $(SHARE)/tmhost/python/tmhost
+	install -d $(SHARE)/tmhost/notebook/tmhost_notebook $(SHARE)/tmhost/notebook/page
+	install clients/notebook/tmhost-notebook $(SHARE)/tmhost/notebook
+	install -m 644 clients/notebook/tmhost_notebook/*.py $(SHARE)/tmhost/notebook/tmhost_notebook
+	install -m 644 clients/notebook/page/* $(SHARE)/tmhost/notebook/page
+	ln -sf ../share/tmhost/notebook/tmhost-notebook $(DESTDIR)$(PREFIX)/bin/tmhost-notebook
+	install -d $(SHARE)/tmhost/repl/tmhost_repl
+	install clients/repl/tmhost-repl $(SHARE)/tmhost/repl
+	install -m 644 clients/repl/tmhost_repl/*.py $(SHARE)/tmhost/repl/tmhost_repl
+	ln -sf ../share/tmhost/repl/tmhost-repl $(DESTDIR)$(PREFIX)/bin/tmhost-repl
+	install -d $(SHARE)/emacs/site-lisp/tmhost
+	install -m 644 clients/emacs/*.el $(SHARE)/emacs/site-lisp/tmhost
 
 uninstall:
 	rm -f $(DESTDIR)$(PREFIX)/bin/tmhost $(SHARE)/man/man1/tmhost.1 $(SHARE)/bash-completion/completions/tmhost
-	rm -rf $(SHARE)/tmhost/__pycache__ $(SHARE)/tmhost/import $(SHARE)/tmhost/typeset
-	rm -f $(DESTDIR)$(PREFIX)/bin/tmhost-import $(DESTDIR)$(PREFIX)/bin/tmhost-typeset
+	rm -rf $(SHARE)/tmhost/__pycache__ $(addprefix $(SHARE)/tmhost/,$(CLIENTS) python) $(SHARE)/emacs/site-lisp/tmhost
+	rm -f $(addprefix $(DESTDIR)$(PREFIX)/bin/tmhost-,$(CLIENTS))
 	rm -f $(SHARE)/zsh/site-functions/_tmhost $(SHARE)/fish/vendor_completions.d/tmhost.fish $(addprefix $(SHARE)/tmhost/,$(ADAPTERS))
