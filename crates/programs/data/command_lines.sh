@@ -63,12 +63,12 @@ helps() {
 helps blocks 'Write the blocks of the stream on standard input, a line each' "Usage: ${tmhost##*/} blocks" "Example: printf '\\002verbatim:Hi\\005' | tmhost blocks" 0
 helps create 'Make an empty worksheet' "Usage: ${tmhost##*/} create <PATH>" 'Example: tmhost create sheet.tm' 3
 helps run 'Run the script on standard input over a worksheet' "Usage: ${tmhost##*/} run [OPTIONS] <PATH>" 'Example: tmhost run sheet.tm <script.txt' 1
-helps live 'Hold a worksheet open for lines that come on standard input' "Usage: ${tmhost##*/} live <PATH>" "Example: printf 'print\\n' | tmhost live sheet.tm" 1
-helps show 'Write a worksheet' "Usage: ${tmhost##*/} show <PATH>" 'Example: tmhost show sheet.tm' 1
+helps live 'Hold a worksheet open for lines that come on standard input' "Usage: ${tmhost##*/} live [OPTIONS] <PATH>" "Example: printf 'print\\n' | tmhost live sheet.tm" 1
+helps show 'Write a worksheet' "Usage: ${tmhost##*/} show [OPTIONS] <PATH>" 'Example: tmhost show sheet.tm' 1
 helps check 'Evaluate a worksheet anew, and write what differs' "Usage: ${tmhost##*/} check <PATH>" 'Example: tmhost check sheet.tm' 1
 helps rescue 'Write what stands before a damage to a new worksheet' "Usage: ${tmhost##*/} rescue <PATH> <NEW>" 'Example: tmhost rescue sheet.tm new.tm' 1
 
-helps export 'Write a worksheet as a script, Markdown, a page or a notebook' "Usage: ${tmhost##*/} export <FORMAT> <PATH>" 'Example: tmhost export html sheet.tm >sheet.html' 1
+helps export 'Write a worksheet as a script, Markdown, a page, a notebook or JSON' "Usage: ${tmhost##*/} export <FORMAT> <PATH>" 'Example: tmhost export html sheet.tm >sheet.html' 1
 
 # The version: the name of the program and a number.
 "$tmhost" --version >text 2>errors

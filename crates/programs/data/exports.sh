@@ -358,8 +358,8 @@ for format in script markdown html notebook; do
     printf "$header"'R\000\000\000\001x\000' >area
     words "$format of a damaged worksheet" 1 'fault 30 Damaged 10\n' export $format area
 done
-words 'a format that there is none of' 2 "error: there is no such format: FORMAT is script, markdown, html or notebook\n\nFor more information, try 'tmhost export --help'.\n" export HTML area
-words 'no format' 2 "error: there is no such format: FORMAT is script, markdown, html or notebook\n\nFor more information, try 'tmhost export --help'.\n" export '' area
+words 'a format that there is none of' 2 "error: there is no such format: FORMAT is script, markdown, html, notebook or json\n\nFor more information, try 'tmhost export --help'.\n" export HTML area
+words 'no format' 2 "error: there is no such format: FORMAT is script, markdown, html, notebook or json\n\nFor more information, try 'tmhost export --help'.\n" export '' area
 
 # A worksheet that another has, and outputs that can't be written.
 talk

@@ -42,6 +42,7 @@ json 'each line of a script' 0 'session a plain p\nsession b tab p q\nnew 0 a x\
 END_OF_JSON
 
 # Prompts, blocks in one another, default inputs, bytes that aren't UTF-8, control characters, and an answer that looks like a line.
+# JSON has the byte 127 as it is: it stands behind `\u001b` below.
 interpreter p '\002verbatim:Hello\002prompt#Input 1] \005\005' '\002verbatim:\002latex:$x^2$\005\002prompt#Input 2] \005\005' \
     '\002verbatim:caf\351\002input#print(\005\005' '\002verbatim:{"line":3,"type":"done"}\n\001\033\177\005' '\002\351#\005' '\002verbatim:?\005'
 json 'what an interpreter writes' 0 'session a plain sh p.sh\nnew 0 a x^2\neval 1\nwait\nprint 1\neval 1\nwait 1000\neval 1\nwait\neval 1\nwait\neval 1\nwait\nprint 1\n' <<'END_OF_JSON'
@@ -58,10 +59,10 @@ json 'what an interpreter writes' 0 'session a plain sh p.sh\nnew 0 a x^2\neval 
 {"life":1,"session":"a","text":"print(","type":"default"}
 {"line":7,"over":"idle","type":"waited"}
 {"life":1,"line":8,"type":"asked"}
-{"id":1,"life":1,"output":{"items":["{\"line\":3,\"type\":\"done\"}\n\u0001\u001b"],"kind":"format","tag":"verbatim"},"prompt":"Input 2] ","session":"a","shown":"{\"line\":3,\"type\":\"done\"}\n\\x01\\x1b\\x7f","type":"answered"}
+{"id":1,"life":1,"output":{"items":["{\"line\":3,\"type\":\"done\"}\n\u0001\u001b"],"kind":"format","tag":"verbatim"},"prompt":"Input 2] ","session":"a","shown":"{\"line\":3,\"type\":\"done\"}\n\\x01\\x1b\\x7f","type":"answered"}
 {"line":9,"over":"idle","type":"waited"}
 {"life":1,"line":10,"type":"asked"}
-{"id":1,"life":1,"output":{"items":[],"kind":"channel","tag":{"base64":"6Q=="}},"prompt":"Input 2] ","session":"a","shown":"","type":"answered"}
+{"id":1,"life":1,"output":{"items":[],"kind":"channel","tag":{"base64":"6Q=="}},"prompt":"Input 2] ","session":"a","shown":{"base64":"e+kjfQ=="},"type":"answered"}
 {"line":11,"over":"idle","type":"waited"}
 {"life":1,"line":12,"type":"asked"}
 {"id":1,"life":1,"output":{"items":["?"],"kind":"format","tag":"verbatim"},"prompt":"Input 2] ","session":"a","shown":"?","type":"answered"}
@@ -84,8 +85,7 @@ json 'completions' 0 'session t tab sh p.sh\nnew 0 t h\ncomplete 1 1\ncomplete 1
 {"line":5,"over":"idle","type":"waited"}
 {"type":"end"}
 END_OF_JSON
-interpreter p "$banner" '' ''
-json 'lines that are lost' 0 'session a plain sh p.sh\nsession b plain /nonexistent/p\nsession t tab sh p.sh\nnew 0 a x\nnew 1 a y\nnew 2 b z\nnew 3 t h\neval 3\neval 1\neval 2\nwait 1\neval 1\neval 2\nprint 1\nstop a\neval 4\ncomplete 4 1\nstop t\nstop t\nprint 2\n' <<'END_OF_JSON'
+json 'lines that are lost' 0 'session a plain sh silent.sh\nsession b plain /nonexistent/p\nsession t tab sh silent.sh\nnew 0 a x\nnew 1 a y\nnew 2 b z\nnew 3 t h\neval 3\neval 1\neval 2\nwait 1\neval 1\neval 2\nprint 1\nstop a\neval 4\ncomplete 4 1\nstop t\nstop t\nprint 2\n' <<'END_OF_JSON'
 {"format":1,"program":"tmhost","protocol":1,"type":"hello","version":"0.1.0"}
 {"line":1,"type":"done"}
 {"line":2,"type":"done"}
@@ -98,7 +98,6 @@ json 'lines that are lost' 0 'session a plain sh p.sh\nsession b plain /nonexist
 {"life":1,"lost":[{"id":3,"text":"z"}],"reason":"StartRefused","session":"b","type":"ended"}
 {"life":2,"line":9,"type":"asked"}
 {"life":2,"line":10,"type":"asked"}
-{"life":2,"output":{"items":[],"kind":"format","tag":"verbatim"},"session":"a","shown":"","type":"banner"}
 {"life":2,"lost":[{"id":1,"text":"x"},{"id":2,"text":"y"}],"reason":"Stalled","session":"a","type":"ended"}
 {"line":11,"over":"time","type":"waited"}
 {"life":3,"line":12,"type":"asked"}
@@ -158,6 +157,7 @@ for form in '' --json; do
     mv sheet "sheet$form.kept"
 done
 compare 'both forms leave one worksheet' "$(cmp sheet.kept sheet--json.kept && echo same)" same
+mv sheet--json.kept sheet
 compare 'show --json is export json' "$(answer show --json sheet </dev/null)" "$(answer export json sheet </dev/null)"
 cat >wanted <<'END_OF_JSON'
 {"format":1,"program":"tmhost","protocol":1,"type":"hello","version":"0.1.0"}
