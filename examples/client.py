@@ -4,12 +4,14 @@ import sys
 from tmhost import Worksheet
 
 with Worksheet(sys.argv[1], create=True) as sheet:
-    sheet.ensure_session("py", ["python3", "examples/python.py"])
+    sheet.ensure_session("py", ["adapters/python"])
     sheet.ensure_session("sh", ["sh", "examples/echo.sh"])
-    stuck, quick = sheet.new("py", "while True: pass"), sheet.new("sh", "hello")
-    waiting = stuck.eval()
+    cell, quick = sheet.new("py", "n = 6"), sheet.new("sh", "hello")
+    cell.evaluate(timeout=60)
+    cell.set("while True: pass")
+    waiting = cell.eval()
     print(quick.evaluate(timeout=60).text)
     sheet.interrupt("py")
     print(waiting.result(timeout=60).text)
-    stuck.set("6 * 7")
-    print(stuck.evaluate(timeout=60).text)
+    cell.set("n * 7")
+    print(cell.evaluate(timeout=60).text)
