@@ -1,34 +1,20 @@
-"""Programs that read exported Markdown, notebooks and pages, and what each may make of a formula."""
+"""Programs that read exports, and what each may make of a formula."""
 
 from __future__ import annotations
 
 import html.parser
+import http.server
+import os
 import re
 import shutil
 import subprocess
-import time
+import threading
 from collections.abc import Callable
 from dataclasses import dataclass
 
 from model import Difference
-from records import long
 
 Element = tuple[str, dict[str, str]]
-
-# Known to no reader as a language, so no code is coloured.
-SESSION = b"gp"
-
-# What closes whatever a formula may have left open, and then is more than text.
-NOISE = rb"""}$ <img src=x onerror=alert(1)>
-}}$ ]{onclick=alert(1)} ](javascript:alert(1)) ) --> ]]> \end{x} \fi $$ * ** _ __ ~~ ^
-</div> <script>alert(1)</script>
-
-~~~
-# x
-===
-"""
-# How often a long one has its piece.
-REPEATED = 5_000
 
 # What must be found, or a reader shows nothing.
 CONTROL_ADDRESS = "http://formula.example/control.png"
@@ -45,6 +31,7 @@ MATH_ATTRIBUTES = frozenset("xmlns display encoding stretchy form accent width c
 OWN = re.compile(r"(^|[./])(google|googleapis|gvt1)\.com")
 
 
+
 def is_address(element: Element) -> bool:
     """A link that a reader makes of a bare address."""
     tag, attributes = element
@@ -59,8 +46,9 @@ def is_mathml(element: Element) -> bool:
 def is_picture(element: Element) -> bool:
     """A formula as the picture that another host makes of it."""
     tag, attributes = element
-    names = list(attributes) == ["style", "src", "alt", "title", "class"]
-    return tag == "img" and names and attributes["style"] == "vertical-align:middle" and attributes["src"].startswith("https://latex.codecogs.com/")
+    if tag != "img" or list(attributes) != ["style", "src", "alt", "title", "class"]:
+        return False
+    return attributes["style"] == "vertical-align:middle" and attributes["src"].startswith("https://latex.codecogs.com/")
 
 
 def is_table(element: Element) -> bool:
@@ -75,10 +63,10 @@ def is_sign(element: Element) -> bool:
 
 @dataclass(frozen=True)
 class Tool:
-    """A program, and the package of Debian that has it."""
+    """A program, and the packages of Debian that have it."""
 
     line: str
-    package: str
+    packages: str
 
     def is_there(self) -> bool:
         return shutil.which(self.line.split()[0]) is not None
@@ -121,7 +109,7 @@ READERS = [
     Reader("pandoc --quiet -f markdown_strict+tex_math_dollars+backtick_code_blocks", "pandoc"),
     CMARK,
     Reader("cmark-gfm --unsafe -e autolink -e strikethrough -e table -e tasklist -e footnotes", "cmark-gfm", (is_address,), is_quick=True),
-    Reader("kramdown -i GFM", "ruby-kramdown-parser-gfm", (is_table,)),
+    Reader("kramdown -i GFM", "kramdown ruby-kramdown-parser-gfm", (is_table,)),
     Reader("lowdown", "lowdown", (is_address,)),
     Reader("markdown_py -x fenced_code", "python3-markdown"),
 ]
@@ -171,3 +159,51 @@ class Shown(html.parser.HTMLParser):
 
     def handle_pi(self, text: str) -> None:
         self.elements.append(("an instruction", {"text": text}))
+
+
+def elements_in(page: str) -> list[Element]:
+    """The elements of a page but those that a browser adds where they are missing."""
+    return [element for element in Shown(page).elements if element[0] not in ("html", "head", "body")]
+
+
+class Asked(http.server.BaseHTTPRequestHandler):
+    """Keeps what a browser asks for, and gives nothing."""
+
+    asked: list[str] = []
+
+    def do_GET(self) -> None:
+        if not OWN.search(self.path.split("?")[0]):
+            self.asked.append(self.path)
+        self.send_error(404)
+
+    do_CONNECT = do_POST = do_HEAD = do_GET
+
+    def log_message(self, format: str, *words: object) -> None:
+        pass
+
+
+class Host(http.server.ThreadingHTTPServer):
+    """It says nothing of a browser that ends in the middle of a request."""
+
+    def handle_error(self, *_: object) -> None:
+        pass
+
+
+class Browser:
+    """Chromium, whose requests all go to a host here that keeps them."""
+
+    def __init__(self, folder: str) -> None:
+        self.folder = os.path.abspath(folder)
+        self.host = Host(("127.0.0.1", 0), Asked)
+        threading.Thread(target=self.host.serve_forever, daemon=True).start()
+
+    def see(self, page: str) -> tuple[list[Element], list[str]]:
+        """The elements of a page, and what it asks for."""
+        with open(f"{self.folder}/page.html", "w") as file:
+            file.write(page)
+        Asked.asked.clear()
+        proxy = f"--proxy-server=127.0.0.1:{self.host.server_port}"
+        own = f"--user-data-dir={self.folder}/chromium"
+        words = "--headless --no-sandbox --disable-gpu --disable-background-networking --disable-component-update --no-first-run --dump-dom"
+        seen = output_of([CHROMIUM.line, *words.split(), proxy, own, f"file://{self.folder}/page.html"])
+        return elements_in(seen), list(Asked.asked)

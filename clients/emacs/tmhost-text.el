@@ -1,0 +1,54 @@
+;;; tmhost-text.el --- Texts of interpreters, which only are shown  -*- lexical-binding: t; -*-
+
+;;; Commentary:
+
+;; What an interpreter wrote is shown as text and is nothing more: it brings no
+;; text properties, and characters that aren't seen, or that change the order
+;; of others, stand as `\xNN' or `\uNNNN'.
+
+;;; Code:
+
+(defconst tmhost-text--steering
+  (rx (any (#x00 . #x08) (#x0b . #x1f) (#x7f . #x9f) #xad #x61c #x180e
+           #x200b #x200e #x200f (#x2028 . #x202e) (#x2060 . #x206f) #xfeff
+           (#xfff9 . #xfffb) (#xe0000 . #xe0fff) (#x3fff80 . #x3fffff)))
+  "A character that isn't seen, or that steers; the last are bytes as they are.")
+
+(defconst tmhost-text-line-end "\u2028"
+  "What stands in an input of a worksheet for the end of a line.")
+
+(defun tmhost-text--escaped (character)
+  "How CHARACTER, a string of one, is written."
+  (let ((code (aref character 0)))
+    (cond ((>= code #x3fff80) (format "\\x%02x" (- code #x3fff00)))
+          ((< code #x100) (format "\\x%02x" code))
+          ((< code #x10000) (format "\\u%04x" code))
+          (t (format "\\U%08x" code)))))
+
+(defun tmhost-text-harmless (text)
+  "TEXT without properties and without characters that steer."
+  (replace-regexp-in-string tmhost-text--steering #'tmhost-text--escaped
+                            (substring-no-properties text) t t))
+
+(defun tmhost-text-of (value)
+  "The string for VALUE, which is one, or bytes in base64.
+Bytes of it that aren't UTF-8 are bytes in the string."
+  (if (stringp value)
+      value
+    (decode-coding-string (base64-decode-string (alist-get 'base64 value))
+                          'utf-8-unix)))
+
+(defun tmhost-text-input (text)
+  "The input of a worksheet, one line, that TEXT of a buffer stands for."
+  (replace-regexp-in-string "\n" tmhost-text-line-end text t t))
+
+(defun tmhost-text-lines (input)
+  "The text of a buffer that INPUT of a worksheet stands for."
+  (replace-regexp-in-string tmhost-text-line-end "\n" input t t))
+
+(defun tmhost-text-bytes (text)
+  "How many bytes TEXT has in UTF-8."
+  (length (encode-coding-string text 'utf-8-unix)))
+
+(provide 'tmhost-text)
+;;; tmhost-text.el ends here

@@ -1,0 +1,169 @@
+;;; tmhost-told.el --- What the program tells  -*- lexical-binding: t; -*-
+
+;;; Commentary:
+
+;; Objects that are about interpreters, and the worksheet as it is printed.
+
+;;; Code:
+
+(require 'cl-lib)
+(require 'tmhost-talk)
+(require 'tmhost-text)
+(require 'tmhost-view)
+(require 'tmhost-sheet)
+
+(defvar-local tmhost-told--fields nil
+  "The fields that were told of a print that isn't over, the last one first.")
+
+(defun tmhost-told-take (object)
+  "Take OBJECT, which is told of an interpreter or within a print.
+An object of another type, and what there isn't, is passed over."
+  (let ((type (alist-get 'type object))
+        (session (tmhost-sheet-session (alist-get 'session object)))
+        (field (tmhost-view-field (alist-get 'id object))))
+    (cond
+     ((alist-get 'more object)
+      (when (equal type "field")
+        (push (tmhost-told--read (alist-get 'field object))
+              tmhost-told--fields)))
+     ((not session))
+     ((equal type "banner")
+      (setf (tmhost-session-life session) (alist-get 'life object))
+      (message "%s: %s" (tmhost-session-name session)
+               (tmhost-text-harmless
+                (tmhost-text-of (alist-get 'shown object)))))
+     ((and (equal type "answered") field)
+      (tmhost-told--answered session field object))
+     ((equal type "completed")
+      (tmhost-told--completed session (alist-get 'told object)))
+     ((equal type "ended")
+      (tmhost-told-ended session (alist-get 'reason object)
+                          (alist-get 'lost object))))))
+
+(defun tmhost-told--answered (session field object)
+  "Give FIELD of SESSION the answer in OBJECT."
+  (when (eql (tmhost-field-id field) (tmhost-session-busy session))
+    (setf (tmhost-session-busy session) nil))
+  (setf (tmhost-field-refused field) nil)
+  (tmhost-sheet--become field 'answered
+                        :prompt (tmhost-text-of (alist-get 'prompt object))
+                        :shown (tmhost-text-of (alist-get 'shown object)))
+  (tmhost-sheet--go-on))
+
+(defun tmhost-told--completed (session told)
+  "Give TOLD to the one that has waited longest for completions of SESSION."
+  (let ((request (assoc (tmhost-session-name session) tmhost-sheet--requests)))
+    (when request
+      (setq tmhost-sheet--requests (delq request tmhost-sheet--requests))
+      (funcall (cdr request) told))))
+
+(defun tmhost-told-ended (session reason lost)
+  "The interpreter of SESSION has ended for REASON, and took LOST with it.
+Of the fields in LOST the first one keeps the reason, where it has no answer;
+so it is looked at."
+  (setf (tmhost-session-life session) nil (tmhost-session-busy session) nil)
+  (dolist (item lost)
+    (let ((field (tmhost-view-field (alist-get 'id item)))
+          (is-first (eq item (car lost))))
+      (cond ((alist-get 'cursor item)
+             (tmhost-told--completed session nil))
+            (field
+             (tmhost-sheet--become field (if is-first 'lost 'empty)
+                                   :reason (and is-first reason))
+             (when is-first
+               (tmhost-told--look field))))))
+  (tmhost-sheet--give-up session (format "ended: %s" reason)))
+
+(defun tmhost-told--look (field)
+  "Have FIELD told anew."
+  (tmhost-talk-send
+   (format "print %d" (tmhost-field-id field))
+   (lambda (reply)
+     (let ((told (alist-get 'field reply)))
+       (when (and told (eq field (tmhost-view-field (alist-get 'id told))))
+         (let ((new (tmhost-told--read told)))
+           (setf (tmhost-field-input field) (tmhost-field-input new))
+           (tmhost-sheet--become field (tmhost-field-state new)
+                                 :prompt (tmhost-field-prompt new)
+                                 :shown (tmhost-field-shown new)
+                                 :reason (tmhost-field-reason new))))))))
+
+(defun tmhost-told--read (told)
+  "The field that is in TOLD, a FIELD of the protocol."
+  (tmhost-field-make
+   :id (alist-get 'id told) :session (alist-get 'session told)
+   :input (alist-get 'input told)
+   :state (intern (alist-get 'state told)) :reason (alist-get 'reason told)
+   :prompt (and (assq 'prompt told) (tmhost-text-of (alist-get 'prompt told)))
+   :shown (and (assq 'shown told) (tmhost-text-of (alist-get 'shown told)))))
+
+(defun tmhost-told--take-over (told)
+  "The field of which TOLD is told anew: the one that is there, or TOLD.
+Replies that are to come are about the one that is there."
+  (let ((field (tmhost-view-field (tmhost-field-id told))))
+    (if (null field)
+        told
+      (setf (tmhost-field-input field) (tmhost-field-input told)
+            (tmhost-field-state field) (tmhost-field-state told)
+            (tmhost-field-prompt field) (tmhost-field-prompt told)
+            (tmhost-field-shown field) (tmhost-field-shown told)
+            (tmhost-field-reason field) (tmhost-field-reason told))
+      field)))
+
+(defun tmhost-told--take-over-session (told)
+  "The session of which TOLD, a SESSION of the protocol, is told anew."
+  (let ((session (or (tmhost-sheet-session (alist-get 'name told))
+                     (tmhost-session-make :name (alist-get 'name told)
+                                          :words (alist-get 'words told)
+                                          :tab (alist-get 'tab told)))))
+    (setf (tmhost-session-life session) (alist-get 'life told))
+    session))
+
+(defun tmhost-told-show (sheet drafts)
+  "Show the fields that were told before SHEET, the end of a print.
+DRAFTS are texts that weren't saved: they are put back, and one whose field is
+gone into the kill ring."
+  (setq tmhost-sheet-sessions (mapcar #'tmhost-told--take-over-session
+                                      (alist-get 'sessions sheet))
+        tmhost-sheet--changed nil)
+  (tmhost-view-show (mapcar #'tmhost-told--take-over
+                            (nreverse tmhost-told--fields)))
+  (setq tmhost-told--fields nil
+        tmhost-sheet--queue (cl-remove-if-not #'tmhost-view-field
+                                              tmhost-sheet--queue))
+  (pcase-dolist (`(,id . ,text) drafts)
+    (tmhost-told--put-back id text))
+  (dolist (id tmhost-view-order)
+    (let* ((field (tmhost-view-field id))
+           (session (tmhost-sheet--session-of field)))
+      (when (and (eq (tmhost-field-state field) 'waiting)
+                 (not (tmhost-session-busy session)))
+        (setf (tmhost-session-busy session) id))
+      (tmhost-sheet--say field)))
+  (tmhost-sheet--go-on))
+
+(defun tmhost-told--put-back (id text)
+  "Let the field with the number ID have TEXT, which isn't saved."
+  (let ((field (tmhost-view-field id)))
+    (if field
+        (with-silent-modifications (tmhost-view-set-text field text))
+      (kill-new (tmhost-text-lines text))
+      (message "Field %d is gone; its text is in the kill ring" id))))
+
+(defun tmhost-told-cut-off ()
+  "The program has ended: nothing that is under way comes to its end."
+  (setq tmhost-told--fields nil)
+  (dolist (session tmhost-sheet-sessions)
+    (setf (tmhost-session-life session) nil (tmhost-session-busy session) nil))
+  (dolist (id tmhost-view-order)
+    (let ((field (tmhost-view-field id)))
+      (setf (tmhost-field-saving field) nil (tmhost-field-queued field) nil)
+      (if (eq (tmhost-field-state field) 'waiting)
+          (tmhost-sheet--become field 'lost :reason "tmhost ended")
+        (tmhost-sheet--say field))))
+  (setq tmhost-sheet--queue nil)
+  (while tmhost-sheet--requests
+    (funcall (cdr (pop tmhost-sheet--requests)) nil)))
+
+(provide 'tmhost-told)
+;;; tmhost-told.el ends here

@@ -1,0 +1,220 @@
+// What the buttons and keys do, by name.
+
+import { ask } from "./talk.js";
+import { byId } from "./dom.js";
+
+/** @typedef {import("./cell").CellView} CellView */
+/** @typedef {import("./cells").Cells} Cells */
+/** @typedef {import("./types").Reply} Reply */
+
+export class Actions {
+  /**
+   * @param {Cells} cells
+   * @param {(text: string) => void} note
+   */
+  constructor(cells, note) {
+    this.cells = cells;
+    this.note = note;
+  }
+
+  /**
+   * Does a call, and tells why it was refused.
+   * @type {(call: string, members: Record<string, unknown>) => Promise<Reply>}
+   */
+  async ask(call, members) {
+    const told = await ask(call, members);
+    this.note(told.refused ? told.says ?? told.refused : "");
+    return told;
+  }
+
+  // ---- evaluations
+
+  /** @type {(view: CellView) => Promise<boolean>} */
+  async evaluate(view) {
+    return (await this.isSaved(view)) && (view.isProse || !(await this.ask("eval", { id: view.id })).refused);
+  }
+
+  /**
+   * Saves a cell before something is done with it, so that nothing is done with another text than the one that is seen.
+   * @type {(view: CellView) => Promise<boolean>}
+   */
+  async isSaved(view) {
+    const isSaved = await view.save();
+    if (!isSaved) this.note(`cell ${view.id} is not saved, so nothing is done with it`);
+    return isSaved;
+  }
+
+  /**
+   * Saves what is typed, in all cells; false where one can't be saved.
+   * @type {(views?: CellView[]) => Promise<boolean>}
+   */
+  async saveAll(views = this.cells.inOrder()) {
+    for (const view of views) {
+      if (!view.isDraft || (await view.save())) continue;
+      this.note(`cell ${view.id} is not saved, so nothing is evaluated`);
+      this.cells.select(view);
+      return false;
+    }
+    return true;
+  }
+
+  async evaluateAll() {
+    if (await this.saveAll()) await this.ask("eval_from", { id: null });
+  }
+
+  /** @param {CellView} view */
+  async evaluateFrom(view) {
+    if (await this.saveAll()) await this.ask("eval_from", { id: view.id });
+  }
+
+  async restartAll() {
+    if (await this.saveIdle()) await this.ask("restart", { session: null });
+  }
+
+  /** @param {string} session */
+  async restartSession(session) {
+    if (await this.saveIdle()) await this.ask("restart", { session });
+  }
+
+  /** Before a restart: a cell that waits for its answer can't be saved, and its text is saved behind the stop. */
+  saveIdle() {
+    return this.saveAll(this.cells.inOrder().filter((view) => !view.waits));
+  }
+
+  /** @param {CellView} view */
+  restart(view) {
+    return view.isProse ? undefined : this.restartSession(view.cell.session);
+  }
+
+  /** @param {string} session */
+  async interruptSession(session) {
+    const told = await this.ask("interrupt", { session });
+    if (told.outcome === "idle") this.note(`${session} is at nothing`);
+    if (told.outcome === "failed") this.note(`${session} could not be interrupted`);
+  }
+
+  /** @param {string} session */
+  stopSession(session) {
+    return this.ask("stop", { session });
+  }
+
+  /** @param {CellView} view */
+  interrupt(view) {
+    return view.isProse ? undefined : this.interruptSession(view.cell.session);
+  }
+
+  /** @param {CellView} view */
+  stop(view) {
+    return view.isProse ? undefined : this.stopSession(view.cell.session);
+  }
+
+  /** @param {CellView} view */
+  clear(view) {
+    return this.ask("clear", { id: view.id });
+  }
+
+  // ---- cells
+
+  /**
+   * A new cell, which is selected when it is there. No session makes it prose.
+   * @type {(after: number, session: string | null, isEdited?: boolean) => Promise<void>}
+   */
+  async make(after, session, isEdited = false) {
+    const told = await this.ask("new", { after, session, text: "" });
+    const view = await this.cells.whenThere(told.id);
+    if (isEdited || session === null) this.cells.edit(view);
+    else this.cells.select(view);
+  }
+
+  /** @type {(view: CellView) => string | null} */
+  sessionFor(view) {
+    return view.isProse ? this.defaultSession() : view.cell.session;
+  }
+
+  /**
+   * The session that a new cell gets where none is near: that of the list below, else none.
+   * @returns {string | null}
+   */
+  defaultSession() {
+    return byId("which", HTMLSelectElement).value || null;
+  }
+
+  /** @param {CellView} view */
+  insertAbove(view) {
+    return this.make(this.cells.beside(view, -1)?.id ?? 0, this.sessionFor(view));
+  }
+
+  /** @type {(view: CellView, isEdited?: boolean) => Promise<void>} */
+  insertBelow(view, isEdited = false) {
+    return this.make(view.id, this.sessionFor(view), isEdited);
+  }
+
+  addCell() {
+    const session = this.defaultSession();
+    if (session === null) this.note("make a session first");
+    return session === null ? undefined : this.make(this.cells.order.at(-1) ?? 0, session, true);
+  }
+
+  addProse() {
+    return this.make(this.cells.order.at(-1) ?? 0, null);
+  }
+
+  /** @param {CellView} view */
+  moveUp(view) {
+    return this.ask("move", { id: view.id, by: -1 });
+  }
+
+  /** @param {CellView} view */
+  moveDown(view) {
+    return this.ask("move", { id: view.id, by: 1 });
+  }
+
+  /** @param {CellView} view */
+  async remove(view) {
+    if (await this.isSaved(view)) await this.ask("remove", { id: view.id });
+  }
+
+  /** @param {number | null} number */
+  async restore(number) {
+    const told = await this.ask("restore", { number });
+    this.cells.select(await this.cells.whenThere(told.id));
+  }
+
+  /**
+   * Gives a cell another session; null makes it prose.
+   * @type {(view: CellView, session: string | null) => Promise<void>}
+   */
+  async change(view, session) {
+    if ((session === null && view.isProse) || session === view.cell.session) return;
+    if (!(await this.isSaved(view))) return;
+    const told = await this.ask("change", { id: view.id, session });
+    const made = await this.cells.whenThere(told.id ?? view.id);
+    this.cells.select(made);
+    if (made) this.cells.toolbar.show(made);
+  }
+
+  /** @param {CellView} view */
+  toggleText(view) {
+    view.output.toggle();
+    this.cells.toolbar.show(view);
+  }
+
+  /** @param {CellView} view */
+  showMore(view) {
+    return view.output.showMore();
+  }
+
+  /** @param {CellView} view */
+  keepMine(view) {
+    return view.keepMine();
+  }
+
+  /** @param {CellView} view */
+  takeTheirs(view) {
+    view.takeTheirs();
+  }
+
+  reopen() {
+    return this.ask("reopen", {});
+  }
+}

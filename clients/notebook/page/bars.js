@@ -1,0 +1,90 @@
+// What stands above and below the cells: the worksheet, its sessions, what is wrong.
+
+import { button, byId, make, visible } from "./dom.js";
+
+/** @typedef {import("./types").Message} Message */
+/** @typedef {import("./types").Session} Session */
+
+/** @type {(session: Session) => string} */
+function stateOf(session) {
+  if (session.waiting) return `${session.waiting} to answer`;
+  return session.runs ? "idle" : "not started";
+}
+
+/** @type {(session: Session) => HTMLLIElement} */
+function itemOf(session) {
+  const { name } = session;
+  const item = make("li", session.waiting ? "busy" : session.runs ? "idle" : "none");
+  item.dataset.session = name;
+  item.title = visible(session.words);
+  item.append(make("b", "", name), make("span", "", stateOf(session)));
+  for (const [what, label, isFit] of /** @type {const} */ ([
+    ["interruptSession", "Interrupt", session.waiting > 0], ["stopSession", "Stop", session.runs], ["restartSession", "Restart", true],
+  ])) {
+    const node = button(what, label, `${label} ${name}${what === "restartSession" ? ", and evaluate its cells" : ""}`);
+    node.disabled = !isFit;
+    item.append(node);
+  }
+  return item;
+}
+
+/** @param {Map<string, Session>} sessions */
+export function showSessions(sessions) {
+  const code = [...sessions.values()].filter((session) => !session.isProse);
+  const list = byId("sessions", HTMLUListElement);
+  const focused = document.activeElement instanceof HTMLElement && list.contains(document.activeElement) ? document.activeElement : null;
+  const name = focused?.closest("li")?.dataset.session;
+  list.replaceChildren(...code.map(itemOf));
+  const item = focused && [...list.querySelectorAll("li")].find((one) => one.dataset.session === name);
+  if (item) /** @type {HTMLElement | null} */ (item.querySelector(`[data-do=${focused.dataset.do}]`))?.focus();
+  const which = byId("which", HTMLSelectElement);
+  const kept = which.value;
+  const names = code.map((session) => session.name);
+  which.replaceChildren(...names.map((one) => new Option(one, one)));
+  which.value = names.includes(kept) ? kept : names[0] ?? "";
+}
+
+/** @param {string} path */
+export function showPath(path) {
+  byId("path", HTMLElement).textContent = visible(path);
+  document.title = visible(path);
+}
+
+/** @param {boolean} isThere */
+export function showConnection(isThere) {
+  const place = byId("connection", HTMLElement);
+  const lost = "no connection: what is typed now is not saved. If the server has ended, start it again, and open its new address";
+  place.textContent = isThere ? "connected: what is shown as saved is on the disk" : lost;
+  place.classList.toggle("bad", !isThere);
+}
+
+/**
+ * Why nothing goes any more.
+ * @param {string | null} ended
+ */
+export function showTrouble(ended) {
+  const place = byId("trouble", HTMLElement);
+  place.hidden = ended === null;
+  const told = ended === null ? "" : `${visible(ended)}. What is shown as saved is in the file; what was evaluated has no answer.`;
+  place.querySelector("span")?.replaceChildren(told);
+  place.querySelector("button")?.toggleAttribute("hidden", ended === null);
+}
+
+/** @param {string} text */
+export function note(text) {
+  byId("note", HTMLElement).textContent = visible(text);
+}
+
+/** @param {import("./types").Removed[]} removed */
+export function showRemoved(removed) {
+  const opener = byId("removed", HTMLButtonElement);
+  opener.hidden = removed.length === 0;
+  opener.textContent = `Removed (${removed.length})`;
+  byId("removed-list", HTMLUListElement).replaceChildren(...[...removed].reverse().map((one) => {
+    const item = make("li");
+    const back = button("restore", "Bring back", `Bring back: ${visible(one.input)}`);
+    back.dataset.number = String(one.number);
+    item.append(make("code", "", visible(one.input) || "(empty)"), " ", make("span", "", one.session), " ", back);
+    return item;
+  }));
+}

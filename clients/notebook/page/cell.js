@@ -1,0 +1,262 @@
+// A cell in the page. `base` is the text that is known to be in the file: the page shows "saved" where its own text is the same.
+
+import { ask } from "./talk.js";
+import { button, make, visible } from "./dom.js";
+import { OutputView } from "./output.js";
+import { answerState, running, textState } from "./said.js";
+import { setInto } from "./setter.js";
+
+/** @typedef {import("./types").Cell} Cell */
+/** @typedef {import("./types").Session} Session */
+
+/**
+ * What a cell knows of its page.
+ * @typedef {{isThere: boolean, sessions: Map<string, Session>, note: (text: string) => void}} Page
+ */
+
+const SAVED_BEHIND = 1_000; // milliseconds without a key
+const FITS_ITSELF = CSS.supports("field-sizing", "content");
+const LETTERS_IN_LINE = 80; // a guess
+const UNKNOWN = ["Ended", "TimedOut", "Unreached"]; // refusals behind which a text may be saved or not
+
+export class CellView {
+  /**
+   * @param {Page} page
+   * @param {Cell} cell
+   * @param {number} at
+   */
+  constructor(page, cell, at) {
+    this.page = page;
+    this.id = cell.id;
+    this.cell = cell;
+    this.base = cell.input;
+    this.savedAt = 0; // number of the call that saved the text last
+    this.isElsewhere = false;
+    this.trouble = "";
+    /** @type {Set<string>} */
+    this.tried = new Set(); // texts of which it isn't known whether they were saved
+    /** @type {[boolean, boolean]} */
+    this.mark = [false, false]; // of an answer: whether it is stale, and whether its interpreter has ended
+    /** @type {Promise<boolean> | undefined} */
+    this.saving = undefined;
+    /** @type {ReturnType<typeof setTimeout> | undefined} */
+    this.timer = undefined;
+    this.box = make("section", "cell");
+    this.head = make("header");
+    this.session = make("bdi", "session");
+    this.textState = make("span", "text-state");
+    this.answerState = make("span", "answer-state");
+    this.line = make("div", "input");
+    this.prompt = make("bdi", "prompt");
+    this.text = make("textarea");
+    this.output = new OutputView(cell.id);
+    /** @type {HTMLElement | undefined} */
+    this.reading = undefined; // of prose: what it says
+    this.read = "";
+    /** @type {HTMLElement | undefined} */
+    this.conflict = undefined;
+    this.build();
+    this.text.value = cell.input;
+    this.update(cell, at);
+  }
+
+  build() {
+    this.box.id = `cell-${this.id}`;
+    this.box.tabIndex = -1;
+    this.box.setAttribute("role", "group");
+    this.head.append(make("span", "number", `#${this.id}`), this.session, this.textState, this.answerState);
+    this.text.spellcheck = false;
+    this.text.tabIndex = -1; // Enter goes into it: Tab would not go on from there
+    this.text.rows = 1;
+    this.text.setAttribute("autocapitalize", "off");
+    this.text.setAttribute("aria-label", `Input of cell ${this.id}`);
+    this.line.append(this.prompt, this.text);
+    this.box.append(this.head, this.line, this.output.box);
+  }
+
+  get isProse() {
+    return this.page.sessions.get(this.cell.session)?.isProse ?? false;
+  }
+
+  /** Whether something stands here that is not in the file. */
+  get isDraft() {
+    return this.isElsewhere || this.text.value !== this.base;
+  }
+
+  get waits() {
+    return this.cell.state === "running" || this.cell.state === "queued";
+  }
+
+  // ---- what the server tells
+
+  /**
+   * Takes what the cell is now. What was told before this page saved it last is older than what the page knows.
+   * @type {(cell: Cell, at: number) => void}
+   */
+  update(cell, at) {
+    if (at < this.savedAt) return;
+    const waited = this.waits;
+    this.cell = cell;
+    this.takeText(cell.input);
+    this.session.textContent = this.isProse ? "prose" : cell.session;
+    this.box.classList.toggle("prose", this.isProse);
+    this.box.setAttribute("aria-label", this.isProse ? `Prose ${this.id}` : `Cell ${this.id}, ${cell.session}`);
+    this.prompt.textContent = this.isProse ? "" : visible(cell.prompt ?? "> ");
+    this.output.update(this.isProse ? null : cell.output, cell.isOld);
+    this.showProse();
+    this.fit();
+    this.say();
+    if (this.isDraft && !this.waits && (waited || this.trouble)) this.saveLater();
+  }
+
+  /** @param {string} text */
+  takeText(text) {
+    if (text === this.base && !this.isElsewhere) return;
+    if (!this.isDraft) this.text.value = text;
+    if (text === this.base || text === this.text.value || this.tried.has(text)) {
+      this.base = text;
+      this.isElsewhere = false;
+      this.tried.clear();
+    } else {
+      this.isElsewhere = true;
+      this.offerBoth();
+    }
+  }
+
+  /** @param {[boolean, boolean]} mark */
+  takeMark(mark) {
+    this.mark = mark;
+    this.say();
+  }
+
+  // ---- what is shown
+
+  say() {
+    const [isStale, hasEnded] = this.mark;
+    const { isDraft, isElsewhere, waits, trouble } = this;
+    const text = textState({ isDraft, isElsewhere, waits, trouble, isSaving: this.saving !== undefined, isThere: this.page.isThere });
+    const answer = this.isProse ? ["", ""] : answerState(this.cell, isStale, hasEnded);
+    for (const [place, [name, words]] of /** @type {const} */ ([[this.textState, text], [this.answerState, answer]])) {
+      if (place.textContent !== words) place.textContent = words;
+      place.dataset.state = name;
+    }
+    this.conflict?.toggleAttribute("hidden", !this.isElsewhere);
+    this.box.dataset.state = this.cell.state;
+    this.box.dataset.text = text[0];
+  }
+
+  /** Says how long it has been running, while it is. */
+  tick() {
+    if (this.cell.state === "running") this.answerState.textContent = running(this.cell.since ?? Date.now());
+  }
+
+  /** Makes the text as high as its lines, where the browser doesn't by itself. */
+  fit() {
+    if (FITS_ITSELF) return;
+    const rows = this.text.value.split("\n").reduce((sum, line) => sum + Math.max(1, Math.ceil(line.length / LETTERS_IN_LINE)), 0);
+    if (this.text.rows !== rows) this.text.rows = rows;
+  }
+
+  showProse() {
+    if (!this.isProse) {
+      this.reading?.remove();
+      this.reading = undefined;
+      return;
+    }
+    this.reading ??= this.box.appendChild(make("div", "reading"));
+    const text = this.text.value;
+    if (this.read === text && this.reading.hasChildNodes()) return;
+    this.read = text;
+    this.reading.classList.remove("set");
+    this.reading.textContent = visible(text).trim() || "empty prose";
+    setInto(this.reading, "markdown", text, () => this.read === text && text.trim() !== "");
+  }
+
+  offerBoth() {
+    if (!this.conflict) {
+      this.conflict = make("p", "conflict", "Another page has given this cell another text. ");
+      this.conflict.append(button("keepMine", "Keep this text", "Save the text that stands here"), " ",
+        button("takeTheirs", "Take the other", "Show the text of the other page, and drop this one"));
+      this.head.after(this.conflict);
+    }
+  }
+
+  // ---- saving
+
+  /** A key has changed the text. */
+  typed() {
+    this.trouble = "";
+    this.fit();
+    this.say();
+    this.saveLater();
+  }
+
+  saveLater() {
+    clearTimeout(this.timer);
+    this.timer = setTimeout(() => this.saveIfFit(), SAVED_BEHIND);
+  }
+
+  /** Saves where nobody has to be asked. */
+  saveIfFit() {
+    if (this.isDraft && !this.isElsewhere && !this.waits) this.save();
+  }
+
+  /**
+   * Saves the text; true when what stands in the page is in the file.
+   * @returns {Promise<boolean>}
+   */
+  async save() {
+    clearTimeout(this.timer);
+    while (this.saving) await this.saving;
+    if (!this.isDraft) return true;
+    if (this.isElsewhere) return false;
+    this.saving = this.send(this.text.value);
+    this.say();
+    const isSaved = await this.saving;
+    this.saving = undefined;
+    this.say();
+    return isSaved && (this.isDraft ? this.save() : true);
+  }
+
+  /** @param {string} text */
+  async send(text) {
+    this.tried.add(text); // an event may tell of it before the reply
+    const told = await ask("set", { id: this.id, text, base: this.base });
+    this.trouble = told.refused ? told.says ?? "" : "";
+    if (told.refused && !UNKNOWN.includes(told.refused)) this.tried.delete(text);
+    if (told.refused) return false;
+    this.isSavedNow(text, told.at ?? 0);
+    this.showProse();
+    return true;
+  }
+
+  /**
+   * The file has this text, by a call of this page. What was answered is the answer to an earlier one.
+   * @type {(text: string, at: number) => void}
+   */
+  isSavedNow(text, at) {
+    if (text !== this.base) this.cell = { ...this.cell, input: text, state: /** @type {const} */ ("empty"), reason: null, prompt: null, isOld: true };
+    this.savedAt = at;
+    this.base = text;
+    this.isElsewhere = false;
+    this.tried.clear();
+    this.output.update(this.cell.output, this.cell.isOld);
+    this.say();
+  }
+
+  /** The text of this page goes over that of the other one. */
+  keepMine() {
+    this.base = this.cell.input;
+    this.isElsewhere = false;
+    return this.save();
+  }
+
+  takeTheirs() {
+    this.text.value = this.cell.input;
+    this.base = this.cell.input;
+    this.isElsewhere = false;
+    this.fit();
+    this.showProse();
+    this.say();
+  }
+}

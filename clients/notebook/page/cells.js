@@ -1,0 +1,161 @@
+// All cells of the page, in their order, and which of them is the selected one.
+
+import { byId, make } from "./dom.js";
+import { CellView } from "./cell.js";
+import { toolbarOf } from "./toolbar.js";
+
+/** @typedef {import("./types").Message} Message */
+
+export class Cells {
+  /** @param {import("./cell").Page} page */
+  constructor(page) {
+    this.page = page;
+    this.place = byId("cells", HTMLElement);
+    /** @type {Map<number, CellView>} */
+    this.views = new Map();
+    /** @type {number[]} */
+    this.order = [];
+    this.toolbar = toolbarOf();
+    /** @type {CellView | undefined} */
+    this.selected = undefined;
+    /** @type {Map<number, (() => void)[]>} */
+    this.awaited = new Map();
+  }
+
+  // ---- what the server tells
+
+  /** @param {Message} message */
+  hear(message) {
+    for (const cell of message.cells ?? []) {
+      const view = this.views.get(cell.id);
+      if (view) view.update(cell, message.at);
+      else this.views.set(cell.id, new CellView(this.page, cell, message.at));
+    }
+    if (message.order) this.arrange(message.order);
+    for (const [id, mark] of Object.entries(message.marks ?? {})) this.views.get(Number(id))?.takeMark(mark);
+    if (this.selected) this.toolbar.show(this.selected);
+    for (const cell of message.cells ?? []) {
+      this.awaited.get(cell.id)?.forEach((done) => done());
+      this.awaited.delete(cell.id);
+    }
+  }
+
+  /** @param {number[]} order */
+  arrange(order) {
+    const focused = document.activeElement;
+    const place = this.selected ? this.order.indexOf(this.selected.id) : -1;
+    const staying = new Set(order);
+    const isFocusLost = this.order.some((id) => !staying.has(id) && this.drop(id));
+    for (const id of this.order) if (!staying.has(id)) this.drop(id);
+    this.order = order;
+    this.place.classList.toggle("none", order.length === 0);
+    this.put(order.flatMap((id) => this.views.get(id)?.box ?? []));
+    if (this.selected === undefined && order.length) this.select(this.at(Math.max(0, Math.min(place, order.length - 1))), isFocusLost);
+    else if (focused instanceof HTMLElement && focused.isConnected && focused !== document.activeElement) focused.focus({ preventScroll: true });
+  }
+
+  /**
+   * Takes a cell that was removed out of the page; true where it had the focus.
+   * @type {(id: number) => boolean}
+   */
+  drop(id) {
+    const view = this.views.get(id);
+    if (!view) return false;
+    const hadFocus = view.box.contains(document.activeElement);
+    if (view.isDraft) this.page.note(`cell ${id} was removed in another page; what was not saved of it: ${view.text.value}`);
+    view.box.remove();
+    this.views.delete(id);
+    if (this.selected === view) this.selected = undefined;
+    return hadFocus;
+  }
+
+  /**
+   * Puts boxes in this order, and moves as few as it can, so that a long page doesn't stand still.
+   * @param {HTMLElement[]} boxes
+   */
+  put(boxes) {
+    let next = this.place.firstElementChild;
+    for (const box of boxes) {
+      if (next !== box && next?.nextElementSibling === box) next = box; // the one between has another place, and comes to it
+      if (next === box) next = next.nextElementSibling;
+      else this.place.insertBefore(box, next);
+    }
+  }
+
+  // ---- which one
+
+  /** @type {(place: number) => CellView | undefined} */
+  at(place) {
+    return this.views.get(this.order[place]);
+  }
+
+  /** @type {(view: CellView | undefined, by: number) => CellView | undefined} */
+  beside(view, by) {
+    return view && this.at(this.order.indexOf(view.id) + by);
+  }
+
+  /** @type {(node: EventTarget | null) => CellView | undefined} */
+  of(node) {
+    const box = node instanceof Element ? node.closest(".cell") : null;
+    return box ? this.views.get(Number(box.id.slice(5))) : undefined;
+  }
+
+  /** @type {(view: CellView | undefined, withFocus?: boolean) => void} */
+  select(view, withFocus = true) {
+    if (!view) return;
+    if (this.selected !== view) {
+      this.leave();
+      this.selected = view;
+      view.box.classList.add("selected");
+      view.box.tabIndex = 0;
+      this.toolbar.show(view);
+    }
+    if (withFocus) {
+      view.box.focus({ preventScroll: true });
+      view.box.scrollIntoView({ block: "nearest" });
+    }
+  }
+
+  leave() {
+    const { selected } = this;
+    if (!selected) return;
+    selected.box.classList.remove("selected");
+    selected.box.tabIndex = -1;
+  }
+
+  /** @param {CellView | undefined} view */
+  edit(view) {
+    if (!view) return;
+    this.select(view, false);
+    view.box.classList.add("editing");
+    view.text.focus();
+    view.text.scrollIntoView({ block: "nearest" });
+  }
+
+  /**
+   * The cell with this number, when it is in the page.
+   * @type {(id: number | undefined) => Promise<CellView | undefined>}
+   */
+  async whenThere(id) {
+    if (id === undefined) return undefined;
+    if (!this.views.has(id)) {
+      /** @type {Promise<void>} */
+      const there = new Promise((done) => {
+        this.awaited.set(id, [...(this.awaited.get(id) ?? []), done]);
+        setTimeout(done, 5_000);
+      });
+      await there;
+    }
+    return this.views.get(id);
+  }
+
+  /** @type {() => CellView[]} */
+  inOrder() {
+    return this.order.flatMap((id) => this.views.get(id) ?? []);
+  }
+}
+
+/** The line that stands where there are no cells. */
+export function emptyLine() {
+  return make("p", "empty", "There are no cells yet. Make a session, and then a cell; or write prose.");
+}

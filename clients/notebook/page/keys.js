@@ -1,0 +1,159 @@
+// Keys, as in JupyterLab. A cell has two modes: its text is edited, or the cell as a whole has the focus and letters are commands.
+
+/** @typedef {import("./actions").Actions} Actions */
+/** @typedef {import("./cell").CellView} CellView */
+/** @typedef {import("./cells").Cells} Cells */
+/** @typedef {import("./completions").Completions} Completions */
+
+const TWICE_WITHIN = 800; // milliseconds between the two presses of D D
+
+const STEPS = ["ArrowUp", "ArrowDown", "k", "j"]; // keys that do it again while they are held down
+
+/** What the keys do, for people. */
+export const TABLE = [
+  ["Enter", "edit the cell"],
+  ["Escape", "leave the text, to give commands; Tab goes on to the buttons then"],
+  ["Shift-Enter", "evaluate, and go to the next cell"],
+  ["Control-Enter", "evaluate"],
+  ["Alt-Enter", "evaluate, and make a cell below"],
+  ["Up, Down, K, J", "the cell above, below"],
+  ["Home, End", "the first cell, the last one"],
+  ["A, B", "new cell above, below"],
+  ["D D", "remove the cell"],
+  ["Z", "bring back what was removed last"],
+  ["M, Y", "make it prose, make it a cell of the session that is chosen below"],
+  ["Alt-Up, Alt-Down", "move the cell"],
+  ["I I", "interrupt its interpreter"],
+  ["0 0", "restart its interpreter, and evaluate its cells"],
+  ["T", "show the answer as text, or with its formulas"],
+  ["Tab (in the text)", "completions behind a word, where the session has them; else four blanks"],
+  ["Control-S", "save now"],
+  ["H", "these keys"],
+];
+
+export class Keys {
+  /**
+   * @param {Cells} cells
+   * @param {Actions} actions
+   * @param {Completions} completions
+   * @param {() => void} showKeys
+   */
+  constructor(cells, actions, completions, showKeys) {
+    this.cells = cells;
+    this.actions = actions;
+    this.completions = completions;
+    this.showKeys = showKeys;
+    this.last = { key: "", time: 0 };
+    this.commands = this.commandsOf();
+    document.addEventListener("keydown", (event) => this.press(event));
+  }
+
+  /** @returns {Record<string, (view: CellView) => unknown>} */
+  commandsOf() {
+    const { cells, actions } = this;
+    /** @type {(by: number) => (view: CellView) => void} */
+    const step = (by) => (view) => cells.select(cells.beside(view, by));
+    return {
+      Enter: (view) => cells.edit(view),
+      ArrowUp: step(-1), k: step(-1), ArrowDown: step(1), j: step(1),
+      Home: () => cells.select(cells.at(0)), End: () => cells.select(cells.at(cells.order.length - 1)),
+      a: (view) => actions.insertAbove(view), b: (view) => actions.insertBelow(view),
+      dd: (view) => actions.remove(view), z: () => actions.restore(null),
+      m: (view) => actions.change(view, null), y: (view) => view.isProse && actions.change(view, actions.defaultSession()),
+      ii: (view) => actions.interrupt(view), "00": (view) => actions.restart(view),
+      t: (view) => actions.toggleText(view), h: () => this.showKeys(),
+    };
+  }
+
+  /** @param {KeyboardEvent} event */
+  press(event) {
+    const isNowhere = event.target === document.body; // where nothing has the focus the selected cell takes keys
+    const view = isNowhere ? this.cells.selected : this.cells.of(event.target);
+    if (!view || event.isComposing) return;
+    const isText = event.target === view.text;
+    const isTaken = (isText && this.completions.isOpen && this.completions.key(event))
+      || this.anywhere(event, view)
+      || (isText && this.inText(event, view))
+      || ((isNowhere || event.target === view.box) && this.command(event, view));
+    if (!isTaken) return;
+    event.preventDefault();
+    event.stopPropagation();
+  }
+
+  /**
+   * Keys that do the same in both modes.
+   * @type {(event: KeyboardEvent, view: CellView) => boolean}
+   */
+  anywhere(event, view) {
+    const { key, shiftKey, altKey } = event;
+    const isControl = event.ctrlKey || event.metaKey;
+    if (key === "Enter" && (shiftKey || isControl || altKey)) this.evaluate(view, shiftKey ? "next" : altKey ? "insert" : "stay");
+    else if (isControl && !shiftKey && !altKey && key.toLowerCase() === "s") view.save();
+    else if (altKey && key === "ArrowUp") this.actions.moveUp(view);
+    else if (altKey && key === "ArrowDown") this.actions.moveDown(view);
+    else return false;
+    return true;
+  }
+
+  /** @type {(view: CellView, then: "next" | "insert" | "stay") => Promise<void>} */
+  async evaluate(view, then) {
+    this.completions.close();
+    const next = then === "next" ? this.cells.beside(view, 1) : undefined;
+    const evaluated = this.actions.evaluate(view);
+    if (next) this.cells.select(next);
+    else this.cells.select(view);
+    if ((await evaluated) && !next && then !== "stay") await this.actions.insertBelow(view, true);
+  }
+
+  /** @type {(event: KeyboardEvent, view: CellView) => boolean} */
+  inText(event, view) {
+    if (event.key === "Escape") {
+      this.cells.select(view);
+      return true;
+    }
+    if (event.key === "Tab" && !event.shiftKey && !event.ctrlKey && !event.altKey) return this.tab(view);
+    return event.key.startsWith("Arrow") && this.atEdge(event, view);
+  }
+
+  /** @param {CellView} view */
+  tab(view) {
+    const { selectionStart: at, selectionEnd, value } = view.text;
+    const isBehindWord = at === selectionEnd && /\S/.test(value[at - 1] ?? "");
+    if (isBehindWord && view.page.sessions.get(view.cell.session)?.tab) {
+      this.completions.open(view);
+    } else {
+      view.text.setRangeText("    ", at, selectionEnd, "end");
+      view.typed();
+    }
+    return true;
+  }
+
+  /**
+   * An arrow at the edge of a text goes to the text beside.
+   * @type {(event: KeyboardEvent, view: CellView) => boolean}
+   */
+  atEdge(event, view) {
+    const { selectionStart: at, selectionEnd, value } = view.text;
+    if (at !== selectionEnd || event.shiftKey || event.ctrlKey || event.metaKey) return false;
+    const by = event.key === "ArrowUp" && !value.slice(0, at).includes("\n") ? -1 : event.key === "ArrowDown" && !value.slice(at).includes("\n") ? 1 : 0;
+    const beside = by ? this.cells.beside(view, by) : undefined;
+    if (!beside || beside.isProse) return false;
+    this.cells.edit(beside);
+    const place = by < 0 ? beside.text.value.length : 0;
+    beside.text.setSelectionRange(place, place);
+    return true;
+  }
+
+  /** @type {(event: KeyboardEvent, view: CellView) => boolean} */
+  command(event, view) {
+    if (event.ctrlKey || event.metaKey || event.altKey) return false;
+    const key = event.key.length === 1 ? event.key.toLowerCase() : event.key;
+    if (event.repeat && !STEPS.includes(key)) return true;
+    const isTwice = this.last.key === key && event.timeStamp - this.last.time < TWICE_WITHIN;
+    const name = isTwice ? key + key : key;
+    this.last = { key: isTwice ? "" : key, time: event.timeStamp };
+    const does = Object.hasOwn(this.commands, name) ? this.commands[name] : Object.hasOwn(this.commands, key) ? this.commands[key] : undefined;
+    does?.(view);
+    return does !== undefined || Object.hasOwn(this.commands, key + key);
+  }
+}

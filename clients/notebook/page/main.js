@@ -1,0 +1,151 @@
+// The page of a worksheet: puts its parts together.
+
+import { Actions } from "./actions.js";
+import * as bars from "./bars.js";
+import { Cells, emptyLine } from "./cells.js";
+import { Completions } from "./completions.js";
+import { keysDialog, sessionDialog } from "./dialogs.js";
+import { byId } from "./dom.js";
+import { listen } from "./feed.js";
+import { Keys } from "./keys.js";
+
+/** @typedef {import("./types").Message} Message */
+
+/** @type {import("./cell").Page} */
+const page = { isThere: false, sessions: new Map(), note: bars.note };
+const cells = new Cells(page);
+const actions = new Actions(cells, bars.note);
+const completions = new Completions();
+const showKeys = keysDialog();
+const askSession = sessionDialog(async (name, words, tab) => {
+  const told = await actions.ask("session", { name, words, tab });
+  if (!told.refused && cells.order.length === 0) await actions.make(0, name, true);
+});
+new Keys(cells, actions, completions, showKeys);
+document.body.insertBefore(emptyLine(), cells.place.nextSibling);
+
+// ---- what the server tells
+
+/** @type {(message: Message, isFirst: boolean) => void} */
+function hear(message, isFirst) {
+  if (message.sessions) page.sessions = new Map(message.sessions.map((session) => [session.name, session]));
+  if (message.path !== undefined) bars.showPath(message.path);
+  if (message.ended !== undefined) bars.showTrouble(message.ended);
+  if (message.removed) bars.showRemoved(message.removed);
+  if (message.sessions) bars.showSessions(page.sessions);
+  cells.hear(message);
+  if (message.ended === null) saveAll(); // what could not be saved while the program was gone
+  if (isFirst) document.documentElement.dataset.ready = "true";
+}
+
+/** @param {boolean} isThere */
+function connect(isThere) {
+  page.isThere = isThere;
+  bars.showConnection(isThere);
+  for (const view of cells.views.values()) view.say();
+  if (isThere) saveAll();
+}
+
+function saveAll() {
+  for (const view of cells.views.values()) view.saveIfFit();
+}
+
+listen({ hear, connect });
+setInterval(() => cells.views.forEach((view) => view.tick()), 1_000);
+
+// ---- what the user does
+
+/** @type {Record<string, (node: HTMLElement) => unknown>} */
+const DOES = {
+  askSession,
+  showKeys,
+  showRemoved: () => byId("removed-dialog", HTMLDialogElement).showModal(),
+  restore: (node) => {
+    byId("removed-dialog", HTMLDialogElement).close();
+    return actions.restore(Number(node.dataset.number));
+  },
+  interruptSession: (node) => actions.interruptSession(sessionOf(node)),
+  stopSession: (node) => actions.stopSession(sessionOf(node)),
+  restartSession: (node) => actions.restartSession(sessionOf(node)),
+  evaluateAll: () => actions.evaluateAll(),
+  restartAll: () => actions.restartAll(),
+  addCell: () => actions.addCell(),
+  addProse: () => actions.addProse(),
+  reopen: () => actions.reopen(),
+};
+
+/** @type {Record<string, (view: import("./cell").CellView) => unknown>} */
+const DOES_TO_CELL = {
+  evaluate: (view) => actions.evaluate(view),
+  evaluateFrom: (view) => actions.evaluateFrom(view),
+  interrupt: (view) => actions.interrupt(view),
+  stop: (view) => actions.stop(view),
+  restart: (view) => actions.restart(view),
+  insertAbove: (view) => actions.insertAbove(view),
+  insertBelow: (view) => actions.insertBelow(view),
+  moveUp: (view) => actions.moveUp(view),
+  moveDown: (view) => actions.moveDown(view),
+  toggleText: (view) => actions.toggleText(view),
+  clear: (view) => actions.clear(view),
+  remove: (view) => actions.remove(view),
+  showMore: (view) => actions.showMore(view),
+  keepMine: (view) => actions.keepMine(view),
+  takeTheirs: (view) => actions.takeTheirs(view),
+};
+
+/** @type {(node: HTMLElement) => string} */
+const sessionOf = (node) => node.closest("li")?.dataset.session ?? "";
+
+document.addEventListener("click", (event) => {
+  const node = event.target instanceof Element ? event.target.closest("button[data-do]") : null;
+  if (!(node instanceof HTMLElement)) return;
+  const what = node.dataset.do ?? "";
+  const view = cells.of(node);
+  if (view && event.detail > 0) cells.select(view); // by the mouse: the keys are for the cell again
+  if (view) DOES_TO_CELL[what]?.(view);
+  else DOES[what]?.(node);
+});
+
+cells.place.addEventListener("mousedown", (event) => {
+  const view = cells.of(event.target);
+  if (view) cells.select(view, event.target === view.box || event.target === view.head);
+});
+
+cells.place.addEventListener("dblclick", (event) => {
+  const view = cells.of(event.target);
+  if (view?.isProse && event.target instanceof Element && event.target.closest(".reading")) cells.edit(view);
+});
+
+cells.place.addEventListener("focusin", (event) => {
+  const view = cells.of(event.target);
+  if (!view) return;
+  cells.select(view, false);
+  view.box.classList.toggle("editing", event.target === view.text);
+});
+
+cells.place.addEventListener("focusout", (event) => {
+  const view = cells.of(event.target);
+  if (!view || event.target !== view.text) return;
+  view.box.classList.remove("editing");
+  completions.close();
+  view.showProse();
+  view.saveIfFit();
+});
+
+cells.place.addEventListener("input", (event) => {
+  const view = cells.of(event.target);
+  if (!view || event.target !== view.text) return;
+  if (completions.isOpen) completions.close();
+  view.typed();
+});
+
+cells.place.addEventListener("change", (event) => {
+  const view = cells.of(event.target);
+  if (view && event.target instanceof HTMLSelectElement) actions.change(view, event.target.value || null);
+});
+
+document.addEventListener("visibilitychange", () => document.hidden && saveAll());
+
+addEventListener("beforeunload", (event) => {
+  if ([...cells.views.values()].some((view) => view.isDraft)) event.preventDefault();
+});

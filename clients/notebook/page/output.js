@@ -1,0 +1,89 @@
+// An answer: texts as text nodes, formulas by the setter.
+
+import { ask } from "./talk.js";
+import { button, make, visible } from "./dom.js";
+import { setInto } from "./setter.js";
+
+/** @typedef {import("./types").Output} Output */
+
+/** @type {(tex: string) => HTMLElement} */
+function formulaOf(tex) {
+  const place = make("span", "formula", visible(tex));
+  place.dataset.tex = tex;
+  setInto(place, "tex", tex);
+  return place;
+}
+
+/** @type {(number: number) => string} */
+const grouped = (number) => number.toLocaleString("en");
+
+export class OutputView {
+  /** @param {number} id */
+  constructor(id) {
+    this.id = id;
+    this.box = make("div", "output");
+    this.box.hidden = true;
+    this.body = make("pre");
+    this.body.dir = "ltr";
+    this.box.append(this.body);
+    this.isText = false;
+    /** @type {Output | null} */
+    this.shown = null;
+    this.end = 0; // characters that are shown
+  }
+
+  /** @type {(output: Output | null, isOld: boolean) => void} */
+  update(output, isOld) {
+    this.box.classList.toggle("old", isOld);
+    if (same(output, this.shown)) return;
+    this.shown = output;
+    this.draw();
+  }
+
+  /** Shows the answer as text, or with its formulas again. */
+  toggle() {
+    this.isText = !this.isText;
+    this.draw();
+    return this.isText;
+  }
+
+  draw() {
+    const { shown } = this;
+    this.more?.remove();
+    this.body.replaceChildren();
+    this.box.hidden = !shown || shown.length === 0;
+    if (!shown) return;
+    if (this.isText || shown.isCut) this.body.append(visible(shown.text));
+    else this.body.append(...shown.parts.map((part) => (part.tex === undefined ? visible(part.text ?? "") : formulaOf(part.tex))));
+    this.end = [...shown.text].length;
+    if (shown.isCut) this.offerMore();
+  }
+
+  offerMore() {
+    const length = this.shown?.length ?? 0;
+    this.more = make("p", "more", `${grouped(this.end)} of ${grouped(length)} characters. `);
+    this.more.append(button("showMore", "Show more", "Show more of the answer"));
+    this.box.append(this.more);
+  }
+
+  /** Fetches a further piece of a long answer. */
+  async showMore() {
+    const { shown } = this;
+    const told = await ask("output", { id: this.id, start: this.end });
+    if (told.refused || shown !== this.shown || told.text === undefined) return;
+    this.body.append(visible(told.text));
+    this.end += [...told.text].length;
+    this.more?.remove();
+    if (told.text && this.end < (told.length ?? 0)) this.offerMore();
+  }
+
+  get hasFormulas() {
+    return this.shown?.parts.some((part) => part.tex !== undefined) ?? false;
+  }
+}
+
+/** @type {(one: Output | null, other: Output | null) => boolean} */
+function same(one, other) {
+  return one === other || (!!one && !!other && one.length === other.length && one.text === other.text
+    && JSON.stringify(one.parts) === JSON.stringify(other.parts));
+}

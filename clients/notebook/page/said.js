@@ -1,0 +1,56 @@
+// What a cell says of itself, in words.
+
+/** @typedef {import("./types").Cell} Cell */
+
+/** @type {Record<string, string>} */
+const REASONS = {
+  StartRefused: "its interpreter can't be started",
+  Ended: "its interpreter ended",
+  ReadFault: "its interpreter can't be read",
+  SendFault: "its interpreter can't be sent the line",
+  Stalled: "its interpreter stalled",
+  BadTag: "its interpreter wrote a broken block",
+  TooDeep: "its interpreter wrote blocks too deep",
+  TooLong: "its interpreter wrote too long a block",
+  Stopped: "its interpreter was stopped",
+};
+
+/** @type {(milliseconds: number) => string} */
+function lasting(milliseconds) {
+  const seconds = Math.max(0, Math.floor(milliseconds / 1000));
+  if (seconds < 60) return `${seconds} s`;
+  return seconds < 3600 ? `${Math.floor(seconds / 60)} min ${seconds % 60} s` : `${Math.floor(seconds / 3600)} h ${Math.floor(seconds / 60) % 60} min`;
+}
+
+/** @type {(since: number) => string} */
+export function running(since) {
+  const clock = new Date(since).toLocaleTimeString([], { hour: "2-digit", minute: "2-digit", second: "2-digit", hour12: false });
+  return `running since ${clock} (${lasting(Date.now() - since)})`;
+}
+
+/**
+ * The state of a cell's answer, as a class and in words.
+ * @type {(cell: Cell, isStale: boolean, hasEnded: boolean) => [string, string]}
+ */
+export function answerState(cell, isStale, hasEnded) {
+  if (cell.state === "running") return ["running", running(cell.since ?? Date.now())];
+  if (cell.state === "queued") return ["queued", "waits for its turn"];
+  if (cell.state === "lost") return ["lost", `lost: ${cell.reason} (${REASONS[cell.reason ?? ""] ?? "no answer"})`];
+  if (cell.state === "empty") return cell.output ? ["stale", "stale: an earlier answer, no longer in the file"] : ["", ""];
+  if (isStale) return ["stale", "stale: a cell above it was changed since"];
+  return hasEnded ? ["ended", "its interpreter has ended: variables are gone"] : ["", ""];
+}
+
+/**
+ * The state of a cell's text.
+ * @typedef {{isDraft: boolean, isSaving: boolean, isElsewhere: boolean, waits: boolean, isThere: boolean, trouble: string}} Text
+ * @type {(text: Text) => [string, string]}
+ */
+export function textState(text) {
+  if (!text.isDraft) return ["saved", "saved"];
+  if (text.isSaving) return ["saving", "saving"];
+  if (text.isElsewhere) return ["unsaved", "not saved: it was changed elsewhere"];
+  if (!text.isThere) return ["unsaved", "not saved: no connection"];
+  if (text.trouble) return ["unsaved", `not saved: ${text.trouble}`];
+  return text.waits ? ["unsaved", "not saved until it has its answer"] : ["unsaved", "not saved yet"];
+}

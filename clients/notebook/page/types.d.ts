@@ -1,0 +1,60 @@
+// What the server tells; tmhost_notebook/book.py writes it.
+
+export interface Part { text?: string; tex?: string }
+
+export interface Output { parts: Part[]; text: string; isCut: boolean; length: number }
+
+export interface Cell {
+  id: number;
+  session: string;
+  input: string;
+  state: "empty" | "queued" | "running" | "answered" | "lost";
+  reason: string | null;
+  since: number | null;
+  prompt: string | null;
+  output: Output | null;
+  isOld: boolean;
+}
+
+export interface Session {
+  name: string;
+  words: string;
+  tab: boolean;
+  runs: boolean;
+  waiting: number;
+  isProse: boolean;
+}
+
+export interface Removed { number: number; session: string; input: string }
+
+export interface Message {
+  at: number;
+  cells?: Cell[];
+  marks?: Record<string, [boolean, boolean]>;
+  path?: string;
+  order?: number[];
+  sessions?: Session[];
+  removed?: Removed[];
+  ended?: string | null;
+}
+
+export interface Suggestion { name: string; words: string; tab: boolean }
+
+/** What a call told: `refused` is the name of a refusal, `says` the same for people. */
+export interface Reply {
+  refused?: string;
+  says?: string;
+  at?: number;
+  id?: number;
+  count?: number;
+  lost?: number;
+  outcome?: string;
+  root?: string;
+  rest?: string[];
+  text?: string;
+  start?: number;
+  length?: number;
+}
+
+/** An element before it is made: its name, attributes and children. */
+export type Tree = string | [string, Record<string, string>, Tree[]];

@@ -1,0 +1,192 @@
+"""What the tests share: the program, a notebook's server, requests to it, and what stands in a worksheet's file."""
+
+import http.client
+import json
+import os
+import shutil
+import signal
+import subprocess
+import sys
+import tempfile
+import time
+import unittest
+import urllib.parse
+from typing import Any, Dict, List, Optional, Tuple
+
+import chromium
+
+HERE = os.path.dirname(os.path.abspath(__file__))
+NOTEBOOK = os.path.dirname(HERE)
+REPOSITORY = os.path.dirname(os.path.dirname(NOTEBOOK))
+BUILT = os.path.join(REPOSITORY, "crates", "tmhost", "out", "tmhost")
+SPOKEN = f"{sys.executable} {os.path.join(HERE, 'interpreters', 'spoken.py')}"
+
+
+def find_program() -> Tuple[Optional[str], str]:
+    """The program, or why there is none that the tests can use. It isn't built here, since that takes long."""
+    program = os.environ.get("TMHOST") or (BUILT if os.path.exists(BUILT) else shutil.which("tmhost"))
+    if program is None:
+        return None, "there is no tmhost: build it, or name it by TMHOST"
+    with tempfile.TemporaryDirectory() as folder:
+        sheet = os.path.join(folder, "sheet")
+        subprocess.run([program, "create", sheet], stdin=subprocess.DEVNULL, capture_output=True)
+        told = subprocess.run([program, "live", "--json", sheet], stdin=subprocess.DEVNULL, capture_output=True)
+    if not told.stdout.startswith(b'{"format"'):
+        return None, f"{program} has no live --json"
+    return os.path.abspath(program), ""
+
+
+PROGRAM, WHY_NOT = find_program()
+needs_program = unittest.skipIf(PROGRAM is None, WHY_NOT)
+needs_chromium = unittest.skipIf(chromium.find_chromium() is None, "there is no Chromium: install the package chromium, or name it by CHROMIUM")
+
+
+class Server:
+    """`tmhost-notebook` on a worksheet."""
+
+    def __init__(self, sheet: str, *words: str) -> None:
+        self.sheet = sheet
+        self.process = subprocess.Popen(
+            [os.path.join(NOTEBOOK, "tmhost-notebook"), "--no-browser", *words, sheet],
+            stdin=subprocess.DEVNULL, stdout=subprocess.PIPE, stderr=subprocess.PIPE, text=True, env={**os.environ, "TMHOST": PROGRAM or ""},
+        )
+        assert self.process.stdout and self.process.stderr
+        self.address = self.process.stdout.readline().strip()
+        if not self.address:
+            raise RuntimeError(self.process.stderr.read())
+        self.host = urllib.parse.urlsplit(self.address).netloc
+
+    @property
+    def program(self) -> Optional[int]:
+        """The process of tmhost, which is the server's child."""
+        return next((pid for pid in children_of(self.process.pid)), None)
+
+    def kill(self) -> None:
+        """As by kill -9. One that has ended already stays so."""
+        if self.process.poll() is None:
+            self.process.kill()
+        self.end()
+
+    def stop(self) -> int:
+        self.process.send_signal(signal.SIGTERM)
+        self.end()
+        return self.process.returncode
+
+    def end(self) -> None:
+        self.process.wait(20)
+        for stream in (self.process.stdout, self.process.stderr):
+            if stream:
+                stream.close()
+
+
+def children_of(parent: int) -> List[int]:
+    found = []
+    for name in filter(str.isdigit, os.listdir("/proc")):
+        try:
+            with open(f"/proc/{name}/stat", encoding="utf-8", errors="replace") as file:
+                if int(file.read().rpartition(")")[2].split()[1]) == parent:
+                    found.append(int(name))
+        except OSError:
+            pass
+    return found
+
+
+class Page:
+    """Requests as a page of the server sends them."""
+
+    def __init__(self, server: Server) -> None:
+        self.host, self.origin = server.host, "http://" + server.host
+        status, headers, body = self.request("GET", "/?" + server.address.partition("?")[2], {})
+        assert status == 200, status
+        self.cookie = headers["set-cookie"].partition(";")[0]
+        self.path = body.decode().partition("url=")[2].partition('"')[0]
+
+    def request(self, method: str, path: str, headers: Dict[str, str], body: Optional[bytes] = None) -> Tuple[int, Dict[str, str], bytes]:
+        connection = http.client.HTTPConnection(self.host, timeout=60)
+        connection.request(method, path, body, headers)
+        reply = connection.getresponse()
+        told = reply.status, {name.lower(): value for name, value in reply.getheaders()}, reply.read()
+        connection.close()
+        return told
+
+    def headers(self) -> Dict[str, str]:
+        return {"Cookie": self.cookie, "Origin": self.origin, "Content-Type": "application/json"}
+
+    def call(self, call: str, **members: Any) -> Dict[str, Any]:
+        told: Dict[str, Any] = json.loads(self.request("POST", self.path + "call", self.headers(), json.dumps({"call": call, **members}).encode())[2])
+        return told
+
+    def snapshot(self) -> Dict[str, Any]:
+        """The first message that a page is told."""
+        connection = http.client.HTTPConnection(self.host, timeout=60)
+        connection.request("GET", self.path + "events", headers={"Cookie": self.cookie})
+        reply = connection.getresponse()
+        told: Dict[str, Any] = json.loads(reply.readline()[len(b"data: ") :])
+        connection.close()
+        return told
+
+    def cells(self) -> Dict[int, Dict[str, Any]]:
+        return {cell["id"]: cell for cell in self.snapshot().get("cells", [])}
+
+    def until_idle(self) -> Dict[int, Dict[str, Any]]:
+        """Waits until nothing waits for an answer."""
+        end = time.monotonic() + 60
+        while time.monotonic() < end:
+            cells = self.cells()
+            if not any(cell["state"] in ("running", "queued") for cell in cells.values()):
+                return cells
+            time.sleep(0.05)
+        raise AssertionError("a cell still waits")
+
+
+class Case(unittest.TestCase):
+    """A test with a folder and a worksheet's path of its own."""
+
+    def setUp(self) -> None:
+        self.folder = tempfile.mkdtemp(prefix="notebook-test-")
+        self.sheet = os.path.join(self.folder, "sheet")
+        self.addCleanup(shutil.rmtree, self.folder, True)
+
+    def serve(self, *words: str) -> Server:
+        server = Server(self.sheet, *words)
+        self.addCleanup(server.kill)
+        return server
+
+    def browse(self) -> "chromium.Browser":
+        browser = chromium.Browser()
+        self.addCleanup(browser.kill)
+        return browser
+
+    def show(self) -> str:
+        """What `tmhost show` prints of the worksheet. It is locked while a server has it, so of a copy: any moment of it is a whole one."""
+        copy = os.path.join(self.folder, "copy")
+        for end in ("", ".alt"):
+            if os.path.exists(self.sheet + end):
+                shutil.copyfile(self.sheet + end, copy + end)
+        shown = subprocess.run([PROGRAM or "", "show", copy], stdin=subprocess.DEVNULL, capture_output=True)
+        self.assertEqual(shown.returncode, 0, shown.stderr)
+        return shown.stdout.decode("utf-8", "replace")
+
+
+READY = "document.documentElement.dataset.ready"
+
+# The worksheet as the page shows it, in the words of `tmhost show`.
+AS_SHOWN = """
+[...document.querySelectorAll(".cell")].map((cell) => {
+  const find = (selector) => cell.querySelector(selector);
+  const isProse = cell.classList.contains("prose");
+  const lost = /^lost: (\\w+)/.exec(find(".answer-state").textContent);
+  const isAnswered = cell.dataset.state === "answered";
+  const said = (node) => node.dataset?.tex === undefined ? node.textContent : `{latex:${node.dataset.tex}}`;
+  const text = isAnswered ? [...find(".output pre").childNodes].map(said).join("") : lost ? "? " + lost[1] : "?";
+  const name = find(".session").textContent;
+  return `#${cell.id.slice(5)} ${name}\\n${isProse ? "> " : find(".prompt").textContent}${find("textarea").value.replaceAll("\\n", "\\u2028")}\\n`
+    + text + (text.endsWith("\\n") ? "" : "\\n");
+}).join("")
+"""
+
+
+def opened(browser: chromium.Browser, server: Server, in_window: bool = False) -> chromium.Tab:
+    tab = browser.open(server.address, in_window)
+    tab.until(READY, "true")
+    return tab

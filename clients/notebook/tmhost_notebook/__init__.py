@@ -1,0 +1,1 @@
+"""A worksheet of `tmhost` in the browser: the server of the page."""

@@ -1,0 +1,240 @@
+"""The worksheet as pages see it: the client's mirror with the notes, and messages to pages of what has changed."""
+
+import os
+import threading
+import time
+from typing import Any, Dict, List, Optional, Set, Tuple
+
+from tmhost import Done, Event, Field, Finished, Gone, InUse, Session, Worksheet, readable
+
+from . import prose, shown
+from .notes import Note, Notes, stale_cells
+
+Message = Dict[str, Any]
+
+REPLY_WITHIN = 60.0  # seconds that a command may take
+OPENED_WITHIN = 3.0  # seconds that another program has to let go of the worksheet, as one whose server was just killed
+MOST_REMOVED = 200  # removed cells that can be brought back
+SILENCE = 15.0  # seconds behind which a page is told that the server is there
+
+
+def opened(path: str, program: Optional[str], create: bool) -> Worksheet:
+    """The worksheet; InUse where another program has it and keeps it."""
+    end = time.monotonic() + OPENED_WITHIN
+    while True:
+        try:
+            return Worksheet(path, create=create, program=program, timeout=REPLY_WITHIN)
+        except InUse:
+            if time.monotonic() > end:
+                raise
+            time.sleep(0.1)
+
+
+def session_of(sheet: Worksheet, id: Optional[int]) -> Optional[str]:
+    """The session of a cell; None where it is gone, or there is none."""
+    try:
+        return None if id is None else sheet.cell(id).session
+    except Gone:
+        return None
+
+
+class Watcher:
+    """A page that is open, and what it was told last."""
+
+    def __init__(self) -> None:
+        self.wake = threading.Event()
+        self.wake.set()
+        self.is_over = False
+        self.cells: Dict[int, Tuple[Field, int]] = {}
+        self.marks: Dict[int, List[Any]] = {}
+        self.others: Message = {}
+
+
+class Book:
+    """`lock` guards notes, watchers and removed cells, and is held for moments alone. `order` is held by the calls that depend on what a
+    cell has, one after another."""
+
+    def __init__(self, path: str, program: Optional[str]) -> None:
+        self.path, self.program = path, program
+        self.lock, self.order = threading.Lock(), threading.Lock()
+        self.watchers: Set[Watcher] = set()
+        self.removed: List[Dict[str, Any]] = []
+        self.ended: Optional[str] = None
+        self.saves = 0  # texts that were saved, counted by `order`; a message says how many of them it has seen
+        self._removed_ever = 0
+        self._open(create=True)
+
+    def _open(self, create: bool) -> None:
+        self.sheet = opened(self.path, self.program, create)
+        self.notes = Notes()
+        self.ended = None
+        sheet = self.sheet
+        sheet.listen(lambda event: self._heard(sheet, event))
+
+    def reopen(self) -> None:
+        """Opens the worksheet again behind a death of the program."""
+        with self.order:
+            if self.ended is None:
+                return
+            self._open(create=False)
+            self._tell_all()  # the notes begin anew, so their versions say nothing any more
+
+    def _tell_all(self) -> None:
+        """Has each page told all cells again."""
+        with self.lock:
+            for watcher in self.watchers:
+                watcher.cells.clear()
+        self.wake()
+
+    def close(self) -> None:
+        self.sheet.close()
+        with self.lock:
+            for watcher in self.watchers:
+                watcher.is_over = True
+        self.wake()
+
+    # ---- what happens
+
+    def _heard(self, sheet: Worksheet, event: Event) -> None:
+        if sheet is not self.sheet:
+            return
+        if isinstance(event, Finished):
+            self.ended = "the worksheet was closed" if event.error is None else str(event.error)
+            self._tell_all()
+            return
+        session = session_of(sheet, event.id) if isinstance(event, Done) else None
+        with self.lock:
+            self.notes.take(event, session)
+        self.wake()
+
+    def wake(self) -> None:
+        with self.lock:
+            for watcher in self.watchers:
+                watcher.wake.set()
+
+    def bin(self, field: Field, place: int) -> None:
+        """Keeps a cell that was removed."""
+        with self.lock:
+            self._removed_ever += 1
+            note = self.notes.of.get(field.id)
+            old = field.answer or (note.old if note else None)
+            self.removed.append({"number": self._removed_ever, "field": field, "old": old, "place": place})
+            del self.removed[:-MOST_REMOVED]
+            self.notes.drop(field.id)
+
+    def unbin(self, number: Optional[int]) -> Optional[Dict[str, Any]]:
+        """Takes a removed cell out, the last one for None."""
+        with self.lock:
+            found = next((one for one in reversed(self.removed) if number in (None, one["number"])), None)
+            if found:
+                self.removed.remove(found)
+            return found
+
+    @property
+    def prose(self) -> Set[str]:
+        return {name for name, session in self.sheet.sessions.items() if prose.is_prose(session)}
+
+    # ---- messages
+
+    def watch(self) -> Watcher:
+        watcher = Watcher()
+        with self.lock:
+            self.watchers.add(watcher)
+        return watcher
+
+    def unwatch(self, watcher: Watcher) -> None:
+        with self.lock:
+            self.watchers.discard(watcher)
+
+    def next_message(self, watcher: Watcher) -> Optional[Message]:
+        """What has changed since the last one. Empty where nothing has for a while; None at the end."""
+        if watcher.is_over:
+            return None
+        watcher.wake.wait(SILENCE)
+        watcher.wake.clear()
+        return self._message(watcher)
+
+    def _message(self, watcher: Watcher) -> Message:
+        at, fields, sessions = self._moment()
+        with self.lock:
+            others = self._others(fields, sessions)
+            marks = self._marks(fields, sessions)
+            cells = [(field, self._note_of(field)) for field in fields]
+            told = [self._cell(field, note) for field, note in cells if is_news(watcher, field, note)]
+            watcher.cells = {field.id: (field, note.version) for field, note in cells}
+        message = {key: value for key, value in others.items() if watcher.others.get(key) != value}
+        changed = {id: mark for id, mark in marks.items() if watcher.marks.get(id) != mark}
+        watcher.others, watcher.marks = others, marks
+        if told:
+            message["cells"] = told
+        if changed:
+            message["marks"] = changed
+        if message:
+            message["at"] = at
+        return message
+
+    def _moment(self) -> Tuple[int, List[Field], Dict[str, Session]]:
+        """The worksheet, and how many saves it has seen. A page drops texts that were told before it saved one itself, so a text may have a
+        later save in it than is said, but only if that one isn't counted yet."""
+        while True:
+            at = self.saves
+            fields, sessions = self.sheet.fields, self.sheet.sessions
+            if at == self.saves:
+                return at, fields, sessions
+
+    def _note_of(self, field: Field) -> Note:
+        return self.notes.of.get(field.id) or Note()
+
+    def _others(self, fields: List[Field], sessions: Dict[str, Session]) -> Message:
+        removed = [{"number": one["number"], "session": one["field"].session, "input": one["field"].input[:80]} for one in self.removed]
+        return {
+            "path": os.path.basename(self.path),
+            "order": [field.id for field in fields],
+            "sessions": [session_facts(session) for session in sessions.values()],
+            "removed": removed,
+            "ended": self.ended,
+        }
+
+    def _marks(self, fields: List[Field], sessions: Dict[str, Session]) -> Dict[int, List[Any]]:
+        """Of each cell whether its answer is stale, and whether the process that answered has ended."""
+        words = {name for name, session in sessions.items() if prose.is_prose(session)}
+        stale = stale_cells(fields, self.notes.of, words)
+        return {field.id: [field.id in stale, self._has_ended(field, sessions)] for field in fields}
+
+    def _has_ended(self, field: Field, sessions: Dict[str, Session]) -> bool:
+        life = sessions[field.session].life if field.session in sessions else None
+        return field.state == "answered" and (life is None or self._note_of(field).life != life)
+
+    def _cell(self, field: Field, note: Note) -> Message:
+        answer = field.answer or (note.old if field.state in ("empty", "waiting") else None)
+        state = field.state
+        if state == "waiting":
+            state = "empty" if self.ended else "queued" if note.since is None else "running"
+        return {
+            "id": field.id,
+            "session": field.session,
+            "input": "\n".join(field.lines),
+            "state": state,
+            "reason": field.reason,
+            "since": None if note.since is None else int(note.since * 1000),
+            "prompt": readable(field.answer.prompt) if field.answer else None,
+            "output": shown.facts_of(answer) if answer else None,
+            "isOld": field.answer is None,
+        }
+
+
+def is_news(watcher: Watcher, field: Field, note: Note) -> bool:
+    """Fields are never changed, only replaced, so one that is the same object tells nothing new."""
+    known = watcher.cells.get(field.id)
+    return known is None or known[0] is not field or known[1] != note.version
+
+
+def session_facts(session: Session) -> Message:
+    return {
+        "name": session.name,
+        "words": " ".join(session.words),
+        "tab": session.tab,
+        "runs": session.life is not None,
+        "waiting": session.waiting,
+        "isProse": prose.is_prose(session),
+    }

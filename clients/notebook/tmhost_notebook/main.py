@@ -1,0 +1,85 @@
+"""The command line: opens the worksheet, and serves its page until it is ended."""
+
+import argparse
+import contextlib
+import html
+import os
+import signal
+import sys
+import tempfile
+import threading
+import webbrowser
+from typing import Iterator, List, NoReturn, Optional
+
+from tmhost import Died, InUse, ProtocolError, TimedOut
+
+from .book import Book
+from .files import Files
+from .server import Server
+
+
+def words() -> argparse.ArgumentParser:
+    parser = argparse.ArgumentParser(
+        prog="tmhost-notebook",
+        description="Opens a worksheet of tmhost as a page in the browser, and prints its address. Where there is no worksheet it is made. "
+        "What the page shows as saved is on the disk.",
+        epilog="The program is the one that TMHOST names, or tmhost on PATH. Interpreters are started in the folder in which this is started.",
+    )
+    parser.add_argument("sheet", metavar="SHEET", help="the worksheet")
+    parser.add_argument("--no-browser", action="store_true", help="print the address alone")
+    parser.add_argument("--port", type=int, default=0, metavar="N", help="the port on 127.0.0.1; one that is free if it isn't given")
+    parser.add_argument("--libraries", default="/usr/share", metavar="FOLDER", help="where KaTeX and markdown-it are looked for (/usr/share)")
+    return parser
+
+
+def tell(text: str) -> int:
+    print(f"tmhost-notebook: {text}", file=sys.stderr)
+    return 1
+
+
+@contextlib.contextmanager
+def leading_file(address: str) -> Iterator[str]:
+    """A file for this user alone that leads to the address: words of a program, as those of a browser, can be seen by all users."""
+    with tempfile.TemporaryDirectory(prefix="tmhost-notebook-") as folder:
+        path = os.path.join(folder, "worksheet.html")
+        with open(path, "w", encoding="utf-8") as file:
+            file.write(f'<!doctype html><meta charset="utf-8"><meta http-equiv="refresh" content="0;url={html.escape(address)}">')
+        yield "file://" + path
+
+
+def leave(*_: object) -> NoReturn:
+    raise KeyboardInterrupt
+
+
+def serve(server: Server, has_browser: bool) -> None:
+    """Serves until a signal comes."""
+    for number in (signal.SIGINT, signal.SIGTERM, signal.SIGHUP):
+        signal.signal(number, leave)
+    try:
+        with leading_file(server.address) as place:
+            print(server.address, flush=True)
+            if has_browser:
+                threading.Thread(target=webbrowser.open, args=(place,), daemon=True).start()
+            server.serve_forever()
+    except KeyboardInterrupt:
+        pass
+    finally:
+        server.server_close()
+
+
+def main(given: Optional[List[str]] = None) -> int:
+    asked = words().parse_args(given)
+    try:
+        book = Book(asked.sheet, None)
+    except InUse:
+        return tell(f"{asked.sheet} is in use: another program, as a second tmhost-notebook, has it open")
+    except (Died, ProtocolError, TimedOut, OSError) as error:
+        return tell(f"{asked.sheet} can't be opened: {error}")
+    try:
+        server = Server(book, asked.port, Files(asked.libraries))
+    except (OSError, OverflowError) as error:
+        book.close()
+        return tell(f"port {asked.port} can't be taken: {error}")
+    serve(server, not asked.no_browser)
+    book.close()
+    return 0

@@ -1,0 +1,75 @@
+"""Answers as the page gets them: texts and formulas, at most so many characters of them."""
+
+from typing import Any, Dict, List, Union
+
+from tmhost import Answer, Block, readable
+
+LONGEST = 20_000  # characters of an answer that the page gets unasked; the rest is asked for piece by piece
+PIECE = 400_000  # characters of such a piece
+LONGEST_FORMULA = 5_000
+
+SHOWN_WITHOUT_TAG = ("verbatim", "output")
+
+Part = Dict[str, str]  # {"text": ..} or {"tex": ..}
+
+
+class Parts:
+    """The parts of an answer, up to `LONGEST` characters."""
+
+    def __init__(self) -> None:
+        self.parts: List[Part] = []
+        self.left = LONGEST
+
+    def text(self, text: str) -> None:
+        text = text[: self.left]
+        self.left -= len(text)
+        if text and self.parts and "text" in self.parts[-1]:
+            self.parts[-1]["text"] += text
+        elif text:
+            self.parts.append({"text": text})
+
+    def add(self, block: Block) -> None:
+        """A block as `tmhost show` prints it, but for its formulas. Blocks lie at most 32 deep in one another."""
+        tag = readable(block.tag)
+        tex = formula_of(block)
+        if tex is not None and len(tex) <= min(LONGEST_FORMULA, self.left):
+            self.parts.append({"tex": tex})
+            self.left -= len(tex)
+            return
+        is_bare = tag in SHOWN_WITHOUT_TAG
+        if not is_bare:
+            self.text("{" + tag + (":" if block.kind == "format" else "#"))
+        for item in block.items:
+            if self.left <= 0:
+                return
+            self.item(item)
+        if not is_bare:
+            self.text("}")
+
+    def item(self, item: Union[str, bytes, Block]) -> None:
+        if isinstance(item, Block):
+            self.add(item)
+        else:
+            self.text(readable(item))
+
+
+def formula_of(block: Block) -> Union[str, None]:
+    """The TeX of a block `latex` that has a text and nothing else."""
+    if block.tag != "latex" or block.kind != "format" or len(block.items) != 1:
+        return None
+    [item] = block.items
+    return item if isinstance(item, str) else None
+
+
+def facts_of(answer: Answer) -> Dict[str, Any]:
+    """An answer as the page shows it: its parts, the same as text, whether that is all of it, and how long the whole text is."""
+    parts = Parts()
+    parts.add(answer.output)
+    text = readable(answer.text)
+    return {"parts": parts.parts, "text": text[:LONGEST], "isCut": len(text) > LONGEST, "length": len(text)}
+
+
+def piece_of(answer: Answer, start: int) -> Dict[str, Any]:
+    """A further piece of the text of an answer."""
+    text = readable(answer.text)
+    return {"text": text[start : start + PIECE], "start": start, "length": len(text)}

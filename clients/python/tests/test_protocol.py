@@ -1,0 +1,214 @@
+"""The protocol without a program: the talk of docs/JSON.md, and lines that are not of it."""
+
+import concurrent.futures
+import json
+import os
+import re
+import unittest
+from typing import Any, Dict, List, Tuple
+
+from support import ROOT
+
+from tmhost import Answer, Answered, Block, BadLine, Field, Lost, Protocol, ProtocolError, Refused, Session, Stopped
+from tmhost import commands
+from tmhost.protocol import Lines, Taken
+from tmhost.reading import read
+
+PAGE = os.path.join(ROOT, "docs/JSON.md")
+HELLO: Dict[str, Any] = {"format": 1, "program": "tmhost", "protocol": 1, "type": "hello", "version": "0"}
+BLOCK: Dict[str, Any] = {"items": [], "kind": "format", "tag": "verbatim"}
+BANNER: Dict[str, Any] = {"life": 1, "output": BLOCK, "session": "a", "shown": "", "type": "banner"}
+
+
+class Talk:
+    """A talk in which what the program writes is given by hand."""
+
+    def __init__(self) -> None:
+        self.opened: "concurrent.futures.Future[Any]" = concurrent.futures.Future()
+        self.protocol = Protocol(self.opened)
+
+    def send(self, command: "commands.Command[Any]") -> "concurrent.futures.Future[Any]":
+        future: "concurrent.futures.Future[Any]" = concurrent.futures.Future()
+        self.line = self.protocol.send(command, future)
+        return future
+
+    def told(self, *objects: object) -> Taken:
+        all_taken = Taken()
+        for told in objects:
+            line = told if isinstance(told, bytes) else json.dumps(told).encode()
+            taken = self.protocol.feed(line)
+            for settle in taken.settled:
+                settle()
+            all_taken.events += taken.events
+            all_taken.lines += taken.lines
+        return all_taken
+
+
+class Pages(unittest.TestCase):
+    @unittest.skipUnless(os.path.isfile(PAGE), "the page isn't there")
+    def test_the_talk_of_the_page(self) -> None:
+        """Each line of the talk is what its command sends, each object is taken, and the worksheet behind it is as the page says."""
+        with open(PAGE, encoding="utf-8") as file:
+            talk = [line[:-1] for line in file if re.match("[<>] ", line)]
+        output = Block("verbatim", "format", (Block("latex", "format", ("$x^2$",)), "\n"))
+        answer = Answer("In 1] ", output, "{latex:$x^2$}\n")
+        first: "concurrent.futures.Future[Any]" = concurrent.futures.Future()
+        again: "concurrent.futures.Future[Any]" = concurrent.futures.Future()
+        made = [
+            commands.MakeSession("a", ("sh", "slow.sh"), False),
+            commands.New(0, "a", "x^2"),
+            commands.Eval(1, first),
+            commands.Set(1, "y"),
+            commands.Wait(10),
+            commands.Look(1),
+            commands.Eval(1, again),
+            commands.Stop("a"),
+        ]
+        end = next(place for place, line in enumerate(talk) if '"type":"stopped"' in line) + 1  # behind it a look is sent
+        waits, events = self.held(Talk(), talk[:end], iter(made))
+        self.assertEqual([type(one.exception(0)) for one in waits], [type(None)] * 4 + [Refused] + [type(None)] * 4)
+        self.assertEqual(first.result(0), answer)
+        self.assertEqual((type(again.exception(0)), waits[8].result()), (Lost, events[-1].lost))
+        self.assertEqual(self.protocol.mirror.fields(), [Field(1, "a", "x^2", "lost", None, "Stopped")])
+        self.assertEqual([type(event).__name__ for event in events], ["Done", "Done", "Done", "Banner", "Answered", "Done", "Stopped"])
+        self.assertEqual(events[4], Answered("a", 1, 1, answer))
+        self.protocol.feed(talk[-1][2:].encode())
+        self.assertTrue(self.protocol.is_over)
+
+    def held(self, talk: Talk, lines: List[str], made: Any) -> Any:
+        """The futures of the lines that were sent, and the events that were told."""
+        waits, events = [], []
+        self.protocol = talk.protocol
+        for line in lines:
+            if line.startswith("<"):
+                waits.append(talk.send(Raw(line[2:]) if line.startswith("< #") else next(made)))
+                self.assertEqual(talk.line, line[2:].encode() + b"\n")
+            else:
+                taken = talk.told(line[2:].encode())
+                events += taken.events
+        self.assertEqual(taken.lines, [b"print 1\n"])
+        return waits, events
+
+
+class Raw(commands.Command[None]):
+    """A line that no call sends."""
+
+    is_told = False
+
+    def __init__(self, line: str) -> None:
+        self.text = line
+
+    @property
+    def line(self) -> str:
+        return self.text
+
+    def taken(self, mirror: Any, reply: Any) -> None:
+        assert reply.type == "nothing"
+
+
+class Objects(unittest.TestCase):
+    def test_what_is_not_known_is_passed_over(self) -> None:
+        talk = Talk()
+        taken = talk.told(HELLO, {"type": "weather", "of": [1.5, None]}, {**BANNER, "more than that": {}})
+        self.assertEqual((len(taken.events), talk.opened.result().version), (1, "0"))
+        waits = talk.send(commands.Checkpoint())
+        talk.told({"line": 1, "more": True, "type": "progress", "part": 0.5}, {"line": 1, "new": [], "type": "done"})
+        self.assertIsNone(waits.result(0))
+
+    def test_lines_that_are_broken(self) -> None:
+        lines: List[object] = [
+            b"", b"no", b"[]", b'"x"', b"{", b'{"type":"hello"} x', b'{"type":NaN}', b'{"type":"a","type":"a"}', b'{"type":"\xff"}',
+            b'{"type":"\\ud800"}', b'{"type":"x","y":' + 100_000 * b"[" + 100_000 * b"]" + b"}",
+            b'{"line":' + b"1" * 5000 + b',"type":"done"}',
+            {}, {"type": 1}, {"line": "1", "type": "done"}, {"line": True, "type": "done"}, {"line": -1, "type": "done"},
+            {"line": 1.0, "type": "done"}, {"line": 2**64, "type": "done"}, {"line": 1, "more": 1, "type": "done"},
+            {"line": 1, "type": "made"},
+            {**HELLO, "protocol": "1"}, {**HELLO, "version": 1}, {"number": 1, "type": "fault"},
+        ]  # fmt: skip
+        parts: List[Dict[str, Any]] = [{"items": {}}, {"items": [1]}, {"kind": "other"}, {"tag": None}]
+        parts += [{"tag": {"base64": value}} for value in ("6Q", "YQ==", "6\nQ==", "6Q==6Q==", "\u00e9", None)]
+        for broken in parts:
+            lines.append({**BANNER, "output": {**BLOCK, **broken}})
+        lines += [{key: value for key, value in BANNER.items() if key != name} for name in BANNER if name != "type"]
+        for line in lines:
+            with self.subTest(line=str(line)[:80]), self.assertRaises(ProtocolError):
+                read(line if isinstance(line, bytes) else json.dumps(line).encode())
+
+    def test_halves_of_a_character_that_are_together(self) -> None:
+        told = read(b'{"line":1,"name":"\\ud83d\\ude00","number":1,"type":"refused"}')
+        self.assertEqual(getattr(told, "name"), "\U0001f600")
+
+    def test_objects_that_come_out_of_step(self) -> None:
+        objects = [
+            {"line": 2, "type": "nothing"}, {"line": 1, "type": "done"}, {"line": 3, "type": "done"}, {"id": 1, "line": 2, "type": "made"},
+            {"life": 1, "line": 2, "lost": [{"id": 1, "text": "x"}], "session": "a", "type": "stopped"},
+            {"id": 2, "life": 1, "output": BLOCK, "prompt": "", "session": "a", "shown": "", "type": "answered"},
+            {"id": 1, "life": 1, "output": BLOCK, "prompt": "", "session": "b", "shown": "", "type": "answered"},
+            {"id": 1, "life": 1, "session": "a", "told": None, "type": "completed"},
+            {"life": 1, "lost": [{"id": 2, "text": "x"}], "reason": "Ended", "session": "a", "type": "ended"},
+            {"life": 1, "lost": [{"cursor": 0, "id": 1, "text": "x"}], "reason": "Ended", "session": "a", "type": "ended"},
+            {"life": 1, "lost": [], "reason": "Ended", "session": "a", "type": "ended"},
+            {"life": 1, "lost": [], "reason": "Ended", "session": "b", "type": "ended"},
+        ]  # fmt: skip
+        for told in objects:
+            with self.subTest(told=told):
+                talk, evaluation = self.asked()
+                waits = talk.send(commands.Checkpoint())
+                self.assertRaises(ProtocolError, talk.told, told)
+                talk.protocol.break_off(ProtocolError("broken"))
+                for settle in talk.protocol.finish(False, 0, "").settled:
+                    settle()
+                for future in (waits, evaluation):
+                    self.assertRaises(ProtocolError, future.result, 0)
+
+    def asked(self) -> "Tuple[Talk, concurrent.futures.Future[Any]]":
+        """A talk whose first line has asked session `a` for the answer to cell 1."""
+        talk = Talk()
+        talk.protocol.mirror.add_session(Session("a", ("p",), False))
+        talk.protocol.mirror.insert(Field(1, "a", "x"), 0)
+        evaluation: "concurrent.futures.Future[Any]" = concurrent.futures.Future()
+        talk.send(commands.Eval(1, evaluation))
+        talk.told({"life": 1, "line": 1, "type": "asked"})
+        return talk, evaluation
+
+    def test_deep_blocks(self) -> None:
+        block: Any = {**BLOCK, "items": ["x"]}
+        for _ in range(31):
+            block = {**BLOCK, "items": [block, {"base64": "6Q=="}]}
+        (event,) = Talk().told({**BANNER, "output": block}).events
+        self.assertEqual(getattr(event, "output").plain, b"x" + 31 * b"\xe9")
+        self.assertEqual(len(getattr(event, "output").find("verbatim")), 32)
+
+    def test_lines_that_come_in_pieces(self) -> None:
+        data = b"one\ntwo\n\nthree, which has no end"
+        for size in range(1, len(data) + 1):
+            lines, found = Lines(), []
+            for place in range(0, len(data), size):
+                found += lines.feed(data[place : place + size])
+            self.assertEqual(found, [b"one", b"two", b""])
+
+    def test_a_bad_line(self) -> None:
+        talk = Talk()
+        waits = talk.send(Raw("evil 1"))
+        self.assertEqual(talk.told({"line": 1, "type": "bad"}).events, [])
+        self.assertIsInstance(waits.exception(0), BadLine)
+
+    def test_a_look_behind_a_loss(self) -> None:
+        """Whether a lost line keeps its reason isn't told, so its cell is looked at; who listens is told where it was another."""
+        talk, evaluation = self.asked()
+        taken = talk.told({"life": 1, "lost": [{"id": 1, "text": "x"}], "reason": "BadTag", "session": "a", "type": "ended"})
+        self.assertIsInstance(evaluation.exception(0), Lost)
+        self.assertEqual((taken.lines, talk.protocol.mirror.field(1).reason), ([b"print 1\n"], "BadTag"))
+        taken = talk.told({"field": {"id": 1, "input": "x", "session": "a", "state": "empty"}, "line": 2, "type": "field"})
+        self.assertEqual(len(taken.events), 1)
+        self.assertEqual((talk.protocol.mirror.field(1).reason, talk.protocol.mirror.field(1).state), (None, "empty"))
+
+    def test_lines_are_one_line(self) -> None:
+        for text in ("x\n", "a\nb", "\n", "x\r", "x\r\n"):
+            line = commands.bytes_of(commands.Set(1, commands.input_of(text)).line)
+            self.assertEqual((line.count(b"\n"), line[-1:]), (1, b"\n"))
+        self.assertEqual(commands.bytes_of("set 1 x\r"), b"set 1 x\r\r\n")
+
+
+if __name__ == "__main__":
+    unittest.main()

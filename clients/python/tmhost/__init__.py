@@ -1,0 +1,57 @@
+"""Worksheets of `tmhost` in Python: `Worksheet` for blocking calls from any thread, `AsyncWorksheet` for asyncio.
+
+    with Worksheet("notes", create=True) as sheet:
+        sheet.ensure_session("py", ["adapters/python"])
+        print(sheet.new("py", "6 * 7").evaluate(timeout=5).text)
+
+What a call returned is on the disk: a crash of this process, of the program or of the machine leaves it.
+"""
+
+from .aio import AsyncCell, AsyncCellLike, AsyncEvaluation, AsyncWorksheet
+from .blocking import Cell, CellLike, Evaluation, Worksheet
+from .errors import BadLine, Closed, Died, Gone, InUse, Lost, ProtocolError, Refused, TimedOut, TmhostError
+from .events import Answered, Banner, Completed, Default, Done, Ended, Event, Finished, OfLife, Stopped
+from .program import find_program
+from .protocol import Protocol
+from .values import Answer, Block, Completions, Field, LostItem, Session, Text, readable
+
+__all__ = [
+    "Answer",
+    "Answered",
+    "AsyncCell",
+    "AsyncCellLike",
+    "AsyncEvaluation",
+    "AsyncWorksheet",
+    "BadLine",
+    "Banner",
+    "Block",
+    "Cell",
+    "CellLike",
+    "Closed",
+    "Completed",
+    "Completions",
+    "Default",
+    "Died",
+    "Done",
+    "Ended",
+    "Evaluation",
+    "Event",
+    "Field",
+    "Finished",
+    "Gone",
+    "InUse",
+    "Lost",
+    "LostItem",
+    "OfLife",
+    "Protocol",
+    "ProtocolError",
+    "Refused",
+    "Session",
+    "Stopped",
+    "Text",
+    "TimedOut",
+    "TmhostError",
+    "Worksheet",
+    "find_program",
+    "readable",
+]

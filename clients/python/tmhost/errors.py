@@ -1,0 +1,91 @@
+"""What the calls of the package raise."""
+
+from typing import Optional
+
+
+class TmhostError(Exception):
+    """The base of all errors of this package."""
+
+
+class Refused(TmhostError):
+    """A command was refused, and nothing was changed. docs/SCRIPT.md, "Refusals", has the names and numbers."""
+
+    def __init__(self, name: str, number: int) -> None:
+        super().__init__(name, number)
+        self.name, self.number = name, number
+
+    def __str__(self) -> str:
+        return f"refused: {self.name} ({self.number})"
+
+
+class BadLine(TmhostError):
+    """The program doesn't know the line: it has more than 65,536 bytes, or a number that is negative or too large."""
+
+    def __init__(self, line: str) -> None:
+        super().__init__(line)
+        self.line = line
+
+    def __str__(self) -> str:
+        return f"a bad line: {self.line[:60]!r}"
+
+
+class Lost(TmhostError):
+    """The interpreter ended before it answered. `reason` is one of the nine names of docs/SCRIPT.md, as "Ended" or "Stopped"."""
+
+    def __init__(self, reason: str) -> None:
+        super().__init__(reason)
+        self.reason = reason
+
+    def __str__(self) -> str:
+        return f"lost: {self.reason}"
+
+
+class TimedOut(TmhostError, TimeoutError):
+    """The time of a call is over. What it asked for goes on, and may be done later."""
+
+
+class Gone(TmhostError, LookupError):
+    """There is no cell with this number, or it was removed."""
+
+    def __init__(self, id: int) -> None:
+        super().__init__(id)
+        self.id = id
+
+    def __str__(self) -> str:
+        return f"there is no cell {self.id}"
+
+
+class Closed(TmhostError):
+    """The worksheet was closed by `close`, or isn't open yet."""
+
+    def __str__(self) -> str:
+        return "the worksheet is closed"
+
+
+class ProtocolError(TmhostError):
+    """The program wrote something that isn't of the protocol. It was ended then, since nothing that it tells can be relied on."""
+
+
+class Died(TmhostError):
+    """The program ended by itself. What was told before is on the disk; a call that raises this may be done or not.
+
+    `fault`, `number` and `offset` are those of the fault that it told (docs/FAULTS.md), None where it told none. `told` is what stands on
+    its standard error. `status` is its exit status, below zero where a signal ended it, None where it isn't known.
+    """
+
+    def __init__(
+        self, fault: Optional[str], number: Optional[int], told: str = "", status: Optional[int] = None, offset: Optional[int] = None
+    ) -> None:
+        super().__init__(fault, number, told, status, offset)
+        self.fault, self.number, self.told, self.status, self.offset = fault, number, told, status, offset
+
+    def __str__(self) -> str:
+        if self.fault is not None:
+            at = "" if self.offset is None else f" at {self.offset}"
+            return f"tmhost ended: fault {self.number} {self.fault}{at}"
+        how = "without a status" if self.status is None else f"with status {self.status}" if self.status >= 0 else f"by signal {-self.status}"
+        return f"tmhost ended {how}" + (f": {self.told.strip()}" if self.told.strip() else "")
+
+
+class InUse(Died):
+    """Another program has the worksheet (fault 35)."""

@@ -1,0 +1,88 @@
+"""The program `tmhost`: where it is, how it is started and ended, and what it says at its end."""
+
+import contextlib
+import os
+import re
+import shutil
+import signal
+import subprocess
+import tempfile
+import threading
+from typing import List, Optional, Sequence, Union
+
+from .errors import Died
+from .reading import Fault
+
+FAULT = re.compile(r"^fault (\d+) (\w+)(?: (\d+))?$", re.MULTILINE)
+NOT_EMPTY = 34
+LONGEST_SAYING = 65_536  # bytes of standard error that are kept
+GRACE = 10.0  # seconds that it has for its end behind that of its output
+
+Program = Union[None, str, Sequence[str]]
+
+
+def find_program() -> str:
+    """The program that the environment variable TMHOST names, or the one on PATH."""
+    found = os.environ.get("TMHOST") or shutil.which("tmhost")
+    if not found:
+        raise FileNotFoundError("there is no tmhost on PATH, and TMHOST names none")
+    return found
+
+
+def words_of_program(program: Program) -> List[str]:
+    if program is None:
+        return [find_program()]
+    return [program] if isinstance(program, str) else list(program)
+
+
+def path_word(path: "Union[str, os.PathLike[str]]") -> str:
+    """A path as a word that can't be taken for a flag."""
+    word = os.fspath(path)
+    return os.path.join(".", word) if word.startswith("-") else word
+
+
+def fault_in(told: str) -> Optional[Fault]:
+    """The fault of which a text on standard error tells."""
+    found = FAULT.search(told)
+    return Fault(int(found[1]), found[2], int(found[3]) if found[3] else None) if found else None
+
+
+def refuse_uncreated(path: str, status: Optional[int], errors: bytes) -> None:
+    """Raises why a `create` made nothing, but where somebody else has made it meanwhile."""
+    told = errors.decode("utf-8", "backslashreplace")
+    fault = fault_in(told)
+    if status == 0 or (fault and fault.number == NOT_EMPTY and os.path.exists(path)):
+        return
+    raise Died(fault.name if fault else None, fault.number if fault else None, told, status)
+
+
+class Child:
+    """The program while it runs, in a session and a group of processes of its own: control-C at a terminal is for Python, which ends the
+    program when it wants to."""
+
+    def __init__(self, words: List[str]) -> None:
+        self._asking = threading.Lock()
+        self._errors = tempfile.TemporaryFile()
+        pipe = subprocess.PIPE
+        try:
+            self.process = subprocess.Popen(words, bufsize=0, stdin=pipe, stdout=pipe, stderr=self._errors, start_new_session=True)
+        except BaseException:
+            self._errors.close()
+            raise
+
+    def kill(self) -> None:
+        """Ends the program with its interpreters; what it told is on the disk. As long as nobody has asked for its status, its number is
+        that of the group, also where it has ended."""
+        with self._asking, contextlib.suppress(ProcessLookupError):
+            if self.process.returncode is None:
+                os.killpg(self.process.pid, signal.SIGKILL)
+
+    def status(self) -> Optional[int]:
+        """Its status, or None while it runs."""
+        with self._asking:
+            return self.process.poll()
+
+    def said(self) -> str:
+        """What stands on its standard error, at its end."""
+        with self._errors:
+            return os.pread(self._errors.fileno(), LONGEST_SAYING, 0).decode("utf-8", "backslashreplace")

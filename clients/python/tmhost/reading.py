@@ -1,0 +1,268 @@
+"""Lines of JSON as the program writes them (docs/JSON.md), read strictly.
+
+Members that aren't known are passed over, and so are objects without `line` of a type that isn't known. All else that isn't of the
+protocol is a ProtocolError.
+"""
+
+import base64
+import binascii
+import dataclasses
+import json
+import re
+from typing import Any, Callable, Dict, List, NoReturn, Optional, Tuple, Union
+
+from .errors import ProtocolError
+from .events import Answered, Banner, Completed, Default, Ended, Event
+from .values import Answer, Block, Completions, Field, LostItem, Session, Text
+
+KINDS = ("format", "channel")
+BEYOND = 2**64
+HALF = re.compile(rb"\\u[dD][89a-fA-F]")  # may stand for half of a character
+
+
+@dataclasses.dataclass(frozen=True)
+class Hello:
+    protocol: int
+    format: int
+    version: str
+
+
+@dataclasses.dataclass(frozen=True)
+class Fault:
+    number: int
+    name: str
+    offset: Optional[int]
+
+
+@dataclasses.dataclass(frozen=True)
+class End:
+    """The input has come to its end, and all of it was taken."""
+
+
+@dataclasses.dataclass(frozen=True)
+class Reply:
+    """What is told of a line. `more` says that more will be told of it. Types that have no members of their own are this one."""
+
+    line: int
+    type: str
+    more: bool
+
+
+@dataclasses.dataclass(frozen=True)
+class Made(Reply):
+    id: int
+
+
+@dataclasses.dataclass(frozen=True)
+class Asked(Reply):
+    life: int
+
+
+@dataclasses.dataclass(frozen=True)
+class Refusal(Reply):
+    name: str
+    number: int
+
+
+@dataclasses.dataclass(frozen=True)
+class Waited(Reply):
+    over: str
+
+
+@dataclasses.dataclass(frozen=True)
+class OneField(Reply):
+    field: Field
+
+
+@dataclasses.dataclass(frozen=True)
+class Sheet(Reply):
+    fields: Tuple[int, ...]
+    next: int
+    sessions: Tuple[Session, ...]
+
+
+@dataclasses.dataclass(frozen=True)
+class StopReply(Reply):
+    session: str
+    life: int
+    lost: Tuple[LostItem, ...]
+
+
+@dataclasses.dataclass(frozen=True)
+class Interrupted(Reply):
+    outcome: str
+
+
+Told = Union[Hello, Fault, End, Reply, Event]
+
+
+def broken(what: str) -> NoReturn:
+    raise ProtocolError(f"tmhost wrote {what}")
+
+
+class Members:
+    """The members of an object, each read as what it has to be."""
+
+    def __init__(self, data: object) -> None:
+        if not isinstance(data, dict):
+            broken(f"{str(data)[:60]!r} where an object has to be")
+        self.data: Dict[str, Any] = data
+
+    def get(self, name: str) -> Any:
+        if name not in self.data:
+            broken(f"an object without {name!r}, of type {self.data.get('type')!r}")
+        return self.data[name]
+
+    def number(self, name: str) -> int:
+        return number(self.get(name))
+
+    def string(self, name: str) -> str:
+        return string(self.get(name))
+
+    def one_of(self, name: str, *names: str) -> str:
+        value = self.string(name)
+        return value if value in names else broken(f"{value[:60]!r} as {name!r}")
+
+    def boolean(self, name: str) -> bool:
+        value = self.get(name)
+        return value if isinstance(value, bool) else broken(f"{name!r} that is neither true nor false")
+
+    def list(self, name: str) -> List[Any]:
+        value = self.get(name)
+        return value if isinstance(value, list) else broken(f"{name!r} that is no list")
+
+    def text(self, name: str) -> Text:
+        return text(self.get(name))
+
+    def or_none(self, name: str, read: Callable[[Any], Any]) -> Any:
+        """None for null, which has to be there."""
+        value = self.get(name)
+        return None if value is None else read(value)
+
+
+def number(value: object) -> int:
+    if type(value) is int and 0 <= value < BEYOND:
+        return value
+    broken(f"{str(value)[:60]!r} where a number has to be")
+
+
+def string(value: object) -> str:
+    return value if isinstance(value, str) else broken(f"{str(value)[:60]!r} where a string has to be")
+
+
+def text(value: object) -> Text:
+    """BYTES: a string, or the base64 of what isn't UTF-8."""
+    if isinstance(value, str):
+        return value
+    try:
+        data = base64.b64decode(Members(value).string("base64").encode("ascii"), validate=True)
+    except (binascii.Error, UnicodeEncodeError):
+        broken("bytes that aren't base64")
+    try:
+        data.decode("utf-8")
+    except UnicodeDecodeError:
+        return data
+    broken("base64 of what is UTF-8")
+
+
+def block(value: object) -> Block:
+    told = Members(value)
+    kind = told.one_of("kind", *KINDS)
+    return Block(told.text("tag"), kind, tuple(block(item) if is_block(item) else text(item) for item in told.list("items")))
+
+
+def is_block(item: object) -> bool:
+    return isinstance(item, dict) and "kind" in item
+
+
+def answer(told: Members) -> Answer:
+    return Answer(told.text("prompt"), block(told.get("output")), told.text("shown"))
+
+
+def field(value: object) -> Field:
+    told = Members(value)
+    state = told.one_of("state", "empty", "waiting", "answered", "lost")
+    return Field(
+        told.number("id"),
+        told.string("session"),
+        told.string("input"),
+        state,
+        answer(told) if state == "answered" else None,
+        told.string("reason") if state == "lost" else None,
+    )
+
+
+def session(value: object) -> Session:
+    told = Members(value)
+    words = tuple(string(word) for word in told.list("words"))
+    return Session(told.string("name"), words, told.boolean("tab"), told.or_none("life", number), told.number("waiting"))
+
+
+def lost_item(value: object) -> LostItem:
+    told = Members(value)
+    return LostItem(told.number("id"), told.string("text"), told.number("cursor") if "cursor" in told.data else None)
+
+
+def lost(told: Members) -> Tuple[LostItem, ...]:
+    return tuple(lost_item(item) for item in told.list("lost"))
+
+
+def completions(value: object) -> Completions:
+    told = Members(value)
+    return Completions(told.text("root"), tuple(text(one) for one in told.list("rest")))
+
+
+# What is told of a line, by its type: each gets the members of Reply, and reads those of its own.
+REPLIES: Dict[str, Callable[[Tuple[int, str, bool], Members], Reply]] = {
+    "made": lambda front, told: Made(*front, told.number("id")),
+    "asked": lambda front, told: Asked(*front, told.number("life")),
+    "refused": lambda front, told: Refusal(*front, told.string("name"), told.number("number")),
+    "waited": lambda front, told: Waited(*front, told.one_of("over", "idle", "time")),
+    "field": lambda front, told: OneField(*front, field(told.get("field"))),
+    "sheet": lambda front, told: Sheet(
+        *front, tuple(number(one) for one in told.list("fields")), told.number("next"), tuple(session(one) for one in told.list("sessions"))
+    ),
+    "stopped": lambda front, told: StopReply(*front, told.string("session"), told.number("life"), lost(told)),
+    "interrupted": lambda front, told: Interrupted(*front, told.one_of("outcome", "sent", "idle", "failed")),
+}
+
+# What is told without a line, by its type: of an interpreter, with its session and its life in front, or of the program.
+EVENTS: Dict[str, Callable[[str, int, Members], Event]] = {
+    "banner": lambda name, life, told: Banner(name, life, block(told.get("output")), told.text("shown")),
+    "answered": lambda name, life, told: Answered(name, life, told.number("id"), answer(told)),
+    "completed": lambda name, life, told: Completed(name, life, told.number("id"), told.or_none("told", completions)),
+    "default": lambda name, life, told: Default(name, life, told.text("text")),
+    "ended": lambda name, life, told: Ended(name, life, told.string("reason"), lost(told)),
+}
+OTHERS: Dict[str, Callable[[Members], Told]] = {
+    "hello": lambda told: Hello(told.number("protocol"), told.number("format"), told.string("version")),
+    "fault": lambda told: Fault(told.number("number"), told.string("name"), told.number("offset") if "offset" in told.data else None),
+    "end": lambda told: End(),
+}
+
+
+def without_doubles(pairs: List[Tuple[str, Any]]) -> Dict[str, Any]:
+    made = dict(pairs)
+    return made if len(made) == len(pairs) else broken("an object that has a member twice")
+
+
+def data_of(line: bytes) -> Members:
+    try:
+        data = json.loads(line.decode("utf-8"), object_pairs_hook=without_doubles, parse_constant=lambda name: broken(name))
+        if HALF.search(line):
+            json.dumps(data, ensure_ascii=False).encode("utf-8")
+    except (ValueError, RecursionError) as error:
+        raise ProtocolError(f"tmhost wrote a line that is no JSON: {line[:60]!r}") from error
+    return Members(data)
+
+
+def read(line: bytes) -> Optional[Told]:
+    """What a line tells; None where it is of a type that isn't known and of no line."""
+    told = data_of(line)
+    kind = told.string("type")
+    if "line" in told.data:
+        front = (told.number("line"), kind, told.boolean("more") if "more" in told.data else False)
+        return REPLIES[kind](front, told) if kind in REPLIES else Reply(*front)
+    if kind in EVENTS:
+        return EVENTS[kind](told.string("session"), told.number("life"), told)
+    return OTHERS[kind](told) if kind in OTHERS else None

@@ -1,0 +1,222 @@
+"""The command in a pipe: answers in order, notes on standard error, and the status."""
+import os
+import signal
+import subprocess
+import sys
+import time
+
+from .support import COMMAND, INTERPRETER, LINE_END, Case, environment, heed_control_c, program_of
+
+
+class Pipe(Case):
+    def test_answers_in_order(self) -> None:
+        self.make()
+        text = "hello\nsay two\\nlines\n\nsay\n  spaced \nlast"
+        self.assertEqual(self.pipe(text, self.sheet, "t"), (0, "hello\ntwo\nlines\n  spaced \nlast\n", ""))
+        self.assertEqual(
+            self.pairs(), [("hello", "hello"), ("say two\\nlines", "two\nlines"), ("say", ""), ("  spaced ", "  spaced "), ("last", "last")]
+        )
+
+    def test_bytes_as_they_are(self) -> None:
+        """Also those that aren't UTF-8; bytes below 32 as the program shows them."""
+        self.make()
+        done = subprocess.run(
+            [sys.executable, COMMAND, self.sheet, "t"], input=b"bytes e9ff0a\nsay \\x9bm\nsay \\x1b[m\nformula\n", capture_output=True,
+            env=environment(),
+        )
+        self.assertEqual((done.returncode, done.stdout), (0, b"\xe9\xff\n\xc2\x9bm\n\\x1b[m\n{latex:$x$}\n"))
+
+    def test_lines_that_go_on(self) -> None:
+        self.make()
+        self.assertEqual(self.pipe("a\\\nb\\\n\\\nc\nd\\\\\n\ne\\", self.sheet, "t"), (0, "a\nb\n\nc\nd\\\ne\n", ""))
+        self.assertEqual([input for input, _ in self.pairs()], [f"a{LINE_END}b{LINE_END}{LINE_END}c", "d\\", "e"])
+
+    def test_windows_line_ends(self) -> None:
+        self.make()
+        self.assertEqual(self.pipe("a\r\nb\r\n", self.sheet, "t")[:2], (0, "a\nb\n"))
+
+    def test_a_lost_answer(self) -> None:
+        """It is told, the lines behind it are evaluated, and the status is 1."""
+        self.make()
+        status, out, errors = self.pipe("count\ndie\ncount\n", self.sheet, "t")
+        self.assertEqual((status, out), (1, "0\n0\n"))
+        self.assertIn("tmhost-repl: lost: #2 (Ended)\n", errors)
+        self.assertEqual([(field.state, field.reason) for field in self.fields()], [("answered", None), ("lost", "Ended"), ("answered", None)])
+
+    def test_refused_lines(self) -> None:
+        self.make()
+        status, out, errors = self.pipe(b"a\n\xff\nb\x01\n" + b"x" * 4096 + b"\n" + b"y" * 70000 + b"\nc\n", self.sheet, "t")
+        self.assertEqual((status, out), (1, "a\nc\n"))
+        self.assertEqual(errors.count("refused"), 4)
+        self.assertEqual(self.pairs(), [("a", "a"), ("c", "c")])
+
+    def test_an_interpreter_that_is_missing(self) -> None:
+        status, out, errors = self.pipe("a\n", "--create", self.sheet, "x", "/nonexistent/program")
+        self.assertEqual((status, out), (1, ""))
+        self.assertIn("lost: #1 (StartRefused)", errors)
+
+    def test_words_make_a_session(self) -> None:
+        self.assertEqual(self.pipe("a\n", "--create", self.sheet, "t", *INTERPRETER)[:2], (0, "a\n"))
+        self.assertEqual(self.pipe("b\n", self.sheet, "t")[:2], (0, "b\n"))
+        self.assertEqual(self.pipe("c\n", self.sheet, "t", *INTERPRETER)[:2], (0, "c\n"))
+        self.assertEqual(self.pairs(), [("a", "a"), ("b", "b"), ("c", "c")])
+
+    def test_words_that_are_refused(self) -> None:
+        self.assertEqual(self.pipe("a\n", self.sheet, "t", "cat")[0], 2)
+        self.assertFalse(os.path.exists(self.sheet))
+        self.make()
+        for words in (["u"], ["t", "cat"], ["--tab", "t", *INTERPRETER], ["a/b", "cat"], ["u", "a b"]):
+            flags = [word for word in words if word == "--tab"]
+            status, out, errors = self.pipe("a\n", *flags, self.sheet, *[word for word in words if word != "--tab"])
+            self.assertEqual((status, out, bool(errors)), (2, "", True), words)
+        self.assertEqual(self.fields(), [])
+
+    def test_no_worksheet(self) -> None:
+        with open(self.sheet, "w", encoding="ascii") as file:
+            file.write("this is no worksheet at all")
+        status, out, errors = self.pipe("a\n", self.sheet, "t")
+        self.assertEqual((status, out), (1, ""))
+        self.assertIn("NotASheet", errors)
+        self.assertEqual(self.pipe("a\n", "--create", self.sheet + "2", "t", "cat", TMHOST="/nonexistent/tmhost")[0], 1)
+
+    def test_one_at_a_time(self) -> None:
+        self.make()
+        beside = subprocess.Popen([sys.executable, COMMAND, self.sheet, "t"], stdin=subprocess.PIPE, stdout=subprocess.PIPE, env=environment())
+        with beside:
+            assert beside.stdin and beside.stdout
+            beside.stdin.write(b"a\n")
+            beside.stdin.flush()
+            self.assertEqual(beside.stdout.readline(), b"a\n")
+            status, out, errors = self.pipe("b\n", self.sheet, "t")
+            self.assertEqual((status, out), (1, ""))
+            self.assertIn("InUse", errors)
+
+    def test_nobody_reads(self) -> None:
+        self.make()
+        with subprocess.Popen(
+            [sys.executable, COMMAND, self.sheet, "t"], stdin=subprocess.PIPE, stdout=subprocess.PIPE, stderr=subprocess.PIPE, env=environment()
+        ) as command:
+            assert command.stdin and command.stdout and command.stderr
+            command.stdout.close()
+            command.stdin.write(b"a\nb\nc\n")
+            command.stdin.close()
+            self.assertEqual((command.stderr.read(), command.wait(30)), (b"", 1))
+        self.assertEqual(self.pairs()[0], ("a", "a"))
+
+
+class Commands(Case):
+    def test_list_and_sessions(self) -> None:
+        self.make(True, "a", f"b{LINE_END}c")
+        status, out, errors = self.pipe("%list\ndie\n%list\n%sessions\n%help\n", self.sheet, "t")
+        two = ["#1 t", "> a", "?", "#2 t", "> b", "  c", "?"]
+        self.assertEqual(out.splitlines()[:17], [*two, *two, "#3 t", "> die", "? Ended"])
+        self.assertIn(f"* t: {' '.join(INTERPRETER)} (not running, completes at TAB)\n", out)
+        for word in ("list", "eval-all", "from", "stop", "interrupt", "sessions", "session", "remove", "help", "quit"):
+            self.assertRegex(out, rf"(?m)^%{word} ")
+        self.assertEqual(status, 1)
+
+    def test_eval_all(self) -> None:
+        self.make(False, "count", "count", "count")
+        self.assertEqual(self.pipe("%eval-all\n%from 2\n%eval-all\n", self.sheet, "t"), (0, "0\n1\n2\n3\n4\n5\n6\n7\n", ""))
+        self.assertEqual(self.pairs(), [("count", "5"), ("count", "6"), ("count", "7")])
+
+    def test_an_end_within_eval_all(self) -> None:
+        """Those behind it aren't evaluated, so they keep their answers."""
+        self.make(False, "a", "b", "c")
+        self.pipe("%eval-all\n", self.sheet, "t")
+        self.pipe("%session t\n", self.sheet, "t")
+        script = "%remove 2\ndie\n"
+        self.assertEqual(self.pipe(script, self.sheet, "t")[0], 1)
+        status, out, errors = self.pipe("x\n%remove 1\n%eval-all\n", self.sheet, "t")
+        self.assertEqual((status, out), (1, "x\nc\n"))
+        self.assertIn("not evaluated: 1 more, from #5 on", errors)
+        self.assertEqual(self.pairs(), [("c", "c"), ("die", None), ("x", "x")])
+
+    def test_another_session(self) -> None:
+        self.make()
+        status, out, errors = self.pipe(f"count\n%session u {' '.join(INTERPRETER)}\ncount\n%session t\ncount\n%session no\n", self.sheet, "t")
+        self.assertEqual((status, out), (1, "0\n0\n1\n"))
+        self.assertIn("there is no session no", errors)
+        self.assertEqual([field.session for field in self.fields()], ["t", "u", "t"])
+
+    def test_stop_and_interrupt(self) -> None:
+        self.make()
+        status, out, errors = self.pipe("count\n%interrupt\n%stop\n%stop\ncount\n", self.sheet, "t")
+        self.assertEqual((status, out), (0, "0\n0\n"))
+        self.assertIn("interrupt: idle", errors)
+        self.assertIn("has ended: Stopped", errors)
+        self.assertIn("no interpreter runs", errors)
+
+    def test_what_is_no_command(self) -> None:
+        """It goes to the interpreter."""
+        self.make()
+        self.assertEqual(self.pipe("%1\n%lists\n %list\n%list\\\nx\n%\n", self.sheet, "t"), (0, "%1\n%lists\n %list\n%list\nx\n%\n", ""))
+
+    def test_mistakes(self) -> None:
+        self.make(False, "a")
+        status, out, errors = self.pipe("%list 1\n%from\n%from 7\n%from x\n%remove -1\n%remove\n%session\n%quit\nb\n", self.sheet, "t")
+        self.assertEqual((status, out, errors.count("\n")), (1, "", 7))
+        self.assertEqual(self.pairs(), [("a", None)])
+
+
+class Interrupts(Case):
+    def start(self) -> "subprocess.Popen[bytes]":
+        self.make()
+        return subprocess.Popen(
+            [sys.executable, COMMAND, self.sheet, "t"], stdin=subprocess.PIPE, stdout=subprocess.PIPE, stderr=subprocess.PIPE, env=environment(),
+            preexec_fn=heed_control_c,
+        )
+
+    def test_an_interrupt_keeps_the_variables(self) -> None:
+        with self.start() as command:
+            assert command.stdin and command.stdout
+            command.stdin.write(b"a\nloop\ncount\n")
+            command.stdin.flush()
+            self.assertEqual(command.stdout.readline(), b"a\n")
+            time.sleep(0.7)
+            command.send_signal(signal.SIGINT)
+            self.assertEqual([command.stdout.readline(), command.stdout.readline()], [b"interrupted\n", b"2\n"])
+            command.stdin.close()
+            self.assertEqual(command.wait(30), 0)
+
+    def test_a_second_one_stops(self) -> None:
+        with self.start() as command:
+            assert command.stdin and command.stdout and command.stderr
+            command.stdin.write(b"a\nstuck\ncount\n")
+            command.stdin.close()
+            self.assertEqual(command.stdout.readline(), b"a\n")
+            time.sleep(0.7)
+            command.send_signal(signal.SIGINT)
+            self.assertIn(b"interrupt: sent", command.stderr.readline())
+            command.send_signal(signal.SIGINT)
+            self.assertEqual((command.stdout.read(), command.wait(30)), (b"0\n", 1))
+        self.assertEqual([field.reason for field in self.fields()], [None, "Stopped", None])
+
+    def test_while_nothing_runs_it_ends(self) -> None:
+        with self.start() as command:
+            assert command.stdin and command.stdout
+            command.stdin.write(b"a\n")
+            command.stdin.flush()
+            self.assertEqual(command.stdout.readline(), b"a\n")
+            time.sleep(0.3)
+            command.send_signal(signal.SIGINT)
+            self.assertEqual(command.wait(30), 130)
+        self.assertEqual(self.pairs(), [("a", "a")])
+
+    def test_several_end_it(self) -> None:
+        """Also where the program doesn't reply: it is stopped here, so it is killed at the end."""
+        with self.start() as command:
+            assert command.stdin and command.stdout and command.stderr
+            command.stdin.write(b"a\n")
+            command.stdin.flush()
+            self.assertEqual(command.stdout.readline(), b"a\n")
+            program = program_of(command.pid)[0]
+            os.kill(program, signal.SIGSTOP)
+            command.stdin.write(b"b\n")
+            command.stdin.flush()
+            time.sleep(0.3)
+            for _ in range(4):
+                command.send_signal(signal.SIGINT)
+                time.sleep(0.1)
+            self.assertEqual(command.wait(30), 130)
+        self.assertEqual(self.pairs()[0], ("a", "a"))

@@ -1,0 +1,333 @@
+"""The command at a terminal: what is shown after what is typed."""
+import os
+import signal
+import termios
+import time
+
+from .support import INTERPRETER, LINE_END, Case, Terminal
+
+PASTE = "\x1b[200~{}\x1b[201~"
+
+
+class Lines(Case):
+    def test_the_prompt_of_the_interpreter(self) -> None:
+        """It takes the place of ours when it is told, and the banner stands in front of the first line."""
+        self.make()
+        terminal = self.terminal()
+        terminal.sees(r"\At>\Z")
+        terminal.send("hello\r")
+        terminal.sees(r"\ATester 1\.0\n1\] hello\nhello\nt>\Z")
+        terminal.send("say a\\nb\r")
+        terminal.sees(r"^hello\n2\] say a\\nb\na\nb\nt>\Z")
+        terminal.send("\x04")
+        self.assertEqual(terminal.ends(), 0)
+        self.assertEqual(self.pairs(), [("hello", "hello"), ("say a\\nb", "a\nb")])
+
+    def test_a_line_that_goes_on(self) -> None:
+        self.make()
+        terminal = self.terminal()
+        terminal.sees("t>")
+        terminal.send("one\\\r")
+        terminal.sees(r"^t> one\\\n..>\Z")
+        terminal.send("two\r")
+        terminal.sees(r"^1\] one\n   two\none\ntwo\nt>\Z")
+        self.assertEqual(terminal.screen.text().count("one"), 2)
+
+    def test_pasted_lines(self) -> None:
+        self.make()
+        terminal = self.terminal()
+        terminal.sees("t>")
+        terminal.send(PASTE.format("one\rtwo\r\r  three\r"))
+        terminal.send("\r")
+        terminal.sees(r"^1\] one\n   two\n\n     three\none\ntwo\n\n  three\nt>\Z")
+        terminal.send("\x04")
+        terminal.ends()
+        self.assertEqual(self.pairs(), [(f"one{LINE_END}two{LINE_END}{LINE_END}  three", "one\ntwo\n\n  three")])
+
+    def test_long_lines(self) -> None:
+        """One that takes several rows is written anew as well, and of one that just fills its row the prompt alone is told."""
+        self.make()
+        terminal = self.terminal(columns=20)
+        terminal.sees("t>")
+        terminal.send("x" * 30 + "\r")
+        terminal.sees(r"\ATester 1\.0\n1\] x{17}\nx{13}\nx{20}\nx{10}\nt>\Z")
+        terminal.send("y" * 17 + "\r")
+        terminal.sees(r"^t> y{17}\n+2\]\ny{17}\nt>\Z")
+
+    def test_a_terminal_that_steers_nothing(self) -> None:
+        self.make()
+        terminal = self.terminal(TERM="dumb")
+        terminal.sees("t>")
+        terminal.send("hello\r")
+        terminal.sees(r"hello\n+Tester 1\.0\n1\]\nhello\nt>")
+
+    def test_what_is_typed_early(self) -> None:
+        """It isn't shown while a line is evaluated, and is the next line then."""
+        self.make()
+        terminal = self.terminal()
+        terminal.sees("t>")
+        terminal.send("sleep 1\r")
+        terminal.sees("Tester")
+        time.sleep(0.3)
+        terminal.send("next\r")
+        time.sleep(0.2)
+        self.assertNotIn("next", terminal.screen.text())
+        terminal.sees(r"^1\] sleep 1\nslept\n2\] next\nnext\nt>\Z")
+
+    def test_hostile_outputs(self) -> None:
+        """Nothing of an output or of a prompt reaches the terminal as what steers it."""
+        self.make()
+        terminal = self.terminal()
+        terminal.sees("t>")
+        for text in ("\\x1b[2J\\x1b[31mred", "\\x9b2J", "\\u202eback", "\\x07\\r\\x08\\x0e", "\\x1b]0;title\\x07"):
+            terminal.send(f"say {text}\r")
+        shown = terminal.sees(r"\\x1b\]0;title\\x07\nt>\Z")
+        for text in (r"\x1b[2J\x1b[31mred", r"\x9b2J", r"\u202eback", r"\x07\x0d\x08\x0e"):
+            self.assertIn("\n" + text + "\n", shown)
+        self.assertTrue(shown.startswith("Tester 1.0\n1] say"))
+
+    def test_an_output_from_a_pipe(self) -> None:
+        """Lines that come from a pipe steer the terminal as little."""
+        self.make()
+        lines = os.path.join(self.folder, "lines")
+        with open(lines, "w", encoding="utf-8") as file:
+            file.write("say \\x9b2J\\u202ex\n")
+        terminal = self.terminal(self.sheet, "t", input=lines)
+        terminal.sees(r"\A\\x9b2J\\u202ex\Z")
+        self.assertEqual(terminal.ends(), 0)
+
+    def test_history(self) -> None:
+        """It has the inputs of this session, of earlier days too, and of no other one."""
+        self.make(False, "first", f"two{LINE_END}lines")
+        terminal = self.terminal()
+        terminal.sees("t>")
+        terminal.send("third\r")
+        terminal.sees(r"^third\nt>\Z")
+        terminal.send("\x1b[A")
+        terminal.sees(r"^t> third\Z")
+        terminal.send("\x1b[A")
+        terminal.sees(r"^t> two\nlines\Z")
+        terminal.send("\x1b[A")
+        terminal.sees(r"^t> first\Z")
+        terminal.send(" again\r")
+        terminal.sees(r"^2\] first again\nfirst again\nt>\Z")
+        terminal.send(f"%session u {' '.join(INTERPRETER)}\r")
+        terminal.sees(r"^u>\Z")
+        terminal.send("\x1b[Anew\r")
+        terminal.sees(r"^1\] new\nnew\nu>\Z")
+
+    def test_a_lost_answer(self) -> None:
+        self.make()
+        terminal = self.terminal()
+        terminal.sees("t>")
+        terminal.send("die\r")
+        terminal.sees(r"\(the interpreter of t has ended: Ended; its variables are gone\)\n\(lost: #1 \(Ended\)\)\nt>\Z")
+        terminal.send("count\r")
+        terminal.sees(r"^1\] count\n0\nt>\Z")
+        terminal.send("%quit\r")
+        self.assertEqual(terminal.ends(), 0)
+
+    def test_eval_all(self) -> None:
+        self.make(False, "count", f"a{LINE_END}b")
+        terminal = self.terminal()
+        terminal.sees("t>")
+        terminal.send("%eval-all\r")
+        terminal.sees(r"^#1 t\nTester 1\.0\n1\] count\n0\n#2 t\n2\] a\n   b\na\nb\nt>\Z")
+        terminal.send("%list\r%remove 1\r%list\r")
+        terminal.sees(r"(?s)^#1 t\n1\] count\n0\n#2 t.*%remove 1\n.*%list\n#2 t\n2\] a\n   b\na\nb\nt>\Z")
+
+
+class Control(Case):
+    def test_control_c_at_the_prompt(self) -> None:
+        """It gives the line up."""
+        self.make()
+        terminal = self.terminal()
+        terminal.sees("t>")
+        terminal.send("never")
+        terminal.sees(r"^t> never\Z")
+        terminal.send("\x03")
+        terminal.sees(r"never.*\nt>\Z")
+        terminal.send("one\\\rtwo")
+        terminal.sees(r"two\Z")
+        terminal.send("\x03")
+        terminal.sees(r"two.*\nt>\Z")
+        terminal.send("ever\r")
+        terminal.sees(r"^ever\nt>\Z")
+        terminal.send("\x04")
+        terminal.ends()
+        self.assertEqual(self.pairs(), [("ever", "ever")])
+
+    def test_interrupt(self) -> None:
+        self.make()
+        terminal = self.terminal()
+        terminal.sees("t>")
+        for number in (1, 2):
+            terminal.send("loop\r")
+            terminal.sees("Tester" if number == 1 else r"interrupted\n")
+            time.sleep(0.7)
+            terminal.send("\x03")
+            terminal.sees(rf"interrupt: sent.*\n{number}\]\ninterrupted\nt>\Z")
+        terminal.send("count\r")
+        terminal.sees(r"^3\] count\n2\nt>\Z")
+
+    def stuck(self) -> Terminal:
+        self.make()
+        terminal = self.terminal()
+        terminal.sees("t>")
+        terminal.send("stuck 3\r")
+        terminal.sees("Tester")
+        time.sleep(0.7)
+        terminal.send("\x03")
+        terminal.sees("interrupt: sent")
+        terminal.send("what is typed before it is no answer\x03")
+        terminal.sees(r"Stop the interpreter of t\?.*\Z")
+        return terminal
+
+    def test_a_second_one_asks_to_stop(self) -> None:
+        terminal = self.stuck()
+        terminal.send("y\r")
+        terminal.sees(r"lost: #1 \(Stopped\)\)\nt>\Z")
+
+    def test_a_third_one_stops(self) -> None:
+        terminal = self.stuck()
+        terminal.send("\x03")
+        terminal.sees(r"lost: #1 \(Stopped\)\)\nt>\Z")
+
+    def test_no_stop(self) -> None:
+        terminal = self.stuck()
+        terminal.send("n\r")
+        terminal.sees(r"^1\]\nslept\nt>\Z")
+
+    def test_left_running(self) -> None:
+        """Its answer is shown when the next prompt is, and it can be stopped meanwhile."""
+        terminal = self.stuck()
+        terminal.send("l\r")
+        terminal.sees(r"runs on.*\nt>\Z")
+        terminal.send("%sessions\r")
+        terminal.sees(r"running, 1 waiting\)\nt>\Z")
+        terminal.send("%interrupt\r")
+        terminal.sees(r"interrupt: sent\)\nt>\Z")
+        terminal.send("count\r")
+        terminal.sees(r"the answer of #1:\)\n1\]\nslept\n2\]\n1\nt>\Z")
+        terminal.send("stuck\r")
+        time.sleep(0.7)
+        terminal.send("\x03")
+        terminal.sees(r"(?s)slept.*interrupt: sent")
+        terminal.send("\x03")
+        terminal.sees(r"(?s)slept.*Stop the.*:\Z")
+        terminal.send("l\r")
+        terminal.sees(r"#3 runs on.*\nt>\Z")
+        terminal.send("\x04")
+        terminal.sees(r"1 still waiting.*\Z")
+        terminal.send("n\r")
+        terminal.sees(r"\nt>\Z")
+        terminal.send("%stop\r")
+        terminal.sees(r"lost: #3 \(Stopped\)\)\nt>\Z")
+
+
+    def test_a_signal_that_ends_it(self) -> None:
+        """The terminal is left as it was."""
+        self.make()
+        terminal = self.terminal()
+        terminal.sees("t>")
+        terminal.send("stuck\r")
+        terminal.sees("Tester")
+        time.sleep(0.5)
+        self.assertFalse(termios.tcgetattr(terminal.end)[3] & termios.ECHO)
+        os.kill(terminal.pid, signal.SIGTERM)
+        self.assertEqual(terminal.ends(), 128 + signal.SIGTERM)
+        self.assertTrue(termios.tcgetattr(terminal.end)[3] & termios.ECHO)
+        self.assertEqual([field.state for field in self.fields()], ["empty"])
+
+
+class Completions(Case):
+    def test_one_completion(self) -> None:
+        self.make(True)
+        terminal = self.terminal()
+        terminal.sees("t>")
+        terminal.send("lo\t")
+        terminal.sees(r"^t> loop\Z")
+        terminal.send("\x15say \u00e9 sl\t")
+        terminal.sees(r"^t> say \u00e9 sleep\Z")
+        terminal.send("\r")
+        terminal.sees(r"\] say \u00e9 sleep\n\u00e9 sleep\nt>\Z")
+        terminal.send("\x04")
+        terminal.ends()
+        self.assertEqual(self.pairs(), [("say \u00e9 sleep", "\u00e9 sleep")])
+
+    def test_within_a_line_and_in_a_second_one(self) -> None:
+        self.make(True)
+        terminal = self.terminal()
+        terminal.sees("t>")
+        terminal.send("fo end\x01\x1b[C\x1b[C\t")
+        terminal.sees(r"^t> formula end\Z")
+        terminal.send("\x05\\\rdi\t")
+        terminal.sees(r"^..> die\Z")
+        terminal.send(" not\r")
+        terminal.sees(r"^1\] formula end\n   die not\n\{latex:\$x\$\}\nt>\Z")
+
+    def test_several_completions(self) -> None:
+        self.make(True)
+        terminal = self.terminal()
+        terminal.sees("t>")
+        terminal.send("s\t\t")
+        terminal.sees(r"^say  sleep  stuck\nt> s\Z")
+        terminal.send("l\t 0\r")
+        terminal.sees(r"\] sleep 0\nslept\nt>\Z")
+
+    def test_a_line_that_is_given_up(self) -> None:
+        """Its cell goes."""
+        self.make(True)
+        terminal = self.terminal()
+        terminal.sees("t>")
+        for end in ("\x03", "\x15%list\r", "\x15\x04"):
+            terminal.send("lo\t")
+            terminal.sees(r"^t> loop\Z")
+            time.sleep(0.2)  # Python's readline may miss a signal that comes before it waits again
+            terminal.send(end)
+            if end != "\x15\x04":
+                self.assertNotIn("#", terminal.sees(r"\nt>\Z"))
+        self.assertEqual(terminal.ends(), 0)
+        self.assertEqual(self.pairs(), [])
+
+    def test_commands(self) -> None:
+        self.make(False)
+        terminal = self.terminal()
+        terminal.sees("t>")
+        terminal.send("%ses\ts\t")
+        terminal.sees(r"^t> %sessions\Z")
+        terminal.send("\r")
+        terminal.sees(r"not running\)\nt>\Z")
+
+    def test_a_session_without(self) -> None:
+        self.make(False)
+        terminal = self.terminal()
+        terminal.sees("t>")
+        terminal.send("\tlo\t\top\b\b")
+        terminal.sees(r"^t> lo\Z")
+        terminal.send("\x15\x04")
+        terminal.ends()
+        self.assertEqual(self.pairs(), [])
+
+
+class Opening(Case):
+    def test_a_new_worksheet(self) -> None:
+        terminal = self.terminal(self.sheet, "t", *INTERPRETER)
+        terminal.sees("There is no worksheet.*Make it")
+        terminal.send("n\r")
+        self.assertEqual(terminal.ends(), 2)
+        self.assertFalse(os.path.exists(self.sheet))
+        terminal = self.terminal(self.sheet, "t", *INTERPRETER)
+        terminal.sees("Make it")
+        terminal.send("y\r")
+        terminal.sees("t>")
+        terminal.send("hello\r")
+        terminal.sees(r"^hello\nt>\Z")
+        terminal.send("\x04")
+        self.assertEqual(terminal.ends(), 0)
+        self.assertEqual(self.pairs(), [("hello", "hello")])
+
+    def test_answers_that_are_there(self) -> None:
+        self.make()
+        self.pipe("a\nb\n", self.sheet, "t")
+        self.terminal().sees(r"\A\(2 answers are there, but not their variables.*\)\nt>\Z")

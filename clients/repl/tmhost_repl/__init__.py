@@ -1,0 +1,1 @@
+"""A worksheet of tmhost at a terminal, or in a pipe."""

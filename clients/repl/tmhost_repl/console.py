@@ -1,0 +1,206 @@
+"""Where the program shows and asks: a terminal, or a pipe."""
+
+import os
+import sys
+import termios
+from typing import Optional
+
+from tmhost import Answer, Field
+
+from .texts import harmless, rows, under
+
+
+class Console:
+    """Both show answers and fields; what else is to be said is a note. `failed` says that an answer was lost, or a line refused."""
+
+    is_terminal = False
+
+    def __init__(self) -> None:
+        self.failed = False
+
+    def show(self, text: str) -> None:
+        raise NotImplementedError
+
+    def note(self, text: str) -> None:
+        raise NotImplementedError
+
+    def banner(self, text: str) -> None:
+        """An interpreter greets."""
+
+    def answer(self, input: str, answer: Answer) -> None:
+        """The answer to the line that was read last."""
+        raise NotImplementedError
+
+    def evaluating(self, field: Field) -> None:
+        """A field of the worksheet is evaluated next, as if its line had been read."""
+
+    def choose(self, question: str, keys: str) -> Optional[str]:
+        """Which of the keys the user gives; None where nobody can be asked."""
+        return None
+
+    def close(self) -> None:
+        """Nothing more is shown."""
+
+    def fail(self, text: str) -> None:
+        """A line was refused, or its answer lost."""
+        self.failed = True
+        self.note(text)
+
+    def field(self, field: Field) -> None:
+        """A field with all that it has."""
+        self.show(f"#{field.id} {field.session}")
+        prompt = field.answer.prompt if field.answer else "> "
+        self.show(under(harmless(prompt), harmless(field.input)))
+        if field.answer:
+            self.show(harmless(field.answer.text))
+        else:
+            self.unanswered(field)
+
+    def unanswered(self, field: Field) -> None:
+        """What there is of a field in place of an answer."""
+        self.show(f"? {field.reason}" if field.reason else "?")
+
+
+class Pipe(Console):
+    """Answers go to standard output byte for byte, where it is no terminal, and notes to standard error."""
+
+    def show(self, text: str) -> None:
+        self._write(text.encode("utf-8", "backslashreplace"))
+
+    def answer(self, input: str, answer: Answer) -> None:
+        self._write(harmless(answer.text).encode("utf-8") if sys.stdout.isatty() else answer.shown_bytes)
+
+    def _write(self, text: bytes) -> None:
+        if text:
+            sys.stdout.buffer.write(text if text.endswith(b"\n") else text + b"\n")
+            sys.stdout.buffer.flush()
+
+    def note(self, text: str) -> None:
+        print(f"tmhost-repl: {harmless(text)}", file=sys.stderr, flush=True)
+
+
+class Typed:
+    """A line that was typed in, with its prompt, and the rows that it takes where they are known."""
+
+    def __init__(self, text: str, size: os.terminal_size) -> None:
+        self.text, self.size = text, size
+        self.rows = rows(text, size.columns)
+
+
+class Terminal(Console):
+    """The prompt of an interpreter is told with the answer, so it takes the place of ours then: the line that was typed in is written anew,
+    where it is sure which rows of the screen it has."""
+
+    is_terminal = True
+
+    def __init__(self) -> None:
+        super().__init__()
+        self._typed: Optional[Typed] = None
+        self._modes = termios.tcgetattr(0)
+        self._can_steer = os.environ.get("TERM", "dumb") != "dumb"
+        self._has_style = self._can_steer and not os.environ.get("NO_COLOR")
+        self._echo(False)
+
+    def read(self, prompt: str) -> str:
+        """What the user types, up to Enter."""
+        text = self._ask(prompt)
+        self.took(prompt + text)
+        return text
+
+    def took(self, text: str) -> None:
+        before = self._typed.text + "\n" if self._typed else ""
+        self._typed = Typed(before + text, self._size())
+
+    def begin(self) -> None:
+        """The next line that is read is a new one."""
+        self._typed = None
+
+    def evaluating(self, field: Field) -> None:
+        self.show(f"#{field.id} {field.session}")
+        text = under("> ", harmless(field.input))
+        self._print(text + "\n")
+        self.took(text)
+
+    def show(self, text: str) -> None:
+        if text:
+            self._typed = None
+            self._print(text if text.endswith("\n") else text + "\n")
+
+    def note(self, text: str) -> None:
+        self._typed = None
+        self._print(self._styled(f"({harmless(text)})", 2) + "\n")
+
+    def unanswered(self, field: Field) -> None:
+        """In the form of a note, which no output has."""
+        self.note({"lost": f"lost: {field.reason}", "waiting": "waits for its answer"}.get(field.state, "no answer"))
+
+    def banner(self, text: str) -> None:
+        """It stands in front of the line that started the interpreter."""
+        typed = self._typed
+        if not text.strip():
+            return
+        is_off = self._take_off()
+        self.show(harmless(text))
+        if typed and is_off:
+            self._print(typed.text + "\n")
+            self._typed = typed
+
+    def answer(self, input: str, answer: Answer) -> None:
+        prompt = harmless(answer.prompt)
+        self.show(self._styled(under(prompt, harmless(input)) if self._take_off() else prompt.rstrip(), 1) if prompt.strip() else "")
+        self.show(harmless(answer.text))
+
+    def choose(self, question: str, keys: str) -> Optional[str]:
+        self._typed = None
+        termios.tcflush(0, termios.TCIFLUSH)  # what was typed before the question isn't its answer
+        while True:
+            told = self._ask(question + " ").strip().lower()[:1]
+            if told and told in keys:
+                return told
+
+    def close(self) -> None:
+        self._echo(True)
+
+    def _ask(self, prompt: str) -> str:
+        """What is typed while nothing is asked isn't echoed, since it would stand among answers: it is shown where it is asked for."""
+        self._echo(True)
+        try:
+            return input(prompt)
+        finally:
+            self._echo(False)
+
+    def _echo(self, is_on: bool) -> None:
+        modes = list(self._modes)
+        modes[3] = modes[3] if is_on else modes[3] & ~termios.ECHO
+        termios.tcsetattr(0, termios.TCSADRAIN, modes)
+
+    def _take_off(self) -> bool:
+        """Takes the line that was typed in off the screen, where its rows are known, and all of them are on it."""
+        typed, self._typed = self._typed, None
+        size = self._size()
+        if not self._can_steer or not typed or typed.rows is None or typed.size != size or typed.rows >= size.lines:
+            return False
+        self._print(f"\x1b[{typed.rows}A\r\x1b[J")
+        return True
+
+    def _size(self) -> os.terminal_size:
+        size = os.get_terminal_size(1)
+        return size if size.columns and size.lines else os.terminal_size((80, 24))
+
+    def _styled(self, text: str, style: int) -> str:
+        return f"\x1b[{style}m{text}\x1b[0m" if self._has_style else text
+
+    def _print(self, text: str) -> None:
+        sys.stdout.write(text)
+        sys.stdout.flush()
+
+
+def new_console() -> Console:
+    """A terminal where both ends are one."""
+    for stream in (sys.stdout, sys.stderr):
+        reconfigure = getattr(stream, "reconfigure", None)
+        if reconfigure:
+            reconfigure(errors="backslashreplace")
+    return Terminal() if sys.stdin.isatty() and sys.stdout.isatty() else Pipe()
+
+

@@ -1,0 +1,178 @@
+"""Lines that are evaluated one at a time: what happens until the answer is there, and control-C meanwhile."""
+
+import collections
+import contextlib
+import enum
+import queue
+import signal
+import time
+from types import FrameType
+from typing import Counter, Deque, Iterator, Optional, Tuple, Union
+
+from tmhost import Answered, Banner, Cell, Closed, Done, Ended, Event, Finished, LostItem, Stopped, Worksheet
+
+from .console import Console
+
+AGAIN = 2.0  # seconds in which a second control-C asks to stop the interpreter
+ENOUGH = 4  # so many in this time end the program, which may be waiting for one that doesn't reply
+
+
+class Outcome(enum.Enum):
+    ANSWERED = "answered"
+    LOST = "lost"
+    LEFT = "left running"
+
+
+class Interrupt:
+    """Control-C was typed."""
+
+
+@contextlib.contextmanager
+def control_c_raises() -> Iterator[None]:
+    """While the user is asked for something, control-C is a KeyboardInterrupt. Where it is ignored, as behind `&`, it stays so."""
+    before = signal.getsignal(signal.SIGINT)
+    if before is not signal.SIG_IGN:
+        signal.signal(signal.SIGINT, signal.default_int_handler)
+    try:
+        yield
+    finally:
+        signal.signal(signal.SIGINT, before)
+
+
+class Evaluator:
+    """Takes what the worksheet tells, in its order, and shows it. An answer is on the disk when it is told."""
+
+    def __init__(self, worksheet: Worksheet, console: Console) -> None:
+        self.worksheet, self.console = worksheet, console
+        self.was_interrupted = False  # the line that was evaluated last
+        self._happenings: "queue.SimpleQueue[Union[Event, Interrupt]]" = queue.SimpleQueue()
+        # How many ends of evaluations are to be told of each cell. An event may come late, when the cell is evaluated again already.
+        self._owed: Counter[int] = collections.Counter()
+        self._interrupted_at = float("-inf")
+        self._typed: Deque[float] = collections.deque(maxlen=ENOUGH)  # when control-C was
+        worksheet.listen(self._happenings.put)
+
+    @contextlib.contextmanager
+    def control_c(self) -> Iterator[None]:
+        """Control-C is a happening here, and ends no call in the middle."""
+        before = signal.getsignal(signal.SIGINT)
+        if before is not signal.SIG_IGN:
+            signal.signal(signal.SIGINT, self._control_c)
+        try:
+            yield
+        finally:
+            signal.signal(signal.SIGINT, before)
+
+    def _control_c(self, number: int, frame: Optional[FrameType]) -> None:
+        self._typed.append(time.monotonic())
+        if len(self._typed) == ENOUGH and self._typed[-1] - self._typed[0] < AGAIN:
+            raise KeyboardInterrupt
+        self._happenings.put(Interrupt())
+
+    def evaluate(self, cell: Cell) -> Outcome:
+        """Evaluates a cell and shows its answer, which stands below the line that was read last."""
+        self.was_interrupted, self._interrupted_at = False, float("-inf")
+        cell.eval()
+        self._owed[cell.id] += 1
+        while True:
+            outcome = self._awaited(cell, self._happenings.get())
+            if outcome:
+                return outcome
+
+    def tell_all(self) -> None:
+        """Shows what has happened since."""
+        with contextlib.suppress(queue.Empty):
+            while True:
+                happening = self._happenings.get_nowait()
+                if not isinstance(happening, Interrupt):
+                    self._tell(happening)
+
+    def stop(self, session: str) -> None:
+        """Ends the interpreter of a session, and shows what that lost."""
+        self.worksheet.stop(session)
+        while True:
+            happening = self._happenings.get()
+            if isinstance(happening, Interrupt):
+                continue
+            self._tell(happening)
+            # One that has just ended by itself gives Done.
+            if isinstance(happening, Done) and happening.command != "stop":
+                continue
+            if isinstance(happening, (Stopped, Done)) and happening.session == session:
+                return
+
+    def _awaited(self, cell: Cell, happening: Union[Event, Interrupt]) -> Optional[Outcome]:
+        if isinstance(happening, Interrupt):
+            return self._interrupt(cell)
+        if self._owed[cell.id] == 1:
+            if isinstance(happening, Answered) and happening.id == cell.id:
+                self._owed[cell.id] = 0
+                self.console.answer(cell.input, happening.answer)
+                return Outcome.ANSWERED
+            if isinstance(happening, (Ended, Stopped)) and cell.id in lines_of(happening.lost):
+                self._tell(happening)
+                return Outcome.LOST
+        self._tell(happening)
+        return None
+
+    def _tell(self, event: Event) -> None:
+        if isinstance(event, Banner):
+            self.console.banner(text_of(event))
+        elif isinstance(event, Answered):
+            self._owed[event.id] -= 1
+            self.console.note(f"the answer of #{event.id}:")
+            self.console.answer("", event.answer)
+        elif isinstance(event, (Ended, Stopped)):
+            self._tell_end(event)
+        elif isinstance(event, Finished):
+            raise event.error or Closed()
+
+    def _tell_end(self, event: Union[Ended, Stopped]) -> None:
+        reason = event.reason if isinstance(event, Ended) else "Stopped"
+        ids = lines_of(event.lost)
+        for id in ids:
+            self._owed[id] -= 1
+        self.console.note(f"the interpreter of {event.session} has ended: {reason}; its variables are gone")
+        if ids:
+            self.console.fail("lost: " + ", ".join(f"#{id}" for id in ids) + f" ({reason})")
+
+    # ---- control-C
+
+    def _interrupt(self, cell: Cell) -> Optional[Outcome]:
+        """The first interrupts, and a second one soon behind it asks to stop."""
+        self.was_interrupted = True
+        is_again = time.monotonic() - self._interrupted_at < AGAIN
+        self._interrupted_at = time.monotonic()
+        if not is_again:
+            outcome = self.worksheet.interrupt(cell.session)
+            hint = "; once more to stop its interpreter" if outcome == "sent" else ""
+            self.console.note(f"interrupt: {outcome}{hint}")
+            return None
+        self._interrupted_at = float("-inf")
+        choice = self._choice(cell.session)
+        if choice == "l":
+            self.console.note(f"#{cell.id} runs on; its answer is shown when it is there")
+            return Outcome.LEFT
+        if choice == "y" and cell.state == "waiting":
+            self.worksheet.stop(cell.session)
+        return None
+
+    def _choice(self, session: str) -> str:
+        """Where nobody can be asked, the second control-C is the answer, and so is a third one."""
+        question = f"Stop the interpreter of {session}? Its variables go. [y]es, [n]o, [l]eave it running:"
+        try:
+            with control_c_raises():
+                return self.console.choose(question, "ynl") or "y"
+        except KeyboardInterrupt:
+            return "y"
+        except EOFError:
+            return "n"
+
+
+def text_of(banner: Banner) -> str:
+    return banner.text if isinstance(banner.text, str) else banner.text.decode("utf-8", "backslashreplace")
+
+
+def lines_of(lost: Tuple[LostItem, ...]) -> "list[int]":
+    """The cells whose lines are lost; requests of completions aren't lines."""
+    return [item.id for item in lost if item.cursor is None]

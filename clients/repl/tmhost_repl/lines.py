@@ -1,0 +1,119 @@
+"""The lines that are to be evaluated, from a terminal or from a pipe. A line that ends in a backslash goes on with the next one."""
+
+import readline
+import sys
+from typing import Optional, Sequence
+
+from tmhost import Worksheet
+
+from .completion import Completer, Draft
+from .console import Console, Terminal
+from .evaluation import Evaluator, control_c_raises
+from .texts import LINE_END
+
+
+class Lines:
+    """One text after another, of one or more lines; None is the end."""
+
+    def __init__(self, console: Console) -> None:
+        self.console = console
+
+    def know(self, words: Sequence[str]) -> None:
+        """These words are for the program itself."""
+
+    def enter(self, session: str) -> None:
+        """From now on the lines are for this session."""
+
+    def next(self) -> Optional[str]:
+        """The next text that isn't empty."""
+        while True:
+            parts = []
+            line = self.read("")
+            while line is not None and line.endswith("\\"):
+                parts.append(line[:-1])
+                line = self.read("\n".join(parts) + "\n")
+            if line or (line is not None and not parts):
+                parts.append(line)
+            text = "\n".join(parts)
+            if text or line is None:
+                return text or None
+
+    def read(self, prefix: str) -> Optional[str]:
+        """A line, without what ends it; `prefix` are those before it that belong to it."""
+        raise NotImplementedError
+
+
+class PipeLines(Lines):
+    def read(self, prefix: str) -> Optional[str]:
+        while True:
+            with control_c_raises():
+                line = sys.stdin.buffer.readline()
+            if not line:
+                return None
+            line = line[:-1] if line.endswith(b"\n") else line
+            line = line[:-1] if line.endswith(b"\r") else line
+            try:
+                return line.decode("utf-8")
+            except UnicodeDecodeError:
+                self.console.fail("refused: a line that isn't UTF-8")
+
+
+class TerminalLines(Lines):
+    """Lines by readline, with the inputs of the session as their history. What is pasted is one text, also with several lines."""
+
+    def __init__(self, console: Terminal, worksheet: Worksheet, evaluator: Evaluator, draft: Draft) -> None:
+        super().__init__(console)
+        self.terminal, self.worksheet, self.draft = console, worksheet, draft
+        self.session = ""
+        readline.set_auto_history(False)
+        readline.parse_and_bind("set enable-bracketed-paste on")
+        self.completer = Completer(worksheet, evaluator, draft)
+
+    def know(self, words: Sequence[str]) -> None:
+        self.completer.commands = words
+
+    def enter(self, session: str) -> None:
+        self.session = self.completer.session = session
+        readline.clear_history()
+        for field in self.worksheet.fields:
+            if field.session == session:
+                self.remember(field.input.replace(LINE_END, "\n"))
+
+    def remember(self, text: str) -> None:
+        """Puts a text at the end of the history, where it isn't there already."""
+        last = readline.get_current_history_length()
+        if text and (not last or readline.get_history_item(last) != text):
+            try:
+                readline.add_history(text)
+            except UnicodeError:  # the locale has no such character
+                pass
+
+    def next(self) -> Optional[str]:
+        while True:
+            try:
+                self.terminal.begin()
+                text = super().next()
+            except KeyboardInterrupt:
+                self.draft.give_up()
+                print()
+                continue
+            if text is not None:
+                self.remember(text)
+            return text
+
+    def read(self, prefix: str) -> Optional[str]:
+        name = f"{self.session}> "
+        prompt = "..> ".rjust(len(name)) if prefix else name
+        self.completer.prefix, self.completer.prompt = prefix, prompt
+        while True:
+            self.completer.is_on = True
+            try:
+                with control_c_raises():
+                    return self.terminal.read(prompt).rstrip("\n")
+            except EOFError:
+                print()
+                return None
+            except UnicodeDecodeError:
+                self.console.note("refused: a line that isn't UTF-8")
+            finally:
+                self.completer.is_on = False

@@ -1,0 +1,154 @@
+"""The program: its words, the worksheet that it opens, and its lines one after another."""
+
+import argparse
+import os
+import signal
+import sys
+from types import FrameType
+from typing import List, Optional
+
+from tmhost import BadLine, Refused, TmhostError, Worksheet
+
+from .commands import Commands, Mistake, ensure, explained
+from .completion import Draft
+from .console import Console, Terminal, new_console
+from .evaluation import Evaluator, control_c_raises
+from .lines import Lines, PipeLines, TerminalLines
+
+LOST, BAD_WORDS, INTERRUPTED = 1, 2, 130
+
+
+def options(words: List[str]) -> argparse.Namespace:
+    parser = argparse.ArgumentParser(
+        prog="tmhost-repl",
+        description="A worksheet at a terminal: each line is a field at its end, and its answer is shown when it is on the disk.",
+        epilog="The program is the one that TMHOST names, or tmhost on PATH. In a pipe the status is 1 where an answer was lost. %help, as "
+        "a line, tells what else can be done.",
+    )
+    parser.add_argument("--create", action="store_true", help="make the worksheet where it isn't there, without a question")
+    parser.add_argument("--tab", action="store_true", help="the session that WORDS make answers completions at TAB")
+    parser.add_argument("sheet", metavar="SHEET", help="the file of the worksheet")
+    parser.add_argument("session", metavar="SESSION", help="the session that the lines go to")
+    parser.add_argument("words", metavar="WORDS", nargs=argparse.REMAINDER, help="what starts its interpreter, where the session is new")
+    return parser.parse_args(words)
+
+
+def opened(given: argparse.Namespace, console: Console) -> Worksheet:
+    """The worksheet, made where it isn't there and is wanted."""
+    if not given.create and not os.path.lexists(given.sheet):
+        if not console.is_terminal:
+            raise Mistake(f"there is no worksheet {given.sheet}: --create makes it")
+        if console.choose(f"There is no worksheet {given.sheet}. Make it? [y]es, [n]o:", "yn") != "y":
+            raise Mistake("no worksheet was made")
+    return Worksheet(given.sheet, create=True)
+
+
+def begin(given: argparse.Namespace, worksheet: Worksheet) -> None:
+    """Makes the session, where it isn't there."""
+    if given.words:
+        ensure(worksheet, given.session, given.words, given.tab)
+    elif given.session not in worksheet.sessions:
+        there = ", ".join(worksheet.sessions) or "none"
+        raise Mistake(f"there is no session {given.session}: name the words of its interpreter, too (there are: {there})")
+
+
+class Repl:
+    def __init__(self, worksheet: Worksheet, console: Console) -> None:
+        self.worksheet, self.console = worksheet, console
+        self.evaluator = Evaluator(worksheet, console)
+        self.draft = Draft(worksheet)
+        self.lines: Lines = PipeLines(console)
+        if isinstance(console, Terminal):
+            self.lines = TerminalLines(console, worksheet, self.evaluator, self.draft)
+        self.commands = Commands(worksheet, console, self.evaluator, self.lines)
+        self.lines.know(self.commands.words)
+
+    def run(self, session: str) -> None:
+        self.commands.enter(session)
+        answered = sum(field.session == session and field.answer is not None for field in self.worksheet.fields)
+        if self.console.is_terminal and answered:
+            self.console.note(f"{answered} answers are there, but not their variables: %eval-all evaluates all again")
+        while not self.commands.is_over:
+            self.evaluator.tell_all()
+            text = self.lines.next()
+            if text is None:
+                self.commands.is_over = True
+            else:
+                self.take(text)
+            self.commands.is_over = self.commands.is_over and self.may_end()
+        self.evaluator.tell_all()
+        self.draft.give_up()
+
+    def take(self, text: str) -> None:
+        try:
+            if self.commands.has(text):
+                self.draft.give_up()
+                self.commands.do(text)
+            else:
+                self.evaluator.evaluate(self.draft.take(self.commands.session, text))
+        except (Refused, BadLine) as refused:
+            self.draft.give_up()
+            self.console.fail(explained(refused))
+        except Mistake as mistake:
+            self.console.fail(str(mistake))
+
+    def may_end(self) -> bool:
+        """Lines that were left running lose their answers at the end."""
+        waiting = sum(field.state == "waiting" for field in self.worksheet.fields)
+        if not waiting or not self.console.is_terminal:
+            return True
+        try:
+            with control_c_raises():
+                return self.console.choose(f"{waiting} still waiting, to be lost at the end. End? [y]es, [n]o:", "yn") == "y"
+        except (EOFError, KeyboardInterrupt):
+            return True
+
+
+def work(given: argparse.Namespace, console: Console) -> int:
+    worksheet = opened(given, console)
+    try:
+        begin(given, worksheet)
+        repl = Repl(worksheet, console)
+        with repl.evaluator.control_c():
+            repl.run(given.session)
+    finally:
+        worksheet.close()
+    return LOST if console.failed and not console.is_terminal else 0
+
+
+def end_in_order(number: int, frame: Optional[FrameType]) -> None:
+    """A signal that ends the program leaves the terminal as it was, and lets the interpreters be stopped."""
+    sys.exit(128 + number)
+
+
+def main(words: List[str]) -> int:
+    given = options(words)
+    console = new_console()
+    for number in (signal.SIGTERM, signal.SIGHUP):
+        if signal.getsignal(number) is not signal.SIG_IGN:
+            signal.signal(number, end_in_order)
+    try:
+        return told(given, console)
+    finally:
+        console.close()
+
+
+def told(given: argparse.Namespace, console: Console) -> int:
+    """Does the work, and says why where it can't be done; gives the status."""
+    try:
+        return work(given, console)
+    except Mistake as mistake:
+        console.note(str(mistake))
+        return BAD_WORDS
+    except (Refused, BadLine) as refused:
+        console.note(explained(refused))
+        return BAD_WORDS
+    except (KeyboardInterrupt, EOFError):
+        console.note("ended")
+        return INTERRUPTED
+    except BrokenPipeError:  # nobody reads our output any more
+        os.dup2(os.open(os.devnull, os.O_WRONLY), sys.stdout.fileno())
+        return LOST
+    except (TmhostError, OSError) as error:
+        console.note(str(error))
+        return LOST
