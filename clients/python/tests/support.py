@@ -1,5 +1,6 @@
 """What the tests share: the program, a worksheet in a folder of its own, and an interpreter whose lines say what they are answered."""
 
+import contextlib
 import os
 import shutil
 import sys
@@ -13,7 +14,7 @@ PACKAGE = os.path.dirname(HERE)
 ROOT = os.path.dirname(os.path.dirname(PACKAGE))
 sys.path.insert(0, PACKAGE)
 
-from tmhost import Evaluation, InUse, LostItem, Worksheet  # noqa: E402
+from tmhost import Evaluation, InUse, LostItem, Refused, Worksheet  # noqa: E402
 
 BUILT = os.path.join(ROOT, "crates/tmhost/out/tmhost")
 PROGRAM = os.environ.get("TMHOST") or shutil.which("tmhost") or BUILT
@@ -89,7 +90,9 @@ class Case(unittest.TestCase):
         return [sys.executable, script], number
 
     def assert_exact(self, sheet: Worksheet) -> None:
-        """What the worksheet shows is what the program prints. No interpreter may be at something."""
+        """What the worksheet shows is what the program prints. Nothing may come of an interpreter meanwhile."""
+        with contextlib.suppress(Refused):
+            sheet.interrupt("nobody")  # behind its reply are those of the looks at lost lines
         held = self.shown(sheet)
         sheet.refresh()
         self.assertEqual(self.shown(sheet), held)

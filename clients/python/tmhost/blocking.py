@@ -96,8 +96,9 @@ class Worksheet:
     `create` makes it where there is no file. `program` is the program `tmhost`, or its words (else the one that TMHOST names, or that is on
     PATH). `timeout` is how many seconds the reply to a command may take: none of them is one that an interpreter works for.
 
-    What it shows (`cells`, `fields`, `sessions`) is held here, and asking for it sends nothing. It is exact behind each call and each event,
-    and stays as it was told last when the program dies.
+    What it shows (`cells`, `fields`, `sessions`) is held here, and asking for it sends nothing. It is exact behind each call and each event:
+    but that a lost line has a reason is a guess, mostly right, until it was looked up (the event `Done("print", id)` tells where it has
+    none). When the program dies it stays as it was told last.
     """
 
     def __init__(

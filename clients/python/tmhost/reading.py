@@ -166,13 +166,17 @@ def text(value: object) -> Text:
 
 
 def block(value: object) -> Block:
-    told = Members(value)
-    kind = told.one_of("kind", *KINDS)
-    return Block(told.text("tag"), kind, tuple(block(item) if is_block(item) else text(item) for item in told.list("items")))
+    """A block. An answer may have millions, so its members are looked at directly."""
+    if not isinstance(value, dict) or not {"items", "kind", "tag"} <= value.keys():
+        broken(f"{str(value)[:60]!r} where a block has to be")
+    tag, kind, items = value["tag"], value["kind"], value["items"]
+    if kind not in KINDS or not isinstance(items, list):
+        broken(f"a block of the kind {str(kind)[:60]!r}")
+    return Block(tag if isinstance(tag, str) else text(tag), kind, tuple([item if isinstance(item, str) else inner(item) for item in items]))
 
 
-def is_block(item: object) -> bool:
-    return isinstance(item, dict) and "kind" in item
+def inner(item: object) -> Union[str, bytes, Block]:
+    return block(item) if isinstance(item, dict) and "kind" in item else text(item)
 
 
 def answer(told: Members) -> Answer:

@@ -138,6 +138,11 @@ class Terminal:
     def send(self, text: Union[str, bytes]) -> None:
         os.write(self.end, text.encode() if isinstance(text, str) else text)
 
+    def gives_up(self) -> None:
+        """Sends control-C at the prompt. Python's readline may miss one that comes before it waits again."""
+        time.sleep(0.3)
+        self.send("\x03")
+
     def _listen(self, seconds: float) -> bool:
         if not select.select([self.end], [], [], seconds)[0]:
             return True

@@ -145,11 +145,11 @@ class Control(Case):
         terminal.sees("t>")
         terminal.send("never")
         terminal.sees(r"^t> never\Z")
-        terminal.send("\x03")
+        terminal.gives_up()
         terminal.sees(r"never.*\nt>\Z")
         terminal.send("one\\\rtwo")
         terminal.sees(r"two\Z")
-        terminal.send("\x03")
+        terminal.gives_up()
         terminal.sees(r"two.*\nt>\Z")
         terminal.send("ever\r")
         terminal.sees(r"^ever\nt>\Z")
@@ -283,8 +283,10 @@ class Completions(Case):
         for end in ("\x03", "\x15%list\r", "\x15\x04"):
             terminal.send("lo\t")
             terminal.sees(r"^t> loop\Z")
-            time.sleep(0.2)  # Python's readline may miss a signal that comes before it waits again
-            terminal.send(end)
+            if end == "\x03":
+                terminal.gives_up()
+            else:
+                terminal.send(end)
             if end != "\x15\x04":
                 self.assertNotIn("#", terminal.sees(r"\nt>\Z"))
         self.assertEqual(terminal.ends(), 0)
