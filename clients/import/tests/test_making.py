@@ -8,7 +8,7 @@ import signal
 import subprocess
 import time
 
-from .support import COMMAND, LINE_END, PROGRAM, ROOT, Case, Done, code, needs_program, notebook
+from .support import COMMAND, LINE_END, PROGRAM, ROOT, Case, Done, code, needs_nbformat, needs_program, notebook
 
 ECHO = f"sh {ROOT}/examples/echo.sh"
 # Programs that stand before tmhost, each a text for sh; `$REAL` is tmhost itself.
@@ -28,6 +28,7 @@ def random_sheet(rng: random.Random) -> list[tuple[str, str]]:
 
 
 @needs_program
+@needs_nbformat
 class Making(Case):
     def before(self, text: str) -> dict[str, str]:
         """The environment in which a program stands before tmhost."""
@@ -145,6 +146,7 @@ class Making(Case):
             self.assertFalse(glob.glob(self.path(".tmhost-import-*")))
 
 
+@needs_nbformat
 class Words(Case):
     def status(self, *words: str) -> Done:
         return self.do(*words, data=notebook(code("x")))
