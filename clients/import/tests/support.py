@@ -87,6 +87,6 @@ class Case(unittest.TestCase):
 
     def host(self, *words: str, data: str = "") -> str:
         """What the program writes."""
-        done = subprocess.run([PROGRAM, *words], input=data.encode("utf-8"), capture_output=True, cwd=self.folder, timeout=120)
+        done = subprocess.run([PROGRAM, *words], input=data.encode("utf-8"), capture_output=True, cwd=self.folder, timeout=300)
         self.assertEqual((done.returncode, done.stderr), (0, b""))
         return done.stdout.decode("utf-8")

@@ -140,7 +140,7 @@ class Making(Case):
             documents = [self.write(f"{name}.ipynb", notebook(*[code(name)] * 30)) for name in ("a", "b")]
             environment = {**os.environ, "TMHOST": PROGRAM}
             two = [subprocess.Popen([COMMAND, document, new], cwd=self.folder, env=environment, stderr=subprocess.DEVNULL) for document in documents]
-            statuses = [process.wait(120) for process in two]
+            statuses = [process.wait(300) for process in two]
             self.assertEqual(sorted(statuses), [0, 1])
             self.assertEqual(self.host("export", "script", new), self.do("--script", documents[statuses.index(0)]).out)
             self.assertFalse(glob.glob(self.path(".tmhost-import-*")))

@@ -129,7 +129,7 @@ class Kills(Case):
 
     def agree(self) -> None:
         """At the end the page shows what the file has."""
-        end = time.monotonic() + 30
+        end = time.monotonic() + 120
         while (page := self.tab.value(AS_SHOWN)) != (file := self.show()):
             if time.monotonic() > end:
                 self.assertEqual(page, file)
