@@ -133,9 +133,10 @@ class ThePage(Case):
         tab.size(1000, 2400)
         tab.until("document.querySelectorAll('.set').length", 2)
         tab.click("#cell-2 .number")
-        for opener in (None, "askSession", "showKeys", "showRemoved"):
+        for opener in (None, "askSession", "showKeys", "showRemoved", "showExport"):
             if opener:
                 tab.value(f"document.querySelector('[data-do={opener}]').click()")
+                tab.until("document.querySelector('dialog[open]') !== null")
             for scheme in ("light", "dark"):
                 tab.ask("Emulation.setEmulatedMedia", {"features": [{"name": "prefers-color-scheme", "value": scheme}]})
                 found = tab.value(CONTRAST)
@@ -357,6 +358,26 @@ class ThePage(Case):
         if "PICTURE" in os.environ:
             with open(os.environ["PICTURE"], "wb") as file:
                 file.write(picture)
+
+    def test_undo_and_find(self) -> None:
+        """The browser's own: a text that is saved already is undone in its cell, and saved again; inputs and outputs are found."""
+        self.begin()
+        for number in range(60):
+            self.page.call("new", session="s", text=f"say needle{number}", after=number)
+        self.page.call("eval_from", id=None)
+        self.page.until_idle()
+        tab = opened(self.browser, self.server)
+        text, says = (f"document.querySelector('#cell-1 {place}" for place in ("textarea').value", ".text-state').textContent"))
+        tab.click("#cell-1 .number")
+        tab.key("Enter")
+        tab.type(" more")
+        tab.until(says, "saved")
+        self.assertIn("> say needle0 more\n", self.show())
+        tab.ask("Input.dispatchKeyEvent", {"type": "keyDown", "key": "z", "modifiers": 2, "commands": ["undo"]})
+        tab.until(text, "say needle0")
+        tab.until(says, "saved")
+        self.assertIn("> say needle0\n", self.show())
+        self.assertEqual(tab.value("[window.find('needle45'), document.activeElement.closest('.cell')?.id]"), [True, "cell-46"])
 
     def test_paper(self) -> None:
         """In print there are cells alone."""
