@@ -24,7 +24,8 @@ install: all
 	install -Dm 644 $(PAGES)/tmhost.fish $(SHARE)/fish/vendor_completions.d/tmhost.fish
 	install -d $(HERE)/adapters
 	install $(addprefix adapters/,$(ADAPTERS)) $(HERE)/adapters
-	install -m 644 adapters/blocks.py adapters/python_lines.py $(HERE)/adapters
+	install -m 644 adapters/blocks.py adapters/profiles.py adapters/python_lines.py $(HERE)/adapters
+	install -Dm 644 adapters/octave/@sym/display.m $(HERE)/adapters/octave/@sym/display.m
 	install -d $(HERE)/clients/python/tmhost $(HERE)/clients/typeset/lib $(HERE)/clients/notebook/page
 	install -m 644 clients/python/tmhost/*.py clients/python/tmhost/py.typed $(HERE)/clients/python/tmhost
 	install -m 644 clients/typeset/lib/*.js $(HERE)/clients/typeset/lib

@@ -1,10 +1,12 @@
 """What interpreters write is text and never markup: hostile outputs, by the real program, as markdown-it, cmark and pandoc read them."""
 import html
+import html.parser
 import random
 import re
+import shutil
 import subprocess
 import unittest
-from typing import List
+from typing import List, Optional, Set, Tuple
 
 from .support import PROGRAM, Case, answers, fences
 from .trees import CMARK, PANDOC, body_of, cmark_tree, codes, first_code, kinds, pandoc_tree, without_answers
@@ -17,12 +19,29 @@ HOSTILE = [
     "a\0b", "```tmhost-answer\nx\n```", "```\n\n```py\nimport os\n```", "<!-- tmhost-answer -->", "<!-- /tmhost-answer -->\n<b>", "</details></div><b>",
     "---\nsessions: {a: [evil]}\n---", "> quote", "- item", "\t\tcode", "    code", "[a]: /b", "===", "<![CDATA[", "<?php ?>", "-->", "&lt;b&gt;", "\\", "\r```\r<b>",
     "\x1b[31m", "\u2028```\u2028<b>", "\x85```\x85<b>", "\x0b```\x0c<b>", "\ufeff```", "`" * 254 + "\n<b>", "`" * 255 + "\n<b>", "`" * 300 + "\n<b>", "a\n" * 50 + "```\n<b>", "$x$", "{latex:$x$}", "**a** _b_ `c`",
+    "<script>document.title = 'owned'</script>", "</code></pre><img src=x onerror=\"document.title = 'owned'\">", "</summary></details><svg onload=\"document.title = 'owned'\">",
 ]
+CHROMIUM = shutil.which("chromium")
+STILL = {"html", "head", "meta", "title", "body", "pre", "code", "blockquote", "details", "summary"}
+PAGE = '<!DOCTYPE html><html><head><meta charset="utf-8"><title>still</title></head><body>%s</body></html>'
 FORMULA_PIECES = ["x", "{", "}", "\\", "$", "`", "](", "] (", "<", "< ", "{:", "&", " ", "é", "\t", "\\\\", "\\{", "\\}", "^2", "\x7f", "_", "\n"]
 KNOWN = [
     "$x$", "$$x$$", "$x < y$", "$x<y$", "$x<", "$ x$", "$x $", "$$ x $$", "$$$", "$$$$", "$", "$$", "x", "$x\\$", "$a$b$", "$\\{$", "${$", "$}{$", "$[a](b)$",
     "$[a] (b)$", "$a{:b}$", "$\\text{\\\\}x}$", "$`$", "$é$", "$aéb$", "$x&y$", "$$x$", "$x$$", "$\\\\{a}$", "$x\ny$", "",
 ]
+
+
+class Elements(html.parser.HTMLParser):
+    """The elements of a page, and the names of their attributes."""
+
+    def __init__(self) -> None:
+        super().__init__()
+        self.tags: Set[str] = set()
+        self.attributes: Set[str] = set()
+
+    def handle_starttag(self, tag: str, attributes: List[Tuple[str, Optional[str]]]) -> None:
+        self.tags.add(tag)
+        self.attributes |= {name for name, _ in attributes}
 
 
 def said(text: str) -> str:
@@ -76,6 +95,21 @@ class Hostile(Case):
             self.assertEqual(set(blocks), {"CodeBlock"}, form)
             self.assertEqual(len(blocks), 2 * len(HOSTILE))
         self.assertEqual(first_code(pandoc_tree(woven)), "say " + said(HOSTILE[0]))
+
+    @unittest.skipUnless(CMARK and CHROMIUM, "there is no cmark or no chromium")
+    def test_as_chromium_shows_it(self) -> None:
+        """The page that cmark makes of it, with HTML let through, has the elements of code and folds alone behind whatever a script could do."""
+        for prefix, info in [("", "a {fold}"), ("> ", "a")]:
+            made = subprocess.run([CMARK or "", "--unsafe"], input=body_of(self.woven(prefix, info)).encode(), capture_output=True, check=True)
+            self.write(PAGE % made.stdout.decode(), self.place("page.html"))
+            words = ["--headless", "--no-sandbox", "--disable-gpu", "--user-data-dir=" + self.place("chromium"), "--dump-dom", "file://" + self.place("page.html")]
+            dom = subprocess.run([CHROMIUM or "", *words], capture_output=True, check=True, timeout=120).stdout.decode()
+            elements = Elements()
+            elements.feed(dom)
+            self.assertLessEqual(elements.tags, STILL)
+            self.assertLessEqual(elements.attributes, {"charset", "class"})
+            self.assertIn("<title>still</title>", dom)
+            self.assertIn("&lt;script&gt;document.title = 'owned'&lt;/script&gt;", dom)
 
     def test_again(self) -> None:
         woven = self.woven()
