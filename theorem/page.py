@@ -109,7 +109,7 @@ SECTIONS: list[tuple[str, tuple[str, ...]]] = [
     ("What events do", ("session_engine.", "host_events.")),
     ("The worksheet", ("worksheet.",)),
     ("Which block answers which line", ("plugin_core.",)),
-    ("What a block is", ("block_tree.", "meta_format.", "scheme_text.")),
+    ("Appendix: what a block is", ("block_tree.", "meta_format.", "scheme_text.")),
 ]
 
 
@@ -243,7 +243,7 @@ class Page:
             parts += [f"## {title} ({len(taken)})\n", *map(self.entry, taken)]
         if others := [d for d in left if not d.is_type]:
             sys.exit(f"no section has {others[0].key[0]}")
-        return [*parts, f"## Types of the code ({len(left)})\n", self.values() + "\n", *map(self.entry, left)]
+        return [*parts, f"## Appendix: types of the code ({len(left)})\n", self.values() + "\n", *map(self.entry, left)]
 
     def text(self) -> tuple[str, str]:
         """The page, and what it counts."""

@@ -79,7 +79,11 @@ def moments() -> list[Moment]:
     gates = [AFTER[:GATE] + bytes([byte]) + AFTER[GATE + 1 :] for byte in range(256)]
     return [
         Moment("none yet", f"the {len(BEFORE)} bytes", [BEFORE]),
-        Moment(f"write {len(first[-1]) - GATE - 1} bytes at {GATE + 1}", f"any bytes from {GATE + 1} on, any length from {len(BEFORE)} to {len(AFTER)}", first),
+        Moment(
+            f"write {len(first[-1]) - GATE - 1} bytes at {GATE + 1}",
+            f"any bytes from {GATE + 1} on, any length from {len(BEFORE)} to {len(AFTER)}",
+            first,
+        ),
         Moment("sync", f"these {len(AFTER)} bytes; the gate at {GATE} is `00`", [written]),
         Moment(f"write `52` at {GATE}", f"any byte at {GATE}", gates),
         Moment("sync", f"the {len(AFTER)} bytes with `52` at {GATE}", [AFTER]),
@@ -132,8 +136,8 @@ def text() -> str:
             "",
             f"Events 1 to 3 are acknowledged. The record of event 4 begins at the gate at {GATE}, by the four calls of an append"
             ' ([FORMAT](FORMAT.md), "Append"). A crash after',
-            "each of them, or within the next, leaves an image of these in the first area (the second is empty, and stays so), and it opens",
-            "so:",
+            "each of them, or within the next, leaves an image of these in the first area (the second is empty, and stays so), and it",
+            "opens so:",
             "",
             "| Last call | What may be left | Images that were computed, and what they open to |",
             "|---|---|---|",
@@ -141,8 +145,8 @@ def text() -> str:
             "",
             f"Without the answer is `{shown[0]}`, the worksheet after the first three events; with it `{shown[1]}`, that after four.",
             "Only after the last sync does `step` return, and is `answered 1` printed.",
-            "No image opens to anything else, none to less than what was acknowledged, and none is damaged. So {host_laws.Turns.Turned} has",
-            "`taken` = events 1 to 3, or 1 to 4, with the others as `lost`, and `told` = the first three outcomes.",
+            "No image opens to anything else, none to less than what was acknowledged, and none is damaged. So",
+            "{host_laws.Turns.Turned} has `taken` = events 1 to 3, or 1 to 4, with the others as `lost`, and `told` = the first three outcomes.",
         ]
     )
 
