@@ -95,7 +95,8 @@ def opens(area: bytes) -> bytes:
     found = rescued(area, b"")
     if found is None or found[1] is not None:
         raise SystemExit(f"an image that doesn't open: {area.hex(' ')}")
-    return found[2].text()
+    shown: bytes = found[2].text()
+    return shown
 
 
 def record_of(event: Event) -> str:
