@@ -86,12 +86,14 @@ fn opens_by(alloc: Global, there: There, path: &str, lines: &str, to_read: &str)
         && read.are(to_read)
 }
 
-// The first file is locked before the second one is opened or made, and before anything is read.
+// The first file is locked before the second one is opened or made, and before anything is read. Both names
+// are brought onto the disk where the worksheet is written.
 #[test]
 fn a_worksheet_is_locked_before_its_second_file_is_opened(rt: HostRuntime) {
     let found =
         "follow v/w/sheet\nlook for v/w/sheet\nopen v/w/sheet\nlock v/w/sheet\nidentify v/w/sheet\n\
-         look for v/w/sheet.alt\nopen v/w/sheet.alt\nidentify v/w/sheet\nidentify v/w/sheet.alt\n";
+         look for v/w/sheet.alt\nopen v/w/sheet.alt\nidentify v/w/sheet\nidentify v/w/sheet.alt\n\
+         open to read v/w\nsync v/w\n";
     let read =
         "follow v/w/sheet\nlook for v/w/sheet\nopen to read v/w/sheet\nlock to read v/w/sheet\n\
          identify v/w/sheet\nlook for v/w/sheet.alt\nopen to read v/w/sheet.alt\n\
@@ -99,15 +101,14 @@ fn a_worksheet_is_locked_before_its_second_file_is_opened(rt: HostRuntime) {
     assert!(rt; opens_by(rt.alloc(), There::All, "v/w/sheet", found, read));
 }
 
-// To write it is made, and its name is brought onto the disk, where the first file doesn't say that the
-// worksheet lies in it.
+// To write it is made where the first file doesn't say that the worksheet lies in it.
 #[test]
 fn a_second_file_that_is_missing(rt: HostRuntime) {
     let made =
         "follow v/w/sheet\nlook for v/w/sheet\nopen v/w/sheet\nlock v/w/sheet\nidentify v/w/sheet\n\
          look for v/w/sheet.alt\nread v/w/sheet 0 3\nread v/w/sheet 3 3\nread v/w/sheet 6 3\n\
-         read v/w/sheet 9 2\nmake v/w/sheet.alt\nopen to read v/w\nsync v/w\n\
-         identify v/w/sheet\nidentify v/w/sheet.alt\n";
+         read v/w/sheet 9 2\nmake v/w/sheet.alt\nidentify v/w/sheet\nidentify v/w/sheet.alt\n\
+         open to read v/w\nsync v/w\n";
     assert!(rt; opens_by(rt.alloc(), There::First, "v/w/sheet", made, FIRST_READ));
 }
 
@@ -116,7 +117,8 @@ fn a_second_file_that_is_missing(rt: HostRuntime) {
 fn a_link_is_followed_to_both_files(rt: HostRuntime) {
     let far =
         "follow link\nlook for far/sheet\nopen far/sheet\nlock far/sheet\nidentify far/sheet\n\
-         look for far/sheet.alt\nopen far/sheet.alt\nidentify far/sheet\nidentify far/sheet.alt\n";
+         look for far/sheet.alt\nopen far/sheet.alt\nidentify far/sheet\nidentify far/sheet.alt\n\
+         open to read far\nsync far\n";
     let read = "follow link\nlook for far/sheet\nopen to read far/sheet\nlock to read far/sheet\n\
          identify far/sheet\nlook for far/sheet.alt\nopen to read far/sheet.alt\n\
          identify far/sheet\nidentify far/sheet.alt\n";
@@ -127,7 +129,7 @@ fn a_link_is_followed_to_both_files(rt: HostRuntime) {
 #[test]
 fn a_path_that_can_not_be_followed(rt: HostRuntime) {
     let here = "follow s\nlook for s\nopen s\nlock s\nidentify s\n\
-         look for s.alt\nopen s.alt\nidentify s\nidentify s.alt\n";
+         look for s.alt\nopen s.alt\nidentify s\nidentify s.alt\nopen to read .\nsync .\n";
     let read = "follow s\nlook for s\nopen to read s\nlock to read s\nidentify s\n\
          look for s.alt\nopen to read s.alt\nidentify s\nidentify s.alt\n";
     assert!(rt; opens_by(rt.alloc(), There::Lost, "s", here, read));
@@ -233,6 +235,12 @@ fn a_worksheet_that_another_has_is_left_alone(rt: HostRuntime) {
     assert!(rt; is_not_made(rt.alloc()));
 }
 
+// The calls of two openings of both files that succeed.
+const WITHOUT_LOCKS: &str = "follow s\nlook for s\nopen s\nlock s\nidentify s\n\
+     look for s.alt\nopen s.alt\nidentify s\nidentify s.alt\nopen to read .\nsync .\n\
+     follow s\nlook for s\nopen to read s\nlock to read s\nidentify s\n\
+     look for s.alt\nopen to read s.alt\nidentify s\nidentify s.alt\n";
+
 // Whether worksheets are made and opened where the file system has no locks.
 fn goes_on_without_locks(alloc: Global) -> bool {
     let empty = Calls::new(alloc);
@@ -242,7 +250,7 @@ fn goes_on_without_locks(alloc: Global) -> bool {
     creates(&empty, alloc, "s") == Ok(())
         && opens(&calls, alloc, "s") == Ok(())
         && reads(&calls, alloc, "s") == Ok(())
-        && calls.are(BOTH)
+        && calls.are(WITHOUT_LOCKS)
 }
 
 #[test]
@@ -288,9 +296,9 @@ fn area_calls(alloc: Global, area: Area, lines: &str) -> bool {
 
 #[test]
 fn calls_come_to_the_file_of_their_area_whole(rt: HostRuntime) {
-    let first = "identify s.alt\nmeasure s\nread s 1 3\nread s 4 2\n\
+    let first = "sync .\nmeasure s\nread s 1 3\nread s 4 2\n\
                  write s 9 3\nwrite s 12 1\nsync the data of s\n";
-    let second = "identify s.alt\nmeasure s.alt\nread s.alt 1 3\nread s.alt 4 2\n\
+    let second = "sync .\nmeasure s.alt\nread s.alt 1 3\nread s.alt 4 2\n\
                   write s.alt 9 3\nwrite s.alt 12 1\nsync the data of s.alt\n";
     assert!(rt; area_calls(rt.alloc(), Area::First, first));
     assert!(rt; area_calls(rt.alloc(), Area::Second, second));
@@ -404,8 +412,8 @@ fn ends_by_a_failed_sync(alloc: Global, area: Area, lines: &str) -> bool {
 
 #[test]
 fn no_sync_is_believed_behind_one_that_failed(rt: HostRuntime) {
-    let first = "identify s.alt\nsync the data of s\n";
-    let second = "identify s.alt\nsync the data of s.alt\n";
+    let first = "sync .\nsync the data of s\n";
+    let second = "sync .\nsync the data of s.alt\n";
     assert!(rt; ends_by_a_failed_sync(rt.alloc(), Area::First, first));
     assert!(rt; ends_by_a_failed_sync(rt.alloc(), Area::Second, second));
 }
