@@ -171,7 +171,7 @@ fn verb(how: &OpenOptions) -> &'static str {
     }
 }
 
-fn unsupported<T>() -> io::Result<T> {
+pub fn unsupported<T>() -> io::Result<T> {
     Err(io::Error::from(ErrorKind::Unsupported))
 }
 
