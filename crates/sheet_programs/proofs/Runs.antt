@@ -32,8 +32,8 @@ use Rattle.offline_programs.specs.Input.{IsInputFault, longest_standard_input}
 use Rattle.offline_programs.specs.Memory.{script_lines}
 use Rattle.sheet_programs.specs.Run.{OpenedOn, LinesBefore, LinesUpTo, LinesSoFar, LinesLed, RunOf, RunStopped, RunSoFar, RunLed}
 use Rattle.sheet_programs.specs.Told.{LineFailed, LeavesFrontsAnyhow, StandsOrStopped}
-use Rattle.sheet_programs.specs.Strict.{GoRight, goes_wrong}
-use Rattle.sheet_programs.specs.inside.Taking.{LinesFailed, LinesStopped, LinesTaken, RightIf, TellsBy}
+use Rattle.sheet_programs.specs.Strict.{GoRight, LinesTaken, RightIf, goes_wrong}
+use Rattle.sheet_programs.specs.inside.Taking.{LinesFailed, LinesStopped, TellsBy}
 use Rattle.sheet_programs.proofs.Stricts.{is_strict, none_wrong, right_more, went_wrong}
 use Rattle.offline_programs.specs.declared.fault.RunFault.{RunFault}
 use Rattle.offline_programs.specs.declared.fault.RunFault.TheVariants as fault
@@ -332,7 +332,7 @@ opened_on disk h ops stands found ends looks = record {
 }
 
 -- where a run stands that took its lines is known by its beats
-taken-goes : {C : Type 0} (R : Relation C) (strict : Bool) (lines : List (List ℕ)) (stopped : Option ℕ) (s : At C) (beats : List Beat) (text : List ℕ) (t : At C) → LinesTaken R strict lines stopped s beats text t
+pub taken-goes : {C : Type 0} (R : Relation C) (strict : Bool) (lines : List (List ℕ)) (stopped : Option ℕ) (s : At C) (beats : List Beat) (text : List ℕ) (t : At C) → LinesTaken R strict lines stopped s beats text t
     → Goes s.world s.disk beats t.world t.disk
 taken-goes R false lines stopped s beats text t p = lines-goes R 1 lines s beats text t p
 taken-goes R true lines None s beats text t p = lines-goes R 1 lines s beats text t p.0
@@ -380,7 +380,7 @@ unread_script true R stream disk c d a b nothing (fault.Open why) is long none =
 unread_script true R stream disk c d a b nothing fault.InUse is long none = absurd is
 
 module _ {C : Type 0} (R : Relation C) (disk now : DiskView) (c d : C) (a b : Option (List ℕ)) (script : List ℕ) (start : World) (h : HostView) (opened : OpenedOn disk start now) (held : HoldsSheet start now) (same : SameDisk disk h.store.disk) (strict : Bool) where
-  abbrev run-stopped : (f : HostFault) → LinesStopped R strict (script_lines script) (at start c now) h d a b (fault.Host f) → RunStopped R script disk c d a b f
+  abbrev pub run-stopped : (f : HostFault) → LinesStopped R strict (script_lines script) (at start c now) h d a b (fault.Host f) → RunStopped R script disk c d a b f
   run-stopped f p = record {
     start = start;
     now = now;
@@ -398,7 +398,7 @@ module _ {C : Type 0} (R : Relation C) (disk now : DiskView) (c d : C) (a b : Op
     wrote = p.7;
   }
 
-  abbrev run-so-far : LinesStopped R strict (script_lines script) (at start c now) h d a b fault.OutOfMemory → RunSoFar R script disk c d a b
+  abbrev pub run-so-far : LinesStopped R strict (script_lines script) (at start c now) h d a b fault.OutOfMemory → RunSoFar R script disk c d a b
   run-so-far p = record {
     start = start;
     now = now;
@@ -412,7 +412,7 @@ module _ {C : Type 0} (R : Relation C) (disk now : DiskView) (c d : C) (a b : Op
     wrote = p.7;
   }
 
-  abbrev run-led : LinesStopped R strict (script_lines script) (at start c now) h d a b fault.Output → RunLed R script disk c d
+  abbrev pub run-led : LinesStopped R strict (script_lines script) (at start c now) h d a b fault.Output → RunLed R script disk c d
   run-led p = record {
     start = start;
     now = now;
