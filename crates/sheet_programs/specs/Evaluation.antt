@@ -31,11 +31,11 @@ is_meant which.All field = true
 is_meant which.Unanswered field = not (is_answered field)
 
 -- the lines that evaluate a field: its `eval`, and a `wait` for the answer
-abbrev pub field_lines : ℕ → List ℕ
-field_lines id = codes "eval " ++ decimal id ++ 10 ∷ codes "wait" ++ 10 ∷ []
+abbrev pub evaluation_lines : ℕ → List ℕ
+evaluation_lines id = codes "eval " ++ decimal id ++ 10 ∷ codes "wait" ++ 10 ∷ []
 
 abbrev pub lines_if_meant : Which → Field → List ℕ
-lines_if_meant meant field = if is_meant meant field then field_lines field.id else []
+lines_if_meant meant field = if is_meant meant field then evaluation_lines field.id else []
 
 -- the script that evaluates those of these fields that are meant, one behind another
 abbrev pub evaluation_script : Which → List Field → List ℕ

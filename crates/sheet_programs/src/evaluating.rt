@@ -86,8 +86,7 @@ fn tell_tally<W: Write>(tally: Tally, writer: &mut W) -> Result<(), RunFault>
         answered,
         unanswered,
     } = tally;
-    writeln!(writer, "answered {answered} unanswered {unanswered}")
-        .map_err(|_| RunFault::Output)?;
+    writeln!(writer, "answered {answered} unanswered {unanswered}").map_err(|_| RunFault::Output)?;
     writer.flush().map_err(|_| RunFault::Output)?;
     Ok(())
 }
@@ -129,7 +128,14 @@ pub fn evaluate<W: Write, D: Disk, C: Children>(
         Ok(script) => script,
         Err(fault) => return Err(fault),
     };
-    let done = run_on_host(alloc, &mut host, children, script.as_slice(), plan.strict, writer);
+    let done = run_on_host(
+        alloc,
+        &mut host,
+        children,
+        script.as_slice(),
+        plan.strict,
+        writer,
+    );
     let tally = tally_of(host.sheet());
     let disk = host.close();
     match done {
