@@ -50,6 +50,8 @@ pub all_lines : (which : Which) (all left : List Field) (a b : Option (List ℕ)
 all_lines which all left a b e so =
     subst (Appends a b) (sym (append-nil so.text) ∙ ap (λ fields. so.text ++ evaluation_script which fields) (sym e) ∙ so.whole) so.wrote
 
+pub ruleset script_steps = (no_lines, more_lines, all_lines)
+
 -- The end.
 
 module _ {C : Type 0} (R : Relation C) (plan : Plan) (disk now : DiskView) (c d : C) (script : List ℕ) (start : World) (h : HostView) (of : Evaluates plan start script) (opened : OpenedOn disk start now) (held : HoldsSheet start now)
@@ -95,7 +97,7 @@ module _ {C : Type 0} (R : Relation C) (plan : Plan) (disk now : DiskView) (c d 
 module _ {C : Type 0} (R : Relation C) (plan : Plan) (disk now : DiskView) (c d : C) (a b : Option (List ℕ)) (nothing : Type 0) (start : World) (opened : OpenedOn disk start now) where
   pub unscripted : (f : RunFault) → nothing → Unscripted plan.which (sheet_in start).fields f → TellsEvaluation R plan disk c d a b nothing f
   unscripted fault.OutOfMemory none why = inl none
-  unscripted fault.InputTooLong none why = (none, start, now, evaluation_script plan.which (sheet_in start).fields, opened, refl, why)
+  unscripted fault.InputTooLong none why = (none, (start, now, evaluation_script plan.which (sheet_in start).fields, opened, refl, why))
   unscripted fault.Output none why = absurd why
   unscripted (fault.Host f) none why = absurd why
   unscripted fault.Input none why = absurd why

@@ -247,12 +247,12 @@ lines-goes R number (l ∷ ls) s beats text t p =
     subst (λ (bs : List Beat). Goes s.world s.disk bs t.world t.disk) (sym p.7)
     (goes_on_by s.world s.disk p.1 p.0.world p.0.disk p.2 t.world t.disk (line-goes R number (line_of l) s p.1 p.3 p.0 p.5) (lines-goes R (number + 1) ls p.0 p.2 p.4 t p.6))
 
-lines-up-to-goes : {C : Type 0} (R : Relation C) (lines : List (List ℕ)) (s : At C) (beats : List Beat) (text : List ℕ) (e : Event) (t : At C) → LinesUpTo R lines s beats text e t → Goes s.world s.disk beats t.world t.disk
+pub lines-up-to-goes : {C : Type 0} (R : Relation C) (lines : List (List ℕ)) (s : At C) (beats : List Beat) (text : List ℕ) (e : Event) (t : At C) → LinesUpTo R lines s beats text e t → Goes s.world s.disk beats t.world t.disk
 lines-up-to-goes R lines s beats text e t p =
     subst (λ (bs : List Beat). Goes s.world s.disk bs t.world t.disk) (sym p.took)
     (goes_on_by s.world s.disk p.earlier p.mid.world p.mid.disk p.beats t.world t.disk (lines-goes R 1 p.before.done s p.earlier p.first p.mid p.before.ran) (up-to-goes R (line_of p.line) p.mid p.beats e t p.broke))
 
-lines-so-far-goes : {C : Type 0} (R : Relation C) (lines : List (List ℕ)) (s : At C) (beats : List Beat) (text : List ℕ) (t : At C) → LinesSoFar R lines s beats text t → Goes s.world s.disk beats t.world t.disk
+pub lines-so-far-goes : {C : Type 0} (R : Relation C) (lines : List (List ℕ)) (s : At C) (beats : List Beat) (text : List ℕ) (t : At C) → LinesSoFar R lines s beats text t → Goes s.world s.disk beats t.world t.disk
 lines-so-far-goes R lines s beats text t p =
     subst (λ (bs : List Beat). Goes s.world s.disk bs t.world t.disk) (sym p.took)
     (goes_on_by s.world s.disk p.earlier p.mid.world p.mid.disk p.beats t.world t.disk (lines-goes R 1 p.before.done s p.earlier p.first p.mid p.before.ran) (part-goes R (line_of p.line) p.mid p.beats t p.broke))
@@ -262,7 +262,7 @@ led-goes R l s t (whole number beats text done) = line-goes R number l s beats t
 led-goes R l s t (up_to beats e broke) = up-to-goes R l s beats e t broke
 led-goes R l s t (so_far beats so) = part-goes R l s beats t so
 
-lines-led-goes : {C : Type 0} (R : Relation C) (lines : List (List ℕ)) (s t : At C) (p : LinesLed R lines s t) → Goes s.world s.disk (p.earlier ++ led_beats p.led) t.world t.disk
+pub lines-led-goes : {C : Type 0} (R : Relation C) (lines : List (List ℕ)) (s t : At C) (p : LinesLed R lines s t) → Goes s.world s.disk (p.earlier ++ led_beats p.led) t.world t.disk
 lines-led-goes R lines s t p =
     goes_on_by s.world s.disk p.earlier p.mid.world p.mid.disk (led_beats p.led) t.world t.disk (lines-goes R 1 p.before.done s p.earlier p.first p.mid p.before.ran)
     (led-goes R (line_of p.line) p.mid t p.led)

@@ -2,6 +2,8 @@
 ghost use Rattle.std.specs.Prelude.{◌≡◌, ◌≤◌, IfErr, IfOk, IsErrOf, OnOk, length};
 ghost use Rattle.std.specs.Io.KnownBytes.{Appends};
 ghost use Rattle.disk_model.specs.Disk.{SameDisk};
+ghost use Rattle.session_engine.specs.World.{World, sheet_in};
+ghost use Rattle.session_engine.specs.Host.{IsHost};
 ghost use Rattle.offline_programs.specs.Faults.{FailedSince};
 ghost use Rattle.offline_programs.specs.Input.{longest_standard_input};
 ghost use Rattle.sheet_programs.specs.Evaluation as evaluation;
@@ -46,6 +48,7 @@ fn write_lines<W: Write>(which: Which, field: &Field, out: &mut W) -> Result<(),
 }
 
 /// Writes the script that evaluates the fields that are meant.
+#[tactic(auto, using(crate::proofs::Evaluations::script_steps))]
 fn write_script<W: Write>(which: Which, sheet: &Sheet, out: &mut W) -> Result<(), WriteFault>
     ensures { OnOk result (Appends (W.contents out.old) (W.contents out.new)
         (evaluation.evaluation_script which sheet.now.contents.fields)) }
@@ -74,6 +77,15 @@ fn script_of(alloc: Global, which: Which, sheet: &Sheet) -> Result<Vec<u8>, RunF
         return Err(RunFault::InputTooLong);
     }
     Ok(script)
+}
+
+/// The counts of the worksheet of a host.
+fn tally_in<D: Disk>(host: &Host<D>) -> Tally
+    requires { (w : World) × IsHost host.now w }
+    ensures { (w : World) → IsHost host.now w → result ≡ evaluation.tally_of (sheet_in w).fields }
+{
+    worksheet::laws::ops_make_worksheets();
+    tally_of(host.sheet())
 }
 
 /// Tells the counts, and brings them out.
@@ -136,17 +148,22 @@ pub fn evaluate<W: Write, D: Disk, C: Children>(
         plan.strict,
         writer,
     );
-    let tally = tally_of(host.sheet());
-    let disk = host.close();
     match done {
-        Ok(stopped_at) => match tell_tally(tally, writer) {
-            Ok(()) => Ok(Evaluated {
-                disk,
-                stopped_at,
-                tally,
-            }),
-            Err(fault) => Err(fault),
-        },
-        Err(fault) => Err(fault),
+        Ok(stopped_at) => {
+            let tally = tally_in(&host);
+            let disk = host.close();
+            match tell_tally(tally, writer) {
+                Ok(()) => Ok(Evaluated {
+                    disk,
+                    stopped_at,
+                    tally,
+                }),
+                Err(fault) => Err(fault),
+            }
+        }
+        Err(fault) => {
+            host.close();
+            Err(fault)
+        }
     }
 }

@@ -1,5 +1,5 @@
 //! What an evaluation of a worksheet is asked for, and what it comes to.
-ghost use Rattle.std.specs.Prelude.{◌≡◌};
+ghost use Rattle.std.specs.Prelude.{◌≡◌, ◌<◌, ◌^◌, length};
 ghost use Rattle.sheet_programs.specs.Evaluation as evaluation;
 
 use worksheet::{Field, Sheet};
@@ -50,6 +50,7 @@ fn is_answered(field: &Field) -> bool
 
 /// The counts of a worksheet's fields.
 pub(crate) fn tally_of(sheet: &Sheet) -> Tally
+    requires { length sheet.now.contents.fields < 2 ^ 31 }
     ensures { result ≡ evaluation.tally_of sheet.now.contents.fields }
 {
     Tally {
