@@ -1,7 +1,6 @@
 -- The evaluation of a worksheet's fields: the run of a script that is made of them. (docs/SCRIPT.md, "Evaluating a worksheet".)
-use Rattle.std.specs.Prelude.{◌≡◌, ◌<◌, ◌⊎◌, ℕ, Bool, true, not, List, [], ◌∷◌, ◌++◌, Option, None, codes, count_by, flat_map, length, is_some, if◌then◌else◌}
+use Rattle.std.specs.Prelude.{◌≡◌, ◌<◌, ◌⊎◌, ℕ, Bool, true, not, List, [], ◌∷◌, ◌++◌, Option, codes, count_by, flat_map, length, is_some, if◌then◌else◌}
 use Rattle.std.specs.Fmt.{decimal}
-use Rattle.std.specs.Io.KnownBytes.{Appends}
 use Rattle.disk_model.specs.Disk.{DiskView, InModel, bytes_on}
 use Rattle.worksheet.specs.declared.field.Field.{Field}
 use Rattle.recovery.specs.Sheets.{TellsOfSheet}

@@ -13,7 +13,7 @@ use Rattle.sheet_text.specs.declared.script.ScriptLine.{ScriptLine}
 use Rattle.sheet_programs.specs.Lines.{LineDone}
 use Rattle.sheet_programs.specs.Told.{StandsOrStopped}
 use Rattle.sheet_programs.specs.Run.{LinesUpTo, LinesSoFar, LinesLed, TellsRun}
-use Rattle.sheet_programs.specs.Strict.{LinesTaken, RightIf, TellsStrict, goes_wrong}
+use Rattle.sheet_programs.specs.Strict.{RightIf, TellsStrict, goes_wrong}
 use Rattle.offline_programs.specs.declared.fault.RunFault.{RunFault}
 use Rattle.offline_programs.specs.declared.fault.RunFault.TheVariants as fault
 

@@ -1,4 +1,4 @@
-use Rattle.std.proofs.Common.{◌≤◌, ap, arith, length, refl, sym, ◌∙◌, subst}
+use Rattle.std.proofs.Common.{ap, arith, length, refl, sym, ◌∙◌, subst}
 use Rattle.disk_model.specs.Disk.{DiskView, Rises, SameDisk}
 use Rattle.worksheet.specs.Contents.{Contents}
 use Rattle.session_engine.specs.World.{world_at_opening}
