@@ -1,0 +1,9 @@
+pub mod Verdicts
+pub mod Chosen
+pub mod Words
+pub mod Points
+pub mod Tap
+pub mod Xml
+pub mod Junit
+pub mod Reports
+pub mod Laws

@@ -1,0 +1,16 @@
+//! What a check of a worksheet asks for, and how it reports what came: in words, as TAP, or in JUnit's XML.
+#![tactic(auto)]
+
+mod chosen;
+mod junit;
+pub mod laws;
+mod report;
+mod tap;
+mod verdict;
+mod words;
+mod writing;
+mod xml;
+
+pub use chosen::{Chosen, Ids};
+pub use report::{Format, ReportFault, close_report, is_written, open_report, report_case};
+pub use verdict::{Counts, Verdict};
