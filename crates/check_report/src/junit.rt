@@ -5,7 +5,7 @@ ghost use Rattle.check_report.specs.Points.{point};
 ghost use Rattle.check_report.specs.Junit as junit;
 
 use crate::verdict::Verdict;
-use crate::writing::{write_bytes, write_number};
+use crate::writing::{write_bytes, write_id};
 use crate::xml::write_text;
 use sheet_text::WriteFault;
 use std::io::Write;
@@ -38,7 +38,7 @@ fn write_start<W: Write>(id: u32, session: &[u8], out: &mut W) -> Result<(), Wri
     write_bytes(b"<testcase classname=\"", out)?;
     write_text(session, out)?;
     write_bytes(b"\" name=\"field ", out)?;
-    write_number(id, out)?;
+    write_id(id, out)?;
     write_bytes(b"\">", out)?;
     Ok(())
 }

@@ -5,6 +5,7 @@ mod chosen;
 mod junit;
 pub mod laws;
 mod report;
+mod request;
 mod tap;
 mod verdict;
 mod words;
@@ -13,4 +14,5 @@ mod xml;
 
 pub use chosen::{Chosen, Ids};
 pub use report::{Format, ReportFault, close_report, is_written, open_report, report_case};
+pub use request::Request;
 pub use verdict::{Counts, Verdict};

@@ -1,9 +1,8 @@
 //! A report, in each of its formats.
-ghost use Rattle.std.specs.Prelude.{◌≡◌, ◌<◌, ◌^◌, IfErr, OnOk};
+ghost use Rattle.std.specs.Prelude.{◌≡◌, IfErr, OnOk};
 ghost use Rattle.std.specs.Io.KnownBytes.{Appends};
 ghost use Rattle.check_report.specs.Points.{point};
 ghost use Rattle.check_report.specs.Reports.{Unreported, case as case_of, case_text, closing_text, is_written as is_written_in, opening_text};
-ghost use Rattle.check_report.specs.Verdicts.{total};
 ghost use Rattle.check_report.specs.Words as printed;
 ghost use Rattle.check_report.specs.Tap as taps;
 ghost use Rattle.check_report.specs.Junit as junits;
@@ -52,7 +51,6 @@ pub fn open_report<W: Write>(format: Format, writer: &mut W) -> Result<(), Write
 
 /// Writes what stands last in a report.
 fn write_closing<W: Write>(format: Format, counts: Counts, writer: &mut W) -> Result<(), WriteFault>
-    requires { total counts < 2 ^ 32 }
     ensures { OnOk result (Appends (W.contents writer.old) (W.contents writer.new)
         (closing_text format counts)) }
 {
@@ -69,7 +67,6 @@ pub fn close_report<W: Write>(
     counts: Counts,
     writer: &mut W,
 ) -> Result<(), WriteFault>
-    requires { total counts < 2 ^ 32 }
     ensures { OnOk result (Appends (W.contents writer.old) (W.contents writer.new)
         (closing_text format counts)) }
 {
@@ -143,7 +140,7 @@ fn report_words<W: Write>(
 
 /// Writes a field as a test point of TAP, and brings it out.
 fn write_as_point<W: Write>(
-    number: u32,
+    number: u64,
     field: &Field,
     verdict: Verdict,
     told: &[u8],
@@ -182,7 +179,7 @@ fn write_as_case<W: Write>(
 /// Tells a field as a test point of TAP.
 fn report_point<W: Write>(
     alloc: Global,
-    number: u32,
+    number: u64,
     field: &Field,
     came: &Option<Answer>,
     verdict: Verdict,
@@ -227,7 +224,7 @@ fn report_junit<W: Write>(
 pub fn report_case<W: Write>(
     alloc: Global,
     format: Format,
-    number: u32,
+    number: u64,
     field: &Field,
     came: &Option<Answer>,
     verdict: Verdict,

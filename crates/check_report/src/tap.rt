@@ -1,11 +1,11 @@
 //! A report as TAP, version 14.
-ghost use Rattle.std.specs.Prelude.{◌≡◌, ◌<◌, ◌^◌, OnOk};
+ghost use Rattle.std.specs.Prelude.{OnOk};
 ghost use Rattle.std.specs.Io.KnownBytes.{Appends};
 ghost use Rattle.check_report.specs.Points.{point};
 ghost use Rattle.check_report.specs.Tap as tap;
 
 use crate::verdict::Verdict;
-use crate::writing::{write_bytes, write_number};
+use crate::writing::{write_bytes, write_id, write_number};
 use sheet_text::WriteFault;
 use std::io::Write;
 
@@ -18,7 +18,7 @@ pub(crate) fn write_version<W: Write>(out: &mut W) -> Result<(), WriteFault>
 
 /// Writes the plan, which stands last.
 #[tactic(auto, using(crate::proofs::Written::steps))]
-pub(crate) fn write_plan<W: Write>(count: u32, out: &mut W) -> Result<(), WriteFault>
+pub(crate) fn write_plan<W: Write>(count: u64, out: &mut W) -> Result<(), WriteFault>
     ensures { OnOk result (Appends (W.contents out.old) (W.contents out.new) (tap.plan_line count)) }
 {
     write_bytes(b"1..", out)?;
@@ -56,7 +56,7 @@ fn write_description<W: Write>(id: u32, session: &[u8], out: &mut W) -> Result<(
         (tap.description id session.now)) }
 {
     write_bytes(b" - field ", out)?;
-    write_number(id, out)?;
+    write_id(id, out)?;
     write_bytes(b" of ", out)?;
     write_bytes(session, out)?;
     Ok(())
@@ -65,7 +65,7 @@ fn write_description<W: Write>(id: u32, session: &[u8], out: &mut W) -> Result<(
 /// Writes the line of a test point.
 #[tactic(auto, using(crate::proofs::Written::steps))]
 fn write_point_line<W: Write>(
-    number: u32,
+    number: u64,
     id: u32,
     session: &[u8],
     verdict: Verdict,
@@ -126,7 +126,7 @@ fn write_comments<W: Write>(text: &[u8], out: &mut W) -> Result<(), WriteFault>
 /// Writes a test point, and what is told of it as comments.
 #[tactic(auto, using(crate::proofs::Written::steps))]
 pub(crate) fn write_point<W: Write>(
-    number: u32,
+    number: u64,
     id: u32,
     session: &[u8],
     verdict: Verdict,

@@ -59,11 +59,13 @@ impl Counts {
     }
 
     /// Of how many evaluations they are.
-    pub fn total(self) -> u32
-        requires { total self < 2 ^ 32 }
+    pub fn total(self) -> u64
         ensures { result ≡ total self }
     {
-        self.same + self.differ + self.unanswered + self.left_out
+        u64::from(self.same)
+            + u64::from(self.differ)
+            + u64::from(self.unanswered)
+            + u64::from(self.left_out)
     }
 }
 

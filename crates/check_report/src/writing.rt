@@ -14,8 +14,15 @@ pub(crate) fn write_bytes<W: Write>(bytes: &[u8], out: &mut W) -> Result<(), Wri
 }
 
 /// Writes a number.
-pub(crate) fn write_number<W: Write>(number: u32, out: &mut W) -> Result<(), WriteFault>
+pub(crate) fn write_number<W: Write>(number: u64, out: &mut W) -> Result<(), WriteFault>
     ensures { OnOk result (Appends (W.contents out.old) (W.contents out.new) (decimal number)) }
 {
     write!(out, "{}", number).map_err(|_| WriteFault)
+}
+
+/// Writes the number of a field.
+pub(crate) fn write_id<W: Write>(id: u32, out: &mut W) -> Result<(), WriteFault>
+    ensures { OnOk result (Appends (W.contents out.old) (W.contents out.new) (decimal id)) }
+{
+    write!(out, "{}", id).map_err(|_| WriteFault)
 }
