@@ -1,3 +1,5 @@
+pub mod Numerals
+pub mod Parts
 pub mod Points
 pub mod Marking
 pub mod Written

@@ -1,5 +1,6 @@
 pub mod Verdicts
 pub mod Chosen
+pub mod IdLists
 pub mod Words
 pub mod Points
 pub mod Tap

@@ -2,6 +2,7 @@
 #![tactic(auto)]
 
 mod chosen;
+mod ids;
 mod junit;
 pub mod laws;
 mod report;
@@ -13,6 +14,7 @@ mod writing;
 mod xml;
 
 pub use chosen::{Chosen, Ids};
+pub use ids::read_ids;
 pub use report::{Format, ReportFault, close_report, is_written, open_report, report_case};
 pub use request::Request;
 pub use verdict::{Counts, Verdict};
