@@ -1,0 +1,152 @@
+//! What a field came to, as it is told.
+ghost use Rattle.std.specs.Prelude.{◌≡◌, IfErr, IfOk, OnOk};
+ghost use Rattle.std.specs.Io.KnownBytes.{Appends};
+ghost use Rattle.session_engine.specs.World.{World};
+ghost use Rattle.session_engine.specs.Host.{IsHost};
+ghost use Rattle.check_report.specs.Chosen.{Judged};
+ghost use Rattle.check_report.specs.Reports.{case as case_of, case_text};
+ghost use Rattle.sheet_check.specs.Evaluated.{came_if, shown_in};
+ghost use Rattle.sheet_check.specs.Progress.{LeavesLine, MakesRoom};
+ghost use Rattle.sheet_check.specs.inside.Checking.{Untold};
+
+use crate::progress::{Progress, Sight};
+use check_report::{Format, ReportFault, Request, Verdict, is_written, report_case};
+use disk_model::Disk;
+use offline_programs::RunFault;
+use session_engine::Host;
+use std::alloc::Global;
+use std::io::Write;
+use worksheet::{Answer, Field};
+
+/// Takes the line of progress away, where what a field came to is written.
+fn make_room<P: Progress>(format: Format, verdict: Verdict, progress: &mut P)
+    ensures { MakesRoom format P.shows verdict progress.old progress.new }
+{
+    if is_written(format, verdict) {
+        progress.show(Sight::Nothing);
+    }
+}
+
+/// Tells what a field came to, which is the case of this number.
+///
+/// `OutOfMemory`: nothing was written. `Output`: a part may have gone out.
+fn tell_case<W: Write>(
+    alloc: Global,
+    format: Format,
+    number: u64,
+    field: &Field,
+    came: &Option<Answer>,
+    verdict: Verdict,
+    writer: &mut W,
+) -> Result<(), RunFault>
+    ensures ok { OnOk result (Appends (W.contents writer.old) (W.contents writer.new)
+        (case_text format number (case_of field.now came.now verdict))) }
+    ensures err { IfErr result (Untold (W.contents writer.old) (W.contents writer.new)) }
+{
+    match report_case(alloc, format, number, field, came, verdict, writer) {
+        Ok(()) => Ok(()),
+        Err(ReportFault::OutOfMemory) => Err(RunFault::OutOfMemory),
+        Err(ReportFault::Output) => Err(RunFault::Output),
+    }
+}
+
+/// Tells a field whose verdict is known, in the place of the line of progress.
+fn tell_in_its_place<W: Write, P: Progress>(
+    alloc: Global,
+    format: Format,
+    number: u64,
+    field: &Field,
+    came: &Option<Answer>,
+    verdict: Verdict,
+    progress: &mut P,
+    writer: &mut W,
+) -> Result<(), RunFault>
+    ensures ok { OnOk result (Appends (W.contents writer.old) (W.contents writer.new)
+        (case_text format number (case_of field.now came.now verdict))) }
+    ensures err { IfErr result (Untold (W.contents writer.old) (W.contents writer.new)) }
+    ensures room { MakesRoom format P.shows verdict progress.old progress.new }
+{
+    make_room(format, verdict, progress);
+    tell_case(alloc, format, number, field, came, verdict, writer)
+}
+
+/// Judges the answer that came by the one that a field shows, and tells what that came to.
+fn tell_verdict<W: Write, P: Progress>(
+    alloc: Global,
+    request: &Request,
+    number: u64,
+    field: &Field,
+    shown: &Answer,
+    came: &Option<Answer>,
+    progress: &mut P,
+    writer: &mut W,
+) -> Result<Verdict, RunFault>
+    ensures ok { IfOk result (λ verdict. Judged request.now.chosen field.now.id shown.now.output came.now verdict
+        × Appends (W.contents writer.old) (W.contents writer.new)
+        (case_text request.now.format number (case_of field.now came.now verdict))) }
+    ensures err { IfErr result (Untold (W.contents writer.old) (W.contents writer.new)) }
+    ensures room { IfOk result (λ verdict.
+        MakesRoom request.now.format P.shows verdict progress.old progress.new) }
+    ensures left { IfErr result (λ _. LeavesLine P.shows progress.old progress.new) }
+{
+    let verdict = request.chosen.judge(field.id, shown, came);
+    match tell_in_its_place(
+        alloc,
+        request.format,
+        number,
+        field,
+        came,
+        verdict,
+        progress,
+        writer,
+    ) {
+        Ok(()) => Ok(verdict),
+        Err(fault) => Err(fault),
+    }
+}
+
+/// The same with the answer that the field shows on the copy now, which came where its line was asked.
+pub(crate) fn tell_what_came<D: Disk, W: Write, P: Progress>(
+    alloc: Global,
+    request: &Request,
+    host: &Host<D>,
+    number: u64,
+    field: &Field,
+    shown: &Answer,
+    asked: bool,
+    progress: &mut P,
+    writer: &mut W,
+) -> Result<Verdict, RunFault>
+    ensures ok { (w : World) → IsHost host.now w → IfOk result (λ verdict.
+        Judged request.now.chosen field.now.id shown.now.output (came_if asked (shown_in w field.now.id)) verdict
+        × Appends (W.contents writer.old) (W.contents writer.new)
+        (case_text request.now.format number
+        (case_of field.now (came_if asked (shown_in w field.now.id)) verdict))) }
+    ensures err { IfErr result (Untold (W.contents writer.old) (W.contents writer.new)) }
+    ensures room { IfOk result (λ verdict.
+        MakesRoom request.now.format P.shows verdict progress.old progress.new) }
+    ensures left { IfErr result (λ _. LeavesLine P.shows progress.old progress.new) }
+{
+    if !asked {
+        return tell_verdict(
+            alloc, request, number, field, shown, &None, progress, writer,
+        );
+    }
+    match host.sheet().field(field.id) {
+        None => tell_verdict(
+            alloc, request, number, field, shown, &None, progress, writer,
+        ),
+        Some(now) => {
+            tell_verdict(
+                alloc,
+                request,
+                number,
+                field,
+                shown,
+                &now.answer,
+                progress,
+                writer,
+            )
+        }
+    }
+}
