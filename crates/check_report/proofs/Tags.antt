@@ -28,8 +28,8 @@ kept-append false x xs ys = refl
 tags-append : (inside : Bool) (xs ys : List ℕ) → tags inside (xs ++ ys) ≡ tags inside xs ++ tags (open_behind inside xs) ys
 tags-append inside [] ys = refl
 tags-append inside (x ∷ xs) ys =
-    let behind = tag_behind inside x in
-    ap (λ t. cond (inside || x == 60) (x ∷ t) t) (tags-append behind xs ys) ∙ kept-append (inside || x == 60) x (tags behind xs) (tags (open_behind behind xs) ys)
+    let behind_first = tag_behind inside x in
+    ap (λ t. cond (inside || x == 60) (x ∷ t) t) (tags-append behind_first xs ys) ∙ kept-append (inside || x == 60) x (tags behind_first xs) (tags (open_behind behind_first xs) ys)
 
 -- a byte that passes opens no tag
 opens-none : (byte : ℕ) → passes byte ≡ true → (byte == 60) ≡ false

@@ -14,7 +14,7 @@ use Rattle.check_report.specs.declared.verdict.Verdict.{Verdict}
 use Rattle.check_report.specs.declared.verdict.Verdict.TheVariants as verdict
 use Rattle.check_report.specs.Points.{Point}
 use Rattle.check_report.specs.Tap.{comments, comments_behind, description, directive, plan_line, point_line, result_words, tap_point, tap_points, version_line}
-use Rattle.check_report.specs.Laws.{ArePoints, IsPoint, TapIsItsPoints, is_told, point_lines}
+use Rattle.check_report.specs.Laws.{ArePoints, IsPoint, TapIsItsPoints, is_no_comment, point_lines}
 use Rattle.check_report.proofs.Lines.{both-first, both-second, comment-first, stays, told, told-first}
 
 all : (xs ys : List ℕ) → list_all stays xs ≡ true → list_all stays ys ≡ true → list_all stays (xs ++ ys) ≡ true
@@ -125,7 +125,7 @@ result-stays verdict.Differs = refl
 result-stays verdict.Unanswered = refl
 result-stays verdict.LeftOut = refl
 
-result-told : (v : Verdict) (more : List ℕ) → is_told (result_words v ++ more) ≡ true
+result-told : (v : Verdict) (more : List ℕ) → is_no_comment (result_words v ++ more) ≡ true
 result-told verdict.Same more = refl
 result-told verdict.Differs more = refl
 result-told verdict.Unanswered more = refl
@@ -160,7 +160,7 @@ module _ (number : ℕ) (p : Point) (is : IsPoint p) (low : number < 2 ^ 64) whe
   point-told rest =
       let line = result_words p.verdict ++ named in
       let all_stay = all (result_words p.verdict) named (result-stays p.verdict) named-stays in
-      let heard : is_told (line ++ 10 ∷ []) ≡ true = ap is_told (append_assoc (result_words p.verdict) named (10 ∷ [])) ∙ result-told p.verdict (named ++ 10 ∷ []) in
+      let heard : is_no_comment (line ++ 10 ∷ []) ≡ true = ap is_no_comment (append_assoc (result_words p.verdict) named (10 ∷ [])) ∙ result-told p.verdict (named ++ 10 ∷ []) in
       ap told (append_assoc (point_line number p.id p.session p.verdict) (comments p.told) rest)
       ∙ ap (λ l. told (l ++ (comments p.told ++ rest))) point_line-is
       ∙ told-first line (comments p.told ++ rest) all_stay heard
@@ -178,12 +178,12 @@ plan-told : (count : ℕ) → count < 2 ^ 64 → told (plan_line count) ≡ plan
 plan-told count low =
     let line = codes "1.." ++ decimal count in
     ap told (sym (append-nil (line ++ 10 ∷ []))) ∙ told-first line [] (all (codes "1..") (decimal count) refl (decimal-stays count low)) refl
-    ∙ ap (λ t. plan_line count ∷ t) (ap (λ ls. filter is_told ls) lines-nil)
+    ∙ ap (λ t. plan_line count ∷ t) (ap (λ ls. filter is_no_comment ls) lines-nil)
 
 pub tap_is_points : TapIsItsPoints
 tap_is_points points are few =
     let plan = plan_line (length points) in
     ap told (append_assoc version_line (tap_points 1 points) plan)
-    ∙ told-first (codes "TAP version 14") (tap_points 1 points ++ plan) refl refl
+    ∙ told-first (codes "TAP version 13") (tap_points 1 points ++ plan) refl refl
     ∙ ap (λ t. version_line ∷ t) (points-told points 1 plan are (omega (arith, few)))
     ∙ ap (λ t. version_line ∷ (point_lines 1 points ++ t)) (plan-told (length points) (omega (arith, few)))

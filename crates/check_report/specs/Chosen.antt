@@ -12,13 +12,13 @@ use Rattle.check_report.specs.declared.verdict.Verdict.TheVariants as verdict
 use Rattle.check_report.specs.Verdicts.{Compared}
 
 -- whether a session is the one that is asked for, where one is
-abbrev pub is_of : Option (List ℕ) → List ℕ → Bool
-is_of None session = true
-is_of (Some name) session = bytes_eq name session
+abbrev pub is_session_asked : Option (List ℕ) → List ℕ → Bool
+is_session_asked None session = true
+is_session_asked (Some name) session = bytes_eq name session
 
 -- the answer that a field shows, where it is of a session that is checked
 abbrev pub shown_by : Chosen → Field → Option Answer
-shown_by chosen field = if is_of chosen.only field.session then field.answer else None
+shown_by chosen field = if is_session_asked chosen.only field.session then field.answer else None
 
 -- whether a number is one of these
 abbrev pub has_id : ℕ → Ids → Bool

@@ -12,8 +12,8 @@ abbrev pub is_dash : ℕ → Bool
 is_dash byte = byte == 45
 
 -- what stands behind the first of these bytes, where there is one
-abbrev pub behind : (ℕ → Bool) → List ℕ → Option (List ℕ)
-behind p bytes = option_map (λ at. drop (at + 1) bytes) (position p bytes)
+abbrev pub behind_first : (ℕ → Bool) → List ℕ → Option (List ℕ)
+behind_first p bytes = option_map (λ at. drop (at + 1) bytes) (position p bytes)
 
 abbrev pub from_to : ℕ → ℕ → Ids
 from_to first last = record { first = first; last = last }
@@ -30,7 +30,7 @@ part_behind front None = option_map (λ id. from_to id id) (number_written front
 part_behind front (Some rest) = range_of (number_written front) (number_written rest)
 
 abbrev pub part_of : List ℕ → Option Ids
-part_of part = part_behind (before_first is_dash part) (behind is_dash part)
+part_of part = part_behind (before_first is_dash part) (behind_first is_dash part)
 
 -- behind others
 abbrev pub with_others : List Ids → Option (List Ids) → Option (List Ids)
@@ -42,10 +42,10 @@ with_part None others = None
 with_part (Some ids) others = with_others (ids ∷ []) others
 
 -- all parts, where each is one
-abbrev pub parts_of : List (List ℕ) → Option (List Ids)
-parts_of [] = Some []
-parts_of (part ∷ parts) = with_part (part_of part) (parts_of parts)
+abbrev pub id_parts_of : List (List ℕ) → Option (List Ids)
+id_parts_of [] = Some []
+id_parts_of (part ∷ parts) = with_part (part_of part) (id_parts_of parts)
 
 -- parts with a comma between each two
-abbrev pub ids_of : List ℕ → Option (List Ids)
-ids_of text = parts_of (slice_split is_comma text)
+abbrev pub ids_named : List ℕ → Option (List Ids)
+ids_named text = id_parts_of (slice_split is_comma text)

@@ -10,7 +10,7 @@ use Rattle.check_report.specs.Verdicts.{counts_of}
 use Rattle.check_report.specs.Words.{counts_text, verdict_text}
 use Rattle.check_report.specs.Junit.{junit_text}
 use Rattle.check_report.specs.Tap.{plan_line, point_line, tap_text, version_line}
-use Rattle.check_report.specs.Xml.{is_kept, xml_text}
+use Rattle.check_report.specs.Xml.{stays_in_xml, xml_text}
 
 -- a point of a field: its number fits, and its session has a name
 pub record IsPoint (p : Point) : Type 0 where
@@ -22,8 +22,8 @@ ArePoints [] = Unit {0}
 ArePoints (p ∷ points) = IsPoint p × ArePoints points
 
 -- a line that a parser of TAP takes for no comment: it doesn't begin with '#'
-abbrev pub is_told : List ℕ → Bool
-is_told line = not (slice_index line 0 == 35)
+abbrev pub is_no_comment : List ℕ → Bool
+is_no_comment line = not (slice_index line 0 == 35)
 
 -- the lines of points, of which the first has this number
 abbrev pub point_lines : ℕ → List Point → List (List ℕ)
@@ -41,28 +41,28 @@ ReportsAreTheirTexts = (cases : List Case)
 -- plan. So what an interpreter wrote is in comments alone.
 abbrev pub TapIsItsPoints : Type 0
 TapIsItsPoints = (points : List Point) → ArePoints points → length points < 2 ^ 32
-    → filter is_told (lines_of (tap_text points)) ≡ version_line ∷ (point_lines 1 points ++ plan_line (length points) ∷ [])
+    → filter is_no_comment (lines_of (tap_text points)) ≡ version_line ∷ (point_lines 1 points ++ plan_line (length points) ∷ [])
 
 -- '<', '>', '"', and each control character but a tab and a line feed
-abbrev pub is_mark : ℕ → Bool
-is_mark byte = byte == 60 || byte == 62 || byte == 34 || not (is_kept byte)
+abbrev pub is_xml_mark : ℕ → Bool
+is_xml_mark byte = byte == 60 || byte == 62 || byte == 34 || not (stays_in_xml byte)
 
 -- what stands behind the '&' of a reference
-abbrev pub reference_names : List (List ℕ)
-reference_names = codes "amp;" ∷ codes "lt;" ∷ codes "gt;" ∷ codes "quot;" ∷ []
+abbrev pub xml_reference_names : List (List ℕ)
+xml_reference_names = codes "amp;" ∷ codes "lt;" ∷ codes "gt;" ∷ codes "quot;" ∷ []
 
 -- whether one of these stands here
-abbrev pub has_reference_name : List ℕ → Bool
-has_reference_name bytes = list_any (λ name. starts_with nat_eq bytes name) reference_names
+abbrev pub has_xml_reference : List ℕ → Bool
+has_xml_reference bytes = list_any (λ name. starts_with nat_eq bytes name) xml_reference_names
 
 -- whether each '&' begins a reference
-abbrev pub has_references_alone : List ℕ → Bool
-has_references_alone [] = true
-has_references_alone (byte ∷ rest) = (not (byte == 38) || has_reference_name rest) && has_references_alone rest
+abbrev pub has_xml_references_alone : List ℕ → Bool
+has_xml_references_alone [] = true
+has_xml_references_alone (byte ∷ rest) = (not (byte == 38) || has_xml_reference rest) && has_xml_references_alone rest
 
 -- no text in XML has a mark, and each '&' in it begins a reference
-abbrev pub TextsHaveNoMarks : Type 0
-TextsHaveNoMarks = (bytes : List ℕ) → (list_all (λ byte. not (is_mark byte)) (xml_text bytes) ≡ true) × (has_references_alone (xml_text bytes) ≡ true)
+abbrev pub XmlHasNoMarks : Type 0
+XmlHasNoMarks = (bytes : List ℕ) → (list_all (λ byte. not (is_xml_mark byte)) (xml_text bytes) ≡ true) × (has_xml_references_alone (xml_text bytes) ≡ true)
 
 -- whether a tag is open behind a byte
 abbrev pub tag_behind : Bool → ℕ → Bool

@@ -1,4 +1,4 @@
--- A report as TAP, version 14: the Test Anything Protocol.
+-- A report as TAP, version 13: the Test Anything Protocol.
 use Rattle.std.specs.Prelude.{ℕ, ◌+◌, ◌==◌, Bool, true, List, [], ◌∷◌, ◌++◌, codes, cond, length}
 use Rattle.std.specs.Fmt.{decimal}
 use Rattle.check_report.specs.declared.verdict.Verdict.{Verdict}
@@ -6,7 +6,7 @@ use Rattle.check_report.specs.declared.verdict.Verdict.TheVariants as verdict
 use Rattle.check_report.specs.Points.{Point}
 
 abbrev pub version_line : List ℕ
-version_line = codes "TAP version 14\n"
+version_line = codes "TAP version 13\n"
 
 -- whether the point is passed
 abbrev pub result_words : Verdict → List ℕ

@@ -55,7 +55,7 @@ impl Chosen {
 
     /// Whether a session is one of those that are checked.
     fn is_of(&self, session: &Name) -> bool
-        ensures { result ≡ choice.is_of self.now.only session.now }
+        ensures { result ≡ choice.is_session_asked self.now.only session.now }
     {
         match &self.only {
             None => true,

@@ -80,7 +80,7 @@ fn dash_in(bytes: &[u8]) -> Option<usize>
 /// The bytes up to the next comma, and those behind it.
 fn split_comma(bytes: &[u8]) -> (&[u8], Option<&[u8]>)
     ensures before { result.0.now ≡ before_first lists.is_comma bytes.now }
-    ensures behind { option_copied result.1 ≡ lists.behind lists.is_comma bytes.now }
+    ensures behind { option_copied result.1 ≡ lists.behind_first lists.is_comma bytes.now }
 {
     match comma_in(bytes) {
         None => (bytes, None),
@@ -91,7 +91,7 @@ fn split_comma(bytes: &[u8]) -> (&[u8], Option<&[u8]>)
 /// The bytes up to the next dash, and those behind it.
 fn split_dash(bytes: &[u8]) -> (&[u8], Option<&[u8]>)
     ensures before { result.0.now ≡ before_first lists.is_dash bytes.now }
-    ensures behind { option_copied result.1 ≡ lists.behind lists.is_dash bytes.now }
+    ensures behind { option_copied result.1 ≡ lists.behind_first lists.is_dash bytes.now }
 {
     match dash_in(bytes) {
         None => (bytes, None),
@@ -140,7 +140,7 @@ fn read_part(part: &[u8]) -> Option<Ids>
 /// two with a dash between them. None where it has another form.
 #[tactic(auto, using(crate::proofs::Parts::part_steps))]
 pub fn read_ids(alloc: Global, text: &[u8]) -> Result<Option<Sequence<Ids>>, OutOfMemory>
-    ensures { IfOk result (λ ids. ids ≡ lists.ids_of text.now) }
+    ensures { IfOk result (λ ids. ids ≡ lists.ids_named text.now) }
 {
     let mut all = Vec::new(alloc);
     let mut rest = text;

@@ -1,6 +1,6 @@
 //! Laws of the definitions that the contracts cite. Each function does nothing: its contract is the
 //! law.
-ghost use Rattle.check_report.specs.Laws.{ReportsAreTheirTexts, TapIsItsPoints, TextsAreNoTags, TextsHaveNoMarks};
+ghost use Rattle.check_report.specs.Laws.{ReportsAreTheirTexts, TapIsItsPoints, TextsAreNoTags, XmlHasNoMarks};
 
 /// Reports as TAP and in JUnit's XML are those of their points, so the laws below are about them.
 pub fn reports_are_their_texts()
@@ -14,8 +14,8 @@ pub fn tap_is_its_points()
 {}
 
 /// No text in XML has `<`, `>` or `"`, and each `&` in it begins a reference.
-pub fn texts_have_no_marks()
-    ensures { TextsHaveNoMarks }
+pub fn xml_has_no_marks()
+    ensures { XmlHasNoMarks }
 {}
 
 /// The tags of a report in JUnit's XML are those of one in which nothing is told.

@@ -21,7 +21,7 @@ use worksheet::{Answer, Field};
 pub enum Format {
     /// In words, which people read: what differs, and the counts.
     Text,
-    /// As TAP, version 14: a test point for each field.
+    /// As TAP, version 13: a test point for each field.
     Tap,
     /// In JUnit's XML: a test case for each field.
     Junit,

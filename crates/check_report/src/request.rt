@@ -31,7 +31,7 @@ pub enum RequestFault {
 
 /// The format of this name: `text`, `tap` or `junit`. None where there is none of it.
 fn format_named(name: &str) -> Option<Format>
-    ensures { result ≡ asked.format_named name.now }
+    ensures { result ≡ asked.report_named name.now }
 {
     match name {
         "text" => Some(Format::Text),

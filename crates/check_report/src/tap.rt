@@ -1,4 +1,4 @@
-//! A report as TAP, version 14.
+//! A report as TAP, version 13.
 ghost use Rattle.std.specs.Prelude.{OnOk};
 ghost use Rattle.std.specs.Io.KnownBytes.{Appends};
 ghost use Rattle.check_report.specs.Points.{point};
@@ -13,7 +13,7 @@ use std::io::Write;
 pub(crate) fn write_version<W: Write>(out: &mut W) -> Result<(), WriteFault>
     ensures { OnOk result (Appends (W.contents out.old) (W.contents out.new) tap.version_line) }
 {
-    write_bytes(b"TAP version 14\n", out)
+    write_bytes(b"TAP version 13\n", out)
 }
 
 /// Writes the plan, which stands last.

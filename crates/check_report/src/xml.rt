@@ -10,7 +10,7 @@ use std::io::Write;
 
 /// Writes a byte, a mark of XML as its reference.
 fn write_reference<W: Write>(byte: u8, out: &mut W) -> Result<(), WriteFault>
-    ensures { OnOk result (Appends (W.contents out.old) (W.contents out.new) (xml.reference byte)) }
+    ensures { OnOk result (Appends (W.contents out.old) (W.contents out.new) (xml.xml_reference byte)) }
 {
     if byte == b'&' {
         return write_bytes(b"&amp;", out);
@@ -29,7 +29,7 @@ fn write_reference<W: Write>(byte: u8, out: &mut W) -> Result<(), WriteFault>
 
 /// Whether a byte is no control character, or a tab or a line feed.
 fn is_kept(byte: u8) -> bool
-    ensures { result ≡ xml.is_kept byte }
+    ensures { result ≡ xml.stays_in_xml byte }
 {
     byte >= 32 || byte == b'\t' || byte == b'\n'
 }
@@ -58,7 +58,7 @@ fn is_allowed(character: Option<char>) -> bool
 
 /// How many bytes the character has that begins here, and 0 where none does that XML can have.
 fn character_length(bytes: &[u8]) -> usize
-    ensures { result ≡ xml.character_length bytes.now }
+    ensures { result ≡ xml.xml_length bytes.now }
 {
     let (character, size) = decode_utf8(bytes);
     if is_allowed(character) { size } else { 0 }
@@ -66,7 +66,7 @@ fn character_length(bytes: &[u8]) -> usize
 
 /// How many of these bytes, from the first, belong to one character, where so many of it are left.
 fn belonging(left: usize, bytes: &[u8]) -> usize
-    ensures { result ≡ xml.belonging left bytes.now }
+    ensures { result ≡ xml.xml_belonging left bytes.now }
 {
     if left > 0 {
         left
