@@ -12,7 +12,7 @@ rows =
     ∷ (codes "run", shape.Strict)
     ∷ (codes "live", shape.Json)
     ∷ (codes "show", shape.Json)
-    ∷ (codes "check", shape.Path)
+    ∷ (codes "check", shape.Check)
     ∷ (codes "rescue", shape.Paths)
     ∷ (codes "export", shape.Format)
     ∷ (codes "faults", shape.Help)

@@ -1,4 +1,4 @@
-use Rattle.std.proofs.Common.{◌≡◌, ◌∙◌, ◌≤◌, ap, arith, sym, subst, ℕ}
+use Rattle.std.proofs.Common.{◌≡◌, ◌∙◌, ◌≤◌, ap, arith, subst, ℕ}
 use native.Mathlib.Numerals.{unary_clauses}
 use Rattle.clap.specs.Words.{App, app_of, with_subcommand}
 use Rattle.command_words.specs.inside.Table as asked
