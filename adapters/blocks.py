@@ -12,7 +12,7 @@ import signal
 import subprocess
 import sys
 import time
-from typing import Any, Callable, Iterator, List, Optional, Set
+from typing import Any, Callable, Iterator, List, NamedTuple, Optional, Set
 
 LONGEST = 8_000_000  # bytes of an answer; escapes may double them, and a block may have 16,777,216
 PIECE = 65_536  # bytes that are read at once
@@ -37,6 +37,23 @@ def block(tag: bytes, body: bytes) -> bytes:
 def with_prompt(tag: bytes, body: bytes, prompt: bytes) -> bytes:
     """An answer with the prompt of the next line; an empty prompt is left out, and the host's own is shown."""
     return block(tag, body + block(b"prompt#", escaped(prompt)) if prompt else body)
+
+
+class Part(NamedTuple):
+    """A part of an answer."""
+
+    text: bytes
+    is_formula: bool = False  # whether it is LaTeX, between dollars
+
+
+def answer(parts: List[Part], prompt: bytes) -> bytes:
+    """The block of an answer: a formula alone, or a text, in which each formula is a block."""
+    parts = [part for part in parts if part.text]
+    if len(parts) == 1 and parts[0].is_formula:
+        return with_prompt(b"latex:", escaped(parts[0].text), prompt)
+    shown = [escaped(part.text) for part in parts]
+    body = b"\n".join(block(b"latex:", text) if part.is_formula else text for part, text in zip(parts, shown))
+    return with_prompt(b"verbatim:", body, prompt)
 
 
 def verbatim(text: bytes, prompt: bytes = b"") -> bytes:

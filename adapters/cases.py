@@ -3,9 +3,10 @@
 Of an output that begins with `..` it is what the output has somewhere. A line with True behind it is interrupted behind a while.
 """
 import dataclasses
-from typing import List, Tuple, Union
+from typing import List
 
-Case = Union[Tuple[str, str], Tuple[str, str, bool]]
+import gp_lines
+from gp_lines import MESSAGE, Line as Case, ones
 
 
 @dataclasses.dataclass(frozen=True)
@@ -14,17 +15,10 @@ class Trial:
 
     words: str  # behind the folder of the adapters
     program: str  # that has to be here
-    leaving: str  # a line that ends it
+    leaving: str  # a line that ends it; empty where none does
     busy: str  # a line without an end
     cases: List[Case]
 
-
-def ones(length: int) -> str:
-    """A sum of ones of so many bytes."""
-    return "+".join(["1"] * ((length + 1) // 2)) + (" " if length % 2 == 0 else "")
-
-
-MESSAGE = "  ***   at top-level: %s\n  ***                 %s\n  *** %s"
 
 # From the manual of gp: 2.1 (errors), 2.5 (lines), 2.7 (metacommands), 2.12 (defaults), 3 (functions).
 GP: List[Case] = [
@@ -109,6 +103,41 @@ GP_TEXT: List[Case] = [
     ("1 + 1\u20282 + 2;\u20283 + 3", "%14 = 2\n%16 = 6"), ("[1..3000]", "..2999,3000]"),
 ]
 
+M2: List[Case] = [
+    ("2 + 2", "4"), ("oo + 1", "5"), ("1 / 3 + x", "..no method for binary operator +"), ("oo", "5"), ("R = QQ[x, y]; ideal(x^2, y)", "        2\nideal (x , y)"),
+    ("z = 7;", ""), ("z", "7"), ("1 / 0", "..division by zero"), ("(1 +", "..syntax error"), ('"a  b"', "a  b"), ("print 3", "3"), ("null", ""), ("", ""), ("-- a remark", ""),
+    ("1\u20282", "2"), ("while true do 0", "..interrupted", True), ("z", "7"),
+]
+
+M2_LATEX: List[Case] = [
+    ("1 / 3", r"{latex:$\frac{1}{3}$}"), ("oo", r"{latex:$\frac{1}{3}$}"), ("R = QQ[x, y]; x^2 / 3", r"{latex:$\frac{1}{3}x^{2}$}"),
+    ("matrix {{x, y}, {1, 2}}", r"{latex:$\left(\!\begin{array}{cc} x&y\\ 1&2 \end{array}\!\right)$}"), ("z = 7;", ""), ('"$a b$"', "$a b$"), ("f = t -> t + 1", "f"),
+    ("print x; y", "x\n{latex:$y$}"), ("1 / 0", "..division by zero"), ("{1, 2}", r"{latex:$\left\{1,\:2\right\}$}"), ("", ""),
+]
+
+GIAC: List[Case] = [
+    ("x^2 / 3 + 1", "x^2/3+1"), ("a := 5", "5"), ("a + 1", "6"), ("2 - 2", "0"), ('"a b"', '"a b"'), ("1 /", "..syntax error"), ("", ""), ("print(3)", "3\n0"),
+    ("[[1, 2], [3, a]]", "[[1,2],[3,5]]"), ("while (true) { a := 1 }", "..", True), ("1 + 1", "2"),
+]
+
+GIAC_LATEX: List[Case] = [
+    ("x^2 / 3 + 1", r"{latex:$\frac{x^{2}}{3}+1$}"), ("a := 5", "{latex:$5$}"), ("sqrt(8)", r"{latex:$2 \sqrt{2}$}"), ('"a b"', '"a b"'), ("f(t) := t^2", "..(t)->t^2"), ("f(3)", "{latex:$9$}"),
+    ("[[1, 2], [3, a]]", r"{latex:$\left[\begin{array}{cc}1&2\\3&5\end{array}\right]$}"), ("1 /", "..syntax error"), ("", ""), ('print("a"); b', "a\n{latex:$0,b$}"),
+]
+
+OCTAVE_LATEX: List[Case] = [
+    ("syms x y", ""), ("f = x^2 / 3", r"{latex:$\mathrm{f} = \frac{x^{2}}{3}$}"), ("[x 1; 2 y]", r"{latex:$\mathrm{ans} = \left[\begin{matrix}x & 1\\2 & y\end{matrix}\right]$}"),
+    ("f;", ""), ("1 + 1", "ans = 2"), ("a_b = int(exp(-x^2), x, -inf, inf)", r"{latex:$\mathrm{a\_b} = \sqrt{\pi}$}"), ("disp('a'); x", "a\n" r"{latex:$\mathrm{x} = x$}"), ("x * ", "..error"),
+]
+
+MAXIMA_LATEX: List[Case] = [
+    ("diff(x^2, x)", r"{latex:$2\,x$}"), ("%", r"{latex:$2\,x$}"), ("matrix([1, 2], [x/2, 4])", r"{latex:$\begin{pmatrix}1&2\\ \frac{x}{2}&4\end{pmatrix}$}"), ("%o1", r"{latex:$2\,x$}"),
+    ('print("hi", x/3)', "hi x/3 \n" r"{latex:$\frac{x}{3}$}"), ("f(x) := x^2", "f(x):=x^2"), ('"a b"', '"a b"'), ("1 / 0", "..undefined"), ('[1, "$s$", x]', '[1,"$s$",x]'),
+    ("'integrate(x^n, x)", r"{latex:$\int {x^{n}}{\;dx}$}"), ("foo_bar + %i*%pi", r"{latex:$\mathit{foo\_bar}+i\,\pi$}"), ("{1, 2}", r"{latex:$\left \{1 , 2 \right \}$}"),
+    ("binomial(n, k)", r"{latex:$\binom{n}{k}$}"), ("is(1 < 2)", "true"), ("x/3; y/4", r"{latex:$\frac{x}{3}$}" "\n" r"{latex:$\frac{y}{4}$}"), ("a: 5$", ""), ("%", "{latex:$5$}"),
+    ("1 +", "..incorrect syntax"), ("", ""), ("integrate(y^n, y)", "..a line has no input of its own"), ("while true do 0", "..interrupt", True), ("a + 1", "{latex:$6$}"),
+]
+
 PYTHON: List[Case] = [
     ("1 + 1", "2"), ("_ + 1", "3"), ("x = 1; y = 2; x + y", "3"), ("def f(n):\u2028    return 1 / n\u2028f(2)", "0.5"), ("for i in range(3):\u2028    print(i)\u2028i", "0\n1\n2\n2"),
     ("raise ValueError('no')", "Traceback (most recent call last):\n  File \"<line 6>\", line 1, in <module>\n    raise ValueError('no')\nValueError: no"),
@@ -170,6 +199,27 @@ YACAS: List[Case] = [
     ("1 + 1", "2"), ("D(x) x^2", "2*x"), ("foo(", "..closing bracket"), ("a := 3", "3"), ("a", "3"), ("", ""), ("While(True) b := 1;", "..interrupted", True), ("a", "3"),
 ]
 
+# A function of ten lines or more, whose value at 10 is the sum 1 - 2 + 3 - .. - 10.
+TEN_LINES = {
+    "python": "def k(n):\n    s = 0\n    i = 1\n    while i <= n:\n        if i % 2:\n            s += i\n        else:\n            s -= i\n        i += 1\n    return s",
+    "sh": "k() {\n    s=0\n    for i in $(seq $1)\n    do\n        if [ $((i % 2)) = 1 ]\n        then s=$((s + i))\n        else s=$((s - i))\n        fi\n    done\n    echo $s; }",
+    "bc": "define k(n) {\n  auto s, i\n  s = 0\n  i = 1\n  while (i <= n) {\n    s = i - s\n    i = i + 1\n  }\n  return (-s)\n}",
+    "octave": "function s = k(n)\n  s = 0;\n  for i = 1:n\n    if mod(i, 2)\n      s = s + i;\n    else\n      s = s - i;\n    end\n  end\nend",
+    "R": "k <- function(n) {\n  s <- 0\n  for (i in 1:n) {\n    if (i %% 2 == 1)\n      s <- s + i\n    else\n      s <- s - i\n  }\n  s\n}",
+    "gap": "k := function(n)\n  local s, i;\n  s := 0;\n  for i in [1..n] do\n    if i mod 2 = 1 then\n      s := s + i;\n    else s := s - i; fi;\n  od;\n  return s;\nend;",
+    "maxima": "k(n) := block([s: 0],\n  for i thru n do\n    if oddp(i)\n      then\n        s: s + i\n      else\n        s: s - i,\n  /* the sum */\n  s\n)$",
+    "M2": "k = n -> (\n  s := 0;\n  i := 1;\n  while i <= n do (\n    if i % 2 == 1\n    then s = s + i\n    else s = s - i;\n    i = i + 1;\n  );\n  s);",
+    "giac": "k(n):={\n  local s, j;\n  s:=0;\n  for (j:=1;j<=n;j++) {\n    if (irem(j,2)==1) {\n      s:=s+j;\n    } else {\n      s:=s-j; }\n  }\n  return s; }",
+    "singular": "proc k(int n) {\n  int s, i;\n  for (i = 1; i <= n; i++) {\n    if (i % 2 == 1) {\n      s = s + i;\n    } else {\n      s = s - i;\n    }\n  }\n  return (s); }",
+    "gnuplot": "k = 0\ndo for [i = 1:10] {\n  if (i % 2 == 1) {\n    k = k + i\n  } else {\n    k = k - i\n  }\n  n = i\n  x = k\n}",
+    "yacas": "k(n) := [\n  Local(s, i);\n  s := 0;\n  For (i := 1, i <= n, i++) [\n    If (Mod(i, 2) = 1,\n      s := s + i,\n      s := s - i);\n  ];\n  s;\n];",
+}
+
+
+def ten_lines(name: str, call: str = "k(10)", said: str = "", told: str = "-5") -> List[Case]:
+    """The function as one field, and its value."""
+    return [(TEN_LINES[name].replace("\n", "\u2028"), said), (call, told)]
+
 
 def by_prompted(profile: str, program: str, leaving: str, busy: str, cases: List[Case]) -> Trial:
     return Trial(f"prompted.py {profile}", program, leaving, busy, cases)
@@ -177,16 +227,23 @@ def by_prompted(profile: str, program: str, leaving: str, busy: str, cases: List
 
 TRIALS = {
     "gp": Trial("gp", "gp", "quit", "while (1, )", GP),
+    "gp_lines": Trial("gp", "gp", "\\q", "while (1, )", gp_lines.LINES),
     "gp_text": Trial("gp --text", "gp", "\\q", "while (1, )", GP_TEXT),
-    "python": Trial("python", "python3", "os._exit(0)", "while True: pass", PYTHON),
-    "prompted_python": by_prompted("python", "python3", "quit()", "while True: pass", PROMPTED_PYTHON),
-    "sh": by_prompted("sh", "bash", "exit", "while :; do :; done", SH),
-    "bc": by_prompted("bc", "bc", "quit", "while (1) a = a + 1", BC),
-    "octave": by_prompted("octave", "octave-cli", "quit", "while true, end", OCTAVE),
-    "R": by_prompted("R", "R", "q()", "while (TRUE) 0", R),
-    "gap": by_prompted("gap", "gap", "quit;", "while true do od;", GAP),
-    "maxima": by_prompted("maxima", "maxima", "quit();", "while true do 0;", MAXIMA),
-    "singular": by_prompted("singular", "Singular", "quit;", "while (1) { int k = 1; kill k; }", SINGULAR),
-    "gnuplot": by_prompted("gnuplot", "gnuplot", "quit", "while (1) { x = 1 }", GNUPLOT),
-    "yacas": by_prompted("yacas", "yacas", "quit", "While(True) a := 1;", YACAS),
+    "python": Trial("python", "python3", "os._exit(0)", "while True: pass", PYTHON + ten_lines("python")),
+    "prompted_python": by_prompted("python", "python3", "quit()", "while True: pass", PROMPTED_PYTHON + ten_lines("python")),
+    "sh": by_prompted("sh", "bash", "exit", "while :; do :; done", SH + ten_lines("sh", "k 10")),
+    "bc": by_prompted("bc", "bc", "quit", "while (1) a = a + 1", BC + ten_lines("bc")),
+    "octave": by_prompted("octave", "octave-cli", "quit", "while true, end", OCTAVE + ten_lines("octave", told="ans = -5")),
+    "octave_latex": by_prompted("octave --latex", "octave-cli", "quit", "while true, end", OCTAVE_LATEX),
+    "R": by_prompted("R", "R", "q()", "while (TRUE) 0", R + ten_lines("R", told="[1] -5")),
+    "gap": by_prompted("gap", "gap", "quit;", "while true do od;", GAP + ten_lines("gap", said="function( n ) ... end")),
+    "maxima": by_prompted("maxima", "maxima", "quit();", "while true do 0;", MAXIMA + ten_lines("maxima")),
+    "maxima_latex": by_prompted("maxima --latex", "maxima", "quit();", "while true do 0;", MAXIMA_LATEX),
+    "M2": by_prompted("M2", "M2", "exit 0", "while true do 0", M2 + ten_lines("M2")),
+    "M2_latex": by_prompted("M2 --latex", "M2", "exit 0", "while true do 0", M2_LATEX),
+    "giac": by_prompted("giac", "giac", "", "while (true) { a := 1 }", GIAC + ten_lines("giac", said="..Success")),
+    "giac_latex": by_prompted("giac --latex", "giac", "", "while (true) { a := 1 }", GIAC_LATEX),
+    "singular": by_prompted("singular", "Singular", "quit;", "while (1) { int k = 1; kill k; }", SINGULAR + ten_lines("singular")),
+    "gnuplot": by_prompted("gnuplot", "gnuplot", "quit", "while (1) { x = 1 }", GNUPLOT + ten_lines("gnuplot", "print k")),
+    "yacas": by_prompted("yacas", "yacas", "quit", "While(True) a := 1;", YACAS + ten_lines("yacas")),
 }

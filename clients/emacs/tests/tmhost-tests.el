@@ -21,7 +21,7 @@
 
 (defun tmhost-tests-until (condition &optional what)
   "Wait for the function CONDITION to give true; WHAT is its name."
-  (let ((until (+ (float-time) 30)))
+  (let ((until (+ (float-time) 120)))
     (while (not (funcall condition))
       (when (> (float-time) until)
         (error "This didn't come: %s in %s" what (tmhost-tests-text)))

@@ -1,5 +1,6 @@
 """What the tests share: the command in a folder of its own, and documents."""
 import dataclasses
+import importlib.util
 import json
 import os
 import shutil
@@ -15,6 +16,7 @@ LINE_END = "\u2028"
 PYTHON = {"kernelspec": {"name": "python3", "display_name": "Python 3", "language": "python"}, "language_info": {"name": "python"}}
 
 needs_program = unittest.skipUnless(os.path.isfile(PROGRAM), "there is no built tmhost, and TMHOST names none")
+needs_nbformat = unittest.skipUnless(importlib.util.find_spec("nbformat"), "there is no nbformat (Debian's package python3-nbformat)")
 
 
 @dataclasses.dataclass
@@ -85,6 +87,6 @@ class Case(unittest.TestCase):
 
     def host(self, *words: str, data: str = "") -> str:
         """What the program writes."""
-        done = subprocess.run([PROGRAM, *words], input=data.encode("utf-8"), capture_output=True, cwd=self.folder, timeout=120)
+        done = subprocess.run([PROGRAM, *words], input=data.encode("utf-8"), capture_output=True, cwd=self.folder, timeout=300)
         self.assertEqual((done.returncode, done.stderr), (0, b""))
         return done.stdout.decode("utf-8")

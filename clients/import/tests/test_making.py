@@ -8,7 +8,7 @@ import signal
 import subprocess
 import time
 
-from .support import COMMAND, LINE_END, PROGRAM, ROOT, Case, Done, code, needs_program, notebook
+from .support import COMMAND, LINE_END, PROGRAM, ROOT, Case, Done, code, needs_nbformat, needs_program, notebook
 
 ECHO = f"sh {ROOT}/examples/echo.sh"
 # Programs that stand before tmhost, each a text for sh; `$REAL` is tmhost itself.
@@ -28,6 +28,7 @@ def random_sheet(rng: random.Random) -> list[tuple[str, str]]:
 
 
 @needs_program
+@needs_nbformat
 class Making(Case):
     def before(self, text: str) -> dict[str, str]:
         """The environment in which a program stands before tmhost."""
@@ -139,12 +140,13 @@ class Making(Case):
             documents = [self.write(f"{name}.ipynb", notebook(*[code(name)] * 30)) for name in ("a", "b")]
             environment = {**os.environ, "TMHOST": PROGRAM}
             two = [subprocess.Popen([COMMAND, document, new], cwd=self.folder, env=environment, stderr=subprocess.DEVNULL) for document in documents]
-            statuses = [process.wait(120) for process in two]
+            statuses = [process.wait(300) for process in two]
             self.assertEqual(sorted(statuses), [0, 1])
             self.assertEqual(self.host("export", "script", new), self.do("--script", documents[statuses.index(0)]).out)
             self.assertFalse(glob.glob(self.path(".tmhost-import-*")))
 
 
+@needs_nbformat
 class Words(Case):
     def status(self, *words: str) -> Done:
         return self.do(*words, data=notebook(code("x")))

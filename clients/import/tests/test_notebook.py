@@ -1,7 +1,7 @@
 """Notebooks: what of them becomes fields, and which are refused."""
 import os
 
-from .support import LINE_END, PYTHON, Case, code, notebook
+from .support import Case, LINE_END, PYTHON, code, needs_nbformat, notebook
 
 MARKDOWN = {"cell_type": "markdown", "metadata": {}, "source": "# Title"}
 RAW = {"cell_type": "raw", "metadata": {}, "source": "raw"}
@@ -49,6 +49,7 @@ REFUSED: dict[str, tuple[str | bytes, str]] = {
 ALL_SESSIONS = [word for number in range(65) for word in ("--session", f"s{number}=sh x")]
 
 
+@needs_nbformat
 class Notebooks(Case):
     def test_code_cells_become_fields_in_order(self) -> None:
         text = notebook(MARKDOWN, code(["def f(n):\n", "    return n\n", "\n"]), RAW, code(""), code("f(2)"), MARKDOWN)

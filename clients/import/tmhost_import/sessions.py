@@ -13,9 +13,9 @@ HERE = os.path.dirname(os.path.realpath(__file__))
 # Where the adapters lie, seen from here: in the repository, and where they may be installed.
 ADAPTERS = tuple(os.path.join(HERE, *folders) for folders in (("..", "..", "..", "adapters"), ("..", "..", "adapters"), ("..", "..")))
 WRAPPER = "prompted.py"
-PROFILES = ("bc", "gap", "gnuplot", "maxima", "octave", "python", "R", "sh", "singular", "yacas")  # of the wrapper
+PROFILES = ("bc", "gap", "giac", "gnuplot", "M2", "maxima", "octave", "python", "R", "sh", "singular", "yacas")  # of the wrapper
 # Interpreters that write blocks themselves.
-OWN_MODE = {"giac": ("giac", "--texmacs"), "gp": ("gp", "--texmacs"), "macaulay2": ("M2", "--texmacs")}
+OWN_MODE = {"gp": ("gp", "--texmacs")}
 LANGUAGES = tuple(sorted([*PROFILES, *OWN_MODE], key=str.lower))
 # Other names that kernels, Org and fences have for them, in lower case.
 ALIASES = {
@@ -24,7 +24,7 @@ ALIASES = {
     "gap 4": "gap",
     "ipython": "python",
     "ir": "R",
-    "m2": "macaulay2",
+    "macaulay2": "M2",
     "pari": "gp",
     "pari-gp": "gp",
     "pari_jupyter": "gp",

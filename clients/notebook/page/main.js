@@ -60,6 +60,9 @@ const DOES = {
   askSession,
   showKeys,
   showRemoved: () => byId("removed-dialog", HTMLDialogElement).showModal(),
+  showExport: async () => {
+    if (await actions.saveIdle()) byId("export-dialog", HTMLDialogElement).showModal();
+  },
   restore: (node) => {
     byId("removed-dialog", HTMLDialogElement).close();
     return actions.restore(Number(node.dataset.number));

@@ -27,8 +27,8 @@ ours = [fcntl.fcntl(int(word), fcntl.F_DUPFD, 10) for word in sys.argv[1:3]]
 os.dup2(ours[0], 3), os.dup2(ours[1], 4)
 os.execv(sys.argv[3], sys.argv[3:])
 """
-WITHIN = 60.0  # seconds for a reply
-SLOW = 30.0  # seconds for what is waited for in a page
+WITHIN = 240.0  # seconds for a reply
+SLOW = 120.0  # seconds for what is waited for in a page, beside other work too
 
 MODIFIERS = {"Alt": 1, "Control": 2, "Meta": 4, "Shift": 8}
 CODES = {

@@ -44,11 +44,11 @@ needs_chromium = unittest.skipIf(chromium.find_chromium() is None, "there is no 
 class Server:
     """`tmhost-notebook` on a worksheet."""
 
-    def __init__(self, sheet: str, *words: str) -> None:
+    def __init__(self, sheet: str, *words: str, program: Optional[str] = None) -> None:
         self.sheet = sheet
         self.process = subprocess.Popen(
             [os.path.join(NOTEBOOK, "tmhost-notebook"), "--no-browser", *words, sheet],
-            stdin=subprocess.DEVNULL, stdout=subprocess.PIPE, stderr=subprocess.PIPE, text=True, env={**os.environ, "TMHOST": PROGRAM or ""},
+            stdin=subprocess.DEVNULL, stdout=subprocess.PIPE, stderr=subprocess.PIPE, text=True, env={**os.environ, "TMHOST": program or PROGRAM or ""},
         )
         assert self.process.stdout and self.process.stderr
         self.address = self.process.stdout.readline().strip()
@@ -73,7 +73,7 @@ class Server:
         return self.process.returncode
 
     def end(self) -> None:
-        self.process.wait(20)
+        self.process.wait(120)
         for stream in (self.process.stdout, self.process.stderr):
             if stream:
                 stream.close()
@@ -102,7 +102,7 @@ class Page:
         self.path = body.decode().partition("url=")[2].partition('"')[0]
 
     def request(self, method: str, path: str, headers: Dict[str, str], body: Optional[bytes] = None) -> Tuple[int, Dict[str, str], bytes]:
-        connection = http.client.HTTPConnection(self.host, timeout=60)
+        connection = http.client.HTTPConnection(self.host, timeout=240)
         connection.request(method, path, body, headers)
         reply = connection.getresponse()
         told = reply.status, {name.lower(): value for name, value in reply.getheaders()}, reply.read()
@@ -118,7 +118,7 @@ class Page:
 
     def snapshot(self) -> Dict[str, Any]:
         """The first message that a page is told."""
-        connection = http.client.HTTPConnection(self.host, timeout=60)
+        connection = http.client.HTTPConnection(self.host, timeout=240)
         connection.request("GET", self.path + "events", headers={"Cookie": self.cookie})
         reply = connection.getresponse()
         told: Dict[str, Any] = json.loads(reply.readline()[len(b"data: ") :])
@@ -130,7 +130,7 @@ class Page:
 
     def until_idle(self) -> Dict[int, Dict[str, Any]]:
         """Waits until nothing waits for an answer."""
-        end = time.monotonic() + 60
+        end = time.monotonic() + 240
         while time.monotonic() < end:
             cells = self.cells()
             if not any(cell["state"] in ("running", "queued") for cell in cells.values()):
@@ -147,8 +147,8 @@ class Case(unittest.TestCase):
         self.sheet = os.path.join(self.folder, "sheet")
         self.addCleanup(shutil.rmtree, self.folder, True)
 
-    def serve(self, *words: str) -> Server:
-        server = Server(self.sheet, *words)
+    def serve(self, *words: str, program: Optional[str] = None) -> Server:
+        server = Server(self.sheet, *words, program=program)
         self.addCleanup(server.kill)
         return server
 

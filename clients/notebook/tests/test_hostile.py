@@ -160,7 +160,7 @@ class Hostile(Case):
         tab.click("#cell-2 .number")
         tab.key("Enter")
         tab.type("x")
-        tab.until("document.querySelector('#cell-2 textarea').value", "say afterx", 2)
+        tab.until("document.querySelector('#cell-2 textarea').value", "say afterx")
         self.assertEqual(self.show().count("x" * 16_000_000), 1)
 
     def test_the_page_takes_no_markup(self) -> None:

@@ -1,5 +1,5 @@
 """Kills of the server, the program and the browser at random moments, while a page saves and evaluates: each text that a cell had said is saved
-is in the file, or a later one; each answer that was shown is there; and each answer is whole. KILLS says how many (20)."""
+is in the file, or a later one; each answer that was shown is there; and each answer is whole. TMHOST_KILLS says how many (20)."""
 
 import os
 import random
@@ -11,7 +11,7 @@ from typing import Dict
 
 from harness import AS_SHOWN, SPOKEN, Case, Page, needs_chromium, needs_program, opened
 
-KILLS = int(os.environ.get("KILLS", "20"))
+KILLS = int(os.environ.get("TMHOST_KILLS", "20"))
 LINES = 300  # of each answer
 MOST_CELLS = 12
 
@@ -111,7 +111,7 @@ class Kills(Case):
         self.tab = opened(self.browser, self.server)
 
     def test_kills(self) -> None:
-        seed = int(os.environ.get("SEED", str(random.randrange(10**6))))
+        seed = int(os.environ.get("TMHOST_SEED", str(random.randrange(10**6))))
         rng = random.Random(seed)
         kinds = [self.kill_server, self.kill_program, self.kill_browser]
         for round in range(KILLS):
@@ -129,7 +129,7 @@ class Kills(Case):
 
     def agree(self) -> None:
         """At the end the page shows what the file has."""
-        end = time.monotonic() + 30
+        end = time.monotonic() + 120
         while (page := self.tab.value(AS_SHOWN)) != (file := self.show()):
             if time.monotonic() > end:
                 self.assertEqual(page, file)

@@ -1,21 +1,31 @@
-"""A worksheet of 1,000 cells: how long its page takes to open, and a key to be seen. The limits are three times what is promised, since tests
-run beside other work; what was measured is printed."""
+"""A worksheet of 1,000 cells: how long its page takes to open, a key to be seen, and an answer to be seen behind the moment at which the program
+told it, so when it was on the disk. What is measured is printed. It is held to the limits where TMHOST_LIMITS=1 says so, since tests run beside
+other work."""
 
+import os
+import shutil
 import time
 import unittest
+from typing import Dict, List, Tuple
 
-from harness import READY, SPOKEN, Case, Page, needs_chromium, needs_program
+import chromium
+import harness
+from harness import HERE, READY, SPOKEN, Case, Page, Server, needs_chromium, needs_program
 
 CELLS = 1_000
-OPENS_WITHIN = 6.0  # seconds
-SEEN_WITHIN = 150.0  # milliseconds
+OPENS_WITHIN = 2_000.0  # milliseconds
+KEY_WITHIN = 50.0
+ANSWER_WITHIN = 100.0
+TIMES = 20
+ARE_HELD = os.environ.get("TMHOST_LIMITS") == "1"
+STAMPING = os.path.join(HERE, "interpreters", "stamping")
 
 # From the key's event until the next picture of the page.
-KEY = """
+KEYS = """
 new Promise((done) => {
   const text = document.activeElement, times = [];
   const next = () => {
-    if (times.length === 20) return done(times.sort((one, other) => one - other));
+    if (times.length === 20) return done(times);
     const start = performance.now();
     text.setRangeText("x", text.value.length, text.value.length, "end");
     text.dispatchEvent(new Event("input", { bubbles: true }));
@@ -24,43 +34,93 @@ new Promise((done) => {
   next();
 })
 """
+# Evaluates a cell with a new text, and gives the moment at which a picture of the page has its answer.
+ANSWER = """
+new Promise((done) => {
+  const cell = document.querySelector("#cell-%d"), text = cell.querySelector("textarea"), shown = cell.querySelector(".output pre");
+  const seen = () => requestAnimationFrame(() => setTimeout(() => done(Date.now())));
+  const watch = new MutationObserver(() => {
+    if (shown.textContent !== "%s") return;
+    watch.disconnect();
+    seen();
+  });
+  watch.observe(cell, { childList: true, characterData: true, subtree: true });
+  text.value = "say %s";
+  text.dispatchEvent(new Event("input", { bubbles: true }));
+  text.dispatchEvent(new KeyboardEvent("keydown", { key: "Enter", ctrlKey: true, bubbles: true }));
+})
+"""
+
+
+def told(name: str, times: List[float], limit: float) -> str:
+    middle = sorted(times)[len(times) // 2]
+    most = f", {max(times):.0f} at most" if len(times) > 1 else ""
+    return f"{name} {middle:.0f} ms ({limit:.0f} wanted{most})"
 
 
 @needs_program
 @needs_chromium
 class Large(Case):
-    def test_a_thousand_cells(self) -> None:
-        server = self.serve()
-        page = Page(server)
+    def begin(self) -> Server:
+        """The server over a program whose answers are stamped."""
+        self.stamps = os.path.join(self.folder, "stamps")
+        os.environ.update(PROGRAM=harness.PROGRAM or "", STAMPS=self.stamps)
+        self.addCleanup(lambda: [os.environ.pop(name) for name in ("PROGRAM", "STAMPS")])
+        return self.serve(program=STAMPING)
+
+    def fill(self, page: Page) -> None:
         page.call("session", name="s", words=SPOKEN, tab=False)
         for number in range(CELLS):
             text = "block latex JFxzcXJ0e3h9JA==" if number % 10 == 5 else f"say {number} " + "word " * 20
             page.call("new", session=None if number % 20 == 7 else "s", text=text, after=number)
         self.assertEqual(page.call("eval_from", id=None)["count"], CELLS * 19 // 20)
         page.until_idle()
+
+    def stamp_of(self, id: int) -> float:
+        """When the last answer of a cell was told."""
+        with open(self.stamps, encoding="utf-8") as file:
+            stamps: Dict[int, float] = {int(line.split()[0]): float(line.split()[1]) for line in file}
+        return stamps[id]
+
+    def answers(self, tab: chromium.Tab) -> List[float]:
+        times = []
+        for number in range(TIMES):
+            id = 101 + 40 * number
+            times.append(tab.value(ANSWER % (id, f"new {number}", f"new {number}")) - self.stamp_of(id))
+        return times
+
+    def move(self, tab: chromium.Tab) -> None:
+        tab.until("document.querySelector('#cell-500 .text-state').textContent", "saved")
+        tab.key("Escape")
+        tab.key("ArrowUp", "Alt")
+        tab.until("document.querySelector('#cell-500').nextElementSibling.id", "cell-499")
+
+    def test_a_thousand_cells(self) -> None:
+        server = self.begin()
+        self.fill(Page(server))
         browser = self.browse()
         browser.open("about:blank")
         start = time.monotonic()
         tab = browser.open(server.address)
         tab.until(READY, "true")
-        opens = time.monotonic() - start
+        opens = (time.monotonic() - start) * 1000
         self.assertEqual(tab.value("document.querySelectorAll('.cell').length"), CELLS)
         tab.click("#cell-500 .number")
         tab.key("Enter")
         tab.until("document.activeElement.closest('.cell')?.id", "cell-500")
-        keys = tab.value(KEY)
-        tab.until("document.querySelector('#cell-500 .text-state').textContent", "saved")
-        start = time.monotonic()
-        tab.key("Escape")
-        tab.key("ArrowUp", "Alt")
-        tab.until("document.querySelector('#cell-500').nextElementSibling.id", "cell-499")
-        moved = time.monotonic() - start
+        keys = tab.value(KEYS)
+        self.move(tab)
+        answers = self.answers(tab)
         self.assertEqual(self.show().count("\n#"), CELLS - 1)
-        seen = f"a key seen in {keys[10]:.0f} ms ({keys[-1]:.0f} at most)"
-        print(f" {CELLS} cells: open in {opens:.2f} s, {seen}, moved in {moved * 1000:.0f} ms", end="")
-        self.assertLess(opens, OPENS_WITHIN)
-        self.assertLess(keys[10], SEEN_WITHIN)
         self.assertEqual(browser.trouble, [])
+        self.tell([("it opens in", [opens], OPENS_WITHIN), ("a key is seen in", keys, KEY_WITHIN),
+                   ("an answer is seen, behind being on the disk, in", answers, ANSWER_WITHIN)])
+
+    def tell(self, measured: List[Tuple[str, List[float], float]]) -> None:
+        beside = "is installed, and was not measured" if shutil.which("jupyter-lab") else "isn't installed, so it wasn't measured"
+        print(f" {CELLS} cells: {'; '.join(told(*one) for one in measured)}. JupyterLab {beside}", end=" ")
+        for name, times, limit in measured if ARE_HELD else []:
+            self.assertLess(sorted(times)[len(times) // 2], limit, name)
 
 
 if __name__ == "__main__":

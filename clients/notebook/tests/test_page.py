@@ -48,6 +48,11 @@ IN_PICTURE = [
     ("sh", "echo an interpreter for each session: this one answers beside the others\nseq -s ' ' 20"),
 ]
 FOCUSED = "document.activeElement.dataset?.do || document.activeElement.id || document.activeElement.className || document.activeElement.localName"
+NAME_OF = "((node) => node.dataset?.do || node.id || node.href || node.localName)(%s)"
+USABLE = f"""
+[...document.querySelectorAll("button, select, a[href]")].filter((node) => node.getBoundingClientRect().height && !node.disabled)
+  .map((node) => {NAME_OF % "node"})
+"""
 IN_TEXT = "document.activeElement.localName === 'textarea' && document.activeElement.closest('.cell').id"
 PROSE = """# Head
 
@@ -133,14 +138,15 @@ class ThePage(Case):
         tab.size(1000, 2400)
         tab.until("document.querySelectorAll('.set').length", 2)
         tab.click("#cell-2 .number")
-        for opener in (None, "askSession", "showKeys", "showRemoved"):
+        for opener in (None, "askSession", "showKeys", "showRemoved", "showExport"):
             if opener:
                 tab.value(f"document.querySelector('[data-do={opener}]').click()")
-            for scheme in ("light", "dark"):
-                tab.ask("Emulation.setEmulatedMedia", {"features": [{"name": "prefers-color-scheme", "value": scheme}]})
+                tab.until("document.querySelector('dialog[open]') !== null")
+            for media, scheme in (("screen", "light"), ("screen", "dark"), ("print", "dark")):
+                tab.ask("Emulation.setEmulatedMedia", {"media": media, "features": [{"name": "prefers-color-scheme", "value": scheme}]})
                 found = tab.value(CONTRAST)
-                self.assertGreater(len(found), 40)
-                self.assertEqual([one for one in found if one[1] < 4.5], [], (scheme, opener))
+                self.assertGreater(len(found), 40 if media == "screen" else 20)
+                self.assertEqual([one for one in found if one[1] < 4.5], [], (media, scheme, opener))
             tab.value("document.querySelectorAll('dialog').forEach((dialog) => dialog.close())")
         says = tab.value("[...document.querySelectorAll('.answer-state')].map((node) => node.dataset.state)")
         self.assertLessEqual({"running", "queued", "lost", "stale", "ended"}, set(says))
@@ -177,6 +183,22 @@ class ThePage(Case):
                 break
         tab.key("Enter")
         tab.until("document.querySelector('#sessions span').textContent", "not started")
+
+    def test_each_button_is_reached_by_keys(self) -> None:
+        """Tab comes to each button, list and link that is seen and does something, in a page that has cells in each state."""
+        self.begin()
+        self.all_states()
+        tab = opened(self.browser, self.server)
+        tab.until("document.querySelectorAll('.set').length", 2)
+        tab.click("#cell-5 .number")
+        wanted = tab.value(USABLE)
+        self.assertLessEqual({"showExport", "showRemoved", "interruptSession", "evaluate", "toggleText", "showMore", "addProse"}, set(wanted))
+        tab.value("document.activeElement.blur()")
+        seen: List[str] = []
+        for _ in range(3 * len(wanted)):
+            tab.key("Tab")
+            seen.append(tab.value(NAME_OF % "document.activeElement"))
+        self.assertEqual(set(wanted) - set(seen), set())
 
     def tab_to(self, tab: Any, wanted: str) -> List[str]:
         seen: List[str] = []
@@ -357,6 +379,26 @@ class ThePage(Case):
         if "PICTURE" in os.environ:
             with open(os.environ["PICTURE"], "wb") as file:
                 file.write(picture)
+
+    def test_undo_and_find(self) -> None:
+        """The browser's own: a text that is saved already is undone in its cell, and saved again; inputs and outputs are found."""
+        self.begin()
+        for number in range(60):
+            self.page.call("new", session="s", text=f"say needle{number}", after=number)
+        self.page.call("eval_from", id=None)
+        self.page.until_idle()
+        tab = opened(self.browser, self.server)
+        text, says = (f"document.querySelector('#cell-1 {place}" for place in ("textarea').value", ".text-state').textContent"))
+        tab.click("#cell-1 .number")
+        tab.key("Enter")
+        tab.type(" more")
+        tab.until(says, "saved")
+        self.assertIn("> say needle0 more\n", self.show())
+        tab.ask("Input.dispatchKeyEvent", {"type": "keyDown", "key": "z", "modifiers": 2, "commands": ["undo"]})
+        tab.until(text, "say needle0")
+        tab.until(says, "saved")
+        self.assertIn("> say needle0\n", self.show())
+        self.assertEqual(tab.value("[window.find('needle45'), document.activeElement.closest('.cell')?.id]"), [True, "cell-46"])
 
     def test_paper(self) -> None:
         """In print there are cells alone."""

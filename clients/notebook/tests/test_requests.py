@@ -157,7 +157,7 @@ class Requests(Case):
 class Starting(Case):
     def run_server(self, *words: str) -> "subprocess.CompletedProcess[str]":
         command = [os.path.join(harness.NOTEBOOK, "tmhost-notebook"), "--no-browser", *words]
-        return subprocess.run(command, capture_output=True, text=True, timeout=30, env={**os.environ, "TMHOST": harness.PROGRAM or ""})
+        return subprocess.run(command, capture_output=True, text=True, timeout=120, env={**os.environ, "TMHOST": harness.PROGRAM or ""})
 
     def test_a_second_server_says_in_use(self) -> None:
         self.serve()

@@ -72,7 +72,7 @@ class Session(Case):
 
     def compare(self) -> None:
         """The page may be behind the file, or the file behind what is typed, for a moment."""
-        end = time.monotonic() + 20
+        end = time.monotonic() + 120
         while True:
             page, file = self.tab.value(AS_SHOWN), self.show()
             if page == file:

@@ -9,6 +9,7 @@ import hmac
 import html
 import http.server
 import json
+import os
 import secrets
 import socket
 import sys
@@ -17,6 +18,7 @@ from typing import Any, Dict, Optional, Tuple
 
 from . import calls
 from .book import Book
+from .exported import FORMATS, NotExported, exported
 from .files import Files
 from .suggested import suggestions
 
@@ -36,6 +38,7 @@ SAFE = {
     "Permissions-Policy": "camera=(), microphone=(), geolocation=(), clipboard-read=()",
 }
 COOKIE = "tmhost"
+EXPORT = "export/"
 JSON = "application/json"
 TEXT = "text/plain; charset=utf-8"
 REFUSED = b"Refused. Open the address that tmhost-notebook printed.\n"
@@ -128,9 +131,22 @@ class Handler(http.server.BaseHTTPRequestHandler):
             self.tell_events()
         elif name == "suggestions":
             self.answer(200, json.dumps(suggestions()).encode(), JSON)
+        elif name.startswith(EXPORT) and name[len(EXPORT) :] in FORMATS:
+            self.export(name[len(EXPORT) :])
         else:
             found = self.server.files.read(name)
             self.answer(404, b"There is no such file.\n", TEXT) if found is None else self.answer(200, *found)
+
+    def export(self, name: str) -> None:
+        """A file with the worksheet, to be kept."""
+        book, (end, kind) = self.server.book, FORMATS[name]
+        try:
+            data = exported(book.path, book.program, name)
+        except NotExported as error:
+            self.answer(409, f"{error}\n".encode(), TEXT)
+            return
+        file = urllib.parse.quote(os.path.basename(book.path) + end, safe="")
+        self.answer(200, data, kind, (("Content-Disposition", f"attachment; filename*=UTF-8''{file}"),))
 
     def lead_in(self) -> None:
         """The address with the token gives the cookie."""

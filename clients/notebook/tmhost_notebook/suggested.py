@@ -19,14 +19,12 @@ ADAPTERS: List[Tuple[str, str, str, bool]] = [
     ("octave", "prompted.py octave", "octave", False),
     ("r", "prompted.py R", "R", False),
     ("gap", "prompted.py gap", "gap", False),
-    ("maxima", "prompted.py maxima", "maxima", False),
+    ("maxima", "prompted.py maxima --latex", "maxima", False),
+    ("m2", "prompted.py M2 --latex", "M2", False),
+    ("giac", "prompted.py giac --latex", "giac", False),
     ("singular", "prompted.py singular", "Singular", False),
     ("gnuplot", "prompted.py gnuplot", "gnuplot", False),
     ("yacas", "prompted.py yacas", "yacas", False),
-]
-OTHERS: List[Tuple[str, str, str, bool]] = [
-    ("m2", "M2 --texmacs", "M2", True),
-    ("giac", "giac --texmacs", "giac", False),
 ]
 
 
@@ -39,4 +37,4 @@ def folder_of_adapters() -> Union[str, None]:
 def suggestions() -> List[Suggestion]:
     folder = folder_of_adapters()
     found = [(name, os.path.join(folder, words), program, tab) for name, words, program, tab in ADAPTERS] if folder else []
-    return [{"name": name, "words": words, "tab": tab} for name, words, program, tab in found + OTHERS if shutil.which(program)]
+    return [{"name": name, "words": words, "tab": tab} for name, words, program, tab in found if shutil.which(program)]

@@ -19,7 +19,7 @@ from tmhost import Evaluation, InUse, LostItem, Refused, Worksheet  # noqa: E402
 BUILT = os.path.join(ROOT, "crates/tmhost/out/tmhost")
 PROGRAM = os.environ.get("TMHOST") or shutil.which("tmhost") or BUILT
 WORDS = [sys.executable, "-S", "-E", os.path.join(HERE, "interpreter.py")]
-SECONDS = 60.0  # in which everything comes, on a slow machine too
+SECONDS = 120.0  # in which everything comes, on a slow machine too
 
 needs_program = unittest.skipUnless(os.path.isfile(PROGRAM), "there is no tmhost: TMHOST names none, and none is on PATH or built")
 

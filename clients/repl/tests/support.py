@@ -20,7 +20,7 @@ ROOT = os.path.dirname(os.path.dirname(os.path.dirname(HERE)))
 COMMAND = os.path.join(os.path.dirname(HERE), "tmhost-repl")
 PROGRAM = os.environ.get("TMHOST") or shutil.which("tmhost") or os.path.join(ROOT, "crates/tmhost/out/tmhost")
 INTERPRETER = [sys.executable, os.path.join(HERE, "interpreter.py")]
-SECONDS = 30.0
+SECONDS = 120.0  # in which everything comes, beside other work too
 LINE_END = "\u2028"
 
 
@@ -207,7 +207,7 @@ class Case(unittest.TestCase):
 
     def fields(self) -> List[Field]:
         """What the worksheet has. A program that was killed may hold it for a moment still."""
-        for _ in range(100):
+        for _ in range(1000):
             try:
                 with Worksheet(self.sheet, program=PROGRAM) as worksheet:
                     return worksheet.fields
@@ -225,7 +225,7 @@ class Case(unittest.TestCase):
         """Status, output and errors of the command in a pipe."""
         data = text.encode() if isinstance(text, str) else text
         command = [sys.executable, "-B", COMMAND, *words]
-        done = subprocess.run(command, input=data, capture_output=True, env=environment(**more), timeout=120)
+        done = subprocess.run(command, input=data, capture_output=True, env=environment(**more), timeout=300)
         return done.returncode, done.stdout.decode("utf-8", "backslashreplace"), done.stderr.decode("utf-8", "backslashreplace")
 
     def terminal(self, *words: str, columns: int = 80, input: Optional[str] = None, **more: str) -> Terminal:

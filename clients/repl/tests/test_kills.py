@@ -55,7 +55,7 @@ class Kills(Case):
             told = (first + command.stdout.read()).decode()
             killer.join()
             command.stdin.close()
-            self.assertEqual(command.wait(30), -9 if kill is kill_command else 1)
+            self.assertEqual(command.wait(120), -9 if kill is kill_command else 1)
             if kill is kill_program:
                 self.assertRegex(command.stderr.read(), b"by signal 9")
         # Each line of output is written whole, by one write.

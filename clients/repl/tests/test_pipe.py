@@ -100,7 +100,7 @@ class Pipe(Case):
             command.stdout.close()
             command.stdin.write(b"a\nb\nc\n")
             command.stdin.close()
-            self.assertEqual((command.stderr.read(), command.wait(30)), (b"", 1))
+            self.assertEqual((command.stderr.read(), command.wait(120)), (b"", 1))
         self.assertEqual(self.pairs()[0], ("a", "a"))
 
 
@@ -177,7 +177,7 @@ class Interrupts(Case):
             command.send_signal(signal.SIGINT)
             self.assertEqual([command.stdout.readline(), command.stdout.readline()], [b"interrupted\n", b"2\n"])
             command.stdin.close()
-            self.assertEqual(command.wait(30), 0)
+            self.assertEqual(command.wait(120), 0)
 
     def test_a_second_one_stops(self) -> None:
         with self.start() as command:
@@ -189,7 +189,7 @@ class Interrupts(Case):
             command.send_signal(signal.SIGINT)
             self.assertIn(b"interrupt: sent", command.stderr.readline())
             command.send_signal(signal.SIGINT)
-            self.assertEqual((command.stdout.read(), command.wait(30)), (b"0\n", 1))
+            self.assertEqual((command.stdout.read(), command.wait(120)), (b"0\n", 1))
         self.assertEqual([field.reason for field in self.fields()], [None, "Stopped", None])
 
     def test_while_nothing_runs_it_ends(self) -> None:
@@ -200,7 +200,7 @@ class Interrupts(Case):
             self.assertEqual(command.stdout.readline(), b"a\n")
             time.sleep(0.3)
             command.send_signal(signal.SIGINT)
-            self.assertEqual(command.wait(30), 130)
+            self.assertEqual(command.wait(120), 130)
         self.assertEqual(self.pairs(), [("a", "a")])
 
     def test_several_end_it(self) -> None:
@@ -218,5 +218,5 @@ class Interrupts(Case):
             for _ in range(4):
                 command.send_signal(signal.SIGINT)
                 time.sleep(0.1)
-            self.assertEqual(command.wait(30), 130)
+            self.assertEqual(command.wait(120), 130)
         self.assertEqual(self.pairs()[0], ("a", "a"))

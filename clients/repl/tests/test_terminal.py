@@ -314,12 +314,12 @@ class Completions(Case):
 
 class Opening(Case):
     def test_a_new_worksheet(self) -> None:
-        terminal = self.terminal(self.sheet, "t", *INTERPRETER)
+        terminal = self.terminal(self.sheet, "t", *INTERPRETER, columns=300)
         terminal.sees("There is no worksheet.*Make it")
         terminal.send("n\r")
         self.assertEqual(terminal.ends(), 2)
         self.assertFalse(os.path.exists(self.sheet))
-        terminal = self.terminal(self.sheet, "t", *INTERPRETER)
+        terminal = self.terminal(self.sheet, "t", *INTERPRETER, columns=300)
         terminal.sees("Make it")
         terminal.send("y\r")
         terminal.sees("t>")

@@ -10,7 +10,7 @@ const { HOSTILE } = require("./hostile.js");
 const { pageOf, span } = require("./pages.js");
 const { run } = require("./run.js");
 
-const options = { skip: !fs.existsSync(CHROMIUM) };
+const options = { skip: fs.existsSync(CHROMIUM) ? false : "there is no Chromium (Debian's package chromium)" };
 const browser = options.skip ? null : new Browser();
 before(() => browser?.start());
 after(() => browser?.stop());

@@ -1,0 +1,67 @@
+"""The worksheet as `tmhost export` writes it, while the notebook has it open.
+
+The program locks a worksheet, so what is exported is a copy. Its two files must be those of one moment: they are read twice, the one behind the
+other. Where both have the same bytes again, both had them at the moment between. Any moment of a worksheet opens to all that was saved by then.
+"""
+
+import hashlib
+import os
+import subprocess
+import tempfile
+import time
+from typing import Dict, Optional, Tuple
+
+from tmhost.program import path_word, words_of_program
+
+# Of each format the end of a file's name, and the kind that a browser is told.
+FORMATS: Dict[str, Tuple[str, str]] = {
+    "html": (".html", "text/html; charset=utf-8"),
+    "markdown": (".md", "text/markdown; charset=utf-8"),
+    "notebook": (".ipynb", "application/x-ipynb+json"),
+    "json": (".jsonl", "application/jsonl"),
+    "script": (".txt", "text/plain; charset=utf-8"),
+}
+FILES = ("", ".alt")
+PIECE = 1 << 20
+TIMES = 100  # that a copy is tried
+WITHIN = 300.0  # seconds that the program may take
+
+
+class NotExported(Exception):
+    """There is no export, for a reason that is told to people."""
+
+
+def read(path: str, copy: str) -> bytes:
+    """The hash of what a file has, which is written to `copy` too."""
+    known = hashlib.sha256()
+    with open(path, "rb") as file, open(copy, "wb") as written:
+        while data := file.read(PIECE):
+            known.update(data)
+            written.write(data)
+    return known.digest()
+
+
+def copy_of(sheet: str, folder: str) -> str:
+    """A copy of the worksheet as it was at one moment, in a folder."""
+    copy = os.path.join(folder, os.path.basename(sheet))
+    for _ in range(TIMES):
+        first = [read(sheet + end, copy + end) for end in FILES]
+        if first == [read(sheet + end, os.devnull) for end in FILES]:
+            return copy
+        time.sleep(0.01)
+    raise NotExported("the worksheet is changing all the time: try again when less is evaluated")
+
+
+def exported(sheet: str, program: Optional[str], name: str) -> bytes:
+    """The worksheet in a format of this name."""
+    try:
+        with tempfile.TemporaryDirectory(prefix="tmhost-notebook-") as folder:
+            words = [*words_of_program(program), "export", name, path_word(copy_of(sheet, folder))]
+            done = subprocess.run(words, stdin=subprocess.DEVNULL, stdout=subprocess.PIPE, stderr=subprocess.PIPE, timeout=WITHIN)
+    except subprocess.TimeoutExpired:
+        raise NotExported("the export takes too long") from None
+    except OSError as error:
+        raise NotExported(f"the worksheet can't be copied: {error}") from error
+    if done.returncode:
+        raise NotExported(f"the export was refused: {done.stderr.decode('utf-8', 'backslashreplace').strip()}")
+    return done.stdout

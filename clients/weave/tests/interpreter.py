@@ -1,0 +1,74 @@
+"""An interpreter for the tests: `interpreter.py LOG`. It writes each line that it gets into LOG, and answers it by a value that depends on all
+lines that it has got, so that an answer tells what was evaluated before it.
+
+    say TEXT      TEXT, where \\xNN and the like stand for characters
+    bytes HEX     these bytes
+    latex TEXT    a block `latex`
+    file PATH     what stands in a file
+    quiet         nothing
+    sleep SECONDS
+    stuck         never answers
+    die           ends
+
+With a value for the environment variable TMHOST_SLEEP, each line takes so many seconds.
+"""
+import hashlib
+import os
+import re
+import sys
+import time
+from typing import List
+
+
+def escaped(text: bytes) -> bytes:
+    return re.sub(rb"[\x02\x05\x1b]", lambda found: b"\x1b" + found[0], text)
+
+
+def value(lines: List[str]) -> str:
+    """What a line is answered that comes behind the others."""
+    return f"{len(lines)} {hashlib.sha256(repr(lines).encode()).hexdigest()[:12]}"
+
+
+def written(text: str) -> bytes:
+    return escaped(text.encode("latin-1", "backslashreplace").decode("unicode_escape").encode())
+
+
+def answer(lines: List[str]) -> bytes:
+    word, _, rest = lines[-1].partition(" ")
+    if word == "say":
+        return written(rest)
+    if word == "bytes":
+        return escaped(bytes.fromhex(rest))
+    if word == "latex":
+        return b"\x02latex:" + written(rest) + b"\x05"
+    if word == "file":
+        with open(rest, "rb") as file:
+            return escaped(file.read())
+    if word == "quiet":
+        return b""
+    if word == "die":
+        sys.exit(3)
+    if word in ("sleep", "stuck"):
+        time.sleep(float(rest) if rest else 600)
+    return value(lines).encode()
+
+
+def write(text: bytes) -> None:
+    whole = text if text.startswith(b"\x02") else b"\x02verbatim:" + text + b"\x05"
+    sys.stdout.buffer.write(whole)
+    sys.stdout.buffer.flush()
+
+
+def main() -> None:
+    lines: List[str] = []
+    write(b"Tester")
+    for line in sys.stdin:
+        lines.append(line.rstrip("\n"))
+        with open(sys.argv[1], "a", encoding="utf-8") as log:
+            log.write(line)
+        time.sleep(float(os.environ.get("TMHOST_SLEEP", "0")))
+        write(answer(lines))
+
+
+if __name__ == "__main__":
+    main()

@@ -1,0 +1,114 @@
+"""What the tests share: texts in a folder of their own, the command, and what is seen of the worksheet."""
+import json
+import os
+import re
+import shutil
+import subprocess
+import sys
+import tempfile
+import time
+import unittest
+from typing import Any, Dict, List, NamedTuple, Sequence, Tuple
+
+HERE = os.path.dirname(os.path.realpath(__file__))
+ROOT = os.path.dirname(os.path.dirname(os.path.dirname(HERE)))
+COMMAND = os.path.join(os.path.dirname(HERE), "tmhost-weave")
+PROGRAM = os.environ.get("TMHOST") or shutil.which("tmhost") or os.path.join(ROOT, "crates/tmhost/out/tmhost")
+INTERPRETER = os.path.join(HERE, "interpreter.py")
+FENCED = re.compile(r"^```tmhost-answer\n(.*?)\n```$", re.MULTILINE | re.DOTALL)
+
+sys.path[:0] = [os.path.dirname(HERE), os.path.join(ROOT, "clients/python")]
+
+
+def missing() -> str:
+    """Why there is no program to test with; nothing where there is one."""
+    try:
+        tried = subprocess.run([PROGRAM, "live", "--json", os.devnull + "/none"], stdin=subprocess.DEVNULL, capture_output=True)
+    except OSError as error:
+        return f"{PROGRAM} can't be started ({error.strerror}); TMHOST names another one"
+    return f"{PROGRAM} knows no live --json" if tried.returncode == 2 else ""
+
+
+WHY = missing()
+
+
+class Outcome(NamedTuple):
+    status: int
+    output: str
+    errors: str
+
+
+def environment(**more: str) -> Dict[str, str]:
+    return {**os.environ, "TMHOST": PROGRAM, **more}
+
+
+def command_words(*words: str) -> List[str]:
+    return [sys.executable, "-B", COMMAND, *words]
+
+
+def fences(blocks: Sequence[Tuple[str, str]]) -> str:
+    """Fences with these info strings and codes, with a paragraph in front of each."""
+    return "".join(f"Text {at}.\n\n```{info}\n{code}\n```\n\n" for at, (info, code) in enumerate(blocks))
+
+
+class Case(unittest.TestCase):
+    """`text` and `sheet` are the paths of a text and its worksheet."""
+
+    def setUp(self) -> None:
+        if WHY:
+            self.skipTest(WHY)
+        self.folder = tempfile.mkdtemp(prefix="tmhost-weave-test.")
+        self.addCleanup(shutil.rmtree, self.folder)
+        self.text, self.sheet = self.place("text.md"), self.place("text.sheet")
+
+    def place(self, name: str) -> str:
+        return os.path.join(self.folder, name)
+
+    def front(self, *names: str, **words: List[str]) -> str:
+        """The front matter for sessions with these names, each of which has an interpreter that logs its lines."""
+        found = {**{name: [sys.executable, INTERPRETER, self.place(name + ".log")] for name in names}, **words}
+        return "---\nsessions:\n" + "".join(f"  {name}: {json.dumps(these)}\n" for name, these in found.items()) + "---\n"
+
+    def write(self, text: str, path: str = "") -> None:
+        with open(path or self.text, "w", encoding="utf-8", newline="") as file:
+            file.write(text)
+
+    def read(self, path: str = "") -> str:
+        with open(path or self.text, encoding="utf-8", newline="") as file:
+            return file.read()
+
+    def run_weave(self, *words: str, **more: str) -> Outcome:
+        done = subprocess.run(command_words(*(words or (self.text,))), capture_output=True, env=environment(**more), cwd=ROOT, timeout=300)
+        return Outcome(done.returncode, done.stdout.decode("utf-8", "surrogateescape"), done.stderr.decode("utf-8", "backslashreplace"))
+
+    def weave(self, text: str, status: int = 0, *words: str, **more: str) -> str:
+        """The text woven."""
+        self.write(text)
+        done = self.run_weave(*words, self.text, **more)
+        self.assertEqual(done.status, status, done.errors)
+        return self.read()
+
+    def logged(self, name: str) -> List[str]:
+        """The lines that an interpreter got since this was asked last."""
+        path = self.place(name + ".log")
+        if not os.path.exists(path):
+            return []
+        lines = self.read(path).split("\n")[:-1]
+        os.remove(path)
+        return lines
+
+    def fields(self, path: str = "") -> List[Dict[str, Any]]:
+        """The fields of the worksheet. A program whose weave was killed may hold it for a moment still."""
+        for _ in range(200):
+            shown = subprocess.run([PROGRAM, "show", "--json", path or self.sheet], capture_output=True)
+            if shown.returncode == 0:
+                objects = [json.loads(line) for line in shown.stdout.splitlines()]
+                return [one["field"] for one in objects if one["type"] == "field"]
+            self.assertIn(b"fault 35", shown.stderr)
+            time.sleep(0.05)
+        raise AssertionError("the worksheet stays in use")
+
+
+def answers(text: str) -> List[str]:
+    """The answers in a text that have no backquotes."""
+    return FENCED.findall(text)

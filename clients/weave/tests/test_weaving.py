@@ -1,0 +1,330 @@
+"""What is evaluated behind which change, over the real program, by an interpreter that logs its lines."""
+import os
+import shutil
+import stat
+import subprocess
+import sys
+import threading
+import time
+from typing import List, Tuple
+
+from .interpreter import value
+from .support import INTERPRETER, PROGRAM, Case, answers, command_words, environment, fences
+
+Blocks = List[Tuple[str, str]]
+
+
+def expected(lines: List[str]) -> List[str]:
+    """What an interpreter answers that gets these lines."""
+    return [value(lines[: at + 1]) for at in range(len(lines))]
+
+
+class Weaving(Case):
+    def setUp(self) -> None:
+        super().setUp()
+        self.blocks: Blocks = [("a" if at % 2 else "b", f"line {at}") for at in range(12)]
+
+    def source(self, *names: str) -> str:
+        return self.front("a", "b", *names) + fences(self.blocks)
+
+    def lines(self, session: str) -> List[str]:
+        return [code for info, code in self.blocks if info == session]
+
+    def shown(self, session: str, woven: str) -> List[str]:
+        """The answers behind the fences of a session, each of which has one."""
+        return [one for (info, _), one in zip(self.blocks, answers(woven)) if info == session]
+
+    def test_first_and_again(self) -> None:
+        woven = self.weave(self.source())
+        for name in "ab":
+            self.assertEqual(self.shown(name, woven), expected(self.lines(name)))
+            self.assertEqual(self.logged(name), self.lines(name))
+        self.assertEqual(self.weave(woven), woven)
+        self.assertEqual(self.weave(self.source()), woven)
+        self.assertEqual(self.logged("a") + self.logged("b"), [])
+        self.assertEqual([field["input"] for field in self.fields()], [code for _, code in self.blocks])
+
+    def test_from_the_first_change_on(self) -> None:
+        self.weave(self.source())
+        before = {field["id"]: field for field in self.fields()}
+        self.logged("a"), self.logged("b")
+        self.blocks[6] = ("b", "other")
+        woven = self.weave(self.source())
+        self.assertEqual(self.shown("b", woven), expected(self.lines("b")))
+        self.assertEqual(self.logged("b"), self.lines("b"))  # three of them in a replay
+        self.assertEqual(self.logged("a"), [])
+        after = {field["id"]: field for field in self.fields()}
+        self.assertEqual(list(after), list(before))
+        self.assertEqual([id for id in after if after[id] != before[id]], [7, 9, 11])
+
+    def test_prose_and_order_of_sessions_change_nothing(self) -> None:
+        woven = self.weave(self.source())
+        self.logged("a"), self.logged("b")
+        self.blocks.sort(key=lambda block: block[0])
+        again = self.weave(self.source().replace("Text", "Prose"))
+        self.assertEqual(self.logged("a") + self.logged("b"), [])
+        self.assertEqual([field["input"] for field in self.fields()], [code for _, code in self.blocks])
+        self.assertEqual(sorted(answers(again)), sorted(answers(woven)))
+        self.assertEqual(self.shown("a", again), expected(self.lines("a")))
+
+    def test_removed_and_put_in(self) -> None:
+        """Also where lines are alike, no answer stands that was given behind other lines."""
+        self.blocks = [("a", "x")] * 6
+        self.weave(self.source())
+        for at, what in [(2, [("a", "y")]), (0, [("a", "x")]), (7, [("a", "x"), ("b", "x")])]:
+            self.blocks[at:at] = what
+            self.assertEqual(self.shown("a", self.weave(self.source())), expected(self.lines("a")))
+        while len(self.blocks) > 1:
+            del self.blocks[len(self.blocks) // 2]
+            woven = self.weave(self.source())
+            self.assertEqual(self.shown("a", woven), expected(self.lines("a")))
+            self.assertEqual([field["input"] for field in self.fields()], [code for _, code in self.blocks])
+
+    def test_a_fence_is_evaluated_whole(self) -> None:
+        self.blocks = [("a", "one\ntwo"), ("a", "three\nfour\nfive"), ("a", "six")]
+        self.weave(self.source())
+        before = {field["input"]: field["id"] for field in self.fields()}
+        self.blocks[1] = ("a", "three\nfour\nother")
+        self.weave(self.source())
+        self.logged("a")
+        self.assertEqual([field["id"] for field in self.fields()], list(before.values()))
+        self.write(self.read().replace("other", "another"))
+        done = self.run_weave()
+        self.assertIn("a: 2 fields kept, 4 stale, 2 replayed", done.errors)
+        self.assertEqual(self.logged("a"), ["one", "two", "three", "four", "another", "six"])
+
+    def test_pure(self) -> None:
+        self.blocks = [("a", "first"), ("a {pure}", "p\nq"), ("a", "second"), ("a {pure}", "r"), ("a {pure}", "p\nq")]
+        woven = self.weave(self.source())
+        self.assertEqual(answers(woven), [value(["first"]), value(["p\u2028q"]), value(["first", "second"]), value(["r"]), value(["p\u2028q"])])
+        self.logged("a")
+        self.blocks[3] = ("a {pure}", "s")
+        self.assertEqual(answers(self.weave(self.source()))[3], value(["s"]))
+        self.assertEqual(self.logged("a"), ["s"])
+        self.blocks[0] = ("a", "other")
+        self.weave(self.source())
+        self.assertEqual(self.logged("a"), ["other", "second"])
+        self.blocks.reverse()
+        again = self.weave(self.source())
+        self.assertEqual(self.logged("a"), ["second", "other"])
+        self.assertEqual(answers(again)[0], value(["p\u2028q"]))
+        self.assertEqual([field["input"] for field in self.fields()], [code.replace("\n", "\u2028") for _, code in self.blocks])
+
+    def test_other_words(self) -> None:
+        text = self.source()
+        woven = self.weave(text)
+        self.logged("a"), self.logged("b")
+        for flag in ["-u", "-s"]:
+            other = text.replace(f'"{INTERPRETER}"', f'"{flag}", "{INTERPRETER}"', 1)
+            again = self.weave(other)
+            self.assertEqual(answers(again), answers(woven))
+            self.assertEqual(self.logged("a"), self.lines("a"))
+            self.assertEqual(len(self.fields()), len(self.blocks))
+        self.weave(text)
+        self.assertEqual(self.logged("a"), self.lines("a"))
+        self.assertEqual(self.logged("b"), [])
+
+    def test_hide_and_fold(self) -> None:
+        self.blocks = [("a {hide}", "x"), ("a {fold}", "y"), ("a {fold}", "quiet"), ("{.a .hide}", "z")]
+        woven = self.weave(self.source())
+        self.assertEqual(self.logged("a"), ["x", "y", "quiet", "z"])
+        self.assertEqual(answers(woven), [value(["x", "y"])])
+        self.assertIn("```a {fold}\ny\n```\n\n<!-- tmhost-answer --><details><summary>Answer</summary>\n\n```tmhost-answer\n", woven)
+        self.assertEqual(woven.count("details"), 2)
+        self.assertEqual(self.weave(woven), woven)
+        shown = self.weave(woven.replace(" {hide}", "").replace(" {fold}", ""))
+        self.assertEqual(self.logged("a"), [])
+        self.assertEqual(answers(shown), [value(["x"]), value(["x", "y"])])
+
+    def test_what_a_replay_shows(self) -> None:
+        """Where an interpreter answers otherwise now, that is told of the answers that are kept."""
+        self.write("one", self.place("file"))
+        text = self.front("a") + fences([("a", f"file {self.place('file')}"), ("a", "say x")])
+        woven = self.weave(text)
+        self.write("two", self.place("file"))
+        self.write(woven.replace("say x\n", "say y\n"))
+        done = self.run_weave()
+        self.assertIn("a: 1 kept answers aren't those of the replay", done.errors)
+        self.assertEqual(answers(self.read()), ["one", "y"])
+
+    def test_strays(self) -> None:
+        self.write(self.front("a") + "```c\nx\n```\n\n```tmhost-answer\n1\n```\n")
+        text = self.read()
+        done = self.run_weave()
+        self.assertEqual((done.status, self.read()), (0, text))
+        self.assertIn("line 9: an answer that is behind no fence", done.errors)
+
+    def test_check(self) -> None:
+        self.write(self.source())
+        done = self.run_weave("--check", self.text)
+        self.assertEqual(done.status, 1)
+        self.assertIn("b: 6 fields would be evaluated, from line 9 on\n", done.output)
+        self.assertEqual(os.listdir(self.folder), ["text.md"])
+        woven = self.weave(self.source())
+        self.logged("a"), self.logged("b")
+        self.assertEqual(self.run_weave("--check", self.text), (0, "", ""))
+        self.write(woven.replace("line 7", "line seven"))
+        held = self.fields()
+        done = self.run_weave("--check", self.text)
+        self.assertEqual(done.status, 1)
+        self.assertIn("a: 3 fields would be evaluated, from line 79 on, behind 3 that would be replayed\n", done.output)
+        self.write(woven.replace("```tmhost-answer\n4 ", "```tmhost-answer\n5 ", 1))
+        done = self.run_weave("--check", self.text)
+        self.assertEqual((done.status, done.output.count("the text would change from line ")), (1, 1))
+        self.assertEqual((self.fields(), self.logged("a") + self.logged("b")), (held, []))
+
+    def test_output(self) -> None:
+        text = self.source()
+        self.write(text)
+        done = self.run_weave("--output", "-", self.text)
+        self.assertEqual(self.read(), text)
+        self.assertEqual(self.run_weave("--output", self.place("out.md"), self.text).status, 0)
+        self.assertEqual(self.read(self.place("out.md")), done.output)
+        self.assertEqual(self.read(), text)
+        self.assertEqual(self.run_weave("--check", "--output", self.place("out.md"), self.text).status, 0)
+        self.assertEqual(self.run_weave("--check", self.text).status, 1)
+        self.assertEqual(self.weave(text), done.output)
+
+    def test_what_has_no_sessions_stays(self) -> None:
+        for text in ["", "# x\n```py\n1\n```\n", self.front("a") + "```c\nx\n```\n", "---\r\n\0\r\n---", "---\nsessions: {}\n---\n```a\n"]:
+            self.assertEqual(self.weave(text), text)
+            self.assertEqual(self.run_weave("--check", self.text), (0, "", ""))
+            self.assertEqual(self.run_weave("--output", "-", self.text).output, text)
+        with open(self.text, "wb") as file:
+            file.write(b"\xff\xfe\n")
+        self.assertEqual(self.run_weave().status, 0)
+        self.assertEqual(os.listdir(self.folder), ["text.md"])
+
+    def test_bytes_stay(self) -> None:
+        """Ends of lines, bytes that are no UTF-8, the mode of the file, and a link to it."""
+        data = self.front("a").encode().replace(b"\n", b"\r\n") + b"\xff\0\r\n> ```a\r\n> x\r\n> ```\ry\n\n```a\nz\n```"
+        with open(self.text, "wb") as file:
+            file.write(data)
+        os.chmod(self.text, 0o640)
+        os.symlink("text.md", self.place("link.md"))
+        self.assertEqual(self.run_weave(self.place("link.md")).status, 0)
+        with open(self.text, "rb") as file:
+            woven = file.read()
+        one = b"\r\n> ```tmhost-answer\r\n> " + value(["x"]).encode() + b"\r\n> ```"
+        two = b"\n\n```tmhost-answer\n" + value(["x", "z"]).encode() + b"\n```"
+        self.assertEqual(woven, data.replace(b"> ```\r", b"> ```" + one + b"\r")[: -len(b"\nz\n```")] + b"\nz\n```" + two)
+        self.assertEqual(stat.S_IMODE(os.stat(self.text).st_mode), 0o640)
+        self.assertTrue(os.path.islink(self.place("link.md")))
+
+
+class Failures(Case):
+    def test_lost(self) -> None:
+        text = self.front("a", "b") + fences([("a", "x\ndie\ny\nz"), ("b", "x"), ("a", "w"), ("a {pure}", "p"), ("a {hide}", "v")])
+        for _ in range(2):
+            woven = self.weave(text, 1)
+            self.assertEqual(woven.count("```tmhost-no-answer\nno answer: Ended\n```"), 1)
+            self.assertEqual(woven.count("```tmhost-no-answer\nnot evaluated, since"), 2)
+            self.assertEqual(answers(woven), [value(["x"]), value(["x"]), value(["p"])])
+            self.assertEqual(self.logged("a")[:2], ["x", "die"])
+            text = woven
+        self.assertEqual(self.run_weave("--check", self.text).status, 1)
+        again = self.weave(text.replace("die", "live"))
+        self.assertEqual(answers(again)[:2], [value(["x"]), value(["x", "live"])])
+        self.assertNotIn("no-answer", again)
+
+    def test_too_long_and_controls(self) -> None:
+        for wrong, why in [("x" * 4096, "4,096 bytes"), ("é" * 2048, "4,096 bytes"), ("a\x01", "a control character"), ("a\0", "a control character")]:
+            woven = self.weave(self.front("a") + fences([("a", "x"), ("a", f"fine\n{wrong}\nafter"), ("a", "last")]), 1)
+            self.assertEqual(woven.count("```tmhost-no-answer\nrefused: it has " + why), 1)
+            self.assertEqual(answers(woven), [value(["x"]), value(["x", "fine"])])
+            self.assertEqual(woven.count("not evaluated"), 1)
+            os.remove(self.sheet)
+        self.weave(self.front("a") + fences([("a", "x" * 4095)]))
+
+    def test_seconds(self) -> None:
+        text = self.front("a", "b") + fences([("a", "x"), ("a", "stuck"), ("b", "y"), ("a {pure}", "stuck"), ("a {pure}", "p")])
+        begun = time.monotonic()
+        woven = self.weave(text, 1, "--seconds", "0.7")
+        self.assertLess(time.monotonic() - begun, 10)
+        self.assertEqual(woven.count("```tmhost-no-answer\nno answer within 0.7 seconds\n```"), 2)
+        self.assertEqual(answers(woven), [value(["x"]), value(["y"]), value(["p"])])
+        for wrong in ["0", "-1", "x", "nan", "inf"]:
+            self.assertEqual(self.run_weave("--seconds", wrong, self.text).status, 2)
+
+    def test_in_a_replay(self) -> None:
+        text = self.front("a") + fences([("a", "sleep 0"), ("a", "x")])
+        woven = self.weave(text)
+        self.write(woven.replace("\nx\n", "\ny\n"))
+        done = self.run_weave("--seconds", "0.5", self.text, TMHOST_SLEEP="2")
+        self.assertEqual(done.status, 1)
+        self.assertIn("since the replay of what stands before it failed: no answer within 0.5 seconds", self.read())
+        self.assertEqual(answers(self.read()), answers(woven)[:1])
+        self.assertEqual(len(self.fields()), 2)
+        self.assertEqual(answers(self.weave(self.read())), [value(["sleep 0"]), value(["sleep 0", "y"])])
+
+    def test_no_interpreter(self) -> None:
+        woven = self.weave(self.front("a", b=[self.place("none")]) + fences([("b", "x"), ("a", "y"), ("b", "z")]), 1)
+        self.assertIn("```tmhost-no-answer\nno answer: StartRefused\n```", woven)
+        self.assertEqual(answers(woven), [value(["y"])])
+
+    def test_sixty_four_sessions(self) -> None:
+        names = [f"s{at}" for at in range(70)]
+        woven = self.weave(self.front(**{name: [sys.executable, INTERPRETER, self.place("one.log")] for name in names[:2]},
+                                      **{name: ["/bin/false"] for name in names[2:]}) + fences([(name, "x") for name in names]), 1)
+        self.assertEqual(woven.count("no answer: "), 61)  # one session is the worksheet's own
+        self.assertEqual(woven.count("refused: TooManySessions"), 7)
+        self.assertEqual(answers(woven), [value(["x"])] * 2)
+
+    def test_worksheets_of_others(self) -> None:
+        text = self.front("a") + fences([("a", "x")])
+        self.write(text)
+        subprocess.run([PROGRAM, "create", self.sheet], check=True)
+        subprocess.run([PROGRAM, "run", self.sheet], input=b"session a plain true\nnew 0 a mine\n", check=True, capture_output=True)
+        done = self.run_weave()
+        self.assertEqual((done.status, self.read(), [field["input"] for field in self.fields()]), (1, text, ["mine"]))
+        self.assertIn("not one of tmhost-weave", done.errors)
+        self.write("no worksheet\n", self.sheet)
+        self.assertEqual((self.run_weave().status, self.read(self.sheet)), (1, "no worksheet\n"))
+        os.rename(self.sheet, self.sheet + ".alt")
+        self.assertIn("without", self.run_weave().errors)
+        self.assertEqual(self.read(self.sheet + ".alt"), "no worksheet\n")
+
+    def test_what_a_killed_making_leaves(self) -> None:
+        self.write("", self.sheet + ".alt")
+        self.write("x", self.sheet + ".new")
+        self.write("y", self.sheet + ".new.alt")
+        self.write("z", self.text + ".tmhost-weave")
+        self.weave(self.front("a") + fences([("a", "x")]))
+        self.assertEqual(sorted(os.listdir(self.folder)), ["a.log", "text.md", "text.sheet", "text.sheet.alt"])
+
+    def test_changed_meanwhile(self) -> None:
+        text = self.front("a") + fences([("a", "x"), ("a", "sleep 1.5")])
+        self.write(text)
+        with subprocess.Popen(command_words(self.text), env=environment(), stderr=subprocess.PIPE) as weave:
+            while not os.path.exists(self.place("a.log")):
+                time.sleep(0.02)
+            self.assertEqual((self.run_weave().status, "another tmhost-weave" in self.run_weave().errors), (1, True))
+            self.write(text + "More.\n")
+            assert weave.stderr
+            told = weave.stderr.read()
+        self.assertEqual((weave.returncode, b"changed meanwhile" in told), (1, True))
+        self.assertEqual(self.read(), text + "More.\n")
+        self.logged("a")
+        self.weave(self.read())
+        self.assertEqual(self.logged("a"), [])
+
+    def test_in_use(self) -> None:
+        """A worksheet that another program has for a moment is waited for."""
+        self.weave(self.front("a") + fences([("a", "x")]))
+        with subprocess.Popen([PROGRAM, "live", self.sheet], stdin=subprocess.PIPE, stdout=subprocess.PIPE) as other:
+            assert other.stdin
+            closing = threading.Timer(1, other.stdin.close)
+            closing.start()
+            self.assertEqual(self.run_weave("--check", self.text).status, 0)
+            closing.join()
+
+    def test_words(self) -> None:
+        self.assertEqual(self.run_weave("--help").status, 0)
+        self.assertEqual(self.run_weave("--other", self.text).status, 2)
+        self.assertEqual(self.run_weave(self.place("none.md")).status, 1)
+        self.write(self.front("a") + "```a\nx\n")
+        self.assertIn("isn't closed", self.run_weave().errors)
+        self.write(self.front("a") + fences([("a", "x")]))
+        self.assertEqual(self.run_weave(self.text, TMHOST=self.place("none")).status, 1)
+        shutil.move(self.text, self.sheet)
+        self.assertIn("name of its worksheet", self.run_weave(self.sheet).errors)

@@ -1,0 +1,81 @@
+"""The front matter of a text: YAML between two lines of `---`, in which the sessions stand."""
+import dataclasses
+import re
+from typing import Any, Dict, List, Tuple
+
+from .troubles import Trouble, needed
+
+NAME = re.compile(r"[A-Za-z0-9_]{1,20}", re.ASCII)  # without a hyphen: names of the worksheet's own have one
+WORD = re.compile(r"[^\x00-\x20\ud800-\udfff]+")
+MOST_WORDS = 16
+LONGEST_WORD = 1024  # bytes
+NAMES_SESSIONS = re.compile(r"^[ \t]*[\"']?sessions[\"']?[ \t]*:", re.MULTILINE)
+
+Sessions = Dict[str, Tuple[str, ...]]
+
+
+@dataclasses.dataclass(frozen=True)
+class Front:
+    """How many lines it has, and the words of each session."""
+
+    lines: int
+    sessions: Sessions
+
+
+def front_of(lines: List[str]) -> Front:
+    """The front matter of a text of these lines, which have no ends. What names no sessions is a part of the text like any other."""
+    if not lines or lines[0].lstrip("\ufeff").rstrip(" \t") != "---":
+        return Front(0, {})
+    end = next((at for at, line in enumerate(lines) if at and line.rstrip(" \t") in ("---", "...")), 0)
+    text = "\n".join(lines[1:end])
+    return Front(end + 1, sessions_in(text)) if NAMES_SESSIONS.search(text) else Front(0, {})
+
+
+def sessions_in(text: str) -> Sessions:
+    yaml = needed("yaml", "python3-yaml")
+    try:
+        # The base loader takes each scalar as it is written, so a session `no` or a word `010` is what it looks like.
+        root = yaml.compose(text + "\n", Loader=yaml.BaseLoader)
+    except (yaml.YAMLError, RecursionError) as error:
+        raise Trouble(f"the front matter is no YAML: {' '.join(str(error).split())}") from error
+    found: Sessions = {}
+    for key, value in pairs(yaml, root, "the front matter"):
+        if key == "sessions":
+            for name, words in pairs(yaml, value, "`sessions`") if not is_nothing(yaml, value) else []:
+                add(found, name, words_in(yaml, name, words))
+    return found
+
+
+def add(found: Sessions, name: str, words: Tuple[str, ...]) -> None:
+    if not NAME.fullmatch(name):
+        raise Trouble(f"a session can't have the name {ascii(name)}: it is 1 to 20 ASCII letters, digits and _")
+    if name in found:
+        raise Trouble(f"the front matter names the session {name} twice")
+    found[name] = words
+
+
+def is_nothing(yaml: Any, node: Any) -> bool:
+    return isinstance(node, yaml.ScalarNode) and not node.value
+
+
+def pairs(yaml: Any, node: Any, what: str) -> List[Tuple[str, Any]]:
+    """The keys and values of a mapping."""
+    if not isinstance(node, yaml.MappingNode):
+        raise Trouble(f"{what} is no mapping of names")
+    return [(str(key.value), value) for key, value in node.value]
+
+
+def words_in(yaml: Any, name: str, node: Any) -> Tuple[str, ...]:
+    """The words of a session: a list of them, or a text that is cut at its spaces."""
+    if isinstance(node, yaml.SequenceNode) and all(isinstance(item, yaml.ScalarNode) for item in node.value):
+        words = tuple(str(item.value) for item in node.value)
+    elif isinstance(node, yaml.ScalarNode):
+        words = tuple(str(node.value).split())
+    else:
+        raise Trouble(f"the words of the session {name} are no list of words")
+    if not 1 <= len(words) <= MOST_WORDS:
+        raise Trouble(f"the session {name} has {len(words)} words: it must be 1 to {MOST_WORDS}")
+    for word in words:
+        if not WORD.fullmatch(word) or len(word.encode("utf-8")) > LONGEST_WORD:
+            raise Trouble(f"the session {name} can't have the word {ascii(word)[:80]}: it has 1 to 1,024 bytes and no space")
+    return words

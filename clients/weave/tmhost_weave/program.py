@@ -1,0 +1,55 @@
+"""The command line of tmhost-weave."""
+import argparse
+import os
+import sys
+from typing import List
+
+from tmhost import TmhostError
+
+from .files import locked
+from .troubles import Trouble
+from .weaving import Weave
+
+ABOUT = "Evaluates the code in a CommonMark text, and puts each answer behind its fence."
+NOTES = """
+The front matter of TEXT names the sessions, as `sessions: {py: [adapters/python]}`. Behind the session of a fence may
+stand {whole}, {pure}, {hide} and {fold}. The answers are kept in the worksheet beside TEXT, whose name ends in .sheet.
+The program is the one that TMHOST names, or tmhost on PATH. The status is 0 where all fields are answered, 1 where one
+isn't, where --check says that something would change, or where something went wrong, and 2 where the words are refused.
+"""
+INTERRUPTED = 130
+
+
+def seconds(word: str) -> float:
+    value = float(word)
+    if not 0 < value <= 1_000_000:
+        raise ValueError
+    return value
+
+
+def arguments(words: List[str]) -> argparse.Namespace:
+    parser = argparse.ArgumentParser("tmhost-weave", None, ABOUT, NOTES, formatter_class=argparse.RawDescriptionHelpFormatter)
+    parser.add_argument("text", metavar="TEXT")
+    parser.add_argument("--check", action="store_true", help="evaluate and write nothing, and say what would change")
+    parser.add_argument("--output", metavar="FILE", help="where the woven text goes, in place of TEXT (-: standard output)")
+    parser.add_argument("--seconds", type=seconds, metavar="N", help="how long a field may take (no limit)")
+    return parser.parse_args(words)
+
+
+def run(given: argparse.Namespace) -> bool:
+    with locked(os.path.realpath(given.text)):
+        weave = Weave(given.text, given.output)
+        return weave.check() if given.check else weave.weave(given.seconds)
+
+
+def main(words: List[str]) -> int:
+    given = arguments(words)
+    try:
+        return 0 if run(given) else 1
+    except (Trouble, TmhostError) as trouble:
+        print(f"{given.text}: {trouble}", file=sys.stderr)
+    except OSError as error:
+        print(f"{given.text}: {error.strerror or error}" + (f": {error.filename}" if error.filename else ""), file=sys.stderr)
+    except KeyboardInterrupt:
+        return INTERRUPTED
+    return 1

@@ -1,0 +1,134 @@
+"""The worksheet beside a text: made, opened, and made to have the fields of the text."""
+import contextlib
+import os
+import subprocess
+import time
+from typing import Dict, List
+
+from tmhost import Field, InUse, Refused, Worksheet, find_program
+
+from .plan import MARK, Plan, Wanted
+from .troubles import Trouble
+
+SECOND = ".alt"  # of a worksheet's second file
+PATIENCE = 10.0  # seconds for which a worksheet may be in use, since a program whose weave was killed needs a moment to end
+PAUSE = 0.05
+LARGE = 16_777_216  # bytes of a worksheet's file from which on it is written anew
+
+
+def sheet_path(text: str) -> str:
+    return os.path.splitext(text)[0] + ".sheet"
+
+
+def make(path: str) -> None:
+    """Makes a worksheet beside its place, and puts it there when it is whole: what a kill leaves of the making is made anew."""
+    new = path + ".new"
+    for name in (new, new + SECOND):
+        with contextlib.suppress(FileNotFoundError):
+            os.unlink(name)
+    if os.path.lexists(path + SECOND) and os.path.getsize(path + SECOND):
+        raise Trouble(f"{path + SECOND} is there without {path}, to which it belongs")
+    made = subprocess.run([find_program(), "create", os.path.join(".", new)], stdin=subprocess.DEVNULL, capture_output=True)
+    if made.returncode != 0:
+        raise Trouble(f"{path} can't be made: {made.stderr.decode('utf-8', 'backslashreplace').strip()}")
+    # The second file of a new worksheet is empty, so one that is there alone may go.
+    os.replace(new + SECOND, path + SECOND)
+    os.rename(new, path)
+    sync(os.path.dirname(path))
+
+
+def sync(folder: str) -> None:
+    """Brings the names in a folder onto the disk."""
+    opened = os.open(folder or ".", os.O_RDONLY)
+    try:
+        os.fsync(opened)
+    finally:
+        os.close(opened)
+
+
+def opened(path: str) -> Worksheet:
+    until = time.monotonic() + PATIENCE
+    while True:
+        try:
+            sheet = Worksheet(path)
+            break
+        except InUse:
+            if time.monotonic() > until:
+                raise Trouble(f"{path} is in use by another program") from None
+            time.sleep(PAUSE)
+    if MARK.name not in sheet.sessions and (sheet.sessions or sheet.fields):
+        sheet.close()
+        raise Trouble(f"{path} is a worksheet, but not one of tmhost-weave: it stays as it is")
+    return sheet
+
+
+def largest_file(path: str) -> int:
+    return max(os.path.getsize(name) for name in (path, path + SECOND) if os.path.exists(name))
+
+
+def fit(sheet: Worksheet, plan: Plan) -> None:
+    """Makes the fields those of the text, in its order. The answers that aren't kept go from the last one on, so that whatever a kill leaves
+    of a session, its answers are those to the fields in front of them."""
+    sheet.ensure_session(MARK.name, MARK.words)
+    for field in reversed(plan.left):
+        sheet.remove(field.id)
+    spare = spares(sheet, plan)
+    for name in plan.words:
+        make_session(sheet, plan, name)
+    for wanted in plan.wanted:
+        if not wanted.is_kept and not wanted.misfit and spare.get(wanted.session):
+            reuse(sheet, wanted, spare[wanted.session].pop(0))
+    for fields in spare.values():
+        for field in reversed(fields):
+            sheet.remove(field.id)
+    arrange(sheet, plan)
+
+
+def spares(sheet: Worksheet, plan: Plan) -> Dict[str, List[Field]]:
+    """The fields that aren't kept, by their session, without answers."""
+    kept = plan.kept_ids
+    spare: Dict[str, List[Field]] = {}
+    for field in reversed(plan.fields):
+        if field.id not in kept:
+            if field.state != "empty":
+                sheet.clear(field.id)
+            spare.setdefault(field.session, []).insert(0, field)
+    return spare
+
+
+def make_session(sheet: Worksheet, plan: Plan, name: str) -> None:
+    """Makes a session where it isn't there; where that is refused, its fields fail by that."""
+    try:
+        sheet.ensure_session(name, plan.words[name])
+    except Refused as refused:
+        for wanted in plan.of(name):
+            wanted.misfit = str(refused)
+
+
+def reuse(sheet: Worksheet, wanted: Wanted, field: Field) -> None:
+    """Numbers of fields are finite, so a field that is there gets the new input."""
+    if field.input != wanted.input:
+        sheet.set(field.id, wanted.input)
+    wanted.id = field.id
+
+
+def arrange(sheet: Worksheet, plan: Plan) -> None:
+    """Makes the fields that are wanting, and puts all into the order of the text. A field that moves goes to the front of those that
+    weren't looked at, so the order within a session stays."""
+    order = [cell.id for cell in sheet.cells]
+    after, place = 0, 0
+    for wanted in plan.wanted:
+        if wanted.misfit:
+            continue
+        if wanted.id is None:
+            try:
+                wanted.id = sheet.new(wanted.session, wanted.input, after).id
+            except Refused as error:
+                wanted.misfit = str(error)
+                continue
+            order.insert(place, wanted.id)
+        elif order[place] != wanted.id:
+            sheet.move(wanted.id, after)
+            order.remove(wanted.id)
+            order.insert(place, wanted.id)
+        after, place = wanted.id, place + 1

@@ -1,0 +1,158 @@
+"""A text woven or checked, over the worksheet beside it."""
+import contextlib
+import itertools
+import os
+import re
+import sys
+from typing import Dict, List, Optional
+
+from tmhost import Field, Session
+
+from .answers import ANSWER, FORMULA, NO_ANSWER, Piece, Shown
+from .document import FOLD, HIDE, Document
+from .evaluation import Evaluator
+from .files import new_name, put, read
+from .formulas import formula_of
+from .plan import Plan
+from .sheets import LARGE, fit, largest_file, make, opened, sheet_path
+from .troubles import Trouble
+
+LONG_RUN = re.compile("`{255,}")  # cmark counts the backquotes of a fence up to 255, so a line of more would close any
+
+
+def text_of(data: bytes) -> str:
+    return data.decode("utf-8", "surrogateescape")
+
+
+def bytes_of(text: str) -> bytes:
+    return text.encode("utf-8", "surrogateescape")
+
+
+def pieces_of(field: Field, is_in_container: bool) -> List[Piece]:
+    """What is shown of an answer: a formula, or the text without the line feed at its end. One that shows nothing leaves nothing."""
+    assert field.answer is not None
+    formula = None if is_in_container else formula_of(field.answer.output)
+    if formula:
+        return [Piece(FORMULA, formula)]
+    text = LONG_RUN.sub(lambda found: "\\x60" * len(found[0]), str(field.answer))
+    return [Piece(ANSWER, text[:-1] if text.endswith("\n") else text)] if text.strip() else []
+
+
+def first_other_line(old: bytes, new: bytes) -> int:
+    pairs = zip(old.split(b"\n"), new.split(b"\n"))
+    return 1 + sum(1 for _ in itertools.takewhile(lambda pair: pair[0] == pair[1], pairs))
+
+
+class Weave:
+    """`output` is where the woven text goes: None for the text itself, "-" for standard output."""
+
+    def __init__(self, name: str, output: Optional[str]) -> None:
+        self.name, self.path = name, os.path.realpath(name)
+        self.target = None if output == "-" else self.path if output is None else os.path.realpath(output)
+        self.sheet_path = sheet_path(self.path)
+        if self.sheet_path == self.path:
+            raise Trouble("the text has the name of its worksheet")
+        self.data = read(self.path)
+        self.document = Document(text_of(self.data))
+        self.fields: Dict[int, Field] = {}
+        for line in self.document.strays:
+            self.say(f"line {line}: an answer that is behind no fence of a session stays as text")
+
+    def say(self, text: str) -> None:
+        print(f"{self.name}: {text}", file=sys.stderr)
+
+    # ---- the worksheet
+
+    def evaluated(self, seconds: Optional[float]) -> Plan:
+        """Evaluates what is stale, and takes the fields as they are then."""
+        if not self.document.fences:
+            return Plan(self.document, {}, [])
+        if not os.path.lexists(self.sheet_path):
+            make(self.sheet_path)
+        with opened(self.sheet_path) as sheet:
+            if largest_file(self.sheet_path) > LARGE:
+                sheet.checkpoint()
+            plan = Plan(self.document, sheet.sessions, sheet.fields)
+            fit(sheet, plan)
+            evaluator = Evaluator(sheet, plan, seconds)
+            evaluator.evaluate_all()
+            self.fields = {field.id: field for field in sheet.fields}
+        for name in plan.words:
+            self.tell(name, plan, evaluator)
+        return plan
+
+    def tell(self, name: str, plan: Plan, evaluator: Evaluator) -> None:
+        stale, others = len(plan.stale(name)), evaluator.others.get(name, 0)
+        if stale:
+            self.say(f"{name}: {len(plan.of(name)) - stale} fields kept, {stale} stale, {evaluator.replayed.get(name, 0)} replayed")
+        if others:
+            self.say(f"{name}: {others} kept answers aren't those of the replay; to have all anew, remove {self.sheet_path} and its .alt")
+
+    def as_it_is(self) -> Plan:
+        """Takes what the worksheet has, without a change of it."""
+        sessions: Dict[str, Session] = {}
+        fields: List[Field] = []
+        if self.document.fences and os.path.lexists(self.sheet_path):
+            with opened(self.sheet_path) as sheet:
+                sessions, fields = dict(sheet.sessions), sheet.fields
+        self.fields = {field.id: field for field in fields}
+        return Plan(self.document, sessions, fields)
+
+    # ---- the text
+
+    def shown(self, plan: Plan) -> List[Shown]:
+        """What is to stand behind each fence. Behind the first field without an answer nothing more is said of a fence."""
+        pieces: Dict[int, List[Piece]] = {fence.begin: [] for fence in self.document.fences}
+        failed = set()
+        for wanted in plan.wanted:
+            fence = wanted.fence
+            if wanted.failure and fence.begin not in failed:
+                failed.add(fence.begin)
+                pieces[fence.begin].append(Piece(NO_ANSWER, wanted.failure))
+            elif fence.begin not in failed and HIDE not in fence.flags and wanted.id is not None:
+                pieces[fence.begin] += pieces_of(self.fields[wanted.id], fence.is_in_container)
+        found = [(fence, tuple(pieces[fence.begin])) for fence in self.document.fences]
+        return [Shown(these, bool(these) and FOLD in fence.flags) for fence, these in found]
+
+    def woven(self, plan: Plan) -> bytes:
+        return bytes_of(self.document.checked(self.shown(plan)))
+
+    def write(self, woven: bytes) -> None:
+        if self.target is None:
+            sys.stdout.buffer.write(woven)
+            sys.stdout.buffer.flush()
+            return
+        with contextlib.suppress(FileNotFoundError):
+            os.unlink(new_name(self.target))
+        if self.target == self.path and read(self.path) != self.data:
+            raise Trouble("the text was changed meanwhile, and stays as it is; the answers are kept: weave it again")
+        if not os.path.exists(self.target) or read(self.target) != woven:
+            put(self.target, woven)
+
+    # ---- what is asked for
+
+    def weave(self, seconds: Optional[float]) -> bool:
+        """Whether all is answered."""
+        plan = self.evaluated(seconds)
+        self.write(self.woven(plan))
+        failures = [wanted for wanted in plan.wanted if wanted.failure]
+        for wanted in failures:
+            self.say(f"line {wanted.line}: {wanted.fence.session}: {wanted.failure}")
+        return not failures
+
+    def check(self) -> bool:
+        """Whether nothing would change; says what would."""
+        plan = self.as_it_is()
+        for name in plan.words:
+            stale = plan.stale(name)
+            kept = 0 if not stale or stale[0].fence.is_pure else len(plan.of(name)) - len(stale)
+            behind = f", behind {kept} that would be replayed" if kept else ""
+            if stale:
+                print(f"{self.name}: {name}: {len(stale)} fields would be evaluated, from line {stale[0].line} on{behind}")
+        if plan.is_stale:
+            return False
+        woven = self.woven(plan)
+        old = read(self.target) if self.target and os.path.exists(self.target) else b""
+        if woven != old:
+            print(f"{self.name}: nothing would be evaluated, and the text would change from line {first_other_line(old, woven)} on")
+        return woven == old
