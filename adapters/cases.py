@@ -138,6 +138,10 @@ MAXIMA_LATEX: List[Case] = [
     ("1 +", "..incorrect syntax"), ("", ""), ("integrate(y^n, y)", "..a line has no input of its own"), ("while true do 0", "..interrupt", True), ("a + 1", "{latex:$6$}"),
 ]
 
+# A line that takes longer than the seconds of its session ends by itself.
+GP_SECONDS: List[Case] = [("y = 5", r"{latex:$\%1 = 5$}"), ("while (1, )", "..user interrupt"), ("y + 1", r"{latex:$\%2 = 6$}")]
+PYTHON_SECONDS: List[Case] = [("y = 5", ""), ("while True: pass", "..KeyboardInterrupt"), ("y + 1", "6")]
+
 PYTHON: List[Case] = [
     ("1 + 1", "2"), ("_ + 1", "3"), ("x = 1; y = 2; x + y", "3"), ("def f(n):\u2028    return 1 / n\u2028f(2)", "0.5"), ("for i in range(3):\u2028    print(i)\u2028i", "0\n1\n2\n2"),
     ("raise ValueError('no')", "Traceback (most recent call last):\n  File \"<line 6>\", line 1, in <module>\n    raise ValueError('no')\nValueError: no"),
@@ -229,6 +233,8 @@ TRIALS = {
     "gp": Trial("gp", "gp", "quit", "while (1, )", GP),
     "gp_lines": Trial("gp", "gp", "\\q", "while (1, )", gp_lines.LINES),
     "gp_text": Trial("gp --text", "gp", "\\q", "while (1, )", GP_TEXT),
+    "gp_seconds": Trial("gp --seconds 5", "gp", "\\q", "while (1, )", GP_SECONDS),
+    "python_seconds": Trial("python --seconds 5", "python3", "os._exit(0)", "while True: pass", [("import os", ""), *PYTHON_SECONDS]),
     "python": Trial("python", "python3", "os._exit(0)", "while True: pass", PYTHON + ten_lines("python")),
     "prompted_python": by_prompted("python", "python3", "quit()", "while True: pass", PROMPTED_PYTHON + ten_lines("python")),
     "sh": by_prompted("sh", "bash", "exit", "while :; do :; done", SH + ten_lines("sh", "k 10")),

@@ -117,3 +117,22 @@ class Split(Case):
         text = "```sh\n" + "echo a line\n" * 2000 + "```\n"
         self.refused(text, "the block in line 1: it has 27,997 bytes as an input, and a field has at most 4,095", form="markdown")
         self.assertEqual(len(self.inputs(text, "--split", form="markdown")), 2000)
+
+
+class Front(Case):
+    def first(self, front: str, *words: str) -> list[str]:
+        return self.script(f"{front}```mine {{fold}}\nx\n```\n\n```tmhost-answer\n1\n```\n\n```sh\ny\n```\n", *words, form="markdown")
+
+    def test_sessions_of_a_woven_text(self) -> None:
+        for front in ("---\nsessions: {mine: [a, b]}\n---\n", "---\r\ntitle: x\r\nsessions:\r\n  mine: a  b\r\n...\r\n"):
+            lines = self.first(front)
+            self.assertEqual((lines[0], lines[2:]), ("session mine plain a b", ["new 0 mine x", "new 1 sh y"]))
+        self.assertEqual(self.first("---\nsessions: {mine: [a, b], sh: no}\n---\n", "--session", "mine=c")[:2], ["session mine plain c", "session sh plain no"])
+
+    def test_other_front_matter(self) -> None:
+        for front in ("---\ntitle: sessions\n---\n", "---\nsessions:\n---\n", "---\nsessions: [a]\n---\n", "text\n\n---\nsessions: {mine: [a]}\n---\n", "---\nsessions: {mine: [a]}\n"):
+            self.assertEqual([line for line in self.first(front) if line.startswith("new")], ["new 0 sh y"], front)
+
+    def test_front_matter_that_is_wrong(self) -> None:
+        for sessions, said in (("{", "no YAML"), ("{mine: {a: b}}", "no list of words"), ("{mine: []}", "1 to 16 words"), ("{mine: [a b]}", "a space")):
+            self.refused(f"---\nsessions: {sessions}\n---\n```mine\nx\n```\n", said, form="markdown")

@@ -30,6 +30,7 @@ class Document:
     cells: list[Cell] = dataclasses.field(default_factory=list)
     left_out: collections.Counter[str] = dataclasses.field(default_factory=collections.Counter)
     notes: list[str] = dataclasses.field(default_factory=list)
+    words: dict[str, tuple[str, ...]] = dataclasses.field(default_factory=dict)  # of the sessions for which it says them
 
 
 def plain(text: str) -> str:

@@ -109,7 +109,7 @@ def do(given: argparse.Namespace) -> None:
     if not given.script:
         refuse_taken(new)
     document = read(given, path)
-    sheet = Sheet(document, given.session, given.split)
+    sheet = Sheet(document, {**document.words, **given.session}, given.split)
     tell(document, sheet)
     if not sheet.fields:
         raise Trouble("there is nothing in it to make a field of")

@@ -7,6 +7,7 @@ import dataclasses
 import re
 
 from .cells import Cell, Document, plain
+from .front import sessions_of
 
 TAB = 4  # columns
 MOST_LEVELS = 100  # of containers; what would open one more is text
@@ -245,7 +246,7 @@ def fences_of(text: str) -> list[Fence]:
 
 def read(text: str) -> Document:
     """The fenced blocks of which the first word behind the fence is a language or a session."""
-    document = Document()
+    document = Document(words=sessions_of(text))
     for fence in fences_of(text):
         if found := LANGUAGE.match(fence.info):
             kind = f"blocks of {plain(found[1])}"

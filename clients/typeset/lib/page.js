@@ -18,9 +18,10 @@ const MOST_STEPS = 1000; // bytes and tags beside a span that are looked at
 const REFERENCES = new Map([["&amp;", "&"], ["&lt;", "<"], ["&gt;", ">"], ["&quot;", '"'], ["&#39;", "'"]]);
 const ESCAPES = new Map([...REFERENCES].map(([reference, character]) => [character, reference]));
 
-// Fonts that have a table for mathematics, of those that are installed; and what MathML Core leaves to styles.
+// Fonts that have a table for mathematics, of those that are installed; and what MathML Core leaves to styles. The page breaks long words of
+// its outputs, and a number in a cell of a table that was broken so would lose its last digits.
 const STYLE = `<style>
-math{font-family:"Latin Modern Math","STIX Two Math","Libertinus Math","DejaVu Math TeX Gyre","Cambria Math",math;font-size:1.1em}
+math{font-family:"Latin Modern Math","STIX Two Math","Libertinus Math","DejaVu Math TeX Gyre","Cambria Math",math;font-size:1.1em;white-space:nowrap;overflow-wrap:normal}
 mtext[mathvariant="monospace"]{font-family:ui-monospace,Consolas,monospace}
 mtext[mathvariant*="sans-serif"]{font-family:system-ui,sans-serif}
 mtext[mathvariant*="bold"]{font-weight:bold}

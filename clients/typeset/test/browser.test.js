@@ -99,6 +99,25 @@ for (const width of [900, 360]) {
   });
 }
 
+test("numbers in a table that is wider than the window are whole", options, async () => {
+  const rows = Array.from({ length: 6 }, (_, row) => Array.from({ length: 14 }, (_, column) => (row + 1) ** (column + 1)).join("&"));
+  const wide = `$\\%1 = \\begin{pmatrix}${rows.join("\\\\ ")}\\end{pmatrix}$`;
+  await open().load(run(pageOf("wide", [{ output: span(wide) }, { output: `hi\n${span(wide)}` }])).page, 500);
+  const [broken, count, scrolls] = await open().value(`(() => {
+    const width = (node) => node.getBoundingClientRect().width;
+    const numbers = [...document.querySelectorAll("mn")];
+    const first = document.querySelector("math");
+    const free = first.parentNode.appendChild(first.cloneNode());
+    free.style = "position:absolute;white-space:nowrap;overflow-wrap:normal";
+    const alone = numbers.map((one) => width(free.appendChild(one.cloneNode(true))));
+    return [numbers.filter((one, index) => width(one) < alone[index] - 1).map((one) => one.textContent), numbers.length,
+      [...document.querySelectorAll(".out")].map((output) => output.scrollWidth > output.clientWidth)];
+  })()`);
+  assert.deepEqual(broken, []);
+  assert.equal(count, 2 * (6 * 14 + 1));
+  assert.deepEqual(scrolls, [true, true]);
+});
+
 test("hostile formulas: nothing runs, nothing is loaded, all around them stays", options, async () => {
   const given = pageOf("hostile </title>", HOSTILE.map(({ name, tex }) => ({ session: name, input: tex.slice(0, 100), output: span(tex) })));
   await open().load(given);

@@ -4,6 +4,7 @@ lines that it has got, so that an answer tells what was evaluated before it.
     say TEXT      TEXT, where \\xNN and the like stand for characters
     bytes HEX     these bytes
     latex TEXT    a block `latex`
+    both TEXT|LATEX|TEXT ..    texts, and blocks `latex` between them
     file PATH     what stands in a file
     quiet         nothing
     sleep SECONDS
@@ -41,6 +42,9 @@ def answer(lines: List[str]) -> bytes:
         return escaped(bytes.fromhex(rest))
     if word == "latex":
         return b"\x02latex:" + written(rest) + b"\x05"
+    if word == "both":
+        parts = [written(part) for part in rest.split("|")]
+        return b"\x02verbatim:" + b"".join(b"\x02latex:" + part + b"\x05" if at % 2 else part for at, part in enumerate(parts)) + b"\x05"
     if word == "file":
         with open(rest, "rb") as file:
             return escaped(file.read())

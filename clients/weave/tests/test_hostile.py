@@ -146,6 +146,20 @@ class Formulas(Case):
         self.assertGreater(formulas, 40)
         self.assertEqual(self.weave(woven), woven)
 
+    def test_behind_what_is_printed(self) -> None:
+        """A value that is a formula stands as one behind what its line has printed; where it is none, the whole is text."""
+        lines = ["both a\\x01b\\n|$x$", "both |$x$|\\n|$y$", "both ```\\n<b>|$x^2$| ", "both a|$x<y$", "both a|$x$|b|[c](d)|", "bytes 61026c617465783a2478240562"]
+        woven = self.weave(self.front("a") + "".join(f"```a\n{line}\n```\n\n" for line in lines))
+        found = [part.split("```a\n")[-1].partition("\n```\n")[2] for part in woven.split("```a\n")[1:]]
+        formula = "\n<!-- tmhost-answer -->\n\n{}\n\n<!-- /tmhost-answer -->\n"
+        self.assertEqual(found[0], "\n```tmhost-answer\na\\x01b\n```\n" + formula.format("$x$") + "\n")
+        self.assertEqual(found[1], formula.format("$x$") + formula.format("$y$") + "\n")
+        self.assertEqual(found[2], "\n````tmhost-answer\n```\n<b>\n````\n" + formula.format("$x^2$") + "\n")
+        self.assertEqual(found[3], "\n```tmhost-answer\na{latex:$x<y$}\n```\n\n")
+        self.assertEqual(found[4], "\n```tmhost-answer\na{latex:$x$}b{latex:[c](d)}\n```\n\n")
+        self.assertEqual(found[5], "\n```tmhost-answer\na\\x02latex:$x$\\x05b\n```\n\n")
+        self.assertEqual(self.weave(woven), woven)
+
     def test_in_a_list_they_are_text(self) -> None:
         woven = self.weave(self.front("a") + "- ```a\n  latex $x$\n  ```\n- b\n")
         self.assertIn("  ```\n  ```tmhost-answer\n  {latex:$x$}\n  ```\n- b\n", woven)

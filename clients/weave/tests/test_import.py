@@ -13,16 +13,15 @@ IMPORT = os.path.join(ROOT, "clients/import/tmhost-import")
 @unittest.skipIf(sys.version_info < (3, 11), "tmhost-import wants Python 3.11")
 class Import(Case):
     def lines(self, path: str) -> List[str]:
-        """The fields of a worksheet as lines of a script."""
+        """The sessions and fields of a worksheet as lines of a script."""
         shown = subprocess.run([PROGRAM, "export", "script", path], capture_output=True, check=True).stdout.decode()
-        return [line for line in shown.split("\n") if line.startswith("new ")]
+        return [line for line in shown.split("\n")[:-1] if not line.startswith("session tmhost-weave ")]
 
     def test_woven_text(self) -> None:
         blocks = [("a", "x\n  y\n\nz"), ("b {fold}", "u"), ("a", "say ```"), ("{.b .hide}", "v"), ("a", "say ~~~\n  w"), ("b", "latex $x$")]
         self.weave(self.front("a", "b") + "> ```a\n> quoted\n> ```\n\n" + fences(blocks))
         new = self.place("new")
-        words = ["--split", "--session", "a=true", "--session", "b=true", self.text, new]
-        done = subprocess.run([sys.executable, "-B", IMPORT, *words], capture_output=True, env=environment())
+        done = subprocess.run([sys.executable, "-B", IMPORT, "--split", self.text, new], capture_output=True, env=environment())
         self.assertEqual(done.returncode, 0, done.stderr.decode())
         self.assertEqual(self.lines(new), self.lines(self.sheet))
-        self.assertEqual(len(self.lines(new)), 8)
+        self.assertEqual(len(self.lines(new)), 10)

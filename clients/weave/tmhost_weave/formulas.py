@@ -1,13 +1,14 @@
 """Which outputs are a formula that stands in Markdown as it is: the rule of docs/EXPORT.md (crates/sheet_notebook/specs/Formulas.antt)."""
 import re
-from typing import Optional
+from typing import List, Optional, Tuple, Union
 
-from tmhost import Block
+from tmhost import Block, readable
 
 NOT_PLAIN = re.compile(rb"[\x00-\x1f\x7f`]")
 # An address of a link, an element, attributes of kramdown, and a brace that pandoc takes for an escaped one.
 MARKUP = re.compile(rb"\] *\(|<(?! )|\{:|\\\\[{}]")
 BRACE = re.compile(rb"\\.|[{}]", re.DOTALL)
+CONTROL = re.compile(r"[\x00-\x08\x0b-\x1f\x7f]")
 
 
 def closes(inside: bytes) -> bool:
@@ -40,3 +41,26 @@ def formula_of(output: Block) -> Optional[str]:
         return None
     text = output.items[0]
     return text if isinstance(text, str) and is_formula(text.encode("utf-8")) else None
+
+
+def printed(item: Union[str, bytes]) -> str:
+    """A text as `tmhost show` prints it."""
+    return CONTROL.sub(lambda found: f"\\x{ord(found[0]):02x}", readable(item))
+
+
+def parts_of(output: Block) -> Optional[List[Tuple[str, bool]]]:
+    """The texts and the formulas of an output, each with whether it is one, where it has formulas and no other block: a formula alone, or
+    what is printed in front of a value."""
+    items = output.items if (output.tag, output.kind) == ("verbatim", "format") else (output,)
+    parts: List[Tuple[str, bool]] = []
+    for item in items:
+        formula = formula_of(item) if isinstance(item, Block) else None
+        if isinstance(item, Block):
+            if formula is None:
+                return None
+            parts.append((formula, True))
+        elif parts and not parts[-1][1]:
+            parts[-1] = (parts[-1][0] + printed(item), False)
+        else:
+            parts.append((printed(item), False))
+    return parts

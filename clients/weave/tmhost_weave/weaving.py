@@ -12,7 +12,7 @@ from .answers import ANSWER, FORMULA, NO_ANSWER, Piece, Shown
 from .document import FOLD, HIDE, Document
 from .evaluation import Evaluator
 from .files import new_name, put, read
-from .formulas import formula_of
+from .formulas import parts_of
 from .plan import Plan
 from .sheets import LARGE, fit, largest_file, make, opened, sheet_path
 from .troubles import Trouble
@@ -29,13 +29,18 @@ def bytes_of(text: str) -> bytes:
 
 
 def pieces_of(field: Field, is_in_container: bool) -> List[Piece]:
-    """What is shown of an answer: a formula, or the text without the line feed at its end. One that shows nothing leaves nothing."""
+    """What is shown of an answer: its formulas, and its texts without the line feed at their ends. What shows nothing leaves nothing. In quotes
+    and lists all is one text."""
     assert field.answer is not None
-    formula = None if is_in_container else formula_of(field.answer.output)
-    if formula:
-        return [Piece(FORMULA, formula)]
-    text = LONG_RUN.sub(lambda found: "\\x60" * len(found[0]), str(field.answer))
-    return [Piece(ANSWER, text[:-1] if text.endswith("\n") else text)] if text.strip() else []
+    parts = None if is_in_container else parts_of(field.answer.output)
+    return [piece_of(text, is_formula) for text, is_formula in parts or [(str(field.answer), False)] if text.strip()]
+
+
+def piece_of(text: str, is_formula: bool) -> Piece:
+    if is_formula:
+        return Piece(FORMULA, text)
+    text = LONG_RUN.sub(lambda found: "\\x60" * len(found[0]), text)
+    return Piece(ANSWER, text[:-1] if text.endswith("\n") else text)
 
 
 def first_other_line(old: bytes, new: bytes) -> int:
