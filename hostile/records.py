@@ -1,26 +1,27 @@
 """Records of a worksheet's file, by docs/FORMAT.md, as they are written."""
 
 import struct
+from collections.abc import Iterable
 
 from area import HEADER, OPEN
 
 
-def record(*parts):
+def record(*parts: bytes) -> bytes:
     payload = b"".join(parts)
     return bytes([OPEN]) + struct.pack(">I", len(payload)) + payload
 
 
-def short(text):
+def short(text: bytes) -> bytes:
     return bytes([len(text)]) + text
 
 
-def long(text):
+def long(text: bytes) -> bytes:
     return struct.pack(">H", len(text)) + text
 
 
-def number(value):
+def number(value: int) -> bytes:
     return struct.pack(">I", value)
 
 
-def area_of(records, selector=b"A"):
+def area_of(records: Iterable[bytes], selector: bytes = b"A") -> bytes:
     return HEADER + selector + b"".join(records) + b"\x00"

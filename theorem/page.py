@@ -6,8 +6,8 @@
 
 The first part of the page is theorem/head.md. In it {crate.Module.name} and {crate::Type} are links to what the page then has, and
 {file crate.Module.name} is one to the file. {clause F N} is the clause N of the host's function F, {law F} a link to the function whose
-contract is a law, and {mutant N} one to an edit that the proofs refuse. Both forms of the command fail where a word of the page's code is of
-the repository and isn't linked.
+contract is a law, {mutant N} one to an edit that the proofs refuse, and {worked} the run of theorem/worked.py. Both forms of the command
+fail where a word of the page's code is of the repository and isn't linked.
 """
 from __future__ import annotations
 
@@ -18,6 +18,7 @@ import re
 import sys
 
 sys.dont_write_bytecode = True
+import worked  # noqa: E402
 from sources import ROOT, Definition, Key, Sources, files, read  # noqa: E402
 
 HEAD = "theorem/head.md"
@@ -108,7 +109,7 @@ SECTIONS: list[tuple[str, tuple[str, ...]]] = [
     ("What events do", ("session_engine.", "host_events.")),
     ("The worksheet", ("worksheet.",)),
     ("Which block answers which line", ("plugin_core.",)),
-    ("What a block is", ("block_tree.", "meta_format.", "scheme_text.")),
+    ("Appendix: what a block is", ("block_tree.", "meta_format.", "scheme_text.")),
 ]
 
 
@@ -242,11 +243,11 @@ class Page:
             parts += [f"## {title} ({len(taken)})\n", *map(self.entry, taken)]
         if others := [d for d in left if not d.is_type]:
             sys.exit(f"no section has {others[0].key[0]}")
-        return [*parts, f"## Types of the code ({len(left)})\n", self.values() + "\n", *map(self.entry, left)]
+        return [*parts, f"## Appendix: types of the code ({len(left)})\n", self.values() + "\n", *map(self.entry, left)]
 
     def text(self) -> tuple[str, str]:
         """The page, and what it counts."""
-        head = read(HEAD)
+        head = read(HEAD).replace("{worked}", worked.text())
         PLACE.sub(self.take, head)
         self.gather()
         definitions = [d for d in self.printed.values() if not d.is_type]
@@ -256,7 +257,7 @@ class Page:
 
 
 def edits() -> dict[str, str]:
-    """The wrong bodies that the proofs must refuse, by name."""
+    """The mutants that the proofs must refuse, by name."""
     return {os.path.basename(file).removesuffix(".edit"): file for file in files("crates/*/must-fail/*.edit")}
 
 

@@ -3,6 +3,7 @@ use Rattle.std.specs.Prelude.{Bool, true, false, List, Option, Some, None, codes
 use Rattle.std.specs.Str.{bytes_eq}
 use Rattle.clap.specs.Words.{App, Row, Rule, Text, first_of, new_app, new_rule, subcommand_of, with_rule, with_subcommand}
 use Rattle.clap.specs.declared.builder.action.ArgAction.TheVariants.{SetTrue}
+use Rattle.command_words.specs.declared.words.EvalFlags.{EvalFlags}
 use Rattle.command_words.specs.declared.words.Flags.{Flags}
 use Rattle.command_words.specs.declared.words.Task.{Task}
 use Rattle.command_words.specs.declared.words.Task.TheVariants as task
@@ -15,6 +16,7 @@ pub data TaskView : Type 0 where
   run_strictly : Text → TaskView
   live : Text → TaskView
   live_json : Text → TaskView
+  eval : Text → EvalFlags → TaskView
   show : Text → TaskView
   show_json : Text → TaskView
   check : Text → TaskView
@@ -28,6 +30,7 @@ task_view (task.Run path) = run path.now
 task_view (task.RunStrictly path) = run_strictly path.now
 task_view (task.Live path) = live path.now
 task_view (task.LiveJson path) = live_json path.now
+task_view (task.Eval path flags) = eval path.now flags
 task_view (task.Show path) = show path.now
 task_view (task.ShowJson path) = show_json path.now
 task_view (task.Check path) = check path.now
@@ -53,6 +56,13 @@ json_rule = record (new_rule (codes "json")) { long = Some (codes "json"); actio
 
 abbrev pub with_json : Text → App
 with_json name = with_rule (with_path name) json_rule
+
+-- and of `eval`, with two flags
+abbrev pub unanswered_rule : Rule
+unanswered_rule = record (new_rule (codes "unanswered")) { long = Some (codes "unanswered"); action = Some SetTrue }
+
+abbrev pub with_eval : Text → App
+with_eval name = with_rule (with_strict name) unanswered_rule
 
 -- and of the one with a second path behind the first
 abbrev pub second_rule : Rule
@@ -80,11 +90,11 @@ help_alone name =
 abbrev pub bare_tmhost : App
 bare_tmhost = let a = new_app (codes "tmhost") in record a { top = record a.top { has_version = true } }
 
--- the command line of `tmhost`: subcommands, five of them with a path, `run`, `live` and `show` with a flag beside it, one with two, and one with a format and a path
+-- the command line of `tmhost`: subcommands, six of them with a path, `run`, `live`, `show` and `eval` with flags beside it, one with two, and one with a format and a path
 abbrev pub tmhost : App
-tmhost = with_subcommand (with_subcommand (with_subcommand (with_subcommand (with_subcommand (with_subcommand (with_subcommand (with_subcommand
+tmhost = with_subcommand (with_subcommand (with_subcommand (with_subcommand (with_subcommand (with_subcommand (with_subcommand (with_subcommand (with_subcommand
     (with_subcommand bare_tmhost (new_app (codes "blocks")).top)
-    (with_path (codes "create")).top) (with_strict (codes "run")).top) (with_json (codes "live")).top)
+    (with_path (codes "create")).top) (with_strict (codes "run")).top) (with_json (codes "live")).top) (with_eval (codes "eval")).top)
     (with_json (codes "show")).top) (with_path (codes "check")).top) (with_paths (codes "rescue")).top) (with_format_and_path (codes "export")).top) (help_alone (codes "faults")).top
 
 -- a flag is given where its value is `true`
@@ -94,7 +104,7 @@ is_set (Some value) = bytes_eq value (codes "true")
 
 -- the flags among these words
 abbrev pub flags_in : List Row → Flags
-flags_in rows = record { strict = is_set (first_of (codes "strict") rows); json = is_set (first_of (codes "json") rows) }
+flags_in rows = record { strict = is_set (first_of (codes "strict") rows); json = is_set (first_of (codes "json") rows); unanswered = is_set (first_of (codes "unanswered") rows) }
 
 abbrev pub run_by : Bool → Text → TaskView
 run_by true path = run_strictly path
@@ -108,13 +118,17 @@ abbrev pub show_by : Bool → Text → TaskView
 show_by true path = show_json path
 show_by false path = show path
 
+abbrev pub eval_by : Bool → Bool → Text → TaskView
+eval_by strict unanswered path = eval path (record { strict = strict; unanswered = unanswered })
+
 -- the task of a subcommand with a path, by its flags
 abbrev pub by_path : Text → Text → Flags → TaskView
 by_path name path flags = if bytes_eq name (codes "create") then create path
     else (if bytes_eq name (codes "run") then run_by flags.strict path
     else (if bytes_eq name (codes "live") then live_by flags.json path
+    else (if bytes_eq name (codes "eval") then eval_by flags.strict flags.unanswered path
     else (if bytes_eq name (codes "show") then show_by flags.json path
-    else (if bytes_eq name (codes "check") then check path else blocks))))
+    else (if bytes_eq name (codes "check") then check path else blocks)))))
 
 -- The task of a subcommand with two paths, or with one path, or with a format and a path.
 abbrev pub by_words : Text → Text → Option Text → Option Text → Flags → TaskView

@@ -13,6 +13,8 @@ pub(crate) enum Shape {
     Strict,
     /// PATH, and the flag `--json`.
     Json,
+    /// PATH, and the flags `--strict` and `--unanswered`.
+    Eval,
     /// PATH and NEW.
     Paths,
     /// FORMAT and PATH.
@@ -37,8 +39,8 @@ pub(crate) const VERSION: &str = "0.1.0";
 pub(crate) const NOTES: &str = "Without a command it is `blocks`.\n\n\
 Status: 0 where all was done, or help was shown; 1 at a fault, which is told on\n\
 standard error as `fault N NAME`, where the stream of `blocks` has a fault or an\n\
-open block, and where `check` finds a difference; 2 where the words are refused; 3\n\
-where `run --strict` stops.\n\
+open block, where `check` finds a difference, and where `eval` leaves a field\n\
+without an answer; 2 where the words are refused; 3 where --strict stops.\n\
 `tmhost help faults` says what each fault means.\n\n\
 Example: tmhost create sheet.tm && tmhost run sheet.tm <script.txt";
 
@@ -82,6 +84,18 @@ With --json each line is one object, which programs read (docs/JSON.md).\n\n\
 Status: 0 where the input came to its end, also where it had bad lines and refused\n\
 commands; 1 at a fault; 2 where the words are refused.\n\n\
 Example: printf 'print\\n' | tmhost live sheet.tm";
+
+const EVAL_NOTES: &str =
+    "It does the script that has an `eval` and a `wait` for each field, in the order\n\
+of the worksheet, and writes what `run` writes of it. Each answer that is told is\n\
+on the disk. Interpreters start empty; at the end each is stopped. The last line\n\
+has the counts of the whole worksheet, as `answered 12 unanswered 1`.\n\n\
+With --unanswered only fields without an answer are evaluated. With --strict it\n\
+stops behind the first field that is lost or refused: the fields behind keep what\n\
+they show, and standard error tells `stopped at line N` of that script.\n\n\
+Status: 0 where each field of the worksheet shows an answer; 1 where one doesn't,\n\
+or at a fault; 2 where the words are refused; 3 where --strict stopped it.\n\n\
+Example: tmhost eval sheet.tm";
 
 const SHOW_NOTES: &str =
     "It writes and makes no file. A field without an output shows `?`. Where a program\n\
@@ -174,7 +188,7 @@ fn listed(name: &'static str, shape: Shape, about: &'static str, notes: &'static
 
 /// The row with this number, in the order of the help.
 pub(crate) fn row_at(at: usize) -> Row
-    requires { at < 9 }
+    requires { at < 10 }
     ensures { IsRow at result }
 {
     match at {
@@ -202,26 +216,32 @@ pub(crate) fn row_at(at: usize) -> Row
             "Hold a worksheet open for lines that come on standard input",
             LIVE_NOTES,
         ),
-        4 => listed("show", Shape::Json, "Write a worksheet", SHOW_NOTES),
-        5 => listed(
+        4 => listed(
+            "eval",
+            Shape::Eval,
+            "Evaluate the fields of a worksheet",
+            EVAL_NOTES,
+        ),
+        5 => listed("show", Shape::Json, "Write a worksheet", SHOW_NOTES),
+        6 => listed(
             "check",
             Shape::Path,
             "Evaluate a worksheet anew, and write what differs",
             CHECK_NOTES,
         ),
-        6 => listed(
+        7 => listed(
             "rescue",
             Shape::Paths,
             "Write what stands before a damage to a new worksheet",
             RESCUE_NOTES,
         ),
-        7 => listed(
+        8 => listed(
             "export",
             Shape::Format,
             "Write a worksheet as a script, Markdown, a page, a notebook or JSON",
             EXPORT_NOTES,
         ),
-        8 => listed("faults", Shape::Help, "What each fault means", FAULTS_NOTES),
+        9 => listed("faults", Shape::Help, "What each fault means", FAULTS_NOTES),
         _ => unreachable!(),
     }
 }

@@ -26,6 +26,8 @@ pub enum Task<'a> {
     Live(&'a str),
     /// The same, and write lines of JSON.
     LiveJson(&'a str),
+    /// Evaluate the fields of the worksheet at the path, as these flags say.
+    Eval(&'a str, EvalFlags),
     /// Write the worksheet at the path.
     Show(&'a str),
     /// The same, as lines of JSON.
@@ -39,11 +41,21 @@ pub enum Task<'a> {
     Export(&'a str, &'a str),
 }
 
+/// The flags of `eval`.
+#[derive(Clone, Copy, Debug, PartialEq, Eq)]
+pub struct EvalFlags {
+    /// It stops behind the first field that is lost or refused.
+    pub strict: bool,
+    /// It evaluates only fields without an answer.
+    pub unanswered: bool,
+}
+
 /// The flags of a command line. A subcommand without a flag doesn't have it set.
 #[derive(Clone, Copy, Debug, PartialEq, Eq)]
 pub(crate) struct Flags {
     pub(crate) strict: bool,
     pub(crate) json: bool,
+    pub(crate) unanswered: bool,
 }
 
 /// A command without arguments, with a text above and one below its help.
@@ -91,6 +103,20 @@ fn with_json<'a>(alloc: Global, row: Row) -> Result<Command<'a>, AllocError>
         Arg::new(alloc, "json")
             .long("json")
             .help("Write lines of JSON, which programs read")
+            .action(ArgAction::SetTrue),
+    )
+}
+
+/// A subcommand with a path, and with the flags of `eval`.
+fn with_eval<'a>(alloc: Global, row: Row) -> Result<Command<'a>, AllocError>
+    ensures made { IfOk result (λ command. app_of command ≡ asked.with_eval row.name.now) }
+    ensures local { IfOk result (λ command. (fields_of command).has_globals ≡ false) }
+{
+    let first = with_strict(alloc, row)?;
+    first.arg(
+        Arg::new(alloc, "unanswered")
+            .long("unanswered")
+            .help("Evaluate only fields without an answer")
             .action(ArgAction::SetTrue),
     )
 }
@@ -152,6 +178,7 @@ fn command_of<'a>(alloc: Global, row: Row) -> Result<Command<'a>, AllocError>
         Shape::Path => with_path(alloc, row),
         Shape::Strict => with_strict(alloc, row),
         Shape::Json => with_json(alloc, row),
+        Shape::Eval => with_eval(alloc, row),
         Shape::Paths => with_paths(alloc, row),
         Shape::Format => with_format_and_path(alloc, row),
         Shape::Help => Ok(help_alone(alloc, row)),
@@ -160,7 +187,7 @@ fn command_of<'a>(alloc: Global, row: Row) -> Result<Command<'a>, AllocError>
 
 /// The subcommand of the row with this number.
 fn command_at<'a>(alloc: Global, at: usize) -> Result<Command<'a>, AllocError>
-    requires { at < 9 }
+    requires { at < 10 }
     ensures made { IfOk result (λ command. app_of command ≡ table.app_at at) }
     ensures local { IfOk result (λ command. (fields_of command).has_globals ≡ false) }
 {
@@ -169,7 +196,7 @@ fn command_at<'a>(alloc: Global, at: usize) -> Result<Command<'a>, AllocError>
 
 /// A command line with one subcommand more.
 fn with_one<'a>(alloc: Global, command: Command<'a>, at: usize) -> Result<Command<'a>, AllocError>
-    requires { at < 9 }
+    requires { at < 10 }
     ensures { IfOk result (λ more. app_of more
         ≡ with_subcommand (app_of command.entry) (table.app_at at).top) }
 {
@@ -178,10 +205,10 @@ fn with_one<'a>(alloc: Global, command: Command<'a>, at: usize) -> Result<Comman
 
 /// A command line with the subcommands of all rows, in their order.
 fn with_all<'a>(alloc: Global, command: Command<'a>) -> Result<Command<'a>, AllocError>
-    ensures { IfOk result (λ more. app_of more ≡ table.with_rows (app_of command.entry) 9) }
+    ensures { IfOk result (λ more. app_of more ≡ table.with_rows (app_of command.entry) 10) }
 {
     let mut command = command;
-    for at in 0..9usize {
+    for at in 0..10usize {
         command = with_one(alloc, command, at)?;
     }
     Ok(command)
@@ -247,6 +274,13 @@ fn task_of_show<'a>(path: &'a str, json: bool) -> Task<'a>
     }
 }
 
+/// The task of `eval`.
+fn task_of_eval<'a>(path: &'a str, strict: bool, unanswered: bool) -> Task<'a>
+    ensures { task_view result ≡ asked.eval_by strict unanswered path.entry.now }
+{
+    Task::Eval(path, EvalFlags { strict, unanswered })
+}
+
 /// The task of a subcommand with a path.
 fn task_with_path<'a>(name: &str, path: &'a str, flags: Flags) -> Task<'a>
     ensures { task_view result ≡ by_words name.now path.entry.now None None flags }
@@ -255,6 +289,7 @@ fn task_with_path<'a>(name: &str, path: &'a str, flags: Flags) -> Task<'a>
         "create" => Task::Create(path),
         "run" => task_of_run(path, flags.strict),
         "live" => task_of_live(path, flags.json),
+        "eval" => task_of_eval(path, flags.strict, flags.unanswered),
         "show" => task_of_show(path, flags.json),
         "check" => Task::Check(path),
         _ => Task::Blocks,
@@ -304,6 +339,7 @@ fn task_of<'a>(matches: &ArgMatches<'a>) -> Task<'a>
             Flags {
                 strict: is_set(inner.get_str("strict")),
                 json: is_set(inner.get_str("json")),
+                unanswered: is_set(inner.get_str("unanswered")),
             },
         ),
     }

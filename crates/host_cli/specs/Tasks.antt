@@ -1,5 +1,5 @@
 -- Which program runs for which words, over all that is outside.
-use Rattle.std.specs.Prelude.{◌≡◌, ◌≢◌, ◌⊎◌, ℕ, true, false, Bool, List, Option, Result, Ok, Err, IfOk, IfErr, MatchOption, MatchResult}
+use Rattle.std.specs.Prelude.{◌≡◌, ◌≢◌, ◌⊎◌, ℕ, true, false, Bool, List, Option, Result, Ok, Err, IfOk, IfErr, MatchOption, MatchResult, if◌then◌else◌}
 use Rattle.std.specs.Io.KnownBytes.{Appends}
 use Rattle.std.specs.declared.io.ErrorKind.{ErrorKind as IoKind}
 use Rattle.std.specs.declared.io.ErrorKind.TheVariants as io_kind
@@ -13,6 +13,7 @@ use Rattle.disk_model.specs.Disk.{DiskView}
 use Rattle.disk_model.specs.declared.disk.Disk as disks
 use Rattle.child_edge.specs.Faithful.{Relation}
 use Rattle.command_words.specs.Asked.{TaskView, asked_by, task_view, tmhost}
+use Rattle.command_words.specs.declared.words.EvalFlags.{EvalFlags}
 use Rattle.command_words.specs.declared.words.Task.{Task}
 use Rattle.command_words.specs.Asked as asked
 use Rattle.host_cli.specs.Refused.{ShowsText, no_format_text}
@@ -23,6 +24,7 @@ use Rattle.offline_programs.specs.declared.fault.RunFault.{RunFault}
 use Rattle.offline_programs.specs.declared.fault.RunFault.TheVariants as fault
 use Rattle.program_endings.specs.CheckProgram.{CheckEnds}
 use Rattle.program_endings.specs.Ending.{BlocksAnswer, ProgramAnswer, TellsFault, status_of}
+use Rattle.program_endings.specs.EvalProgram.{EvaluationEnded}
 use Rattle.program_endings.specs.ExportProgram.{ExportEnds}
 use Rattle.program_endings.specs.Faults.{no_files, no_place}
 use Rattle.program_endings.specs.Programs.{CreateAnswer, RunAnswer, ShowAnswer, TellsCreate, TellsMake, create_status}
@@ -42,6 +44,8 @@ use Rattle.sheet_files.specs.declared.files_fault.FilesFault.{FilesFault}
 use Rattle.sheet_files.specs.declared.files_fault.HoldFault.{HoldFault}
 use Rattle.sheet_files.specs.declared.files_fault.MakeFault.{MakeFault}
 use Rattle.sheet_files.specs.declared.places.Places as places
+use Rattle.sheet_programs.specs.declared.plan.Plan.{Plan}
+use Rattle.sheet_programs.specs.declared.plan.Which.TheVariants as which
 
 -- How what is outside is seen, and what calls on it may lead to.
 pub record OutsideView (D P S I W E : Type 0) : Type 1 where
@@ -58,6 +62,10 @@ pub record OutsideView (D P S I W E : Type 0) : Type 1 where
 abbrev pub outer : {D P S I W E : Type 0} → places.Ghosts P D → disks.Ghosts D → Relation S → Clock S → Watch S → read.Ghosts I → write.Ghosts W → (W → Bool → W → Type 0) → write.Ghosts E → OutsideView D P S I W E
 outer p d after clock wakes i w b e = record { places = p; view = d.view; after = after; clock = clock; wakes = wakes; stream = i.remaining; written = w.contents; brought = b; said = e.contents }
 
+-- what the flags of `eval` ask for
+abbrev pub plan_of : EvalFlags → Plan
+plan_of flags = record { which = if flags.unanswered then which.Unanswered else which.All; strict = flags.strict }
+
 module _ {Y D P S I W E Q : Type 0} where
   -- nothing but the places and the stream of errors was touched
   abbrev pub OnlyHeld : Outside Y D P S I W E Q → Outside Y D P S I W E Q → Type 0
@@ -71,6 +79,7 @@ module _ {Y D P S I W E Q : Type 0} where
   LeavesAlone old new (asked.run_strictly path) = new.progress ≡ old.progress
   LeavesAlone old new (asked.live path) = new.progress ≡ old.progress
   LeavesAlone old new (asked.live_json path) = new.progress ≡ old.progress
+  LeavesAlone old new (asked.eval path flags) = (new.input ≡ old.input) × (new.progress ≡ old.progress)
   LeavesAlone old new (asked.show path) = (new.sources ≡ old.sources) × (new.input ≡ old.input) × (new.progress ≡ old.progress)
   LeavesAlone old new (asked.show_json path) = (new.sources ≡ old.sources) × (new.input ≡ old.input) × (new.progress ≡ old.progress)
   LeavesAlone old new (asked.check path) = new.input ≡ old.input
@@ -138,6 +147,17 @@ module _ {Y D P S I W E Q : Type 0} (o : OutsideView D P S I W E) where
       HeldFirst old new (λ why. (new.sources ≡ old.sources) × EndsWith old new ending (Err why)) (λ held. (files : Result D FilesFault) × o.places.opens held path files new.places
       × IfErr files (Unopened old new ending) × IfOk files (RunsOn strict old new ending))
 
+  -- `eval` on a disk
+  abbrev pub EvaluatesOn : Plan → Outside Y D P S I W E Q → Outside Y D P S I W E Q → Ending → D → Type 0
+  EvaluatesOn plan old new ending disk =
+      EvaluationEnded o.view o.after plan disk old.sources new.sources (o.written old.output) (o.written new.output) (Nothing old new) o.said old.errors new.errors ending
+
+  -- `eval` over what the places open at a path
+  abbrev pub DoesEval : Outside Y D P S I W E Q → Outside Y D P S I W E Q → Ending → Text → EvalFlags → Type 0
+  DoesEval old new ending path flags =
+      HeldFirst old new (λ why. (new.sources ≡ old.sources) × EndsWith old new ending (Err why)) (λ held. (files : Result D FilesFault) × o.places.opens held path files new.places
+      × IfErr files (Unopened old new ending) × IfOk files (EvaluatesOn (plan_of flags) old new ending))
+
   -- `live` over the same, told in a voice
   abbrev pub DoesLive : Voice → Outside Y D P S I W E Q → Outside Y D P S I W E Q → Ending → Text → Type 0
   DoesLive V old new ending path =
@@ -187,6 +207,7 @@ module _ {Y D P S I W E Q : Type 0} (o : OutsideView D P S I W E) where
   DoesTask old new ending (asked.run_strictly path) = DoesRun true old new ending path
   DoesTask old new ending (asked.live path) = DoesLive in_words old new ending path
   DoesTask old new ending (asked.live_json path) = DoesLive in_json old new ending path
+  DoesTask old new ending (asked.eval path flags) = DoesEval old new ending path flags
   DoesTask old new ending (asked.show path) = DoesShow old new ending path
   DoesTask old new ending (asked.show_json path) = ExportsAs old new ending path formats.Json
   DoesTask old new ending (asked.check path) = DoesCheck old new ending path

@@ -2,7 +2,7 @@
 ghost use Rattle.std.specs.Prelude.{◌≡◌, ◌≢◌, [], List, Err, false, map, string_bytes, true};
 ghost use Rattle.command_words.specs.Asked.{task_view};
 ghost use Rattle.command_words.specs.Asked as asked;
-ghost use Rattle.host_cli.specs.Tasks.{BringsOut, DoesAsked, DoesBlocks, DoesCheck, DoesCreate, DoesExport, DoesLive, DoesRescue, DoesRun, DoesShow, DoesTask, EndsBy, ExportsAs, LeavesAlone, Performs, RescuesFrom, RescuesTo, outer};
+ghost use Rattle.host_cli.specs.Tasks.{BringsOut, DoesAsked, DoesBlocks, DoesCheck, DoesCreate, DoesEval, DoesExport, DoesLive, DoesRescue, DoesRun, DoesShow, DoesTask, EndsBy, ExportsAs, LeavesAlone, Performs, RescuesFrom, RescuesTo, outer, plan_of as plan_asked};
 ghost use Rattle.program_endings.specs.Ending.{TellsFault};
 ghost use Rattle.offline_programs.specs.declared.fault.RunFault.TheVariants as fault;
 ghost use Rattle.recovery.specs.Sheets.{Makes};
@@ -14,15 +14,16 @@ use crate::outlet::Outlet;
 use crate::outside::{Outside, System};
 use crate::refusing::refuse_format;
 use crate::{refuse_unread_words, refuse_words};
-use command_words::{Task, read_words};
+use command_words::{EvalFlags, Task, read_words};
 use offline_programs::RunFault;
 use program_endings::{
-    Ending, end_program, end_unheld, read_rescued, run_blocks, run_check, run_create, run_export,
-    run_live, run_rescue, run_script, run_show, run_strictly,
+    Ending, end_program, end_unheld, read_rescued, run_blocks, run_check, run_create,
+    run_evaluation, run_export, run_live, run_rescue, run_script, run_show, run_strictly,
 };
 use recovery::Rescued;
 use sheet_export::{Format, format_named, last_part};
 use sheet_files::{FilesFault, Places};
+use sheet_programs::{Plan, Which};
 use std::alloc::Global;
 use std::io;
 use std::io::Write;
@@ -119,6 +120,45 @@ fn run_strictly_at<Y: System>(alloc: Global, outside: &mut Outside<Y>, path: &st
         Ok(()) => run_strictly(
             alloc,
             &mut outside.input,
+            &mut outside.output,
+            &mut outside.errors,
+            outside.places.open(path),
+            &mut outside.sources,
+        ),
+        Err(why) => end_unheld(why, &mut outside.errors),
+    }
+}
+
+/// What the flags of `eval` ask for.
+fn plan_of(flags: EvalFlags) -> Plan
+    ensures { result ≡ plan_asked flags }
+{
+    let which = if flags.unanswered {
+        Which::Unanswered
+    } else {
+        Which::All
+    };
+    Plan {
+        which,
+        strict: flags.strict,
+    }
+}
+
+/// `eval` of the fields of the worksheet at a path.
+fn eval_at<Y: System>(
+    alloc: Global,
+    outside: &mut Outside<Y>,
+    path: &str,
+    flags: EvalFlags,
+) -> Ending
+    ensures does { DoesEval (outer Y.Places.Places Y.Disk.Disk Y.Sources.after
+        Y.Sources.clock Y.Sources.wakes Y.Input.Read Y.Output.Write Y.Output.brought Y.Errors.Write) outside.old outside.new result path.now flags }
+    ensures leaves { LeavesAlone outside.old outside.new (asked.eval path.now flags) }
+{
+    match outside.places.hold() {
+        Ok(()) => run_evaluation(
+            alloc,
+            plan_of(flags),
             &mut outside.output,
             &mut outside.errors,
             outside.places.open(path),
@@ -261,7 +301,7 @@ fn export_at<Y: System>(alloc: Global, outside: &mut Outside<Y>, name: &str, pat
 }
 
 /// Does a task: `blocks` reads the input, `run` its script and `live` its lines from it; `create`,
-/// `run`, `live`, `show`, `check`, `rescue` and `export` work on the worksheet at the path, once the
+/// `run`, `live`, `eval`, `show`, `check`, `rescue` and `export` work on the worksheet at the path, once the
 /// places of closed streams are held. What they give goes to the output, and the line of a fault to the
 /// errors. `check` alone has `progress` show something.
 pub fn do_task<Y: System>(alloc: Global, task: Task<'_>, outside: &mut Outside<Y>) -> Ending
@@ -276,6 +316,7 @@ pub fn do_task<Y: System>(alloc: Global, task: Task<'_>, outside: &mut Outside<Y
         Task::RunStrictly(path) => run_strictly_at(alloc, outside, path),
         Task::Live(path) => live_at(alloc, outside, path),
         Task::LiveJson(path) => live_json_at(alloc, outside, path),
+        Task::Eval(path, flags) => eval_at(alloc, outside, path, flags),
         Task::Show(path) => show_at(alloc, outside, path),
         Task::ShowJson(path) => export_as(alloc, outside, Format::Json, path),
         Task::Check(path) => check_at(alloc, outside, path),

@@ -7,3 +7,4 @@ pub mod CheckProgram
 pub mod ExportProgram
 pub mod StrictProgram
 pub mod LiveProgram
+pub mod EvalProgram

@@ -6,6 +6,7 @@
 mod block_lines;
 mod check_program;
 mod ending;
+mod eval_program;
 mod export_program;
 mod live_program;
 mod programs;
@@ -16,6 +17,7 @@ mod telling;
 pub use block_lines::blocks;
 pub use check_program::run_check;
 pub use ending::{Ending, end_program, run_blocks};
+pub use eval_program::run_evaluation;
 pub use export_program::run_export;
 pub use live_program::run_live;
 pub use programs::{run_create, run_script, run_show};

@@ -1,8 +1,11 @@
 //! What stands in files, and readers and writers that fail or count. What is printed, told and refused where
 //! they work are cases of `programs`, `data/steps.sh`.
+mod crashes;
+mod disk_calls;
 mod file_calls;
 mod file_disk;
 mod limits;
+mod machine;
 mod made_up;
 mod memory_files;
 mod places;

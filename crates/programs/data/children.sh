@@ -295,6 +295,45 @@ compare 'the first session waits for the second' "$("$tmhost" run sheet <given |
     "$(printf 'ok\nok\nfield 1\nfield 2\nasked\nasked\nbanner b\nbanner a\nanswered 2\nanswered 1\n' | sort)"
 compare 'the first session waits for the second, shown' "$(answer show sheet)" "$(ending '#1 a\n> x\nA\n#2 b\n> y\nB\n' 0)"
 
+# A line of the greatest length is sent once and whole, by `run` and by `live`; so is the next one.
+cat >p.sh <<'END_OF_CHILD'
+printf '\002verbatim:\005'
+while IFS= read -r line; do
+    echo "${#line} bytes" >>sent
+    printf '\002verbatim:%s\005' "${#line}"
+done
+END_OF_CHILD
+long=$(repeated 4095 x)
+for program in script live; do
+    rm -f sent
+    $program "a long line, $program" "session a plain sh p.sh\nnew 0 a $long\nnew 1 a y\neval 1\neval 2\nwait\n" \
+        'ok\nfield 1\nfield 2\nasked\nasked\nbanner a\nanswered 1\nanswered 2\n' "#1 a\n> $long\n4095\n#2 a\n> y\n1\n"
+    sent "a long line, $program" '4095 bytes\n1 bytes'
+done
+
+# A stop is of the life of its session: the interpreter of the other one goes on to count.
+cat >p.sh <<'END_OF_CHILD'
+echo $$ >>lives
+printf '\002verbatim:\005'
+count=0
+while IFS= read -r line; do
+    count=$((count + 1))
+    printf '\002verbatim:%s\005' $count
+done
+END_OF_CHILD
+for stopped in a b; do
+    for program in script live; do
+        rm -f lives
+        if [ $stopped = a ]; then field=2; else field=1; fi
+        if [ $stopped = a ]; then shown='#1 a\n> x\n1\n#2 b\n> y\n2\n'; else shown='#1 a\n> x\n2\n#2 b\n> y\n1\n'; fi
+        $program "a stop of $stopped, $program" \
+            "session a plain sh p.sh\nsession b plain sh p.sh\nnew 0 a x\nnew 1 b y\neval 1\nwait\neval 2\nwait\nstop $stopped\neval $field\nwait\n" \
+            "ok\nok\nfield 1\nfield 2\nasked\nbanner a\nanswered 1\nasked\nbanner b\nanswered 2\nended $stopped Stopped lost 0\nasked\nanswered $field\n" \
+            "$shown"
+        ended "a stop of $stopped, $program" 2
+    done
+done
+
 # A copy of the worksheet that is made while a line is evaluated shows the line without an answer.
 cat >p.sh <<'END_OF_CHILD'
 printf '\002verbatim:\005'

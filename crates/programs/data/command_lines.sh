@@ -23,7 +23,7 @@ told() {
     "$tmhost" "$@" >text 2>errors </dev/null
     compare "$name" "$? $(wc -c <text) $(head -n 1 errors)" "2 0 $line"
 }
-for task in create run live show check; do
+for task in create run live eval show check; do
     told "$task without a path" 'error: the following required arguments were not provided:' "$task"
     told "$task with two paths" "error: unexpected argument 'b' found" "$task" a b
     told "$task with a flag" "error: unexpected argument '-w' found" "$task" -w
@@ -31,6 +31,8 @@ done
 told 'run with a flag alone' 'error: the following required arguments were not provided:' run --strict
 told 'run with a flag twice' "error: the argument '--strict' cannot be used multiple times" run --strict --strict a
 told 'run with a flag that has a value' "error: unexpected value 'yes' for '--strict' found; no more were expected" run --strict=yes a
+told 'eval with a flag alone' 'error: the following required arguments were not provided:' eval --unanswered
+told 'run with the flag of eval' "error: unexpected argument '--unanswered' found" run --unanswered a
 told 'show with the flag of run' "error: unexpected argument '--strict' found" show --strict a
 told 'rescue without a path' 'error: the following required arguments were not provided:' rescue
 told 'rescue with one path' 'error: the following required arguments were not provided:' rescue a
@@ -64,6 +66,7 @@ helps blocks 'Write the blocks of the stream on standard input, a line each' "Us
 helps create 'Make an empty worksheet' "Usage: ${tmhost##*/} create <PATH>" 'Example: tmhost create sheet.tm' 3
 helps run 'Run the script on standard input over a worksheet' "Usage: ${tmhost##*/} run [OPTIONS] <PATH>" 'Example: tmhost run sheet.tm <script.txt' 1
 helps live 'Hold a worksheet open for lines that come on standard input' "Usage: ${tmhost##*/} live [OPTIONS] <PATH>" "Example: printf 'print\\n' | tmhost live sheet.tm" 1
+helps eval 'Evaluate the fields of a worksheet' "Usage: ${tmhost##*/} eval [OPTIONS] <PATH>" 'Example: tmhost eval sheet.tm' 1
 helps show 'Write a worksheet' "Usage: ${tmhost##*/} show [OPTIONS] <PATH>" 'Example: tmhost show sheet.tm' 1
 helps check 'Evaluate a worksheet anew, and write what differs' "Usage: ${tmhost##*/} check <PATH>" 'Example: tmhost check sheet.tm' 1
 helps rescue 'Write what stands before a damage to a new worksheet' "Usage: ${tmhost##*/} rescue <PATH> <NEW>" 'Example: tmhost rescue sheet.tm new.tm' 1

@@ -374,6 +374,7 @@ counted 'cases that must differ'
 . ./replies.sh
 . ./limits.sh
 . ./live.sh
+. ./eval.sh
 . ./json.sh
 . ./command_lines.sh
 . ./rescues.sh

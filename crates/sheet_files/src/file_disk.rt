@@ -97,10 +97,13 @@ impl<F: SheetFile + Drop> FileDisk<F> {
 
     /// Opens both files, first the one that `path` leads to, which is locked before anything is read
     /// and before the other is opened; a missing second one is made, unless the worksheet lies in it.
+    /// Their names are durable once it answers, also of files that were copied, or that a program made
+    /// which was killed before it brought their names onto the disk.
     /// `InUse` where another program has the worksheet. `Disk` where a file can't be opened or made: a
     /// missing file at `path`, a missing second one in which the worksheet lies, a folder or what else is
     /// no plain file, a file that has another name, a second file that is a link or the first one, one
-    /// that may not be read and written, and want of memory for a path.
+    /// that may not be read and written, a folder that can't be read or synced, and want of memory for
+    /// a path.
     pub fn open<R: Files<File = F>>(
         rt: &R,
         alloc: Global,
@@ -111,6 +114,7 @@ impl<F: SheetFile + Drop> FileDisk<F> {
         let first = open_first(rt, path.as_str(), Lock::Exclusive)?;
         let second = open_or_make(rt, alt.as_str(), &first)?;
         are_two(&first, &second)?;
+        sync_folder(rt, folder_of(path.as_str()))?;
         Ok(FileDisk::of(first, Some(second), Lock::Exclusive)?)
     }
 

@@ -131,13 +131,6 @@ fn names_second<F: FileExt>(first: &F) -> io::Result<bool> {
     }
 }
 
-/// Makes the second file of a worksheet, and brings its name onto the disk.
-fn make_second<R: Files>(rt: &R, path: &str) -> io::Result<R::File> {
-    let file = make_file(rt, path)?;
-    sync_folder(rt, folder_of(path))?;
-    Ok(file)
-}
-
 /// Opens the second file of a worksheet, to read and to write. A missing one is made, but where the
 /// worksheet lies in it: then an empty one would stand in the place of what was lost.
 pub(crate) fn open_or_make<F: SheetFile + Drop, R: Files<File = F>>(
@@ -150,7 +143,7 @@ pub(crate) fn open_or_make<F: SheetFile + Drop, R: Files<File = F>>(
             if names_second(first)? {
                 return Err(error);
             }
-            make_second(rt, path)
+            make_file(rt, path)
         }
         opened => opened,
     }

@@ -2,3 +2,4 @@ pub mod Stricts
 pub mod Runs
 pub mod Commands
 pub mod Heard
+pub mod Evaluations

@@ -32,8 +32,8 @@ use Rattle.offline_programs.specs.Input.{IsInputFault, longest_standard_input}
 use Rattle.offline_programs.specs.Memory.{script_lines}
 use Rattle.sheet_programs.specs.Run.{OpenedOn, LinesBefore, LinesUpTo, LinesSoFar, LinesLed, RunOf, RunStopped, RunSoFar, RunLed}
 use Rattle.sheet_programs.specs.Told.{LineFailed, LeavesFrontsAnyhow, StandsOrStopped}
-use Rattle.sheet_programs.specs.Strict.{GoRight, goes_wrong}
-use Rattle.sheet_programs.specs.inside.Taking.{LinesFailed, LinesStopped, LinesTaken, RightIf, TellsBy}
+use Rattle.sheet_programs.specs.Strict.{GoRight, LinesTaken, RightIf, goes_wrong}
+use Rattle.sheet_programs.specs.inside.Taking.{LinesFailed, LinesStopped, TellsBy}
 use Rattle.sheet_programs.proofs.Stricts.{is_strict, none_wrong, right_more, went_wrong}
 use Rattle.offline_programs.specs.declared.fault.RunFault.{RunFault}
 use Rattle.offline_programs.specs.declared.fault.RunFault.TheVariants as fault
@@ -247,12 +247,12 @@ lines-goes R number (l ∷ ls) s beats text t p =
     subst (λ (bs : List Beat). Goes s.world s.disk bs t.world t.disk) (sym p.7)
     (goes_on_by s.world s.disk p.1 p.0.world p.0.disk p.2 t.world t.disk (line-goes R number (line_of l) s p.1 p.3 p.0 p.5) (lines-goes R (number + 1) ls p.0 p.2 p.4 t p.6))
 
-lines-up-to-goes : {C : Type 0} (R : Relation C) (lines : List (List ℕ)) (s : At C) (beats : List Beat) (text : List ℕ) (e : Event) (t : At C) → LinesUpTo R lines s beats text e t → Goes s.world s.disk beats t.world t.disk
+pub lines-up-to-goes : {C : Type 0} (R : Relation C) (lines : List (List ℕ)) (s : At C) (beats : List Beat) (text : List ℕ) (e : Event) (t : At C) → LinesUpTo R lines s beats text e t → Goes s.world s.disk beats t.world t.disk
 lines-up-to-goes R lines s beats text e t p =
     subst (λ (bs : List Beat). Goes s.world s.disk bs t.world t.disk) (sym p.took)
     (goes_on_by s.world s.disk p.earlier p.mid.world p.mid.disk p.beats t.world t.disk (lines-goes R 1 p.before.done s p.earlier p.first p.mid p.before.ran) (up-to-goes R (line_of p.line) p.mid p.beats e t p.broke))
 
-lines-so-far-goes : {C : Type 0} (R : Relation C) (lines : List (List ℕ)) (s : At C) (beats : List Beat) (text : List ℕ) (t : At C) → LinesSoFar R lines s beats text t → Goes s.world s.disk beats t.world t.disk
+pub lines-so-far-goes : {C : Type 0} (R : Relation C) (lines : List (List ℕ)) (s : At C) (beats : List Beat) (text : List ℕ) (t : At C) → LinesSoFar R lines s beats text t → Goes s.world s.disk beats t.world t.disk
 lines-so-far-goes R lines s beats text t p =
     subst (λ (bs : List Beat). Goes s.world s.disk bs t.world t.disk) (sym p.took)
     (goes_on_by s.world s.disk p.earlier p.mid.world p.mid.disk p.beats t.world t.disk (lines-goes R 1 p.before.done s p.earlier p.first p.mid p.before.ran) (part-goes R (line_of p.line) p.mid p.beats t p.broke))
@@ -262,7 +262,7 @@ led-goes R l s t (whole number beats text done) = line-goes R number l s beats t
 led-goes R l s t (up_to beats e broke) = up-to-goes R l s beats e t broke
 led-goes R l s t (so_far beats so) = part-goes R l s beats t so
 
-lines-led-goes : {C : Type 0} (R : Relation C) (lines : List (List ℕ)) (s t : At C) (p : LinesLed R lines s t) → Goes s.world s.disk (p.earlier ++ led_beats p.led) t.world t.disk
+pub lines-led-goes : {C : Type 0} (R : Relation C) (lines : List (List ℕ)) (s t : At C) (p : LinesLed R lines s t) → Goes s.world s.disk (p.earlier ++ led_beats p.led) t.world t.disk
 lines-led-goes R lines s t p =
     goes_on_by s.world s.disk p.earlier p.mid.world p.mid.disk (led_beats p.led) t.world t.disk (lines-goes R 1 p.before.done s p.earlier p.first p.mid p.before.ran)
     (led-goes R (line_of p.line) p.mid t p.led)
@@ -332,7 +332,7 @@ opened_on disk h ops stands found ends looks = record {
 }
 
 -- where a run stands that took its lines is known by its beats
-taken-goes : {C : Type 0} (R : Relation C) (strict : Bool) (lines : List (List ℕ)) (stopped : Option ℕ) (s : At C) (beats : List Beat) (text : List ℕ) (t : At C) → LinesTaken R strict lines stopped s beats text t
+pub taken-goes : {C : Type 0} (R : Relation C) (strict : Bool) (lines : List (List ℕ)) (stopped : Option ℕ) (s : At C) (beats : List Beat) (text : List ℕ) (t : At C) → LinesTaken R strict lines stopped s beats text t
     → Goes s.world s.disk beats t.world t.disk
 taken-goes R false lines stopped s beats text t p = lines-goes R 1 lines s beats text t p
 taken-goes R true lines None s beats text t p = lines-goes R 1 lines s beats text t p.0
@@ -380,7 +380,7 @@ unread_script true R stream disk c d a b nothing (fault.Open why) is long none =
 unread_script true R stream disk c d a b nothing fault.InUse is long none = absurd is
 
 module _ {C : Type 0} (R : Relation C) (disk now : DiskView) (c d : C) (a b : Option (List ℕ)) (script : List ℕ) (start : World) (h : HostView) (opened : OpenedOn disk start now) (held : HoldsSheet start now) (same : SameDisk disk h.store.disk) (strict : Bool) where
-  abbrev run-stopped : (f : HostFault) → LinesStopped R strict (script_lines script) (at start c now) h d a b (fault.Host f) → RunStopped R script disk c d a b f
+  abbrev pub run-stopped : (f : HostFault) → LinesStopped R strict (script_lines script) (at start c now) h d a b (fault.Host f) → RunStopped R script disk c d a b f
   run-stopped f p = record {
     start = start;
     now = now;
@@ -398,7 +398,7 @@ module _ {C : Type 0} (R : Relation C) (disk now : DiskView) (c d : C) (a b : Op
     wrote = p.7;
   }
 
-  abbrev run-so-far : LinesStopped R strict (script_lines script) (at start c now) h d a b fault.OutOfMemory → RunSoFar R script disk c d a b
+  abbrev pub run-so-far : LinesStopped R strict (script_lines script) (at start c now) h d a b fault.OutOfMemory → RunSoFar R script disk c d a b
   run-so-far p = record {
     start = start;
     now = now;
@@ -412,7 +412,7 @@ module _ {C : Type 0} (R : Relation C) (disk now : DiskView) (c d : C) (a b : Op
     wrote = p.7;
   }
 
-  abbrev run-led : LinesStopped R strict (script_lines script) (at start c now) h d a b fault.Output → RunLed R script disk c d
+  abbrev pub run-led : LinesStopped R strict (script_lines script) (at start c now) h d a b fault.Output → RunLed R script disk c d
   run-led p = record {
     start = start;
     now = now;

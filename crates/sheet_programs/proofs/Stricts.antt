@@ -10,8 +10,7 @@ use Rattle.child_edge.specs.Told.{told}
 use Rattle.child_edge.proofs.Chains.{told-append}
 use Rattle.sheet_text.specs.Script.{line_of}
 use Rattle.sheet_text.specs.declared.script.ScriptLine.{ScriptLine}
-use Rattle.sheet_programs.specs.Strict.{goes_wrong, is_bad, is_wrong}
-use Rattle.sheet_programs.specs.inside.Taking.{RightIf}
+use Rattle.sheet_programs.specs.Strict.{RightIf, goes_wrong, is_bad, is_wrong}
 
 neither : (x y : Bool) → x ≡ false → y ≡ false → (x || y) ≡ false
 neither x y e f = ap (λ b. b || y) e ∙ f

@@ -2,7 +2,6 @@
 use Rattle.std.specs.Prelude.{◌≡◌, ◌+◌, ℕ, List, [], ◌∷◌, ◌++◌, Option, Some, None}
 use Rattle.host_events.specs.declared.event.Event.{Event}
 use Rattle.host_events.specs.declared.event.Event.TheVariants as event
-use Rattle.host_events.specs.declared.reply.Reply.{Reply}
 use Rattle.session_engine.specs.World.{sheet_in}
 use Rattle.child_edge.specs.Limits.{most_turns}
 use Rattle.child_edge.specs.Faithful.{Relation, At, Beat, Served, ServedUpTo, Waited}

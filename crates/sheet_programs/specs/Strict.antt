@@ -64,6 +64,16 @@ abbrev pub StrictLines : {C : Type 0} → Relation C → List (List ℕ) → Opt
 StrictLines R lines None s beats text t = LinesDone R 1 lines s beats text t × GoRight lines beats
 StrictLines R lines (Some number) s beats text t = StoppedBehind R lines s beats text t number
 
+-- In a strict run none of these lines went wrong.
+abbrev pub RightIf : Bool → List (List ℕ) → List Beat → Type 0
+RightIf false lines beats = Unit {0}
+RightIf true lines beats = GoRight lines beats
+
+-- The lines of a run, which is strict or not, up to where it stopped.
+abbrev pub LinesTaken : {C : Type 0} → Relation C → Bool → List (List ℕ) → Option ℕ → At C → List Beat → List ℕ → At C → Type 0
+LinesTaken R false lines stopped s beats text t = LinesDone R 1 lines s beats text t
+LinesTaken R true lines stopped s beats text t = StrictLines R lines stopped s beats text t
+
 -- What a strict run leaves that had no fault. But for the lines that were done it is what a run leaves: the worksheet has what was
 -- told, and each life that goes on was stopped.
 abbrev pub StrictDone : {C : Type 0} → Relation C → List ℕ → DiskView → C → C → Option (List ℕ) → Option (List ℕ) → DiskView → Option ℕ → Type 0

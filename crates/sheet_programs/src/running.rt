@@ -11,8 +11,8 @@ ghost use Rattle.offline_programs.specs.Faults.{FailedSince};
 ghost use Rattle.offline_programs.specs.Input.{longest_standard_input};
 ghost use Rattle.offline_programs.specs.Memory.{script_lines};
 ghost use Rattle.sheet_programs.specs.Run.{RunDone, RunOf, TellsRun};
-ghost use Rattle.sheet_programs.specs.Strict.{StrictDone, TellsStrict};
-ghost use Rattle.sheet_programs.specs.inside.Taking.{LinesStopped, LinesTaken, TellsBy};
+ghost use Rattle.sheet_programs.specs.Strict.{LinesTaken, StrictDone, TellsStrict};
+ghost use Rattle.sheet_programs.specs.inside.Taking.{LinesStopped, TellsBy};
 ghost use Rattle.offline_programs.specs.declared.fault.RunFault.TheVariants as told;
 ghost use Rattle.journal.specs.declared.opening.OpenCause.TheVariants as opens;
 ghost use Rattle.host_events.specs.declared.outcome.HostFault.TheVariants as hosts;
@@ -36,7 +36,7 @@ pub struct Ran<D: Disk> {
 }
 
 /// Does the lines of a script, and stops each life that goes on then.
-fn run_on_host<D: Disk, C: Children, W: Write>(
+pub(crate) fn run_on_host<D: Disk, C: Children, W: Write>(
     alloc: Global,
     host: &mut Host<D>,
     children: &mut C,

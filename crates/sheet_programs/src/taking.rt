@@ -10,8 +10,9 @@ ghost use Rattle.sheet_text.specs.Script.{line_of};
 ghost use Rattle.sheet_text.specs.declared.script.ScriptLine.TheVariants as said;
 ghost use Rattle.offline_programs.specs.Memory.{script_lines};
 ghost use Rattle.sheet_programs.specs.Strict as strictly;
+ghost use Rattle.sheet_programs.specs.Strict.{LinesTaken};
 ghost use Rattle.sheet_programs.specs.Told.{LineFailed, LineWrote, fault_of_cause};
-ghost use Rattle.sheet_programs.specs.inside.Taking.{LineTook, LinesFailed, LinesTaken};
+ghost use Rattle.sheet_programs.specs.inside.Taking.{LineTook, LinesFailed};
 
 use bstr::ByteSlice;
 use child_calls::Children;

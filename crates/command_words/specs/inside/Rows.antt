@@ -11,6 +11,7 @@ rows =
     ∷ (codes "create", shape.Path)
     ∷ (codes "run", shape.Strict)
     ∷ (codes "live", shape.Json)
+    ∷ (codes "eval", shape.Eval)
     ∷ (codes "show", shape.Json)
     ∷ (codes "check", shape.Path)
     ∷ (codes "rescue", shape.Paths)

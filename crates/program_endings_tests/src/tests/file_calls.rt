@@ -1,6 +1,5 @@
-//! The calls that a disk of two files makes on them.
+//! The calls by which a worksheet's two files are made and opened.
 use super::made_up::{Calls, Locks, MadeUp, There};
-use disk_model::{Area, Disk};
 use journal::CreateCause;
 use sheet_files::{FileDisk, FilesFault, MakeFault};
 use std::alloc::Global;
@@ -31,7 +30,7 @@ fn reads(calls: &Calls, alloc: Global, path: &str) -> Result<(), FilesFault> {
 }
 
 // Calls over files that are there.
-fn over(alloc: Global, there: There) -> Calls {
+pub fn over(alloc: Global, there: There) -> Calls {
     let calls = Calls::new(alloc);
     calls.there.set(there);
     calls
@@ -72,7 +71,7 @@ fn create_syncs_both_files_and_then_their_folder(rt: HostRuntime) {
 }
 
 // The calls of an opening to read that comes to no second file.
-const FIRST_READ: &str =
+pub const FIRST_READ: &str =
     "follow v/w/sheet\nlook for v/w/sheet\nopen to read v/w/sheet\nlock to read v/w/sheet\n\
      identify v/w/sheet\nlook for v/w/sheet.alt\n";
 
@@ -86,12 +85,14 @@ fn opens_by(alloc: Global, there: There, path: &str, lines: &str, to_read: &str)
         && read.are(to_read)
 }
 
-// The first file is locked before the second one is opened or made, and before anything is read.
+// The first file is locked before the second one is opened or made, and before anything is read. Both names
+// are brought onto the disk where the worksheet is written.
 #[test]
 fn a_worksheet_is_locked_before_its_second_file_is_opened(rt: HostRuntime) {
     let found =
         "follow v/w/sheet\nlook for v/w/sheet\nopen v/w/sheet\nlock v/w/sheet\nidentify v/w/sheet\n\
-         look for v/w/sheet.alt\nopen v/w/sheet.alt\nidentify v/w/sheet\nidentify v/w/sheet.alt\n";
+         look for v/w/sheet.alt\nopen v/w/sheet.alt\nidentify v/w/sheet\nidentify v/w/sheet.alt\n\
+         open to read v/w\nsync v/w\n";
     let read =
         "follow v/w/sheet\nlook for v/w/sheet\nopen to read v/w/sheet\nlock to read v/w/sheet\n\
          identify v/w/sheet\nlook for v/w/sheet.alt\nopen to read v/w/sheet.alt\n\
@@ -99,15 +100,14 @@ fn a_worksheet_is_locked_before_its_second_file_is_opened(rt: HostRuntime) {
     assert!(rt; opens_by(rt.alloc(), There::All, "v/w/sheet", found, read));
 }
 
-// To write it is made, and its name is brought onto the disk, where the first file doesn't say that the
-// worksheet lies in it.
+// To write it is made where the first file doesn't say that the worksheet lies in it.
 #[test]
 fn a_second_file_that_is_missing(rt: HostRuntime) {
     let made =
         "follow v/w/sheet\nlook for v/w/sheet\nopen v/w/sheet\nlock v/w/sheet\nidentify v/w/sheet\n\
          look for v/w/sheet.alt\nread v/w/sheet 0 3\nread v/w/sheet 3 3\nread v/w/sheet 6 3\n\
-         read v/w/sheet 9 2\nmake v/w/sheet.alt\nopen to read v/w\nsync v/w\n\
-         identify v/w/sheet\nidentify v/w/sheet.alt\n";
+         read v/w/sheet 9 2\nmake v/w/sheet.alt\nidentify v/w/sheet\nidentify v/w/sheet.alt\n\
+         open to read v/w\nsync v/w\n";
     assert!(rt; opens_by(rt.alloc(), There::First, "v/w/sheet", made, FIRST_READ));
 }
 
@@ -116,7 +116,8 @@ fn a_second_file_that_is_missing(rt: HostRuntime) {
 fn a_link_is_followed_to_both_files(rt: HostRuntime) {
     let far =
         "follow link\nlook for far/sheet\nopen far/sheet\nlock far/sheet\nidentify far/sheet\n\
-         look for far/sheet.alt\nopen far/sheet.alt\nidentify far/sheet\nidentify far/sheet.alt\n";
+         look for far/sheet.alt\nopen far/sheet.alt\nidentify far/sheet\nidentify far/sheet.alt\n\
+         open to read far\nsync far\n";
     let read = "follow link\nlook for far/sheet\nopen to read far/sheet\nlock to read far/sheet\n\
          identify far/sheet\nlook for far/sheet.alt\nopen to read far/sheet.alt\n\
          identify far/sheet\nidentify far/sheet.alt\n";
@@ -127,7 +128,7 @@ fn a_link_is_followed_to_both_files(rt: HostRuntime) {
 #[test]
 fn a_path_that_can_not_be_followed(rt: HostRuntime) {
     let here = "follow s\nlook for s\nopen s\nlock s\nidentify s\n\
-         look for s.alt\nopen s.alt\nidentify s\nidentify s.alt\n";
+         look for s.alt\nopen s.alt\nidentify s\nidentify s.alt\nopen to read .\nsync .\n";
     let read = "follow s\nlook for s\nopen to read s\nlock to read s\nidentify s\n\
          look for s.alt\nopen to read s.alt\nidentify s\nidentify s.alt\n";
     assert!(rt; opens_by(rt.alloc(), There::Lost, "s", here, read));
@@ -233,6 +234,12 @@ fn a_worksheet_that_another_has_is_left_alone(rt: HostRuntime) {
     assert!(rt; is_not_made(rt.alloc()));
 }
 
+// The calls of two openings of both files that succeed.
+const WITHOUT_LOCKS: &str = "follow s\nlook for s\nopen s\nlock s\nidentify s\n\
+     look for s.alt\nopen s.alt\nidentify s\nidentify s.alt\nopen to read .\nsync .\n\
+     follow s\nlook for s\nopen to read s\nlock to read s\nidentify s\n\
+     look for s.alt\nopen to read s.alt\nidentify s\nidentify s.alt\n";
+
 // Whether worksheets are made and opened where the file system has no locks.
 fn goes_on_without_locks(alloc: Global) -> bool {
     let empty = Calls::new(alloc);
@@ -242,7 +249,7 @@ fn goes_on_without_locks(alloc: Global) -> bool {
     creates(&empty, alloc, "s") == Ok(())
         && opens(&calls, alloc, "s") == Ok(())
         && reads(&calls, alloc, "s") == Ok(())
-        && calls.are(BOTH)
+        && calls.are(WITHOUT_LOCKS)
 }
 
 #[test]
@@ -265,147 +272,54 @@ fn a_sync_that_fails_makes_no_worksheet(rt: HostRuntime) {
     assert!(rt; stuck(rt.alloc()) == (failed, Err(FilesFault::Disk)));
 }
 
-// Whether the calls of this area are these, behind those of an opening, and each works.
-fn area_calls(alloc: Global, area: Area, lines: &str) -> bool {
-    let calls = over(alloc, There::All);
-    let Ok(mut disk) = FileDisk::open(
-        &MadeUp {
-            alloc,
-            calls: &calls,
-        },
-        alloc,
-        "s",
-    ) else {
-        return false;
-    };
-    let mut bytes = [0u8; 5];
-    let works = disk.len(area) == Ok(7)
-        && disk.read(area, 1, &mut bytes).is_ok()
-        && disk.write_at(area, 9, b"abcd").is_ok()
-        && disk.sync(area).is_ok();
-    works && calls.end_in(lines)
+// What comes of a worksheet that is made where this sync fails alone.
+fn makes_with_one_stuck(alloc: Global, at: u32) -> Result<(), MakeFault> {
+    let calls = Calls::new(alloc);
+    calls.stuck_once.set(at);
+    creates(&calls, alloc, "s")
+}
+
+// The same of one that is opened to be written.
+fn opens_with_one_stuck(alloc: Global, there: There) -> Result<(), FilesFault> {
+    let calls = over(alloc, there);
+    calls.stuck_once.set(1);
+    opens(&calls, alloc, "s")
 }
 
 #[test]
-fn calls_come_to_the_file_of_their_area_whole(rt: HostRuntime) {
-    let first = "identify s.alt\nmeasure s\nread s 1 3\nread s 4 2\n\
-                 write s 9 3\nwrite s 12 1\nsync the data of s\n";
-    let second = "identify s.alt\nmeasure s.alt\nread s.alt 1 3\nread s.alt 4 2\n\
-                  write s.alt 9 3\nwrite s.alt 12 1\nsync the data of s.alt\n";
-    assert!(rt; area_calls(rt.alloc(), Area::First, first));
-    assert!(rt; area_calls(rt.alloc(), Area::Second, second));
+fn each_sync_of_a_making_or_an_opening_counts(rt: HostRuntime) {
+    let failed = Err(MakeFault::Create(CreateCause::Disk));
+    assert!(rt; makes_with_one_stuck(rt.alloc(), 1) == failed);
+    assert!(rt; makes_with_one_stuck(rt.alloc(), 2) == failed);
+    assert!(rt; makes_with_one_stuck(rt.alloc(), 3) == failed);
+    assert!(rt; makes_with_one_stuck(rt.alloc(), 4) == Ok(()));
+    assert!(rt; opens_with_one_stuck(rt.alloc(), There::All) == Err(FilesFault::Disk));
+    assert!(rt; opens_with_one_stuck(rt.alloc(), There::First) == Err(FilesFault::Disk));
 }
 
-// Whether a disk that is only read makes these calls behind those of its opening, and writes nothing.
-fn read_calls(alloc: Global, area: Area, lines: &str) -> bool {
-    let calls = over(alloc, There::All);
-    let Ok(mut disk) = FileDisk::open_to_read(
-        &MadeUp {
-            alloc,
-            calls: &calls,
-        },
-        alloc,
-        "s",
-    ) else {
-        return false;
-    };
-    let mut bytes = [0u8; 5];
-    let works = disk.len(area) == Ok(7)
-        && disk.read(area, 1, &mut bytes).is_ok()
-        && disk.write_at(area, 9, b"abcd").is_err()
-        && disk.sync(area).is_ok();
-    works && calls.end_in(lines)
+// Whether a worksheet isn't made whose first file another makes between the look and the making.
+fn is_made_meanwhile(alloc: Global) -> bool {
+    let calls = Calls::new(alloc);
+    calls.shut.set(1);
+    calls.shut_by.set(ErrorKind::AlreadyExists);
+    creates(&calls, alloc, "s") == Err(MakeFault::Create(CreateCause::NotEmpty))
+        && calls.are("look for s\nlook for s.alt\nmake s\n")
 }
 
 #[test]
-fn a_disk_that_is_only_read_writes_nothing(rt: HostRuntime) {
-    let first = "identify s.alt\nmeasure s\nread s 1 3\nread s 4 2\nsync the data of s\n";
-    let second =
-        "identify s.alt\nmeasure s.alt\nread s.alt 1 3\nread s.alt 4 2\nsync the data of s.alt\n";
-    assert!(rt; read_calls(rt.alloc(), Area::First, first));
-    assert!(rt; read_calls(rt.alloc(), Area::Second, second));
+fn a_file_that_is_made_meanwhile_is_told_as_there(rt: HostRuntime) {
+    assert!(rt; is_made_meanwhile(rt.alloc()));
 }
 
-// Whether each call on a second file that is missing fails, and none is made.
-fn fails_without_a_second_file(alloc: Global) -> bool {
+// Whether no second file is made where the first one, which may say that the worksheet lies in it, can't be read.
+fn makes_none_unread(alloc: Global) -> bool {
     let calls = over(alloc, There::First);
-    let Ok(mut disk) = FileDisk::open_to_read(
-        &MadeUp {
-            alloc,
-            calls: &calls,
-        },
-        alloc,
-        "v/w/sheet",
-    ) else {
-        return false;
-    };
-    let mut bytes = [0u8; 5];
-    let fails = disk.len(Area::Second).is_err()
-        && disk.read(Area::Second, 0, &mut bytes).is_err()
-        && disk.write_at(Area::Second, 0, b"abcd").is_err()
-        && disk.sync(Area::Second).is_err();
-    fails && calls.are(FIRST_READ)
+    calls.unreadable.set(true);
+    opens(&calls, alloc, "s") == Err(FilesFault::Disk)
+        && calls.end_in("look for s.alt\nread s 0 3\n")
 }
 
 #[test]
-fn calls_on_a_second_file_that_is_missing(rt: HostRuntime) {
-    assert!(rt; fails_without_a_second_file(rt.alloc()));
-}
-
-// What a sync answers that the file refuses so, of a disk that is written, and of one that is read.
-fn syncs(alloc: Global, area: Area, why: ErrorKind) -> Option<(bool, bool)> {
-    let calls = over(alloc, There::All);
-    let files = MadeUp {
-        alloc,
-        calls: &calls,
-    };
-    let mut written = FileDisk::open(&files, alloc, "s").ok()?;
-    let mut read = FileDisk::open_to_read(&files, alloc, "s").ok()?;
-    calls.stuck.set(Some(why));
-    Some((written.sync(area).is_ok(), read.sync(area).is_ok()))
-}
-
-// But of a file system that can only be read, where there is nothing to bring out.
-#[test]
-fn a_sync_that_fails_is_a_fault(rt: HostRuntime) {
-    let alloc = rt.alloc();
-    let nothing = Some((false, true));
-    assert!(rt; syncs(alloc, Area::First, ErrorKind::Other) == Some((false, false)));
-    assert!(rt; syncs(alloc, Area::Second, ErrorKind::Other) == Some((false, false)));
-    assert!(rt; syncs(alloc, Area::First, ErrorKind::InvalidInput) == nothing);
-    assert!(rt; syncs(alloc, Area::Second, ErrorKind::ReadOnlyFilesystem) == nothing);
-}
-
-// Whether nothing comes to a file behind a sync of this area that failed: a later sync that works would say
-// nothing of what the first one left out.
-fn ends_by_a_failed_sync(alloc: Global, area: Area, lines: &str) -> bool {
-    let calls = over(alloc, There::All);
-    let Ok(mut disk) = FileDisk::open(
-        &MadeUp {
-            alloc,
-            calls: &calls,
-        },
-        alloc,
-        "s",
-    ) else {
-        return false;
-    };
-    calls.stuck.set(Some(ErrorKind::Other));
-    let failed = disk.sync(area).is_err();
-    calls.stuck.set(None);
-    let mut bytes = [0u8; 5];
-    let ended = disk.sync(Area::First).is_err()
-        && disk.sync(Area::Second).is_err()
-        && disk.len(area).is_err()
-        && disk.read(area, 1, &mut bytes).is_err()
-        && disk.write_at(area, 7, b"abcd").is_err();
-    failed && ended && calls.end_in(lines)
-}
-
-#[test]
-fn no_sync_is_believed_behind_one_that_failed(rt: HostRuntime) {
-    let first = "identify s.alt\nsync the data of s\n";
-    let second = "identify s.alt\nsync the data of s.alt\n";
-    assert!(rt; ends_by_a_failed_sync(rt.alloc(), Area::First, first));
-    assert!(rt; ends_by_a_failed_sync(rt.alloc(), Area::Second, second));
+fn no_second_file_is_made_behind_a_first_one_that_can_not_be_read(rt: HostRuntime) {
+    assert!(rt; makes_none_unread(rt.alloc()));
 }

@@ -244,6 +244,15 @@ fn has_len(rt: &HostRuntime, path: &str, len: u64) -> bool {
     }
 }
 
+// It is looked at, and is no worksheet.
+#[test]
+fn a_file_as_long_as_the_room(rt: HostRuntime) {
+    assert!(rt; is_done(folder(&rt, "as_long")));
+    assert!(rt; is_done(make_long(&rt, "as_long/sheet", 2_147_483_648)));
+    assert!(rt; shows_path(&rt, "as_long/sheet", 1, (b"", b"fault 31 NotASheet\n")));
+    assert!(rt; is_done(fs::remove_dir_all(&rt, "as_long")));
+}
+
 #[test]
 fn a_file_longer_than_the_room(rt: HostRuntime) {
     assert!(rt; is_done(folder(&rt, "too_long")));

@@ -16,12 +16,17 @@ use std::rt::Files;
 #[derive(Drop)]
 pub struct Calls {
     list: RefCell<String>,
-    /// How many opens fail, from the next one on.
+    /// How many opens fail, from the next one on, and why.
     pub shut: Cell<u32>,
+    pub shut_by: Cell<ErrorKind>,
+    /// Whether each read fails.
+    pub unreadable: Cell<bool>,
     /// What is there before a file is made.
     pub there: Cell<There>,
     /// Whether each sync fails, and why.
     pub stuck: Cell<Option<ErrorKind>>,
+    /// Which sync fails alone: the next one is 1, and 0 is none.
+    pub stuck_once: Cell<u32>,
     /// What becomes of a lock.
     pub locks: Cell<Locks>,
     /// How many names the first file of a worksheet has, and how many the second.
@@ -66,8 +71,11 @@ impl Calls {
         Calls {
             list: RefCell::new(String::new(alloc)),
             shut: Cell::new(0),
+            shut_by: Cell::new(ErrorKind::PermissionDenied),
+            unreadable: Cell::new(false),
             there: Cell::new(There::Nothing),
             stuck: Cell::new(None),
+            stuck_once: Cell::new(0),
             locks: Cell::new(Locks::Free),
             names: Cell::new((1, 1)),
             numbers: Cell::new((8, 9)),
@@ -135,8 +143,11 @@ impl Calls {
     }
 
     fn answer(&self) -> io::Result<()> {
+        let at = self.stuck_once.get();
+        self.stuck_once.set(at.saturating_sub(1));
         match self.stuck.get() {
             Some(why) => Err(io::Error::from(why)),
+            None if at == 1 => Err(io::Error::from(ErrorKind::Other)),
             None => Ok(()),
         }
     }
@@ -171,7 +182,7 @@ fn verb(how: &OpenOptions) -> &'static str {
     }
 }
 
-fn unsupported<T>() -> io::Result<T> {
+pub fn unsupported<T>() -> io::Result<T> {
     Err(io::Error::from(ErrorKind::Unsupported))
 }
 
@@ -183,7 +194,7 @@ impl<'a> Files for MadeUp<'a> {
     fn open_file(&self, how: &OpenOptions, path: &str) -> io::Result<MadeUpFile<'a>> {
         self.calls.note(verb(how), path);
         if self.calls.is_shut() {
-            return Err(io::Error::from(ErrorKind::PermissionDenied));
+            return Err(io::Error::from(self.calls.shut_by.get()));
         }
         Ok(MadeUpFile {
             path: String::from_str(self.alloc, path)?,
@@ -319,6 +330,9 @@ impl FileExt for MadeUpFile<'_> {
         let count = buf.len().min(3);
         self.calls
             .note_bytes("read", self.path.as_str(), offset, count);
+        if self.calls.unreadable.get() {
+            return Err(io::Error::from(ErrorKind::Other));
+        }
         Ok(count)
     }
 

@@ -10,10 +10,10 @@ use Rattle.child_edge.specs.Edge.{Stopped}
 use Rattle.child_edge.specs.Seats.{running}
 use Rattle.child_edge.specs.Stops.{Stops}
 use Rattle.sheet_text.specs.declared.script.ScriptLine.{ScriptLine}
-use Rattle.sheet_programs.specs.Lines.{LineDone, LinesDone}
+use Rattle.sheet_programs.specs.Lines.{LineDone}
 use Rattle.sheet_programs.specs.Told.{StandsOrStopped}
 use Rattle.sheet_programs.specs.Run.{LinesUpTo, LinesSoFar, LinesLed, TellsRun}
-use Rattle.sheet_programs.specs.Strict.{GoRight, StrictLines, TellsStrict, goes_wrong}
+use Rattle.sheet_programs.specs.Strict.{RightIf, TellsStrict, goes_wrong}
 use Rattle.offline_programs.specs.declared.fault.RunFault.{RunFault}
 use Rattle.offline_programs.specs.declared.fault.RunFault.TheVariants as fault
 
@@ -21,16 +21,6 @@ use Rattle.offline_programs.specs.declared.fault.RunFault.TheVariants as fault
 abbrev pub LineTook : {C : Type 0} → Relation C → ℕ → Option ScriptLine → At C → HostView → C → Option (List ℕ) → Option (List ℕ) → Bool → Type 0
 LineTook R number l s h c a b wrong =
     (beats : List Beat) × (text : List ℕ) × (t : World) × LineDone R number l s beats text (at t c h.store.disk) × IsHost h t × Appends a b text × (wrong ≡ goes_wrong l beats)
-
--- In a strict run none of these lines went wrong.
-abbrev pub RightIf : Bool → List (List ℕ) → List Beat → Type 0
-RightIf false lines beats = Unit {0}
-RightIf true lines beats = GoRight lines beats
-
--- The lines of a run, which is strict or not, up to where it stopped.
-abbrev pub LinesTaken : {C : Type 0} → Relation C → Bool → List (List ℕ) → Option ℕ → At C → List Beat → List ℕ → At C → Type 0
-LinesTaken R false lines stopped s beats text t = LinesDone R 1 lines s beats text t
-LinesTaken R true lines stopped s beats text t = StrictLines R lines stopped s beats text t
 
 -- What a fault of a run tells, which is strict or not.
 abbrev pub TellsBy : {C : Type 0} → Bool → Relation C → Option (List ℕ) → DiskView → C → C → Option (List ℕ) → Option (List ℕ) → Type 0 → RunFault → Type 0

@@ -39,7 +39,10 @@ returns-in-None c =
     let format_is : first_of (codes "FORMAT") (rows_of found) ≡ None = sym (first_value-rows found (codes "FORMAT")) ∙ sym c.in-None.ensures in
     let strict_is : is_set (first_of (codes "strict") (rows_of found)) ≡ c.is_set.result = sym (c.is_set.ensures ∙ ap is_set (c.get_str-in-None.ensures ∙ first_value-rows found (codes "strict"))) in
     let json_is : is_set (first_of (codes "json") (rows_of found)) ≡ c.is_set-in-None.result = sym (c.is_set-in-None.ensures ∙ ap is_set (c.get_str-in-None-2.ensures ∙ first_value-rows found (codes "json"))) in
-    let flags_are : flags_in (rows_of found) ≡ record { strict = c.is_set.result; json = c.is_set-in-None.result } = ap₂ (λ (a b : Bool). let x : Flags = record { strict = a; json = b } in x) strict_is json_is in
+    let unanswered_is : is_set (first_of (codes "unanswered") (rows_of found)) ≡ c.is_set-in-None-2.result = sym (c.is_set-in-None-2.ensures ∙ ap is_set (c.get_str-in-None-3.ensures ∙ first_value-rows found (codes "unanswered"))) in
+    let flags_are : flags_in (rows_of found) ≡ record { strict = c.is_set.result; json = c.is_set-in-None.result; unanswered = c.is_set-in-None-2.result } =
+    ap₂ (λ (a b : Bool). let x : Flags = record { strict = a; json = b; unanswered = is_set (first_of (codes "unanswered") (rows_of found)) } in x) strict_is json_is
+    ∙ ap (λ (u : Bool). let x : Flags = record { strict = c.is_set.result; json = c.is_set-in-None.result; unanswered = u } in x) unanswered_is in
     c.task_with_path.ensures ∙ sym (ap by_subcommand rows_are ∙ ap (λ (path : Option Text). by_paths c.in-Some.name.now path (first_of (codes "NEW") (rows_of found)) (first_of (codes "FORMAT") (rows_of found)) (flags_in (rows_of found))) path_is
     ∙ ap₂ (λ (new format : Option Text). by_paths c.in-Some.name.now (Some c.in-Some-get_str.path.now) new format (flags_in (rows_of found))) new_is format_is
     ∙ ap (λ (flags : Flags). by_paths c.in-Some.name.now (Some c.in-Some-get_str.path.now) None None flags) flags_are)

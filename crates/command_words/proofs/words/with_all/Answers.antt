@@ -1,4 +1,4 @@
-use Rattle.std.proofs.Common.{◌≡◌, ◌∙◌, ◌≤◌, ap, arith, sym, subst, ℕ}
+use Rattle.std.proofs.Common.{◌≡◌, ◌∙◌, ◌≤◌, ap, arith, subst, ℕ}
 use native.Mathlib.Numerals.{unary_clauses}
 use Rattle.clap.specs.Words.{App, app_of, with_subcommand}
 use Rattle.command_words.specs.inside.Table as asked
@@ -8,9 +8,9 @@ pub loop-at-preserved : goal.loop-at-preserved
 loop-at-preserved c =
     simp unary_clauses (c.in_ok-command.ensures ∙ ap (λ (a : App). with_subcommand a (asked.app_at c.loop-at.at).top) c.loop-at.invariant)
 
-nine : (n : ℕ) → n ≤ 9 → 9 ≤ n → n ≡ 9
-nine n a b = omega arith
+ten : (n : ℕ) → n ≤ 10 → 10 ≤ n → n ≡ 10
+ten n a b = omega arith
 
 pub returns : goal.returns
 returns c =
-    subst (λ (n : ℕ). app_of c.loop-at.command ≡ asked.with_rows (app_of c.args.command) n) (nine c.loop-at.at c.loop-at.auto.at-end c.loop-at-test.false) c.loop-at.invariant
+    subst (λ (n : ℕ). app_of c.loop-at.command ≡ asked.with_rows (app_of c.args.command) n) (ten c.loop-at.at c.loop-at.auto.at-end c.loop-at-test.false) c.loop-at.invariant

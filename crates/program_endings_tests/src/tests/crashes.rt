@@ -1,0 +1,234 @@
+//! The program's own file code, with its programs above it, over files that crash at each moment: what is there opens to the worksheet
+//! behind what was told, or behind the one line more that was being done.
+use super::machine::{Folder, Machine};
+use child_calls::Scripted;
+use disk_model::{Choice, Fill};
+use program_endings::{read_rescued, run_create, run_rescue, run_script, run_show};
+use sheet_files::FileDisk;
+use std::alloc::Global;
+
+/// What a crash leaves of the ranges that were being written.
+const FILLS: [(Fill, bool); 7] = [
+    (Fill::Old, false),
+    (Fill::Old, true),
+    (Fill::New, true),
+    (Fill::New, false),
+    (Fill::Torn(3), true),
+    (Fill::Torn(20), false),
+    (Fill::Byte(0x52), true),
+];
+
+// What is printed of the worksheet of a folder; nothing where it has none.
+fn shown(alloc: Global, folder: &Folder) -> Option<Vec<u8>> {
+    let machine = Machine { folder };
+    let mut text: Vec<u8> = Vec::new(alloc);
+    let mut errors: Vec<u8> = Vec::new(alloc);
+    let files = FileDisk::open_to_read(&machine, alloc, "sheet");
+    let ended = run_show(alloc, files, &mut text, &mut errors);
+    if ended.status == 0 { Some(text) } else { None }
+}
+
+// Whether a program that makes a worksheet ends well.
+fn creates(alloc: Global, folder: &Folder) -> bool {
+    let mut errors: Vec<u8> = Vec::new(alloc);
+    let files = FileDisk::create(&Machine { folder }, alloc, "sheet");
+    run_create(files, &mut errors).status == 0
+}
+
+// Whether a run of this script ends well, and tells this. No interpreter can be started.
+fn runs(alloc: Global, folder: &Folder, script: &[u8], told: &[u8]) -> bool {
+    let mut children = Scripted::new(alloc, Vec::new(alloc));
+    let mut input = script;
+    let mut text: Vec<u8> = Vec::new(alloc);
+    let mut errors: Vec<u8> = Vec::new(alloc);
+    let files = FileDisk::open(&Machine { folder }, alloc, "sheet");
+    let ended = run_script(
+        alloc,
+        &mut input,
+        &mut text,
+        &mut errors,
+        files,
+        &mut children,
+    );
+    ended.status == 0 && text.as_slice() == told
+}
+
+// Whether what is rescued of one folder is written to another one, and this is told.
+fn rescues(alloc: Global, from: &Folder, to: &Folder, told: &[u8]) -> bool {
+    let mut text: Vec<u8> = Vec::new(alloc);
+    let mut errors: Vec<u8> = Vec::new(alloc);
+    let files = FileDisk::open_to_read(&Machine { folder: from }, alloc, "sheet");
+    let Ok(found) = read_rescued(alloc, files) else {
+        return false;
+    };
+    let made = FileDisk::create(&Machine { folder: to }, alloc, "sheet");
+    let ended = run_rescue(alloc, &found, made, &mut text, &mut errors);
+    ended.status == 0 && text.as_slice() == told
+}
+
+// What a whole folder shows: a copy is looked at, so nothing is done to the folder.
+fn shown_now(alloc: Global, folder: &Folder) -> Option<Vec<u8>> {
+    let choice = Choice {
+        moment: folder.moment(),
+        fill: Fill::New,
+        grown: true,
+    };
+    shown(alloc, &folder.crash(&choice)?)
+}
+
+/// What a folder may show: before a program, while it is at it, and from the moment on when it told that it
+/// was done.
+#[derive(Drop)]
+struct Kept<'a> {
+    before: &'a Option<Vec<u8>>,
+    between: &'a Option<Vec<u8>>,
+    after: &'a Option<Vec<u8>>,
+    told: u64,
+}
+
+impl Kept<'_> {
+    fn allows(&self, moment: u64, found: &Option<Vec<u8>>) -> bool {
+        found == self.after
+            || (moment < self.told && (found == self.before || found == self.between))
+    }
+
+    // Whether a crash at this moment leaves what it may.
+    fn is_left(&self, alloc: Global, folder: &Folder, moment: u64) -> bool {
+        for (fill, grown) in FILLS {
+            let choice = Choice {
+                moment,
+                fill,
+                grown,
+            };
+            let Some(crashed) = folder.crash(&choice) else {
+                return false;
+            };
+            if !self.allows(moment, &shown(alloc, &crashed)) {
+                return false;
+            }
+        }
+        true
+    }
+
+    // Whether a crash does so at each moment from this one on.
+    fn is_left_from(&self, alloc: Global, folder: &Folder, from: u64) -> bool {
+        for moment in from..self.told.saturating_add(1) {
+            if !self.is_left(alloc, folder, moment) {
+                return false;
+            }
+        }
+        true
+    }
+}
+
+// Whether a worksheet is made so that a crash leaves none, or an empty one.
+fn making_keeps(alloc: Global, folder: &Folder) -> bool {
+    let made = creates(alloc, folder);
+    let kept = Kept {
+        before: &None,
+        between: &None,
+        after: &Some(Vec::new(alloc)),
+        told: folder.moment(),
+    };
+    made && kept.is_left_from(alloc, folder, 0)
+}
+
+// Whether a run ends well, and a crash leaves the worksheet before it or behind it, when it was told the latter.
+fn run_keeps(alloc: Global, folder: &Folder, script: &[u8], told: &[u8]) -> bool {
+    let from = folder.moment();
+    let before = shown_now(alloc, folder);
+    if !runs(alloc, folder, script, told) {
+        return false;
+    }
+    let kept = Kept {
+        before: &before,
+        between: &before,
+        after: &shown_now(alloc, folder),
+        told: folder.moment(),
+    };
+    kept.is_left_from(alloc, folder, from)
+}
+
+/// Lines of a script, and what is told of them.
+type Step = (&'static [u8], &'static [u8]);
+
+const BEGINNING: [Step; 3] = [
+    (b"session a plain p\n", b"ok\n"),
+    (b"new 0 a first\n", b"field 1\n"),
+    (b"new 1 a second\n", b"field 2\n"),
+];
+
+const ROUND: [Step; 8] = [
+    (b"set 1 a longer input of the first field\n", b"ok\n"),
+    (b"move 2 0\n", b"ok\n"),
+    (b"eval 1\nwait\n", b"asked\nended a StartRefused lost 1\n"),
+    (b"checkpoint\n", b"ok\n"),
+    (b"set 2 x\n", b"ok\n"),
+    (b"clear 1\n", b"ok\n"),
+    (b"move 2 1\n", b"ok\n"),
+    (b"checkpoint\n", b"ok\n"),
+];
+
+fn steps_keep(alloc: Global, folder: &Folder, steps: &[Step]) -> bool {
+    for (script, told) in steps {
+        if !run_keeps(alloc, folder, script, told) {
+            return false;
+        }
+    }
+    true
+}
+
+// Whether a worksheet is kept that is made and changed in so many rounds.
+fn story_keeps(alloc: Global, folder: &Folder, rounds: u32) -> bool {
+    if !making_keeps(alloc, folder) || !steps_keep(alloc, folder, &BEGINNING) {
+        return false;
+    }
+    for _ in 0..rounds {
+        if !steps_keep(alloc, folder, &ROUND) {
+            return false;
+        }
+    }
+    true
+}
+
+const LAST: &[u8] = b"#1 a\n> a longer input of the first field\n?\n#2 a\n> x\n?\n";
+
+fn shows_now(alloc: Global, folder: &Folder, text: &[u8]) -> bool {
+    match shown_now(alloc, folder) {
+        Some(shown) => shown.as_slice() == text,
+        None => false,
+    }
+}
+
+#[test]
+fn a_crash_at_each_moment_of_runs_and_checkpoints(rt: HostRuntime) {
+    let folder = Folder::new(rt.alloc());
+    assert!(rt; story_keeps(rt.alloc(), &folder, 11));
+    assert!(rt; shows_now(rt.alloc(), &folder, LAST));
+    assert!(rt; folder.moment() >= 500, "{} moments", folder.moment());
+}
+
+// Whether a rescue ends well, and a crash leaves no worksheet, an empty one or all that was kept, when it was told
+// the last. The old worksheet stays as it is.
+fn rescue_keeps(alloc: Global, from: &Folder, to: &Folder, told: &[u8]) -> bool {
+    let whole = shown_now(alloc, from);
+    let rescued = rescues(alloc, from, to, told);
+    let kept = Kept {
+        before: &None,
+        between: &Some(Vec::new(alloc)),
+        after: &whole,
+        told: to.moment(),
+    };
+    rescued && kept.is_left_from(alloc, to, 0) && shown_now(alloc, from) == whole
+}
+
+#[test]
+fn a_crash_at_each_moment_of_a_rescue(rt: HostRuntime) {
+    let from = Folder::new(rt.alloc());
+    let to = Folder::new(rt.alloc());
+    assert!(rt; creates(rt.alloc(), &from));
+    let script = b"session a plain p\nnew 0 a first\ncheckpoint\nset 1 second\n";
+    assert!(rt; runs(rt.alloc(), &from, script, b"ok\nfield 1\nok\nok\n"));
+    assert!(rt; rescue_keeps(rt.alloc(), &from, &to, b"kept 3, whole\n"));
+    assert!(rt; to.moment() >= 8, "{} moments", to.moment());
+}

@@ -1,0 +1,85 @@
+# Evaluations of a worksheet: `eval` does the script that has an `eval` and a `wait` for each field, and counts the answers at the end.
+
+# A case of `eval`: NAME STATUS TEXT SHEET WORDS. Over the worksheet as it stands it writes the text, its errors behind it, and then the
+# worksheet is shown so.
+evaluates() {
+    name=$1 want=$(ending "$3" "$2") shown=$(ending "$4" 0)
+    shift 4
+    compare "$name" "$(answer eval "$@" sheet </dev/null)" "$want"
+    compare "$name, shown" "$(answer show sheet </dev/null)" "$shown"
+}
+
+# A new worksheet by a script that is typed in.
+made() {
+    rm -f sheet sheet.alt
+    "$tmhost" create sheet
+    printf "$1" >given
+    "$tmhost" run sheet <given >text
+}
+
+# An interpreter that answers each line with the line and how many it was asked, and that ends at the line `end`.
+cat >count.sh <<'END'
+printf '\002verbatim:\005'
+n=0
+while IFS= read -r l; do
+    [ "$l" != end ] || exit
+    n=$((n + 1))
+    printf '\002verbatim:%s %s\005' "$l" "$n"
+done
+END
+
+made ''
+evaluates 'a worksheet without fields' 0 'answered 0 unanswered 0\n' ''
+made 'session a plain sh count.sh\nsession b plain sh count.sh\nnew 0 a x\nnew 1 b y\nnew 2 a z\nmove 3 0\n'
+evaluates 'all fields in their order, each session with one interpreter' 0 \
+    'asked\nbanner a\nanswered 3\nasked\nanswered 1\nasked\nbanner b\nanswered 2\nanswered 3 unanswered 0\n' \
+    '#3 a\n> z\nz 1\n#1 a\n> x\nx 2\n#2 b\n> y\ny 1\n'
+evaluates 'again: no variable is kept' 0 \
+    'asked\nbanner a\nanswered 3\nasked\nanswered 1\nasked\nbanner b\nanswered 2\nanswered 3 unanswered 0\n' \
+    '#3 a\n> z\nz 1\n#1 a\n> x\nx 2\n#2 b\n> y\ny 1\n'
+evaluates 'none is unanswered' 0 'answered 3 unanswered 0\n' '#3 a\n> z\nz 1\n#1 a\n> x\nx 2\n#2 b\n> y\ny 1\n' --unanswered
+printf 'set 1 w\nnew 2 b v\n' >given
+"$tmhost" run sheet <given >text
+evaluates 'those without an answer' 0 'asked\nbanner a\nanswered 1\nasked\nbanner b\nanswered 4\nanswered 4 unanswered 0\n' \
+    '#3 a\n> z\nz 1\n#1 a\n> w\nw 1\n#2 b\n> y\ny 1\n#4 b\n> v\nv 1\n' --unanswered
+
+# Fields that are lost.
+made 'session a plain sh count.sh\nsession b plain ./nothing\nnew 0 a x\nnew 1 a end\nnew 2 a z\nnew 3 b y\n'
+evaluates 'an end goes on with another interpreter' 1 \
+    'asked\nbanner a\nanswered 1\nasked\nended a Ended lost 1\nasked\nbanner a\nanswered 3\nasked\nended b StartRefused lost 1\nanswered 2 unanswered 2\n' \
+    '#1 a\n> x\nx 1\n#2 a\n> end\n? Ended\n#3 a\n> z\nz 1\n#4 b\n> y\n? StartRefused\n'
+evaluates 'strictly: it stops behind the first one, and the fields behind keep what they show' 3 \
+    'asked\nbanner a\nanswered 1\nasked\nended a Ended lost 1\nanswered 2 unanswered 2\nstopped at line 4\n' \
+    '#1 a\n> x\nx 1\n#2 a\n> end\n? Ended\n#3 a\n> z\nz 1\n#4 b\n> y\n? StartRefused\n' --strict
+evaluates 'strictly, those that were lost' 3 'asked\nbanner a\nended a Ended lost 1\nanswered 2 unanswered 2\nstopped at line 2\n' \
+    '#1 a\n> x\nx 1\n#2 a\n> end\n? Ended\n#3 a\n> z\nz 1\n#4 b\n> y\n? StartRefused\n' --strict --unanswered
+printf 'remove 2\nremove 4\n' >given
+"$tmhost" run sheet <given >text
+evaluates 'strictly, where none is lost' 0 'asked\nbanner a\nanswered 1\nasked\nanswered 3\nanswered 2 unanswered 0\n' '#1 a\n> x\nx 1\n#3 a\n> z\nz 2\n' --strict
+
+# It writes what `run` writes of that script, and the counts.
+printf 'eval 1\nwait\neval 3\nwait\n' >given
+"$tmhost" run sheet <given >text
+echo 'answered 2 unanswered 0' >>text
+compare 'the text of the run' "$("$tmhost" eval sheet </dev/null)" "$(cat text)"
+
+# The input isn't read, and another program keeps the worksheet.
+printf 'new 0 a no\n' >given
+compare 'the input is not read' "$(answer eval sheet <given)" "$(ending 'asked\nbanner a\nanswered 1\nasked\nanswered 3\nanswered 2 unanswered 0\n' 0)"
+cp sheet damaged
+printf 'x' | dd of=damaged bs=1 seek=0 conv=notrunc 2>errors
+compare 'a damaged worksheet' "$(answer eval damaged </dev/null)" "$(ending 'fault 31 NotASheet\n' 1)"
+words 'no worksheet' 1 'fault 32 Disk\n' eval missing
+
+# Many fields.
+rm -f sheet sheet.alt
+"$tmhost" create sheet
+{
+    echo 'session a plain sh count.sh'
+    yes 'new 0 a x' | head -n 1000
+} >given
+"$tmhost" run sheet <given >text
+"$tmhost" eval sheet </dev/null >text
+compare 'a thousand fields' "$(tail -n 1 text; grep -c '^answered [0-9]*$' text)" "$(printf 'answered 1000 unanswered 0\n1000\n')"
+
+counted evaluations
