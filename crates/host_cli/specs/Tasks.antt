@@ -1,5 +1,5 @@
 -- Which program runs for which words, over all that is outside.
-use Rattle.std.specs.Prelude.{◌≡◌, ◌≢◌, ◌⊎◌, ℕ, true, false, Bool, List, Option, Result, Ok, Err, IfOk, IfErr, MatchOption, MatchResult, if◌then◌else◌}
+use Rattle.std.specs.Prelude.{◌≡◌, ◌≢◌, ◌⊎◌, ℕ, true, false, Bool, List, Option, Result, Ok, Err, IfOk, IfErr, MatchOption, MatchResult}
 use Rattle.std.specs.Io.KnownBytes.{Appends}
 use Rattle.std.specs.declared.io.ErrorKind.{ErrorKind as IoKind}
 use Rattle.std.specs.declared.io.ErrorKind.TheVariants as io_kind
@@ -48,6 +48,7 @@ use Rattle.sheet_files.specs.declared.files_fault.HoldFault.{HoldFault}
 use Rattle.sheet_files.specs.declared.files_fault.MakeFault.{MakeFault}
 use Rattle.sheet_files.specs.declared.places.Places as places
 use Rattle.sheet_programs.specs.declared.plan.Plan.{Plan}
+use Rattle.sheet_programs.specs.declared.plan.Which.{Which}
 use Rattle.sheet_programs.specs.declared.plan.Which.TheVariants as which
 
 -- How what is outside is seen, and what calls on it may lead to.
@@ -65,9 +66,14 @@ pub record OutsideView (D P S I W E : Type 0) : Type 1 where
 abbrev pub outer : {D P S I W E : Type 0} → places.Ghosts P D → disks.Ghosts D → Relation S → Clock S → Watch S → read.Ghosts I → write.Ghosts W → (W → Bool → W → Type 0) → write.Ghosts E → OutsideView D P S I W E
 outer p d after clock wakes i w b e = record { places = p; view = d.view; after = after; clock = clock; wakes = wakes; stream = i.remaining; written = w.contents; brought = b; said = e.contents }
 
+-- which fields are evaluated
+abbrev pub which_by : Bool → Which
+which_by true = which.Unanswered
+which_by false = which.All
+
 -- what the flags of `eval` ask for
 abbrev pub plan_of : EvalFlags → Plan
-plan_of flags = record { which = if flags.unanswered then which.Unanswered else which.All; strict = flags.strict }
+plan_of flags = record { which = which_by flags.unanswered; strict = flags.strict }
 
 module _ {Y D P S I W E Q : Type 0} where
   -- nothing but the places and the stream of errors was touched
