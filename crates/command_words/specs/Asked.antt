@@ -1,12 +1,27 @@
 -- What the words of a command line ask for.
 use Rattle.std.specs.Prelude.{Bool, true, false, List, Option, Some, None, codes, if◌then◌else◌}
+use Rattle.std.specs.Option.{option_map}
 use Rattle.std.specs.Str.{bytes_eq}
 use Rattle.clap.specs.Words.{App, Row, Rule, Text, first_of, new_app, new_rule, subcommand_of, with_rule, with_subcommand}
 use Rattle.clap.specs.declared.builder.action.ArgAction.TheVariants.{SetTrue}
+use Rattle.command_words.specs.declared.words.CheckWords.{CheckWords}
 use Rattle.command_words.specs.declared.words.EvalFlags.{EvalFlags}
 use Rattle.command_words.specs.declared.words.Flags.{Flags}
 use Rattle.command_words.specs.declared.words.Task.{Task}
 use Rattle.command_words.specs.declared.words.Task.TheVariants as task
+
+-- what the words of `check` name beside its path, as contracts see it
+pub record CheckView : Type 0 where
+  pub format : Option Text
+  pub only : Option Text
+  pub leave_out : Option Text
+
+abbrev pub check_view : CheckWords → CheckView
+check_view words = record {
+  format = option_map (λ text. text.now) words.format;
+  only = option_map (λ text. text.now) words.only;
+  leave_out = option_map (λ text. text.now) words.leave_out;
+}
 
 -- a task as contracts see it: a path is its bytes
 pub data TaskView : Type 0 where
@@ -19,7 +34,7 @@ pub data TaskView : Type 0 where
   eval : Text → EvalFlags → TaskView
   show : Text → TaskView
   show_json : Text → TaskView
-  check : Text → TaskView
+  check : Text → CheckView → TaskView
   rescue : Text → Text → TaskView
   export : Text → Text → TaskView
 
@@ -33,7 +48,7 @@ task_view (task.LiveJson path) = live_json path.now
 task_view (task.Eval path flags) = eval path.now flags
 task_view (task.Show path) = show path.now
 task_view (task.ShowJson path) = show_json path.now
-task_view (task.Check path) = check path.now
+task_view (task.Check path words) = check path.now (check_view words)
 task_view (task.Rescue path new) = rescue path.now new.now
 task_view (task.Export format path) = export format.now path.now
 
@@ -56,6 +71,25 @@ json_rule = record (new_rule (codes "json")) { long = Some (codes "json"); actio
 
 abbrev pub with_json : Text → App
 with_json name = with_rule (with_path name) json_rule
+
+-- and of the one with options: the format of its report, the session that it is about, and the fields that aren't compared
+abbrev pub report_rule : Rule
+report_rule = record (new_rule (codes "format")) { long = Some (codes "format"); value_names = 1 }
+
+abbrev pub with_report : Text → App
+with_report name = with_rule (with_path name) report_rule
+
+abbrev pub session_rule : Rule
+session_rule = record (new_rule (codes "only")) { long = Some (codes "only"); value_names = 1 }
+
+abbrev pub with_session : Text → App
+with_session name = with_rule (with_report name) session_rule
+
+abbrev pub left_out_rule : Rule
+left_out_rule = record (new_rule (codes "leave-out")) { long = Some (codes "leave-out"); value_names = 1 }
+
+abbrev pub with_check : Text → App
+with_check name = with_rule (with_session name) left_out_rule
 
 -- and of `eval`, with two flags
 abbrev pub unanswered_rule : Rule
@@ -90,21 +124,34 @@ help_alone name =
 abbrev pub bare_tmhost : App
 bare_tmhost = let a = new_app (codes "tmhost") in record a { top = record a.top { has_version = true } }
 
--- the command line of `tmhost`: subcommands, six of them with a path, `run`, `live`, `show` and `eval` with flags beside it, one with two, and one with a format and a path
+-- the command line of `tmhost`: subcommands, six of them with a path, `run`, `live`, `show` and `eval` with flags beside it, `check` with options, one with two, and one with a format and a path
 abbrev pub tmhost : App
 tmhost = with_subcommand (with_subcommand (with_subcommand (with_subcommand (with_subcommand (with_subcommand (with_subcommand (with_subcommand (with_subcommand
     (with_subcommand bare_tmhost (new_app (codes "blocks")).top)
     (with_path (codes "create")).top) (with_strict (codes "run")).top) (with_json (codes "live")).top) (with_eval (codes "eval")).top)
-    (with_json (codes "show")).top) (with_path (codes "check")).top) (with_paths (codes "rescue")).top) (with_format_and_path (codes "export")).top) (help_alone (codes "faults")).top
+    (with_json (codes "show")).top) (with_check (codes "check")).top) (with_paths (codes "rescue")).top) (with_format_and_path (codes "export")).top) (help_alone (codes "faults")).top
 
 -- a flag is given where its value is `true`
 abbrev pub is_set : Option Text → Bool
 is_set None = false
 is_set (Some value) = bytes_eq value (codes "true")
 
--- the flags among these words
-abbrev pub flags_in : List Row → Flags
-flags_in rows = record { strict = is_set (first_of (codes "strict") rows); json = is_set (first_of (codes "json") rows); unanswered = is_set (first_of (codes "unanswered") rows) }
+-- the flags and options, as contracts see them
+pub record FlagsView : Type 0 where
+  pub strict : Bool
+  pub json : Bool
+  pub unanswered : Bool
+  pub check : CheckView
+
+abbrev pub flags_view : Flags → FlagsView
+flags_view flags = record { strict = flags.strict; json = flags.json; unanswered = flags.unanswered; check = check_view flags.check }
+
+-- what the words of `check` name among these words, and all flags and options
+abbrev pub check_in : List Row → CheckView
+check_in rows = record { format = first_of (codes "format") rows; only = first_of (codes "only") rows; leave_out = first_of (codes "leave-out") rows }
+
+abbrev pub flags_in : List Row → FlagsView
+flags_in rows = record { strict = is_set (first_of (codes "strict") rows); json = is_set (first_of (codes "json") rows); unanswered = is_set (first_of (codes "unanswered") rows); check = check_in rows }
 
 abbrev pub run_by : Bool → Text → TaskView
 run_by true path = run_strictly path
@@ -122,23 +169,23 @@ abbrev pub eval_by : Bool → Bool → Text → TaskView
 eval_by strict unanswered path = eval path (record { strict = strict; unanswered = unanswered })
 
 -- the task of a subcommand with a path, by its flags
-abbrev pub by_path : Text → Text → Flags → TaskView
+abbrev pub by_path : Text → Text → FlagsView → TaskView
 by_path name path flags = if bytes_eq name (codes "create") then create path
     else (if bytes_eq name (codes "run") then run_by flags.strict path
     else (if bytes_eq name (codes "live") then live_by flags.json path
     else (if bytes_eq name (codes "eval") then eval_by flags.strict flags.unanswered path
     else (if bytes_eq name (codes "show") then show_by flags.json path
-    else (if bytes_eq name (codes "check") then check path else blocks)))))
+    else (if bytes_eq name (codes "check") then check path flags.check else blocks)))))
 
 -- The task of a subcommand with two paths, or with one path, or with a format and a path.
-abbrev pub by_words : Text → Text → Option Text → Option Text → Flags → TaskView
+abbrev pub by_words : Text → Text → Option Text → Option Text → FlagsView → TaskView
 by_words name path None None flags = by_path name path flags
 by_words name path None (Some format) flags = if bytes_eq name (codes "export") then export format path else blocks
 by_words name path (Some new) format flags = if bytes_eq name (codes "rescue") then rescue path new else blocks
 
 -- The task of a subcommand with its words; `blocks` has none. Where another has none, `clap` refuses
 -- the words.
-abbrev pub by_paths : Text → Option Text → Option Text → Option Text → Flags → TaskView
+abbrev pub by_paths : Text → Option Text → Option Text → Option Text → FlagsView → TaskView
 by_paths name None new format flags = blocks
 by_paths name (Some path) new format flags = by_words name path new format flags
 

@@ -15,6 +15,8 @@ pub(crate) enum Shape {
     Json,
     /// PATH, and the flags `--strict` and `--unanswered`.
     Eval,
+    /// PATH, and the options of a report and of which fields it is about.
+    Check,
     /// PATH and NEW.
     Paths,
     /// FORMAT and PATH.
@@ -111,9 +113,14 @@ Where another output comes the field's line, its prompt and input, the lines tha
 it shows behind `- `, and those that came behind `+ ` are written at once, or `+ ?`\n\
 where no answer came. Prompts aren't compared. The last line has the counts, as\n\
 `same 4 differ 1 unanswered 0`.\n\n\
-Status: 0 where all outputs are the same; 1 where one differs or didn't come, or\n\
-at a fault; 2 where the words are refused.\n\n\
-Example: tmhost check sheet.tm";
+With --format it reports each field as a test: as a point of TAP 13, or as a case\n\
+in JUnit's XML. --only names the one session whose fields are evaluated. The\n\
+outputs of the fields that --leave-out names aren't compared, as of 3, 7, 8 and 9\n\
+by --leave-out 3,7-9; they are evaluated all the same.\n\n\
+Status: 0 where all outputs that are compared are the same; 1 where one differs\n\
+or didn't come, where the session that --only names has no field that shows an\n\
+answer, or at a fault; 2 where the words are refused.\n\n\
+Example: tmhost check --format junit sheet.tm >report.xml";
 
 const RESCUE_NOTES: &str =
     "It reads PATH alone, and makes NEW as `create` does. NEW has the worksheet of the\n\
@@ -225,7 +232,7 @@ pub(crate) fn row_at(at: usize) -> Row
         5 => listed("show", Shape::Json, "Write a worksheet", SHOW_NOTES),
         6 => listed(
             "check",
-            Shape::Path,
+            Shape::Check,
             "Evaluate a worksheet anew, and write what differs",
             CHECK_NOTES,
         ),

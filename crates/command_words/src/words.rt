@@ -1,15 +1,25 @@
 //! The words of a command line.
 ghost use Rattle.std.specs.Prelude.{◌≡◌, ◌<◌, Bool, IfOk, None, Option, Some, false, map, option_map, string_bytes};
-ghost use Rattle.clap.specs.Words.{FailsBy, Text, app_of, fault_of, new_app, subcommand_rows_of, with_subcommand};
+ghost use Rattle.clap.specs.Words.{FailsBy, Text, app_of, fault_of, found_of, new_app, rows_of, subcommand_rows_of, with_subcommand};
 ghost use Rattle.clap.specs.declared.builder.command.Command.TheViews.{out-Command as fields_of};
-ghost use Rattle.command_words.specs.Asked.{asked_by, by_subcommand, by_words, tmhost, task_view};
+ghost use Rattle.command_words.specs.Asked.{FlagsView, asked_by, by_subcommand, by_words, check_in, check_view, flags_in, flags_view, tmhost, task_view};
 ghost use Rattle.command_words.specs.Asked as asked;
 ghost use Rattle.command_words.specs.inside.Table as table;
-ghost use Rattle.command_words.specs.declared.words.Flags.{Flags as FlagsOf};
 
 use crate::table::{NOTES, Row, Shape, VERSION, row_at};
 use clap::{Arg, ArgAction, ArgMatches, Command, Error};
 use std::alloc::{AllocError, Global};
+
+/// What the words of `check` name beside its path, as they are.
+#[derive(Clone, Copy, Debug, PartialEq, Eq)]
+pub struct CheckWords<'a> {
+    /// The format of its report.
+    pub format: Option<&'a str>,
+    /// The session whose fields are evaluated.
+    pub only: Option<&'a str>,
+    /// The numbers of the fields that aren't compared.
+    pub leave_out: Option<&'a str>,
+}
 
 /// What the program is asked to do. A path is one of the words.
 #[derive(Clone, Copy, Debug, PartialEq, Eq)]
@@ -32,8 +42,8 @@ pub enum Task<'a> {
     Show(&'a str),
     /// The same, as lines of JSON.
     ShowJson(&'a str),
-    /// Evaluate the worksheet at the path anew, and write what differs.
-    Check(&'a str),
+    /// Evaluate the worksheet at the path anew, and report what differs.
+    Check(&'a str, CheckWords<'a>),
     /// Write what stands in the worksheet at the first path, before its first damage, to a new one at
     /// the second.
     Rescue(&'a str, &'a str),
@@ -50,12 +60,13 @@ pub struct EvalFlags {
     pub unanswered: bool,
 }
 
-/// The flags of a command line. A subcommand without a flag doesn't have it set.
+/// The flags and options of a command line. A subcommand without a flag doesn't have it set.
 #[derive(Clone, Copy, Debug, PartialEq, Eq)]
-pub(crate) struct Flags {
+pub(crate) struct Flags<'a> {
     pub(crate) strict: bool,
     pub(crate) json: bool,
     pub(crate) unanswered: bool,
+    pub(crate) check: CheckWords<'a>,
 }
 
 /// A command without arguments, with a text above and one below its help.
@@ -104,6 +115,48 @@ fn with_json<'a>(alloc: Global, row: Row) -> Result<Command<'a>, AllocError>
             .long("json")
             .help("Write lines of JSON, which programs read")
             .action(ArgAction::SetTrue),
+    )
+}
+
+/// A subcommand with a path, and with the format of its report.
+fn with_report<'a>(alloc: Global, row: Row) -> Result<Command<'a>, AllocError>
+    ensures made { IfOk result (λ command. app_of command ≡ asked.with_report row.name.now) }
+    ensures local { IfOk result (λ command. (fields_of command).has_globals ≡ false) }
+{
+    let first = with_path(alloc, row)?;
+    first.arg(
+        Arg::new(alloc, "format")
+            .long("format")
+            .value_name("FORMAT")
+            .help("How the report is written: text, tap or junit"),
+    )
+}
+
+/// The same, and with the one session that it is about.
+fn with_session<'a>(alloc: Global, row: Row) -> Result<Command<'a>, AllocError>
+    ensures made { IfOk result (λ command. app_of command ≡ asked.with_session row.name.now) }
+    ensures local { IfOk result (λ command. (fields_of command).has_globals ≡ false) }
+{
+    let first = with_report(alloc, row)?;
+    first.arg(
+        Arg::new(alloc, "only")
+            .long("only")
+            .value_name("NAME")
+            .help("Evaluate the fields of this session alone"),
+    )
+}
+
+/// The same, and with the fields that aren't compared.
+fn with_check<'a>(alloc: Global, row: Row) -> Result<Command<'a>, AllocError>
+    ensures made { IfOk result (λ command. app_of command ≡ asked.with_check row.name.now) }
+    ensures local { IfOk result (λ command. (fields_of command).has_globals ≡ false) }
+{
+    let first = with_session(alloc, row)?;
+    first.arg(
+        Arg::new(alloc, "leave-out")
+            .long("leave-out")
+            .value_name("IDS")
+            .help("Don't compare the outputs of these fields, as 3,7-9"),
     )
 }
 
@@ -179,6 +232,7 @@ fn command_of<'a>(alloc: Global, row: Row) -> Result<Command<'a>, AllocError>
         Shape::Strict => with_strict(alloc, row),
         Shape::Json => with_json(alloc, row),
         Shape::Eval => with_eval(alloc, row),
+        Shape::Check => with_check(alloc, row),
         Shape::Paths => with_paths(alloc, row),
         Shape::Format => with_format_and_path(alloc, row),
         Shape::Help => Ok(help_alone(alloc, row)),
@@ -282,8 +336,8 @@ fn task_of_eval<'a>(path: &'a str, strict: bool, unanswered: bool) -> Task<'a>
 }
 
 /// The task of a subcommand with a path.
-fn task_with_path<'a>(name: &str, path: &'a str, flags: Flags) -> Task<'a>
-    ensures { task_view result ≡ by_words name.now path.entry.now None None flags }
+fn task_with_path<'a>(name: &str, path: &'a str, flags: Flags<'a>) -> Task<'a>
+    ensures { task_view result ≡ by_words name.now path.entry.now None None (flags_view flags.entry) }
 {
     match name {
         "create" => Task::Create(path),
@@ -291,14 +345,14 @@ fn task_with_path<'a>(name: &str, path: &'a str, flags: Flags) -> Task<'a>
         "live" => task_of_live(path, flags.json),
         "eval" => task_of_eval(path, flags.strict, flags.unanswered),
         "show" => task_of_show(path, flags.json),
-        "check" => Task::Check(path),
+        "check" => Task::Check(path, flags.check),
         _ => Task::Blocks,
     }
 }
 
 /// The task of a subcommand with two paths.
 fn task_with_paths<'a>(name: &str, path: &'a str, new: &'a str) -> Task<'a>
-    ensures { (format : Option Text) (flags : FlagsOf)
+    ensures { (format : Option Text) (flags : FlagsView)
         → task_view result ≡ by_words name.now path.entry.now (Some new.entry.now) format flags }
 {
     match name {
@@ -309,12 +363,35 @@ fn task_with_paths<'a>(name: &str, path: &'a str, new: &'a str) -> Task<'a>
 
 /// The task of a subcommand with a format and a path.
 fn task_with_format<'a>(name: &str, format: &'a str, path: &'a str) -> Task<'a>
-    ensures { (flags : FlagsOf)
+    ensures { (flags : FlagsView)
         → task_view result ≡ by_words name.now path.entry.now None (Some format.entry.now) flags }
 {
     match name {
         "export" => Task::Export(format, path),
         _ => Task::Blocks,
+    }
+}
+
+/// What the words of `check` name, by the matches of a subcommand.
+fn check_words<'a>(matches: &ArgMatches<'a>) -> CheckWords<'a>
+    ensures { check_view result ≡ check_in (rows_of (found_of matches.now)) }
+{
+    CheckWords {
+        format: matches.get_str("format"),
+        only: matches.get_str("only"),
+        leave_out: matches.get_str("leave-out"),
+    }
+}
+
+/// The flags and options, by the matches of a subcommand.
+fn flags_of<'a>(matches: &ArgMatches<'a>) -> Flags<'a>
+    ensures { flags_view result ≡ flags_in (rows_of (found_of matches.now)) }
+{
+    Flags {
+        strict: is_set(matches.get_str("strict")),
+        json: is_set(matches.get_str("json")),
+        unanswered: is_set(matches.get_str("unanswered")),
+        check: check_words(matches),
     }
 }
 
@@ -333,15 +410,7 @@ fn task_of<'a>(matches: &ArgMatches<'a>) -> Task<'a>
     }
     match inner.get_str("FORMAT") {
         Some(format) => task_with_format(name, format, path),
-        None => task_with_path(
-            name,
-            path,
-            Flags {
-                strict: is_set(inner.get_str("strict")),
-                json: is_set(inner.get_str("json")),
-                unanswered: is_set(inner.get_str("unanswered")),
-            },
-        ),
+        None => task_with_path(name, path, flags_of(inner)),
     }
 }
 

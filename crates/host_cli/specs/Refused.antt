@@ -1,5 +1,11 @@
 -- What is told where the words ask for nothing that there is.
-use Rattle.std.specs.Prelude.{◌≡◌, ◌⊎◌, ℕ, List, codes}
+use Rattle.std.specs.Prelude.{◌≡◌, ◌⊎◌, ℕ, true, List, Option, Err, codes}
+use Rattle.std.specs.Io.KnownBytes.{Appends}
+use Rattle.check_report.specs.declared.request.RequestFault.{RequestFault}
+use Rattle.check_report.specs.declared.request.RequestFault.TheVariants as request
+use Rattle.offline_programs.specs.declared.fault.RunFault.TheVariants as fault
+use Rattle.program_endings.specs.Ending.{TellsFault}
+use Rattle.program_endings.specs.declared.ending.Ending.{Ending}
 use Rattle.clap.specs.declared.error.kind.ErrorKind.{ErrorKind}
 use Rattle.clap.specs.declared.error.kind.ErrorKind.TheVariants as kind
 
@@ -10,3 +16,24 @@ ShowsText k = (k ≡ kind.DisplayHelp) ⊎ (k ≡ kind.DisplayVersion)
 -- what is told of a format that there isn't
 abbrev pub no_format_text : List ℕ
 no_format_text = codes "error: there is no such format: FORMAT is script, markdown, html, notebook or json\n\nFor more information, try 'tmhost export --help'.\n"
+
+-- what is told of words that ask for no check: of a format, of the name of a session, and of numbers of fields
+abbrev pub no_report_text : List ℕ
+no_report_text = codes "error: there is no such format: FORMAT is text, tap or junit\n\nFor more information, try 'tmhost check --help'.\n"
+
+abbrev pub no_session_text : List ℕ
+no_session_text = codes "error: no session can have this name: NAME is 1 to 32 letters, digits, `_` and `-`\n\nFor more information, try 'tmhost check --help'.\n"
+
+abbrev pub no_ids_text : List ℕ
+no_ids_text = codes "error: these are no fields: IDS are numbers and ranges of them, as 3,7-9\n\nFor more information, try 'tmhost check --help'.\n"
+
+-- the words are refused with this text
+abbrev pub RefusesWith : {E : Type 0} → List ℕ → (E → Option (List ℕ)) → E → E → Ending → Type 0
+RefusesWith text said old new ending = (ending.status ≡ 2) × (ending.told ≡ true → Appends (said old) (said new) text)
+
+-- how the program ends where the words of `check` ask for none, or where there was no memory for them
+abbrev pub RefusesRequest : {E : Type 0} → RequestFault → (E → Option (List ℕ)) → E → E → Ending → Type 0
+RefusesRequest request.Format said old new ending = RefusesWith no_report_text said old new ending
+RefusesRequest request.Session said old new ending = RefusesWith no_session_text said old new ending
+RefusesRequest request.Ids said old new ending = RefusesWith no_ids_text said old new ending
+RefusesRequest request.OutOfMemory said old new ending = (ending.status ≡ 1) × TellsFault said old new ending.told (Err fault.OutOfMemory)

@@ -12,11 +12,14 @@ use Rattle.clap.specs.declared.error.kind.ErrorKind.TheVariants as kind
 use Rattle.disk_model.specs.Disk.{DiskView}
 use Rattle.disk_model.specs.declared.disk.Disk as disks
 use Rattle.child_edge.specs.Faithful.{Relation}
-use Rattle.command_words.specs.Asked.{TaskView, asked_by, task_view, tmhost}
+use Rattle.check_report.specs.Requests.{Asks, AsksFor}
+use Rattle.check_report.specs.declared.request.Request.{Request}
+use Rattle.check_report.specs.declared.request.RequestFault.{RequestFault}
+use Rattle.command_words.specs.Asked.{CheckView, TaskView, asked_by, task_view, tmhost}
 use Rattle.command_words.specs.declared.words.EvalFlags.{EvalFlags}
 use Rattle.command_words.specs.declared.words.Task.{Task}
 use Rattle.command_words.specs.Asked as asked
-use Rattle.host_cli.specs.Refused.{ShowsText, no_format_text}
+use Rattle.host_cli.specs.Refused.{RefusesRequest, ShowsText, no_format_text}
 use Rattle.host_cli.specs.declared.outside.Outside.{Outside}
 use Rattle.live.specs.Arrivals.{Watch}
 use Rattle.live.specs.Saying.{Clock}
@@ -82,7 +85,7 @@ module _ {Y D P S I W E Q : Type 0} where
   LeavesAlone old new (asked.eval path flags) = (new.input ≡ old.input) × (new.progress ≡ old.progress)
   LeavesAlone old new (asked.show path) = (new.sources ≡ old.sources) × (new.input ≡ old.input) × (new.progress ≡ old.progress)
   LeavesAlone old new (asked.show_json path) = (new.sources ≡ old.sources) × (new.input ≡ old.input) × (new.progress ≡ old.progress)
-  LeavesAlone old new (asked.check path) = new.input ≡ old.input
+  LeavesAlone old new (asked.check path words) = new.input ≡ old.input
   LeavesAlone old new (asked.rescue path new_path) = (new.sources ≡ old.sources) × (new.input ≡ old.input) × (new.progress ≡ old.progress)
   LeavesAlone old new (asked.export format path) = (new.sources ≡ old.sources) × (new.input ≡ old.input) × (new.progress ≡ old.progress)
 
@@ -118,11 +121,21 @@ module _ {Y D P S I W E Q : Type 0} (o : OutsideView D P S I W E) where
       HeldFirst old new (λ why. EndsWith old new ending (Err why)) (λ held. (files : Result D FilesFault) × o.places.reads held path files new.places
       × ((answer : ProgramAnswer) × ShowAnswer o.view o.written files old.output new.output answer × EndsWith old new ending answer))
 
-  -- `check` of the same
-  abbrev pub DoesCheck : Outside Y D P S I W E Q → Outside Y D P S I W E Q → Ending → Text → Type 0
-  DoesCheck old new ending path =
+  -- `check` of the same, as it is asked for
+  abbrev pub ChecksAs : Outside Y D P S I W E Q → Outside Y D P S I W E Q → Ending → Text → Request → Type 0
+  ChecksAs old new ending path request =
       HeldFirst old new (λ why. (new.sources ≡ old.sources) × EndsWith old new ending (Err why)) (λ held. (files : Result D FilesFault) × o.places.reads held path files new.places
-      × CheckEnds o.view o.after files old.sources new.sources o.written old.output new.output o.said old.errors new.errors ending)
+      × CheckEnds o.view o.after request.chosen request.format files old.sources new.sources o.written old.output new.output o.said old.errors new.errors ending)
+
+  -- where the words ask for no check they are refused, and nothing is done
+  abbrev pub ChecksNone : Outside Y D P S I W E Q → Outside Y D P S I W E Q → Ending → RequestFault → Type 0
+  ChecksNone old new ending why = (new.places ≡ old.places) × (new.sources ≡ old.sources) × (new.output ≡ old.output) × (new.progress ≡ old.progress)
+      × RefusesRequest why o.said old.errors new.errors ending
+
+  -- `check` by what its words name
+  abbrev pub DoesCheck : Outside Y D P S I W E Q → Outside Y D P S I W E Q → Ending → Text → CheckView → Type 0
+  DoesCheck old new ending path words = (read : Result Request RequestFault) × IfOk read (Asks words.format words.only words.leave_out)
+      × IfErr read (AsksFor words.format words.only words.leave_out) × MatchResult read (ChecksAs old new ending path) (ChecksNone old new ending)
 
   -- files that weren't opened: nothing is read or written, and no child is called
   abbrev pub Unopened : Outside Y D P S I W E Q → Outside Y D P S I W E Q → Ending → FilesFault → Type 0
@@ -210,7 +223,7 @@ module _ {Y D P S I W E Q : Type 0} (o : OutsideView D P S I W E) where
   DoesTask old new ending (asked.eval path flags) = DoesEval old new ending path flags
   DoesTask old new ending (asked.show path) = DoesShow old new ending path
   DoesTask old new ending (asked.show_json path) = ExportsAs old new ending path formats.Json
-  DoesTask old new ending (asked.check path) = DoesCheck old new ending path
+  DoesTask old new ending (asked.check path words) = DoesCheck old new ending path words
   DoesTask old new ending (asked.rescue path new_path) = DoesRescue old new ending path new_path
   DoesTask old new ending (asked.export format path) = DoesExport old new ending format path
 

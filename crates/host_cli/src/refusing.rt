@@ -4,10 +4,11 @@ ghost use Rattle.std.specs.Io.KnownBytes.{Appends};
 ghost use Rattle.std.specs.declared.io.ErrorKind.TheVariants as io_kind;
 ghost use Rattle.clap.specs.Words.{kind_of};
 ghost use Rattle.clap.specs.declared.error.kind.ErrorKind.TheVariants as kind;
-ghost use Rattle.host_cli.specs.Refused.{ShowsText, no_format_text};
+ghost use Rattle.host_cli.specs.Refused.{ShowsText, RefusesRequest, no_format_text, no_ids_text, no_report_text, no_session_text};
 ghost use Rattle.program_endings.specs.Ending.{TellsFault};
 ghost use Rattle.offline_programs.specs.declared.fault.RunFault.TheVariants as fault;
 
+use check_report::RequestFault;
 use clap::error::ErrorKind;
 use offline_programs::RunFault;
 use program_endings::{Ending, end_program};
@@ -82,4 +83,38 @@ pub(crate) fn refuse_format<E: Write>(errors: &mut E) -> Ending
         For more information, try 'tmhost export --help'.\n",
     );
     refused(told.is_ok())
+}
+
+/// Refuses words that ask for no check, with this text.
+fn refuse_with<E: Write>(text: &[u8], errors: &mut E) -> Ending
+    ensures status { result.status ≡ 2 }
+    ensures told { result.told ≡ true
+        → Appends (E.contents errors.old) (E.contents errors.new) text.now }
+{
+    let told = errors.write_all(text);
+    refused(told.is_ok())
+}
+
+/// Ends the program where the words of `check` ask for none.
+pub(crate) fn refuse_request<E: Write>(why: RequestFault, errors: &mut E) -> Ending
+    ensures { RefusesRequest why E.contents errors.old errors.new result }
+{
+    match why {
+        RequestFault::Format => refuse_with(
+            b"error: there is no such format: FORMAT is text, tap or junit\n\n\
+            For more information, try 'tmhost check --help'.\n",
+            errors,
+        ),
+        RequestFault::Session => refuse_with(
+            b"error: no session can have this name: NAME is 1 to 32 letters, digits, `_` and `-`\n\n\
+            For more information, try 'tmhost check --help'.\n",
+            errors,
+        ),
+        RequestFault::Ids => refuse_with(
+            b"error: these are no fields: IDS are numbers and ranges of them, as 3,7-9\n\n\
+            For more information, try 'tmhost check --help'.\n",
+            errors,
+        ),
+        RequestFault::OutOfMemory => end_program(Err(RunFault::OutOfMemory), errors),
+    }
 }

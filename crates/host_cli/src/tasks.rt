@@ -1,8 +1,8 @@
 //! Which program runs for which words, over all that is outside.
 ghost use Rattle.std.specs.Prelude.{◌≡◌, ◌≢◌, [], List, Err, false, map, string_bytes, true};
-ghost use Rattle.command_words.specs.Asked.{task_view};
+ghost use Rattle.command_words.specs.Asked.{check_view, task_view};
 ghost use Rattle.command_words.specs.Asked as asked;
-ghost use Rattle.host_cli.specs.Tasks.{BringsOut, DoesAsked, DoesBlocks, DoesCheck, DoesCreate, DoesEval, DoesExport, DoesLive, DoesRescue, DoesRun, DoesShow, DoesTask, EndsBy, ExportsAs, LeavesAlone, Performs, RescuesFrom, RescuesTo, outer, plan_of as plan_asked};
+ghost use Rattle.host_cli.specs.Tasks.{BringsOut, ChecksAs, DoesAsked, DoesBlocks, DoesCheck, DoesCreate, DoesEval, DoesExport, DoesLive, DoesRescue, DoesRun, DoesShow, DoesTask, EndsBy, ExportsAs, LeavesAlone, Performs, RescuesFrom, RescuesTo, outer, plan_of as plan_asked};
 ghost use Rattle.program_endings.specs.Ending.{TellsFault};
 ghost use Rattle.offline_programs.specs.declared.fault.RunFault.TheVariants as fault;
 ghost use Rattle.recovery.specs.Sheets.{Makes};
@@ -12,9 +12,10 @@ ghost use Rattle.worksheet.specs.declared.op.Op.{Op};
 
 use crate::outlet::Outlet;
 use crate::outside::{Outside, System};
-use crate::refusing::refuse_format;
+use crate::refusing::{refuse_format, refuse_request};
 use crate::{refuse_unread_words, refuse_words};
-use command_words::{EvalFlags, Task, read_words};
+use check_report::{Request, read_request};
+use command_words::{CheckWords, EvalFlags, Task, read_words};
 use offline_programs::RunFault;
 use program_endings::{
     Ending, end_program, end_unheld, read_rescued, run_blocks, run_check, run_create,
@@ -73,14 +74,20 @@ fn show_at<Y: System>(alloc: Global, outside: &mut Outside<Y>, path: &str) -> En
 }
 
 /// `check` of the worksheet at a path.
-fn check_at<Y: System>(alloc: Global, outside: &mut Outside<Y>, path: &str) -> Ending
-    ensures does { DoesCheck (outer Y.Places.Places Y.Disk.Disk Y.Sources.after
-        Y.Sources.clock Y.Sources.wakes Y.Input.Read Y.Output.Write Y.Output.brought Y.Errors.Write) outside.old outside.new result path.now }
-    ensures leaves { LeavesAlone outside.old outside.new (asked.check path.now) }
+fn check_as<Y: System>(
+    alloc: Global,
+    outside: &mut Outside<Y>,
+    request: &Request,
+    path: &str,
+) -> Ending
+    ensures does { ChecksAs (outer Y.Places.Places Y.Disk.Disk Y.Sources.after
+        Y.Sources.clock Y.Sources.wakes Y.Input.Read Y.Output.Write Y.Output.brought Y.Errors.Write) outside.old outside.new result path.now request.now }
+    ensures leaves { outside.new.input ≡ outside.old.input }
 {
     match outside.places.hold() {
         Ok(()) => run_check(
             alloc,
+            request,
             outside.places.open_to_read(path),
             &mut outside.sources,
             &mut outside.progress,
@@ -88,6 +95,23 @@ fn check_at<Y: System>(alloc: Global, outside: &mut Outside<Y>, path: &str) -> E
             &mut outside.errors,
         ),
         Err(why) => end_unheld(why, &mut outside.errors),
+    }
+}
+
+/// `check` of the worksheet at a path, as these words ask for it.
+fn check_at<Y: System>(
+    alloc: Global,
+    outside: &mut Outside<Y>,
+    path: &str,
+    words: CheckWords<'_>,
+) -> Ending
+    ensures does { DoesCheck (outer Y.Places.Places Y.Disk.Disk Y.Sources.after
+        Y.Sources.clock Y.Sources.wakes Y.Input.Read Y.Output.Write Y.Output.brought Y.Errors.Write) outside.old outside.new result path.now (check_view words.entry) }
+    ensures leaves { outside.new.input ≡ outside.old.input }
+{
+    match read_request(alloc, words.format, words.only, words.leave_out) {
+        Ok(request) => check_as(alloc, outside, &request, path),
+        Err(why) => refuse_request(why, &mut outside.errors),
     }
 }
 
@@ -319,7 +343,7 @@ pub fn do_task<Y: System>(alloc: Global, task: Task<'_>, outside: &mut Outside<Y
         Task::Eval(path, flags) => eval_at(alloc, outside, path, flags),
         Task::Show(path) => show_at(alloc, outside, path),
         Task::ShowJson(path) => export_as(alloc, outside, Format::Json, path),
-        Task::Check(path) => check_at(alloc, outside, path),
+        Task::Check(path, words) => check_at(alloc, outside, path, words),
         Task::Rescue(path, new) => rescue_at(alloc, outside, path, new),
         Task::Export(format, path) => export_at(alloc, outside, format, path),
     }

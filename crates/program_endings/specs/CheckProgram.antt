@@ -1,10 +1,13 @@
 -- How the program `check` ends: what it evaluates and writes, what it tells on which stream, and the exit status.
-use Rattle.std.specs.Prelude.{◌≡◌, ◌==◌, ◌&&◌, ℕ, Bool, List, Option, Result, Ok, Err, IfErr, IfOk}
+use Rattle.std.specs.Prelude.{◌≡◌, ◌==◌, ◌&&◌, ℕ, Bool, true, nat_lt, List, Option, Some, None, Result, Ok, Err, IfErr, IfOk}
 use Rattle.disk_model.specs.Disk.{DiskView, Rises}
 use Rattle.journal.specs.declared.opening.OpenCause.TheVariants as opens
 use Rattle.child_edge.specs.Faithful.{Relation}
 use Rattle.sheet_check.specs.Check.{CheckAnswer, OnlyRead}
-use Rattle.sheet_check.specs.declared.verdict.Counts.{Counts}
+use Rattle.check_report.specs.declared.chosen.Chosen.{Chosen}
+use Rattle.check_report.specs.declared.report.Format.{Format}
+use Rattle.check_report.specs.declared.verdict.Counts.{Counts}
+use Rattle.check_report.specs.Verdicts.{total}
 use Rattle.offline_programs.specs.declared.fault.RunFault.{RunFault}
 use Rattle.offline_programs.specs.declared.fault.RunFault.TheVariants as fault
 use Rattle.program_endings.specs.Ending.{ProgramAnswer, TellsFault, status_of}
@@ -16,26 +19,37 @@ use Rattle.sheet_files.specs.declared.files_fault.FilesFault.{FilesFault}
 abbrev pub all_same : Counts → Bool
 all_same counts = (counts.differ == 0) && (counts.unanswered == 0)
 
--- what the program answers: all is well where all outputs are the same
-abbrev pub answer_of_check : Result Counts RunFault → ProgramAnswer
-answer_of_check (Ok counts) = Ok (all_same counts)
-answer_of_check (Err why) = Err why
+-- where the fields of one session are asked for, any was checked: so a name that no session has ends badly
+abbrev pub any_of : Option (List ℕ) → Counts → Bool
+any_of None counts = true
+any_of (Some session) counts = nat_lt 0 (total counts)
+
+abbrev pub finds_any : Chosen → Counts → Bool
+finds_any chosen counts = any_of chosen.only counts
+
+abbrev pub passes : Chosen → Counts → Bool
+passes chosen counts = all_same counts && finds_any chosen counts
+
+-- what the program answers: all is well where all outputs that are compared are the same
+abbrev pub answer_of_check : Chosen → Result Counts RunFault → ProgramAnswer
+answer_of_check chosen (Ok counts) = Ok (passes chosen counts)
+answer_of_check chosen (Err why) = Err why
 
 -- The check of the worksheet on a disk, from children c to d, what it wrote, and how the program ends: the status follows from the
 -- counts.
-pub record CheckDone {D C W E : Type 0} (view : D → DiskView) (R : Relation C) (disk : D) (c d : C) (written : W → Option (List ℕ)) (a b : W)
+pub record CheckDone {D C W E : Type 0} (view : D → DiskView) (R : Relation C) (chosen : Chosen) (F : Format) (disk : D) (c d : C) (written : W → Option (List ℕ)) (a b : W)
     (said : E → Option (List ℕ)) (old new : E) (ending : Ending) : Type 0 where
   pub later : D
   pub answer : Result Counts RunFault
-  pub checked : CheckAnswer R (view disk) c d (written a) (written b) ((b ≡ a) × (d ≡ c)) answer
+  pub checked : CheckAnswer R chosen F (view disk) c d (written a) (written b) ((b ≡ a) × (d ≡ c)) answer
   pub read : OnlyRead (view disk) (view later)
   -- that the disk failed is told only where it did
   pub failed : answer ≡ Err (fault.Open opens.Disk) → Rises (view disk).faults (view later).faults
-  pub status : ending.status ≡ status_of (answer_of_check answer)
-  pub told : TellsFault said old new ending.told (answer_of_check answer)
+  pub status : ending.status ≡ status_of (answer_of_check chosen answer)
+  pub told : TellsFault said old new ending.told (answer_of_check chosen answer)
 
 -- how `check` ends on its files, or on why they weren't opened
-abbrev pub CheckEnds : {D C W E : Type 0} → (D → DiskView) → Relation C → Result D FilesFault → C → C → (W → Option (List ℕ)) → W → W → (E → Option (List ℕ)) → E → E → Ending → Type 0
-CheckEnds view R files c d written a b said old new ending =
+abbrev pub CheckEnds : {D C W E : Type 0} → (D → DiskView) → Relation C → Chosen → Format → Result D FilesFault → C → C → (W → Option (List ℕ)) → W → W → (E → Option (List ℕ)) → E → E → Ending → Type 0
+CheckEnds view R chosen F files c d written a b said old new ending =
     IfErr files (λ why. (b ≡ a) × (d ≡ c) × (ending.status ≡ 1) × TellsFault said old new ending.told (Err (no_files why)))
-    × IfOk files (λ disk. CheckDone view R disk c d written a b said old new ending)
+    × IfOk files (λ disk. CheckDone view R chosen F disk c d written a b said old new ending)

@@ -20,6 +20,9 @@ while IFS= read -r line; do
             tagged) printf '\002latex:$x$\005'; continue ;;
             nested) printf '\002verbatim:\002verbatim:nested\005\005'; continue ;;
             bytes) printf '\002verbatim:\001\r\303\251\177\005'; continue ;;
+            taps) printf '\002verbatim:not ok 7\n1..0 # SKIP all\n\nBail out!\005'; continue ;;
+            tags) printf '\002verbatim:</failure><b a="&">\005'; continue ;;
+            odd) printf '\002verbatim:\377\303\251\357\277\276\005'; continue ;;
             looks) until grep -q '^+ another$' text; do sleep 0.01; done ;;
         esac
     fi
@@ -175,6 +178,83 @@ compare 'a difference on a full output' "$? $(cat errors)" '1 fault 42 Output'
 sent 'a difference on a full output' 'start a\nsend a differs'
 ended 'a difference on a full output' 1
 
+# Reports that programs read: NAME STATUS TEXT WORDS. The worksheet stays as it was.
+reports() {
+    name=$1 want=$(ending "$3" "$2") before="$(bytes sheet) $(bytes sheet.alt 2>/dev/null)"
+    shift 3
+    compare "$name" "$(answer check "$@" sheet </dev/null)" "$want"
+    compare "$name, kept" "$(bytes sheet) $(bytes sheet.alt 2>/dev/null)" "$before"
+}
+
+# What Python's reader of XML finds in a report: the class, the name and the result of each case, with its text.
+cat >cases.py <<'END_OF_READER'
+import sys
+import xml.etree.ElementTree
+
+for case in xml.etree.ElementTree.parse(sys.argv[1]).getroot().iter("testcase"):
+    results = [(result.tag, result.get("message"), result.text) for result in case]
+    print(ascii((case.get("classname"), case.get("name"), results)))
+END_OF_READER
+
+# As TAP: outputs that look like points, plans and directives are comments.
+made "$a"
+reports 'no point' 0 'TAP version 13\n1..0\n' --format tap
+made "$a"'new 0 a x\nnew 1 a y\nnew 2 a not evaluated\neval 1\neval 2\nwait\n'
+reports 'points that are passed' 0 'TAP version 13\nok 1 - field 1 of a\nok 2 - field 2 of a\n1..2\n' --format tap
+reports 'in words, by the name of the format' 0 'same 2 differ 0 unanswered 0\n' --format text
+made "$a"'session b plain sh suite.sh b\nnew 0 a # SKIP\nnew 1 a taps\nnew 2 b hangs\nnew 3 b five\neval 1\neval 2\neval 3\neval 4\nwait\n'
+tap='TAP version 13\nok 1 - field 1 of a\nnot ok 2 - field 2 of a\n# #2 a\n# a] taps\n# - taps\n# + not ok 7\n# + 1..0 # SKIP all\n# + \n# + Bail out!\nnot ok 3 - field 3 of b\n# #3 b\n# b] hangs\n# - hangs\n# + ?\nok 4 - field 4 of b\n1..4\n'
+reports 'points that are not' 1 "$tap" --format tap
+sent 'points that are not' 'start a\nsend a # SKIP\nsend a taps\nstart b\nsend b hangs\nstart b\nsend b five'
+ended 'points that are not' 3
+
+# Some of the fields: those of a session, and those that are compared. What is left out is evaluated.
+rm -f sent lives
+reports 'one session' 1 '#3 b\nb] hangs\n- hangs\n+ ?\nsame 1 differ 0 unanswered 1\n' --only b
+sent 'one session' 'start b\nsend b hangs\nstart b\nsend b five'
+rm -f sent lives
+reports 'one session, of which what differs is left out' 0 'TAP version 13\nok 1 - field 1 of a\nok 2 - field 2 of a # SKIP left out\n1..2\n' --format tap --only a --leave-out 2
+sent 'one session, of which what differs is left out' 'start a\nsend a # SKIP\nsend a taps'
+reports 'a session that is not there' 1 'same 0 differ 0 unanswered 0\n' --only c
+reports 'fields that are left out' 0 'same 2 differ 0 unanswered 0 left out 2\n' --leave-out 2-3,7,4294967295
+reports 'all fields left out' 0 'same 0 differ 0 unanswered 0 left out 4\n' --leave-out 1,2,3-4
+reports 'one that is not left out' 1 '#3 b\nb] hangs\n- hangs\n+ ?\nsame 2 differ 0 unanswered 1 left out 1\n' --leave-out 2,2
+
+# Words that ask for no check.
+rm -f sent
+help="\n\nFor more information, try 'tmhost check --help'.\n"
+reports 'another format' 2 "error: there is no such format: FORMAT is text, tap or junit$help" --format xml
+reports 'the name of no session' 2 "error: no session can have this name: NAME is 1 to 32 letters, digits, \`_\` and \`-\`$help" --only 'a b'
+for ids in '' , 1, 1,,2 x 3-1 1- -1 01 1-2-3 4294967296 '1, 2'; do
+    reports "no fields: $ids" 2 "error: these are no fields: IDS are numbers and ranges of them, as 3,7-9$help" "--leave-out=$ids"
+done
+compare 'words that ask for no check' "$(cat sent 2>/dev/null)" ''
+
+# In JUnit's XML: outputs that look like tags are texts, and what XML can't have is replaced.
+head='<?xml version="1.0" encoding="UTF-8"?>\n<testsuites>\n<testsuite name="tmhost check">\n' tail='</testsuite>\n</testsuites>\n'
+made "$a"
+reports 'no case' 0 "$head$tail" --format junit
+made "$a"'new 0 a x\nnew 1 a tags\nnew 2 a odd\nnew 3 a hangs\nnew 4 a differs\neval 1\neval 2\neval 3\neval 4\neval 5\nwait\n'
+reports 'cases' 1 "$head"'<testcase classname="a" name="field 1"></testcase>\n<testcase classname="a" name="field 2"><failure message="differs">#2 a\na] tags\n- tags\n+ &lt;/failure&gt;&lt;b a=&quot;&amp;&quot;&gt;\n</failure></testcase>\n<testcase classname="a" name="field 3"><failure message="differs">#3 a\na] odd\n- odd\n+ \357\277\275\303\251\357\277\275\357\277\275\357\277\275\n</failure></testcase>\n<testcase classname="a" name="field 4"><error message="unanswered">#4 a\na] hangs\n- hangs\n+ ?\n</error></testcase>\n<testcase classname="a" name="field 5"><skipped message="left out"></skipped></testcase>\n'"$tail" --format junit --leave-out 5
+"$tmhost" check --format junit --leave-out 5 sheet >report 2>errors
+compare 'cases, read' "$(python3 cases.py report 2>&1; cat errors)" "$(cat <<'END_OF_CASES'
+('a', 'field 1', [])
+('a', 'field 2', [('failure', 'differs', '#2 a\na] tags\n- tags\n+ </failure><b a="&">\n')])
+('a', 'field 3', [('failure', 'differs', '#3 a\na] odd\n- odd\n+ \ufffd\xe9\ufffd\ufffd\ufffd\n')])
+('a', 'field 4', [('error', 'unanswered', '#4 a\na] hangs\n- hangs\n+ ?\n')])
+('a', 'field 5', [('skipped', 'left out', None)])
+END_OF_CASES
+)"
+
+# A report that is cut off has no plan, and isn't well-formed.
+made "$a"'new 0 a x\nnew 1 a kills\neval 1\neval 2\nwait\n'
+(exec "$tmhost" check --format tap sheet >text 2>errors) 2>/dev/null
+compare 'a report that is cut off' "$? $(cat text errors)" "$(printf '137 TAP version 13\nok 1 - field 1 of a')"
+made "$a"'new 0 a x\neval 1\nwait\n'
+"$tmhost" check --format tap sheet >/dev/full 2>errors
+compare 'a report on a full output' "$? $(cat errors)" '1 fault 42 Output'
+sent 'a report on a full output' ''
+
 # A thousand fields, of which the last but one differs.
 {
     printf "$a"
@@ -189,6 +269,6 @@ rm -f sheet sheet.alt again
 "$tmhost" run sheet <many >/dev/null
 touch again
 checks 'a thousand fields' 1 '#999 a\na] differs\n- differs\n+ another\nsame 999 differ 1 unanswered 0\n'
-rm -f again sent lives many other
+rm -f again sent lives many other report cases.py
 
 counted checks

@@ -11,19 +11,22 @@ use Rattle.child_edge.specs.Faithful.{Relation, At, at}
 use Rattle.offline_programs.specs.declared.fault.RunFault.{RunFault}
 use Rattle.offline_programs.specs.declared.fault.RunFault.TheVariants as fault
 use Rattle.sheet_programs.proofs.Runs.{StopsIn, stops_behind}
-use Rattle.sheet_check.specs.declared.verdict.Counts.{Counts}
-use Rattle.sheet_check.specs.Texts.{counts_text}
+use Rattle.check_report.specs.declared.chosen.Chosen.{Chosen}
+use Rattle.check_report.specs.declared.report.Format.{Format}
+use Rattle.check_report.specs.declared.verdict.Counts.{Counts}
+use Rattle.check_report.specs.Reports.{closing_text, report_front, verdicts_of}
+use Rattle.check_report.specs.Verdicts.{counts_of}
 use Rattle.sheet_check.specs.Check.{IsCopy, SheetChecked, TellsCheck, still}
 use Rattle.sheet_check.specs.inside.Checking.{FieldsEnded, FieldsFailed, FieldsStopped, FieldsWrote, FirstFailed, FirstStopped}
 
 -- The stops.
 
-pub fields_ended : {C : Type 0} (R : Relation C) (fields : List Field) (s : At C) (h : HostView) (c d : C) (a b : Option (List ℕ)) (counts : Counts) → StopsIn R h c d → FieldsWrote R fields s h c a b counts
-    → FieldsEnded R fields s d a b counts
-fields_ended R fields s h c d a b counts stops p = (p.0, p.1, at p.2 c h.store.disk, p.3, stops.0 p.2 p.4, p.5, p.6)
+pub fields_ended : {C : Type 0} (R : Relation C) (chosen : Chosen) (F : Format) (fields : List Field) (s : At C) (h : HostView) (c d : C) (a b : Option (List ℕ)) (counts : Counts) → StopsIn R h c d → FieldsWrote R chosen F fields s h c a b counts
+    → FieldsEnded R chosen F fields s d a b counts
+fields_ended R chosen F fields s h c d a b counts stops p = (p.0, at p.1 c h.store.disk, p.2, stops.0 p.1 p.3, p.4, p.5)
 
-module _ {C : Type 0} (R : Relation C) (fields : List Field) (s : At C) (h : HostView) (c d : C) (stops : StopsIn R h c d) where
-  first-stopped : (why : RunFault) → FirstFailed R fields s h c why → FirstStopped R fields s d why
+module _ {C : Type 0} (R : Relation C) (chosen : Chosen) (fields : List Field) (s : At C) (h : HostView) (c d : C) (stops : StopsIn R h c d) where
+  first-stopped : (why : RunFault) → FirstFailed R chosen fields s h c why → FirstStopped R chosen fields s d why
   first-stopped (fault.Host f) p = (p.0, at p.1 c p.2, h, p.3, p.4, p.5, stops.1 p.1 p.0 p.2 f p.4)
   first-stopped fault.OutOfMemory p = (at p.0 c p.1, p.2, stops_behind R h c d p.0 p.1 stops p.3)
   first-stopped fault.Output p = (at p.0 c p.1, p.2, stops_behind R h c d p.0 p.1 stops p.3)
@@ -32,41 +35,41 @@ module _ {C : Type 0} (R : Relation C) (fields : List Field) (s : At C) (h : Hos
   first-stopped (fault.Open why) p = absurd p
   first-stopped fault.InUse p = absurd p
 
-pub fields_stopped : {C : Type 0} (R : Relation C) (fields : List Field) (s : At C) (h : HostView) (c d : C) (a b : Option (List ℕ)) (why : RunFault) → StopsIn R h c d → FieldsFailed R fields s h c a b why
-    → FieldsStopped R fields s d a b why
-fields_stopped R fields s h c d a b why stops p = record {
+pub fields_stopped : {C : Type 0} (R : Relation C) (chosen : Chosen) (F : Format) (fields : List Field) (s : At C) (h : HostView) (c d : C) (a b : Option (List ℕ)) (why : RunFault) → StopsIn R h c d → FieldsFailed R chosen F fields s h c a b why
+    → FieldsStopped R chosen F fields s d a b why
+fields_stopped R chosen F fields s h c d a b why stops p = record {
   gone = p.gone;
   left = p.left;
   split = p.split;
-  verdicts = p.verdicts;
-  text = p.text;
+  cases = p.cases;
   mid = p.mid;
   checked = p.checked;
-  ended = first-stopped R p.left p.mid h c d stops why p.failed;
+  ended = first-stopped R chosen p.left p.mid h c d stops why p.failed;
   wrote = p.wrote;
 }
 
 -- The whole.
 
-module _ {C : Type 0} (R : Relation C) (sheet : Contents) (w : World) (copy : DiskView) (copied : IsCopy sheet w copy) (c d : C) (a b : Option (List ℕ)) where
-  pub sheet_checked : (e : Option (List ℕ)) (counts : Counts) → FieldsEnded R sheet.fields (at w c copy) d a b counts → Appends b e (counts_text counts) → SheetChecked R sheet c d a e counts
+module _ {C : Type 0} (R : Relation C) (chosen : Chosen) (F : Format) (sheet : Contents) (w : World) (copy : DiskView) (copied : IsCopy sheet w copy) (c d : C) (a b : Option (List ℕ)) where
+  pub sheet_checked : (e : Option (List ℕ)) (counts : Counts) → FieldsEnded R chosen F sheet.fields (at w c copy) d a b counts → Appends b e (closing_text F counts)
+      → SheetChecked R chosen F sheet c d a e counts
   sheet_checked e counts p told = record {
     start = w;
     copy = copy;
     copied = copied;
-    verdicts = p.0;
-    text = p.1;
-    leads = p.2;
-    checked = p.3;
-    stops = p.4;
-    counted = p.5;
-    wrote = Appends-trans a b e p.1 (counts_text counts) p.6 told;
+    cases = p.0;
+    leads = p.1;
+    checked = p.2;
+    stops = p.3;
+    counted = p.4;
+    wrote = Appends-trans a b e (report_front F p.0) (closing_text F (counts_of (verdicts_of p.0))) p.5 (subst (λ x. Appends b e (closing_text F x)) p.4 told);
   }
 
   -- the counts couldn't be told
-  pub counts_untold : (e : Option (List ℕ)) (counts : Counts) (none : Type 0) (why : RunFault) → FieldsEnded R sheet.fields (at w c copy) d a b counts → why ≡ fault.Output → TellsCheck R sheet c d a e none why
-  counts_untold e counts none why p is = subst (TellsCheck R sheet c d a e none) (sym is) (
-    p.1,
+  pub counts_untold : (e : Option (List ℕ)) (counts : Counts) (none : Type 0) (why : RunFault) → FieldsEnded R chosen F sheet.fields (at w c copy) d a b counts → why ≡ fault.Output
+      → TellsCheck R chosen F sheet c d a e none why
+  counts_untold e counts none why p is = subst (TellsCheck R chosen F sheet c d a e none) (sym is) (
+    p.0,
     record {
       start = w;
       copy = copy;
@@ -74,18 +77,17 @@ module _ {C : Type 0} (R : Relation C) (sheet : Contents) (w : World) (copy : Di
       gone = sheet.fields;
       left = [];
       split = sym (append-nil sheet.fields);
-      verdicts = p.0;
-      mid = p.2;
-      checked = p.3;
-      leads = p.2;
+      mid = p.1;
+      checked = p.2;
+      leads = p.1;
       led = still refl;
-      stops = p.4;
+      stops = p.3;
     },
   )
 
-  pub stopped_tells : (none : Type 0) (why : RunFault) → FieldsStopped R sheet.fields (at w c copy) d a b why → TellsCheck R sheet c d a b none why
+  pub stopped_tells : (none : Type 0) (why : RunFault) → FieldsStopped R chosen F sheet.fields (at w c copy) d a b why → TellsCheck R chosen F sheet c d a b none why
   stopped_tells none (fault.Host why) p = (
-    p.text,
+    p.cases,
     record {
       start = w;
       copy = copy;
@@ -93,7 +95,6 @@ module _ {C : Type 0} (R : Relation C) (sheet : Contents) (w : World) (copy : Di
       gone = p.gone;
       left = p.left;
       split = p.split;
-      verdicts = p.verdicts;
       mid = p.mid;
       checked = p.checked;
       failed = p.ended.0;
@@ -107,13 +108,13 @@ module _ {C : Type 0} (R : Relation C) (sheet : Contents) (w : World) (copy : Di
     p.wrote,
   )
   stopped_tells none fault.OutOfMemory p = inr (
-    p.text,
-    record { start = w; copy = copy; copied = copied; gone = p.gone; left = p.left; split = p.split; verdicts = p.verdicts; mid = p.mid; checked = p.checked; leads = p.ended.0; led = p.ended.1; stops = p.ended.2 },
+    p.cases,
+    record { start = w; copy = copy; copied = copied; gone = p.gone; left = p.left; split = p.split; mid = p.mid; checked = p.checked; leads = p.ended.0; led = p.ended.1; stops = p.ended.2 },
     p.wrote,
   )
   stopped_tells none fault.Output p = (
-    p.text,
-    record { start = w; copy = copy; copied = copied; gone = p.gone; left = p.left; split = p.split; verdicts = p.verdicts; mid = p.mid; checked = p.checked; leads = p.ended.0; led = p.ended.1; stops = p.ended.2 },
+    p.cases,
+    record { start = w; copy = copy; copied = copied; gone = p.gone; left = p.left; split = p.split; mid = p.mid; checked = p.checked; leads = p.ended.0; led = p.ended.1; stops = p.ended.2 },
   )
   stopped_tells none fault.Input p = absurd p.wrote
   stopped_tells none fault.InputTooLong p = absurd p.wrote

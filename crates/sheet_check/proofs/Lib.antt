@@ -1,6 +1,5 @@
 pub mod Counting
 pub mod Fields
 pub mod Ends
-pub mod Marking
 pub mod Broken
 pub mod Showing

@@ -14,9 +14,10 @@ use Rattle.session_engine.specs.World.{World, sheet_in}
 use Rattle.child_edge.specs.Limits.{most_turns}
 use Rattle.child_edge.specs.Faithful.{Relation, At, Beat, Served, Waited}
 use Rattle.child_edge.specs.Told.{told}
-use Rattle.sheet_check.specs.declared.verdict.Verdict.{Verdict}
-use Rattle.sheet_check.specs.Verdicts.{Compared}
-use Rattle.sheet_check.specs.Texts.{verdict_text}
+use Rattle.check_report.specs.declared.chosen.Chosen.{Chosen}
+use Rattle.check_report.specs.declared.verdict.Verdict.{Verdict}
+use Rattle.check_report.specs.Chosen.{Judged, shown_by}
+use Rattle.check_report.specs.Reports.{Case, case}
 
 -- the event of an `eval` of this field
 abbrev pub eval_of : ℕ → Event
@@ -66,17 +67,17 @@ pub record Evaluated {C : Type 0} (R : Relation C) (id : ℕ) (s : At C) (came :
   pub remembered : begins_for_memory (told first) ≡ false
   pub came_is : came ≡ came_if (begins_asked (told first)) (shown_in t.world id)
 
--- A field was checked: where it shows an answer it was evaluated, and what came was compared with that answer. What it came to, what
--- is written of it, and where that led.
-pub data FieldChecked {C : Type 0} (R : Relation C) (field : Field) (s : At C) : List Verdict → List ℕ → At C → Type 0 where
-  passed : field.answer ≡ None → FieldChecked R field s [] [] s
-  checked : (shown : Answer) (came : Option Answer) (verdict : Verdict) (t : At C) → field.answer ≡ Some shown
-      → Evaluated R field.id s came t → Compared shown.output came verdict
-      → FieldChecked R field s (verdict ∷ []) (verdict_text field came verdict) t
+-- A field was checked: where it shows an answer, and its session is checked, it was evaluated, and what came was judged by that answer.
+-- The case that this is, where it is one, and where that led.
+pub data FieldChecked {C : Type 0} (R : Relation C) (chosen : Chosen) (field : Field) (s : At C) : List Case → At C → Type 0 where
+  passed : shown_by chosen field ≡ None → FieldChecked R chosen field s [] s
+  checked : (shown : Answer) (came : Option Answer) (verdict : Verdict) (t : At C) → shown_by chosen field ≡ Some shown
+      → Evaluated R field.id s came t → Judged chosen field.id shown.output came verdict
+      → FieldChecked R chosen field s (case field came verdict ∷ []) t
 
 -- fields were checked, one behind another
-abbrev pub FieldsChecked : {C : Type 0} → Relation C → List Field → At C → List Verdict → List ℕ → At C → Type 0
-FieldsChecked R [] s verdicts text t = (verdicts ≡ []) × (text ≡ []) × (t ≡ s)
-FieldsChecked {C = C} R (field ∷ fields) s verdicts text t =
-    (mid : At C) × (one : List Verdict) × (others : List Verdict) × (first : List ℕ) × (rest : List ℕ) × FieldChecked R field s one first mid
-    × FieldsChecked R fields mid others rest t × (verdicts ≡ one ++ others) × (text ≡ first ++ rest)
+abbrev pub FieldsChecked : {C : Type 0} → Relation C → Chosen → List Field → At C → List Case → At C → Type 0
+FieldsChecked R chosen [] s cases t = (cases ≡ []) × (t ≡ s)
+FieldsChecked {C = C} R chosen (field ∷ fields) s cases t =
+    (mid : At C) × (one : List Case) × (others : List Case) × FieldChecked R chosen field s one mid
+    × FieldsChecked R chosen fields mid others t × (cases ≡ one ++ others)

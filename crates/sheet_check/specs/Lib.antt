@@ -1,5 +1,3 @@
-pub mod Verdicts
-pub mod Texts
 pub mod Evaluated
 pub mod Check
 pub mod Screen

@@ -1,5 +1,5 @@
 -- What is to be seen while a check goes on.
-use Rattle.std.specs.Prelude.{◌≡◌, ◌+◌, ◌⊎◌, ℕ, List, [], ◌∷◌, Result, Ok, Err, is_some, if◌then◌else◌}
+use Rattle.std.specs.Prelude.{◌≡◌, ◌+◌, ◌⊎◌, ℕ, Bool, true, false, List, [], ◌∷◌, Result, Ok, Err, is_some, if◌then◌else◌}
 use Rattle.disk_model.specs.Disk.{DiskView, InModel, bytes_on}
 use Rattle.worksheet.specs.declared.field.Field.{Field}
 use Rattle.worksheet.specs.Contents.{Contents}
@@ -7,44 +7,50 @@ use Rattle.journal.specs.declared.opening.OpenCause.{OpenCause}
 use Rattle.recovery.specs.Sheets.{IsSheetImage}
 use Rattle.offline_programs.specs.declared.fault.RunFault.{RunFault}
 use Rattle.offline_programs.specs.declared.fault.RunFault.TheVariants as fault
-use Rattle.sheet_check.specs.declared.verdict.Counts.{Counts}
-use Rattle.sheet_check.specs.declared.verdict.Verdict.{Verdict}
-use Rattle.sheet_check.specs.declared.verdict.Verdict.TheVariants as verdict
+use Rattle.check_report.specs.declared.chosen.Chosen.{Chosen}
+use Rattle.check_report.specs.declared.report.Format.{Format}
+use Rattle.check_report.specs.declared.verdict.Counts.{Counts}
+use Rattle.check_report.specs.declared.verdict.Verdict.{Verdict}
+use Rattle.check_report.specs.Chosen.{shown_by}
+use Rattle.check_report.specs.Reports.{is_written}
 use Rattle.sheet_check.specs.declared.progress.Sight.{Sight}
 use Rattle.sheet_check.specs.declared.progress.Sight.TheVariants as sight
-use Rattle.sheet_check.specs.Verdicts.{counted_with, counts_of}
+use Rattle.check_report.specs.Verdicts.{counted_with, counts_of}
 
--- how many of these fields show an answer
-abbrev pub answered : List Field → ℕ
-answered [] = 0
-answered (field ∷ fields) = (if is_some field.answer then 1 else 0) + answered fields
+-- how many of these fields show an answer, and are of a session that is checked
+abbrev pub answered : Chosen → List Field → ℕ
+answered chosen [] = 0
+answered chosen (field ∷ fields) = (if is_some (shown_by chosen field) then 1 else 0) + answered chosen fields
 
--- Before a difference is written the line is taken away.
-abbrev pub MakesRoom : {P : Type 0} → (P → Sight → P → Type 0) → Verdict → P → P → Type 0
-MakesRoom S verdict.Same p q = q ≡ p
-MakesRoom S verdict.Differs p q = S p sight.Nothing q
-MakesRoom S verdict.Unanswered p q = S p sight.Nothing q
+-- the line is taken away, or left
+abbrev pub TakesLine : {P : Type 0} → Bool → (P → Sight → P → Type 0) → P → P → Type 0
+TakesLine true S p q = S p sight.Nothing q
+TakesLine false S p q = q ≡ p
+
+-- Before a field is written the line is taken away.
+abbrev pub MakesRoom : {P : Type 0} → Format → (P → Sight → P → Type 0) → Verdict → P → P → Type 0
+MakesRoom F S verdict p q = TakesLine (is_written F verdict) S p q
 
 -- Fields came to these counts, one behind another: behind each the line stands with the counts so far, of so many fields in all.
-pub data FieldsShow {P : Type 0} (S : P → Sight → P → Type 0) (all : ℕ) (p : P) : Counts → P → Type 0 where
-  none : FieldsShow S all p (counts_of []) p
-  more : (one : Verdict) (counts : Counts) (before free q : P) → FieldsShow S all p counts before → MakesRoom S one before free
-      → S free (sight.Line (counted_with one counts) all) q → FieldsShow S all p (counted_with one counts) q
+pub data FieldsShow {P : Type 0} (F : Format) (S : P → Sight → P → Type 0) (all : ℕ) (p : P) : Counts → P → Type 0 where
+  none : FieldsShow F S all p (counts_of []) p
+  more : (one : Verdict) (counts : Counts) (before free q : P) → FieldsShow F S all p counts before → MakesRoom F S one before free
+      → S free (sight.Line (counted_with one counts) all) q → FieldsShow F S all p (counted_with one counts) q
 
--- A field that wasn't counted leaves what was shown, or took the line away for a difference that couldn't be told.
+-- A field that wasn't counted leaves what was shown, or took the line away for what couldn't be told.
 abbrev pub LeavesLine : {P : Type 0} → (P → Sight → P → Type 0) → P → P → Type 0
 LeavesLine S p q = (q ≡ p) ⊎ S p sight.Nothing q
 
 -- Some fields were shown so, and the next one wasn't counted.
-abbrev pub FieldsLeft : {P : Type 0} → (P → Sight → P → Type 0) → ℕ → P → P → Type 0
-FieldsLeft {P = P} S all p q = (counts : Counts) × (last : P) × FieldsShow S all p counts last × LeavesLine S last q
+abbrev pub FieldsLeft : {P : Type 0} → Format → (P → Sight → P → Type 0) → ℕ → P → P → Type 0
+FieldsLeft {P = P} F S all p q = (counts : Counts) × (last : P) × FieldsShow F S all p counts last × LeavesLine S last q
 
 -- The fields were shown so up to the counts, or to a fault. Then the line is taken away.
-abbrev pub SheetShows : {P : Type 0} → (P → Sight → P → Type 0) → ℕ → P → P → Result Counts RunFault → Type 0
-SheetShows {P = P} S all p q (Ok counts) = (last : P) × FieldsShow S all p counts last × S last sight.Nothing q
-SheetShows {P = P} S all p q (Err why) = (last : P) × FieldsLeft S all p last × S last sight.Nothing q
+abbrev pub SheetShows : {P : Type 0} → Format → (P → Sight → P → Type 0) → ℕ → P → P → Result Counts RunFault → Type 0
+SheetShows {P = P} F S all p q (Ok counts) = (last : P) × FieldsShow F S all p counts last × S last sight.Nothing q
+SheetShows {P = P} F S all p q (Err why) = (last : P) × FieldsLeft F S all p last × S last sight.Nothing q
 
--- What a check shows: nothing where the disk wasn't opened, else the fields of the worksheet on it that show an answer.
-pub data CheckShows {P : Type 0} (S : P → Sight → P → Type 0) (disk : DiskView) (p q : P) (answer : Result Counts RunFault) : Type 0 where
-  unopened : (why : OpenCause) → answer ≡ Err (fault.Open why) → q ≡ p → CheckShows S disk p q answer
-  opened : (sheet : Contents) → InModel disk (IsSheetImage sheet (bytes_on disk)) → SheetShows S (answered sheet.fields) p q answer → CheckShows S disk p q answer
+-- What a check shows: nothing where the disk wasn't opened, else the fields of the worksheet on it that are checked.
+pub data CheckShows {P : Type 0} (F : Format) (S : P → Sight → P → Type 0) (chosen : Chosen) (disk : DiskView) (p q : P) (answer : Result Counts RunFault) : Type 0 where
+  unopened : (why : OpenCause) → answer ≡ Err (fault.Open why) → q ≡ p → CheckShows F S chosen disk p q answer
+  opened : (sheet : Contents) → InModel disk (IsSheetImage sheet (bytes_on disk)) → SheetShows F S (answered chosen sheet.fields) p q answer → CheckShows F S chosen disk p q answer

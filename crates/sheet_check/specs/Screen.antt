@@ -1,7 +1,8 @@
 -- What the line of progress looks like: the bytes that go to a terminal.
-use Rattle.std.specs.Prelude.{◌≡◌, ◌+◌, ◌⊎◌, ℕ, List, [], ◌∷◌, ◌++◌, Option, Some, None, codes, nat_eq, if◌then◌else◌}
+use Rattle.std.specs.Prelude.{◌≡◌, ◌⊎◌, ℕ, List, [], ◌∷◌, ◌++◌, Option, Some, None, codes, nat_eq, if◌then◌else◌}
 use Rattle.std.specs.Fmt.{decimal}
 use Rattle.std.specs.Io.KnownBytes.{Appends}
+use Rattle.check_report.specs.Verdicts.{total}
 use Rattle.sheet_check.specs.declared.progress.Sight.{Sight}
 use Rattle.sheet_check.specs.declared.progress.Sight.TheVariants as sight
 
@@ -21,7 +22,7 @@ clear_rest = 27 ∷ codes "[K"
 -- is to be seen, all of it.
 abbrev pub sight_text : Sight → List ℕ
 sight_text (sight.Line counts all) =
-    13 ∷ decimal (counts.same + counts.differ + counts.unanswered) ++ codes " of " ++ decimal all ++ differ_part counts.differ ++ unanswered_part counts.unanswered ++ clear_rest
+    13 ∷ decimal (total counts) ++ codes " of " ++ decimal all ++ differ_part counts.differ ++ unanswered_part counts.unanswered ++ clear_rest
 sight_text sight.Nothing = 13 ∷ clear_rest
 
 -- A line over a writer showed this: its bytes went out. Where there is no writer, or it was given up, nothing did.

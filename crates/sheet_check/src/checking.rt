@@ -9,19 +9,19 @@ ghost use Rattle.child_edge.specs.Faithful.{at};
 ghost use Rattle.disk_model.specs.Disk.{Rises};
 ghost use Rattle.offline_programs.specs.declared.fault.RunFault.TheVariants as told;
 ghost use Rattle.journal.specs.declared.opening.OpenCause.TheVariants as opens;
-ghost use Rattle.sheet_check.specs.Verdicts.{Compared};
-ghost use Rattle.sheet_check.specs.Texts.{difference_text, verdict_text};
-ghost use Rattle.sheet_check.specs.Evaluated.{came_if, shown_in};
+ghost use Rattle.check_report.specs.Chosen.{shown_by};
+ghost use Rattle.check_report.specs.Reports.{closing_text, opening_text};
+ghost use Rattle.check_report.specs.Verdicts.{total};
 ghost use Rattle.sheet_check.specs.Check.{CheckAnswer, OnlyRead, SheetAnswer};
 ghost use Rattle.sheet_check.specs.Progress.{CheckShows, FieldsLeft, FieldsShow, LeavesLine, MakesRoom, SheetShows, answered};
 ghost use Rattle.sheet_check.specs.declared.progress.Sight.TheVariants as sight;
-ghost use Rattle.sheet_check.specs.inside.Checking.{FieldFailed, FieldShown, FieldWrote, FieldsEnded, FieldsFailed, FieldsStopped, FieldsWrote, OnCopy, ShownWrote, Untold, total};
+ghost use Rattle.sheet_check.specs.inside.Checking.{FieldFailed, FieldShown, FieldWrote, FieldsEnded, FieldsFailed, FieldsStopped, FieldsWrote, OnCopy, ShownWrote};
 
 use crate::copying::open_copy;
 use crate::evaluating::{ask, wait_for_all};
 use crate::progress::{Progress, Sight};
-use crate::telling::{tell_counts, tell_difference};
-use crate::verdict::{Counts, Verdict, compare};
+use crate::telling::tell_what_came;
+use check_report::{Chosen, Counts, Format, Request, Verdict, close_report, open_report};
 use child_calls::Children;
 use child_edge::stop_all;
 use disk_model::Disk;
@@ -33,98 +33,29 @@ use std::alloc::Global;
 use std::io::Write;
 use worksheet::{Answer, Field, Sheet};
 
-/// Takes the line of progress away, and tells a difference.
-fn tell_in_its_place<W: Write, P: Progress>(
-    alloc: Global,
-    field: &Field,
-    came: &Option<Answer>,
-    progress: &mut P,
-    writer: &mut W,
-) -> Result<(), RunFault>
-    ensures ok { OnOk result (Appends (W.contents writer.old) (W.contents writer.new)
-        (difference_text field.now came.now)) }
-    ensures err { IfErr result (Untold (W.contents writer.old) (W.contents writer.new)) }
-    ensures shown { P.shows progress.old sight.Nothing progress.new }
-{
-    progress.show(Sight::Nothing);
-    tell_difference(alloc, field, came, writer)
-}
-
-/// Compares the answer that a field shows with the one that came, and tells a difference.
-fn tell_verdict<W: Write, P: Progress>(
-    alloc: Global,
-    field: &Field,
-    shown: &Answer,
-    came: &Option<Answer>,
-    progress: &mut P,
-    writer: &mut W,
-) -> Result<Verdict, RunFault>
-    ensures ok { IfOk result (λ verdict. Compared shown.now.output came.now verdict
-        × Appends (W.contents writer.old) (W.contents writer.new)
-        (verdict_text field.now came.now verdict)) }
-    ensures err { IfErr result (Untold (W.contents writer.old) (W.contents writer.new)) }
-    ensures room { IfOk result (λ verdict. MakesRoom P.shows verdict progress.old progress.new) }
-    ensures left { IfErr result (λ _. LeavesLine P.shows progress.old progress.new) }
-{
-    let verdict = compare(shown, came);
-    match verdict {
-        Verdict::Same => Ok(Verdict::Same),
-        Verdict::Differs => match tell_in_its_place(alloc, field, came, progress, writer) {
-            Ok(()) => Ok(Verdict::Differs),
-            Err(fault) => Err(fault),
-        },
-        Verdict::Unanswered => match tell_in_its_place(alloc, field, came, progress, writer) {
-            Ok(()) => Ok(Verdict::Unanswered),
-            Err(fault) => Err(fault),
-        },
-    }
-}
-
-/// The same with the answer that the field shows on the copy now, which came where its line was asked.
-fn tell_what_came<D: Disk, W: Write, P: Progress>(
-    alloc: Global,
-    host: &Host<D>,
-    field: &Field,
-    shown: &Answer,
-    asked: bool,
-    progress: &mut P,
-    writer: &mut W,
-) -> Result<Verdict, RunFault>
-    ensures ok { (w : World) → IsHost host.now w → IfOk result (λ verdict.
-        Compared shown.now.output (came_if asked (shown_in w field.now.id)) verdict
-        × Appends (W.contents writer.old) (W.contents writer.new)
-        (verdict_text field.now (came_if asked (shown_in w field.now.id)) verdict)) }
-    ensures err { IfErr result (Untold (W.contents writer.old) (W.contents writer.new)) }
-    ensures room { IfOk result (λ verdict. MakesRoom P.shows verdict progress.old progress.new) }
-    ensures left { IfErr result (λ _. LeavesLine P.shows progress.old progress.new) }
-{
-    if !asked {
-        return tell_verdict(alloc, field, shown, &None, progress, writer);
-    }
-    match host.sheet().field(field.id) {
-        None => tell_verdict(alloc, field, shown, &None, progress, writer),
-        Some(now) => tell_verdict(alloc, field, shown, &now.answer, progress, writer),
-    }
-}
-
-/// Evaluates a field that shows this answer, and tells where another one came, or none.
+/// Evaluates a field that shows this answer, and tells what that came to, as the case of this number.
 fn check_shown<D: Disk, C: Children, W: Write, P: Progress>(
     alloc: Global,
+    request: &Request,
     host: &mut Host<D>,
     children: &mut C,
+    number: u64,
     field: &Field,
     shown: &Answer,
     progress: &mut P,
     writer: &mut W,
 ) -> Result<Verdict, RunFault>
-    requires { field.now.answer ≡ Some shown.now }
-    ensures ok { (w : World) → IsHost host.old w → IfOk result (ShownWrote C.after field.now shown.now
+    requires { shown_by request.now.chosen field.now ≡ Some shown.now }
+    ensures ok { (w : World) → IsHost host.old w → IfOk result (ShownWrote C.after
+        request.now.chosen request.now.format number field.now shown.now
         (at w children.old host.old.store.disk) host.new children.new
         (W.contents writer.old) (W.contents writer.new)) }
-    ensures err { (w : World) → IsHost host.old w → IfErr result (FieldFailed C.after field.now
+    ensures err { (w : World) → IsHost host.old w → IfErr result (FieldFailed C.after
+        request.now.chosen field.now
         (at w children.old host.old.store.disk) host.new children.new
         (W.contents writer.old) (W.contents writer.new)) }
-    ensures room { IfOk result (λ verdict. MakesRoom P.shows verdict progress.old progress.new) }
+    ensures room { IfOk result (λ verdict.
+        MakesRoom request.now.format P.shows verdict progress.old progress.new) }
     ensures left { IfErr result (λ _. LeavesLine P.shows progress.old progress.new) }
 {
     let asked = match ask(alloc, host, children, field.id) {
@@ -134,7 +65,9 @@ fn check_shown<D: Disk, C: Children, W: Write, P: Progress>(
     if let Err(fault) = wait_for_all(alloc, host, children) {
         return Err(fault);
     }
-    tell_what_came(alloc, host, field, shown, asked, progress, writer)
+    tell_what_came(
+        alloc, request, host, number, field, shown, asked, progress, writer,
+    )
 }
 
 /// Shows the counts behind a field that was checked, and hands them out.
@@ -146,9 +79,11 @@ fn show_counts<P: Progress>(counts: Counts, all: u32, progress: &mut P) -> Count
     counts
 }
 
-/// Checks a field, where it shows an answer. The counts with what that came to, which are shown.
+/// Checks a field, where it shows an answer and its session is checked. The counts with what that came
+/// to, which are shown.
 fn check_field<D: Disk, C: Children, W: Write, P: Progress>(
     alloc: Global,
+    request: &Request,
     host: &mut Host<D>,
     children: &mut C,
     field: &Field,
@@ -158,28 +93,53 @@ fn check_field<D: Disk, C: Children, W: Write, P: Progress>(
     writer: &mut W,
 ) -> Result<Counts, RunFault>
     requires { total counts < 2 ^ 31 }
-    ensures ok { (w : World) → IsHost host.old w → IfOk result (FieldWrote C.after field.now
+    ensures ok { (w : World) → IsHost host.old w → IfOk result (FieldWrote C.after
+        request.now.chosen request.now.format field.now
         (at w children.old host.old.store.disk) host.new children.new
         (W.contents writer.old) (W.contents writer.new) counts) }
     ensures bound { IfOk result (λ after. total after ≤ total counts + 1) }
-    ensures err { (w : World) → IsHost host.old w → IfErr result (FieldFailed C.after field.now
+    ensures err { (w : World) → IsHost host.old w → IfErr result (FieldFailed C.after
+        request.now.chosen field.now
         (at w children.old host.old.store.disk) host.new children.new
         (W.contents writer.old) (W.contents writer.new)) }
-    ensures shown { IfOk result (λ after. FieldShown P.shows all counts after progress.old progress.new) }
+    ensures shown { IfOk result (λ after.
+        FieldShown request.now.format P.shows all counts after progress.old progress.new) }
     ensures left { IfErr result (λ _. LeavesLine P.shows progress.old progress.new) }
 {
-    match &field.answer {
+    let number = counts.total() + 1;
+    match request.chosen.shown(field) {
         None => Ok(counts),
-        Some(shown) => match check_shown(alloc, host, children, field, shown, progress, writer) {
+        Some(shown) => match check_shown(
+            alloc, request, host, children, number, field, shown, progress, writer,
+        ) {
             Ok(verdict) => Ok(show_counts(counts.with(verdict), all, progress)),
             Err(fault) => Err(fault),
         },
     }
 }
 
-/// Checks the fields of a worksheet in their order.
+/// Writes what stands first in a report.
+fn tell_opening<W: Write>(format: Format, writer: &mut W) -> Result<(), RunFault>
+    ensures ok { OnOk result (Appends (W.contents writer.old) (W.contents writer.new)
+        (opening_text format)) }
+    ensures err { IfErr result (λ why. why ≡ RunFault.Output) }
+{
+    open_report(format, writer).map_err(|_| RunFault::Output)
+}
+
+/// Writes what stands last in it, and brings it out.
+fn tell_closing<W: Write>(format: Format, counts: Counts, writer: &mut W) -> Result<(), RunFault>
+    ensures ok { OnOk result (Appends (W.contents writer.old) (W.contents writer.new)
+        (closing_text format counts)) }
+    ensures err { IfErr result (λ why. why ≡ RunFault.Output) }
+{
+    close_report(format, counts, writer).map_err(|_| RunFault::Output)
+}
+
+/// Checks the fields of a worksheet in their order, behind what stands first in their report.
 fn check_fields<D: Disk, C: Children, W: Write, P: Progress>(
     alloc: Global,
+    request: &Request,
     sheet: &Sheet,
     host: &mut Host<D>,
     children: &mut C,
@@ -189,19 +149,25 @@ fn check_fields<D: Disk, C: Children, W: Write, P: Progress>(
 ) -> Result<Counts, RunFault>
     requires { length sheet.now.contents.fields < 2 ^ 31 }
     ensures ok { (w : World) → IsHost host.old w → IfOk result (FieldsWrote C.after
-        sheet.now.contents.fields (at w children.old host.old.store.disk) host.new children.new
+        request.now.chosen request.now.format sheet.now.contents.fields (at w children.old host.old.store.disk) host.new children.new
         (W.contents writer.old) (W.contents writer.new)) }
     ensures err { (w : World) → IsHost host.old w → IfErr result (FieldsFailed C.after
-        sheet.now.contents.fields (at w children.old host.old.store.disk) host.new children.new
+        request.now.chosen request.now.format sheet.now.contents.fields (at w children.old host.old.store.disk) host.new children.new
         (W.contents writer.old) (W.contents writer.new)) }
     ensures shown { IfOk result (λ counts.
-        FieldsShow P.shows all progress.old counts progress.new) }
-    ensures left { IfErr result (λ _. FieldsLeft P.shows all progress.old progress.new) }
+        FieldsShow request.now.format P.shows all progress.old counts progress.new) }
+    ensures left { IfErr result (λ _.
+        FieldsLeft request.now.format P.shows all progress.old progress.new) }
 {
+    if let Err(fault) = tell_opening(request.format, writer) {
+        return Err(fault);
+    }
     let mut counts = Counts::none();
     let mut fields = sheet.fields();
     while let Some(field) = fields.next() {
-        match check_field(alloc, host, children, field, counts, all, progress, writer) {
+        match check_field(
+            alloc, request, host, children, field, counts, all, progress, writer,
+        ) {
             Ok(after) => counts = after,
             Err(fault) => return Err(fault),
         }
@@ -209,15 +175,15 @@ fn check_fields<D: Disk, C: Children, W: Write, P: Progress>(
     Ok(counts)
 }
 
-/// How many fields of a worksheet show an answer.
-fn count_answered(sheet: &Sheet) -> u32
+/// How many fields of a worksheet are checked.
+fn count_answered(chosen: &Chosen, sheet: &Sheet) -> u32
     requires { length sheet.now.contents.fields < 2 ^ 31 }
-    ensures { result ≡ answered sheet.now.contents.fields }
+    ensures { result ≡ answered chosen.now sheet.now.contents.fields }
 {
     let mut count: u32 = 0;
     let mut fields = sheet.fields();
     while let Some(field) = fields.next() {
-        if field.answer.is_some() {
+        if chosen.shown(field).is_some() {
             count += 1;
         }
     }
@@ -227,6 +193,7 @@ fn count_answered(sheet: &Sheet) -> u32
 /// The same, and then the line of progress is taken away, and each life that goes on is stopped.
 fn check_and_stop<D: Disk, C: Children, W: Write, P: Progress>(
     alloc: Global,
+    request: &Request,
     sheet: &Sheet,
     host: &mut Host<D>,
     children: &mut C,
@@ -235,16 +202,17 @@ fn check_and_stop<D: Disk, C: Children, W: Write, P: Progress>(
 ) -> Result<Counts, RunFault>
     requires { length sheet.now.contents.fields < 2 ^ 31 }
     ensures ok { (w : World) → IsHost host.old w → IfOk result (FieldsEnded C.after
-        sheet.now.contents.fields (at w children.old host.old.store.disk) children.new
+        request.now.chosen request.now.format sheet.now.contents.fields (at w children.old host.old.store.disk) children.new
         (W.contents writer.old) (W.contents writer.new)) }
     ensures err { (w : World) → IsHost host.old w → IfErr result (FieldsStopped C.after
-        sheet.now.contents.fields (at w children.old host.old.store.disk) children.new
+        request.now.chosen request.now.format sheet.now.contents.fields (at w children.old host.old.store.disk) children.new
         (W.contents writer.old) (W.contents writer.new)) }
-    ensures shown { SheetShows P.shows (answered sheet.now.contents.fields)
+    ensures shown { SheetShows request.now.format P.shows
+        (answered request.now.chosen sheet.now.contents.fields)
         progress.old progress.new result }
 {
-    let all = count_answered(sheet);
-    let counted = check_fields(alloc, sheet, host, children, all, progress, writer);
+    let all = count_answered(&request.chosen, sheet);
+    let counted = check_fields(alloc, request, sheet, host, children, all, progress, writer);
     progress.show(Sight::Nothing);
     stop_all(host, children);
     counted
@@ -253,6 +221,7 @@ fn check_and_stop<D: Disk, C: Children, W: Write, P: Progress>(
 /// Checks a worksheet on a copy of it, whose host ends here. None where there is no memory for the copy.
 fn checked_on_copy<C: Children, W: Write, P: Progress>(
     alloc: Global,
+    request: &Request,
     sheet: &Sheet,
     children: &mut C,
     progress: &mut P,
@@ -262,13 +231,17 @@ fn checked_on_copy<C: Children, W: Write, P: Progress>(
     requires few { length sheet.now.contents.fields < 2 ^ 31 }
     ensures none { IfNone result ((children.new ≡ children.old) × (writer.new ≡ writer.old)
         × (progress.new ≡ progress.old)) }
-    ensures some { IfSome result (λ counted. OnCopy C.after sheet.now.contents children.old children.new
+    ensures some { IfSome result (λ counted. OnCopy C.after request.now.chosen
+        request.now.format sheet.now.contents children.old children.new
         (W.contents writer.old) (W.contents writer.new) counted) }
-    ensures shown { IfSome result (λ counted. SheetShows P.shows (answered sheet.now.contents.fields)
+    ensures shown { IfSome result (λ counted. SheetShows request.now.format P.shows
+        (answered request.now.chosen sheet.now.contents.fields)
         progress.old progress.new counted) }
 {
     match open_copy(alloc, sheet) {
-        Some(mut host) => Some(check_and_stop(alloc, sheet, &mut host, children, progress, writer)),
+        Some(mut host) => Some(check_and_stop(
+            alloc, request, sheet, &mut host, children, progress, writer,
+        )),
         None => None,
     }
 }
@@ -276,25 +249,27 @@ fn checked_on_copy<C: Children, W: Write, P: Progress>(
 /// Checks a worksheet on a copy of it, and tells the counts.
 fn check_sheet<C: Children, W: Write, P: Progress>(
     alloc: Global,
+    request: &Request,
     sheet: &Sheet,
     children: &mut C,
     progress: &mut P,
     writer: &mut W,
 ) -> Result<Counts, RunFault>
     requires { (ops : List Op) × Makes ops sheet.now.contents }
-    ensures checked { SheetAnswer C.after sheet.now.contents children.old children.new
+    ensures checked { SheetAnswer C.after request.now.chosen request.now.format sheet.now.contents children.old children.new
         (W.contents writer.old) (W.contents writer.new)
         ((writer.new ≡ writer.old) × (children.new ≡ children.old)) result }
-    ensures shown { SheetShows P.shows (answered sheet.now.contents.fields)
+    ensures shown { SheetShows request.now.format P.shows
+        (answered request.now.chosen sheet.now.contents.fields)
         progress.old progress.new result }
 {
     worksheet::laws::ops_make_worksheets();
-    let Some(counted) = checked_on_copy(alloc, sheet, children, progress, writer) else {
+    let Some(counted) = checked_on_copy(alloc, request, sheet, children, progress, writer) else {
         progress.show(Sight::Nothing);
         return Err(RunFault::OutOfMemory);
     };
     match counted {
-        Ok(counts) => match tell_counts(counts, writer) {
+        Ok(counts) => match tell_closing(request.format, counts, writer) {
             Ok(()) => Ok(counts),
             Err(fault) => Err(fault),
         },
@@ -329,17 +304,19 @@ pub struct Checked<D: Disk> {
 /// written. `Output` where the writer fails: a part of the text may have gone out.
 pub fn check<D: Disk, C: Children, W: Write, P: Progress>(
     alloc: Global,
+    request: &Request,
     disk: D,
     children: &mut C,
     progress: &mut P,
     writer: &mut W,
 ) -> Checked<D>
-    ensures checked { CheckAnswer C.after (D.view disk) children.old children.new
+    ensures checked { CheckAnswer C.after request.now.chosen request.now.format (D.view disk) children.old children.new
         (W.contents writer.old) (W.contents writer.new)
         ((writer.new ≡ writer.old) × (children.new ≡ children.old)) result.answer }
     ensures read { OnlyRead (D.view disk) (D.view result.disk) }
 
-    ensures shown { CheckShows P.shows (D.view disk) progress.old progress.new result.answer }
+    ensures shown { CheckShows request.now.format P.shows request.now.chosen (D.view disk)
+        progress.old progress.new result.answer }
 
     // That the disk failed is told only where it did.
     ensures failed { result.answer ≡ Err (told.Open opens.Disk)
@@ -347,7 +324,7 @@ pub fn check<D: Disk, C: Children, W: Write, P: Progress>(
 {
     match Store::open(alloc, disk) {
         Ok(store) => {
-            let answer = check_sheet(alloc, store.sheet(), children, progress, writer);
+            let answer = check_sheet(alloc, request, store.sheet(), children, progress, writer);
             Checked {
                 disk: store.into_disk(),
                 answer,

@@ -7,8 +7,6 @@ mod copying;
 mod evaluating;
 mod progress;
 mod telling;
-mod verdict;
 
 pub use checking::{Checked, check};
 pub use progress::{NoProgress, Progress, ProgressLine, Sight};
-pub use verdict::{Counts, Verdict};

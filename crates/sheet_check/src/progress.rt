@@ -4,7 +4,7 @@ ghost use Rattle.std.specs.Io.KnownBytes.{Appends};
 ghost use Rattle.sheet_check.specs.Screen as screen;
 ghost use Rattle.sheet_check.specs.declared.progress.Sight.TheVariants as sight;
 
-use crate::verdict::Counts;
+use check_report::Counts;
 use std::alloc::Global;
 use std::io;
 use std::io::Write;
@@ -95,15 +95,10 @@ fn write_unanswered(unanswered: u32, text: &mut Vec<u8>) -> io::Result<()>
 fn write_line(counts: Counts, all: u32, text: &mut Vec<u8>) -> io::Result<()>
     ensures { OnOk result (text.new.items ≡ text.old.items ++ screen.sight_text (sight.Line counts all)) }
 {
-    let Counts {
-        same,
-        differ,
-        unanswered,
-    } = counts;
-    let checked = u64::from(same) + u64::from(differ) + u64::from(unanswered);
+    let checked = counts.total();
     write!(text, "\r{checked} of {all}")?;
-    write_differ(differ, text)?;
-    write_unanswered(unanswered, text)?;
+    write_differ(counts.differ, text)?;
+    write_unanswered(counts.unanswered, text)?;
     write!(text, "\x1b[K")
 }
 

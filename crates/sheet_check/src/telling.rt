@@ -1,102 +1,152 @@
-//! What is written of a field that differs, and of the counts.
-ghost use Rattle.std.specs.Prelude.{◌≡◌, ◌++◌, [], None, codes, IfOk, IfErr, OnOk};
+//! What a field came to, as it is told.
+ghost use Rattle.std.specs.Prelude.{◌≡◌, IfErr, IfOk, OnOk};
 ghost use Rattle.std.specs.Io.KnownBytes.{Appends};
-ghost use Rattle.sheet_text.specs.Texts.{input_line, number_line, output_lines};
-ghost use Rattle.sheet_check.specs.Texts as printed;
+ghost use Rattle.session_engine.specs.World.{World};
+ghost use Rattle.session_engine.specs.Host.{IsHost};
+ghost use Rattle.check_report.specs.Chosen.{Judged};
+ghost use Rattle.check_report.specs.Reports.{case as case_of, case_text};
+ghost use Rattle.sheet_check.specs.Evaluated.{came_if, shown_in};
+ghost use Rattle.sheet_check.specs.Progress.{LeavesLine, MakesRoom};
 ghost use Rattle.sheet_check.specs.inside.Checking.{Untold};
 
-use crate::verdict::Counts;
-use bstr::ByteSlice;
+use crate::progress::{Progress, Sight};
+use check_report::{Format, ReportFault, Request, Verdict, is_written, report_case};
+use disk_model::Disk;
 use offline_programs::RunFault;
-use sheet_text::{WriteFault, write_input, write_number, write_output};
+use session_engine::Host;
 use std::alloc::Global;
 use std::io::Write;
 use worksheet::{Answer, Field};
 
-/// The lines of an answer's output, or `?` where there is none, in memory.
-fn output_in_memory(alloc: Global, answer: &Option<Answer>) -> Result<Vec<u8>, WriteFault>
-    ensures { IfOk result (λ text. text.items ≡ output_lines answer.now None) }
+/// Takes the line of progress away, where what a field came to is written.
+fn make_room<P: Progress>(format: Format, verdict: Verdict, progress: &mut P)
+    ensures { MakesRoom format P.shows verdict progress.old progress.new }
 {
-    let mut text = Vec::new(alloc);
-    write_output(answer, Option::None, &mut text)?;
-    Ok(text)
-}
-
-/// Writes each line of a text with a mark in front.
-#[tactic(auto, using(crate::proofs::Marking::mark_steps))]
-fn write_marked<W: Write>(mark: &[u8], text: &[u8], writer: &mut W) -> Result<(), WriteFault>
-    ensures { OnOk result
-        (Appends (W.contents writer.old) (W.contents writer.new) (printed.marked mark.now text.now)) }
-{
-    let mut lines = text.lines_with_terminator();
-    while let Some(line) = lines.next() {
-        writer.write_all(mark).map_err(|_| WriteFault)?;
-        writer.write_all(line).map_err(|_| WriteFault)?;
+    if is_written(format, verdict) {
+        progress.show(Sight::Nothing);
     }
-    Ok(())
 }
 
-/// Writes the lines of a field, and those of the two outputs with their marks, and brings them out.
-fn write_difference<W: Write>(
-    field: &Field,
-    shown: &[u8],
-    came: &[u8],
-    writer: &mut W,
-) -> Result<(), WriteFault>
-    ensures { OnOk result
-        (Appends (W.contents writer.old) (W.contents writer.new) (number_line field.now
-        ++ (input_line field.now ++ (printed.marked (codes "- ") shown.now
-        ++ printed.marked (codes "+ ") came.now)))) }
-{
-    write_number(field, writer)?;
-    write_input(field, writer)?;
-    write_marked(b"- ", shown, writer)?;
-    write_marked(b"+ ", came, writer)?;
-    writer.flush().map_err(|_| WriteFault)?;
-    Ok(())
-}
-
-/// Tells how an answer differs from that of its field, or that none came.
+/// Tells what a field came to, which is the case of this number.
 ///
 /// `OutOfMemory`: nothing was written. `Output`: a part may have gone out.
-pub(crate) fn tell_difference<W: Write>(
+fn tell_case<W: Write>(
     alloc: Global,
+    format: Format,
+    number: u64,
     field: &Field,
     came: &Option<Answer>,
+    verdict: Verdict,
     writer: &mut W,
 ) -> Result<(), RunFault>
     ensures ok { OnOk result (Appends (W.contents writer.old) (W.contents writer.new)
-        (printed.difference_text field.now came.now)) }
+        (case_text format number (case_of field.now came.now verdict))) }
     ensures err { IfErr result (Untold (W.contents writer.old) (W.contents writer.new)) }
 {
-    let Ok(old) = output_in_memory(alloc, &field.answer) else {
-        return Err(RunFault::OutOfMemory);
-    };
-    let Ok(new) = output_in_memory(alloc, came) else {
-        return Err(RunFault::OutOfMemory);
-    };
-    match write_difference(field, old.as_slice(), new.as_slice(), writer) {
+    match report_case(alloc, format, number, field, came, verdict, writer) {
         Ok(()) => Ok(()),
-        Err(_) => Err(RunFault::Output),
+        Err(ReportFault::OutOfMemory) => Err(RunFault::OutOfMemory),
+        Err(ReportFault::Output) => Err(RunFault::Output),
     }
 }
 
-/// Tells the counts, and brings them out.
-pub(crate) fn tell_counts<W: Write>(counts: Counts, writer: &mut W) -> Result<(), RunFault>
+/// Tells a field whose verdict is known, in the place of the line of progress.
+fn tell_in_its_place<W: Write, P: Progress>(
+    alloc: Global,
+    format: Format,
+    number: u64,
+    field: &Field,
+    came: &Option<Answer>,
+    verdict: Verdict,
+    progress: &mut P,
+    writer: &mut W,
+) -> Result<(), RunFault>
     ensures ok { OnOk result (Appends (W.contents writer.old) (W.contents writer.new)
-        (printed.counts_text counts)) }
-    ensures err { IfErr result (λ why. why ≡ RunFault.Output) }
+        (case_text format number (case_of field.now came.now verdict))) }
+    ensures err { IfErr result (Untold (W.contents writer.old) (W.contents writer.new)) }
+    ensures room { MakesRoom format P.shows verdict progress.old progress.new }
 {
-    let Counts {
-        same,
-        differ,
-        unanswered,
-    } = counts;
-    writeln!(
+    make_room(format, verdict, progress);
+    tell_case(alloc, format, number, field, came, verdict, writer)
+}
+
+/// Judges the answer that came by the one that a field shows, and tells what that came to.
+fn tell_verdict<W: Write, P: Progress>(
+    alloc: Global,
+    request: &Request,
+    number: u64,
+    field: &Field,
+    shown: &Answer,
+    came: &Option<Answer>,
+    progress: &mut P,
+    writer: &mut W,
+) -> Result<Verdict, RunFault>
+    ensures ok { IfOk result (λ verdict. Judged request.now.chosen field.now.id shown.now.output came.now verdict
+        × Appends (W.contents writer.old) (W.contents writer.new)
+        (case_text request.now.format number (case_of field.now came.now verdict))) }
+    ensures err { IfErr result (Untold (W.contents writer.old) (W.contents writer.new)) }
+    ensures room { IfOk result (λ verdict.
+        MakesRoom request.now.format P.shows verdict progress.old progress.new) }
+    ensures left { IfErr result (λ _. LeavesLine P.shows progress.old progress.new) }
+{
+    let verdict = request.chosen.judge(field.id, shown, came);
+    match tell_in_its_place(
+        alloc,
+        request.format,
+        number,
+        field,
+        came,
+        verdict,
+        progress,
         writer,
-        "same {same} differ {differ} unanswered {unanswered}"
-    )
-    .map_err(|_| RunFault::Output)?;
-    writer.flush().map_err(|_| RunFault::Output)?;
-    Ok(())
+    ) {
+        Ok(()) => Ok(verdict),
+        Err(fault) => Err(fault),
+    }
+}
+
+/// The same with the answer that the field shows on the copy now, which came where its line was asked.
+pub(crate) fn tell_what_came<D: Disk, W: Write, P: Progress>(
+    alloc: Global,
+    request: &Request,
+    host: &Host<D>,
+    number: u64,
+    field: &Field,
+    shown: &Answer,
+    asked: bool,
+    progress: &mut P,
+    writer: &mut W,
+) -> Result<Verdict, RunFault>
+    ensures ok { (w : World) → IsHost host.now w → IfOk result (λ verdict.
+        Judged request.now.chosen field.now.id shown.now.output (came_if asked (shown_in w field.now.id)) verdict
+        × Appends (W.contents writer.old) (W.contents writer.new)
+        (case_text request.now.format number
+        (case_of field.now (came_if asked (shown_in w field.now.id)) verdict))) }
+    ensures err { IfErr result (Untold (W.contents writer.old) (W.contents writer.new)) }
+    ensures room { IfOk result (λ verdict.
+        MakesRoom request.now.format P.shows verdict progress.old progress.new) }
+    ensures left { IfErr result (λ _. LeavesLine P.shows progress.old progress.new) }
+{
+    if !asked {
+        return tell_verdict(
+            alloc, request, number, field, shown, &None, progress, writer,
+        );
+    }
+    match host.sheet().field(field.id) {
+        None => tell_verdict(
+            alloc, request, number, field, shown, &None, progress, writer,
+        ),
+        Some(now) => {
+            tell_verdict(
+                alloc,
+                request,
+                number,
+                field,
+                shown,
+                &now.answer,
+                progress,
+                writer,
+            )
+        }
+    }
 }

@@ -1,17 +1,14 @@
 -- What one call more does to the record of a file in memory.
-use Rattle.std.proofs.Common.{◌≡◌, ℕ, ◌+◌, ◌≤◌, ◌<◌, true, false, List, [], ◌∷◌, ◌++◌, length, refl, sym, ◌∙◌, ap, subst, arith, Vec, Result, Ok, Err}
+use Rattle.std.proofs.Common.{◌≡◌, ℕ, ◌+◌, ◌≤◌, ◌<◌, true, false, List, [], ◌∷◌, ◌++◌, length, refl, sym, ◌∙◌, ap, subst, arith, Ok, Err}
 use Rattle.std.specs.Prelude.{nat_le, nat_lt}
-use Rattle.std.specs.declared.alloc.Global.{Global}
 use Rattle.std.proofs.lemmas.Bool.Decides.{nat_tests}
 use Rattle.disk_model.specs.Disk.{AreaState, Torn, overwritten}
 use Rattle.disk_model.specs.Calls.{after_sync, after_write, settled}
 use Rattle.disk_model.specs.inside.Replay.{torn_by_write}
 use Rattle.sheet_files.specs.inside.Replayed.{stays_an_image}
-use Rattle.sheet_files.specs.DiskFile.{FileImage, FileSyncs, FileView, FileWrites, IsStill, Passes}
-use Rattle.sheet_files.specs.MemoryFile.{Noted, NotesCall, done, done_before, replayed, memory_view}
+use Rattle.sheet_files.specs.DiskFile.{FileImage, FileSyncs, FileView, FileWrites, IsStill}
+use Rattle.sheet_files.specs.MemoryFile.{NotesCall, done, done_before, replayed}
 use Rattle.sheet_files.specs.declared.memory_file.FileCall.{FileCall}
-use Rattle.sheet_files.specs.declared.memory_file.Deed.{Deed}
-use Rattle.sheet_files.specs.declared.memory_file.Deed.TheVariants.{Write, Sync}
 
 replayed-push : (t : ℕ) (calls : List FileCall) (a : AreaState) (call : FileCall)
     → replayed t (calls ++ call ∷ []) a ≡ done_before t call (replayed t calls a)

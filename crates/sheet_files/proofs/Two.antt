@@ -1,7 +1,7 @@
 -- What a call on one of two files does to the disk.
 use Rattle.std.proofs.Common.{◌≡◌, ℕ, zero, suc, ◌+◌, ◌≤◌, List, [], ◌∷◌, length, refl, sym, ◌∙◌, ap, subst, arith, Result, Ok, Err}
 use Rattle.std.specs.Prelude.{MatchResult}
-use Rattle.disk_model.specs.Disk.{AreaState, DiskState, History, IsImage, LeavesOnly, Looks, Syncs, Torn, Writes}
+use Rattle.disk_model.specs.Disk.{AreaState, DiskState, History, Looks, Syncs, Torn, Writes}
 use Rattle.disk_model.specs.Calls.{advanced}
 use Rattle.disk_model.specs.declared.disk.Area.{Area}
 use Rattle.disk_model.specs.declared.disk.Area.TheVariants.{First, Second}

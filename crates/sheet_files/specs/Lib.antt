@@ -1,3 +1,4 @@
 pub mod DiskFile
 pub mod MemoryFile
+pub mod Names
 pub mod inside

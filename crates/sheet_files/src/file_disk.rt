@@ -3,11 +3,8 @@ ghost use Rattle.std.specs.Prelude.{◌≡◌, ◌+◌, ◌≤◌, IfOk, IsErr, 
 ghost use Rattle.disk_model.specs.Disk.{Called, InModel, Looks, Syncs, Writes, area_of, bytes_on, greatest_room};
 ghost use Rattle.sheet_files.specs.DiskFile.{FileSynced, FileView, InFile, IsStill, Passes, WithoutFailure, history_of, second_of, tells_nothing_to_sync, two_files};
 
-use crate::pairing::{
-    are_two, folder_of, is_in_use, look_for, make_file, open_first, open_if_there, open_or_make,
-    resolved, second_path, sync_folder,
-};
-use crate::{DiskFile, FilesFault, Lock, MakeFault, SheetFile};
+use crate::pairing::{FileNames, resolved, second_path};
+use crate::{DiskFile, FilesFault, Lock, MakeFault, SheetFile, opening};
 use disk_model::{Area, Disk, DiskFault, GREATEST_ROOM};
 use std::alloc::Global;
 use std::io;
@@ -83,15 +80,7 @@ impl<F: SheetFile + Drop> FileDisk<F> {
         path: &str,
     ) -> Result<FileDisk<F>, MakeFault> {
         let alt = second_path(alloc, path)?;
-        look_for(rt, path, alt.as_str())?;
-        let first = make_file(rt, path)?;
-        if is_in_use(&first, Lock::Exclusive) {
-            return Err(MakeFault::InUse);
-        }
-        let second = make_file(rt, alt.as_str())?;
-        first.sync_all()?;
-        second.sync_all()?;
-        sync_folder(rt, folder_of(path))?;
+        let (first, second) = opening::create(&mut FileNames { rt }, path, alt.as_str())?;
         Ok(FileDisk::of(first, Some(second), Lock::Exclusive)?)
     }
 
@@ -111,10 +100,7 @@ impl<F: SheetFile + Drop> FileDisk<F> {
     ) -> Result<FileDisk<F>, FilesFault> {
         let path = resolved(rt, alloc, path)?;
         let alt = second_path(alloc, path.as_str())?;
-        let first = open_first(rt, path.as_str(), Lock::Exclusive)?;
-        let second = open_or_make(rt, alt.as_str(), &first)?;
-        are_two(&first, &second)?;
-        sync_folder(rt, folder_of(path.as_str()))?;
+        let (first, second) = opening::open(&mut FileNames { rt }, path.as_str(), alt.as_str())?;
         Ok(FileDisk::of(first, Some(second), Lock::Exclusive)?)
     }
 
@@ -128,11 +114,11 @@ impl<F: SheetFile + Drop> FileDisk<F> {
     ) -> Result<FileDisk<F>, FilesFault> {
         let path = resolved(rt, alloc, path)?;
         let alt = second_path(alloc, path.as_str())?;
-        let first = open_first(rt, path.as_str(), Lock::Shared)?;
-        let second = open_if_there(rt, alt.as_str())?;
-        if let Some(second) = &second {
-            are_two(&first, second)?;
-        }
+        let (first, second) = opening::open_to_read(
+            &mut FileNames { rt },
+            path.as_str(),
+            alt.as_str(),
+        )?;
         Ok(FileDisk::of(first, second, Lock::Shared)?)
     }
 }

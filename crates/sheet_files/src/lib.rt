@@ -7,6 +7,8 @@ mod file_disk;
 mod files_fault;
 mod holding;
 mod memory_file;
+mod names;
+mod opening;
 mod pairing;
 mod places;
 mod sheet_file;

@@ -1,6 +1,6 @@
-//! The two files of a worksheet: their paths, and how they are made and opened.
-use crate::{FilesFault, Identity, Lock, MakeFault, SheetFile};
-use journal::CreateCause;
+//! The two files of a worksheet: their paths, and the real place in which they are made and opened.
+use crate::names::Names;
+use crate::{Identity, Lock, SheetFile};
 use std::alloc::Global;
 use std::fs::{OpenFile, OpenOptions, TryLockError};
 use std::io::ErrorKind;
@@ -16,7 +16,7 @@ pub(crate) fn second_path(alloc: Global, path: &str) -> io::Result<String> {
 }
 
 /// The folder of a path, as a path.
-pub(crate) fn folder_of(path: &str) -> &str {
+fn folder_of(path: &str) -> &str {
     match path.rfind('/') {
         None => ".",
         Some(0) => "/",
@@ -34,20 +34,6 @@ pub(crate) fn resolved<R: Files>(rt: &R, alloc: Global, path: &str) -> io::Resul
     }
 }
 
-/// Makes a file, to read and to write. One that is there is refused.
-pub(crate) fn make_file<R: Files>(rt: &R, path: &str) -> io::Result<R::File> {
-    OpenOptions::new()
-        .read(true)
-        .write(true)
-        .create_new(true)
-        .open(rt, path)
-}
-
-/// Brings the names of a folder's files onto the disk.
-pub(crate) fn sync_folder<R: Files>(rt: &R, folder: &str) -> io::Result<()> {
-    OpenOptions::new().read(true).open(rt, folder)?.sync_all()
-}
-
 /// Whether something has this name, a link that leads nowhere too.
 fn is_there<R: Files>(rt: &R, path: &str) -> io::Result<bool> {
     match fs::symlink_metadata(rt, path) {
@@ -57,18 +43,9 @@ fn is_there<R: Files>(rt: &R, path: &str) -> io::Result<bool> {
     }
 }
 
-/// Looks for both files before one is made: one that is there is told first.
-pub(crate) fn look_for<R: Files>(rt: &R, first: &str, second: &str) -> Result<(), MakeFault> {
-    match (is_there(rt, first), is_there(rt, second)) {
-        (Ok(true), _) | (_, Ok(true)) => Err(MakeFault::Create(CreateCause::NotEmpty)),
-        (Ok(false), Ok(false)) => Ok(()),
-        _ => Err(MakeFault::Create(CreateCause::Disk)),
-    }
-}
-
 /// Takes a lock, and answers whether another has the file. A file system without locks has none that
 /// could be held by another.
-pub(crate) fn is_in_use<F: SheetFile>(file: &F, lock: Lock) -> bool {
+fn is_in_use<F: SheetFile>(file: &F, lock: Lock) -> bool {
     matches!(file.take_lock(lock), Err(TryLockError::WouldBlock))
 }
 
@@ -94,29 +71,6 @@ fn single<F: SheetFile>(file: &F) -> io::Result<Identity> {
     }
 }
 
-/// Sees to it that two files are two, each of which has one name.
-pub(crate) fn are_two<F: SheetFile>(first: &F, second: &F) -> io::Result<()> {
-    if single(first)? == single(second)? {
-        return Err(io::Error::from(ErrorKind::InvalidInput));
-    }
-    Ok(())
-}
-
-/// Opens the first file of a worksheet, and locks it. One that has another name is refused, since what
-/// is opened by that name has another second file.
-pub(crate) fn open_first<F: SheetFile + Drop, R: Files<File = F>>(
-    rt: &R,
-    path: &str,
-    lock: Lock,
-) -> Result<F, FilesFault> {
-    let first = open_plain(rt, path, lock)?;
-    if is_in_use(&first, lock) {
-        return Err(FilesFault::InUse);
-    }
-    single(&first)?;
-    Ok(first)
-}
-
 /// How the first file begins of a worksheet that lies in its second one.
 const NAMES_SECOND: &[u8] = b"TMWSHEET\x01B";
 
@@ -131,29 +85,75 @@ fn names_second<F: FileExt>(first: &F) -> io::Result<bool> {
     }
 }
 
-/// Opens the second file of a worksheet, to read and to write. A missing one is made, but where the
-/// worksheet lies in it: then an empty one would stand in the place of what was lost.
-pub(crate) fn open_or_make<F: SheetFile + Drop, R: Files<File = F>>(
-    rt: &R,
-    path: &str,
-    first: &F,
-) -> io::Result<F> {
-    match open_plain(rt, path, Lock::Exclusive) {
-        Err(error) if error.kind() == ErrorKind::NotFound => {
-            if names_second(first)? {
-                return Err(error);
-            }
-            make_file(rt, path)
-        }
-        opened => opened,
-    }
+/// The files that a runtime reaches. Of what its calls do nothing is claimed.
+#[derive(Drop)]
+pub(crate) struct FileNames<'a, R: Files> {
+    pub(crate) rt: &'a R,
 }
 
-/// Opens the second file of a worksheet to read alone, where there is one.
-pub(crate) fn open_if_there<R: Files>(rt: &R, path: &str) -> io::Result<Option<R::File>> {
-    match open_plain(rt, path, Lock::Shared) {
-        Ok(file) => Ok(Some(file)),
-        Err(error) if error.kind() == ErrorKind::NotFound => Ok(None),
-        Err(error) => Err(error),
+impl<F: SheetFile, R: Files<File = F>> Names<F> for FileNames<'_, R> {
+    ghost looks = { λ _ _ _ _. Unit {0} };
+
+    ghost makes = { λ _ _ _ _. Unit {0} };
+
+    ghost opens = { λ _ _ _ _ _. Unit {0} };
+
+    ghost locks = { λ _ _ _ _ _. Unit {0} };
+
+    ghost is_single = { λ _ _ _ _. Unit {0} };
+
+    ghost are_two = { λ _ _ _ _ _. Unit {0} };
+
+    ghost reads = { λ _ _ _ _. Unit {0} };
+
+    ghost syncs = { λ _ _ _ _. Unit {0} };
+
+    ghost syncs_folder = { λ _ _ _ _. Unit {0} };
+
+    fn look(&mut self, path: &str) -> io::Result<bool> {
+        is_there(self.rt, path)
+    }
+
+    fn make(&mut self, path: &str) -> io::Result<F> {
+        OpenOptions::new()
+            .read(true)
+            .write(true)
+            .create_new(true)
+            .open(self.rt, path)
+    }
+
+    fn open(&mut self, path: &str, lock: Lock) -> io::Result<F> {
+        open_plain(self.rt, path, lock)
+    }
+
+    fn lock(&mut self, file: &F, lock: Lock) -> bool {
+        is_in_use(file, lock)
+    }
+
+    fn single(&mut self, file: &F) -> io::Result<()> {
+        single(file)?;
+        Ok(())
+    }
+
+    fn two(&mut self, first: &F, second: &F) -> io::Result<()> {
+        if single(first)? == single(second)? {
+            return Err(io::Error::from(ErrorKind::InvalidInput));
+        }
+        Ok(())
+    }
+
+    fn names_second(&mut self, first: &F) -> io::Result<bool> {
+        names_second(first)
+    }
+
+    fn sync(&mut self, file: &F) -> io::Result<()> {
+        file.sync_all()
+    }
+
+    fn sync_folder(&mut self, path: &str) -> io::Result<()> {
+        OpenOptions::new()
+            .read(true)
+            .open(self.rt, folder_of(path))?
+            .sync_all()
     }
 }

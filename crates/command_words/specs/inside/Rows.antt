@@ -13,7 +13,7 @@ rows =
     ∷ (codes "live", shape.Json)
     ∷ (codes "eval", shape.Eval)
     ∷ (codes "show", shape.Json)
-    ∷ (codes "check", shape.Path)
+    ∷ (codes "check", shape.Check)
     ∷ (codes "rescue", shape.Paths)
     ∷ (codes "export", shape.Format)
     ∷ (codes "faults", shape.Help)

@@ -64,6 +64,13 @@ fn write_on(disk: &mut MemoryDisk, area: Area, bytes: &[u8], offset: u64) -> io:
     disk.write_at(area, offset, bytes).map_err(|_| broken())
 }
 
+fn crash_of(disk: &MemoryDisk, choice: &Choice) -> Option<MemoryDisk> {
+    if choice.moment > disk.calls() {
+        return None;
+    }
+    disk.crash(choice).ok()
+}
+
 impl Folder {
     /// A folder without a file.
     pub fn new(alloc: Global) -> Folder {
@@ -85,11 +92,8 @@ impl Folder {
     /// What a crash by this choice leaves of it.
     pub fn crash(&self, choice: &Choice) -> Option<Folder> {
         let disk = self.disk.try_borrow().ok()?;
-        if choice.moment > disk.calls() {
-            return None;
-        }
         Some(Folder {
-            disk: RefCell::new(disk.crash(choice).ok()?),
+            disk: RefCell::new(crash_of(&disk, choice)?),
             has_first: Cell::new(true),
             has_second: Cell::new(true),
         })

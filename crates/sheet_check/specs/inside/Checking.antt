@@ -19,10 +19,13 @@ use Rattle.child_edge.specs.Stops.{Stops}
 use Rattle.sheet_programs.specs.Told.{StandsOrStopped}
 use Rattle.offline_programs.specs.declared.fault.RunFault.{RunFault}
 use Rattle.offline_programs.specs.declared.fault.RunFault.TheVariants as fault
-use Rattle.sheet_check.specs.declared.verdict.Counts.{Counts}
-use Rattle.sheet_check.specs.declared.verdict.Verdict.{Verdict}
-use Rattle.sheet_check.specs.Verdicts.{Compared, counted_with, counts_of}
-use Rattle.sheet_check.specs.Texts.{verdict_text}
+use Rattle.check_report.specs.declared.chosen.Chosen.{Chosen}
+use Rattle.check_report.specs.declared.report.Format.{Format}
+use Rattle.check_report.specs.declared.verdict.Counts.{Counts}
+use Rattle.check_report.specs.declared.verdict.Verdict.{Verdict}
+use Rattle.check_report.specs.Chosen.{Judged}
+use Rattle.check_report.specs.Reports.{Case, case, case_text, cases_text, report_front, verdicts_of}
+use Rattle.check_report.specs.Verdicts.{counted_with, counts_of, total}
 use Rattle.sheet_check.specs.Evaluated.{Evaluated, FieldChecked, FieldsChecked}
 use Rattle.worksheet.specs.Contents.{Contents}
 use Rattle.sheet_check.specs.Check.{FirstLed, FirstUpTo, IsCopy, NotOfDisk}
@@ -49,7 +52,7 @@ PartFailed R l s h c fault.InputTooLong = ⊥
 PartFailed R l s h c (fault.Open why) = ⊥
 PartFailed R l s h c fault.InUse = ⊥
 
--- A difference couldn't be told: there was no memory for it, and nothing was written, or the writer failed.
+-- What a field came to couldn't be told: there was no memory for it, and nothing was written, or the writer failed.
 abbrev pub Untold : Option (List ℕ) → Option (List ℕ) → RunFault → Type 0
 Untold a b fault.OutOfMemory = Appends a b []
 Untold a b fault.Output = Unit {0}
@@ -69,89 +72,83 @@ LeavesText a b text fault.InputTooLong = ⊥
 LeavesText a b text (fault.Open why) = ⊥
 LeavesText a b text fault.InUse = ⊥
 
--- A field that shows this answer was evaluated, what came was compared, and what is to be told is written.
-abbrev pub ShownWrote : {C : Type 0} → Relation C → Field → Answer → At C → HostView → C → Option (List ℕ) → Option (List ℕ) → Verdict → Type 0
-ShownWrote R field shown s h c a b verdict = (came : Option Answer) × (t : World) × Evaluated R field.id s came (at t c h.store.disk)
-    × IsHost h t × Compared shown.output came verdict × Appends a b (verdict_text field came verdict)
+-- A field that shows this answer was evaluated, what came was judged, and what is to be told is written: it is the case of this number.
+abbrev pub ShownWrote : {C : Type 0} → Relation C → Chosen → Format → ℕ → Field → Answer → At C → HostView → C → Option (List ℕ) → Option (List ℕ) → Verdict → Type 0
+ShownWrote R chosen F number field shown s h c a b verdict = (came : Option Answer) × (t : World) × Evaluated R field.id s came (at t c h.store.disk)
+    × IsHost h t × Judged chosen field.id shown.output came verdict × Appends a b (case_text F number (case field came verdict))
 
 -- with these verdicts more
 abbrev pub counted_on : List Verdict → Counts → Counts
 counted_on [] counts = counts
 counted_on (one ∷ others) counts = counted_with one (counted_on others counts)
 
--- of how many evaluations they are
-abbrev pub total : Counts → ℕ
-total counts = counts.same + counts.differ + counts.unanswered
-
--- A field was checked, and what is to be told is written.
-abbrev pub FieldWrote : {C : Type 0} → Relation C → Field → At C → HostView → C → Option (List ℕ) → Option (List ℕ) → Counts → Counts → Type 0
-FieldWrote R field s h c a b counts after = (verdicts : List Verdict) × (text : List ℕ) × (t : World) × FieldChecked R field s verdicts text (at t c h.store.disk)
-    × IsHost h t × (after ≡ counted_on verdicts counts) × Appends a b text
+-- A field was checked behind those that are counted, and what is to be told is written.
+abbrev pub FieldWrote : {C : Type 0} → Relation C → Chosen → Format → Field → At C → HostView → C → Option (List ℕ) → Option (List ℕ) → Counts → Counts → Type 0
+FieldWrote R chosen F field s h c a b counts after = (cases : List Case) × (t : World) × FieldChecked R chosen field s cases (at t c h.store.disk)
+    × IsHost h t × (after ≡ counted_on (verdicts_of cases) counts) × Appends a b (cases_text F (total counts + 1) cases)
 
 -- The first of these fields was evaluated up to the event at which the host had a fault, or to where the host stands, or has stopped; of
 -- it nothing is written.
-abbrev pub FirstFailed : {C : Type 0} → Relation C → List Field → At C → HostView → C → RunFault → Type 0
-FirstFailed R fields s h c (fault.Host f) = (e : Event) × (t : World) × (d : DiskView) × FirstUpTo R fields s e (at t c d) × Stopped d h t e f × NotOfDisk f
-FirstFailed R fields s h c fault.OutOfMemory = (t : World) × (d : DiskView) × FirstLed R fields s (at t c d) × StandsOrStopped h t d
-FirstFailed R fields s h c fault.Output = (t : World) × (d : DiskView) × FirstLed R fields s (at t c d) × StandsOrStopped h t d
-FirstFailed R fields s h c fault.Input = ⊥
-FirstFailed R fields s h c fault.InputTooLong = ⊥
-FirstFailed R fields s h c (fault.Open why) = ⊥
-FirstFailed R fields s h c fault.InUse = ⊥
+abbrev pub FirstFailed : {C : Type 0} → Relation C → Chosen → List Field → At C → HostView → C → RunFault → Type 0
+FirstFailed R chosen fields s h c (fault.Host f) = (e : Event) × (t : World) × (d : DiskView) × FirstUpTo R chosen fields s e (at t c d) × Stopped d h t e f × NotOfDisk f
+FirstFailed R chosen fields s h c fault.OutOfMemory = (t : World) × (d : DiskView) × FirstLed R chosen fields s (at t c d) × StandsOrStopped h t d
+FirstFailed R chosen fields s h c fault.Output = (t : World) × (d : DiskView) × FirstLed R chosen fields s (at t c d) × StandsOrStopped h t d
+FirstFailed R chosen fields s h c fault.Input = ⊥
+FirstFailed R chosen fields s h c fault.InputTooLong = ⊥
+FirstFailed R chosen fields s h c (fault.Open why) = ⊥
+FirstFailed R chosen fields s h c fault.InUse = ⊥
 
 -- The same, and each life that goes on was stopped.
-abbrev pub FirstStopped : {C : Type 0} → Relation C → List Field → At C → C → RunFault → Type 0
-FirstStopped {C = C} R fields s d (fault.Host f) =
-    (e : Event) × (t : At C) × (h : HostView) × FirstUpTo R fields s e t × Stopped t.disk h t.world e f × NotOfDisk f × Stops R (running t.world) t.children d
-FirstStopped {C = C} R fields s d fault.OutOfMemory = (t : At C) × FirstLed R fields s t × Stops R (running t.world) t.children d
-FirstStopped {C = C} R fields s d fault.Output = (t : At C) × FirstLed R fields s t × Stops R (running t.world) t.children d
-FirstStopped R fields s d fault.Input = ⊥
-FirstStopped R fields s d fault.InputTooLong = ⊥
-FirstStopped R fields s d (fault.Open why) = ⊥
-FirstStopped R fields s d fault.InUse = ⊥
+abbrev pub FirstStopped : {C : Type 0} → Relation C → Chosen → List Field → At C → C → RunFault → Type 0
+FirstStopped {C = C} R chosen fields s d (fault.Host f) =
+    (e : Event) × (t : At C) × (h : HostView) × FirstUpTo R chosen fields s e t × Stopped t.disk h t.world e f × NotOfDisk f × Stops R (running t.world) t.children d
+FirstStopped {C = C} R chosen fields s d fault.OutOfMemory = (t : At C) × FirstLed R chosen fields s t × Stops R (running t.world) t.children d
+FirstStopped {C = C} R chosen fields s d fault.Output = (t : At C) × FirstLed R chosen fields s t × Stops R (running t.world) t.children d
+FirstStopped R chosen fields s d fault.Input = ⊥
+FirstStopped R chosen fields s d fault.InputTooLong = ⊥
+FirstStopped R chosen fields s d (fault.Open why) = ⊥
+FirstStopped R chosen fields s d fault.InUse = ⊥
 
-abbrev pub FieldFailed : {C : Type 0} → Relation C → Field → At C → HostView → C → Option (List ℕ) → Option (List ℕ) → RunFault → Type 0
-FieldFailed R field s h c a b why = ((others : List Field) → FirstFailed R (field ∷ others) s h c why) × LeavesText a b [] why
+abbrev pub FieldFailed : {C : Type 0} → Relation C → Chosen → Field → At C → HostView → C → Option (List ℕ) → Option (List ℕ) → RunFault → Type 0
+FieldFailed R chosen field s h c a b why = ((others : List Field) → FirstFailed R chosen (field ∷ others) s h c why) × LeavesText a b [] why
 
 -- These fields were checked, and what is to be told is written.
-abbrev pub FieldsWrote : {C : Type 0} → Relation C → List Field → At C → HostView → C → Option (List ℕ) → Option (List ℕ) → Counts → Type 0
-FieldsWrote R fields s h c a b counts = (verdicts : List Verdict) × (text : List ℕ) × (t : World) × FieldsChecked R fields s verdicts text (at t c h.store.disk)
-    × IsHost h t × (counts ≡ counts_of verdicts) × Appends a b text
+abbrev pub FieldsWrote : {C : Type 0} → Relation C → Chosen → Format → List Field → At C → HostView → C → Option (List ℕ) → Option (List ℕ) → Counts → Type 0
+FieldsWrote R chosen F fields s h c a b counts = (cases : List Case) × (t : World) × FieldsChecked R chosen fields s cases (at t c h.store.disk)
+    × IsHost h t × (counts ≡ counts_of (verdicts_of cases)) × Appends a b (report_front F cases)
 
--- The first of these fields were checked, of which this is the text, and perhaps a part of the next one.
-pub record FieldsFailed {C : Type 0} (R : Relation C) (fields : List Field) (s : At C) (h : HostView) (c : C) (a b : Option (List ℕ)) (why : RunFault) : Type 0 where
+-- The first of these fields were checked, which are these cases, and perhaps a part of the next one.
+pub record FieldsFailed {C : Type 0} (R : Relation C) (chosen : Chosen) (F : Format) (fields : List Field) (s : At C) (h : HostView) (c : C) (a b : Option (List ℕ)) (why : RunFault) : Type 0 where
   pub gone : List Field
   pub left : List Field
   pub split : fields ≡ gone ++ left
-  pub verdicts : List Verdict
-  pub text : List ℕ
+  pub cases : List Case
   pub mid : At C
-  pub checked : FieldsChecked R gone s verdicts text mid
-  pub failed : FirstFailed R left mid h c why
-  pub wrote : LeavesText a b text why
+  pub checked : FieldsChecked R chosen gone s cases mid
+  pub failed : FirstFailed R chosen left mid h c why
+  pub wrote : LeavesText a b (report_front F cases) why
 
 -- The same, and each life that goes on was stopped.
-abbrev pub FieldsEnded : {C : Type 0} → Relation C → List Field → At C → C → Option (List ℕ) → Option (List ℕ) → Counts → Type 0
-FieldsEnded {C = C} R fields s d a b counts = (verdicts : List Verdict) × (text : List ℕ) × (t : At C) × FieldsChecked R fields s verdicts text t
-    × Stops R (running t.world) t.children d × (counts ≡ counts_of verdicts) × Appends a b text
+abbrev pub FieldsEnded : {C : Type 0} → Relation C → Chosen → Format → List Field → At C → C → Option (List ℕ) → Option (List ℕ) → Counts → Type 0
+FieldsEnded {C = C} R chosen F fields s d a b counts = (cases : List Case) × (t : At C) × FieldsChecked R chosen fields s cases t
+    × Stops R (running t.world) t.children d × (counts ≡ counts_of (verdicts_of cases)) × Appends a b (report_front F cases)
 
-pub record FieldsStopped {C : Type 0} (R : Relation C) (fields : List Field) (s : At C) (d : C) (a b : Option (List ℕ)) (why : RunFault) : Type 0 where
+pub record FieldsStopped {C : Type 0} (R : Relation C) (chosen : Chosen) (F : Format) (fields : List Field) (s : At C) (d : C) (a b : Option (List ℕ)) (why : RunFault) : Type 0 where
   pub gone : List Field
   pub left : List Field
   pub split : fields ≡ gone ++ left
-  pub verdicts : List Verdict
-  pub text : List ℕ
+  pub cases : List Case
   pub mid : At C
-  pub checked : FieldsChecked R gone s verdicts text mid
-  pub ended : FirstStopped R left mid d why
-  pub wrote : LeavesText a b text why
+  pub checked : FieldsChecked R chosen gone s cases mid
+  pub ended : FirstStopped R chosen left mid d why
+  pub wrote : LeavesText a b (report_front F cases) why
 
 -- A field was passed over, and nothing shown, or it came to a verdict, and the line stands with the counts behind it.
-abbrev pub FieldShown : {P : Type 0} → (P → Sight → P → Type 0) → ℕ → Counts → Counts → P → P → Type 0
-FieldShown {P = P} S all counts after p q = ((after ≡ counts) × (q ≡ p))
-    ⊎ ((one : Verdict) × (free : P) × (after ≡ counted_with one counts) × MakesRoom S one p free × S free (sight.Line after all) q)
+abbrev pub FieldShown : {P : Type 0} → Format → (P → Sight → P → Type 0) → ℕ → Counts → Counts → P → P → Type 0
+FieldShown {P = P} F S all counts after p q = ((after ≡ counts) × (q ≡ p))
+    ⊎ ((one : Verdict) × (free : P) × (after ≡ counted_with one counts) × MakesRoom F S one p free × S free (sight.Line after all) q)
 
 -- The worksheet was checked on a copy of it, and each life that goes on was stopped.
-abbrev pub OnCopy : {C : Type 0} → Relation C → Contents → C → C → Option (List ℕ) → Option (List ℕ) → Result Counts RunFault → Type 0
-OnCopy R sheet c d a b counted = (w : World) × (copy : DiskView) × IsCopy sheet w copy
-    × IfOk counted (FieldsEnded R sheet.fields (at w c copy) d a b) × IfErr counted (FieldsStopped R sheet.fields (at w c copy) d a b)
+abbrev pub OnCopy : {C : Type 0} → Relation C → Chosen → Format → Contents → C → C → Option (List ℕ) → Option (List ℕ) → Result Counts RunFault → Type 0
+OnCopy R chosen F sheet c d a b counted = (w : World) × (copy : DiskView) × IsCopy sheet w copy
+    × IfOk counted (FieldsEnded R chosen F sheet.fields (at w c copy) d a b) × IfErr counted (FieldsStopped R chosen F sheet.fields (at w c copy) d a b)

@@ -1,10 +1,10 @@
 -- Each content of a file in memory is one of its images. No public clause speaks of it: `MemoryFile`
 -- cites it where it meets the trait.
-use Rattle.std.specs.Prelude.{◌≡◌, ℕ, ◌≤◌, Bool, true, false, nat_le, nat_lt, if◌then◌else◌, List, [], ◌∷◌, length, refl}
+use Rattle.std.specs.Prelude.{◌≡◌, ℕ, Bool, true, false, nat_le, nat_lt, if◌then◌else◌, List, [], ◌∷◌, length, refl}
 use Rattle.std.proofs.Common.{arith}
 use Rattle.std.proofs.lemmas.Bool.Decides.{nat_tests}
 use Rattle.disk_model.specs.Disk.{AreaState, AreaImage}
-use Rattle.disk_model.specs.Calls.{after_sync, after_write, settled}
+use Rattle.disk_model.specs.Calls.{after_write, settled}
 use Rattle.disk_model.specs.inside.Replay.{torn_by_write}
 use Rattle.sheet_files.specs.MemoryFile.{done, done_before, replayed}
 use Rattle.sheet_files.specs.declared.memory_file.FileCall.{FileCall}

@@ -1,6 +1,6 @@
 -- What a read of two files gives is an image of them. No public clause speaks of it: `FileDisk` cites
 -- it where it meets the trait.
-use Rattle.std.specs.Prelude.{◌≡◌, ℕ, Bool, true, false, ◌&&◌, IsTrue, Option, Some, None, refl}
+use Rattle.std.specs.Prelude.{ℕ, Bool, true, false, ◌&&◌, IsTrue, Option, Some, None, refl}
 use Rattle.disk_model.specs.Disk.{IsImage, content_of, unclaimed}
 use Rattle.sheet_files.specs.DiskFile.{FileView, FileImage, InFile, IsStill, Now, both_before, history_of, second_of}
 

@@ -1,10 +1,9 @@
-use Rattle.std.proofs.Common.{ap, ap₂, codes, Bool, None, Option, Some, sym, ◌≡◌, ◌∙◌}
+use Rattle.std.proofs.Common.{ap, ap₂, codes, None, Option, Some, sym, ◌≡◌, ◌∙◌}
 use Rattle.std.specs.Box.{box_value}
 use Rattle.clap.specs.Words.{Text, first_of, found_of, rows_of}
 use Rattle.clap.specs.declared.parser.matches.ArgMatches.TheViews.{out-ArgMatches, out-SubCommand}
 use Rattle.clap.proofs.WalkLemmas.{first_value-rows}
-use Rattle.command_words.specs.Asked.{by_paths, by_subcommand, flags_in, is_set}
-use Rattle.command_words.specs.declared.words.Flags.{Flags}
+use Rattle.command_words.specs.Asked.{FlagsView, by_paths, by_subcommand, flags_in}
 use Rattle.command_words.proofs.Subcommands.{joined}
 use Rattle.command_words.proofs.words.task_of.Goals as goal
 
@@ -37,15 +36,9 @@ returns-in-None c =
     let path_is : first_of (codes "PATH") (rows_of found) ≡ Some c.in-Some-get_str.path.now = sym (first_value-rows found (codes "PATH")) ∙ sym c.in-Some-get_str.ensures in
     let new_is : first_of (codes "NEW") (rows_of found) ≡ None = sym (first_value-rows found (codes "NEW")) ∙ sym c.in_default-get_str-2.ensures in
     let format_is : first_of (codes "FORMAT") (rows_of found) ≡ None = sym (first_value-rows found (codes "FORMAT")) ∙ sym c.in-None.ensures in
-    let strict_is : is_set (first_of (codes "strict") (rows_of found)) ≡ c.is_set.result = sym (c.is_set.ensures ∙ ap is_set (c.get_str-in-None.ensures ∙ first_value-rows found (codes "strict"))) in
-    let json_is : is_set (first_of (codes "json") (rows_of found)) ≡ c.is_set-in-None.result = sym (c.is_set-in-None.ensures ∙ ap is_set (c.get_str-in-None-2.ensures ∙ first_value-rows found (codes "json"))) in
-    let unanswered_is : is_set (first_of (codes "unanswered") (rows_of found)) ≡ c.is_set-in-None-2.result = sym (c.is_set-in-None-2.ensures ∙ ap is_set (c.get_str-in-None-3.ensures ∙ first_value-rows found (codes "unanswered"))) in
-    let flags_are : flags_in (rows_of found) ≡ record { strict = c.is_set.result; json = c.is_set-in-None.result; unanswered = c.is_set-in-None-2.result } =
-    ap₂ (λ (a b : Bool). let x : Flags = record { strict = a; json = b; unanswered = is_set (first_of (codes "unanswered") (rows_of found)) } in x) strict_is json_is
-    ∙ ap (λ (u : Bool). let x : Flags = record { strict = c.is_set.result; json = c.is_set-in-None.result; unanswered = u } in x) unanswered_is in
     c.task_with_path.ensures ∙ sym (ap by_subcommand rows_are ∙ ap (λ (path : Option Text). by_paths c.in-Some.name.now path (first_of (codes "NEW") (rows_of found)) (first_of (codes "FORMAT") (rows_of found)) (flags_in (rows_of found))) path_is
     ∙ ap₂ (λ (new format : Option Text). by_paths c.in-Some.name.now (Some c.in-Some-get_str.path.now) new format (flags_in (rows_of found))) new_is format_is
-    ∙ ap (λ (flags : Flags). by_paths c.in-Some.name.now (Some c.in-Some-get_str.path.now) None None flags) flags_are)
+    ∙ ap (λ (flags : FlagsView). by_paths c.in-Some.name.now (Some c.in-Some-get_str.path.now) None None flags) (sym c.flags_of.ensures))
 
 pub returns-in_default-get_str : goal.returns-in_default-get_str
 returns-in_default-get_str c =

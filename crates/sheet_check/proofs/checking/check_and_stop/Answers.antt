@@ -9,18 +9,18 @@ use Rattle.sheet_check.proofs.checking.check_and_stop.Goals as goal
 pub returns-clause-ok : goal.returns-clause-ok
 returns-clause-ok g c = λ w h.
     IfOk-weaker c.check_fields-counted.result _ _
-    (λ counts p. fields_ended g.C.Children.after c.args.sheet.now.contents.fields (at w c.args.children.now c.args.host.now.store.disk) c.check_fields-counted.new.host c.check_fields-counted.new.children c.stop_all.new.children
+    (λ counts p. fields_ended g.C.Children.after c.args.request.now.chosen c.args.request.now.format c.args.sheet.now.contents.fields (at w c.args.children.now c.args.host.now.store.disk) c.check_fields-counted.new.host c.check_fields-counted.new.children c.stop_all.new.children
     (g.W.Write.contents c.args.writer.now) (g.W.Write.contents c.check_fields-counted.new.writer) counts (c.stop_all.ensures.working, c.stop_all.ensures.stopped) p)
     (c.check_fields-counted.ensures.ok w h)
 
 pub returns-clause-err : goal.returns-clause-err
 returns-clause-err g c = λ w h.
     IfErr-weaker c.check_fields-counted.result _ _
-    (λ why p. fields_stopped g.C.Children.after c.args.sheet.now.contents.fields (at w c.args.children.now c.args.host.now.store.disk) c.check_fields-counted.new.host c.check_fields-counted.new.children c.stop_all.new.children
+    (λ why p. fields_stopped g.C.Children.after c.args.request.now.chosen c.args.request.now.format c.args.sheet.now.contents.fields (at w c.args.children.now c.args.host.now.store.disk) c.check_fields-counted.new.host c.check_fields-counted.new.children c.stop_all.new.children
     (g.W.Write.contents c.args.writer.now) (g.W.Write.contents c.check_fields-counted.new.writer) why (c.stop_all.ensures.working, c.stop_all.ensures.stopped) p)
     (c.check_fields-counted.ensures.err w h)
 
 pub returns-clause-shown : goal.returns-clause-shown
 returns-clause-shown g c =
-    subst (λ all. SheetShows g.P.Progress.shows all c.args.progress.now c.show.new.self c.check_fields-counted.result) c.count_answered-all.ensures
-    (sheet_shows g.P.Progress.shows c.count_answered-all.result c.args.progress.now c.check_fields-counted.result c.check_fields-counted.new.progress c.show.new.self c.check_fields-counted.ensures.shown c.check_fields-counted.ensures.left c.show.ensures)
+    subst (λ all. SheetShows c.args.request.now.format g.P.Progress.shows all c.args.progress.now c.show.new.self c.check_fields-counted.result) c.count_answered-all.ensures
+    (sheet_shows c.args.request.now.format g.P.Progress.shows c.count_answered-all.result c.args.progress.now c.check_fields-counted.result c.check_fields-counted.new.progress c.show.new.self c.check_fields-counted.ensures.shown c.check_fields-counted.ensures.left c.show.ensures)

@@ -3,14 +3,14 @@ use Rattle.session_engine.specs.World.{World}
 use Rattle.session_engine.specs.Host.{IsHost}
 use Rattle.child_edge.specs.Faithful.{at}
 use Rattle.sheet_check.specs.Progress.{FieldsShow}
-use Rattle.sheet_check.specs.inside.Checking.{total}
+use Rattle.check_report.specs.Verdicts.{total}
 use Rattle.sheet_check.proofs.Fields.{FieldsSoFar}
 use Rattle.sheet_check.proofs.checking.check_fields.Given as goal
 
 abbrev pub invariant-loop-field : goal.invariant-loop-field
 invariant-loop-field g l = record {
   few : total l.counts + length l.fields ≤ length l.fn.sheet.contents.fields;
-  shown : FieldsShow g.P.Progress.shows l.fn.all l.fn.progress l.counts l.progress;
+  shown : FieldsShow l.fn.request.format g.P.Progress.shows l.fn.all l.fn.progress l.counts l.progress;
   runs : (w : World) → IsHost l.fn.host w
-      → FieldsSoFar g.C.Children.after l.fn.sheet.contents.fields l.fields (at w l.fn.children l.fn.host.store.disk) l.host l.children (g.W.Write.contents l.fn.writer) (g.W.Write.contents l.writer) l.counts;
+      → FieldsSoFar g.C.Children.after l.fn.request.chosen l.fn.request.format l.fn.sheet.contents.fields l.fields (at w l.fn.children l.fn.host.store.disk) l.host l.children (g.W.Write.contents l.fn.writer) (g.W.Write.contents l.writer) l.counts;
 }

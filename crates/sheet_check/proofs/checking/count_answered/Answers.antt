@@ -5,7 +5,7 @@ use Rattle.sheet_check.proofs.checking.count_answered.Goals as goal
 pub loop-field-init : goal.loop-field-init
 loop-field-init c =
     let all = ap length c.fields-fields.ensures in
-    let sum = ap answered c.fields-fields.ensures in
+    let sum = ap (answered c.args.chosen.now) c.fields-fields.ensures in
     record { few = omega (arith, all); sum = omega (arith, sum) }
 
 pub overflow_add-count : goal.overflow_add-count

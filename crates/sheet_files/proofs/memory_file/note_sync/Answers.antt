@@ -1,4 +1,4 @@
-use Rattle.std.proofs.Common.{List, ℕ, ◌++◌, ◌∷◌, [], refl, subst, sym}
+use Rattle.std.proofs.Common.{List, refl, subst, sym}
 use Rattle.disk_model.specs.Calls.{after_sync}
 use Rattle.sheet_files.specs.MemoryFile.{NotesCall}
 use Rattle.sheet_files.specs.declared.memory_file.FileCall.{FileCall}

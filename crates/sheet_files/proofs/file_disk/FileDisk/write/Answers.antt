@@ -1,5 +1,3 @@
-use Rattle.std.proofs.Common.{Err, arith}
-use Rattle.disk_model.specs.declared.disk.Area.TheVariants.{First, Second}
 use Rattle.sheet_files.specs.DiskFile.{second_of}
 use Rattle.sheet_files.specs.inside.Two.{both_keep}
 use Rattle.sheet_files.proofs.Two.{no_write, wrote_first, wrote_second}

@@ -1,4 +1,3 @@
-use Rattle.std.proofs.Common.{ap}
 use Rattle.sheet_files.proofs.Replayed.{synced}
 use Rattle.sheet_files.proofs.memory_file.MemoryFileDiskFile.sync.Goals as goal
 

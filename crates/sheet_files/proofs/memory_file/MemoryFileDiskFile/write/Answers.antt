@@ -1,4 +1,3 @@
-use Rattle.std.proofs.Common.{refl}
 use Rattle.sheet_files.proofs.Replayed.{wrote}
 use Rattle.sheet_files.proofs.memory_file.MemoryFileDiskFile.write.Goals as goal
 

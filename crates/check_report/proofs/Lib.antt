@@ -1,0 +1,11 @@
+pub mod Numerals
+pub mod Parts
+pub mod Points
+pub mod Marking
+pub mod Written
+pub mod Comments
+pub mod Texts
+pub mod NoMarks
+pub mod Lines
+pub mod TapLines
+pub mod Tags

@@ -1,0 +1,34 @@
+-- Which fields are checked, and which of those are compared.
+use Rattle.std.specs.Prelude.{◌≡◌, ◌&&◌, ℕ, Bool, true, false, List, Option, Some, None, nat_le, if◌then◌else◌}
+use Rattle.std.specs.List.{list_any}
+use Rattle.std.specs.Str.{bytes_eq}
+use Rattle.block_tree.specs.Tree.{Tree}
+use Rattle.worksheet.specs.declared.field.Answer.{Answer}
+use Rattle.worksheet.specs.declared.field.Field.{Field}
+use Rattle.check_report.specs.declared.chosen.Chosen.{Chosen}
+use Rattle.check_report.specs.declared.chosen.Ids.{Ids}
+use Rattle.check_report.specs.declared.verdict.Verdict.{Verdict}
+use Rattle.check_report.specs.declared.verdict.Verdict.TheVariants as verdict
+use Rattle.check_report.specs.Verdicts.{Compared}
+
+-- whether a session is the one that is asked for, where one is
+abbrev pub is_session_asked : Option (List ℕ) → List ℕ → Bool
+is_session_asked None session = true
+is_session_asked (Some name) session = bytes_eq name session
+
+-- the answer that a field shows, where it is of a session that is checked
+abbrev pub shown_by : Chosen → Field → Option Answer
+shown_by chosen field = if is_session_asked chosen.only field.session then field.answer else None
+
+-- whether a number is one of these
+abbrev pub has_id : ℕ → Ids → Bool
+has_id id ids = nat_le ids.first id && nat_le id ids.last
+
+abbrev pub is_left_out : Chosen → ℕ → Bool
+is_left_out chosen id = list_any (has_id id) chosen.left_out
+
+-- What an evaluation anew of the field with this number comes to, by the output that it shows and the answer that came: what is left out
+-- isn't compared.
+pub data Judged (chosen : Chosen) (id : ℕ) (shown : Tree) (came : Option Answer) (v : Verdict) : Type 0 where
+  left_out : is_left_out chosen id ≡ true → v ≡ verdict.LeftOut → Judged chosen id shown came v
+  compared : is_left_out chosen id ≡ false → Compared shown came v → Judged chosen id shown came v

@@ -1,0 +1,42 @@
+-- A report in JUnit's XML: fixed parts, with texts between them.
+use Rattle.std.specs.Prelude.{ℕ, List, [], ◌++◌, codes}
+use Rattle.std.specs.Fmt.{decimal}
+use Rattle.std.specs.List.{flat_map}
+use Rattle.check_report.specs.declared.verdict.Verdict.{Verdict}
+use Rattle.check_report.specs.declared.verdict.Verdict.TheVariants as verdict
+use Rattle.check_report.specs.Points.{Point}
+use Rattle.check_report.specs.Xml.{xml_text}
+
+-- in front of the first case
+abbrev pub head : List ℕ
+head = codes "<?xml version=\"1.0\" encoding=\"UTF-8\"?>\n<testsuites>\n<testsuite name=\"tmhost check\">\n"
+
+-- behind the last one
+abbrev pub tail : List ℕ
+tail = codes "</testsuite>\n</testsuites>\n"
+
+-- what begins a case: the name of its session, and the number of its field
+abbrev pub case_start : ℕ → List ℕ → List ℕ
+case_start id session = codes "<testcase classname=\"" ++ xml_text session ++ codes "\" name=\"field " ++ decimal id ++ codes "\">"
+
+-- in front of what is told of a case
+abbrev pub result_start : Verdict → List ℕ
+result_start verdict.Same = []
+result_start verdict.Differs = codes "<failure message=\"differs\">"
+result_start verdict.Unanswered = codes "<error message=\"unanswered\">"
+result_start verdict.LeftOut = codes "<skipped message=\"left out\">"
+
+-- behind it
+abbrev pub result_end : Verdict → List ℕ
+result_end verdict.Same = codes "</testcase>\n"
+result_end verdict.Differs = codes "</failure></testcase>\n"
+result_end verdict.Unanswered = codes "</error></testcase>\n"
+result_end verdict.LeftOut = codes "</skipped></testcase>\n"
+
+-- a case
+abbrev pub junit_case : Point → List ℕ
+junit_case p = case_start p.id p.session ++ result_start p.verdict ++ xml_text p.told ++ result_end p.verdict
+
+-- a whole report
+abbrev pub junit_text : List Point → List ℕ
+junit_text points = head ++ flat_map junit_case points ++ tail

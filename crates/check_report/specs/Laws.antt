@@ -1,0 +1,83 @@
+-- Laws of the definitions.
+use Rattle.std.specs.Prelude.{ℕ, ◌+◌, Bool, List, [], ◌∷◌, ◌++◌, ◌≡◌, ◌<◌, ◌^◌, ◌==◌, ◌||◌, ◌&&◌, not, nat_eq, true, false, codes, cond, length, map, slice_index}
+use Rattle.std.specs.List.{filter, flat_map, list_all, list_any, starts_with}
+use Rattle.bstr.specs.Text.{lines_of}
+use Rattle.worksheet.specs.Names.{is_name}
+use Rattle.check_report.specs.declared.report.Format.TheVariants as format
+use Rattle.check_report.specs.Points.{Point}
+use Rattle.check_report.specs.Reports.{Case, point_of, report_text, verdicts_of}
+use Rattle.check_report.specs.Verdicts.{counts_of}
+use Rattle.check_report.specs.Words.{counts_text, verdict_text}
+use Rattle.check_report.specs.Junit.{junit_text}
+use Rattle.check_report.specs.Tap.{plan_line, point_line, tap_text, version_line}
+use Rattle.check_report.specs.Xml.{stays_in_xml, xml_text}
+
+-- a point of a field: its number fits, and its session has a name
+pub record IsPoint (p : Point) : Type 0 where
+  pub id : p.id < 2 ^ 32
+  pub session : is_name p.session ≡ true
+
+abbrev pub ArePoints : List Point → Type 0
+ArePoints [] = Unit {0}
+ArePoints (p ∷ points) = IsPoint p × ArePoints points
+
+-- a line that a parser of TAP takes for no comment: it doesn't begin with '#'
+abbrev pub is_no_comment : List ℕ → Bool
+is_no_comment line = not (slice_index line 0 == 35)
+
+-- the lines of points, of which the first has this number
+abbrev pub point_lines : ℕ → List Point → List (List ℕ)
+point_lines number [] = []
+point_lines number (p ∷ points) = point_line number p.id p.session p.verdict ∷ point_lines (number + 1) points
+
+-- A report as TAP and one in JUnit's XML are those of its points, and one in words has the texts of its cases and then the counts.
+abbrev pub ReportsAreTheirTexts : Type 0
+ReportsAreTheirTexts = (cases : List Case)
+    → (report_text format.Tap cases ≡ tap_text (map point_of cases))
+    × (report_text format.Junit cases ≡ junit_text (map point_of cases))
+    × (report_text format.Text cases ≡ flat_map (λ c. verdict_text c.field c.came c.verdict) cases ++ counts_text (counts_of (verdicts_of cases)))
+
+-- Without its comments a report as TAP has these lines, one by one: the version, a point for each field, numbered from 1, and the
+-- plan. So what an interpreter wrote is in comments alone.
+abbrev pub TapIsItsPoints : Type 0
+TapIsItsPoints = (points : List Point) → ArePoints points → length points < 2 ^ 32
+    → filter is_no_comment (lines_of (tap_text points)) ≡ version_line ∷ (point_lines 1 points ++ plan_line (length points) ∷ [])
+
+-- '<', '>', '"', and each control character but a tab and a line feed
+abbrev pub is_xml_mark : ℕ → Bool
+is_xml_mark byte = byte == 60 || byte == 62 || byte == 34 || not (stays_in_xml byte)
+
+-- what stands behind the '&' of a reference
+abbrev pub xml_reference_names : List (List ℕ)
+xml_reference_names = codes "amp;" ∷ codes "lt;" ∷ codes "gt;" ∷ codes "quot;" ∷ []
+
+-- whether one of these stands here
+abbrev pub has_xml_reference : List ℕ → Bool
+has_xml_reference bytes = list_any (λ name. starts_with nat_eq bytes name) xml_reference_names
+
+-- whether each '&' begins a reference
+abbrev pub has_xml_references_alone : List ℕ → Bool
+has_xml_references_alone [] = true
+has_xml_references_alone (byte ∷ rest) = (not (byte == 38) || has_xml_reference rest) && has_xml_references_alone rest
+
+-- no text in XML has a mark, and each '&' in it begins a reference
+abbrev pub XmlHasNoMarks : Type 0
+XmlHasNoMarks = (bytes : List ℕ) → (list_all (λ byte. not (is_xml_mark byte)) (xml_text bytes) ≡ true) × (has_xml_references_alone (xml_text bytes) ≡ true)
+
+-- whether a tag is open behind a byte
+abbrev pub tag_behind : Bool → ℕ → Bool
+tag_behind inside byte = cond inside (not (byte == 62)) (byte == 60)
+
+-- the tags of a text, from each '<' to the '>' behind it, by whether one is open
+abbrev pub tags : Bool → List ℕ → List ℕ
+tags inside [] = []
+tags inside (byte ∷ rest) = cond (inside || byte == 60) (byte ∷ tags (tag_behind inside byte) rest) (tags (tag_behind inside byte) rest)
+
+-- a point of which nothing is told
+abbrev pub untold : Point → Point
+untold p = record p { told = [] }
+
+-- The tags of a report in JUnit's XML are those of one in which nothing is told: what an interpreter wrote is no element, no
+-- attribute, and no part of one.
+abbrev pub TextsAreNoTags : Type 0
+TextsAreNoTags = (points : List Point) → tags false (junit_text points) ≡ tags false (junit_text (map untold points))

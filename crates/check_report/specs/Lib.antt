@@ -1,0 +1,11 @@
+pub mod Verdicts
+pub mod Chosen
+pub mod IdLists
+pub mod Requests
+pub mod Words
+pub mod Points
+pub mod Tap
+pub mod Xml
+pub mod Junit
+pub mod Reports
+pub mod Laws

@@ -1,0 +1,78 @@
+-- A report, in each of its formats.
+use Rattle.std.specs.Prelude.{ℕ, ◌+◌, Bool, true, false, List, [], ◌∷◌, ◌++◌, Option, map}
+use Rattle.std.specs.Io.KnownBytes.{Appends}
+use Rattle.worksheet.specs.declared.field.Answer.{Answer}
+use Rattle.worksheet.specs.declared.field.Field.{Field}
+use Rattle.check_report.specs.declared.report.Format.{Format}
+use Rattle.check_report.specs.declared.report.Format.TheVariants as format
+use Rattle.check_report.specs.declared.report.ReportFault.{ReportFault}
+use Rattle.check_report.specs.declared.report.ReportFault.TheVariants as fault
+use Rattle.check_report.specs.declared.verdict.Counts.{Counts}
+use Rattle.check_report.specs.declared.verdict.Verdict.{Verdict}
+use Rattle.check_report.specs.declared.verdict.Verdict.TheVariants as verdict
+use Rattle.check_report.specs.Verdicts.{counts_of, total}
+use Rattle.check_report.specs.Points.{Point, point}
+use Rattle.check_report.specs.Words.{counts_text, verdict_text}
+use Rattle.check_report.specs.Tap.{plan_line, tap_point, version_line}
+use Rattle.check_report.specs.Junit.{head, junit_case, tail}
+
+-- A field that was evaluated anew: the answer that came, or none, and what that came to.
+pub record Case : Type 0 where
+  pub field : Field
+  pub came : Option Answer
+  pub verdict : Verdict
+
+abbrev pub case : Field → Option Answer → Verdict → Case
+case field came verdict = record { field = field; came = came; verdict = verdict }
+
+-- what is said of it in a format that programs read
+abbrev pub point_of : Case → Point
+point_of c = point c.field.id c.field.session c.verdict (verdict_text c.field c.came c.verdict)
+
+abbrev pub verdicts_of : List Case → List Verdict
+verdicts_of cases = map (λ c. c.verdict) cases
+
+-- what stands first
+abbrev pub opening_text : Format → List ℕ
+opening_text format.Text = []
+opening_text format.Tap = version_line
+opening_text format.Junit = head
+
+-- what is written of a case, of which this is the number
+abbrev pub case_text : Format → ℕ → Case → List ℕ
+case_text format.Text number c = verdict_text c.field c.came c.verdict
+case_text format.Tap number c = tap_point number (point_of c)
+case_text format.Junit number c = junit_case (point_of c)
+
+-- the same of cases, one behind another, of which the first has this number
+abbrev pub cases_text : Format → ℕ → List Case → List ℕ
+cases_text F number [] = []
+cases_text F number (c ∷ cases) = case_text F number c ++ cases_text F (number + 1) cases
+
+-- what stands last
+abbrev pub closing_text : Format → Counts → List ℕ
+closing_text format.Text counts = counts_text counts
+closing_text format.Tap counts = plan_line (total counts)
+closing_text format.Junit counts = tail
+
+-- a report up to here
+abbrev pub report_front : Format → List Case → List ℕ
+report_front F cases = opening_text F ++ cases_text F 1 cases
+
+-- a whole report
+abbrev pub report_text : Format → List Case → List ℕ
+report_text F cases = report_front F cases ++ closing_text F (counts_of (verdicts_of cases))
+
+-- In words a field is written where an output differs or didn't come, and in the formats that programs read always.
+abbrev pub is_written : Format → Verdict → Bool
+is_written format.Text verdict.Same = false
+is_written format.Text verdict.Differs = true
+is_written format.Text verdict.Unanswered = true
+is_written format.Text verdict.LeftOut = false
+is_written format.Tap verdict = true
+is_written format.Junit verdict = true
+
+-- What a fault leaves of the output: where there was no memory nothing was written, and else the writer failed.
+abbrev pub Unreported : Option (List ℕ) → Option (List ℕ) → ReportFault → Type 0
+Unreported a b fault.OutOfMemory = Appends a b []
+Unreported a b fault.Output = Unit {0}

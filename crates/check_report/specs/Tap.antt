@@ -1,0 +1,64 @@
+-- A report as TAP, version 13: the Test Anything Protocol.
+use Rattle.std.specs.Prelude.{ℕ, ◌+◌, ◌==◌, Bool, true, List, [], ◌∷◌, ◌++◌, codes, cond, length}
+use Rattle.std.specs.Fmt.{decimal}
+use Rattle.check_report.specs.declared.verdict.Verdict.{Verdict}
+use Rattle.check_report.specs.declared.verdict.Verdict.TheVariants as verdict
+use Rattle.check_report.specs.Points.{Point}
+
+abbrev pub version_line : List ℕ
+version_line = codes "TAP version 13\n"
+
+-- whether the point is passed
+abbrev pub result_words : Verdict → List ℕ
+result_words verdict.Same = codes "ok "
+result_words verdict.Differs = codes "not ok "
+result_words verdict.Unanswered = codes "not ok "
+result_words verdict.LeftOut = codes "ok "
+
+-- the number of a field and its session
+abbrev pub description : ℕ → List ℕ → List ℕ
+description id session = codes " - field " ++ decimal id ++ codes " of " ++ session
+
+-- what a parser is told to do with the point, where that is anything, and the end of the line
+abbrev pub directive : Verdict → List ℕ
+directive verdict.Same = 10 ∷ []
+directive verdict.Differs = 10 ∷ []
+directive verdict.Unanswered = 10 ∷ []
+directive verdict.LeftOut = codes " # SKIP left out\n"
+
+-- the line of the point with this number, of a field and its session
+abbrev pub point_line : ℕ → ℕ → List ℕ → Verdict → List ℕ
+point_line number id session v = result_words v ++ decimal number ++ description id session ++ directive v
+
+-- a byte of comments: `# ` stands in front of the first one of each line
+abbrev pub comment_byte : Bool → ℕ → List ℕ
+comment_byte begins byte = cond begins (35 ∷ 32 ∷ byte ∷ []) (byte ∷ [])
+
+-- a line that isn't ended is ended
+abbrev pub comments_end : Bool → List ℕ
+comments_end begins = cond begins [] (10 ∷ [])
+
+-- the comments of what is left of a text, by whether a line begins there
+unfoldable pub comments_behind : Bool → List ℕ → List ℕ
+comments_behind begins [] = comments_end begins
+comments_behind begins (byte ∷ rest) = comment_byte begins byte ++ comments_behind (byte == 10) rest
+
+-- each line of a text as a comment
+abbrev pub comments : List ℕ → List ℕ
+comments text = comments_behind true text
+
+-- a point, and what is told of it
+abbrev pub tap_point : ℕ → Point → List ℕ
+tap_point number p = point_line number p.id p.session p.verdict ++ comments p.told
+
+-- points, of which the first has this number
+abbrev pub tap_points : ℕ → List Point → List ℕ
+tap_points number [] = []
+tap_points number (p ∷ points) = tap_point number p ++ tap_points (number + 1) points
+
+abbrev pub plan_line : ℕ → List ℕ
+plan_line count = codes "1.." ++ decimal count ++ 10 ∷ []
+
+-- A whole report. The plan stands last, so one that was cut has none.
+abbrev pub tap_text : List Point → List ℕ
+tap_text points = version_line ++ tap_points 1 points ++ plan_line (length points)

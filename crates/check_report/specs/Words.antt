@@ -1,0 +1,43 @@
+-- A report in words. (docs/CHECK.md has the same in words.)
+use Rattle.std.specs.Prelude.{ℕ, List, [], ◌∷◌, ◌++◌, Option, None, codes, nat_eq, if◌then◌else◌}
+use Rattle.std.specs.Fmt.{decimal}
+use Rattle.std.specs.List.{flat_map}
+use Rattle.bstr.specs.Text.{lines_of}
+use Rattle.worksheet.specs.declared.field.Answer.{Answer}
+use Rattle.worksheet.specs.declared.field.Field.{Field}
+use Rattle.sheet_text.specs.Texts.{input_line, number_line, output_lines}
+use Rattle.check_report.specs.declared.verdict.Counts.{Counts}
+use Rattle.check_report.specs.declared.verdict.Verdict.{Verdict}
+use Rattle.check_report.specs.declared.verdict.Verdict.TheVariants as verdict
+
+-- each line of a text with a mark in front
+abbrev pub marked : List ℕ → List ℕ → List ℕ
+marked mark text = flat_map (λ line. mark ++ line) (lines_of text)
+
+-- the lines of a field, and those of two outputs with their marks
+abbrev pub difference_of : Field → List ℕ → List ℕ → List ℕ
+difference_of field shown came = number_line field ++ (input_line field ++ (marked (codes "- ") shown ++ marked (codes "+ ") came))
+
+-- A field, and how the answer that came differs from the one that it shows: its lines as `print` has them, but those of the output
+-- with `- ` in front, and behind them those of the output that came with `+ `, or `+ ?` where none came.
+abbrev pub difference_text : Field → Option Answer → List ℕ
+difference_text field came = difference_of field (output_lines field.answer None) (output_lines came None)
+
+-- what is written of a field that came to this
+abbrev pub verdict_text : Field → Option Answer → Verdict → List ℕ
+verdict_text field came verdict.Same = []
+verdict_text field came verdict.Differs = difference_text field came
+verdict_text field came verdict.Unanswered = difference_text field came
+verdict_text field came verdict.LeftOut = []
+
+-- how many were left out, where some were
+abbrev pub left_out_part : ℕ → List ℕ
+left_out_part n = if nat_eq n 0 then [] else codes " left out " ++ decimal n
+
+-- how many were compared, by what they came to
+abbrev pub compared_part : Counts → List ℕ
+compared_part counts = codes "same " ++ decimal counts.same ++ codes " differ " ++ decimal counts.differ ++ codes " unanswered " ++ decimal counts.unanswered
+
+-- the last line
+abbrev pub counts_text : Counts → List ℕ
+counts_text counts = compared_part counts ++ left_out_part counts.left_out ++ 10 ∷ []

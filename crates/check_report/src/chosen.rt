@@ -1,0 +1,95 @@
+//! Which fields are checked, and which of those are compared.
+ghost use Rattle.std.specs.Prelude.{◌≡◌, [], None, IfSome};
+ghost use Rattle.std.specs.List.{list_any};
+ghost use Rattle.std.specs.Option.{option_copied};
+ghost use Rattle.check_report.specs.Chosen as choice;
+
+use crate::verdict::{Verdict, compare};
+use block_tree::Sequence;
+use std::alloc::Global;
+use worksheet::{Answer, Field, Name};
+
+/// The fields from one number to another, with both.
+#[derive(Clone, Copy, Debug, PartialEq, Eq)]
+pub struct Ids {
+    pub first: u32,
+    pub last: u32,
+}
+
+impl Ids {
+    /// Whether a number is one of these.
+    fn has(self, id: u32) -> bool
+        ensures { result ≡ choice.has_id id self }
+    {
+        self.first <= id && id <= self.last
+    }
+}
+
+/// Whether a number is one of these.
+fn have(left_out: &[Ids], id: u32) -> bool
+    ensures { result ≡ list_any (choice.has_id id) left_out.now }
+{
+    left_out.iter().any(|ids| ids.has(id))
+}
+
+/// Which fields are checked: those that show an answer, of one session or of all.
+#[derive(Debug, Drop)]
+pub struct Chosen {
+    /// The session whose fields are checked. None: all of them are.
+    pub only: Option<Name>,
+    /// Fields that are evaluated, and whose outputs aren't compared.
+    pub left_out: Sequence<Ids>,
+}
+
+impl Chosen {
+    /// All fields.
+    pub fn all(alloc: Global) -> Chosen
+        ensures only { result.only ≡ None }
+        ensures left_out { result.left_out ≡ [] }
+    {
+        Chosen {
+            only: Option::None,
+            left_out: Sequence::new(alloc),
+        }
+    }
+
+    /// Whether a session is one of those that are checked.
+    fn is_of(&self, session: &Name) -> bool
+        ensures { result ≡ choice.is_session_asked self.now.only session.now }
+    {
+        match &self.only {
+            None => true,
+            Some(name) => name == session,
+        }
+    }
+
+    /// The answer that a field shows, where it is of a session that is checked.
+    pub fn shown<'a>(&self, field: &'a Field) -> Option<&'a Answer>
+        ensures { option_copied result ≡ choice.shown_by self.now field.now }
+    {
+        if self.is_of(&field.session) {
+            field.answer.as_ref()
+        } else {
+            Option::None
+        }
+    }
+
+    /// Whether a field isn't compared.
+    fn leaves_out(&self, id: u32) -> bool
+        ensures { result ≡ choice.is_left_out self.now id }
+    {
+        have(self.left_out.as_slice(), id)
+    }
+
+    /// What an evaluation anew of the field with this number comes to, by the answer that it shows and the
+    /// one that came.
+    pub fn judge(&self, id: u32, shown: &Answer, came: &Option<Answer>) -> Verdict
+        ensures { choice.Judged self.now id shown.now.output came.now result }
+    {
+        if self.leaves_out(id) {
+            Verdict::LeftOut
+        } else {
+            compare(shown, came)
+        }
+    }
+}

@@ -1,0 +1,158 @@
+//! Numbers of fields in a word of a command line: `3,7-9`.
+ghost use Rattle.std.specs.Prelude.{◌≡◌, ◌≤◌, ◌<◌, IfOk, IfSome, length, true};
+ghost use Rattle.std.specs.List.{before_first, list_all, position};
+ghost use Rattle.std.specs.Option.{option_copied};
+ghost use Rattle.std.specs.Str.Parse.{digits_value};
+ghost use Rattle.sheet_text.specs.Script as said;
+ghost use Rattle.check_report.specs.IdLists as lists;
+
+use crate::chosen::Ids;
+use block_tree::{OutOfMemory, Sequence};
+use sheet_text::numbers::{GREATEST_NUMBER, MOST_DIGITS};
+use std::alloc::Global;
+
+fn are_digits(bytes: &[u8]) -> bool
+    ensures { result ≡ list_all said.is_digit bytes.now }
+{
+    bytes.iter().all(|byte| *byte >= b'0' && *byte <= b'9')
+}
+
+fn starts_with_zero(bytes: &[u8]) -> bool
+    ensures { result ≡ said.starts_with_zero bytes.now }
+{
+    bytes.first() == Some(&b'0')
+}
+
+/// Whether these bytes are `0`, or 1 to 10 digits without a leading zero.
+fn is_numeral(bytes: &[u8]) -> bool
+    ensures { result ≡ said.is_numeral bytes.now }
+{
+    !bytes.is_empty()
+        && bytes.len() <= MOST_DIGITS
+        && are_digits(bytes)
+        && (!starts_with_zero(bytes) || bytes.len() == 1)
+}
+
+/// The number that at most ten digits write.
+#[tactic(auto, using(crate::proofs::Numerals::numeral_steps))]
+fn value_of(bytes: &[u8]) -> u64
+    requires digits { list_all said.is_digit bytes.now ≡ true }
+    requires few { length bytes.now ≤ 10 }
+    ensures { result ≡ digits_value 10 bytes.now }
+{
+    let mut value: u64 = 0;
+    for byte in bytes {
+        value = value * 10 + u64::from(*byte - b'0');
+    }
+    value
+}
+
+/// The number that all of these bytes write.
+fn read_number(bytes: &[u8]) -> Option<u32>
+    ensures { result ≡ said.number_written bytes.now }
+{
+    if !is_numeral(bytes) {
+        return None;
+    }
+    let value = value_of(bytes);
+    if value > GREATEST_NUMBER {
+        return None;
+    }
+    Some(value as u32)
+}
+
+/// Where the next comma stands.
+fn comma_in(bytes: &[u8]) -> Option<usize>
+    ensures at { result ≡ position lists.is_comma bytes.now }
+    ensures within { IfSome result (λ at. at < length bytes.now) }
+{
+    bytes.iter().position(|byte| *byte == b',')
+}
+
+/// Where the next dash stands.
+fn dash_in(bytes: &[u8]) -> Option<usize>
+    ensures at { result ≡ position lists.is_dash bytes.now }
+    ensures within { IfSome result (λ at. at < length bytes.now) }
+{
+    bytes.iter().position(|byte| *byte == b'-')
+}
+
+/// The bytes up to the next comma, and those behind it.
+fn split_comma(bytes: &[u8]) -> (&[u8], Option<&[u8]>)
+    ensures before { result.0.now ≡ before_first lists.is_comma bytes.now }
+    ensures behind { option_copied result.1 ≡ lists.behind_first lists.is_comma bytes.now }
+{
+    match comma_in(bytes) {
+        None => (bytes, None),
+        Some(at) => (&bytes[..at], Some(&bytes[at + 1..])),
+    }
+}
+
+/// The bytes up to the next dash, and those behind it.
+fn split_dash(bytes: &[u8]) -> (&[u8], Option<&[u8]>)
+    ensures before { result.0.now ≡ before_first lists.is_dash bytes.now }
+    ensures behind { option_copied result.1 ≡ lists.behind_first lists.is_dash bytes.now }
+{
+    match dash_in(bytes) {
+        None => (bytes, None),
+        Some(at) => (&bytes[..at], Some(&bytes[at + 1..])),
+    }
+}
+
+/// One number.
+fn read_one(bytes: &[u8]) -> Option<Ids>
+    ensures { result ≡ lists.part_behind bytes.now None }
+{
+    match read_number(bytes) {
+        None => None,
+        Some(id) => Some(Ids {
+            first: id,
+            last: id,
+        }),
+    }
+}
+
+/// From one number to another that is no smaller.
+fn read_range(first: &[u8], last: &[u8]) -> Option<Ids>
+    ensures { result ≡ lists.range_of (said.number_written first.now) (said.number_written last.now) }
+{
+    let first = read_number(first)?;
+    let last = read_number(last)?;
+    if first <= last {
+        Some(Ids { first, last })
+    } else {
+        None
+    }
+}
+
+/// One number, or two with a dash between them.
+fn read_part(part: &[u8]) -> Option<Ids>
+    ensures { result ≡ lists.part_of part.now }
+{
+    let (front, behind) = split_dash(part);
+    match behind {
+        None => read_one(front),
+        Some(rest) => read_range(front, rest),
+    }
+}
+
+/// The numbers that a text names: parts with a comma between each two, of which each is one number, or
+/// two with a dash between them. None where it has another form.
+#[tactic(auto, using(crate::proofs::Parts::part_steps))]
+pub fn read_ids(alloc: Global, text: &[u8]) -> Result<Option<Sequence<Ids>>, OutOfMemory>
+    ensures { IfOk result (λ ids. ids ≡ lists.ids_named text.now) }
+{
+    let mut all = Vec::new(alloc);
+    let mut rest = text;
+    loop {
+        let (part, behind) = split_comma(rest);
+        let Some(ids) = read_part(part) else {
+            return Ok(None);
+        };
+        all.push(ids)?;
+        match behind {
+            None => return Ok(Some(Sequence::from_vec(all))),
+            Some(others) => rest = others,
+        }
+    }
+}

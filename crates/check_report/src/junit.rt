@@ -1,0 +1,89 @@
+//! A report in JUnit's XML.
+ghost use Rattle.std.specs.Prelude.{◌≡◌, OnOk};
+ghost use Rattle.std.specs.Io.KnownBytes.{Appends};
+ghost use Rattle.check_report.specs.Points.{point};
+ghost use Rattle.check_report.specs.Junit as junit;
+
+use crate::verdict::Verdict;
+use crate::writing::{write_bytes, write_id};
+use crate::xml::write_text;
+use sheet_text::WriteFault;
+use std::io::Write;
+
+/// Writes what stands in front of the first case.
+pub(crate) fn write_head<W: Write>(out: &mut W) -> Result<(), WriteFault>
+    ensures { OnOk result (Appends (W.contents out.old) (W.contents out.new) junit.head) }
+{
+    write_bytes(
+        b"<?xml version=\"1.0\" encoding=\"UTF-8\"?>\n\
+        <testsuites>\n\
+        <testsuite name=\"tmhost check\">\n",
+        out,
+    )
+}
+
+/// Writes what stands behind the last case.
+pub(crate) fn write_tail<W: Write>(out: &mut W) -> Result<(), WriteFault>
+    ensures { OnOk result (Appends (W.contents out.old) (W.contents out.new) junit.tail) }
+{
+    write_bytes(b"</testsuite>\n</testsuites>\n", out)
+}
+
+/// Writes what begins a case: the name of its session, and the number of its field.
+#[tactic(auto, using(crate::proofs::Written::steps))]
+fn write_start<W: Write>(id: u32, session: &[u8], out: &mut W) -> Result<(), WriteFault>
+    ensures { OnOk result (Appends (W.contents out.old) (W.contents out.new)
+        (junit.case_start id session.now)) }
+{
+    write_bytes(b"<testcase classname=\"", out)?;
+    write_text(session, out)?;
+    write_bytes(b"\" name=\"field ", out)?;
+    write_id(id, out)?;
+    write_bytes(b"\">", out)?;
+    Ok(())
+}
+
+/// Writes what stands in front of what is told of a case.
+fn write_result_start<W: Write>(verdict: Verdict, out: &mut W) -> Result<(), WriteFault>
+    ensures { OnOk result (Appends (W.contents out.old) (W.contents out.new)
+        (junit.result_start verdict)) }
+{
+    match verdict {
+        Verdict::Same => Ok(()),
+        Verdict::Differs => write_bytes(b"<failure message=\"differs\">", out),
+        Verdict::Unanswered => write_bytes(b"<error message=\"unanswered\">", out),
+        Verdict::LeftOut => write_bytes(b"<skipped message=\"left out\">", out),
+    }
+}
+
+/// Writes what stands behind it.
+fn write_result_end<W: Write>(verdict: Verdict, out: &mut W) -> Result<(), WriteFault>
+    ensures { OnOk result (Appends (W.contents out.old) (W.contents out.new)
+        (junit.result_end verdict)) }
+{
+    match verdict {
+        Verdict::Same => write_bytes(b"</testcase>\n", out),
+        Verdict::Differs => write_bytes(b"</failure></testcase>\n", out),
+        Verdict::Unanswered => write_bytes(b"</error></testcase>\n", out),
+        Verdict::LeftOut => write_bytes(b"</skipped></testcase>\n", out),
+    }
+}
+
+/// Writes a case.
+#[tactic(auto, using(crate::proofs::Written::steps))]
+pub(crate) fn write_case<W: Write>(
+    id: u32,
+    session: &[u8],
+    verdict: Verdict,
+    told: &[u8],
+    out: &mut W,
+) -> Result<(), WriteFault>
+    ensures { OnOk result (Appends (W.contents out.old) (W.contents out.new)
+        (junit.junit_case (point id session.now verdict told.now))) }
+{
+    write_start(id, session, out)?;
+    write_result_start(verdict, out)?;
+    write_text(told, out)?;
+    write_result_end(verdict, out)?;
+    Ok(())
+}

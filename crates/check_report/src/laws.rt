@@ -1,0 +1,24 @@
+//! Laws of the definitions that the contracts cite. Each function does nothing: its contract is the
+//! law.
+ghost use Rattle.check_report.specs.Laws.{ReportsAreTheirTexts, TapIsItsPoints, TextsAreNoTags, XmlHasNoMarks};
+
+/// Reports as TAP and in JUnit's XML are those of their points, so the laws below are about them.
+pub fn reports_are_their_texts()
+    ensures { ReportsAreTheirTexts }
+{}
+
+/// The lines of a report as TAP are the version, a point for each field, numbered from 1, the plan, and
+/// comments.
+pub fn tap_is_its_points()
+    ensures { TapIsItsPoints }
+{}
+
+/// No text in XML has `<`, `>` or `"`, and each `&` in it begins a reference.
+pub fn xml_has_no_marks()
+    ensures { XmlHasNoMarks }
+{}
+
+/// The tags of a report in JUnit's XML are those of one in which nothing is told.
+pub fn texts_are_no_tags()
+    ensures { TextsAreNoTags }
+{}

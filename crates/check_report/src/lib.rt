@@ -1,0 +1,20 @@
+//! What a check of a worksheet asks for, and how it reports what came: in words, as TAP, or in JUnit's XML.
+#![tactic(auto)]
+
+mod chosen;
+mod ids;
+mod junit;
+pub mod laws;
+mod report;
+mod request;
+mod tap;
+mod verdict;
+mod words;
+mod writing;
+mod xml;
+
+pub use chosen::{Chosen, Ids};
+pub use ids::read_ids;
+pub use report::{Format, ReportFault, close_report, is_written, open_report, report_case};
+pub use request::{Request, RequestFault, read_request};
+pub use verdict::{Counts, Verdict};

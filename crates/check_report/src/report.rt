@@ -1,0 +1,242 @@
+//! A report, in each of its formats.
+ghost use Rattle.std.specs.Prelude.{◌≡◌, IfErr, OnOk};
+ghost use Rattle.std.specs.Io.KnownBytes.{Appends};
+ghost use Rattle.check_report.specs.Points.{point};
+ghost use Rattle.check_report.specs.Reports.{Unreported, case as case_of, case_text, closing_text, is_written as is_written_in, opening_text};
+ghost use Rattle.check_report.specs.Words as printed;
+ghost use Rattle.check_report.specs.Tap as taps;
+ghost use Rattle.check_report.specs.Junit as junits;
+
+use crate::junit::{write_case, write_head, write_tail};
+use crate::tap::{write_plan, write_point, write_version};
+use crate::verdict::{Counts, Verdict};
+use crate::words::{outputs_in_memory, verdict_in_memory, write_counts, write_difference};
+use sheet_text::WriteFault;
+use std::alloc::Global;
+use std::io::Write;
+use worksheet::{Answer, Field};
+
+/// How a report is written.
+#[derive(Clone, Copy, Debug, PartialEq, Eq)]
+pub enum Format {
+    /// In words, which people read: what differs, and the counts.
+    Text,
+    /// As TAP, version 13: a test point for each field.
+    Tap,
+    /// In JUnit's XML: a test case for each field.
+    Junit,
+}
+
+/// Why a part of a report wasn't written.
+#[derive(Clone, Copy, Debug, PartialEq, Eq)]
+pub enum ReportFault {
+    /// There was no memory for it, and nothing was written.
+    OutOfMemory,
+    /// The writer failed, and a part may have gone out.
+    Output,
+}
+
+/// Writes what stands first in a report, and brings it out.
+pub fn open_report<W: Write>(format: Format, writer: &mut W) -> Result<(), WriteFault>
+    ensures { OnOk result (Appends (W.contents writer.old) (W.contents writer.new)
+        (opening_text format)) }
+{
+    match format {
+        Format::Text => return Ok(()),
+        Format::Tap => write_version(writer)?,
+        Format::Junit => write_head(writer)?,
+    }
+    writer.flush().map_err(|_| WriteFault)
+}
+
+/// Writes what stands last in a report.
+fn write_closing<W: Write>(format: Format, counts: Counts, writer: &mut W) -> Result<(), WriteFault>
+    ensures { OnOk result (Appends (W.contents writer.old) (W.contents writer.new)
+        (closing_text format counts)) }
+{
+    match format {
+        Format::Text => write_counts(counts, writer),
+        Format::Tap => write_plan(counts.total(), writer),
+        Format::Junit => write_tail(writer),
+    }
+}
+
+/// Writes what stands last in a report, and brings it out.
+pub fn close_report<W: Write>(
+    format: Format,
+    counts: Counts,
+    writer: &mut W,
+) -> Result<(), WriteFault>
+    ensures { OnOk result (Appends (W.contents writer.old) (W.contents writer.new)
+        (closing_text format counts)) }
+{
+    write_closing(format, counts, writer)?;
+    writer.flush().map_err(|_| WriteFault)?;
+    Ok(())
+}
+
+/// Whether anything is written of a field that came to this.
+pub fn is_written(format: Format, verdict: Verdict) -> bool
+    ensures { result ≡ is_written_in format verdict }
+{
+    match format {
+        Format::Text => matches!(verdict, Verdict::Differs | Verdict::Unanswered),
+        Format::Tap | Format::Junit => true,
+    }
+}
+
+/// Writes a difference in words, and brings it out.
+fn write_words<W: Write>(
+    field: &Field,
+    shown: &[u8],
+    came: &[u8],
+    writer: &mut W,
+) -> Result<(), WriteFault>
+    ensures { OnOk result (Appends (W.contents writer.old) (W.contents writer.new)
+        (printed.difference_of field.now shown.now came.now)) }
+{
+    write_difference(field, shown, came, writer)?;
+    writer.flush().map_err(|_| WriteFault)?;
+    Ok(())
+}
+
+/// Tells in words how an answer differs from that of its field, or that none came.
+fn report_difference<W: Write>(
+    alloc: Global,
+    field: &Field,
+    came: &Option<Answer>,
+    writer: &mut W,
+) -> Result<(), ReportFault>
+    ensures ok { OnOk result (Appends (W.contents writer.old) (W.contents writer.new)
+        (printed.difference_text field.now came.now)) }
+    ensures err { IfErr result (Unreported (W.contents writer.old) (W.contents writer.new)) }
+{
+    let Some(both) = outputs_in_memory(alloc, field, came) else {
+        return Err(ReportFault::OutOfMemory);
+    };
+    match write_words(field, both.shown.as_slice(), both.came.as_slice(), writer) {
+        Ok(()) => Ok(()),
+        Err(_) => Err(ReportFault::Output),
+    }
+}
+
+/// Tells a field in words.
+fn report_words<W: Write>(
+    alloc: Global,
+    field: &Field,
+    came: &Option<Answer>,
+    verdict: Verdict,
+    writer: &mut W,
+) -> Result<(), ReportFault>
+    ensures ok { OnOk result (Appends (W.contents writer.old) (W.contents writer.new)
+        (printed.verdict_text field.now came.now verdict)) }
+    ensures err { IfErr result (Unreported (W.contents writer.old) (W.contents writer.new)) }
+{
+    match verdict {
+        Verdict::Same | Verdict::LeftOut => Ok(()),
+        Verdict::Differs | Verdict::Unanswered => report_difference(alloc, field, came, writer),
+    }
+}
+
+/// Writes a field as a test point of TAP, and brings it out.
+fn write_as_point<W: Write>(
+    number: u64,
+    field: &Field,
+    verdict: Verdict,
+    told: &[u8],
+    writer: &mut W,
+) -> Result<(), WriteFault>
+    ensures { OnOk result (Appends (W.contents writer.old) (W.contents writer.new)
+        (taps.tap_point number (point field.now.id field.now.session verdict told.now))) }
+{
+    write_point(
+        number,
+        field.id,
+        field.session.as_slice(),
+        verdict,
+        told,
+        writer,
+    )?;
+    writer.flush().map_err(|_| WriteFault)?;
+    Ok(())
+}
+
+/// Writes a field as a case in JUnit's XML, and brings it out.
+fn write_as_case<W: Write>(
+    field: &Field,
+    verdict: Verdict,
+    told: &[u8],
+    writer: &mut W,
+) -> Result<(), WriteFault>
+    ensures { OnOk result (Appends (W.contents writer.old) (W.contents writer.new)
+        (junits.junit_case (point field.now.id field.now.session verdict told.now))) }
+{
+    write_case(field.id, field.session.as_slice(), verdict, told, writer)?;
+    writer.flush().map_err(|_| WriteFault)?;
+    Ok(())
+}
+
+/// Tells a field as a test point of TAP.
+fn report_point<W: Write>(
+    alloc: Global,
+    number: u64,
+    field: &Field,
+    came: &Option<Answer>,
+    verdict: Verdict,
+    writer: &mut W,
+) -> Result<(), ReportFault>
+    ensures ok { OnOk result (Appends (W.contents writer.old) (W.contents writer.new)
+        (case_text Format.Tap number (case_of field.now came.now verdict))) }
+    ensures err { IfErr result (Unreported (W.contents writer.old) (W.contents writer.new)) }
+{
+    let Some(told) = verdict_in_memory(alloc, field, came, verdict) else {
+        return Err(ReportFault::OutOfMemory);
+    };
+    match write_as_point(number, field, verdict, told.as_slice(), writer) {
+        Ok(()) => Ok(()),
+        Err(_) => Err(ReportFault::Output),
+    }
+}
+
+/// Tells a field as a case in JUnit's XML.
+fn report_junit<W: Write>(
+    alloc: Global,
+    field: &Field,
+    came: &Option<Answer>,
+    verdict: Verdict,
+    writer: &mut W,
+) -> Result<(), ReportFault>
+    ensures ok { OnOk result (Appends (W.contents writer.old) (W.contents writer.new)
+        (junits.junit_case (point field.now.id field.now.session verdict
+        (printed.verdict_text field.now came.now verdict)))) }
+    ensures err { IfErr result (Unreported (W.contents writer.old) (W.contents writer.new)) }
+{
+    let Some(told) = verdict_in_memory(alloc, field, came, verdict) else {
+        return Err(ReportFault::OutOfMemory);
+    };
+    match write_as_case(field, verdict, told.as_slice(), writer) {
+        Ok(()) => Ok(()),
+        Err(_) => Err(ReportFault::Output),
+    }
+}
+
+/// Tells what a field came to, which is the case of this number, and brings it out.
+pub fn report_case<W: Write>(
+    alloc: Global,
+    format: Format,
+    number: u64,
+    field: &Field,
+    came: &Option<Answer>,
+    verdict: Verdict,
+    writer: &mut W,
+) -> Result<(), ReportFault>
+    ensures ok { OnOk result (Appends (W.contents writer.old) (W.contents writer.new)
+        (case_text format number (case_of field.now came.now verdict))) }
+    ensures err { IfErr result (Unreported (W.contents writer.old) (W.contents writer.new)) }
+{
+    match format {
+        Format::Text => report_words(alloc, field, came, verdict, writer),
+        Format::Tap => report_point(alloc, number, field, came, verdict, writer),
+        Format::Junit => report_junit(alloc, field, came, verdict, writer),
+    }
+}

@@ -1,0 +1,120 @@
+//! What a check is asked for.
+ghost use Rattle.std.specs.Prelude.{◌≡◌, IfErr, IfOk, None, Some, option_map};
+ghost use Rattle.check_report.specs.Requests as asked;
+
+use crate::chosen::{Chosen, Ids};
+use crate::ids::read_ids;
+use crate::report::Format;
+use block_tree::Sequence;
+use std::alloc::Global;
+use worksheet::Name;
+
+/// What a check is asked for: which fields, and how it reports them.
+#[derive(Debug, Drop)]
+pub struct Request {
+    pub chosen: Chosen,
+    pub format: Format,
+}
+
+/// Why words ask for no check.
+#[derive(Clone, Copy, Debug, PartialEq, Eq)]
+pub enum RequestFault {
+    /// There is no format of that name.
+    Format,
+    /// No session can have that name.
+    Session,
+    /// They aren't numbers of fields.
+    Ids,
+    /// There was no memory for them.
+    OutOfMemory,
+}
+
+/// The format of this name: `text`, `tap` or `junit`. None where there is none of it.
+fn format_named(name: &str) -> Option<Format>
+    ensures { result ≡ asked.report_named name.now }
+{
+    match name {
+        "text" => Some(Format::Text),
+        "tap" => Some(Format::Tap),
+        "junit" => Some(Format::Junit),
+        _ => None,
+    }
+}
+
+/// The format that is asked for.
+fn read_format(name: Option<&str>) -> Result<Format, RequestFault>
+    ensures ok { IfOk result (λ format.
+        asked.format_asked (option_map (λ text. text.now) name.entry) ≡ Some format) }
+    ensures err { IfErr result (λ why. (why ≡ RequestFault.Format)
+        × (asked.format_asked (option_map (λ text. text.now) name.entry) ≡ None)) }
+{
+    match name {
+        None => Ok(Format::Text),
+        Some(name) => match format_named(name) {
+            Some(format) => Ok(format),
+            None => Err(RequestFault::Format),
+        },
+    }
+}
+
+/// The session that is asked for.
+fn read_session(name: Option<&str>) -> Result<Option<Name>, RequestFault>
+    ensures ok { IfOk result (λ session.
+        asked.session_asked (option_map (λ text. text.now) name.entry) ≡ Some session) }
+    ensures err { IfErr result (λ why. (why ≡ RequestFault.Session)
+        × (asked.session_asked (option_map (λ text. text.now) name.entry) ≡ None)) }
+{
+    match name {
+        None => Ok(None),
+        Some(name) => match Name::new(name.as_bytes()) {
+            Some(name) => Ok(Some(name)),
+            None => Err(RequestFault::Session),
+        },
+    }
+}
+
+/// The numbers of the fields that are left out.
+fn read_left_out(alloc: Global, text: Option<&str>) -> Result<Sequence<Ids>, RequestFault>
+    ensures ok { IfOk result (λ ids.
+        asked.ids_asked (option_map (λ text. text.now) text.entry) ≡ Some ids) }
+    ensures err { IfErr result (asked.AsksFor None None (option_map (λ text. text.now) text.entry)) }
+{
+    let Some(text) = text else {
+        return Ok(Sequence::new(alloc));
+    };
+    match read_ids(alloc, text.as_bytes()) {
+        Ok(Some(ids)) => Ok(ids),
+        Ok(None) => Err(RequestFault::Ids),
+        Err(_) => Err(RequestFault::OutOfMemory),
+    }
+}
+
+/// What the words of a command line ask for: a format, a session, and numbers of fields that are left
+/// out.
+pub fn read_request(
+    alloc: Global,
+    format: Option<&str>,
+    session: Option<&str>,
+    ids: Option<&str>,
+) -> Result<Request, RequestFault>
+    ensures ok { IfOk result (asked.Asks (option_map (λ text. text.now) format.entry)
+        (option_map (λ text. text.now) session.entry) (option_map (λ text. text.now) ids.entry)) }
+    ensures err { IfErr result (asked.AsksFor (option_map (λ text. text.now) format.entry)
+        (option_map (λ text. text.now) session.entry) (option_map (λ text. text.now) ids.entry)) }
+{
+    let format = match read_format(format) {
+        Ok(format) => format,
+        Err(why) => return Err(why),
+    };
+    let only = match read_session(session) {
+        Ok(only) => only,
+        Err(why) => return Err(why),
+    };
+    match read_left_out(alloc, ids) {
+        Ok(left_out) => Ok(Request {
+            chosen: Chosen { only, left_out },
+            format,
+        }),
+        Err(why) => Err(why),
+    }
+}

@@ -1,0 +1,142 @@
+//! A report as TAP, version 13.
+ghost use Rattle.std.specs.Prelude.{OnOk};
+ghost use Rattle.std.specs.Io.KnownBytes.{Appends};
+ghost use Rattle.check_report.specs.Points.{point};
+ghost use Rattle.check_report.specs.Tap as tap;
+
+use crate::verdict::Verdict;
+use crate::writing::{write_bytes, write_id, write_number};
+use sheet_text::WriteFault;
+use std::io::Write;
+
+/// Writes the line of the version, which stands first.
+pub(crate) fn write_version<W: Write>(out: &mut W) -> Result<(), WriteFault>
+    ensures { OnOk result (Appends (W.contents out.old) (W.contents out.new) tap.version_line) }
+{
+    write_bytes(b"TAP version 13\n", out)
+}
+
+/// Writes the plan, which stands last.
+#[tactic(auto, using(crate::proofs::Written::steps))]
+pub(crate) fn write_plan<W: Write>(count: u64, out: &mut W) -> Result<(), WriteFault>
+    ensures { OnOk result (Appends (W.contents out.old) (W.contents out.new) (tap.plan_line count)) }
+{
+    write_bytes(b"1..", out)?;
+    write_number(count, out)?;
+    write_bytes(b"\n", out)?;
+    Ok(())
+}
+
+/// Writes whether a test point is passed.
+fn write_result<W: Write>(verdict: Verdict, out: &mut W) -> Result<(), WriteFault>
+    ensures { OnOk result
+        (Appends (W.contents out.old) (W.contents out.new) (tap.result_words verdict)) }
+{
+    match verdict {
+        Verdict::Same | Verdict::LeftOut => write_bytes(b"ok ", out),
+        Verdict::Differs | Verdict::Unanswered => write_bytes(b"not ok ", out),
+    }
+}
+
+/// Writes the directive of a test point, where it has one, and the end of its line.
+fn write_directive<W: Write>(verdict: Verdict, out: &mut W) -> Result<(), WriteFault>
+    ensures { OnOk result
+        (Appends (W.contents out.old) (W.contents out.new) (tap.directive verdict)) }
+{
+    match verdict {
+        Verdict::LeftOut => write_bytes(b" # SKIP left out\n", out),
+        Verdict::Same | Verdict::Differs | Verdict::Unanswered => write_bytes(b"\n", out),
+    }
+}
+
+/// Writes the description of a test point.
+#[tactic(auto, using(crate::proofs::Written::steps))]
+fn write_description<W: Write>(id: u32, session: &[u8], out: &mut W) -> Result<(), WriteFault>
+    ensures { OnOk result (Appends (W.contents out.old) (W.contents out.new)
+        (tap.description id session.now)) }
+{
+    write_bytes(b" - field ", out)?;
+    write_id(id, out)?;
+    write_bytes(b" of ", out)?;
+    write_bytes(session, out)?;
+    Ok(())
+}
+
+/// Writes the line of a test point.
+#[tactic(auto, using(crate::proofs::Written::steps))]
+fn write_point_line<W: Write>(
+    number: u64,
+    id: u32,
+    session: &[u8],
+    verdict: Verdict,
+    out: &mut W,
+) -> Result<(), WriteFault>
+    ensures { OnOk result (Appends (W.contents out.old) (W.contents out.new)
+        (tap.point_line number id session.now verdict)) }
+{
+    write_result(verdict, out)?;
+    write_number(number, out)?;
+    write_description(id, session, out)?;
+    write_directive(verdict, out)?;
+    Ok(())
+}
+
+/// Writes a byte of a comment, and the mark in front of it where it is the first one of its line.
+#[tactic(auto, using(crate::proofs::Written::steps))]
+fn write_byte<W: Write>(begins: bool, byte: u8, out: &mut W) -> Result<(), WriteFault>
+    ensures { OnOk result (Appends (W.contents out.old) (W.contents out.new)
+        (tap.comment_byte begins byte)) }
+{
+    if begins {
+        write_bytes(&[b'#', b' ', byte], out)
+    } else {
+        write_bytes(&[byte], out)
+    }
+}
+
+/// Ends the last line of comments, where it isn't ended.
+fn write_end<W: Write>(begins: bool, out: &mut W) -> Result<(), WriteFault>
+    ensures { OnOk result (Appends (W.contents out.old) (W.contents out.new)
+        (tap.comments_end begins)) }
+{
+    if begins {
+        Ok(())
+    } else {
+        write_bytes(b"\n", out)
+    }
+}
+
+/// Writes each line of a text as a comment.
+#[tactic(auto, using(crate::proofs::Comments::comment_steps))]
+fn write_comments<W: Write>(text: &[u8], out: &mut W) -> Result<(), WriteFault>
+    ensures { OnOk result (Appends (W.contents out.old) (W.contents out.new)
+        (tap.comments text.now)) }
+{
+    let mut rest = text;
+    let mut begins = true;
+    while let Some((byte, others)) = rest.split_first() {
+        write_byte(begins, *byte, out)?;
+        begins = *byte == b'\n';
+        rest = others;
+    }
+    write_end(begins, out)?;
+    Ok(())
+}
+
+/// Writes a test point, and what is told of it as comments.
+#[tactic(auto, using(crate::proofs::Written::steps))]
+pub(crate) fn write_point<W: Write>(
+    number: u64,
+    id: u32,
+    session: &[u8],
+    verdict: Verdict,
+    told: &[u8],
+    out: &mut W,
+) -> Result<(), WriteFault>
+    ensures { OnOk result (Appends (W.contents out.old) (W.contents out.new)
+        (tap.tap_point number (point id session.now verdict told.now))) }
+{
+    write_point_line(number, id, session, verdict, out)?;
+    write_comments(told, out)?;
+    Ok(())
+}

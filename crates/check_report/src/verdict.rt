@@ -1,0 +1,81 @@
+//! What evaluations come to, and their counts.
+ghost use Rattle.std.specs.Prelude.{◌≡◌, ◌+◌, ◌<◌, ◌^◌};
+ghost use Rattle.check_report.specs.Verdicts.{Compared, counted_with, total};
+
+use worksheet::Answer;
+
+/// What an evaluation anew came to.
+#[derive(Clone, Copy, Debug, PartialEq, Eq)]
+pub enum Verdict {
+    /// The output that came is the one that the field shows.
+    Same,
+    /// Another output came.
+    Differs,
+    /// No answer came.
+    Unanswered,
+    /// What came isn't compared.
+    LeftOut,
+}
+
+/// How many evaluations came to what: one for each field that shows an answer, so 10,000 at most.
+#[derive(Clone, Copy, Debug, PartialEq, Eq)]
+pub struct Counts {
+    /// Those whose output is the one that the field shows.
+    pub same: u32,
+    /// Those whose output is another.
+    pub differ: u32,
+    /// Those to which no answer came.
+    pub unanswered: u32,
+    /// Those that aren't compared.
+    pub left_out: u32,
+}
+
+impl Counts {
+    /// Of no evaluation.
+    pub fn none() -> Counts
+        ensures { result ≡ record { same = 0; differ = 0; unanswered = 0; left_out = 0 } }
+    {
+        Counts {
+            same: 0,
+            differ: 0,
+            unanswered: 0,
+            left_out: 0,
+        }
+    }
+
+    /// With one more.
+    pub fn with(self, verdict: Verdict) -> Counts
+        requires { total self < 2 ^ 31 }
+        ensures { result ≡ counted_with verdict self }
+    {
+        let mut counts = self;
+        match verdict {
+            Verdict::Same => counts.same += 1,
+            Verdict::Differs => counts.differ += 1,
+            Verdict::Unanswered => counts.unanswered += 1,
+            Verdict::LeftOut => counts.left_out += 1,
+        }
+        counts
+    }
+
+    /// Of how many evaluations they are.
+    pub fn total(self) -> u64
+        ensures { result ≡ total self }
+    {
+        u64::from(self.same)
+            + u64::from(self.differ)
+            + u64::from(self.unanswered)
+            + u64::from(self.left_out)
+    }
+}
+
+/// Compares the output of the answer that a field shows with that of the answer that came.
+pub(crate) fn compare(shown: &Answer, came: &Option<Answer>) -> Verdict
+    ensures { Compared shown.now.output came.now result }
+{
+    match came {
+        None => Verdict::Unanswered,
+        Some(came) if came.output == shown.output => Verdict::Same,
+        Some(_) => Verdict::Differs,
+    }
+}

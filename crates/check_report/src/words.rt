@@ -1,0 +1,155 @@
+//! A report in words.
+ghost use Rattle.std.specs.Prelude.{◌≡◌, None, IfOk, IfSome, OnOk};
+ghost use Rattle.std.specs.Io.KnownBytes.{Appends};
+ghost use Rattle.sheet_text.specs.Texts.{output_lines};
+ghost use Rattle.check_report.specs.Words as printed;
+
+use crate::verdict::{Counts, Verdict};
+use crate::writing::write_bytes;
+use bstr::ByteSlice;
+use sheet_text::{WriteFault, write_input, write_number, write_output};
+use std::alloc::Global;
+use std::io::Write;
+use worksheet::{Answer, Field};
+
+/// The lines of an answer's output, or `?` where there is none, in memory.
+fn output_in_memory(alloc: Global, answer: &Option<Answer>) -> Result<Vec<u8>, WriteFault>
+    ensures { IfOk result (λ text. text.items ≡ output_lines answer.now None) }
+{
+    let mut text = Vec::new(alloc);
+    write_output(answer, Option::None, &mut text)?;
+    Ok(text)
+}
+
+/// The two outputs of a difference in memory: the one that a field shows, and the one that came.
+#[derive(Drop)]
+pub(crate) struct Outputs {
+    pub(crate) shown: Vec<u8>,
+    pub(crate) came: Vec<u8>,
+}
+
+/// Both outputs. None where there is no memory for them.
+pub(crate) fn outputs_in_memory(
+    alloc: Global,
+    field: &Field,
+    came: &Option<Answer>,
+) -> Option<Outputs>
+    ensures shown { IfSome result (λ both. both.shown.items ≡ output_lines field.now.answer None) }
+    ensures came { IfSome result (λ both. both.came.items ≡ output_lines came.now None) }
+{
+    let Ok(shown) = output_in_memory(alloc, &field.answer) else {
+        return Option::None;
+    };
+    match output_in_memory(alloc, came) {
+        Ok(came) => Some(Outputs { shown, came }),
+        Err(_) => Option::None,
+    }
+}
+
+/// Writes each line of a text with a mark in front.
+#[tactic(auto, using(crate::proofs::Marking::mark_steps))]
+fn write_marked<W: Write>(mark: &[u8], text: &[u8], writer: &mut W) -> Result<(), WriteFault>
+    ensures { OnOk result
+        (Appends (W.contents writer.old) (W.contents writer.new) (printed.marked mark.now text.now)) }
+{
+    let mut lines = text.lines_with_terminator();
+    while let Some(line) = lines.next() {
+        writer.write_all(mark).map_err(|_| WriteFault)?;
+        writer.write_all(line).map_err(|_| WriteFault)?;
+    }
+    Ok(())
+}
+
+/// Writes the lines of a field, and those of the two outputs with their marks.
+pub(crate) fn write_difference<W: Write>(
+    field: &Field,
+    shown: &[u8],
+    came: &[u8],
+    writer: &mut W,
+) -> Result<(), WriteFault>
+    ensures { OnOk result
+        (Appends (W.contents writer.old) (W.contents writer.new)
+        (printed.difference_of field.now shown.now came.now)) }
+{
+    write_number(field, writer)?;
+    write_input(field, writer)?;
+    write_marked(b"- ", shown, writer)?;
+    write_marked(b"+ ", came, writer)?;
+    Ok(())
+}
+
+/// How an answer differs from that of its field, or that none came, in memory.
+fn difference_in_memory(alloc: Global, field: &Field, came: &Option<Answer>) -> Option<Vec<u8>>
+    ensures { IfSome result (λ text. text.items ≡ printed.difference_text field.now came.now) }
+{
+    let Some(both) = outputs_in_memory(alloc, field, came) else {
+        return Option::None;
+    };
+    let mut text = Vec::new(alloc);
+    match write_difference(
+        field,
+        both.shown.as_slice(),
+        both.came.as_slice(),
+        &mut text,
+    ) {
+        Ok(()) => Some(text),
+        Err(_) => Option::None,
+    }
+}
+
+/// What is written of a field that came to this, in memory. None where there is none for it.
+pub(crate) fn verdict_in_memory(
+    alloc: Global,
+    field: &Field,
+    came: &Option<Answer>,
+    verdict: Verdict,
+) -> Option<Vec<u8>>
+    ensures { IfSome result (λ text. text.items
+        ≡ printed.verdict_text field.now came.now verdict) }
+{
+    match verdict {
+        Verdict::Same | Verdict::LeftOut => Some(Vec::new(alloc)),
+        Verdict::Differs | Verdict::Unanswered => difference_in_memory(alloc, field, came),
+    }
+}
+
+/// Writes how many were left out, where some were.
+fn write_left_out<W: Write>(left_out: u32, writer: &mut W) -> Result<(), WriteFault>
+    ensures { OnOk result (Appends (W.contents writer.old) (W.contents writer.new)
+        (printed.left_out_part left_out)) }
+{
+    match left_out {
+        0 => Ok(()),
+        _ => write!(writer, " left out {left_out}").map_err(|_| WriteFault),
+    }
+}
+
+/// Writes how many were compared, by what they came to.
+fn write_compared<W: Write>(counts: Counts, writer: &mut W) -> Result<(), WriteFault>
+    ensures { OnOk result (Appends (W.contents writer.old) (W.contents writer.new)
+        (printed.compared_part counts)) }
+{
+    let Counts {
+        same,
+        differ,
+        unanswered,
+        left_out: _,
+    } = counts;
+    write!(
+        writer,
+        "same {same} differ {differ} unanswered {unanswered}"
+    )
+    .map_err(|_| WriteFault)
+}
+
+/// Writes the counts.
+#[tactic(auto, using(crate::proofs::Written::steps))]
+pub(crate) fn write_counts<W: Write>(counts: Counts, writer: &mut W) -> Result<(), WriteFault>
+    ensures { OnOk result (Appends (W.contents writer.old) (W.contents writer.new)
+        (printed.counts_text counts)) }
+{
+    write_compared(counts, writer)?;
+    write_left_out(counts.left_out, writer)?;
+    write_bytes(b"\n", writer)?;
+    Ok(())
+}

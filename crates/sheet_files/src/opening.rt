@@ -1,0 +1,120 @@
+//! How a worksheet's two files are made and opened, in any place.
+ghost use Rattle.std.specs.Prelude.{IfOk, Ok, false};
+ghost use Rattle.sheet_files.specs.Names.{Created, FirstOpened, Opened, OpenedToRead, SecondOpened, SecondRead};
+
+use crate::names::Names;
+use crate::{FilesFault, Lock, MakeFault};
+use journal::CreateCause;
+use std::io;
+use std::io::ErrorKind;
+
+/// Looks for both files before one is made: one that is there is told first.
+fn look_for<F, N: Names<F>>(names: &mut N, path: &str, alt: &str) -> Result<(), MakeFault>
+    ensures { IfOk result (λ _. (a : N) × N.looks names.old path.now (Ok false) a
+        × N.looks a alt.now (Ok false) names.new) }
+{
+    match (names.look(path), names.look(alt)) {
+        (Ok(true), _) | (_, Ok(true)) => Err(MakeFault::Create(CreateCause::NotEmpty)),
+        (Ok(false), Ok(false)) => Ok(()),
+        _ => Err(MakeFault::Create(CreateCause::Disk)),
+    }
+}
+
+/// Makes both files, empty, the first one locked before the other is made. They and their names are
+/// durable once it answers.
+pub(crate) fn create<F: Drop, N: Names<F>>(
+    names: &mut N,
+    path: &str,
+    alt: &str,
+) -> Result<(F, F), MakeFault>
+    ensures { IfOk result (λ files. Created N.looks N.makes N.locks N.syncs N.syncs_folder
+        path.now alt.now files.0 files.1 names.old names.new) }
+{
+    look_for(names, path, alt)?;
+    let first = names.make(path)?;
+    if names.lock(&first, Lock::Exclusive) {
+        return Err(MakeFault::InUse);
+    }
+    let second = names.make(alt)?;
+    names.sync(&first)?;
+    names.sync(&second)?;
+    names.sync_folder(path)?;
+    Ok((first, second))
+}
+
+/// Opens the first file of a worksheet, and locks it. One that has another name is refused, since what
+/// is opened by that name has another second file.
+fn open_first<F: Drop, N: Names<F>>(names: &mut N, path: &str, lock: Lock) -> Result<F, FilesFault>
+    ensures { IfOk result (λ first. FirstOpened N.opens N.locks N.is_single
+        path.now lock first names.old names.new) }
+{
+    let first = names.open(path, lock)?;
+    if names.lock(&first, lock) {
+        return Err(FilesFault::InUse);
+    }
+    names.single(&first)?;
+    Ok(first)
+}
+
+/// Opens the second file of a worksheet, to read and to write. A missing one is made, but where the
+/// worksheet lies in it: then an empty one would stand in the place of what was lost.
+fn open_or_make<F: Drop, N: Names<F>>(names: &mut N, alt: &str, first: &F) -> io::Result<F>
+    ensures { IfOk result (λ second. SecondOpened N.opens N.reads N.makes
+        alt.now first.now second names.old names.new) }
+{
+    match names.open(alt, Lock::Exclusive) {
+        Err(error) if error.kind() == ErrorKind::NotFound => {
+            if names.names_second(first)? {
+                return Err(error);
+            }
+            names.make(alt)
+        }
+        opened => opened,
+    }
+}
+
+/// Opens both files, the first one locked before anything is read and before the other is opened. Their
+/// names are durable once it answers.
+pub(crate) fn open<F: Drop, N: Names<F>>(
+    names: &mut N,
+    path: &str,
+    alt: &str,
+) -> Result<(F, F), FilesFault>
+    ensures { IfOk result (λ files. Opened N.opens N.locks N.is_single N.reads N.makes N.are_two
+        N.syncs_folder path.now alt.now files.0 files.1 names.old names.new) }
+{
+    let first = open_first(names, path, Lock::Exclusive)?;
+    let second = open_or_make(names, alt, &first)?;
+    names.two(&first, &second)?;
+    names.sync_folder(path)?;
+    Ok((first, second))
+}
+
+/// Opens the second file of a worksheet to read alone, where there is one.
+fn open_if_there<F: Drop, N: Names<F>>(names: &mut N, alt: &str, first: &F) -> io::Result<Option<F>>
+    ensures { IfOk result (λ second. SecondRead N.opens N.are_two
+        alt.now first.now second names.old names.new) }
+{
+    match names.open(alt, Lock::Shared) {
+        Ok(second) => {
+            names.two(first, &second)?;
+            Ok(Some(second))
+        }
+        Err(error) if error.kind() == ErrorKind::NotFound => Ok(None),
+        Err(error) => Err(error),
+    }
+}
+
+/// The same as `open`, to read alone: none is made.
+pub(crate) fn open_to_read<F: Drop, N: Names<F>>(
+    names: &mut N,
+    path: &str,
+    alt: &str,
+) -> Result<(F, Option<F>), FilesFault>
+    ensures { IfOk result (λ files. OpenedToRead N.opens N.locks N.is_single N.are_two
+        path.now alt.now files.0 files.1 names.old names.new) }
+{
+    let first = open_first(names, path, Lock::Shared)?;
+    let second = open_if_there(names, alt, &first)?;
+    Ok((first, second))
+}
