@@ -72,7 +72,7 @@ class Interpreter(blocks.Child):
 
     def parts(self, said: bytes) -> List[blocks.Part]:
         """The texts of an answer, and the formulas between two marks. One that was cut is text."""
-        texts = re.sub(self.profile.noise, b"", said).split(self.mark)
+        texts = (re.sub(self.profile.noise, b"", said) if self.profile.noise else said).split(self.mark)
         if len(texts) % 2 == 0:
             texts[-2:] = [b"".join(texts[-2:])]
         return [formula(text) if at % 2 else blocks.Part(text.strip(b"\n")) for at, text in enumerate(texts)]

@@ -8,6 +8,7 @@ lines that it has got, so that an answer tells what was evaluated before it.
     file PATH     what stands in a file
     quiet         nothing
     sleep SECONDS
+    until PATH    answers when this file is there
     stuck         never answers
     die           ends
 
@@ -52,6 +53,8 @@ def answer(lines: List[str]) -> bytes:
         return b""
     if word == "die":
         sys.exit(3)
+    while word == "until" and not os.path.exists(rest):
+        time.sleep(0.02)
     if word in ("sleep", "stuck"):
         time.sleep(float(rest) if rest else 600)
     return value(lines).encode()

@@ -118,15 +118,19 @@ class Course(Case):
         self.assertEqual(self.run_weave().status, 0)
         long, woven = time.monotonic() - begun, self.read()
         self.assertEqual(self.answered(woven), self.sums())
-        killed = 0
-        for moment in range(KILLS):
+        killed = tried = 0
+        while killed < KILLS and tried < 4 * KILLS:
             for kept, file in zip(before, now):
                 shutil.copyfile(kept, file)
-            killed += self.is_killed(long * moment / KILLS)
+            begun, tried = time.monotonic(), tried + 1
+            if self.is_killed(long * (killed + 0.5) / KILLS):
+                killed += 1
+            else:
+                long = min(long, time.monotonic() - begun)  # the machine has more time now
             self.assertEqual(self.run_weave().status, 0)
             self.assertEqual(self.read(), woven)
-        print(f"course: killed at {killed} of {KILLS} moments, and each time woven to the same text", file=sys.stderr)
-        self.assertGreater(killed, KILLS // 2)
+        print(f"course: killed at {killed} moments, and each time woven to the same text", file=sys.stderr)
+        self.assertEqual(killed, KILLS)
 
     def is_killed(self, seconds: float) -> bool:
         with subprocess.Popen(command_words(self.text), env=environment(), cwd=ROOT, stderr=subprocess.DEVNULL) as weave:

@@ -238,10 +238,8 @@ class Failures(Case):
 
     def test_seconds(self) -> None:
         text = self.front("a", "b") + fences([("a", "x"), ("a", "stuck"), ("b", "y"), ("a {pure}", "stuck"), ("a {pure}", "p")])
-        begun = time.monotonic()
-        woven = self.weave(text, 1, "--seconds", "0.7")
-        self.assertLess(time.monotonic() - begun, 10)
-        self.assertEqual(woven.count("```tmhost-no-answer\nno answer within 0.7 seconds\n```"), 2)
+        woven = self.weave(text, 1, "--seconds", "5.5")
+        self.assertEqual(woven.count("```tmhost-no-answer\nno answer within 5.5 seconds\n```"), 2)
         self.assertEqual(answers(woven), [value(["x"]), value(["y"]), value(["p"])])
         for wrong in ["0", "-1", "x", "nan", "inf"]:
             self.assertEqual(self.run_weave("--seconds", wrong, self.text).status, 2)
@@ -293,13 +291,14 @@ class Failures(Case):
         self.assertEqual(sorted(os.listdir(self.folder)), ["a.log", "text.md", "text.sheet", "text.sheet.alt"])
 
     def test_changed_meanwhile(self) -> None:
-        text = self.front("a") + fences([("a", "x"), ("a", "sleep 1.5")])
+        text = self.front("a") + fences([("a", "x"), ("a", f"until {self.place('end')}")])
         self.write(text)
         with subprocess.Popen(command_words(self.text), env=environment(), stderr=subprocess.PIPE) as weave:
             while not os.path.exists(self.place("a.log")):
                 time.sleep(0.02)
             self.assertEqual((self.run_weave().status, "another tmhost-weave" in self.run_weave().errors), (1, True))
             self.write(text + "More.\n")
+            self.write("", self.place("end"))
             assert weave.stderr
             told = weave.stderr.read()
         self.assertEqual((weave.returncode, b"changed meanwhile" in told), (1, True))
