@@ -171,11 +171,15 @@ module _ {Y D P S I W E Q : Type 0} (o : OutsideView D P S I W E) where
   EvaluatesOn plan old new ending disk =
       EvaluationEnded o.view o.after plan disk old.sources new.sources (o.written old.output) (o.written new.output) (Nothing old new) o.said old.errors new.errors ending
 
-  -- `eval` over what the places open at a path
-  abbrev pub DoesEval : Outside Y D P S I W E Q → Outside Y D P S I W E Q → Ending → Text → EvalFlags → Type 0
-  DoesEval old new ending path flags =
+  -- `eval` over what the places open at a path, by a plan
+  abbrev pub EvaluatesAs : Outside Y D P S I W E Q → Outside Y D P S I W E Q → Ending → Text → Plan → Type 0
+  EvaluatesAs old new ending path plan =
       HeldFirst old new (λ why. (new.sources ≡ old.sources) × EndsWith old new ending (Err why)) (λ held. (files : Result D FilesFault) × o.places.opens held path files new.places
-      × IfErr files (Unopened old new ending) × IfOk files (EvaluatesOn (plan_of flags) old new ending))
+      × IfErr files (Unopened old new ending) × IfOk files (EvaluatesOn plan old new ending))
+
+  -- by the plan that the flags of `eval` ask for
+  abbrev pub DoesEval : Outside Y D P S I W E Q → Outside Y D P S I W E Q → Ending → Text → EvalFlags → Type 0
+  DoesEval old new ending path flags = EvaluatesAs old new ending path (plan_of flags)
 
   -- `live` over the same, told in a voice
   abbrev pub DoesLive : Voice → Outside Y D P S I W E Q → Outside Y D P S I W E Q → Ending → Text → Type 0

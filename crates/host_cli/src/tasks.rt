@@ -2,7 +2,7 @@
 ghost use Rattle.std.specs.Prelude.{◌≡◌, ◌≢◌, [], List, Err, false, map, string_bytes, true};
 ghost use Rattle.command_words.specs.Asked.{check_view, task_view};
 ghost use Rattle.command_words.specs.Asked as asked;
-ghost use Rattle.host_cli.specs.Tasks.{BringsOut, ChecksAs, DoesAsked, DoesBlocks, DoesCheck, DoesCreate, DoesEval, DoesExport, DoesLive, DoesRescue, DoesRun, DoesShow, DoesTask, EndsBy, ExportsAs, LeavesAlone, Performs, RescuesFrom, RescuesTo, outer, plan_of as plan_asked};
+ghost use Rattle.host_cli.specs.Tasks.{BringsOut, ChecksAs, DoesAsked, DoesBlocks, DoesCheck, DoesCreate, DoesEval, DoesExport, DoesLive, DoesRescue, DoesRun, DoesShow, DoesTask, EndsBy, EvaluatesAs, ExportsAs, LeavesAlone, Performs, RescuesFrom, RescuesTo, outer, plan_of as plan_asked};
 ghost use Rattle.program_endings.specs.Ending.{TellsFault};
 ghost use Rattle.offline_programs.specs.declared.fault.RunFault.TheVariants as fault;
 ghost use Rattle.recovery.specs.Sheets.{Makes};
@@ -168,7 +168,27 @@ fn plan_of(flags: EvalFlags) -> Plan
     }
 }
 
-/// `eval` of the fields of the worksheet at a path.
+/// `eval` of the fields of the worksheet at a path, by a plan.
+fn eval_as<Y: System>(alloc: Global, outside: &mut Outside<Y>, path: &str, plan: Plan) -> Ending
+    ensures does { EvaluatesAs (outer Y.Places.Places Y.Disk.Disk Y.Sources.after
+        Y.Sources.clock Y.Sources.wakes Y.Input.Read Y.Output.Write Y.Output.brought Y.Errors.Write) outside.old outside.new result path.now plan }
+    ensures leaves { (outside.new.input ≡ outside.old.input)
+        × (outside.new.progress ≡ outside.old.progress) }
+{
+    match outside.places.hold() {
+        Ok(()) => run_evaluation(
+            alloc,
+            plan,
+            &mut outside.output,
+            &mut outside.errors,
+            outside.places.open(path),
+            &mut outside.sources,
+        ),
+        Err(why) => end_unheld(why, &mut outside.errors),
+    }
+}
+
+/// `eval` of the fields of the worksheet at a path, as its flags say.
 fn eval_at<Y: System>(
     alloc: Global,
     outside: &mut Outside<Y>,
@@ -179,17 +199,7 @@ fn eval_at<Y: System>(
         Y.Sources.clock Y.Sources.wakes Y.Input.Read Y.Output.Write Y.Output.brought Y.Errors.Write) outside.old outside.new result path.now flags }
     ensures leaves { LeavesAlone outside.old outside.new (asked.eval path.now flags) }
 {
-    match outside.places.hold() {
-        Ok(()) => run_evaluation(
-            alloc,
-            plan_of(flags),
-            &mut outside.output,
-            &mut outside.errors,
-            outside.places.open(path),
-            &mut outside.sources,
-        ),
-        Err(why) => end_unheld(why, &mut outside.errors),
-    }
+    eval_as(alloc, outside, path, plan_of(flags))
 }
 
 /// `live` with the lines of the input over the worksheet at a path, told in this voice.
