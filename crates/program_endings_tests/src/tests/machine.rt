@@ -291,23 +291,23 @@ impl DiskFile for MachineFile<'_> {
 // A worksheet whose two files are there is read and written by the calls above.
 impl FileExt for MachineFile<'_> {
     fn read_at(&self, _buf: &mut [u8], _offset: u64) -> io::Result<usize> {
-        unsupported()
+        Err(io::Error::from(ErrorKind::Unsupported))
     }
 
     fn write_at(&self, _buf: &[u8], _offset: u64) -> io::Result<usize> {
-        unsupported()
+        Err(io::Error::from(ErrorKind::Unsupported))
     }
 }
 
 impl io::Read for MachineFile<'_> {
     fn read(&mut self, _buf: &mut [u8]) -> io::Result<usize> {
-        unsupported()
+        Err(io::Error::from(ErrorKind::Unsupported))
     }
 }
 
 impl io::Write for MachineFile<'_> {
     fn write(&mut self, _buf: &[u8]) -> io::Result<usize> {
-        unsupported()
+        Err(io::Error::from(ErrorKind::Unsupported))
     }
 
     fn flush(&mut self) -> io::Result<()> {
