@@ -76,10 +76,10 @@ rm -f sheet sheet.alt
 "$tmhost" create sheet
 {
     echo 'session a plain sh count.sh'
-    yes 'new 0 a x' | head -n 1000
+    yes 'new 0 a x' | head -n 50
 } >given
 "$tmhost" run sheet <given >text
 "$tmhost" eval sheet </dev/null >text
-compare 'a thousand fields' "$(tail -n 1 text; grep -c '^answered [0-9]*$' text)" "$(printf 'answered 1000 unanswered 0\n1000\n')"
+compare 'fifty fields' "$(tail -n 1 text; grep -c '^answered [0-9]*$' text)" "$(printf 'answered 50 unanswered 0\n50\n')"
 
 counted evaluations
