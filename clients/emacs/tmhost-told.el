@@ -151,16 +151,19 @@ gone into the kill ring."
       (message "Field %d is gone; its text is in the kill ring" id))))
 
 (defun tmhost-told-cut-off ()
-  "The program has ended: nothing that is under way comes to its end."
+  "The program has ended: nothing that is under way comes to its end.
+A field that it was asked to evaluate may be without its answer, even
+where it hasn't told that it was asked."
   (setq tmhost-told--fields nil)
-  (dolist (session tmhost-sheet-sessions)
-    (setf (tmhost-session-life session) nil (tmhost-session-busy session) nil))
-  (dolist (id tmhost-view-order)
-    (let ((field (tmhost-view-field id)))
-      (setf (tmhost-field-saving field) nil (tmhost-field-queued field) nil)
-      (if (eq (tmhost-field-state field) 'waiting)
-          (tmhost-sheet--become field 'lost :reason "tmhost ended")
-        (tmhost-sheet--say field))))
+  (let ((asked (delq nil (mapcar #'tmhost-session-busy tmhost-sheet-sessions))))
+    (dolist (session tmhost-sheet-sessions)
+      (setf (tmhost-session-life session) nil (tmhost-session-busy session) nil))
+    (dolist (id tmhost-view-order)
+      (let ((field (tmhost-view-field id)))
+        (setf (tmhost-field-saving field) nil (tmhost-field-queued field) nil)
+        (if (or (eq (tmhost-field-state field) 'waiting) (memql id asked))
+            (tmhost-sheet--become field 'lost :reason "tmhost ended")
+          (tmhost-sheet--say field)))))
   (setq tmhost-sheet--queue nil)
   (while tmhost-sheet--requests
     (funcall (cdr (pop tmhost-sheet--requests)) nil)))
