@@ -1,15 +1,14 @@
-//! Children that are processes, and an input by its descriptor.
+//! Children by the descriptors of their outputs, and an input by its own.
 ghost use Rattle.std.specs.Prelude.{◌≡◌, IfSome, true};
 ghost use Rattle.arrivals.specs.Watching.{InputMayCome, MayCome, asked};
 
 use crate::sources::{Input, Sources, WatchFault, Woken};
 use block_tree::Octets;
-use child_calls::{ChildFault, Children, Processes, ReceiveFault, Received, Seat};
+use child_calls::{ChildFault, Children, Outputs, ReceiveFault, Received, Seat};
 use libc::net::{POLLIN, poll};
 use libc::types::pollfd;
 use std::alloc::{AllocError, Global};
-use std::os::fd::{AsRawFd, RawFd};
-use std::process::{self, OpenProcess};
+use std::os::fd::RawFd;
 use std::time::Clock;
 use worksheet::Name;
 
@@ -29,7 +28,7 @@ const LEFT_OUT: pollfd = pollfd {
     revents: 0,
 };
 
-/// Processes and an input, watched by `poll`.
+/// Children and an input, watched by `poll`. Each call on a child is handed on as it is.
 ///
 /// A watch first goes on with the lives that were ready at the last poll, of which each gets its turn once,
 /// and polls when none of them is left; of a poll the input is told first. A life that was stopped since
@@ -40,24 +39,21 @@ const LEFT_OUT: pollfd = pollfd {
 /// started first, and a limit above 2,147,483,647 milliseconds counts as that many. All memory of a watch
 /// is taken at the beginning.
 #[derive(Drop)]
-pub struct Polled<R: process::Processes + Drop, K: Clock + Drop> {
-    children: Processes<R>,
+pub struct Polled<C: Outputs + Drop, K: Clock + Drop> {
+    children: C,
     input: RawFd,
     clock: K,
     ready: Vec<Seat>,
 }
 
-impl<R: process::Processes + Drop, K: Clock + Drop> Polled<R, K>
-where
-    <R::Started as OpenProcess>::Stdout: AsRawFd,
-{
-    /// These processes and the input of this descriptor, by this clock.
+impl<C: Outputs + Drop, K: Clock + Drop> Polled<C, K> {
+    /// These children and the input of this descriptor, by this clock.
     pub fn new(
         alloc: Global,
-        children: Processes<R>,
+        children: C,
         input: RawFd,
         clock: K,
-    ) -> Result<Polled<R, K>, AllocError> {
+    ) -> Result<Polled<C, K>, AllocError> {
         let ready = Vec::with_capacity(alloc, MOST_CHILDREN)?;
         Ok(Polled {
             children,
@@ -147,8 +143,8 @@ fn timeout(input: Input, left: Option<u64>) -> i32 {
     }
 }
 
-impl<R: process::Processes + Drop, K: Clock + Drop> Children for Polled<R, K> {
-    ghost after = { λ _ _ _ _. Unit {0} };
+impl<C: Outputs + Drop, K: Clock + Drop> Children for Polled<C, K> {
+    ghost after = { λ c call answer d. C.after c.children call answer d.children };
 
     fn start(&mut self, name: Name, life: u32, words: &[Octets]) -> Result<(), ChildFault> {
         self.children.start(name, life, words)
@@ -171,10 +167,7 @@ impl<R: process::Processes + Drop, K: Clock + Drop> Children for Polled<R, K> {
     }
 }
 
-impl<R: process::Processes + Drop, K: Clock + Drop> Sources for Polled<R, K>
-where
-    <R::Started as OpenProcess>::Stdout: AsRawFd,
-{
+impl<C: Outputs + Drop, K: Clock + Drop> Sources for Polled<C, K> {
     ghost wakes = { λ _ _ _ _. Unit {0} };
 
     ghost clock = { λ _ _. Unit {0} };

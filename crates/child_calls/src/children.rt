@@ -1,6 +1,8 @@
 //! Child processes, by what the calls on them may lead to.
+use crate::seat::Seat;
 use block_tree::Octets;
 use bytes::Bytes;
+use std::os::fd::RawFd;
 use worksheet::Name;
 
 /// A call on a child failed.
@@ -62,4 +64,16 @@ pub trait Children {
     /// Stops it: it is gone afterwards, where that succeeds.
     fn stop(&mut self, name: Name, life: u32) -> Result<(), ChildFault>
         ensures { after self.old (stop name life) (sent result) self.new };
+}
+
+/// Children whose outputs can be polled.
+///
+/// Their places are those of the order in which they were started, from 0; one that is stopped leaves its own to
+/// the next. Whoever polls a descriptor reads by `receive` alone.
+pub trait Outputs: Children {
+    /// Whether the child of this life runs: it was started and not stopped.
+    fn is_running(&self, seat: Seat) -> bool;
+
+    /// The life of the child at this place, and the descriptor that its output is read from.
+    fn output(&self, at: usize) -> Option<(Seat, RawFd)>;
 }

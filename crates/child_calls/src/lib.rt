@@ -3,11 +3,15 @@
 #![tactic(auto)]
 
 pub mod children;
+pub mod lives;
+pub mod process;
 pub mod processes;
 pub mod scripted;
 pub mod seat;
 
-pub use children::{ChildFault, Children, ReceiveFault, Received};
-pub use processes::Processes;
+pub use children::{ChildFault, Children, Outputs, ReceiveFault, Received};
+pub use lives::Lives;
+pub use process::{Launcher, Process};
+pub use processes::{Processes, Spawned, Spawner};
 pub use scripted::{Got, Part, PieceBytes, Scripted};
 pub use seat::Seat;

@@ -1,179 +1,58 @@
-//! Children that are processes.
-ghost use Rattle.std.specs.Prelude.{◌≡◌, IfOk, length};
-ghost use Rattle.child_calls.specs.Answers.{HasSize, longest_piece};
+//! The system's processes.
+ghost use Rattle.std.specs.Prelude.{◌≡◌, ◌<◌, ◌≤◌, IfErr, IfOk, OnOk, length, take};
+ghost use Rattle.std.specs.Io.KnownBytes.{Appends, Keeps, ReadConsumes};
 
-use crate::children::{ChildFault, Children, ReceiveFault, Received};
+use crate::children::{ChildFault, Outputs};
+use crate::lives::Lives;
+use crate::process::{Launcher, Process};
 use crate::seat::Seat;
 use block_tree::Octets;
-use bytes::BytesMut;
-use std::alloc::{AllocError, Global};
+use std::alloc::Global;
 use std::io::{ErrorKind, Read, Write};
 use std::os::fd::{AsRawFd, RawFd};
 use std::process::{Child, Command, OpenProcess, Stdio};
 use std::{io, process, str};
-use worksheet::Name;
-
-/// The most bytes of one piece.
-pub const LONGEST_PIECE: usize = 65_536;
-
-/// The largest block of memory that is kept for the next answer, in bytes: glibc's own limit is 33,554,432.
-const LARGEST_KEPT: usize = 33_500_000;
 
 /// How often a read is tried: once, and again at most 1,000 times where it was interrupted.
 const MOST_READS: u32 = 1_001;
 
-/// The child of a life.
+/// A process of the system, with pipes on its standard input and output; its standard error is discarded.
+///
+/// One that closed its input makes the next write a fault. An end kills it, closes its pipes and waits for
+/// its exit.
 #[derive(Drop)]
-struct Running<P: OpenProcess + Drop> {
-    name: Name,
-    life: u32,
+pub struct Spawned<P: OpenProcess + Drop> {
     child: Child<P>,
 }
 
-/// Child processes, with pipes on their standard input and output; their standard error is discarded.
-///
-/// Each call but `start` may wait for the child. A receive is one read. A stop kills the child, closes
-/// its pipes and waits for its exit. A start that is refused for want of memory is a fault of that
-/// start. A child has none of this process's descriptors but its two pipes, and one that closed its
-/// input makes the next send a fault.
+/// Launches processes by a runtime. They have none of this process's descriptors but their two pipes.
 #[derive(Drop)]
-pub struct Processes<R: process::Processes + Drop> {
+pub struct Spawner<R: process::Processes + Drop> {
     runtime: R,
     alloc: Global,
-    running: Vec<Running<R::Started>>,
 }
 
-impl<R: process::Processes + Drop> Processes<R> {
+/// Child processes of a runtime.
+pub type Processes<R> = Lives<Spawner<R>>;
+
+impl<R: process::Processes + Drop> Lives<Spawner<R>> {
     /// No child as yet. They are started by this runtime.
     pub fn new(runtime: R, alloc: Global) -> Processes<R> {
-        Processes {
-            runtime,
-            alloc,
-            running: Vec::new(alloc),
-        }
-    }
-
-    /// How many children run: those that were started and not stopped.
-    pub fn count(&self) -> usize {
-        self.running.len()
-    }
-
-    /// Whether the child of this life runs: it was started and not stopped.
-    pub fn is_running(&self, seat: Seat) -> bool {
-        self.place(seat.name, seat.life).is_some()
-    }
-
-    /// Where the child of a life is.
-    fn place(&self, name: Name, life: u32) -> Option<usize> {
-        self.running
-            .iter()
-            .position(|running| running.name == name && running.life == life)
-    }
-
-    /// Starts a child with these words, its program first.
-    fn launch(&mut self, name: Name, life: u32, words: &[Octets]) -> io::Result<()> {
-        let Some((program, others)) = words.split_first() else {
-            return Err(io::Error::from(ErrorKind::InvalidInput));
-        };
-        let mut command = Command::new(self.alloc, text(program)?)?;
-        for word in others {
-            command.arg(text(word)?)?;
-        }
-        command
-            .stdin(Stdio::piped())
-            .stdout(Stdio::piped())
-            .stderr(Stdio::null());
-        if self.running.is_empty() {
-            keep_memory(self.alloc);
-        }
-        // Its place is made first: a child that runs is never lost for want of memory.
-        self.running.reserve(1)?;
-        let child = command.spawn(&self.runtime)?;
-        self.running.push_reserved(Running { name, life, child });
-        Ok(())
-    }
-
-    /// One read into this room.
-    fn read(&mut self, name: Name, life: u32, mut room: BytesMut) -> Result<Received, ChildFault>
-        requires { length room.items ≡ longest_piece }
-        ensures { IfOk result HasSize }
-    {
-        let Some(at) = self.place(name, life) else {
-            return Err(ChildFault);
-        };
-        let Some(running) = self.running.get_mut(at) else {
-            return Err(ChildFault);
-        };
-        let Some(pipe) = &mut running.child.stdout else {
-            return Err(ChildFault);
-        };
-        let len = read_once(pipe, room.as_mut_slice())?;
-        if len == 0 {
-            return Ok(Received::End);
-        }
-        room.truncate(len);
-        match room.freeze() {
-            Ok(piece) => Ok(Received::Piece(piece)),
-            Err(_) => Err(ChildFault),
-        }
-    }
-
-    /// Sends a child the signal SIGINT, and waits until it is sent.
-    ///
-    /// std has no call for it, so `sh` does it by its own `kill`. The number is this child's as long as nobody
-    /// has waited for it, which `end` alone does.
-    fn signal(&mut self, name: Name, life: u32) -> io::Result<()> {
-        let Some(at) = self.place(name, life) else {
-            return Err(io::Error::from(ErrorKind::NotFound));
-        };
-        let Some(running) = self.running.get(at) else {
-            return Err(io::Error::from(ErrorKind::NotFound));
-        };
-        let mut number = String::new(self.alloc);
-        write!(number, "{}", running.child.id())?;
-        let mut command = Command::new(self.alloc, "/bin/sh")?;
-        command.arg("-c")?;
-        command.arg("kill -INT \"$0\"")?;
-        command.arg(number.as_str())?;
-        command
-            .stdin(Stdio::null())
-            .stdout(Stdio::null())
-            .stderr(Stdio::null());
-        let mut sender = command.spawn(&self.runtime)?;
-        if sender.wait()?.success() {
-            Ok(())
-        } else {
-            Err(io::Error::from(ErrorKind::NotFound))
-        }
-    }
-
-    /// Kills a child, closes its pipes and waits for its exit.
-    fn end(&mut self, name: Name, life: u32) -> io::Result<()> {
-        let Some(at) = self.place(name, life) else {
-            return Err(io::Error::from(ErrorKind::NotFound));
-        };
-        if at >= self.running.len() {
-            return Err(io::Error::from(ErrorKind::NotFound));
-        }
-        let mut running = self.running.remove(at);
-        let killed = running.child.kill();
-        drop(running.child.stdout.take());
-        running.child.wait()?;
-        killed
+        Lives::over(Spawner { runtime, alloc }, alloc)
     }
 }
 
-impl<R: process::Processes + Drop> Processes<R>
+impl<R: process::Processes + Drop> Outputs for Lives<Spawner<R>>
 where
     <R::Started as OpenProcess>::Stdout: AsRawFd,
 {
-    /// The life of the child at this place, from 0, and the descriptor that its output is read from.
-    ///
-    /// The places are those of the order in which they were started; one that is stopped leaves its own to
-    /// the next. Whoever polls the descriptor reads by `receive` alone.
-    pub fn output(&self, at: usize) -> Option<(Seat, RawFd)> {
+    fn is_running(&self, seat: Seat) -> bool {
+        self.runs(seat)
+    }
+
+    fn output(&self, at: usize) -> Option<(Seat, RawFd)> {
         let running = self.running.get(at)?;
-        let pipe = running.child.stdout.as_ref()?;
+        let pipe = running.process.child.stdout.as_ref()?;
         let seat = Seat {
             name: running.name,
             life: running.life,
@@ -190,26 +69,11 @@ fn text(word: &Octets) -> io::Result<&str> {
     }
 }
 
-/// Has memory kept that is given back. glibc returns each block above a threshold to the system, and raises the
-/// threshold to the largest block that it has returned: this one. Else the pages of each large answer would be
-/// taken and cleared anew. So twice that is kept at most. Where the block is refused, nothing else changes.
-fn keep_memory(alloc: Global) {
-    drop(Vec::<u8>::with_capacity(alloc, LARGEST_KEPT));
-}
-
-/// Room for a piece, all that it will ever take: a byte in front of it is shared at once, and a block that
-/// has been shared is shared again without memory.
-fn room(alloc: Global) -> Result<BytesMut, AllocError>
-    ensures { IfOk result (λ room. length room.items ≡ longest_piece) }
-{
-    let mut room = BytesMut::zeroed(alloc, LONGEST_PIECE + 1)?;
-    let _front = room.freeze_to(1)?;
-    Ok(room)
-}
-
 /// One read, tried again where it is interrupted.
 fn read_once<T: Read>(pipe: &mut T, into: &mut [u8]) -> Result<usize, ChildFault>
-    ensures { length into.new ≡ length into.old }
+    ensures size { length into.new ≡ length into.old }
+    ensures few { IfOk result (λ count. count ≤ length into.new) }
+    ensures bytes { ReadConsumes (T.remaining pipe.old) (T.remaining pipe.new) result into.new }
 {
     for _ in 0..MOST_READS {
         match pipe.read(into) {
@@ -229,41 +93,94 @@ fn answer(called: io::Result<()>) -> Result<(), ChildFault> {
     }
 }
 
-impl<R: process::Processes + Drop> Children for Processes<R> {
-    ghost after = { λ _ _ _ _. Unit {0} };
+impl<P: OpenProcess + Drop> Process for Spawned<P> {
+    ghost use Rattle.child_calls.specs.Pipes.{ByPipes};
 
-    fn start(&mut self, name: Name, life: u32, words: &[Octets]) -> Result<(), ChildFault> {
-        answer(self.launch(name, life, words))
-    }
+    ghost did = { λ p call answer q. ByPipes P.Stdin.contents P.Stdout.remaining p.child call answer q.child };
 
-    fn send(&mut self, name: Name, life: u32, bytes: &[u8]) -> Result<(), ChildFault> {
-        let Some(at) = self.place(name, life) else {
+    fn write(&mut self, bytes: &[u8]) -> Result<(), ChildFault> {
+        let Some(pipe) = &mut self.child.stdin else {
             return Err(ChildFault);
         };
-        let Some(running) = self.running.get_mut(at) else {
-            return Err(ChildFault);
-        };
-        let Some(pipe) = &mut running.child.stdin else {
-            return Err(ChildFault);
-        };
-        answer(pipe.write_all(bytes))
-    }
-
-    fn receive(&mut self, name: Name, life: u32) -> Result<Received, ReceiveFault> {
-        let Ok(room) = room(self.alloc) else {
-            return Err(ReceiveFault::OutOfMemory);
-        };
-        match self.read(name, life, room) {
-            Ok(received) => Ok(received),
-            Err(_) => Err(ReceiveFault::Child),
+        match pipe.write_all(bytes) {
+            Ok(()) => Ok(()),
+            Err(_) => Err(ChildFault),
         }
     }
 
-    fn interrupt(&mut self, name: Name, life: u32) -> Result<(), ChildFault> {
-        answer(self.signal(name, life))
+    fn read(&mut self, room: &mut [u8]) -> Result<usize, ChildFault> {
+        let Some(pipe) = &mut self.child.stdout else {
+            return Err(ChildFault);
+        };
+        read_once(pipe, room)
     }
 
-    fn stop(&mut self, name: Name, life: u32) -> Result<(), ChildFault> {
-        answer(self.end(name, life))
+    fn end(&mut self) -> Result<(), ChildFault> {
+        let killed = self.child.kill();
+        drop(self.child.stdout.take());
+        match self.child.wait() {
+            Ok(_) => answer(killed),
+            Err(_) => Err(ChildFault),
+        }
+    }
+}
+
+impl<R: process::Processes + Drop> Spawner<R> {
+    /// Starts a process with these words, its program first.
+    fn spawn(&self, words: &[Octets]) -> io::Result<Child<R::Started>> {
+        let Some((program, others)) = words.split_first() else {
+            return Err(io::Error::from(ErrorKind::InvalidInput));
+        };
+        let mut command = Command::new(self.alloc, text(program)?)?;
+        for word in others {
+            command.arg(text(word)?)?;
+        }
+        command
+            .stdin(Stdio::piped())
+            .stdout(Stdio::piped())
+            .stderr(Stdio::null());
+        command.spawn(&self.runtime)
+    }
+
+    /// Sends a process the signal SIGINT, and waits until it is sent.
+    ///
+    /// std has no call for it, so `sh` does it by its own `kill`. The number is this process's as long as
+    /// nobody has waited for it, which its end alone does.
+    fn signal(&self, process: &Spawned<R::Started>) -> io::Result<()> {
+        let mut number = String::new(self.alloc);
+        write!(number, "{}", process.child.id())?;
+        let mut command = Command::new(self.alloc, "/bin/sh")?;
+        command.arg("-c")?;
+        command.arg("kill -INT \"$0\"")?;
+        command.arg(number.as_str())?;
+        command
+            .stdin(Stdio::null())
+            .stdout(Stdio::null())
+            .stderr(Stdio::null());
+        let mut sender = command.spawn(&self.runtime)?;
+        if sender.wait()?.success() {
+            Ok(())
+        } else {
+            Err(io::Error::from(ErrorKind::NotFound))
+        }
+    }
+}
+
+impl<R: process::Processes + Drop> Launcher for Spawner<R> {
+    type Process = Spawned<R::Started>;
+
+    ghost launched = { λ _ _ _ _. Unit {0} };
+
+    ghost signalled = { λ _ p _ _ q. p ≡ q };
+
+    fn launch(&mut self, words: &[Octets]) -> Result<Spawned<R::Started>, ChildFault> {
+        match self.spawn(words) {
+            Ok(child) => Ok(Spawned { child }),
+            Err(_) => Err(ChildFault),
+        }
+    }
+
+    fn interrupt(&mut self, process: &mut Spawned<R::Started>) -> Result<(), ChildFault> {
+        answer(self.signal(process))
     }
 }

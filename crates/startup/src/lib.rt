@@ -27,7 +27,7 @@ impl<'a> System for Real<'a> {
 
     type Places = FilePlaces<&'a HostRuntime>;
 
-    type Sources = Polled<&'a HostRuntime, &'a HostRuntime>;
+    type Sources = Polled<Processes<&'a HostRuntime>, &'a HostRuntime>;
 
     type Input = Stdin;
 

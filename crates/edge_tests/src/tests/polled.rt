@@ -9,7 +9,7 @@ use std::thread::sleep;
 use std::time::Duration;
 use worksheet::Name;
 
-type Real<'a> = Polled<&'a HostRuntime, &'a HostRuntime>;
+type Real<'a> = Polled<Processes<&'a HostRuntime>, &'a HostRuntime>;
 
 fn real(rt: &HostRuntime, input: RawFd) -> Option<Real<'_>> {
     let children = Processes::new(rt, rt.alloc());
