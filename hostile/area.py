@@ -4,6 +4,7 @@ own text, and a worksheet that takes ops as long as they are allowed."""
 import struct
 
 HEADER = b"TMWSHEET\x01"
+LINE_END = "\u2028".encode()  # of a line of an input
 OPEN = ord("R")
 LONGEST = 33_554_432
 REASONS = ["StartRefused", "Ended", "ReadFault", "SendFault", "Stalled", "BadTag", "TooDeep", "TooLong", "Stopped"]
@@ -179,7 +180,8 @@ class Sheet:
             session, given, outcome = self.fields[number]
             answered = isinstance(outcome, tuple)
             prompt, output = (outcome[0], printed(outcome[1])) if answered else (b"> ", b"?" + (b" " + outcome.encode() if outcome else b""))
-            text += b"#%d %s\n%s%s\n%s" % (number, session, escaped(prompt), escaped(given), output)
+            lines = b"\n. ".join(map(escaped, given.split(LINE_END)))
+            text += b"#%d %s\n%s%s\n%s" % (number, session, escaped(prompt), lines, output)
             text += b"" if output.endswith(b"\n") else b"\n"
         return text
 

@@ -171,7 +171,7 @@ class Client:
     def check_field(self, field: Any, it: Object) -> None:
         """A field is as it must be by what was told."""
         id, state = field["id"], field["state"]
-        self.must(id in self.order and field["input"].encode() == self.inputs[id] and field["session"].encode() == self.owners[id], it, "another field")
+        self.must(id in self.order and field["input"].replace("\n", "\u2028").encode() == self.inputs[id] and field["session"].encode() == self.owners[id], it, "another field")
         waits = any((item.id, item.cursor) == (id, None) for life in self.lives.values() for item in life.waiting)
         self.must((state == "waiting") == waits, it, f"that its line waits is {waits}")
         if id in self.answers and not waits:

@@ -122,13 +122,13 @@ def field_text(field: Any) -> bytes:
         prompt, output = bytes_of(rest[1]), shown(output_of(rest[0], rest[2]))
     elif state == "lost":
         output += b" " + text_of(rest[0])
-    head = b"#%d %s\n%s%s\n" % (number_of(id), text_of(session), escaped(prompt), escaped(text_of(given)))
+    head = b"#%d %s\n%s%s\n" % (number_of(id), text_of(session), escaped(prompt), b"\n. ".join(map(escaped, text_of(given).split(b"\n"))))
     return head + output + (b"" if output.endswith(b"\n") else b"\n")
 
 
 def hello(it: Object, _: bytes) -> bytes:
     form, program, protocol, version = members(it, "format", "program", "protocol", "version")
-    if (number_of(form), program, number_of(protocol)) != (1, "tmhost", 1) or not text_of(version):
+    if (number_of(form), program, number_of(protocol)) != (1, "tmhost", 2) or not text_of(version):
         raise Difference(f"another program: {it}")
     return b""
 

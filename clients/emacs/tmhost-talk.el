@@ -22,7 +22,7 @@
   :type 'string
   :group 'tmhost)
 
-(defconst tmhost-talk-protocol 1
+(defconst tmhost-talk-protocol 2
   "The version of the protocol that is understood.")
 
 (defvar-local tmhost-talk--process nil

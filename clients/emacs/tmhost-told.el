@@ -92,7 +92,7 @@ so it is looked at."
   "The field that is in TOLD, a FIELD of the protocol."
   (tmhost-field-make
    :id (alist-get 'id told) :session (alist-get 'session told)
-   :input (alist-get 'input told)
+   :input (tmhost-text-input (alist-get 'input told))
    :state (intern (alist-get 'state told)) :reason (alist-get 'reason told)
    :prompt (and (assq 'prompt told) (tmhost-text-of (alist-get 'prompt told)))
    :shown (and (assq 'shown told) (tmhost-text-of (alist-get 'shown told)))))

@@ -171,7 +171,7 @@
   "#!/bin/sh
 tell() { printf '%s\\n' \"$1\"; }
 case $1 in create) : >\"$2\"; exit ;; esac
-tell '{\"format\":1,\"new\":{\"a\":[]},\"program\":\"tmhost\",\"protocol\":1,\"type\":\"hello\",\"version\":\"9\"}'
+tell '{\"format\":1,\"new\":{\"a\":[]},\"program\":\"tmhost\",\"protocol\":2,\"type\":\"hello\",\"version\":\"9\"}'
 tell '{\"type\":\"weather\",\"life\":3,\"session\":\"a\"}'
 number=0
 while IFS= read -r line; do
@@ -226,7 +226,7 @@ tell \"{\\\"lines\\\":$number,\\\"type\\\":\\\"end\\\"}\"
     (unwind-protect
         (progn
           (write-region (replace-regexp-in-string
-                         (regexp-quote "\"protocol\":1") "\"protocol\":2"
+                         (regexp-quote "\"protocol\":2") "\"protocol\":3"
                          tmhost-tests-strange)
                         nil tmhost-program)
           (set-file-modes tmhost-program #o755)

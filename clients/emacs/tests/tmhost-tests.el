@@ -112,6 +112,8 @@ It has the session t, which completes."
   (should (equal (tmhost-text-harmless (propertize "a" 'invisible t)) "a"))
   (should (equal (tmhost-text-input "a\nb") "a\u2028b"))
   (should (equal (tmhost-text-lines "a\u2028b") "a\nb"))
+  (should (equal (tmhost-field-input (tmhost-told--read '((id . 1) (session . "a") (input . "a\nb\n") (state . "empty"))))
+                 "a\u2028b\u2028"))
   (should (= (tmhost-text-bytes "a\u00e9\u2028") 6)))
 
 (ert-deftest tmhost-tests-json ()

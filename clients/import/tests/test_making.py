@@ -8,7 +8,7 @@ import signal
 import subprocess
 import time
 
-from .support import COMMAND, LINE_END, PROGRAM, ROOT, Case, Done, code, needs_nbformat, needs_program, notebook
+from .support import COMMAND, PROGRAM, ROOT, Case, Done, code, needs_nbformat, needs_program, notebook
 
 ECHO = f"sh {ROOT}/examples/echo.sh"
 # Programs that stand before tmhost, each a text for sh; `$REAL` is tmhost itself.
@@ -74,7 +74,7 @@ class Making(Case):
     def test_fields_of_several_lines_are_evaluated(self) -> None:
         self.assertEqual(self.do("new", data=notebook(code("def f(n):\n    return n + 1\n\nx = 4"), code("y = x\nf(y)"))).status, 0)
         shown = self.host("run", "new", data="eval 1\neval 2\nwait\nprint\n")
-        self.assertTrue(shown.endswith(f"y = x{LINE_END}f(y)\n5\n"), shown)
+        self.assertTrue(shown.endswith("y = x\n. f(y)\n5\n"), shown)
 
     def test_what_is_there_stays(self) -> None:
         self.assertEqual(self.do("sheet", data=notebook(code("x"))).status, 0)

@@ -90,6 +90,9 @@ class Notebooks(Case):
         for source, given in (("a\r\nb\r\n", f"a{LINE_END}b"), (f"a{LINE_END}b", f"a{LINE_END}b"), (" \ta\u2029\x7f\x85 ", " \ta\u2029\x7f\x85 "), ("😀", "😀")):
             self.assertEqual(self.inputs(notebook(code(source))), [("python3", given)])
 
+    def test_ends_of_lines_that_an_export_has_written(self) -> None:
+        self.assertEqual(self.inputs(notebook(code("a\nb\n\n", "python3"))), [("python3", f"a{LINE_END}b{LINE_END}{LINE_END}")])
+
     def test_the_longest_input(self) -> None:
         for source in ("é" * 2047 + "x", "\n" + "x" * 4092):
             self.assertEqual(len(self.inputs(notebook(code(source)))[0][1].encode("utf-8")), 4095)

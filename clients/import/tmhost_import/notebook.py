@@ -143,11 +143,12 @@ def source_of(cell: Object, place: str) -> str:
     texts = [line for line in lines if isinstance(line, str)]
     if len(texts) < len(lines):
         raise Trouble(f"{place}: its source is no text")
-    return code_text("".join(texts))
+    return "".join(texts)
 
 
 def code_cell(cell: Object, place: str, kernel: Kernel) -> Cell:
-    text, own = source_of(cell, place), own_session(cell, place)
+    source, own = source_of(cell, place), own_session(cell, place)
+    text = code_text(source) if own is None else source  # an input of tmhost's may end in ends of lines
     if own is None and kernel.name is None:
         raise Trouble(f"{place}: neither it nor the notebook names a kernel: give one by --kernel NAME")
     session, hints = (own, (own,)) if own else (kernel.name, kernel.hints)

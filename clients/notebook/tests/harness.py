@@ -180,7 +180,7 @@ AS_SHOWN = """
   const said = (node) => node.dataset?.tex === undefined ? node.textContent : `{latex:${node.dataset.tex}}`;
   const text = isAnswered ? [...find(".output pre").childNodes].map(said).join("") : lost ? "? " + lost[1] : "?";
   const name = find(".session").textContent;
-  return `#${cell.id.slice(5)} ${name}\\n${isProse ? "> " : find(".prompt").textContent}${find("textarea").value.replaceAll("\\n", "\\u2028")}\\n`
+  return `#${cell.id.slice(5)} ${name}\\n${isProse ? "> " : find(".prompt").textContent}${find("textarea").value.replaceAll("\\n", "\\n. ")}\\n`
     + text + (text.endsWith("\\n") ? "" : "\\n");
 }).join("")
 """

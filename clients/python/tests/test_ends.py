@@ -166,7 +166,7 @@ class Programs(Case):
             file.write(text)
         return ["sh", path]
 
-    HELLO = """echo '{"format":1,"program":"tmhost","protocol":1,"type":"hello","version":"x"}'\n"""
+    HELLO = """echo '{"format":1,"program":"tmhost","protocol":2,"type":"hello","version":"x"}'\n"""
     EMPTY = """read line; echo '{"fields":[],"line":1,"next":1,"sessions":[],"type":"sheet"}'\n"""
 
     def test_no_program(self) -> None:
@@ -202,7 +202,7 @@ class Programs(Case):
 
     def test_another_protocol(self) -> None:
         with self.assertRaises(ProtocolError):
-            Worksheet(self.path, program=self.fake(self.HELLO.replace('"protocol":1', '"protocol":2') + "sleep 60"))
+            Worksheet(self.path, program=self.fake(self.HELLO.replace('"protocol":2', '"protocol":3') + "sleep 60"))
 
     def test_lines_that_are_not_of_the_protocol(self) -> None:
         for line in ("rubbish", "[]", '{"type":"done"}', '{"line":1,"type":"done"}', '{"line":2,"type":"made"}', '{"line":3,"type":"bad"}'):

@@ -15,7 +15,7 @@ from tmhost.protocol import Lines, Taken
 from tmhost.reading import read
 
 PAGE = os.path.join(ROOT, "docs/JSON.md")
-HELLO: Dict[str, Any] = {"format": 1, "program": "tmhost", "protocol": 1, "type": "hello", "version": "0"}
+HELLO: Dict[str, Any] = {"format": 1, "program": "tmhost", "protocol": 2, "type": "hello", "version": "0"}
 BLOCK: Dict[str, Any] = {"items": [], "kind": "format", "tag": "verbatim"}
 BANNER: Dict[str, Any] = {"life": 1, "output": BLOCK, "session": "a", "shown": "", "type": "banner"}
 
@@ -202,6 +202,14 @@ class Objects(unittest.TestCase):
         taken = talk.told({"field": {"id": 1, "input": "x", "session": "a", "state": "empty"}, "line": 2, "type": "field"})
         self.assertEqual(len(taken.events), 1)
         self.assertEqual((talk.protocol.mirror.field(1).reason, talk.protocol.mirror.field(1).state), (None, "empty"))
+
+    def test_inputs_of_several_lines(self) -> None:
+        """A field is told with line feeds; its input is what the worksheet has, which is what would be sent."""
+        talk, _ = self.asked()
+        talk.send(commands.Look(1))
+        talk.told({"field": {"id": 1, "input": "a\n\tb\n", "session": "a", "state": "empty"}, "line": 2, "type": "field"})
+        field = talk.protocol.mirror.field(1)
+        self.assertEqual((field.input, field.lines), (commands.input_of("a\n\tb\n"), ["a", "\tb", ""]))
 
     def test_lines_are_one_line(self) -> None:
         for text in ("x\n", "a\nb", "\n", "x\r", "x\r\n"):

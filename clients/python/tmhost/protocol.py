@@ -14,7 +14,7 @@ from .program import fault_in
 from .reading import End, Fault, Hello, OneField, Refusal, Reply, StopReply, Told, read
 from .values import LostItem
 
-VERSION = 1  # of the protocol
+VERSION = 2  # of the protocol
 IN_USE = 35
 
 

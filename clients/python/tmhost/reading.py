@@ -13,7 +13,7 @@ from typing import Any, Callable, Dict, List, NoReturn, Optional, Tuple, Union
 
 from .errors import ProtocolError
 from .events import Answered, Banner, Completed, Default, Ended, Event
-from .values import Answer, Block, Completions, Field, LostItem, Session, Text
+from .values import LINE_END, Answer, Block, Completions, Field, LostItem, Session, Text
 
 KINDS = ("format", "channel")
 BEYOND = 2**64
@@ -184,12 +184,13 @@ def answer(told: Members) -> Answer:
 
 
 def field(value: object) -> Field:
+    """A field; the line feeds of its input stand for U+2028, which a line that is sent has for them."""
     told = Members(value)
     state = told.one_of("state", "empty", "waiting", "answered", "lost")
     return Field(
         told.number("id"),
         told.string("session"),
-        told.string("input"),
+        told.string("input").replace("\n", LINE_END),
         state,
         answer(told) if state == "answered" else None,
         told.string("reason") if state == "lost" else None,

@@ -108,7 +108,7 @@ class Weaving(Case):
         again = self.weave(self.source())
         self.assertEqual(self.logged("a"), ["second", "other"])
         self.assertEqual(answers(again)[0], value(["p\u2028q"]))
-        self.assertEqual([field["input"] for field in self.fields()], [code.replace("\n", "\u2028") for _, code in self.blocks])
+        self.assertEqual([field["input"] for field in self.fields()], [code for _, code in self.blocks])
 
     def test_other_words(self) -> None:
         text = self.source()

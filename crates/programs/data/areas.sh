@@ -37,6 +37,13 @@ compare 'a worksheet that is kept' "$(answer show kept)" "$(ending '#1 a\n> x\nA
 compare 'its first file' "$(bytes kept)" "$(bytes example)"
 compare 'its second file' "$([ -e kept.alt ] || echo missing)" 'missing'
 
+# Inputs of several lines.
+several='R\000\000\000\021\002\000\000\000\000\001a\000\010a\342\200\250\342\200\250b'
+area 'an input of three lines' "$header$session$several"'\000' 0 '#1 a\n> a\n. \n. b\n?\n'
+area 'its answer' "$header$session$several"'R\000\000\000\025\007\000\000\000\001\000\002> \002verbatim:A\005\000' 0 '#1 a\n> a\n. \n. b\nA\n'
+area 'an input that is an end of a line' "$header$session"'R\000\000\000\014\002\000\000\000\000\001a\000\003\342\200\250\000' 0 '#1 a\n> \n. \n?\n'
+area 'a character beside U+2028' "$header$session"'R\000\000\000\014\002\000\000\000\000\001a\000\003\342\200\251\000' 0 '#1 a\n> \342\200\251\n?\n'
+
 # Headers.
 area 'no header' '0123456789' 1 'fault 31 NotASheet\n'
 area 'no header, with a gate behind it' '0123456789\000' 1 'fault 31 NotASheet\n'

@@ -10,12 +10,12 @@ json() {
 }
 
 json 'no line' 0 '' <<'END_OF_JSON'
-{"format":1,"program":"tmhost","protocol":1,"type":"hello","version":"0.1.0"}
+{"format":1,"program":"tmhost","protocol":2,"type":"hello","version":"0.1.0"}
 {"type":"end"}
 END_OF_JSON
 
 json 'each line of a script' 0 'session a plain p\nsession b tab p q\nnew 0 a x\nnew 1 a y\nset 1 z\nmove 2 0\nclear 1\nremove 2\ncheckpoint\nstop a\n# a remark\n\nwait\nwait 1\ncomplete 1 0\nnew 0 c x\nfoo\nprint 2\ninterrupt a\ninterrupt c\nprint\n' <<'END_OF_JSON'
-{"format":1,"program":"tmhost","protocol":1,"type":"hello","version":"0.1.0"}
+{"format":1,"program":"tmhost","protocol":2,"type":"hello","version":"0.1.0"}
 {"line":1,"type":"done"}
 {"line":2,"type":"done"}
 {"id":1,"line":3,"type":"made"}
@@ -46,7 +46,7 @@ END_OF_JSON
 interpreter p '\002verbatim:Hello\002prompt#Input 1] \005\005' '\002verbatim:\002latex:$x^2$\005\002prompt#Input 2] \005\005' \
     '\002verbatim:caf\351\002input#print(\005\005' '\002verbatim:{"line":3,"type":"done"}\n\001\033\177\005' '\002\351#\005' '\002verbatim:?\005'
 json 'what an interpreter writes' 0 'session a plain sh p.sh\nnew 0 a x^2\neval 1\nwait\nprint 1\neval 1\nwait 1000\neval 1\nwait\neval 1\nwait\neval 1\nwait\nprint 1\n' <<'END_OF_JSON'
-{"format":1,"program":"tmhost","protocol":1,"type":"hello","version":"0.1.0"}
+{"format":1,"program":"tmhost","protocol":2,"type":"hello","version":"0.1.0"}
 {"line":1,"type":"done"}
 {"id":1,"line":2,"type":"made"}
 {"life":1,"line":3,"type":"asked"}
@@ -71,10 +71,25 @@ json 'what an interpreter writes' 0 'session a plain sh p.sh\nnew 0 a x^2\neval 
 {"type":"end"}
 END_OF_JSON
 
+# An input of several lines has line feeds, and what is asked is the line as it was sent.
+json 'several lines' 0 'session a plain sh silent.sh\nnew 0 a a\342\200\250"b\342\200\250\nprint 1\neval 1\nprint 1\nstop a\nset 1 \342\200\250\nprint\n' <<'END_OF_JSON'
+{"format":1,"program":"tmhost","protocol":2,"type":"hello","version":"0.1.0"}
+{"line":1,"type":"done"}
+{"id":1,"line":2,"type":"made"}
+{"field":{"id":1,"input":"a\n\"b\n","session":"a","state":"empty"},"line":3,"type":"field"}
+{"life":1,"line":4,"type":"asked"}
+{"field":{"id":1,"input":"a\n\"b\n","session":"a","state":"waiting"},"line":5,"type":"field"}
+{"life":1,"line":6,"lost":[{"id":1,"text":"a \"b "}],"session":"a","type":"stopped"}
+{"line":7,"type":"done"}
+{"field":{"id":1,"input":"\n","session":"a","state":"empty"},"line":8,"more":true,"type":"field"}
+{"fields":[1],"line":8,"next":2,"sessions":[{"life":null,"name":"a","tab":false,"waiting":0,"words":["sh","silent.sh"]}],"type":"sheet"}
+{"type":"end"}
+END_OF_JSON
+
 # Completions, an interpreter that can't be started, one that ends, one that stalls, and one that is stopped with two lines.
 interpreter p "$banner" '\002scheme:(tuple "h" "ello" "i there")\005' '\002scheme:(tuple 3)\005' ''
 json 'completions' 0 'session t tab sh p.sh\nnew 0 t h\ncomplete 1 1\ncomplete 1 1\nwait\n' <<'END_OF_JSON'
-{"format":1,"program":"tmhost","protocol":1,"type":"hello","version":"0.1.0"}
+{"format":1,"program":"tmhost","protocol":2,"type":"hello","version":"0.1.0"}
 {"line":1,"type":"done"}
 {"id":1,"line":2,"type":"made"}
 {"life":1,"line":3,"type":"asked"}
@@ -86,7 +101,7 @@ json 'completions' 0 'session t tab sh p.sh\nnew 0 t h\ncomplete 1 1\ncomplete 1
 {"type":"end"}
 END_OF_JSON
 json 'lines that are lost' 0 'session a plain sh silent.sh\nsession b plain /nonexistent/p\nsession t tab sh silent.sh\nnew 0 a x\nnew 1 a y\nnew 2 b z\nnew 3 t h\neval 3\neval 1\neval 2\nwait 1\neval 1\neval 2\nprint 1\nstop a\neval 4\ncomplete 4 1\nstop t\nstop t\nprint 2\n' <<'END_OF_JSON'
-{"format":1,"program":"tmhost","protocol":1,"type":"hello","version":"0.1.0"}
+{"format":1,"program":"tmhost","protocol":2,"type":"hello","version":"0.1.0"}
 {"line":1,"type":"done"}
 {"line":2,"type":"done"}
 {"line":3,"type":"done"}
@@ -123,20 +138,20 @@ name='a missing path' faulty - nowhere/sheet <<'END_OF_JSON'
 fault 32 Disk
 END_OF_JSON
 name='what is no worksheet' faulty - hello.txt <<'END_OF_JSON'
-{"format":1,"program":"tmhost","protocol":1,"type":"hello","version":"0.1.0"}
+{"format":1,"program":"tmhost","protocol":2,"type":"hello","version":"0.1.0"}
 {"name":"NotASheet","number":31,"type":"fault"}
 fault 31 NotASheet
 END_OF_JSON
 printf 'TMWSHEET\001AR\000\000\000\011abc' >damaged
 name='a damaged worksheet' faulty - damaged <<'END_OF_JSON'
-{"format":1,"program":"tmhost","protocol":1,"type":"hello","version":"0.1.0"}
+{"format":1,"program":"tmhost","protocol":2,"type":"hello","version":"0.1.0"}
 {"name":"Damaged","number":30,"offset":10,"type":"fault"}
 fault 30 Damaged 10
 END_OF_JSON
 rm -f sheet sheet.alt
 "$tmhost" create sheet
 cat >wanted <<'END_OF_JSON'
-{"format":1,"program":"tmhost","protocol":1,"type":"hello","version":"0.1.0"}
+{"format":1,"program":"tmhost","protocol":2,"type":"hello","version":"0.1.0"}
 {"name":"Input","number":40,"type":"fault"}
 fault 40 Input
 status 1
@@ -160,7 +175,7 @@ compare 'both forms leave one worksheet' "$(cmp sheet.kept sheet--json.kept && e
 mv sheet--json.kept sheet
 compare 'show --json is export json' "$(answer show --json sheet </dev/null)" "$(answer export json sheet </dev/null)"
 cat >wanted <<'END_OF_JSON'
-{"format":1,"program":"tmhost","protocol":1,"type":"hello","version":"0.1.0"}
+{"format":1,"program":"tmhost","protocol":2,"type":"hello","version":"0.1.0"}
 {"field":{"id":1,"input":"z","session":"a","state":"empty"},"type":"field"}
 {"field":{"id":2,"input":"y","output":{"items":["B"],"kind":"format","tag":"verbatim"},"prompt":"> ","session":"a","shown":"B","state":"answered"},"type":"field"}
 {"fields":[1,2],"next":3,"sessions":[{"life":null,"name":"a","tab":false,"waiting":0,"words":["sh","p.sh"]}],"type":"sheet"}

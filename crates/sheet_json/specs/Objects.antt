@@ -109,7 +109,7 @@ sessions_data sessions = array (items_of (map session_data sessions))
 
 -- All that is told.
 abbrev pub telling_data : Telling → Data
-telling_data told.hello = object (member (codes "format") (count 1) (member (codes "program") (string (codes "tmhost")) (member (codes "protocol") (count 1) (member (codes "type") (string (codes "hello")) (member (codes "version") (string (codes "0.1.0")) no_members)))))
+telling_data told.hello = object (member (codes "format") (count 1) (member (codes "program") (string (codes "tmhost")) (member (codes "protocol") (count 2) (member (codes "type") (string (codes "hello")) (member (codes "version") (string (codes "0.1.0")) no_members)))))
 telling_data (told.reply line r) = reply_data line r
 telling_data (told.stopped line session life lost) = stopped_data line session life lost
 telling_data (told.event session life e) = event_data session life e

@@ -5,6 +5,7 @@ use Rattle.worksheet.specs.Contents.{Contents}
 use Rattle.worksheet.specs.declared.field.Answer.{Answer}
 use Rattle.worksheet.specs.declared.field.Field.{Field}
 use Rattle.worksheet.specs.declared.field.Session.{Session}
+use Rattle.sheet_text.specs.InputLines.{unfolded}
 use Rattle.sheet_json.specs.Tellings.{FieldShown, SessionShown, State, Telling}
 use Rattle.sheet_json.specs.Tellings as told
 
@@ -15,8 +16,9 @@ state_shown waits None (Some why) = told.lost why
 state_shown true None None = told.waiting
 state_shown false None None = told.empty
 
+-- its input has a line feed for each U+2028
 abbrev pub field_told : Bool → Field → FieldShown
-field_told waits field = record { id = field.id; session = field.session; input = field.input; state = state_shown waits field.answer field.lost }
+field_told waits field = record { id = field.id; session = field.session; input = unfolded field.input; state = state_shown waits field.answer field.lost }
 
 abbrev pub session_shown : Option ℕ → ℕ → Session → SessionShown
 session_shown life waiting s = record { name = s.name; tab = s.tab; words = s.words; life = life; waiting = waiting }

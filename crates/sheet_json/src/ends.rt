@@ -11,7 +11,7 @@ use std::alloc::{AllocError, Global};
 pub fn hello_value(alloc: Global) -> Result<Value, AllocError>
     ensures { IfOk result (λ value. view value ≡ telling_data told.hello) }
 {
-    json!(in alloc; {"format": 1, "program": "tmhost", "protocol": 1, "type": "hello", "version": "0.1.0"})
+    json!(in alloc; {"format": 1, "program": "tmhost", "protocol": 2, "type": "hello", "version": "0.1.0"})
 }
 
 /// The last object, where the input came to its end.

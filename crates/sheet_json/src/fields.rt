@@ -5,28 +5,30 @@ ghost use Rattle.sheet_json.specs.Objects.{telling_data};
 ghost use Rattle.sheet_json.specs.Objects as json;
 ghost use Rattle.sheet_json.specs.Shown as shown;
 ghost use Rattle.sheet_json.specs.Tellings as told;
+ghost use Rattle.sheet_text.specs.InputLines.{unfolded};
 
 use crate::blocks::block_value;
 use crate::bytes::bytes_value;
 use crate::events::{shown_value, texts_value};
 use block_tree::Reason;
 use serde_json::{Value, json};
-use sheet_text::reason_name;
+use sheet_text::{reason_name, unfolded as unfold};
 use std::alloc::{AllocError, Global};
 use worksheet::{Answer, Field, Session, Sheet};
 
-/// A field that shows an answer.
+/// A field that shows an answer; its input has a line feed for each U+2028, as in each of these.
 fn answered_field(alloc: Global, field: &Field, answer: &Answer) -> Result<Value, AllocError>
     ensures { IfOk result (λ value. view value ≡ json.field_with field.now.id field.now.session
-        field.now.input (told.answered answer.now.prompt answer.now.output)) }
+        (unfolded field.now.input) (told.answered answer.now.prompt answer.now.output)) }
 {
+    let input = unfold(alloc, field.input.as_str())?;
     let blocks = block_value(alloc, &answer.output)?;
     let prompt = bytes_value(alloc, answer.prompt.as_slice())?;
     let name = bytes_value(alloc, field.session.as_slice())?;
     let shown = shown_value(alloc, &answer.output)?;
     json!(in alloc; {
         "id": field.id,
-        "input": field.input.as_str(),
+        "input": input,
         "output": blocks,
         "prompt": prompt,
         "session": name,
@@ -38,13 +40,14 @@ fn answered_field(alloc: Global, field: &Field, answer: &Answer) -> Result<Value
 /// A field whose line was lost.
 fn lost_field(alloc: Global, field: &Field, why: Reason) -> Result<Value, AllocError>
     ensures { IfOk result (λ value. view value ≡ json.field_with field.now.id field.now.session
-        field.now.input (told.lost why)) }
+        (unfolded field.now.input) (told.lost why)) }
 {
+    let input = unfold(alloc, field.input.as_str())?;
     let name = bytes_value(alloc, field.session.as_slice())?;
     let reason = reason_name(why);
     json!(in alloc; {
         "id": field.id,
-        "input": field.input.as_str(),
+        "input": input,
         "reason": reason,
         "session": name,
         "state": "lost"
@@ -54,13 +57,14 @@ fn lost_field(alloc: Global, field: &Field, why: Reason) -> Result<Value, AllocE
 /// A field without both.
 fn open_field(alloc: Global, field: &Field, waits: bool) -> Result<Value, AllocError>
     ensures { IfOk result (λ value. view value ≡ json.field_with field.now.id field.now.session
-        field.now.input (shown.state_shown waits None None)) }
+        (unfolded field.now.input) (shown.state_shown waits None None)) }
 {
+    let input = unfold(alloc, field.input.as_str())?;
     let name = bytes_value(alloc, field.session.as_slice())?;
     if waits {
-        json!(in alloc; {"id": field.id, "input": field.input.as_str(), "session": name, "state": "waiting"})
+        json!(in alloc; {"id": field.id, "input": input, "session": name, "state": "waiting"})
     } else {
-        json!(in alloc; {"id": field.id, "input": field.input.as_str(), "session": name, "state": "empty"})
+        json!(in alloc; {"id": field.id, "input": input, "session": name, "state": "empty"})
     }
 }
 

@@ -102,7 +102,7 @@ fn ends_have_their_lines(rt: HostRuntime) {
         has_line(
             alloc,
             hello_value(alloc),
-            b"{\"format\":1,\"program\":\"tmhost\",\"protocol\":1,\"type\":\"hello\",\"version\":\"0.1.0\"}\n"
+            b"{\"format\":1,\"program\":\"tmhost\",\"protocol\":2,\"type\":\"hello\",\"version\":\"0.1.0\"}\n"
         )
     );
     assert!(rt; has_line(alloc, end_value(alloc), b"{\"type\":\"end\"}\n"));

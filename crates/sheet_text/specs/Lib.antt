@@ -1,5 +1,6 @@
 pub mod Escape
 pub mod Blocks
+pub mod InputLines
 pub mod Script
 pub mod LiveLines
 pub mod Replies

@@ -12,6 +12,7 @@ use Rattle.host_events.specs.declared.reply.Reply.{Reply}
 use Rattle.host_events.specs.declared.reply.Reply.TheVariants as reply
 use Rattle.sheet_text.specs.Escape.{on_line}
 use Rattle.sheet_text.specs.Blocks.{block_text}
+use Rattle.sheet_text.specs.InputLines.{lines_of_input, text_of_lines}
 use Rattle.sheet_text.specs.Replies.{child_text, reason_name}
 
 -- 'refused', the number and the name
@@ -36,9 +37,13 @@ abbrev pub prompt_shown : Option Answer → List ℕ
 prompt_shown None = codes "> "
 prompt_shown (Some answer) = answer.prompt
 
+-- what stands between two lines of an input: the second begins behind '. '
+abbrev pub line_between : List ℕ
+line_between = codes "\n. "
+
 -- the prompt and the input
 abbrev pub input_line : Field → List ℕ
-input_line field = on_line (prompt_shown field.answer) ++ on_line field.input ++ 10 ∷ []
+input_line field = on_line (prompt_shown field.answer) ++ text_of_lines on_line line_between (lines_of_input field.input) ++ 10 ∷ []
 
 abbrev pub is_line_feed : Option ℕ → Bool
 is_line_feed None = false

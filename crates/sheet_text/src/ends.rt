@@ -38,6 +38,16 @@ fn shown_end(node: &Node, before: Option<u8>) -> Option<u8>
     end
 }
 
+/// Whether a text, printed on the lines that it has, ends in a line feed.
+pub(crate) fn text_ends_line(text: &[u8]) -> bool
+    ensures { result ≡ printed.ends_line (on_lines text.now) }
+{
+    match text_end(text, None) {
+        None => false,
+        Some(byte) => byte == b'\n',
+    }
+}
+
 /// Whether a block, as a worksheet shows it, ends in a line feed.
 pub(crate) fn ends_line(block: &Block) -> bool
     ensures { result ≡ printed.ends_line (block_text block.now) }

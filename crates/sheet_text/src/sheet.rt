@@ -2,13 +2,14 @@
 ghost use Rattle.std.specs.Prelude.{◌≡◌, OnOk};
 ghost use Rattle.std.specs.Option.{option_copied};
 ghost use Rattle.std.specs.Io.KnownBytes.{Appends};
-ghost use Rattle.sheet_text.specs.Escape.{on_line};
+ghost use Rattle.sheet_text.specs.Escape.{on_line, on_lines};
 ghost use Rattle.sheet_text.specs.Texts as printed;
 
 use crate::blocks::block_text;
-use crate::ends::ends_line;
-use crate::escape::write_line;
+use crate::ends::{ends_line, text_ends_line};
+use crate::escape::{write_line, write_lines};
 use crate::fault::WriteFault;
+use crate::inputs::write_input_lines;
 use crate::replies::reason_name;
 use block_tree::Reason;
 use std::io::Write;
@@ -41,14 +42,14 @@ fn write_prompt<W: Write>(answer: &Option<Answer>, out: &mut W) -> Result<(), Wr
     }
 }
 
-/// Writes the prompt and the input of a field.
+/// Writes the prompt and the input of a field, each further line of it behind `. `.
 #[tactic(auto, using(crate::proofs::Appending::steps))]
 pub fn write_input<W: Write>(field: &Field, out: &mut W) -> Result<(), WriteFault>
     ensures { OnOk result
         (Appends (W.contents out.old) (W.contents out.new) (printed.input_line field.now)) }
 {
     write_prompt(&field.answer, out)?;
-    write_line(field.input.as_bytes(), out)?;
+    write_input_lines(field.input.as_str(), b"\n. ", out)?;
     out.write_all(b"\n").map_err(|_| WriteFault)?;
     Ok(())
 }
@@ -80,6 +81,20 @@ pub fn write_output<W: Write>(
     };
     block_text(&answer.output, out)?;
     if !ends_line(&answer.output) {
+        out.write_all(b"\n").map_err(|_| WriteFault)?;
+    }
+    Ok(())
+}
+
+/// Writes a text of an output in whole lines, as `write_output` writes an output.
+#[tactic(auto, using(crate::proofs::Appending::steps))]
+pub fn write_text<W: Write>(text: &[u8], out: &mut W) -> Result<(), WriteFault>
+    ensures { OnOk result
+        (Appends (W.contents out.old) (W.contents out.new)
+        (printed.in_lines (on_lines text.now))) }
+{
+    write_lines(text, out)?;
+    if !text_ends_line(text) {
         out.write_all(b"\n").map_err(|_| WriteFault)?;
     }
     Ok(())
