@@ -53,7 +53,7 @@ REWORDED: dict[Key, tuple[str, str]] = {
         ": not where it was Stopped, nor where its interpreter ended before",
         ", also where it was Stopped or its interpreter ended first",
     ),
-    ("host_laws.Laws", "may_want"): ("refused so", "refused for want of memory"),
+    ("host_laws.Laws", "may_want"): ("refused so", "refused for lack of memory"),
     ("session_engine.Host", "number_in"): ("its number", "the number of the life of a session that a host runs"),
     ("recovery.Laws", "OneSheet"): ("and is that", "An image is that"),
     ("disk_model.Disk", "bytes_on"): ("the same of a disk", "what a read gives of a disk"),
@@ -63,12 +63,33 @@ REWORDED: dict[Key, tuple[str, str]] = {
     ),
     ("sheet_files.DiskFile", "Loses"): (
         "no sync is forgotten that failed, and one that did is on record",
-        "a sync that succeeds, or that has nothing to bring out, doesn't change whether one failed; of another error nothing is claimed here",
+        "a sync that succeeds, or that has nothing to flush, doesn't change whether one failed; of another error nothing is claimed here",
     ),
     ("plugin_core.AskPoints", "AnswersByAskPoints"): ("has them and", "has the answers by ask points and"),
     ("block_tree.Output", "output"): ("the output of a block:", "the output of a block: what it has but prompts and default inputs;"),
     ("block_tree.Shape", "is_tag_byte"): ("no control character", "none below 32"),
 }
+
+# The words of these sentences that docs/GLOSSARY.md retires, and what the page says for them, in this order: `told` is what a host
+# returned, but of a worksheet and of completions what is said.
+SPOKEN: list[tuple[str, str]] = [
+    (r"all those of which it told", "all those whose outcome it returned"),
+    (r"the outcomes that it was told, of", "the outcomes that were returned to it, of"),
+    (r"it is told as nothing", "the reply is Nothing"),
+    (r"is told by the last Answer", "is said by the last Answer"),
+    (r"the completions that an output tells, or that it tells none", "the completions that an output names, or that it names none"),
+    (r"The output tells these", "The output has these"),
+    (r"told as a value", "said as a value"),
+    (r"\btold\b", "returned"),
+    (r"\btells\b", "says"),
+    (r"\bwrites the journal anew", "rewrites the journal"),
+    (r"\bwritten anew", "rewritten"),
+    (r"\banew\b", "again"),
+    (r"\bwant of (memory|room)", r"lack of \1"),
+    (r"\bto bring out", "to flush"),
+    (r"\bbehind\b", "after"),
+    (r"\bBehind\b", "After"),
+]
 
 # What follows the sentence of a definition.
 REMARKS: dict[Key, str] = {
@@ -158,7 +179,7 @@ class Page:
     def told(self, definition: Definition) -> str:
         """What is said of a definition: the sentences above it, a remark, the law beside it, and where it is proved."""
         key = definition.key
-        told = [" ".join(definition.sentences).replace(*REWORDED.get(key, ("", ""))), REMARKS.get(key, "")]
+        told = [spoken(" ".join(definition.sentences).replace(*REWORDED.get(key, ("", "")))), REMARKS.get(key, "")]
         if not any(told):
             sys.exit(f"{definition.file}:{definition.line}: no sentence stands above {key[1]}")
         if key in LAWS_BESIDE:
@@ -254,6 +275,14 @@ class Page:
         lines = sum(len(d.lines) for d in definitions)
         counts = f"{len(definitions)} definitions of {lines:,} lines, and {len(self.printed) - len(definitions)} types of the code"
         return "\n".join([PLACE.sub(self.put, head).replace("{counts}", counts), *self.sections()]), counts
+
+
+def spoken(sentence: str) -> str:
+    """A sentence in the words of the pages. A name between backquotes stays."""
+    parts = re.split(r"(`[^`]*`)", sentence)
+    for word, said in SPOKEN:
+        parts[::2] = [re.sub(word, said, part) for part in parts[::2]]
+    return "".join(parts)
 
 
 def edits() -> dict[str, str]:

@@ -1,4 +1,4 @@
--- An option of a pair is known where both parts are: so what is told of a subcommand and of its rows
+-- An option of a pair is known where both parts are: so what is said of a subcommand and of its rows
 -- tells the matches of the subcommand.
 use Rattle.std.proofs.Common.{◌≡◌, Option, Some, None, List, option_map, ap, ap₂, sym}
 use Rattle.std.specs.Prelude.{unwrap_or}

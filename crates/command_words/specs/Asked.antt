@@ -59,7 +59,7 @@ path_rule = record (new_rule (codes "PATH")) { required = true }
 abbrev pub with_path : Text → App
 with_path name = with_rule (new_app name) path_rule
 
--- and of those with a flag before it or behind it
+-- and of those with a flag before it or after it
 abbrev pub strict_rule : Rule
 strict_rule = record (new_rule (codes "strict")) { long = Some (codes "strict"); action = Some SetTrue }
 
@@ -98,7 +98,7 @@ unanswered_rule = record (new_rule (codes "unanswered")) { long = Some (codes "u
 abbrev pub with_eval : Text → App
 with_eval name = with_rule (with_strict name) unanswered_rule
 
--- and of the one with a second path behind the first
+-- and of the one with a second path after the first
 abbrev pub second_rule : Rule
 second_rule = record (new_rule (codes "NEW")) { required = true }
 

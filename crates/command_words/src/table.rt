@@ -34,20 +34,20 @@ pub(crate) struct Row {
     pub(crate) notes: &'static str,
 }
 
-/// The number of this version, which `--version` shows behind the name of the program.
+/// The number of this version, which `--version` shows after the name of the program.
 pub(crate) const VERSION: &str = "0.1.0";
 
 /// What the help of the program says below its lists.
 pub(crate) const NOTES: &str = "Without a command it is `blocks`.\n\n\
-Status: 0 where all was done, or help was shown; 1 at a fault, which is told on\n\
-standard error as `fault N NAME`, where the stream of `blocks` has a fault or an\n\
-open block, where `check` finds a difference, and where `eval` leaves a field\n\
-without an answer; 2 where the words are refused; 3 where --strict stops.\n\
+Status: 0 where all was done, or help was shown; 1 at a fault, which standard\n\
+error has as `fault N NAME`, where the stream of `blocks` has a fault or an open\n\
+block, where `check` finds a difference, and where `eval` leaves a field without\n\
+an answer; 2 where the words are refused; 3 where --strict stops.\n\
 `tmhost help faults` says what each fault means.\n\n\
 Example: tmhost create sheet.tm && tmhost run sheet.tm <script.txt";
 
 const BLOCKS_NOTES: &str =
-    "A line is the offset of the block's first byte, the offset behind its last one,\n\
+    "A line is the offset of the block's first byte, the offset after its last one,\n\
 and the block with its tags.\n\n\
 Status: 0 where the stream is whole; 1 where it has a fault or an open block, or\n\
 at a fault of the program; 2 where the words are refused.\n\n\
@@ -56,19 +56,19 @@ Example: printf '\\002verbatim:Hi\\005' | tmhost blocks";
 const CREATE_NOTES: &str =
     "Where PATH or PATH.alt exists nothing is made, and the fault is 34 NotEmpty.\n\
 A creation that was cut off may leave files that are no worksheet, which `run`\n\
-tells as the fault 31: remove PATH and PATH.alt, and create it again.\n\n\
+reports as the fault 31: remove PATH and PATH.alt, and create it again.\n\n\
 Status: 0 where the worksheet is on the disk; 1 at a fault; 2 where the words are\n\
 refused.\n\n\
 Example: tmhost create sheet.tm";
 
 const RUN_NOTES: &str =
     "The script is read whole from standard input. What each line of it gives is\n\
-written before the next one is taken, and what is told as done is on the disk.\n\
+written before the next one is taken, and what it reports as done is on the disk.\n\
 Where another program has the worksheet the script isn't read and nothing is\n\
 done: that is the fault 35 InUse.\n\n\
-With --strict it stops behind the first line that is bad or refused, or by which\n\
+With --strict it stops after the first line that is bad or refused, or by which\n\
 lines were lost since an interpreter ended: what that line gives is written, what\n\
-was told is on the disk, and standard error tells `stopped at line N`.\n\n\
+was reported is on the disk, and standard error has `stopped at line N`.\n\n\
 Status: 0 where the script ran to its end, without --strict also where it has bad\n\
 lines and refused commands; 1 at a fault; 2 where the words are refused; 3 where\n\
 --strict stopped it.\n\n\
@@ -77,11 +77,11 @@ Example: tmhost run sheet.tm <script.txt";
 const LIVE_NOTES: &str =
     "Each line of standard input is taken when it comes, and what an interpreter\n\
 writes is taken when it comes: what either gives is written and flushed at once,\n\
-and what is told as done is on the disk. Lines are those of `run`, of 65,536 bytes\n\
-at most, and `print ID`, `wait SECONDS` and `interrupt NAME`, which sends SIGINT to\n\
-an interpreter that is at something. A `wait` holds back the lines behind it until\n\
-no answer is awaited, or its time is over. At the end of the input each interpreter\n\
-is stopped.\n\n\
+and what it reports as done is on the disk. Lines are those of `run`, of 65,536\n\
+bytes at most, and `print ID`, `wait SECONDS` and `interrupt NAME`, which sends\n\
+SIGINT to an interpreter that is at something. A `wait` holds back the lines after\n\
+it until no answer is awaited, or its time is over. At the end of the input each\n\
+interpreter is stopped.\n\n\
 With --json each line is one object, which programs read (docs/JSON.md).\n\n\
 Status: 0 where the input came to its end, also where it had bad lines and refused\n\
 commands; 1 at a fault; 2 where the words are refused.\n\n\
@@ -89,12 +89,12 @@ Example: printf 'print\\n' | tmhost live sheet.tm";
 
 const EVAL_NOTES: &str =
     "It does the script that has an `eval` and a `wait` for each field, in the order\n\
-of the worksheet, and writes what `run` writes of it. Each answer that is told is\n\
-on the disk. Interpreters start empty; at the end each is stopped. The last line\n\
+of the worksheet, and writes what `run` writes of it. Each answer that it reports\n\
+is on the disk. Interpreters start empty; at the end each is stopped. The last line\n\
 has the counts of the whole worksheet, as `answered 12 unanswered 1`.\n\n\
 With --unanswered only fields without an answer are evaluated. With --strict it\n\
-stops behind the first field that is lost or refused: the fields behind keep what\n\
-they show, and standard error tells `stopped at line N` of that script.\n\n\
+stops after the first field that is lost or refused: the fields after it keep what\n\
+they show, and standard error has `stopped at line N` of that script.\n\n\
 Status: 0 where each field of the worksheet shows an answer; 1 where one doesn't,\n\
 or at a fault; 2 where the words are refused; 3 where --strict stopped it.\n\n\
 Example: tmhost eval sheet.tm";
@@ -107,10 +107,10 @@ Status: 0 where all was written; 1 at a fault; 2 where the words are refused.\n\
 Example: tmhost show sheet.tm";
 
 const CHECK_NOTES: &str =
-    "Each field that shows an answer is evaluated anew, in the worksheet's order and\n\
+    "Each field that shows an answer is evaluated again, in the worksheet's order and\n\
 with interpreters of its own, on a copy in memory; the worksheet stays as it is.\n\
 Where another output comes the field's line, its prompt and input, the lines that\n\
-it shows behind `- `, and those that came behind `+ ` are written at once, or `+ ?`\n\
+it shows, with `- `, and those that came, with `+ `, are written at once, or `+ ?`\n\
 where no answer came. Prompts aren't compared. The last line has the counts, as\n\
 `same 4 differ 1 unanswered 0`.\n\n\
 With --format it reports each field as a test: as a point of TAP 13, or as a case\n\
@@ -125,20 +125,20 @@ Example: tmhost check --format junit sheet.tm >report.xml";
 const RESCUE_NOTES: &str =
     "It reads PATH alone, and makes NEW as `create` does. NEW has the worksheet of the\n\
 changes that stand in PATH before the first damage, whether that is a broken gate\n\
-or a change that can't be read or isn't allowed there; nothing behind it is read.\n\
-(`show` tells a broken gate first, also where it stands behind such a change.)\n\
+or a change that can't be read or isn't allowed there; nothing after it is read.\n\
+(`show` reports a broken gate first, also where it is after such a change.)\n\
 It writes `kept N, damaged at OFFSET`, where N counts the changes that were kept,\n\
 or `kept N, whole`.\n\n\
 Where PATH is no worksheet (31), can't be read (32), or is run by another program\n\
 (35), NEW isn't made. Where NEW or NEW.alt exists, the fault is 34 NotEmpty. A\n\
 rescue that was cut off may leave NEW empty, or no worksheet: remove NEW and\n\
 NEW.alt, and give it again.\n\n\
-Status: 0 where NEW is on the disk and that was told, be PATH whole or damaged; 1\n\
+Status: 0 where NEW is on the disk and that was printed, be PATH whole or not; 1\n\
 at a fault; 2 where the words are refused.\n\n\
 Example: tmhost rescue sheet.tm new.tm";
 
 const EXPORT_NOTES: &str = "FORMAT is one of these:\n\
-script    the lines that make the worksheet anew, for `run` on an empty one: its\n\
+script    the lines that make the worksheet again, for `run` on an empty one: its\n\
 \x20         sessions, and a `new` for each field. Answers are no part of it. A\n\
 \x20         session with a space in a word has no such line: that is the fault\n\
 \x20         36 NoScript, and nothing is written\n\
@@ -154,10 +154,11 @@ It reads PATH as `show` does, and writes and makes no file.\n\n\
 Status: 0 where all was written; 1 at a fault; 2 where the words are refused.\n\n\
 Example: tmhost export html sheet.tm >sheet.html";
 
-const FAULTS_NOTES: &str = "A fault is told on standard error as `fault N NAME`, with status 1.\n\n\
-21 Disk          a write failed while the script ran; all that was told is kept:\n\
+const FAULTS_NOTES: &str =
+    "A fault is printed on standard error as `fault N NAME`, with status 1.\n\n\
+21 Disk          a write failed while the script ran; all that was printed is kept:\n\
 \x20                make room, then `show`\n\
-22 OutOfMemory   while the script ran; all that was told is kept: run the rest again\n\
+22 OutOfMemory   while the script ran; all that was printed is kept: run the rest again\n\
 23 JournalFull   an answer doesn't fit the file; it isn't kept: `checkpoint`, or a new\n\
 \x20                worksheet. Of `rescue`: the worksheet doesn't fit a new file\n\
 30 Damaged G     no whole change stands at offset G of the file; what stands before it\n\
@@ -173,11 +174,12 @@ const FAULTS_NOTES: &str = "A fault is told on standard error as `fault N NAME`,
 36 NoScript      a session has a word with a space, which no line of a script makes;\n\
 \x20                nothing was written: export it in another format\n\
 40 Input         standard input can't be read; nothing was done: give it again. Of\n\
-\x20                `live`: at some line; all that was told is kept\n\
+\x20                `live`: at some line; all that was printed is kept\n\
 41 InputTooLong  more than 67,108,864 bytes; nothing was done: cut it into parts\n\
 42 Output        standard output can't be written; what was done is on the disk, and\n\
-\x20                one line more than was told may be: `show` says where it stands\n\
-43 OutOfMemory   outside of the worksheet; all that was told is kept: run the rest again\n\n\
+\x20                one line more than was printed may be: `show` says where it stands\n\
+43 OutOfMemory   outside of the worksheet; all that was printed is kept: run the rest\n\
+\x20                again\n\n\
 docs/FAULTS.md has more of each.";
 
 /// A row.
@@ -233,7 +235,7 @@ pub(crate) fn row_at(at: usize) -> Row
         6 => listed(
             "check",
             Shape::Check,
-            "Evaluate a worksheet anew, and write what differs",
+            "Evaluate a worksheet again, and write what differs",
             CHECK_NOTES,
         ),
         7 => listed(

@@ -42,7 +42,7 @@ pub enum Task<'a> {
     Show(&'a str),
     /// The same, as lines of JSON.
     ShowJson(&'a str),
-    /// Evaluate the worksheet at the path anew, and report what differs.
+    /// Evaluate the worksheet at the path again, and report what differs.
     Check(&'a str, CheckWords<'a>),
     /// Write what stands in the worksheet at the first path, before its first damage, to a new one at
     /// the second.
@@ -54,7 +54,7 @@ pub enum Task<'a> {
 /// The flags of `eval`.
 #[derive(Clone, Copy, Debug, PartialEq, Eq)]
 pub struct EvalFlags {
-    /// It stops behind the first field that is lost or refused.
+    /// It stops after the first field that is lost or refused.
     pub strict: bool,
     /// It evaluates only fields without an answer.
     pub unanswered: bool,
@@ -99,7 +99,7 @@ fn with_strict<'a>(alloc: Global, row: Row) -> Result<Command<'a>, AllocError>
     first.arg(
         Arg::new(alloc, "strict")
             .long("strict")
-            .help("Stop behind the first line that goes wrong")
+            .help("Stop after the first line that goes wrong")
             .action(ArgAction::SetTrue),
     )
 }
@@ -174,7 +174,7 @@ fn with_eval<'a>(alloc: Global, row: Row) -> Result<Command<'a>, AllocError>
     )
 }
 
-/// A subcommand with a path, and with that of a new worksheet behind it.
+/// A subcommand with a path, and with that of a new worksheet after it.
 fn with_paths<'a>(alloc: Global, row: Row) -> Result<Command<'a>, AllocError>
     ensures made { IfOk result (λ command. app_of command ≡ asked.with_paths row.name.now) }
     ensures local { IfOk result (λ command. (fields_of command).has_globals ≡ false) }
@@ -199,7 +199,7 @@ fn with_format<'a>(alloc: Global, row: Row) -> Result<Command<'a>, AllocError>
     )
 }
 
-/// A subcommand with a format, and with a path behind it.
+/// A subcommand with a format, and with a path after it.
 fn with_format_and_path<'a>(alloc: Global, row: Row) -> Result<Command<'a>, AllocError>
     ensures made { IfOk result (λ command.
         app_of command ≡ asked.with_format_and_path row.name.now) }

@@ -68,7 +68,7 @@ helps run 'Run the script on standard input over a worksheet' "Usage: ${tmhost##
 helps live 'Hold a worksheet open for lines that come on standard input' "Usage: ${tmhost##*/} live [OPTIONS] <PATH>" "Example: printf 'print\\n' | tmhost live sheet.tm" 1
 helps eval 'Evaluate the fields of a worksheet' "Usage: ${tmhost##*/} eval [OPTIONS] <PATH>" 'Example: tmhost eval sheet.tm' 1
 helps show 'Write a worksheet' "Usage: ${tmhost##*/} show [OPTIONS] <PATH>" 'Example: tmhost show sheet.tm' 1
-helps check 'Evaluate a worksheet anew, and write what differs' "Usage: ${tmhost##*/} check [OPTIONS] <PATH>" 'Example: tmhost check --format junit sheet.tm >report.xml' 1
+helps check 'Evaluate a worksheet again, and write what differs' "Usage: ${tmhost##*/} check [OPTIONS] <PATH>" 'Example: tmhost check --format junit sheet.tm >report.xml' 1
 helps rescue 'Write what stands before a damage to a new worksheet' "Usage: ${tmhost##*/} rescue <PATH> <NEW>" 'Example: tmhost rescue sheet.tm new.tm' 1
 
 helps export 'Write a worksheet as a script, Markdown, a page, a notebook or JSON' "Usage: ${tmhost##*/} export <FORMAT> <PATH>" 'Example: tmhost export html sheet.tm >sheet.html' 1
