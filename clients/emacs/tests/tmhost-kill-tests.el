@@ -278,7 +278,7 @@ about to be changed."
         (tmhost-tests-end path)
         (should (equal fields
                        (mapcar (lambda (it) (list (alist-get 'id it)
-                                                  (alist-get 'input it)
+                                                  (tmhost-text-input (alist-get 'input it))
                                                   (alist-get 'shown it)))
                                (tmhost-tests-disk path))))))))
 

@@ -232,7 +232,7 @@ tell \"{\\\"lines\\\":$number,\\\"type\\\":\\\"end\\\"}\"
           (set-file-modes tmhost-program #o755)
           (tmhost-open path)
           (tmhost-tests-until (lambda () tmhost--end) "end")
-          (should (string-match-p "It speaks protocol 2" tmhost--end))
+          (should (string-match-p "It speaks protocol 3" tmhost--end))
           (should-error (insert "x")))
       (tmhost-tests-end path)
       (delete-directory folder t))))

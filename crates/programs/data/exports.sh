@@ -166,6 +166,18 @@ page 'an input with a tab' 'a\011b' '> ' 'verbatim:A' 'a\x09b' '&gt; ' A
 page 'an input from right to left' '\342\200\256x' '> ' 'verbatim:A' "$(printf '\342\200\256x')" '&gt; ' A
 page 'no input' '' '> ' 'verbatim:A' '' '&gt; ' A
 
+# U+2028 ends a line of an input, and no other character does.
+page 'an input of two lines' 'a\342\200\250  b' '> ' 'verbatim:A' 'a
+  b' '&gt; ' A
+page 'an input that begins and ends with ends of lines' '\342\200\250a\342\200\250\342\200\250' '> ' 'verbatim:A' '
+a
+
+' '&gt; ' A
+page 'lines of an input that are markup' '</code>\342\200\250<b>' '> ' 'verbatim:A' '&lt;/code&gt;
+&lt;b&gt;' '&gt; ' A
+page 'characters beside U+2028' 'a\342\200\251b\342\200\247c\302\205d' '> ' 'verbatim:A' "$(printf 'a\342\200\251b\342\200\247c\302\205d')" '&gt; ' A
+page 'U+2028 in a prompt and an output' x 'a\342\200\250' 'verbatim:b\342\200\250c' x "$(printf 'a\342\200\250')" 'b\342\200\250c'
+
 # Markdown: NAME INPUT BLOCK TEXT, of one field.
 marked() {
     answered "$2" '> ' "$3"
@@ -193,6 +205,9 @@ marked 'an input of backquotes' '`````' 'verbatim:A' '``````a\n`````\n``````\n\n
 marked 'an input with two runs' '``` ````x``' 'verbatim:A' '`````a\n``` ````x``\n`````\n\n```\nA\n```\n'
 marked 'no input in Markdown' '' 'verbatim:A' '```a\n\n```\n\n```\nA\n```\n'
 marked 'an input with a tab in Markdown' 'a\011b' 'verbatim:A' '```a\na\\x09b\n```\n\n```\nA\n```\n'
+marked 'an input of two lines in Markdown' 'a\342\200\250b\011c' 'verbatim:A' '```a\na\nb\\x09c\n```\n\n```\nA\n```\n'
+marked 'a fence in a line of an input' 'a\342\200\250```\342\200\250b' 'verbatim:A' '````a\na\n```\nb\n````\n\n```\nA\n```\n'
+marked 'backquotes on two lines of an input' '``\342\200\250``' 'verbatim:A' '```a\n``\n``\n```\n\n```\nA\n```\n'
 coded 'an output with a fence' 'verbatim:```\n</pre>' '````' '```\n</pre>'
 coded 'an output that closes a longer fence' 'verbatim:x\n````\n# y' '`````' 'x\n````\n# y'
 coded 'two backquotes' 'verbatim:``' '```' '``'
@@ -260,6 +275,22 @@ coded 'a formula and a block' 'latex:$x$\002verbatim:y\005' '```' '{latex:$x$y}'
 coded 'a channel latex' 'latex#$x$' '```' '{latex#$x$}'
 coded 'a formula that is no latex' 'html:$x$' '```' '{html:$x$}'
 
+# A formula behind a text that was printed: NAME BLOCK FENCE TEXT FORMULA.
+behind() {
+    marked "$1" x "$2" "\`\`\`a\nx\n\`\`\`\n\n$3\n$4\n$3\n\n$5\n"
+}
+behind 'a text and a formula' 'verbatim:one\ntwo\n\002latex:$x$\005' '```' 'one\ntwo' '$x$'
+behind 'a text on the line of a formula' 'verbatim:is \002latex:$x$\005' '```' 'is ' '$x$'
+behind 'a text and a formula in a channel' 'output#one\n\002latex:$$x$$\005' '```' 'one' '$$x$$'
+behind 'a text with a fence and a formula' 'verbatim:```\n$y$\n\002latex:$x$\005' '````' '```\n$y$' '$x$'
+behind 'a text with control bytes and a formula' 'verbatim:a\000\tb\n\n\002latex:$x$\005' '```' 'a\\x00\tb\n' '$x$'
+coded 'a text and what is no formula' 'verbatim:one\n\002latex:$x<b$\005' '```' 'one\n{latex:$x<b$}'
+coded 'a text and two formulas' 'verbatim:one\n\002latex:$x$\005\002latex:$y$\005' '```' 'one\n{latex:$x$}{latex:$y$}'
+coded 'a text, a formula and a text' 'verbatim:one\n\002latex:$x$\005two' '```' 'one\n{latex:$x$}two'
+coded 'a text and a formula in a tag' 'html:one\n\002latex:$x$\005' '```' '{html:one\n{latex:$x$}}'
+coded 'a text and a formula in a block' 'verbatim:one\n\002verbatim:\002latex:$x$\005\005' '```' 'one\n{latex:$x$}'
+coded 'a text and a channel latex' 'verbatim:one\n\002latex#$x$\005' '```' 'one\n{latex#$x$}'
+
 # A cell of a notebook: NUMBER SOURCE OUTPUTS.
 cell() {
     printf '%s' '{"cell_type":"code","execution_count":null,"id":"field-'"$1"'","metadata":{"tmhost":{"session":"a"}},"outputs":['"$3"'],"source":"'"$2"'"}'
@@ -291,7 +322,19 @@ noted 'a stray byte in a formula' x 'latex:$x\377y$' x '"text/latex":"$x\\xffy$"
 noted 'a matrix in a notebook' x 'latex:$\\begin{pmatrix}1&2\\end{pmatrix}$' x '"text/latex":"$\\begin{pmatrix}1&2\\end{pmatrix}$","text/plain":"{latex:$\\begin{pmatrix}1&2\\end{pmatrix}$}"'
 noted 'less than in a notebook' x 'latex:$x < y$' x '"text/latex":"$x < y$","text/plain":"{latex:$x < y$}"'
 noted 'an element in a formula in a notebook' x 'latex:$x<b$' x '"text/plain":"{latex:$x<b$}"'
-noted 'a formula and text in a notebook' x 'verbatim:is \002latex:$x$\005' x '"text/plain":"is {latex:$x$}"'
+noted 'a formula that is none behind a text in a notebook' x 'verbatim:is \002latex:$x<b$\005' x '"text/plain":"is {latex:$x<b$}"'
+noted 'a formula in front of a text in a notebook' x 'verbatim:\002latex:$x$\005 it is' x '"text/plain":"{latex:$x$} it is"'
+
+# A case of a text and the formula behind it: NAME BLOCK, the text in JSON and the formula.
+streamed() {
+    answered x '> ' "$2"
+    result='{"name":"stdout","output_type":"stream","text":"'"$3"'"},{"data":{"text/latex":"'"$4"'","text/plain":"{latex:'"$4"'}"},"execution_count":null,"metadata":{},"output_type":"execute_result"}'
+    compare "$1" "$(answer export notebook area </dev/null)" '{"cells":['"$(cell 1 x "$result")$cells_end"
+}
+streamed 'a text and a formula in a notebook' 'verbatim:one\n\ttwo\n\002latex:$x^2$\005' 'one\n\ttwo\n' '$x^2$'
+streamed 'a text on the line of a formula in a notebook' 'verbatim:is \002latex:$x$\005' 'is ' '$x$'
+streamed 'stray and control bytes in front of a formula in a notebook' 'verbatim:\377\001\n\002latex:$x\377y$\005' '\\xff\\x01\n' '$x\\xffy$'
+noted 'an input of lines in a notebook' 'a\342\200\250\011b\342\200\250' 'verbatim:A\342\200\250B' 'a\n\tb\n' "$(printf '"text/plain":"A\342\200\250B"')"
 noted 'a block of HTML in a notebook' x 'html:<b>bold</b>' x '"text/plain":"{html:<b>bold</b>}"'
 noted 'a tag that is markup in a notebook' x '<b>:x' x '"text/plain":"{<b>:x}"'
 
@@ -338,6 +381,7 @@ scripted 'fields that were moved' 'session a plain sh\nnew 0 a 1\nnew 1 a 2\nnew
 scripted 'fields that went' 'session a plain sh\nnew 0 a 1\nnew 1 a 2\nnew 2 a 3\nremove 2\nremove 1\n' 'session a plain sh\nnew 0 a 3\n'
 scripted 'inputs with spaces' 'session a plain sh\nnew 0 a  x \nnew 1 a\nnew 2 a  \nnew 3 a #y\n' 'session a plain sh\nnew 0 a  x \nnew 1 a \nnew 2 a  \nnew 3 a #y\n'
 scripted 'inputs with a tab and characters' 'session a plain sh\nnew 0 a a\tb\nnew 1 a \342\202\254\n' 'session a plain sh\nnew 0 a a\tb\nnew 1 a \342\202\254\n'
+scripted 'inputs of several lines' 'session a plain sh\nnew 0 a a\342\200\250b\342\200\250\342\200\250\nnew 1 a \342\200\250\n' 'session a plain sh\nnew 0 a a\342\200\250b\342\200\250\342\200\250\nnew 1 a \342\200\250\n'
 scripted 'fields of two sessions' 'session a plain sh\nsession b plain sh\nnew 0 b x\nnew 0 a y\n' 'session a plain sh\nsession b plain sh\nnew 0 a y\nnew 1 b x\n'
 
 # A word with a space, which only journals of other callers can have.

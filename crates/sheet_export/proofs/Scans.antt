@@ -9,10 +9,13 @@ use Rattle.block_tree.specs.declared.tree.Item.{Item}
 use Rattle.block_tree.specs.declared.tree.Node.{Node, out-Node}
 use Rattle.std.proofs.lemmas.Grind.{flat_map-append}
 use Rattle.sheet_text.proofs.Appending.{block_text_out}
+use Rattle.sheet_text.proofs.LineLaws.{lines_are_input}
 use Rattle.sheet_text.specs.Blocks.{block_text, framed, is_bare, piece_block_text, sign}
-use Rattle.sheet_text.specs.Escape.{escaped_byte, hex, is_plain, on_line, printed_byte}
+use Rattle.sheet_text.specs.Escape.{escaped_byte, hex, is_plain, on_line, on_lines, printed_byte}
+use Rattle.sheet_text.specs.InputLines.{further_line, lines_of_input, line_end, text_of_lines}
 use Rattle.sheet_text.specs.Texts.{ends_line, in_lines}
 use Rattle.sheet_export.specs.declared.fences.Fence.{Fence}
+use Rattle.sheet_export.specs.Markdown.{input_code}
 use Rattle.sheet_export.specs.Fences.{fence_length, longest_run, run_at_start}
 use Rattle.sheet_export.specs.inside.Scan.{shortest, with_byte, with_bytes}
 
@@ -88,8 +91,28 @@ scanned bytes = let short = short_start bytes in scan_is shortest bytes (omega a
 pub line_scan : (fence : Fence) (bytes : List ℕ) → (with_bytes fence (bytes ++ 10 ∷ [])).length ≡ (with_bytes fence bytes).length
 line_scan fence bytes = ap (λ f. f.length) (with_bytes-append fence bytes (10 ∷ []))
 
-pub line_length : (bytes : List ℕ) → (with_bytes shortest bytes).length ≡ fence_length (on_line bytes ++ 10 ∷ [])
-line_length bytes = sym (sym (scanned (on_line bytes ++ 10 ∷ [])) ∙ line_scan shortest (on_line bytes) ∙ ap (λ f. f.length) (text_scan false shortest bytes))
+-- a line feed cuts a run of backquotes as U+2028 does
+further_scan : (fence : Fence) (lines : List (List ℕ)) → with_bytes fence (flat_map (further_line on_line (10 ∷ [])) lines) ≡ with_bytes fence (flat_map (further_line (λ line. line) line_end) lines)
+further_scan fence [] = refl
+further_scan fence (line ∷ lines) =
+    with_bytes-append (cut fence) (on_line line) (flat_map (further_line on_line (10 ∷ [])) lines)
+    ∙ ap (λ f. with_bytes f (flat_map (further_line on_line (10 ∷ [])) lines)) (text_scan false (cut fence) line)
+    ∙ further_scan (with_bytes (cut fence) line) lines
+    ∙ sym (with_bytes-append (cut fence) line (flat_map (further_line (λ line. line) line_end) lines))
+
+lines_scan : (fence : Fence) (lines : List (List ℕ)) → with_bytes fence (text_of_lines on_line (10 ∷ []) lines) ≡ with_bytes fence (text_of_lines (λ line. line) line_end lines)
+lines_scan fence [] = refl
+lines_scan fence (line ∷ lines) =
+    with_bytes-append fence (on_line line) (flat_map (further_line on_line (10 ∷ [])) lines)
+    ∙ ap (λ f. with_bytes f (flat_map (further_line on_line (10 ∷ [])) lines)) (text_scan false fence line)
+    ∙ further_scan (with_bytes fence line) lines
+    ∙ sym (with_bytes-append fence line (flat_map (further_line (λ line. line) line_end) lines))
+
+input_scan : (fence : Fence) (input : List ℕ) → with_bytes fence (input_code input) ≡ with_bytes fence input
+input_scan fence input = lines_scan fence (lines_of_input input) ∙ ap (with_bytes fence) (lines_are_input input).0
+
+pub line_length : (bytes : List ℕ) → (with_bytes shortest bytes).length ≡ fence_length (input_code bytes ++ 10 ∷ [])
+line_length bytes = sym (sym (scanned (input_code bytes ++ 10 ∷ [])) ∙ line_scan shortest (input_code bytes) ∙ ap (λ f. f.length) (input_scan shortest bytes))
 
 pub lines_length : (text : List ℕ) → (with_bytes shortest text).length ≡ fence_length (in_lines text)
 lines_length text = go (ends_line text)
@@ -97,6 +120,9 @@ lines_length text = go (ends_line text)
     go : (t : Bool) → (with_bytes shortest text).length ≡ fence_length (if t then text else text ++ 10 ∷ [])
     go true = scanned text
     go false = sym (line_scan shortest text) ∙ scanned (text ++ 10 ∷ [])
+
+pub text_length : (text : List ℕ) → (with_bytes shortest text).length ≡ fence_length (in_lines (on_lines text))
+text_length text = ap (λ f. f.length) (sym (text_scan true shortest text)) ∙ lines_length (on_lines text)
 
 -- One byte more of a text is read.
 pub byte_more : (fence : Fence) (bytes : List ℕ) (i d : ℕ) → i < length bytes → with_bytes fence (take (i + 1) bytes) ≡ with_byte (with_bytes fence (take i bytes)) (get_or bytes i d)

@@ -9,6 +9,7 @@ use Rattle.worksheet.specs.Contents.{Contents}
 use Rattle.worksheet.specs.declared.field.Answer.{Answer}
 use Rattle.worksheet.specs.declared.field.Field.{Field}
 use Rattle.sheet_text.specs.Blocks.{sign, is_bare}
+use Rattle.sheet_text.specs.InputLines.{lines_of_input, text_of_lines}
 use Rattle.sheet_text.specs.Replies.{reason_name}
 use Rattle.sheet_text.specs.Texts.{prompt_shown}
 use Rattle.sheet_export.specs.References.{html_text}
@@ -50,9 +51,13 @@ piece_html (block_piece b) = block_html b
 abbrev pub field_head : Field → List ℕ
 field_head field = part.field_start ++ decimal field.id ++ part.anchor_end ++ decimal field.id ++ part.link_end ++ decimal field.id ++ part.number_end ++ html_text false field.session ++ part.session_end
 
+-- the lines of an input
+abbrev pub lines_html : List ℕ → List ℕ
+lines_html input = text_of_lines (html_text false) (10 ∷ []) (lines_of_input input)
+
 -- the prompt and the input
 abbrev pub input_html : Field → List ℕ
-input_html field = part.input_start ++ html_text false (prompt_shown field.answer) ++ part.prompt_end ++ html_text false field.input ++ part.input_end
+input_html field = part.input_start ++ html_text false (prompt_shown field.answer) ++ part.prompt_end ++ lines_html field.input ++ part.input_end
 
 -- the output
 abbrev pub answer_html : Answer → List ℕ

@@ -6,20 +6,34 @@ use Rattle.worksheet.specs.Contents.{Contents}
 use Rattle.worksheet.specs.declared.field.Answer.{Answer}
 use Rattle.worksheet.specs.declared.field.Field.{Field}
 use Rattle.sheet_text.specs.Blocks.{block_text}
-use Rattle.sheet_text.specs.Escape.{on_line}
+use Rattle.sheet_text.specs.Escape.{on_line, on_lines}
+use Rattle.sheet_text.specs.InputLines.{lines_of_input, text_of_lines}
 use Rattle.sheet_text.specs.Replies.{reason_name}
 use Rattle.sheet_text.specs.Texts.{in_lines}
 use Rattle.sheet_export.specs.Fences.{fenced}
-use Rattle.sheet_notebook.specs.Formulas.{formula_of}
+use Rattle.sheet_notebook.specs.Formulas.{formula_behind, formula_of}
+
+-- the lines of an input
+abbrev pub input_code : List ℕ → List ℕ
+input_code input = text_of_lines on_line (10 ∷ []) (lines_of_input input)
 
 -- the input, as code of its session
 abbrev pub input_markdown : Field → List ℕ
-input_markdown field = fenced field.session (on_line field.input ++ 10 ∷ [])
+input_markdown field = fenced field.session (input_code field.input ++ 10 ∷ [])
 
 -- a formula on a line, or an output as `print` shows it
-abbrev pub answer_markdown : Option (List ℕ) → Answer → List ℕ
-answer_markdown (Some formula) answer = formula ++ 10 ∷ []
-answer_markdown None answer = fenced [] (in_lines (block_text answer.output))
+abbrev pub whole_markdown : Option (List ℕ) → Answer → List ℕ
+whole_markdown (Some formula) answer = formula ++ 10 ∷ []
+whole_markdown None answer = fenced [] (in_lines (block_text answer.output))
+
+-- a text that was printed, and behind an empty line the formula behind it
+abbrev pub printed_markdown : List ℕ → List ℕ → List ℕ
+printed_markdown printed formula = fenced [] (in_lines (on_lines printed)) ++ 10 ∷ [] ++ (formula ++ 10 ∷ [])
+
+-- such two, or an output as one
+abbrev pub answer_markdown : Option (List ℕ × List ℕ) → Answer → List ℕ
+answer_markdown (Some found) answer = printed_markdown found.0 found.1
+answer_markdown None answer = whole_markdown (formula_of answer.output) answer
 
 -- that there is no answer, with the reason if there is one
 abbrev pub no_answer_markdown : Option Reason → List ℕ
@@ -29,7 +43,7 @@ no_answer_markdown (Some reason) = codes "*no answer: " ++ reason_name reason ++
 -- the output, or that there is none
 abbrev pub output_markdown : Option Answer → Option Reason → List ℕ
 output_markdown None lost = no_answer_markdown lost
-output_markdown (Some answer) lost = answer_markdown (formula_of answer.output) answer
+output_markdown (Some answer) lost = answer_markdown (formula_behind answer.output) answer
 
 -- a field
 unfoldable pub field_markdown : Field → List ℕ

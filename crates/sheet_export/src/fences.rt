@@ -3,9 +3,10 @@ ghost use Rattle.std.specs.Prelude.{◌≡◌, ◌++◌, ◌∷◌, [], IfOk, On
 ghost use Rattle.std.specs.Io.KnownBytes.{Appends};
 ghost use Rattle.block_tree.specs.View.{tree_of};
 ghost use Rattle.sheet_export.specs.Fences.{fence_length, fence_of};
+ghost use Rattle.sheet_export.specs.Markdown.{input_code};
 ghost use Rattle.sheet_export.specs.inside.Scan as scan;
 ghost use Rattle.sheet_text.specs.Blocks.{block_text, sign};
-ghost use Rattle.sheet_text.specs.Escape.{on_line};
+ghost use Rattle.sheet_text.specs.Escape.{on_line, on_lines};
 ghost use Rattle.sheet_text.specs.Texts.{in_lines};
 
 use crate::fixed::write_bytes;
@@ -92,9 +93,9 @@ fn with_node(before: Fence, node: &Node) -> Result<Fence, WriteFault>
     Ok(fence)
 }
 
-/// The length of the fence of a line.
+/// The length of the fence of an input, on as many lines as it has; no backquote stands in the U+2028 between them.
 pub(crate) fn line_fence(bytes: &[u8]) -> Result<usize, WriteFault>
-    ensures { IfOk result (λ length. length ≡ fence_length (on_line bytes.now ++ 10 ∷ [])) }
+    ensures { IfOk result (λ length. length ≡ fence_length (input_code bytes.now ++ 10 ∷ [])) }
 {
     let fence = with_text(
         Fence {
@@ -102,6 +103,20 @@ pub(crate) fn line_fence(bytes: &[u8]) -> Result<usize, WriteFault>
             length: 3,
         },
         bytes,
+    )?;
+    Ok(fence.length)
+}
+
+/// The length of the fence of a text of an output, in whole lines.
+pub(crate) fn text_fence(text: &[u8]) -> Result<usize, WriteFault>
+    ensures { IfOk result (λ length. length ≡ fence_length (in_lines (on_lines text.now))) }
+{
+    let fence = with_text(
+        Fence {
+            ending: 1,
+            length: 3,
+        },
+        text,
     )?;
     Ok(fence.length)
 }

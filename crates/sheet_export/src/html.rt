@@ -13,7 +13,7 @@ use crate::fixed;
 use crate::fixed::write_bytes;
 use crate::references::write_text;
 use block_tree::{Block, Item, Node, Reason, Tag};
-use sheet_text::{WriteFault, reason_name};
+use sheet_text::{WriteFault, next_line, reason_name};
 use std::io::Write;
 use worksheet::{Answer, Field, Sheet};
 
@@ -112,12 +112,28 @@ fn write_session<W: Write>(field: &Field, out: &mut W) -> Result<(), WriteFault>
     write_text(field.session.as_slice(), false, out)
 }
 
-/// Writes the input of a field alone.
-fn write_line<W: Write>(field: &Field, out: &mut W) -> Result<(), WriteFault>
+/// Writes the lines of an input.
+fn write_lines<W: Write>(input: &str, out: &mut W) -> Result<(), WriteFault>
     ensures { OnOk result
-        (Appends (W.contents out.old) (W.contents out.new) (html_text false field.now.input)) }
+        (Appends (W.contents out.old) (W.contents out.new) (html.lines_html input.now)) }
 {
-    write_text(field.input.as_bytes(), false, out)
+    let (first, mut behind) = next_line(input);
+    write_text(first.as_bytes(), false, out)?;
+    while let Some(rest) = behind {
+        write_bytes(b"\n", out)?;
+        let (line, others) = next_line(rest);
+        write_text(line.as_bytes(), false, out)?;
+        behind = others;
+    }
+    Ok(())
+}
+
+/// Writes the lines of a field's input.
+fn write_given<W: Write>(field: &Field, out: &mut W) -> Result<(), WriteFault>
+    ensures { OnOk result
+        (Appends (W.contents out.old) (W.contents out.new) (html.lines_html field.now.input)) }
+{
+    write_lines(field.input.as_str(), out)
 }
 
 /// Writes a block as a worksheet shows it.
@@ -165,7 +181,7 @@ fn write_input<W: Write>(field: &Field, out: &mut W) -> Result<(), WriteFault>
     fixed::write_input_start(out)?;
     write_prompt(&field.answer, out)?;
     fixed::write_prompt_end(out)?;
-    write_line(field, out)?;
+    write_given(field, out)?;
     fixed::write_input_end(out)?;
     Ok(())
 }

@@ -3,15 +3,15 @@ ghost use Rattle.std.specs.Prelude.{◌≡◌, ◌++◌, ◌∷◌, [], OnOk};
 ghost use Rattle.std.specs.Io.KnownBytes.{Appends};
 ghost use Rattle.sheet_export.specs.Fences.{fenced_by};
 ghost use Rattle.sheet_export.specs.Markdown as markdown;
-ghost use Rattle.sheet_text.specs.Escape.{on_line};
-ghost use Rattle.sheet_text.specs.Texts.{output_lines};
+ghost use Rattle.sheet_text.specs.Escape.{on_lines};
+ghost use Rattle.sheet_text.specs.Texts.{in_lines, output_lines};
 
-use crate::fences::{line_fence, output_fence, write_fence};
+use crate::fences::{line_fence, output_fence, text_fence, write_fence};
 use crate::fixed::write_bytes;
 use crate::html::write_reason_name;
 use block_tree::Reason;
-use sheet_notebook::formula_of;
-use sheet_text::{WriteFault, write_line, write_output as write_lines};
+use sheet_notebook::{formula_behind, formula_of};
+use sheet_text::{WriteFault, write_input_lines, write_output as write_lines, write_text};
 use std::io::Write;
 use worksheet::{Answer, Field, Sheet};
 
@@ -23,19 +23,19 @@ fn write_session<W: Write>(field: &Field, out: &mut W) -> Result<(), WriteFault>
     write_bytes(field.session.as_slice(), out)
 }
 
-/// Writes the input of a field alone.
+/// Writes the lines of a field's input.
 fn write_given<W: Write>(field: &Field, out: &mut W) -> Result<(), WriteFault>
     ensures { OnOk result
-        (Appends (W.contents out.old) (W.contents out.new) (on_line field.now.input)) }
+        (Appends (W.contents out.old) (W.contents out.new) (markdown.input_code field.now.input)) }
 {
-    write_line(field.input.as_bytes(), out)
+    write_input_lines(field.input.as_str(), b"\n", out)
 }
 
 /// Writes an input between fences of this length.
 fn write_code<W: Write>(length: usize, field: &Field, out: &mut W) -> Result<(), WriteFault>
     ensures { OnOk result
         (Appends (W.contents out.old) (W.contents out.new)
-        (fenced_by length field.now.session (on_line field.now.input ++ 10 ∷ []))) }
+        (fenced_by length field.now.session (markdown.input_code field.now.input ++ 10 ∷ []))) }
 {
     write_fence(length, out)?;
     write_session(field, out)?;
@@ -87,6 +87,35 @@ fn write_formula<W: Write>(formula: &[u8], out: &mut W) -> Result<(), WriteFault
     Ok(())
 }
 
+/// Writes a text that was printed between fences of this length.
+#[tactic(auto, using(crate::proofs::Appending::steps))]
+fn write_printed<W: Write>(length: usize, printed: &[u8], out: &mut W) -> Result<(), WriteFault>
+    ensures { OnOk result
+        (Appends (W.contents out.old) (W.contents out.new)
+        (fenced_by length [] (in_lines (on_lines printed.now)))) }
+{
+    write_fence(length, out)?;
+    write_bytes(b"\n", out)?;
+    write_text(printed, out)?;
+    write_fence(length, out)?;
+    write_bytes(b"\n", out)?;
+    Ok(())
+}
+
+/// Writes a text that was printed, and the formula behind it.
+#[tactic(auto, using(crate::proofs::Appending::steps))]
+fn write_behind<W: Write>(printed: &[u8], formula: &[u8], out: &mut W) -> Result<(), WriteFault>
+    ensures { OnOk result
+        (Appends (W.contents out.old) (W.contents out.new)
+        (markdown.printed_markdown printed.now formula.now)) }
+{
+    let length = text_fence(printed)?;
+    write_printed(length, printed, out)?;
+    write_bytes(b"\n", out)?;
+    write_formula(formula, out)?;
+    Ok(())
+}
+
 /// Writes why a field lost its line.
 fn write_reason<W: Write>(reason: Reason, out: &mut W) -> Result<(), WriteFault>
     ensures { OnOk result
@@ -123,6 +152,9 @@ fn write_output<W: Write>(
     let Some(given) = answer else {
         return write_no_answer(lost, out);
     };
+    if let Some((printed, formula)) = formula_behind(&given.output) {
+        return write_behind(printed, formula, out);
+    }
     if let Some(formula) = formula_of(&given.output) {
         return write_formula(formula, out);
     }
@@ -154,7 +186,7 @@ fn write_next<W: Write>(field: &Field, out: &mut W) -> Result<(), WriteFault>
 }
 
 /// Writes a worksheet as Markdown: for each field its input as code of its session, and its output as
-/// code, or as the formula that it is, or a note that there is none.
+/// code, or as the formula that it is, with the text that was printed in front of it, or a note that there is none.
 ///
 /// After a `WriteFault` a part of the text may have gone out.
 #[tactic(auto, using(crate::proofs::FieldsBehind::markdown_steps))]

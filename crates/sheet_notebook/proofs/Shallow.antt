@@ -8,8 +8,8 @@ use Rattle.serde_json.specs.Written.{has_float, items_have_float}
 use Rattle.worksheet.specs.Contents.{Contents}
 use Rattle.worksheet.specs.declared.field.Answer.{Answer}
 use Rattle.worksheet.specs.declared.field.Field.{Field}
-use Rattle.sheet_notebook.specs.Formulas.{formula_of}
-use Rattle.sheet_notebook.specs.Notebook.{bundle, cell_of, notebook, outputs_of}
+use Rattle.sheet_notebook.specs.Formulas.{formula_behind, formula_of}
+use Rattle.sheet_notebook.specs.Notebook.{bundle, cell_of, notebook, outputs_of, outputs_with}
 
 bundle_float : (formula : Option (List ℕ)) (output : Tree) → has_float (bundle formula output) ≡ false
 bundle_float None output = refl
@@ -19,15 +19,21 @@ bundle_depth : (formula : Option (List ℕ)) (output : Tree) → depth (bundle f
 bundle_depth None output = refl
 bundle_depth (Some formula) output = refl
 
+found_float : (found : Option (List ℕ × List ℕ)) (output : Tree) → has_float (outputs_with found output) ≡ false
+found_float None output = ap (λ b. (b || false) || false) (bundle_float (formula_of output) output)
+found_float (Some found) output = refl
+
+found_depth : (found : Option (List ℕ × List ℕ)) (output : Tree) → depth (outputs_with found output) ≡ 3
+found_depth None output = ap (λ d. suc (max (suc (max d 1)) 0)) (bundle_depth (formula_of output) output)
+found_depth (Some found) output = refl
+
 outputs_float : (answer : Option Answer) → has_float (outputs_of answer) ≡ false
 outputs_float None = refl
-outputs_float (Some answer) = ap (λ b. (b || false) || false) (bundle_float (formula_of answer.output) answer.output)
+outputs_float (Some answer) = found_float (formula_behind answer.output) answer.output
 
 outputs_depth : (answer : Option Answer) → depth (outputs_of answer) ≤ 3
 outputs_depth None = omega arith
-outputs_depth (Some answer) =
-    let is : depth (outputs_of (Some answer)) ≡ 3 = ap (λ d. suc (max (suc (max d 1)) 0)) (bundle_depth (formula_of answer.output) answer.output) in
-    omega (arith, is)
+outputs_depth (Some answer) = omega (arith, found_depth (formula_behind answer.output) answer.output)
 
 cell_float : (field : Field) → has_float (cell_of field) ≡ false
 unfolding cell_of

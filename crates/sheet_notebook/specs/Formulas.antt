@@ -1,8 +1,9 @@
 -- Outputs that are a formula between dollars, which stands in Markdown as it is.
-use Rattle.std.specs.Prelude.{ℕ, ◌-◌, ◌+◌, ◌==◌, ◌&&◌, ◌||◌, not, nat_eq, nat_lt, Bool, true, false, List, [], ◌∷◌, Option, Some, None, codes, cond, drop, length, take}
+use Rattle.std.specs.Prelude.{ℕ, ◌-◌, ◌+◌, ◌==◌, ◌&&◌, ◌||◌, not, nat_eq, nat_lt, Bool, true, false, List, [], ◌∷◌, Option, Some, None, codes, cond, drop, length, option_map, take}
 use Rattle.std.specs.List.{ends_with, list_all, slice_get, starts_with}
 use Rattle.std.specs.Str.{bytes_eq}
 use Rattle.block_tree.specs.Tree.{Items, Tree, end, text, block}
+use Rattle.sheet_text.specs.Blocks.{is_bare}
 use Rattle.sheet_text.specs.Escape.{is_plain}
 
 -- a byte that is printed as itself on one line, and no backquote
@@ -94,6 +95,28 @@ formula_in (text given (text other rest)) = None
 formula_in (text given (block channel name inside rest)) = None
 formula_in (block channel name inside rest) = None
 
--- the formula that a block of the format `latex` is, if it is one
+-- the formula that a block with this tag is, if it is of the format `latex` and is one
+abbrev pub formula_named : Bool → List ℕ → Items → Option (List ℕ)
+formula_named channel name inside = cond (not channel && bytes_eq name (codes "latex")) (formula_in inside) None
+
+-- the formula that a block is, if it is one
 abbrev pub formula_of : Tree → Option (List ℕ)
-formula_of b = cond (not b.channel && bytes_eq b.name (codes "latex")) (formula_in b.items) None
+formula_of b = formula_named b.channel b.name b.items
+
+-- the formula that these items are as one block, if they are one
+abbrev pub formula_last : Items → Option (List ℕ)
+formula_last end = None
+formula_last (text given rest) = None
+formula_last (block channel name inside end) = formula_named channel name inside
+formula_last (block channel name inside (text given rest)) = None
+formula_last (block channel name inside (block other another within rest)) = None
+
+-- the text and the formula behind it that these items are, if they are those
+abbrev pub text_and_formula : Items → Option (List ℕ × List ℕ)
+text_and_formula end = None
+text_and_formula (text given rest) = option_map (λ formula. (given, formula)) (formula_last rest)
+text_and_formula (block channel name inside rest) = None
+
+-- the text that an output prints and the formula behind it, if it is those: an interpreter that prints before it gives its value
+abbrev pub formula_behind : Tree → Option (List ℕ × List ℕ)
+formula_behind b = cond (is_bare b.channel b.name) (text_and_formula b.items) None

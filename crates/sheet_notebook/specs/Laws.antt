@@ -1,8 +1,15 @@
 -- Laws of the definitions.
-use Rattle.std.specs.Prelude.{◌≡◌, true, ℕ, List, Some}
+use Rattle.std.specs.Prelude.{◌≡◌, true, ℕ, false, List, ◌++◌, Some, codes}
 use Rattle.block_tree.specs.Tree.{Tree}
-use Rattle.sheet_notebook.specs.Formulas.{formula_of, is_still}
+use Rattle.sheet_text.specs.Blocks.{block_text, framed}
+use Rattle.sheet_text.specs.Escape.{on_lines}
+use Rattle.sheet_notebook.specs.Formulas.{formula_behind, formula_of, is_still}
 
 -- A formula has no control byte and no backquote, nothing in it begins a link, an image, an element, a remark or an address.
 abbrev pub FormulasAreStill : Type 0
 FormulasAreStill = (output : Tree) (formula : List ℕ) → formula_of output ≡ Some formula → is_still formula ≡ true
+
+-- Neither has one behind a text that was printed; and the text and the formula are all that `print` shows of such an output.
+abbrev pub FormulasBehindAreStill : Type 0
+FormulasBehindAreStill = (output : Tree) (printed formula : List ℕ) → formula_behind output ≡ Some (printed, formula)
+    → (is_still formula ≡ true) × (block_text output ≡ on_lines printed ++ framed false (codes "latex") (on_lines formula))

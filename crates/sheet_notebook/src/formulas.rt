@@ -1,12 +1,13 @@
 //! Outputs that are a formula between dollars.
-ghost use Rattle.std.specs.Prelude.{◌≡◌, ◌<◌, ◌≤◌, ◌+◌, false, length, cond, Some, None, map};
+ghost use Rattle.std.specs.Prelude.{◌≡◌, ◌<◌, ◌≤◌, ◌+◌, false, length, cond, Some, None, map, option_map};
 ghost use Rattle.std.specs.List.{list_all};
 ghost use Rattle.std.specs.Option.{option_copied};
 ghost use Rattle.block_tree.specs.Tree.{items_from};
 ghost use Rattle.block_tree.specs.View.{piece_of, tree_of};
+ghost use Rattle.sheet_text.specs.Blocks.{is_bare};
 ghost use Rattle.sheet_notebook.specs.Formulas as formula;
 
-use block_tree::{Block, Item, Node};
+use block_tree::{Block, Item, Node, Tag};
 use sheet_text::is_plain;
 
 /// Whether a byte stands for itself in a formula.
@@ -243,4 +244,72 @@ pub fn formula_of(output: &Block) -> Option<&[u8]>
     ensures { option_copied result ≡ formula.formula_of output.now }
 {
     formula_of_node(output.node())
+}
+
+/// The formula that these items are as one block, if they are one.
+#[tactic(auto, using(crate::proofs::Pieces::item_rules))]
+fn formula_last(items: &[Item]) -> Option<&[u8]>
+    ensures { option_copied result ≡ formula.formula_last (items_from (map piece_of items.now)) }
+{
+    let Some((item, others)) = items.split_first() else {
+        return None;
+    };
+    match item {
+        Item::Text(_) => None,
+        Item::Block(inner) => match others.first() {
+            None => formula_of_node(inner),
+            Some(_) => None,
+        },
+    }
+}
+
+/// The text and the formula behind it that these items are, if they are those.
+#[tactic(auto, using(crate::proofs::Pieces::item_rules))]
+fn text_and_formula(items: &[Item]) -> Option<(&[u8], &[u8])>
+    ensures { option_map (λ found. (found.0.now, found.1.now)) result
+        ≡ formula.text_and_formula (items_from (map piece_of items.now)) }
+{
+    let Some((item, others)) = items.split_first() else {
+        return None;
+    };
+    match item {
+        Item::Block(_) => None,
+        Item::Text(text) => match formula_last(others) {
+            None => None,
+            Some(formula) => Some((text.as_slice(), formula)),
+        },
+    }
+}
+
+/// Whether the tag isn't shown.
+fn is_bare_tag(tag: &Tag) -> bool
+    ensures { result ≡ is_bare tag.now.channel tag.now.name }
+{
+    if tag.channel {
+        tag.name.as_slice() == b"output".as_slice()
+    } else {
+        tag.name.as_slice() == b"verbatim".as_slice()
+    }
+}
+
+/// The text and the formula behind it that a node is, if it is those.
+#[tactic(auto, using(crate::proofs::Pieces::item_rules))]
+fn formula_behind_node(node: &Node) -> Option<(&[u8], &[u8])>
+    ensures { option_map (λ found. (found.0.now, found.1.now)) result
+        ≡ formula.formula_behind (tree_of node.now) }
+{
+    if is_bare_tag(&node.tag) {
+        text_and_formula(node.items.as_slice())
+    } else {
+        None
+    }
+}
+
+/// The text that an output prints and the formula behind it, if it is these two, of an interpreter that prints before
+/// it gives its value: a block without a tag in braces that has a text, and then a block that is a formula.
+pub fn formula_behind(output: &Block) -> Option<(&[u8], &[u8])>
+    ensures { option_map (λ found. (found.0.now, found.1.now)) result
+        ≡ formula.formula_behind output.now }
+{
+    formula_behind_node(output.node())
 }

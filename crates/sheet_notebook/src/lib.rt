@@ -6,5 +6,5 @@ pub mod laws;
 mod notebook;
 mod strings;
 
-pub use formulas::formula_of;
+pub use formulas::{formula_behind, formula_of};
 pub use notebook::notebook_bytes;

@@ -1,15 +1,17 @@
 //! A worksheet as a notebook.
-ghost use Rattle.std.specs.Prelude.{◌≡◌, ◌++◌, IfOk, Some, IsUtf8, codes, string_bytes};
+ghost use Rattle.std.specs.Prelude.{◌≡◌, ◌++◌, IfOk, Some, None, IsUtf8, codes, string_bytes};
 ghost use Rattle.std.specs.Fmt.{decimal};
+ghost use Rattle.block_tree.specs.Tree.{Tree};
 ghost use Rattle.serde_json.specs.Read.{read};
 ghost use Rattle.serde_json.specs.View.{view};
-ghost use Rattle.sheet_notebook.specs.Formulas.{formula_of as formula_in};
+ghost use Rattle.sheet_notebook.specs.Formulas.{formula_behind as behind, formula_of as formula_in};
 ghost use Rattle.sheet_notebook.specs.Notebook as notebook;
 
-use crate::formulas::formula_of;
+use crate::formulas::{formula_behind, formula_of};
 use crate::strings::{block_string, string_of};
 use block_tree::Block;
 use serde_json::{Value, json};
+use sheet_text::unfolded;
 use std::alloc::{AllocError, Global};
 use worksheet::{Answer, Field, Sheet};
 
@@ -34,29 +36,76 @@ fn bundle_of(alloc: Global, output: &Block) -> Result<Value, AllocError>
     }
 }
 
-/// What an interpreter answered.
-fn result_of(alloc: Global, answer: &Answer) -> Result<Value, AllocError>
-    ensures { IfOk result (λ value. view value ≡ notebook.result_of answer.now) }
+/// A formula, and beside it what `print` shows of it.
+fn formula_bundle(alloc: Global, formula: &[u8]) -> Result<Value, AllocError>
+    ensures { IfOk result (λ value. view value ≡ notebook.formula_bundle formula.now) }
 {
-    let bundle = bundle_of(alloc, &answer.output)?;
+    let tex = string_of(alloc, formula, true)?;
+    let mut plain = String::new(alloc);
+    plain.push_str("{latex:")?;
+    plain.push_str(tex.as_str())?;
+    plain.push_str("}")?;
+    json!(in alloc; {"text/latex": tex, "text/plain": plain})
+}
+
+/// What an interpreter answered.
+fn result_of(alloc: Global, given: Value) -> Result<Value, AllocError>
+    ensures { IfOk result (λ value. view value ≡ notebook.result_of (view given)) }
+{
     json!(in alloc; {
-        "data": bundle,
+        "data": given,
         "execution_count": null,
         "metadata": {},
         "output_type": "execute_result"
     })
 }
 
-/// The outputs of a cell: one, or none of a field without an answer.
+/// What it printed.
+fn stream_of(alloc: Global, printed: &[u8]) -> Result<Value, AllocError>
+    ensures { IfOk result (λ value. view value ≡ notebook.stream_data printed.now) }
+{
+    let text = string_of(alloc, printed, true)?;
+    json!(in alloc; {"name": "stdout", "output_type": "stream", "text": text})
+}
+
+/// An output as one.
+fn whole_output(alloc: Global, output: &Block) -> Result<Value, AllocError>
+    ensures { IfOk result (λ value. view value ≡ notebook.outputs_with None output.now) }
+{
+    let bundle = bundle_of(alloc, output)?;
+    let given = result_of(alloc, bundle)?;
+    json!(in alloc; [given])
+}
+
+/// A text that was printed, and the formula behind it.
+fn text_and_formula(alloc: Global, printed: &[u8], formula: &[u8]) -> Result<Value, AllocError>
+    ensures { (output : Tree) → IfOk result
+        (λ value. view value ≡ notebook.outputs_with (Some (printed.now, formula.now)) output) }
+{
+    let stream = stream_of(alloc, printed)?;
+    let bundle = formula_bundle(alloc, formula)?;
+    let given = result_of(alloc, bundle)?;
+    json!(in alloc; [stream, given])
+}
+
+/// What an interpreter printed and answered.
+fn outputs_with(alloc: Global, output: &Block) -> Result<Value, AllocError>
+    ensures { IfOk result
+        (λ value. view value ≡ notebook.outputs_with (behind output.now) output.now) }
+{
+    match formula_behind(output) {
+        None => whole_output(alloc, output),
+        Some((printed, formula)) => text_and_formula(alloc, printed, formula),
+    }
+}
+
+/// The outputs of a cell: none of a field without an answer.
 fn outputs_of(alloc: Global, answer: &Option<Answer>) -> Result<Value, AllocError>
     ensures { IfOk result (λ value. view value ≡ notebook.outputs_of answer.now) }
 {
     match answer {
         None => json!(in alloc; []),
-        Some(answer) => {
-            let given = result_of(alloc, answer)?;
-            json!(in alloc; [given])
-        }
+        Some(answer) => outputs_with(alloc, &answer.output),
     }
 }
 
@@ -68,7 +117,7 @@ fn metadata_of(alloc: Global, field: &Field) -> Result<Value, AllocError>
     json!(in alloc; {"tmhost": {"session": session}})
 }
 
-/// A field as a cell of code.
+/// A field as a cell of code, its input with a line feed for each U+2028.
 #[tactic(auto, unfolding(crate::specs::Notebook::cell_of))]
 fn cell_of(alloc: Global, field: &Field) -> Result<Value, AllocError>
     ensures { IfOk result (λ value. view value ≡ notebook.cell_of field.now) }
@@ -76,7 +125,8 @@ fn cell_of(alloc: Global, field: &Field) -> Result<Value, AllocError>
     let id = id_of(alloc, field.id)?;
     let metadata = metadata_of(alloc, field)?;
     let outputs = outputs_of(alloc, &field.answer)?;
-    let source = string_of(alloc, field.input.as_bytes(), true)?;
+    let input = unfolded(alloc, field.input.as_str())?;
+    let source = string_of(alloc, input.as_bytes(), true)?;
     json!(in alloc; {
         "cell_type": "code",
         "execution_count": null,
