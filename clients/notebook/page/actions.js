@@ -7,6 +7,10 @@ import { byId } from "./dom.js";
 /** @typedef {import("./cells").Cells} Cells */
 /** @typedef {import("./types").Reply} Reply */
 
+const EVALUATED = "to be evaluated";
+/** @type {Reply} */
+const NOT_SAVED = { refused: "NotSaved" };
+
 export class Actions {
   /**
    * @param {Cells} cells
@@ -31,7 +35,19 @@ export class Actions {
 
   /** @type {(view: CellView) => Promise<boolean>} */
   async evaluate(view) {
-    return (await this.isSaved(view)) && (view.isProse || !(await this.ask("eval", { id: view.id })).refused);
+    if (view.isProse) return this.isSaved(view);
+    const told = await view.risk(EVALUATED, async () => ((await this.isSaved(view)) ? this.ask("eval", { id: view.id }) : NOT_SAVED));
+    return !told.refused;
+  }
+
+  /**
+   * Does a call that evaluates these cells.
+   * @type {(views: CellView[], call: string, members: Record<string, unknown>) => Promise<Reply>}
+   */
+  evaluateEach(views, call, members) {
+    const told = this.ask(call, members);
+    for (const view of views) if (!view.isProse) view.risk(EVALUATED, () => told);
+    return told;
   }
 
   /**
@@ -59,21 +75,24 @@ export class Actions {
   }
 
   async evaluateAll() {
-    if (await this.saveAll()) await this.ask("eval_from", { id: null });
+    if (await this.saveAll()) await this.evaluateEach(this.cells.inOrder(), "eval_from", { id: null });
   }
 
   /** @param {CellView} view */
   async evaluateFrom(view) {
-    if (await this.saveAll()) await this.ask("eval_from", { id: view.id });
+    if (!(await this.saveAll())) return;
+    const views = this.cells.inOrder();
+    await this.evaluateEach(views.slice(views.indexOf(view)), "eval_from", { id: view.id });
   }
 
   async restartAll() {
-    if (await this.saveIdle()) await this.ask("restart", { session: null });
+    if (await this.saveIdle()) await this.evaluateEach(this.cells.inOrder(), "restart", { session: null });
   }
 
   /** @param {string} session */
   async restartSession(session) {
-    if (await this.saveIdle()) await this.ask("restart", { session });
+    if (!(await this.saveIdle())) return;
+    await this.evaluateEach(this.cells.inOrder().filter((view) => view.cell.session === session), "restart", { session });
   }
 
   /** Before a restart: a cell that waits for its answer can't be saved, and its text is saved behind the stop. */
@@ -110,7 +129,7 @@ export class Actions {
 
   /** @param {CellView} view */
   clear(view) {
-    return this.ask("clear", { id: view.id });
+    return view.risk("to be cleared", () => this.ask("clear", { id: view.id }));
   }
 
   // ---- cells
@@ -150,9 +169,7 @@ export class Actions {
   }
 
   addCell() {
-    const session = this.defaultSession();
-    if (session === null) this.note("make a session first");
-    return session === null ? undefined : this.make(this.cells.order.at(-1) ?? 0, session, true);
+    return this.make(this.cells.order.at(-1) ?? 0, this.defaultSession(), true);
   }
 
   addProse() {

@@ -5,36 +5,37 @@ import { button, byId, make, visible } from "./dom.js";
 /** @typedef {import("./types").Message} Message */
 /** @typedef {import("./types").Session} Session */
 
-/** @type {(session: Session) => string} */
-function stateOf(session) {
+/** @type {(session: Session, isThere: boolean) => string} */
+function stateOf(session, isThere) {
+  if (!isThere) return "no connection";
   if (session.waiting) return `${session.waiting} to answer`;
   return session.runs ? "idle" : "not started";
 }
 
-/** @type {(session: Session) => HTMLLIElement} */
-function itemOf(session) {
+/** @type {(session: Session, isThere: boolean) => HTMLLIElement} */
+function itemOf(session, isThere) {
   const { name } = session;
-  const item = make("li", session.waiting ? "busy" : session.runs ? "idle" : "none");
+  const item = make("li", !isThere ? "none" : session.waiting ? "busy" : session.runs ? "idle" : "none");
   item.dataset.session = name;
   item.title = visible(session.words);
-  item.append(make("b", "", name), make("span", "", stateOf(session)));
+  item.append(make("b", "", name), make("span", "", stateOf(session, isThere)));
   for (const [what, label, isFit] of /** @type {const} */ ([
     ["interruptSession", "Interrupt", session.waiting > 0], ["stopSession", "Stop", session.runs], ["restartSession", "Restart", true],
   ])) {
     const node = button(what, label, `${label} ${name}${what === "restartSession" ? ", and evaluate its cells" : ""}`);
-    node.disabled = !isFit;
+    node.disabled = !isFit || !isThere;
     item.append(node);
   }
   return item;
 }
 
-/** @param {Map<string, Session>} sessions */
-export function showSessions(sessions) {
+/** @type {(sessions: Map<string, Session>, isThere: boolean) => void} */
+export function showSessions(sessions, isThere) {
   const code = [...sessions.values()].filter((session) => !session.isProse);
   const list = byId("sessions", HTMLUListElement);
   const focused = document.activeElement instanceof HTMLElement && list.contains(document.activeElement) ? document.activeElement : null;
   const name = focused?.closest("li")?.dataset.session;
-  list.replaceChildren(...code.map(itemOf));
+  list.replaceChildren(...code.map((session) => itemOf(session, isThere)));
   const item = focused && [...list.querySelectorAll("li")].find((one) => one.dataset.session === name);
   if (item) /** @type {HTMLElement | null} */ (item.querySelector(`[data-do=${focused.dataset.do}]`))?.focus();
   const which = byId("which", HTMLSelectElement);

@@ -7,6 +7,7 @@ import { answerState, running, textState } from "./said.js";
 import { setInto } from "./setter.js";
 
 /** @typedef {import("./types").Cell} Cell */
+/** @typedef {import("./types").Reply} Reply */
 /** @typedef {import("./types").Session} Session */
 
 /**
@@ -30,7 +31,10 @@ export class CellView {
     this.id = cell.id;
     this.cell = cell;
     this.base = cell.input;
-    this.savedAt = 0; // number of the call that saved the text last
+    this.changedAt = 0; // number of this page's last change of it
+    this.toldAt = 0; // up to which change it was told last
+    this.asked = 0; // calls without a reply by which the answer may go
+    this.askedFor = ""; // what the last one is to do
     this.isElsewhere = false;
     this.trouble = "";
     /** @type {Set<string>} */
@@ -87,16 +91,26 @@ export class CellView {
     return this.cell.state === "running" || this.cell.state === "queued";
   }
 
+  /**
+   * What was asked and may have taken the answer away, until it is told what came of it.
+   * @returns {string | undefined}
+   */
+  get unsettled() {
+    const isBehind = this.cell.state === "answered" && this.toldAt < this.changedAt;
+    return !this.waits && (this.asked > 0 || isBehind) ? this.askedFor : undefined;
+  }
+
   // ---- what the server tells
 
   /**
-   * Takes what the cell is now. What was told before this page saved it last is older than what the page knows.
+   * Takes what the cell is now. What was told before this page changed it last is older than what the page knows.
    * @type {(cell: Cell, at: number) => void}
    */
   update(cell, at) {
-    if (at < this.savedAt) return;
+    if (at < this.changedAt) return;
     const waited = this.waits;
     this.cell = cell;
+    this.toldAt = at;
     this.takeText(cell.input);
     this.session.textContent = this.isProse ? "prose" : cell.session;
     this.box.classList.toggle("prose", this.isProse);
@@ -133,21 +147,21 @@ export class CellView {
 
   say() {
     const [isStale, hasEnded] = this.mark;
-    const { isDraft, isElsewhere, waits, trouble } = this;
-    const text = textState({ isDraft, isElsewhere, waits, trouble, isSaving: this.saving !== undefined, isThere: this.page.isThere });
-    const answer = this.isProse ? ["", ""] : answerState(this.cell, isStale, hasEnded);
+    const { isDraft, isElsewhere, waits, trouble, page: { isThere } } = this;
+    const text = textState({ isDraft, isElsewhere, waits, trouble, isSaving: this.saving !== undefined, isThere });
+    const answer = this.isProse ? ["", ""] : answerState(this.cell, { isThere, asked: this.unsettled, isStale, hasEnded });
     for (const [place, [name, words]] of /** @type {const} */ ([[this.textState, text], [this.answerState, answer]])) {
       if (place.textContent !== words) place.textContent = words;
       place.dataset.state = name;
     }
     this.conflict?.toggleAttribute("hidden", !this.isElsewhere);
-    this.box.dataset.state = this.cell.state;
+    this.box.dataset.state = this.unsettled === undefined ? this.cell.state : "asked";
     this.box.dataset.text = text[0];
   }
 
   /** Says how long it has been running, while it is. */
   tick() {
-    if (this.cell.state === "running") this.answerState.textContent = running(this.cell.since ?? Date.now());
+    if (this.cell.state === "running" && this.page.isThere) this.answerState.textContent = running(this.cell.since ?? Date.now());
   }
 
   /** Makes the text as high as its lines, where the browser doesn't by itself. */
@@ -236,13 +250,33 @@ export class CellView {
    */
   isSavedNow(text, at) {
     if (text !== this.base) this.cell = { ...this.cell, input: text, state: /** @type {const} */ ("empty"), reason: null, prompt: null, isOld: true };
-    this.savedAt = at;
+    this.changedAt = Math.max(this.changedAt, at);
     this.base = text;
     this.isElsewhere = false;
     this.tried.clear();
     this.output.update(this.cell.output, this.cell.isOld);
     this.say();
   }
+
+  // ---- evaluations
+
+  /**
+   * Does a call by which the answer may go. From now on until it is told what came of that, the answer isn't shown as one of the file.
+   * @type {(words: string, call: () => Promise<Reply>) => Promise<Reply>}
+   */
+  async risk(words, call) {
+    this.asked += 1;
+    this.askedFor = words;
+    this.say();
+    const told = await call();
+    this.asked -= 1;
+    if (told.at !== undefined) this.changedAt = Math.max(this.changedAt, told.at);
+    if (UNKNOWN.includes(told.refused ?? "") && this.cell.state === "answered") this.cell = { ...this.cell, state: /** @type {const} */ ("doubtful") };
+    this.say();
+    return told;
+  }
+
+  // ---- two pages
 
   /** The text of this page goes over that of the other one. */
   keepMine() {

@@ -6,19 +6,29 @@ import { suggestions } from "./talk.js";
 
 /** @typedef {import("./types").Suggestion} Suggestion */
 
+const SUGGESTED_WITHIN = 1_000; // milliseconds; a dialog without suggestions is better than none
+
+/** @type {(milliseconds: number) => Promise<undefined>} */
+const later = (milliseconds) => new Promise((done) => setTimeout(done, milliseconds));
+
 const field = (/** @type {string} */ id) => byId(id, HTMLInputElement);
 
-/** @param {Suggestion} suggestion */
-function choose(suggestion) {
-  field("session-name").value ||= suggestion.name;
-  field("session-words").value = suggestion.words;
-  field("session-tab").checked = suggestion.tab;
+/**
+ * A name that no session has: the one that is wanted, or with a number behind it.
+ * @type {(wanted: string, isTaken: (name: string) => boolean) => string}
+ */
+function freeName(wanted, isTaken) {
+  let name = wanted;
+  for (let number = 2; isTaken(name); number += 1) name = `${wanted}-${number}`;
+  return name;
 }
 
-/** @param {Suggestion[]} known */
-function showKnown(known) {
+/** @type {(known: Suggestion[], choose: (one: Suggestion) => void) => void} */
+function showKnown(known, choose) {
   byId("session-suggestions", HTMLDataListElement).replaceChildren(...known.map(({ words }) => new Option(words, words)));
-  byId("session-known", HTMLElement).replaceChildren(...known.map((one) => {
+  const place = byId("session-known", HTMLElement);
+  place.hidden = known.length === 0;
+  place.replaceChildren("On this machine: ", ...known.map((one) => {
     const node = make("button", "", one.name);
     node.type = "button";
     node.title = one.words;
@@ -27,18 +37,35 @@ function showKnown(known) {
   }));
 }
 
-/** @param {(name: string, words: string, tab: boolean) => void} made */
-export function sessionDialog(made) {
+/**
+ * What is suggested is asked for before the dialog is opened, and is in it before it is seen: nothing in it moves under a pointer.
+ * @type {(made: (name: string, words: string, tab: boolean) => void, isTaken: (name: string) => boolean) => () => Promise<void>}
+ */
+export function sessionDialog(made, isTaken) {
   const dialog = byId("session-dialog", HTMLDialogElement);
+  const [name, words, tab] = [field("session-name"), field("session-words"), field("session-tab")];
+  const known = suggestions();
+  let suggested = ""; // a name that nobody typed
+  const check = () => name.setCustomValidity(isTaken(name.value) ? "There is a session with this name." : "");
+  const choose = (/** @type {Suggestion} */ one) => {
+    if (name.value === suggested) name.value = suggested = freeName(one.name, isTaken);
+    words.value = one.words;
+    tab.checked = one.tab;
+    check();
+    byId("session-make", HTMLButtonElement).focus();
+  };
+  name.addEventListener("input", check);
   dialog.addEventListener("close", () => {
-    if (dialog.returnValue === "make") made(field("session-name").value, field("session-words").value, field("session-tab").checked);
+    if (dialog.returnValue === "make") made(name.value, words.value, tab.checked);
   });
   return async () => {
-    dialog.returnValue = "";
-    for (const id of ["session-name", "session-words"]) field(id).value = "";
-    field("session-tab").checked = false;
+    const found = await Promise.race([known, later(SUGGESTED_WITHIN)]);
+    if (dialog.open) return;
+    showKnown(found ?? [], choose);
+    dialog.returnValue = name.value = words.value = suggested = "";
+    tab.checked = false;
+    check();
     dialog.showModal();
-    showKnown(await suggestions());
   };
 }
 

@@ -31,6 +31,27 @@ export const TABLE = [
   ["H", "these keys"],
 ];
 
+/**
+ * Puts a text in the place of what is chosen, as a key does: the browser can undo it.
+ * @type {(view: CellView, text: string) => void}
+ */
+function insert(view, text) {
+  if (document.execCommand("insertText", false, text)) return;
+  view.text.setRangeText(text, view.text.selectionStart, view.text.selectionEnd, "end");
+  view.typed();
+}
+
+/**
+ * A new line begins below the first letter of the one before.
+ * @type {(view: CellView) => boolean}
+ */
+function newLine(view) {
+  const blanks = /^[ \t]*/.exec(view.text.value.slice(0, view.text.selectionStart).split("\n").at(-1) ?? "")?.[0];
+  if (!blanks) return false;
+  insert(view, `\n${blanks}`);
+  return true;
+}
+
 export class Keys {
   /**
    * @param {Cells} cells
@@ -112,6 +133,7 @@ export class Keys {
       return true;
     }
     if (event.key === "Tab" && !event.shiftKey && !event.ctrlKey && !event.altKey) return this.tab(view);
+    if (event.key === "Enter") return newLine(view);
     return event.key.startsWith("Arrow") && this.atEdge(event, view);
   }
 
@@ -122,8 +144,7 @@ export class Keys {
     if (isBehindWord && view.page.sessions.get(view.cell.session)?.tab) {
       this.completions.open(view);
     } else {
-      view.text.setRangeText("    ", at, selectionEnd, "end");
-      view.typed();
+      insert(view, "    ");
     }
     return true;
   }

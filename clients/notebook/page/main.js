@@ -17,10 +17,11 @@ const cells = new Cells(page);
 const actions = new Actions(cells, bars.note);
 const completions = new Completions();
 const showKeys = keysDialog();
+let isForCell = false; // whether a session is made for a new cell
 const askSession = sessionDialog(async (name, words, tab) => {
   const told = await actions.ask("session", { name, words, tab });
-  if (!told.refused && cells.order.length === 0) await actions.make(0, name, true);
-});
+  if (!told.refused && isForCell) await actions.make(cells.order.at(-1) ?? 0, name, true);
+}, (name) => page.sessions.has(name));
 new Keys(cells, actions, completions, showKeys);
 document.body.insertBefore(emptyLine(), cells.place.nextSibling);
 
@@ -32,7 +33,7 @@ function hear(message, isFirst) {
   if (message.path !== undefined) bars.showPath(message.path);
   if (message.ended !== undefined) bars.showTrouble(message.ended);
   if (message.removed) bars.showRemoved(message.removed);
-  if (message.sessions) bars.showSessions(page.sessions);
+  if (message.sessions) bars.showSessions(page.sessions, page.isThere);
   cells.hear(message);
   if (message.ended === null) saveAll(); // what could not be saved while the program was gone
   if (isFirst) document.documentElement.dataset.ready = "true";
@@ -42,6 +43,7 @@ function hear(message, isFirst) {
 function connect(isThere) {
   page.isThere = isThere;
   bars.showConnection(isThere);
+  bars.showSessions(page.sessions, isThere);
   for (const view of cells.views.values()) view.say();
   if (isThere) saveAll();
 }
@@ -57,7 +59,10 @@ setInterval(() => cells.views.forEach((view) => view.tick()), 1_000);
 
 /** @type {Record<string, (node: HTMLElement) => unknown>} */
 const DOES = {
-  askSession,
+  askSession: () => {
+    isForCell = cells.order.length === 0;
+    return askSession();
+  },
   showKeys,
   showRemoved: () => byId("removed-dialog", HTMLDialogElement).showModal(),
   showExport: async () => {
@@ -72,7 +77,10 @@ const DOES = {
   restartSession: (node) => actions.restartSession(sessionOf(node)),
   evaluateAll: () => actions.evaluateAll(),
   restartAll: () => actions.restartAll(),
-  addCell: () => actions.addCell(),
+  addCell: () => {
+    isForCell = actions.defaultSession() === null;
+    return isForCell ? askSession() : actions.addCell();
+  },
   addProse: () => actions.addProse(),
   reopen: () => actions.reopen(),
 };

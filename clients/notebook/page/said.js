@@ -29,10 +29,18 @@ export function running(since) {
 }
 
 /**
- * The state of a cell's answer, as a class and in words.
- * @type {(cell: Cell, isStale: boolean, hasEnded: boolean) => [string, string]}
+ * What is known of a cell's answer; `asked` is what was asked of it and isn't known to be done.
+ * @typedef {{isThere: boolean, asked: string | undefined, isStale: boolean, hasEnded: boolean}} Known
  */
-export function answerState(cell, isStale, hasEnded) {
+
+/**
+ * The state of a cell's answer, as a class and in words.
+ * @type {(cell: Cell, known: Known) => [string, string]}
+ */
+export function answerState(cell, { isThere, asked, isStale, hasEnded }) {
+  if (!isThere && (cell.state === "running" || cell.state === "queued")) return ["queued", "no connection: it was to be evaluated"];
+  if (asked !== undefined) return ["queued", asked];
+  if (cell.state === "doubtful") return ["lost", "in doubt: this answer may no longer be in the file"];
   if (cell.state === "running") return ["running", running(cell.since ?? Date.now())];
   if (cell.state === "queued") return ["queued", "waits for its turn"];
   if (cell.state === "lost") return ["lost", `lost: ${cell.reason} (${REASONS[cell.reason ?? ""] ?? "no answer"})`];

@@ -8,7 +8,7 @@ export interface Cell {
   id: number;
   session: string;
   input: string;
-  state: "empty" | "queued" | "running" | "answered" | "lost";
+  state: "empty" | "queued" | "running" | "answered" | "lost" | "doubtful";
   reason: string | null;
   since: number | null;
   prompt: string | null;

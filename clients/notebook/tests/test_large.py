@@ -1,15 +1,16 @@
 """A worksheet of 1,000 cells: how long its page takes to open, a key to be seen, and an answer to be seen behind the moment at which the program
-told it, so when it was on the disk. What is measured is printed. It is held to the limits where TMHOST_LIMITS=1 says so, since tests run beside
-other work."""
+told it, so when it was on the disk. What is measured is printed. Where TMHOST_LIMITS=1 says so it is held to the limits, and Jupyter is measured
+beside it; else not, since tests run beside other work."""
 
+import math
 import os
-import shutil
 import time
 import unittest
-from typing import Dict, List, Tuple
+from typing import Dict, List, Optional, Tuple
 
 import chromium
 import harness
+import jupyter
 from harness import HERE, READY, SPOKEN, Case, Page, Server, needs_chromium, needs_program
 
 CELLS = 1_000
@@ -34,11 +35,11 @@ new Promise((done) => {
   next();
 })
 """
-# Evaluates a cell with a new text, and gives the moment at which a picture of the page has its answer.
+# Evaluates a cell with a new text, and gives the moment at which a picture of the page has its answer, and how long that is behind the key.
 ANSWER = """
 new Promise((done) => {
-  const cell = document.querySelector("#cell-%d"), text = cell.querySelector("textarea"), shown = cell.querySelector(".output pre");
-  const seen = () => requestAnimationFrame(() => setTimeout(() => done(Date.now())));
+  const start = performance.now(), cell = document.querySelector("#cell-%d"), text = cell.querySelector("textarea"), shown = cell.querySelector(".output pre");
+  const seen = () => requestAnimationFrame(() => setTimeout(() => done([Date.now(), performance.now() - start])));
   const watch = new MutationObserver(() => {
     if (shown.textContent !== "%s") return;
     watch.disconnect();
@@ -52,10 +53,10 @@ new Promise((done) => {
 """
 
 
-def told(name: str, times: List[float], limit: float) -> str:
+def told(name: str, times: List[float], limit: Optional[float]) -> str:
     middle = sorted(times)[len(times) // 2]
-    most = f", {max(times):.0f} at most" if len(times) > 1 else ""
-    return f"{name} {middle:.0f} ms ({limit:.0f} wanted{most})"
+    beside = [f"{limit:.0f} wanted"] * (limit is not None) + [f"{max(times):.0f} at most"] * (len(times) > 1)
+    return f"{name} {middle:.0f} ms" + (f" ({', '.join(beside)})" if beside else "")
 
 
 @needs_program
@@ -82,12 +83,15 @@ class Large(Case):
             stamps: Dict[int, float] = {int(line.split()[0]): float(line.split()[1]) for line in file}
         return stamps[id]
 
-    def answers(self, tab: chromium.Tab) -> List[float]:
-        times = []
+    def answers(self, tab: chromium.Tab) -> Tuple[List[float], List[float]]:
+        """How long they come behind the disk, and behind the key."""
+        behind_disk, behind_key = [], []
         for number in range(TIMES):
             id = 101 + 40 * number
-            times.append(tab.value(ANSWER % (id, f"new {number}", f"new {number}")) - self.stamp_of(id))
-        return times
+            moment, took = tab.value(ANSWER % (id, f"new {number}", f"new {number}"))
+            behind_disk.append(moment - self.stamp_of(id))
+            behind_key.append(took)
+        return behind_disk, behind_key
 
     def move(self, tab: chromium.Tab) -> None:
         tab.until("document.querySelector('#cell-500 .text-state').textContent", "saved")
@@ -110,17 +114,27 @@ class Large(Case):
         tab.until("document.activeElement.closest('.cell')?.id", "cell-500")
         keys = tab.value(KEYS)
         self.move(tab)
-        answers = self.answers(tab)
+        behind_disk, behind_key = self.answers(tab)
         self.assertEqual(self.show().count("\n#"), CELLS - 1)
         self.assertEqual(browser.trouble, [])
+        server.stop()
         self.tell([("it opens in", [opens], OPENS_WITHIN), ("a key is seen in", keys, KEY_WITHIN),
-                   ("an answer is seen, behind being on the disk, in", answers, ANSWER_WITHIN)])
+                   ("an answer is seen, behind being on the disk, in", behind_disk, ANSWER_WITHIN),
+                   ("an answer is seen, behind its key, in", behind_key, None)])
+        self.tell_beside(browser)
 
-    def tell(self, measured: List[Tuple[str, List[float], float]]) -> None:
-        beside = "is installed, and was not measured" if shutil.which("jupyter-lab") else "isn't installed, so it wasn't measured"
-        print(f" {CELLS} cells: {'; '.join(told(*one) for one in measured)}. JupyterLab {beside}", end=" ")
+    def tell(self, measured: List[Tuple[str, List[float], Optional[float]]]) -> None:
+        print(f" {CELLS} cells: {'; '.join(told(*one) for one in measured)}.", end=" ")
         for name, times, limit in measured if ARE_HELD else []:
-            self.assertLess(sorted(times)[len(times) // 2], limit, name)
+            self.assertLess(sorted(times)[len(times) // 2], limit or math.inf, name)
+
+    def tell_beside(self, browser: chromium.Browser) -> None:
+        """The same of Jupyter Notebook, which Debian has; it has no JupyterLab."""
+        beside = jupyter.measured(browser, self.folder, CELLS, TIMES) if ARE_HELD else []
+        if beside is None:
+            print("Jupyter isn't installed (Debian's package jupyter-notebook), so it wasn't measured", end=" ")
+        elif beside:
+            print(f"Jupyter Notebook: {'; '.join(told(*one, None) for one in beside)}", end=" ")
 
 
 if __name__ == "__main__":

@@ -98,6 +98,26 @@ import(location.href + "setter.js").then(async ({ setInto }) => {
   return left;
 })
 """
+SUGGESTED = "[...document.querySelectorAll('#session-known button')].map((one) => one.textContent)"
+SUGGESTS = "[...document.querySelectorAll('#session-known button')].find((one) => one.textContent === '%s').click()"
+NAMES = "((name) => [name.value, name.checkValidity()])(document.querySelector('#session-name'))"
+# Counts how often the dialog has another height.
+MOVES = """
+(() => {
+  window.moved = -1;
+  new ResizeObserver(() => { window.moved += 1; }).observe(document.querySelector("#session-dialog form"));
+  return new Promise((done) => setTimeout(done, 100));
+})()
+"""
+# The suggestions come when `answer` is called.
+LATE = """
+(() => {
+  const kept = fetch;
+  window.fetch = (...words) => words[0] !== "suggestions" ? kept(...words) : new Promise((done) => {
+    window.answer = () => done(new Response('[{"name":"late","words":"late","tab":false}]'));
+  });
+})()
+"""
 NOT_ON_PAPER = "button, select, dialog, footer, .text-state, #note"
 
 
@@ -379,6 +399,67 @@ class ThePage(Case):
         if "PICTURE" in os.environ:
             with open(os.environ["PICTURE"], "wb") as file:
                 file.write(picture)
+
+    def test_a_new_session(self) -> None:
+        """The first cell asks for its session. What is suggested is there when the dialog is, and takes no name that a user typed or that is taken."""
+        self.server = self.serve()
+        self.browser = self.browse()
+        tab = opened(self.browser, self.server)
+        tab.click("[data-do=addCell]")
+        tab.until("document.querySelector('#session-dialog').open")
+        self.assertIn("sh", tab.value(SUGGESTED))
+        tab.value(SUGGESTS % "sh")
+        tab.until(FOCUSED, "session-make")
+        tab.key("Enter")
+        tab.until(IN_TEXT, "cell-1")
+        tab.click("[data-do=askSession]")
+        tab.until(FOCUSED, "session-name")
+        tab.value(SUGGESTS % "sh")
+        self.assertEqual(tab.value(NAMES), ["sh-2", True])
+        tab.value(SUGGESTS % "python")
+        self.assertEqual(tab.value(NAMES), ["python", True])
+        tab.click("#session-name")
+        tab.ask("Input.dispatchKeyEvent", {"type": "keyDown", "commands": ["selectAll"]})
+        tab.type("sh")
+        self.assertEqual(tab.value(NAMES), ["sh", False])
+        tab.value(SUGGESTS % "python")
+        self.assertEqual(tab.value(NAMES), ["sh", False])
+        self.assertEqual(self.browser.trouble, [])
+
+    def test_late_suggestions(self) -> None:
+        """They don't come into a dialog that is open."""
+        self.server = self.serve()
+        self.browser = self.browse()
+        tab = self.browser.open("about:blank")
+        tab.ask("Page.addScriptToEvaluateOnNewDocument", {"source": LATE})
+        tab.ask("Page.navigate", {"url": self.server.address})
+        tab.until(READY, "true")
+        tab.click("[data-do=askSession]")
+        tab.until("document.querySelector('#session-dialog').open")
+        tab.value(MOVES)
+        tab.value("window.answer(), new Promise((done) => setTimeout(done, 300))")
+        self.assertEqual([tab.value(SUGGESTED), tab.value("window.moved")], [[], 0])
+        tab.key("Escape")
+        tab.click("[data-do=askSession]")
+        tab.until("document.querySelector('#session-dialog').open")
+        self.assertEqual(tab.value(SUGGESTED), ["late"])
+
+    def test_a_new_line(self) -> None:
+        """Enter goes on below the first letter of the line, and blanks of TAB and Enter are undone as what is typed."""
+        self.begin()
+        self.page.call("new", session="s", text="for x:", after=0)
+        tab = opened(self.browser, self.server)
+        text = "document.querySelector('#cell-1 textarea').value"
+        tab.click("#cell-1 .number")
+        tab.key("Enter")
+        tab.key("End")
+        tab.value("document.activeElement.setSelectionRange(9, 9)")
+        for key in ("Enter", "Tab", "x", "Enter", "y"):
+            tab.key(key)
+        tab.until(text, "for x:\n    x\n    y")
+        for _ in range(8):
+            tab.ask("Input.dispatchKeyEvent", {"type": "keyDown", "key": "z", "modifiers": 2, "commands": ["undo"]})
+        tab.until(text, "for x:")
 
     def test_undo_and_find(self) -> None:
         """The browser's own: a text that is saved already is undone in its cell, and saved again; inputs and outputs are found."""

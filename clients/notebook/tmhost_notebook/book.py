@@ -1,11 +1,13 @@
 """The worksheet as pages see it: the client's mirror with the notes, and messages to pages of what has changed."""
 
+import contextlib
+import dataclasses
 import os
 import threading
 import time
-from typing import Any, Dict, List, Optional, Set, Tuple
+from typing import Any, Dict, Iterator, List, Optional, Set, Tuple
 
-from tmhost import Done, Event, Field, Finished, Gone, InUse, Session, Worksheet, readable
+from tmhost import BadLine, Done, Event, Field, Finished, Gone, InUse, Refused, Session, Worksheet, readable
 
 from . import prose, shown
 from .notes import Note, Notes, stale_cells
@@ -60,13 +62,14 @@ class Book:
         self.watchers: Set[Watcher] = set()
         self.removed: List[Dict[str, Any]] = []
         self.ended: Optional[str] = None
-        self.saves = 0  # texts that were saved, counted by `order`; a message says how many of them it has seen
+        self.changes = 0  # that cells had by calls, counted by `order`; a message says how many of them it has seen
         self._removed_ever = 0
         self._open(create=True)
 
     def _open(self, create: bool) -> None:
         self.sheet = opened(self.path, self.program, create)
         self.notes = Notes()
+        self.in_doubt: Optional[int] = None  # the cell that a call changes, until it is known that it did or didn't
         self.ended = None
         sheet = self.sheet
         sheet.listen(lambda event: self._heard(sheet, event))
@@ -92,6 +95,21 @@ class Book:
             for watcher in self.watchers:
                 watcher.is_over = True
         self.wake()
+
+    @contextlib.contextmanager
+    def changing(self, id: int) -> Iterator[None]:
+        """Does one command that changes a cell, with `order`. Where the program ends in the middle, the file may have the cell as it was or
+        as it was to be, so it stays in doubt until the worksheet is opened again."""
+        self.in_doubt = id
+        try:
+            yield
+        except (Refused, BadLine, Gone):
+            self.in_doubt = None
+            raise
+        self.in_doubt = None
+        self.changes += 1
+        with self.lock:
+            self.notes.tell(id)
 
     # ---- what happens
 
@@ -174,13 +192,13 @@ class Book:
         return message
 
     def _moment(self) -> Tuple[int, List[Field], Dict[str, Session]]:
-        """The worksheet, and how many saves it has seen. A page drops texts that were told before it saved one itself, so a text may have a
-        later save in it than is said, but only if that one isn't counted yet."""
+        """The worksheet, and how many changes it has seen. A page drops what was told of a cell before it changed that itself, so a cell may
+        have a later change in it than is said, but only if that one isn't counted yet: it is told again then."""
         while True:
-            at = self.saves
+            at = self.changes
             fields, sessions = self.sheet.fields, self.sheet.sessions
-            if at == self.saves:
-                return at, fields, sessions
+            if at == self.changes:
+                return at, fields, {name: ended(session) for name, session in sessions.items()} if self.ended else sessions
 
     def _note_of(self, field: Field) -> Note:
         return self.notes.of.get(field.id) or Note()
@@ -208,7 +226,9 @@ class Book:
     def _cell(self, field: Field, note: Note) -> Message:
         answer = field.answer or (note.old if field.state in ("empty", "waiting") else None)
         state = field.state
-        if state == "waiting":
+        if self.ended and field.id == self.in_doubt:
+            state = "doubtful"
+        elif state == "waiting":
             state = "empty" if self.ended else "queued" if note.since is None else "running"
         return {
             "id": field.id,
@@ -227,6 +247,11 @@ def is_news(watcher: Watcher, field: Field, note: Note) -> bool:
     """Fields are never changed, only replaced, so one that is the same object tells nothing new."""
     known = watcher.cells.get(field.id)
     return known is None or known[0] is not field or known[1] != note.version
+
+
+def ended(session: Session) -> Session:
+    """A session whose interpreter has ended, with the program or before."""
+    return dataclasses.replace(session, life=None, waiting=0)
 
 
 def session_facts(session: Session) -> Message:

@@ -68,19 +68,21 @@ def field_of(book: Book, id: int) -> Field:
 
 
 def keep_text(book: Book, asked: Facts, id: int) -> int:
-    """Saves the text of a cell, and tells the number of the save. `base` is the text that the page took for the cell's: where it is another
+    """Saves the text of a cell, and tells which change it was. `base` is the text that the page took for the cell's: where it is another
     by now, nothing is done."""
     given, field = text(asked, "text"), field_of(book, id)
     saved = "\n".join(field.lines)
     if saved == given:
-        return book.saves
-    if saved != text(asked, "base"):
+        with book.lock:
+            book.notes.tell(id)
+    elif saved != text(asked, "base"):
         raise NotDone("Elsewhere", "the cell was changed in another page; it was not saved")
-    book.sheet.set(id, given)
-    book.saves += 1
-    with book.lock:
-        book.notes.keep(field)
-    return book.saves
+    else:
+        with book.changing(id):
+            book.sheet.set(id, given)
+            with book.lock:
+                book.notes.keep(field)
+    return book.changes
 
 
 def call_set(book: Book, asked: Facts) -> Facts:
@@ -97,7 +99,8 @@ def call_new(book: Book, asked: Facts) -> Facts:
 def remove(book: Book, id: int) -> None:
     ids = [field.id for field in book.sheet.fields]
     field = field_of(book, id)
-    book.sheet.remove(id)
+    with book.changing(id):
+        book.sheet.remove(id)
     book.bin(field, ids.index(id))
 
 
@@ -161,11 +164,12 @@ def call_move(book: Book, asked: Facts) -> Facts:
 def call_clear(book: Book, asked: Facts) -> Facts:
     with book.order:
         field = field_of(book, number(asked, "id"))
-        if field.state != "empty":
-            book.sheet.clear(field.id)
-        with book.lock:
-            book.notes.keep(field, forget=True)
-    return {}
+        with book.changing(field.id):
+            if field.state != "empty":
+                book.sheet.clear(field.id)
+            with book.lock:
+                book.notes.keep(field, forget=True)
+        return {"at": book.changes}
 
 
 # ---- evaluations
@@ -175,11 +179,14 @@ def evaluate(book: Book, id: int, chain: Optional[Chain]) -> bool:
     """Has a cell evaluated, if it isn't prose and doesn't wait already."""
     field = field_of(book, id)
     if field.session in book.prose or field.state == "waiting":
+        with book.lock:
+            book.notes.tell(id)
         return False
     with book.lock:
         book.notes.keep(field)
         book.notes.ask(id, chain)
-    book.sheet.eval(id)
+    with book.changing(id):
+        book.sheet.eval(id)
     return True
 
 
@@ -197,8 +204,11 @@ def evaluate_each(book: Book, ids: List[int]) -> Facts:
 
 
 def call_eval(book: Book, asked: Facts) -> Facts:
-    """Evaluates a cell. One that waits already goes on."""
-    return evaluate_each(book, [field_of(book, number(asked, "id")).id])
+    """Evaluates a cell, and tells which change it was. One that waits already goes on."""
+    id = number(asked, "id")
+    with book.order:
+        evaluate(book, id, chains_of(book.sheet.fields).get(id))
+        return {"at": book.changes}
 
 
 def call_eval_from(book: Book, asked: Facts) -> Facts:
@@ -269,6 +279,8 @@ CALLS: Dict[str, Callable[[Book, Facts], Facts]] = {
     name[len("call_") :]: call for name, call in list(globals().items()) if name.startswith("call_")
 }
 
+WITHOUT_PROGRAM = (call_output, call_reopen)
+
 
 def do(book: Book, asked: Any) -> Facts:
     """Does a call. Raises NotDone."""
@@ -276,6 +288,8 @@ def do(book: Book, asked: Any) -> Facts:
     call = CALLS.get(name) if isinstance(name, str) else None
     if call is None:
         raise NotDone("NotUnderstood", "there is no such call")
+    if book.ended is not None and call not in WITHOUT_PROGRAM:
+        raise NotDone("Over", f"{book.ended}; nothing was done")
     try:
         return call(book, asked)
     except Refused as refused:

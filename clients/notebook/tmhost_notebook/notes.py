@@ -55,6 +55,10 @@ class Notes:
         note.asked, note.since = chain, None
         note.version += 1
 
+    def tell(self, id: int) -> None:
+        """Has pages told a cell again."""
+        self.of[id].version += 1
+
     def drop(self, id: int) -> None:
         self.of.pop(id, None)
 

@@ -70,8 +70,10 @@ class Kills(Case):
         terminal = Terminal([self.sheet, "t"])
         self.addCleanup(terminal.close)
         terminal.sees("t>")
-        until = time.monotonic() + 0.3 + self.random.random()
-        sent = 0
+        terminal.send(LINES[0] + "\r")
+        terminal.sees("\nanswer 0")
+        until = time.monotonic() + self.random.random()
+        sent = 1
         while time.monotonic() < until:
             if terminal.screen.text().count("\nanswer") >= sent and sent < len(LINES):
                 terminal.send(LINES[sent] + "\r")
