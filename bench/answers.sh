@@ -3,7 +3,7 @@
 # none are given), each durable before the next is asked, and the same of a plain C program that asks the same child the same lines
 # over pipes and writes the same two records with the same four syncs for each (bench/plain_answers.c, bench/answering.c), and their
 # ratio: the medians of RUNS runs (5 where it isn't set) of both in turn, by the clock and by the processor time of program and child.
-# Behind that it prints the rate of the second thousand answers of 100 bytes beside that of the first. The files lie in FOLDER, or in
+# After that it prints the rate of the second thousand answers of 100 bytes beside that of the first. The files lie in FOLDER, or in
 # the current one.
 set -euo pipefail
 root=$(dirname "$(dirname "$(readlink -f "${BASH_SOURCE[0]}")")")
@@ -48,14 +48,14 @@ def run(script, expected):
         assert text.read() == expected, "run tells another text"
     return took
 
-# The times of so many answers of this length, of which the first comes behind the banner, as it does in the plain program.
+# The times of so many answers of this length, of which the first comes after the banner, as it does in the plain program.
 def ours(length, answers):
     remove(sheet, sheet + ".alt")
     subprocess.run([program, "create", sheet], check=True)
     subprocess.run([program, "run", sheet], input=f"session a plain {child} {length}\nnew 0 a x\n".encode(), stdout=subprocess.DEVNULL, check=True)
     before = os.path.getsize(sheet)
     took = run("eval 1\nwait\n" * answers, b"asked\nbanner a\nanswered 1\n" + b"asked\nanswered 1\n" * (answers - 1))
-    # Behind its gate each record has its length, its payload and the next gate.
+    # After its gate each record has its length, its payload and the next gate.
     records = answers * ((4 + 5 + 1) + (4 + 1 + 4 + 2 + 2 + length + 1))
     assert os.path.getsize(sheet) - before == records, "the records have another length"
     return took

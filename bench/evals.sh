@@ -1,7 +1,7 @@
 #!/usr/bin/env bash
 # Prints how many evaluations a second `tmhost run` does with an interpreter that echoes its line, each durable, on worksheets of 100,
 # 1,000 and 10,000 fields, and how long such a worksheet takes to open: the best of RUNS runs (3 where it isn't set). 500 fields, spread
-# over the worksheet, are evaluated, each with a `wait` behind it. Beside it `tmhost live` does the same, and the ratio of their rates is
+# over the worksheet, are evaluated, each with a `wait` after it. Beside it `tmhost live` does the same, and the ratio of their rates is
 # printed. Then it prints how many times as many evaluations `live` does with eight interpreters that take 50 ms a line each as with one, and
 # the processor time that it takes while nothing comes. The files lie in FOLDER, or where none is given in the current one.
 set -euo pipefail

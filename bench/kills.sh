@@ -1,6 +1,6 @@
 #!/usr/bin/env bash
 # Kills `tmhost run` at ROUNDS random moments (200 where it isn't set) by `kill -9`, each time on a new worksheet, and looks with `tmhost
-# show` what is there: all that was told before the kill, and at most one change more. The files lie in FOLDER, or where none is given in
+# show` what is there: all that was reported before the kill, and at most one change more. The files lie in FOLDER, or where none is given in
 # the current one.
 set -euo pipefail
 folder=$(readlink -f "${1:-.}")
@@ -14,7 +14,7 @@ import os, random, subprocess, sys, time
 root, work, rounds = sys.argv[1], sys.argv[2], int(sys.argv[3])
 program, fields = root + "/crates/tmhost/out/tmhost", 40
 
-# The script, what it is told when nothing kills it, and the worksheet behind each change, as it is printed.
+# The script, what it gives when nothing kills it, and the worksheet after each change, as it is printed.
 lines, told, inputs, outputs = [], [], [], []
 
 def printed():

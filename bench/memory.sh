@@ -55,7 +55,7 @@ def tmhost(*words, script=b""):
     return subprocess.run([program, *words], input=script, stdout=subprocess.PIPE, check=True).stdout
 
 
-# What is resident of a `show` whose pipe is full or at its end, in KiB. It writes behind the opening.
+# What is resident of a `show` whose pipe is full or at its end, in KiB. It writes after the opening.
 def shown(sheet):
     reads, writes = os.pipe()
     fcntl.fcntl(writes, fcntl.F_SETPIPE_SZ, 4096)

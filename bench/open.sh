@@ -2,7 +2,7 @@
 # Prints how long opening a worksheet takes (`tmhost show`) whose journal has so many MB (100 and 1,000 where none are given), against
 # `cat` of that file, and the peak memory of both, resident and asked for. Every journal makes the same worksheet of 10 fields: what is longer about a longer
 # one are the inputs that were set and set again. The medians of RUNS runs (5 where it isn't set) of both in turn; the files lie in
-# FOLDER, or in the current one. Behind that the journal is written anew by the line `checkpoint`: how long an opening takes then, and how long such a
+# FOLDER, or in the current one. After that the journal is rewritten by the line `checkpoint`: how long an opening takes then, and how long such a
 # line takes, against writing and syncing the bytes of the new journal twice.
 set -euo pipefail
 root=$(dirname "$(dirname "$(readlink -f "${BASH_SOURCE[0]}")")")
@@ -37,7 +37,7 @@ def journal(path, length):
     open(path + ".alt", "wb").close()
 
 # Seconds, the greatest resident memory and address space in MiB, and the front of what was written. The pipe of `show` holds less than it writes, so that
-# it is there when its memory is looked at, which is behind the opening.
+# it is there when its memory is looked at, which is after the opening.
 def measured(words):
     begun = time.perf_counter()
     reads, writes = os.pipe()

@@ -9,7 +9,7 @@ from model import Difference
 
 Call = collections.namedtuple("Call", "name result failed fd number text")
 
-# The errors of a sync behind which the system may have dropped what wasn't on the device. One that a signal interrupted dropped nothing.
+# The errors of a sync after which the system may have dropped what wasn't on the device. One that a signal interrupted dropped nothing.
 DROPS = (-errno.EIO, -errno.ENOSPC)
 
 

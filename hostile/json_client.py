@@ -43,13 +43,13 @@ class Client:
     def __init__(self, lines: list[bytes], sheet: Sheet, sessions: dict[bytes, tuple[bool, list[bytes]]], plays: dict[bytes, Optional[Play]]) -> None:
         self.lines, self.plays, self.ended, self.begun = lines, plays, 0, 0
         self.last: Object = {}
-        # The life whose default input must be told next, and that.
+        # The life whose default input must be reported next, and that.
         self.due: Optional[tuple[int, bytes]] = None
         self.lives: dict[bytes, Life] = {}
         self.inputs = {id: field[1] for id, field in sheet.fields.items()}
         self.owners = {id: field[0] for id, field in sheet.fields.items()}
         self.order, self.next, self.sessions = list(sheet.order), sheet.next, dict(sessions)
-        # Of each field the answer that was told last, an empty one where it has none, and nothing where it isn't known.
+        # Of each field the answer that was reported last, an empty one where it has none, and nothing where it isn't known.
         self.answers: dict[int, Object] = {}
         self.parts: list[int] = []
         self.counts: Counter[str] = Counter()
@@ -134,7 +134,7 @@ class Client:
         life = self.lives.pop(it["session"].encode(), Life(0, b""))
         self.must(it["life"] == life.number and it["lost"] == [item.lost() for item in life.waiting], it, f"life {life.number} with {life.waiting}")
         if life.waiting and life.waiting[0].cursor is None:
-            # Whether the field keeps the reason isn't told where the same event may have answered an item.
+            # Whether the field keeps the reason isn't reported where the same event may have answered an item.
             self.answers.pop(life.waiting[0].id, None)
         return life
 

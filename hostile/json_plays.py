@@ -71,7 +71,7 @@ def saying_of(rng: random.Random, kind: str, completes: bool) -> Act:
         return Act(kind, cut(rng, noise_of(rng) + text + noise_of(rng)), read(block))
     behind = rng.choice(FAULTS) if kind == "faulty" else spelled(block_of(rng), rng) if rng.random() < 0.1 else b""
     whole = noise_of(rng) + text + noise_of(rng) + behind
-    # What is behind the block must be read with it.
+    # What is after the block must be read with it.
     return Act(kind, (whole,), read(block)) if len(whole) <= MOST_AT_ONCE or not behind else Act("says", (text,), read(block))
 
 

@@ -5,7 +5,7 @@ import re
 
 from model import VERBS, Difference, Followed, Model, refused, words_of
 
-# A line that tells what came of an interpreter. That one was stopped is told by a `stop` alone.
+# A line that tells what came of an interpreter. That one was stopped is reported by a `stop` alone.
 EVENT = re.compile(r"banner |answered |completed |ended \S+ (?!Stopped )")
 
 

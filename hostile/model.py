@@ -33,7 +33,7 @@ KINDS = {
         "while IFS= read -r l; do n=$((n + 1)); printf '\\002verbatim:\\002latex:$%s$\\005\\002prompt#Input %s] \\005\\005' \"$l\" $n; done\n",
         answer=lambda count, given: (f"Input {count + 1}] ", "{latex:$" + given + "$}"),
     ),
-    # A second block behind the first answer, which is dropped.
+    # A second block after the first answer, which is dropped.
     "twice": Kind(
         BANNER + "IFS= read -r l; printf '\\002verbatim:A\\005\\002verbatim:B\\005'\n"
         "while IFS= read -r l; do printf '\\002verbatim:C\\005'; done\n",
@@ -134,14 +134,14 @@ class Model:
         at = self.order.index(id)
         return 8 if after == id or after == (self.order[at - 1] if at else 0) else None
 
-    # Puts a field directly behind another one, first for 0.
+    # Puts a field directly after another one, first for 0.
     def put(self, id, after):
         self.order.insert(self.order.index(after) + 1 if after else 0, id)
 
-    # Does a command that isn't refused, and gives what is told of it.
+    # Does a command that isn't refused, and gives what is reported of it.
     def do(self, verb, words):
         if verb == "session":
-            # One whose words are no interpreter is made where the session of that name was refused for want of memory. It can't be started.
+            # One whose words are no interpreter is made where the session of that name was refused for lack of memory. It can't be started.
             self.sessions[words[0]] = Session(self.kinds.get(" ".join(words[2:]), "echo"), words[1] == "tab")
         elif verb == "new":
             id, self.next_id = self.next_id, self.next_id + 1
@@ -202,7 +202,7 @@ class Model:
         items = enumerate(items, session.count)
         return [(id, session.kind.answer(count, given)) for count, (id, given, completes) in items if not completes]
 
-    # What is told of a session in a wait, in order.
+    # What is reported of a session in a wait, in order.
     def told_in_wait(self, name, session):
         told = [] if session.has_banner else [f"banner {name}"]
         answered = self.answered(session)
@@ -211,7 +211,7 @@ class Model:
         rest = len(session.waiting) - len(answered)
         return told + [f"ended {name} Ended lost {rest}"] * (rest > 0)
 
-    # Which worksheets a wait that told so much may have led to: of each session some of its first lines are answered.
+    # Which worksheets a wait that reported so much may have led to: of each session some of its first lines are answered.
     def sheets_in_wait(self, told):
         fronts = []
         for session in self.sessions.values():
@@ -306,7 +306,7 @@ def start_refused(model, words, told):
     return 1
 
 
-# What was told of a wait so far must be the first of what is told of each session, merged in some way.
+# What was reported of a wait so far must be the first of what is reported of each session, merged in some way.
 def merge(wanted, told, number):
     names = {line: n for n, lines in enumerate(wanted) for line in lines}
     parts = [[] for _ in wanted]

@@ -94,6 +94,7 @@ SPOKEN: list[tuple[str, str]] = [
 # What follows the sentence of a definition.
 REMARKS: dict[Key, str] = {
     ("disk_model.Disk", "area_of"): "the bytes of an area",
+    ("journal.Area", "closed_gate"): "as which a closed gate is written",
     ("session_engine.Host", "IsHost"): "Any invariant would do in its place: `open` establishes it ([stands](#open.stands)), `step` and `play` "
     "need it and keep it for the world after the events, and other clauses say what is claimed of replies, worksheet and disk.",
     ("recovery.Sheets", "IsSheetImage"): "Any relation would do in its place: each call that writes establishes it of all that a crash may "
@@ -130,6 +131,7 @@ SECTIONS: list[tuple[str, tuple[str, ...]]] = [
     ("What events do", ("session_engine.", "host_events.")),
     ("The worksheet", ("worksheet.",)),
     ("Which block answers which line", ("plugin_core.",)),
+    ("The worked run", ("worked_run.",)),
     ("Appendix: what a block is", ("block_tree.", "meta_format.", "scheme_text.")),
 ]
 

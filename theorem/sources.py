@@ -30,6 +30,7 @@ FIELD = re.compile(r"\s+(?:pub(?:\(\w+\))? )?([\w']+)\s?:")
 VARIANT = re.compile(r"    [A-Z]\w*(?=\s?[,({])")
 GENERIC = re.compile(r"pub\S* (?:struct|enum) \w+<(\w+)")
 LABEL = re.compile(r"(?:[{;] |^\s+)([\w']+) =(?= |$)")
+STRING = re.compile(r'"(?:[^"\\]|\\.)*"')
 
 
 # Words that no file imports.
@@ -259,7 +260,7 @@ class Sources:
         return names
 
     def tokens(self, definition: Definition) -> list[list[Token]]:
-        """The words of each line of a definition, without the labels of records and the names of variants; a comment has none."""
+        """The words of each line of a definition, without the labels of records, the names of variants and texts; a comment has none."""
         bound = self.bound(definition)
 
         def token(match: re.Match[str]) -> Token:
@@ -269,6 +270,7 @@ class Sources:
         def words(line: str) -> list[Token]:
             if is_comment(line):
                 return []
+            line = STRING.sub(lambda match: " " * len(match[0]), line)
             labels = {match.start(1) for match in LABEL.finditer(line)}
             begins = len(match[0]) if definition.is_type and (match := VARIANT.match(line)) else 0
             return [token(match) for match in WORD.finditer(line, begins) if match.start() not in labels]

@@ -5,12 +5,14 @@ and what opens.
     theorem/worked.py            prints the tables
     theorem/worked.py PROGRAM    does the same run by a build of tmhost too, shows images of the crash by it, and says whether all agree
 
-The bytes are made by hostile/records.py from the format, the worksheets by hostile/area.py, which reads files by the format: neither
-shares anything with the program, and neither is one of the definitions.
+The bytes, and what opens, are those of the definitions of crates/worked_run, whose contract says that they are so. The same bytes are made
+here by hostile/records.py from the format, and images of the crash are opened by hostile/area.py, which reads files by the format: neither
+shares anything with the program or the definitions, and where they differ from them this ends with status 1.
 """
 from __future__ import annotations
 
 import os
+import re
 import subprocess
 import sys
 import tempfile
@@ -19,6 +21,7 @@ from typing import NamedTuple
 
 sys.dont_write_bytecode = True
 ROOT = os.path.dirname(os.path.dirname(os.path.realpath(__file__)))
+RUN = os.path.join(ROOT, "crates", "worked_run", "specs", "Run.antt")
 sys.path.insert(0, os.path.join(ROOT, "hostile"))
 from area import rescued  # noqa: E402
 from records import area_of, long, number, record, short  # noqa: E402
@@ -53,15 +56,37 @@ def area_after(count: int) -> bytes:
     return area_of([SESSION, *(event.record for event in EVENTS[:count])])
 
 
-BEFORE, AFTER = area_after(CRASHED), area_after(CRASHED + 1)
+def numbers_of(name: str) -> list[int]:
+    """The numbers that the definition with this name has."""
+    with open(RUN, encoding="utf-8") as file:
+        found = re.search(rf"^{name} = (.*)$", file.read(), re.M)
+    if not found:
+        raise SystemExit(f"{RUN}: no {name}")
+    return [int(number) for number in re.findall(r"\d+", found[1])]
+
+
+def overwritten(old: bytes, write: list[int]) -> bytes:
+    """Bytes over which a write of the definitions, its offset and then its bytes, was made."""
+    at, new = write[0], bytes(write[1:])
+    return old[:at] + new + old[at + len(new) :]
+
+
+KEPT, *ADDED = numbers_of("bytes_before")
+OPENED = bytes(numbers_of("bytes_found"))
+BEFORE = OPENED[:KEPT] + bytes(ADDED)
+WRITTEN = overwritten(BEFORE, numbers_of("record_write"))
+AFTER = overwritten(WRITTEN, numbers_of("gate_write"))
 GATE = len(BEFORE) - 1  # the closed gate at the end
+if [OPENED, BEFORE, AFTER] != [area_after(count) for count in (0, CRASHED, CRASHED + 1)]:
+    raise SystemExit(f"{RUN} has other bytes than hostile/records.py")
 
 
 class Moment(NamedTuple):
-    """A call on the disk, what a crash after it may leave, in words, and images of that."""
+    """A call on the disk, what a crash after it may leave, in words, to what that opens, and images of it."""
 
     call: str
     left: str
+    opens: str
     images: list[bytes]
 
 
@@ -74,19 +99,19 @@ def torn(old: bytes, at: int, new: bytes) -> Iterator[bytes]:
 
 def moments() -> list[Moment]:
     """The four calls of the append of event 4."""
-    written = AFTER[:GATE] + BEFORE[GATE:] + AFTER[len(BEFORE) :]
     first = list(torn(BEFORE, GATE + 1, AFTER[GATE + 1 :]))
     gates = [AFTER[:GATE] + bytes([byte]) + AFTER[GATE + 1 :] for byte in range(256)]
     return [
-        Moment("none yet", f"the {len(BEFORE)} bytes", [BEFORE]),
+        Moment("none yet", f"the {len(BEFORE)} bytes", "without the answer", [BEFORE]),
         Moment(
             f"write {len(first[-1]) - GATE - 1} bytes at {GATE + 1}",
             f"any bytes from {GATE + 1} on, any length from {len(BEFORE)} to {len(AFTER)}",
+            "without the answer",
             first,
         ),
-        Moment("sync", f"these {len(AFTER)} bytes; the gate at {GATE} is `00`", [written]),
-        Moment(f"write `52` at {GATE}", f"any byte at {GATE}", gates),
-        Moment("sync", f"the {len(AFTER)} bytes with `52` at {GATE}", [AFTER]),
+        Moment("sync", f"these {len(AFTER)} bytes; the gate at {GATE} is `00`", "without the answer", [WRITTEN]),
+        Moment(f"write `52` at {GATE}", f"any byte at {GATE}", "with the answer where it is `52`, else without", gates),
+        Moment("sync", f"the {len(AFTER)} bytes with `52` at {GATE}", "with the answer", [AFTER]),
     ]
 
 
@@ -119,7 +144,7 @@ def moment_rows() -> Iterator[str]:
     for moment in moments():
         found = [names[opens(image)] for image in moment.images]
         counts = ", ".join(f"{found.count(name):,} {name}" for name in names.values() if name in found)
-        yield f"| {moment.call} | {moment.left} | {counts} |"
+        yield f"| {moment.call} | {moment.left} | {moment.opens} | {counts} |"
 
 
 def text() -> str:
@@ -140,8 +165,8 @@ def text() -> str:
             "each of them, or within the next, leaves an image of these in the first area (the second is empty, and stays so), and it",
             "opens so:",
             "",
-            "| Last call | What may be left | Images that were computed, and what they open to |",
-            "|---|---|---|",
+            "| Last call | What may be left | Each such image opens to the worksheet | Of these a reader opened |",
+            "|---|---|---|---|",
             *moment_rows(),
             "",
             f"Without the answer is `{shown[0]}`, the worksheet after the first three events; with it `{shown[1]}`, that after four.",

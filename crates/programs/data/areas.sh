@@ -2,7 +2,7 @@
 
 header='TMWSHEET\001A'
 
-# Records: an open gate, the length and the payload. The closed gate behind the last one is added where it stands.
+# Records: an open gate, the length and the payload. The closed gate after the last one is added where it stands.
 session='R\000\000\000\011\001\001a\000\001\000\002sh'
 new='R\000\000\000\012\002\000\000\000\000\001a\000\001x'
 clear='R\000\000\000\005\006\000\000\000\001'
@@ -59,13 +59,13 @@ area 'a payload without a byte' "$header"'R\000\000\000\000\000' 1 'fault 30 Dam
 area 'a gate that is another byte' "$header$session"'r' 0 ''
 area 'bytes behind a closed gate' "$header$session"'\000RRRR' 0 ''
 
-# Ops that the worksheet refuses. Damage of the gates is told first, also where it stands behind such an op.
+# Ops that the worksheet refuses. Damage of the gates is reported first, also where it stands after such an op.
 remove='R\000\000\000\005\004\000\000\000\001'
 area 'a field that there is none of' "$header$session$remove"'\000' 1 'fault 30 Damaged 24\n'
 area 'a refused op and then damage' "$header$remove"'R' 1 'fault 30 Damaged 20\n'
 area 'a refused op' "$header$remove"'\000' 1 'fault 30 Damaged 10\n'
 
-# Reasons of a lost line, by number. The record stands behind gate 49.
+# Reasons of a lost line, by number. The record stands after gate 49.
 reason() {
     area "the reason $1" "$front"'R\000\000\000\006\010\000\000\000\001\'"$1"'\000' "$2" "$3"
 }

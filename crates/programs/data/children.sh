@@ -1,7 +1,7 @@
 # Interpreters, and what comes of them: answers by ask points, prompts, ends and faults of lives, lines that are lost.
 
 # An interpreter in the file NAME.sh: it writes the first text, and the next one for each line that it is sent. Each is one write. Which
-# words it was started with and what it was sent stands in the file `sent`, a line each, and its process in the file `lives`. Behind its
+# words it was started with and what it was sent stands in the file `sent`, a line each, and its process in the file `lives`. After its
 # last text it does what `then` says.
 then='read -r line'
 interpreter() {
@@ -183,7 +183,7 @@ exec sleep 10
 END_OF_CHILD
 script 'a line that is not taken' "$one" 'ok\nfield 1\nasked\nbanner a\nended a SendFault lost 1\n' '#1 a\n> x\n? SendFault\n'
 
-# A session that gives noise without end is stalled behind 100,000 pieces.
+# A session that gives noise without end is stalled after 100,000 pieces.
 cat >p.sh <<'END_OF_CHILD'
 echo $$ >lives
 while :; do printf .; done

@@ -1,4 +1,4 @@
-# Requests of completions, what is sent for them, and what is told of their answers.
+# Requests of completions, what is sent for them, and what is reported of their answers.
 
 tab='session t tab sh p.sh\nnew 0 t h\n'
 interpreter p "$banner" '\002scheme:(tuple "h" "ello" "i there" "ola" "opsakee")\005' '\002scheme:""\005' '\002scheme:\005' \
@@ -34,7 +34,7 @@ script 'a line behind a request waits for its answer' "$tab"'complete 1 1\neval 
     'ok\nfield 1\nasked\nasked\nrefused 3 InFlight\nbanner t\ncompleted 1 "h" "i"\nanswered 1\nasked\ncompleted 1 ""\n' '#1 t\n: h\nA\n'
 sent 'a line behind a request waits for its answer' 'start \nsend \020(complete "h" 1)\nsend h\nsend \020(complete "h" 0)'
 
-# Where a request is lost first, the line behind it keeps no reason.
+# Where a request is lost first, the line after it keeps no reason.
 then=exit
 interpreter p ''
 script 'a line behind a request' "$tab"'complete 1 1\neval 1\nwait\n' 'ok\nfield 1\nasked\nasked\nended t Ended lost 2\n' '#1 t\n> h\n?\n'

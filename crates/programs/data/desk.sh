@@ -1,7 +1,7 @@
 # What the files of cases share. A case is one line or two: a name, what is given, and the text that is wanted, typed in. One that is as
 # wanted is counted; of one that isn't both texts are printed. Texts and bytes are formats of printf: \n, \\, and \ooo for a byte by its
 # value in octal digits. None of them has a percent sign. What a case reads comes from a file, never from a pipe: a shell counts in vain
-# behind one.
+# after one.
 
 cases=0
 differing=0
@@ -23,7 +23,7 @@ counted() {
     differing=0
 }
 
-# A text with `status N` behind it.
+# A text with `status N` after it.
 ending() {
     printf "$1"
     echo "status $2"
@@ -120,7 +120,7 @@ say() {
     (printf "$1" >&3)
 }
 
-# As many lines as are wanted, and no byte behind them.
+# As many lines as are wanted, and no byte after them.
 heard() {
     for count in $(seq "$1"); do
         IFS= read -r line <&4 || break
@@ -131,7 +131,7 @@ hears() {
     compare "$1" "$(heard "$(printf "$2" | wc -l)")" "$(printf "$2")"
 }
 
-# Ends the input: NAME TEXT SHEET. The text is what is told then; the status is 0, and the worksheet is shown so.
+# Ends the input: NAME TEXT SHEET. The text is what is reported then; the status is 0, and the worksheet is shown so.
 hang_up() {
     exec 3>&-
     rest=$(cat <&4)

@@ -1,4 +1,4 @@
-# Exports: worksheets as the lines that make them anew, as Markdown, as pages and as notebooks.
+# Exports: worksheets as the lines that make them again, as Markdown, as pages and as notebooks.
 
 header='TMWSHEET\001A'
 
@@ -37,7 +37,7 @@ answered() {
     finish
 }
 
-# The page of the file `area`, behind its head.
+# The page of the file `area`, after its head.
 fields_of() {
     "$tmhost" export html area 2>errors >text </dev/null
     status=$?
@@ -184,7 +184,7 @@ marked() {
     compare "$1" "$(answer export markdown area </dev/null)" "$(ending "$4" 0)"
 }
 
-# The same of an output as code, behind an input `x`: NAME BLOCK FENCE TEXT.
+# The same of an output as code, after an input `x`: NAME BLOCK FENCE TEXT.
 coded() {
     marked "$1" x "$2" "\`\`\`a\nx\n\`\`\`\n\n$3\n$4\n$3\n"
 }
@@ -296,7 +296,7 @@ cell() {
     printf '%s' '{"cell_type":"code","execution_count":null,"id":"field-'"$1"'","metadata":{"tmhost":{"session":"a"}},"outputs":['"$3"'],"source":"'"$2"'"}'
 }
 
-# What stands behind the cells of a notebook, and its status.
+# What stands after the cells of a notebook, and its status.
 cells_end='],"metadata":{},"nbformat":4,"nbformat_minor":5}status 0'
 
 # A case of a notebook of one field: NAME INPUT BLOCK, the source and the texts of the output in JSON.

@@ -1,5 +1,5 @@
 # Each journal of the file `journals` is shown by the program, whose path is the first word. A worksheet of more than 1,000 bytes is
-# told by its checksum and its length, of others each byte that is no ASCII as `cat -v` prints it. The files aren't changed by it.
+# known by its checksum and its length, of others each byte that is no ASCII as `cat -v` prints it. The files aren't changed by it.
 tmhost=$1
 
 grep -v '^#' journals | while read -r first name; do

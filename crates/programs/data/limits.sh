@@ -27,7 +27,7 @@ seq 0 64 | sed 's/.*/session s& plain p/' >given
 runs '65 sessions' "$(repeated 64 'ok@' | sed 's/@/\\n/g')"'refused 9 TooManySessions\n' '' <given
 remembers '65 sessions in memory' "$(repeated 64 'ok@' | sed 's/@/\\n/g')"'refused 9 TooManySessions\n' <given
 
-# A script of a session and so many fields, each behind the one before it.
+# A script of a session and so many fields, each after the one before it.
 fields() {
     echo 'session a plain p'
     seq 0 $(($1 - 1)) | awk '{ print "new " $1 " a x" $1 + 1 }'
@@ -40,7 +40,7 @@ remembers '3,000 fields are printed' "ok\n$(seq 3000 | sed 's/.*/field &\\n/' | 
 fields 10001 >given
 remembers '10,001 fields' "ok\n$(seq 10000 | sed 's/.*/field &\\n/' | tr -d '\n')refused 10 TooManyFields\n" <given
 
-# 100,000 lines, of which 50,000 are told.
+# 100,000 lines, of which 50,000 are reported.
 awk 'BEGIN { for (i = 0; i < 25000; i++) printf "# a remark\nremove 1\n\nwait\n" }' >given
 remembers '100,000 lines' "$(awk 'BEGIN { for (i = 1; i <= 25000; i++) printf "refused 2 NoField\\nbad line %d\\n", 4 * i }')" <given
 awk 'BEGIN { for (i = 0; i < 100000; i++) print "remove 1" }' >given

@@ -75,7 +75,7 @@ both 'inputs and names are refused in order' \
 memory 'what wants an interpreter or a disk, in memory' 'wait\nstop a\neval 1\ncomplete 1 1\ncheckpoint\n' 'bad line 1\nbad line 2\nbad line 3\nbad line 4\nbad line 5\n'
 memory 'a carriage return at the end in memory' '\r' 'bad line 1\n'
 
-# How long the file is behind each op: 11, and 5 and the payload's length for each.
+# How long the file is after each op: 11, and 5 and the payload's length for each.
 script 'ops and their lengths' 'session a plain sh\nnew 0 a x\n' 'ok\nfield 1\n' '#1 a\n> x\n?\n'
 compare 'a session and a field' "$(wc -c <sheet)" 40
 compare 'their bytes' "$(bytes sheet)" 544d57534845455401415200000009010161000100027368520000000a0200000000016100017800

@@ -1,7 +1,7 @@
-# Strict runs: `run --strict` stops behind the first line that is bad or refused, or by which lines or requests were lost.
+# Strict runs: `run --strict` stops after the first line that is bad or refused, or by which lines or requests were lost.
 
 # A case of `run --strict`: NAME STATUS TEXT SHEET. A script, which is the input here, over a new worksheet writes the text, its errors
-# behind it, and then the worksheet is shown so.
+# after it, and then the worksheet is shown so.
 strictly() {
     rm -f sheet sheet.alt
     "$tmhost" create sheet
@@ -72,7 +72,7 @@ strict 'the other session is waited for' 'session a plain sh p.sh\nsession b pla
 interpreter p "$banner"
 strict 'a request that is lost' 'session a tab sh p.sh\nnew 0 a x\ncomplete 1 1\nwait\nset 1 y\n' 3 'ok\nfield 1\nasked\nbanner a\nended a Ended lost 1\nstopped at line 4\n' '#1 a\n> x\n?\n'
 
-# Words, faults, and what is told where standard error takes nothing.
+# Words, faults, and what is reported where standard error takes nothing.
 rm -f sheet sheet.alt
 "$tmhost" create sheet
 printf 'foo\n' >given
