@@ -25,12 +25,12 @@ pub record Stand (L P : Type 0) : Type 0 where
 abbrev pub stand : {L P : Type 0} → L → List (Running P) → Stand L P
 stand launcher running = record { launcher = launcher; running = running }
 
-abbrev pub is_of : {P : Type 0} → List ℕ → ℕ → Running P → Bool
-is_of name life r = bytes_eq r.name name && (r.life == life)
+abbrev pub runs_for : {P : Type 0} → List ℕ → ℕ → Running P → Bool
+runs_for name life r = bytes_eq r.name name && (r.life == life)
 
 -- the process of a life
-abbrev pub running : {P : Type 0} → List ℕ → ℕ → P → Running P
-running name life p = record { name = name; life = life; process = p }
+abbrev pub launched_for : {P : Type 0} → List ℕ → ℕ → P → Running P
+launched_for name life p = record { name = name; life = life; process = p }
 
 -- the same life, whose process stands so now
 abbrev pub with_process : {P : Type 0} → P → Running P → Running P
@@ -44,7 +44,7 @@ AtPlace {P = P} (Some i) rs none some = (r : Running P) × (slice_get rs i ≡ S
 module _ {L P : Type 0} (s : Stand L P) where
   -- by the first child of this life; where none runs nothing is called, and the answer is a fault
   abbrev pub AtLife : List ℕ → ℕ → Answer → Stand L P → (ℕ → Running P → Type 0) → Type 0
-  AtLife name life a t by = AtPlace (position (is_of name life) s.running) s.running ((a ≡ fault) × (t ≡ s)) by
+  AtLife name life a t by = AtPlace (position (runs_for name life) s.running) s.running ((a ≡ fault) × (t ≡ s)) by
 
   -- this process is in the place of the one that was there, and all else is as before
   abbrev pub Changed : ℕ → Running P → P → L → Stand L P → Type 0
@@ -55,7 +55,7 @@ module _ {L P : Type 0} (w : Ways L P) where
   -- memory to hand out, is told as a fault.
   abbrev pub HandsOn : Stand L P → Call → Answer → Stand L P → Type 0
   HandsOn s (start name life words) a t =
-      ((p : P) × w.launched s.launcher words (Some p) t.launcher × (a ≡ done) × (t.running ≡ s.running ++ running name life p ∷ []))
+      ((p : P) × w.launched s.launcher words (Some p) t.launcher × (a ≡ done) × (t.running ≡ s.running ++ launched_for name life p ∷ []))
       ⊎ ((a ≡ fault) × (t.running ≡ s.running) × ((t.launcher ≡ s.launcher) ⊎ w.launched s.launcher words None t.launcher))
   HandsOn s (send name life bytes) a t =
       AtLife s name life a t (λ i r. (p : P) × w.did r.process (deed.write bytes) a p × Changed s i r p s.launcher t)

@@ -3,7 +3,7 @@ ghost use Rattle.std.specs.Prelude.{◌≡◌, ◌⊎◌, ◌<◌, Err, IfOk, If
 ghost use Rattle.child_calls.specs.Answers.{HasSize, longest_piece, received, sent};
 ghost use Rattle.child_calls.specs.Calls.{Answer, fault};
 ghost use Rattle.child_calls.specs.Deeds as deed;
-ghost use Rattle.child_calls.specs.Handing.{is_of};
+ghost use Rattle.child_calls.specs.Handing.{runs_for};
 
 use crate::children::{ChildFault, Children, ReceiveFault, Received};
 use crate::process::{Launcher, Process};
@@ -61,7 +61,7 @@ impl<L: Launcher + Drop> Lives<L> {
 
 /// Where the process of a life is.
 fn place<P>(running: &[Running<P>], name: Name, life: u32) -> Option<usize>
-    ensures at_it { result ≡ position (is_of name life) running.now }
+    ensures at_it { result ≡ position (runs_for name life) running.now }
     ensures fits { IfSome result (λ i. i < length running.now) }
 {
     running
