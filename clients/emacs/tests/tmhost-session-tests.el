@@ -113,7 +113,8 @@
   (tmhost-tests-with-sheet path
     (tmhost-tests-new "say \u00e9\n lo end")
     (search-backward " end")
-    (completion-at-point)
+    (let ((tmhost-completion-patience 60.0)) ; its interpreter starts first
+      (completion-at-point))
     (should (equal (tmhost-tests-inputs) '("say \u00e9\u2028 loop end")))
     (tmhost-view-set-text (tmhost-tests-at 1) "s")
     (goto-char (tmhost-view-input-end (tmhost-view-field 1)))
