@@ -9,7 +9,7 @@ use Rattle.check_report.specs.Laws.{ReportsAreTheirTexts}
 use Rattle.check_report.specs.Reports.{Case, cases_text, point_of, verdicts_of}
 use Rattle.check_report.specs.Tap.{plan_line, tap_point, tap_points, version_line}
 use Rattle.check_report.specs.Verdicts.{counted_with, counts_of, total}
-use Rattle.check_report.specs.Words.{counts_text, verdict_text}
+use Rattle.check_report.specs.Words.{acceptance_text, accepted_counts_text, counts_text, verdict_text}
 
 pub total-with : (one : Verdict) (counts : Counts) → total (counted_with one counts) ≡ total counts + 1
 total-with verdict.Same counts = omega arith
@@ -33,6 +33,10 @@ words : (number : ℕ) (cases : List Case) → cases_text format.Text number cas
 words number [] = refl
 words number (c ∷ cases) = ap (λ t. verdict_text c.field c.came c.verdict ++ t) (words (number + 1) cases)
 
+accepted : (number : ℕ) (cases : List Case) → cases_text format.Accepting number cases ≡ flat_map (λ c. acceptance_text c.field c.came c.verdict) cases
+accepted number [] = refl
+accepted number (c ∷ cases) = ap (λ t. acceptance_text c.field c.came c.verdict ++ t) (accepted (number + 1) cases)
+
 points-length : (cases : List Case) → length (map point_of cases) ≡ length cases
 points-length [] = refl
 points-length (c ∷ cases) = ap suc (points-length cases)
@@ -43,4 +47,5 @@ are_their_texts cases = (
       ∙ ap (λ n. version_line ++ tap_points 1 (map point_of cases) ++ plan_line n) (total-of cases ∙ sym (points-length cases)),
   ap (λ t. head ++ t ++ tail) (junits 1 cases),
   ap (λ t. t ++ counts_text (counts_of (verdicts_of cases))) (words 1 cases),
+  ap (λ t. t ++ accepted_counts_text (counts_of (verdicts_of cases))) (accepted 1 cases),
 )

@@ -7,7 +7,7 @@ use Rattle.check_report.specs.declared.report.Format.TheVariants as format
 use Rattle.check_report.specs.Points.{Point}
 use Rattle.check_report.specs.Reports.{Case, point_of, report_text, verdicts_of}
 use Rattle.check_report.specs.Verdicts.{counts_of}
-use Rattle.check_report.specs.Words.{counts_text, verdict_text}
+use Rattle.check_report.specs.Words.{acceptance_text, accepted_counts_text, counts_text, verdict_text}
 use Rattle.check_report.specs.Junit.{junit_text}
 use Rattle.check_report.specs.Tap.{plan_line, point_line, tap_text, version_line}
 use Rattle.check_report.specs.Xml.{stays_in_xml, xml_text}
@@ -30,12 +30,13 @@ abbrev pub point_lines : ℕ → List Point → List (List ℕ)
 point_lines number [] = []
 point_lines number (p ∷ points) = point_line number p.id p.session p.verdict ∷ point_lines (number + 1) points
 
--- A report as TAP and one in JUnit's XML are those of its points, and one in words has the texts of its cases and then the counts.
+-- A report as TAP and one in JUnit's XML are those of its points, and those in words have the texts of their cases and then the counts.
 abbrev pub ReportsAreTheirTexts : Type 0
 ReportsAreTheirTexts = (cases : List Case)
     → (report_text format.Tap cases ≡ tap_text (map point_of cases))
     × (report_text format.Junit cases ≡ junit_text (map point_of cases))
     × (report_text format.Text cases ≡ flat_map (λ c. verdict_text c.field c.came c.verdict) cases ++ counts_text (counts_of (verdicts_of cases)))
+    × (report_text format.Accepting cases ≡ flat_map (λ c. acceptance_text c.field c.came c.verdict) cases ++ accepted_counts_text (counts_of (verdicts_of cases)))
 
 -- Without its comments a report as TAP has these lines, one by one: the version, a point for each field, numbered from 1, and the
 -- plan. So what an interpreter wrote is in comments alone.

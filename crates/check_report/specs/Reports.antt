@@ -12,7 +12,7 @@ use Rattle.check_report.specs.declared.verdict.Verdict.{Verdict}
 use Rattle.check_report.specs.declared.verdict.Verdict.TheVariants as verdict
 use Rattle.check_report.specs.Verdicts.{counts_of, total}
 use Rattle.check_report.specs.Points.{Point, point}
-use Rattle.check_report.specs.Words.{counts_text, verdict_text}
+use Rattle.check_report.specs.Words.{acceptance_text, accepted_counts_text, counts_text, verdict_text}
 use Rattle.check_report.specs.Tap.{plan_line, tap_point, version_line}
 use Rattle.check_report.specs.Junit.{head, junit_case, tail}
 
@@ -37,12 +37,14 @@ abbrev pub opening_text : Format → List ℕ
 opening_text format.Text = []
 opening_text format.Tap = version_line
 opening_text format.Junit = head
+opening_text format.Accepting = []
 
 -- what is written of a case, of which this is the number
 abbrev pub case_text : Format → ℕ → Case → List ℕ
 case_text format.Text number c = verdict_text c.field c.came c.verdict
 case_text format.Tap number c = tap_point number (point_of c)
 case_text format.Junit number c = junit_case (point_of c)
+case_text format.Accepting number c = acceptance_text c.field c.came c.verdict
 
 -- the same of cases, one behind another, of which the first has this number
 abbrev pub cases_text : Format → ℕ → List Case → List ℕ
@@ -54,6 +56,7 @@ abbrev pub closing_text : Format → Counts → List ℕ
 closing_text format.Text counts = counts_text counts
 closing_text format.Tap counts = plan_line (total counts)
 closing_text format.Junit counts = tail
+closing_text format.Accepting counts = accepted_counts_text counts
 
 -- a report up to here
 abbrev pub report_front : Format → List Case → List ℕ
@@ -63,14 +66,18 @@ report_front F cases = opening_text F ++ cases_text F 1 cases
 abbrev pub report_text : Format → List Case → List ℕ
 report_text F cases = report_front F cases ++ closing_text F (counts_of (verdicts_of cases))
 
+abbrev pub is_written_in_words : Verdict → Bool
+is_written_in_words verdict.Same = false
+is_written_in_words verdict.Differs = true
+is_written_in_words verdict.Unanswered = true
+is_written_in_words verdict.LeftOut = false
+
 -- In words a field is written where an output differs or didn't come, and in the formats that programs read always.
 abbrev pub is_written : Format → Verdict → Bool
-is_written format.Text verdict.Same = false
-is_written format.Text verdict.Differs = true
-is_written format.Text verdict.Unanswered = true
-is_written format.Text verdict.LeftOut = false
-is_written format.Tap verdict = true
-is_written format.Junit verdict = true
+is_written format.Text v = is_written_in_words v
+is_written format.Tap v = true
+is_written format.Junit v = true
+is_written format.Accepting v = is_written_in_words v
 
 -- What a fault leaves of the output: where there was no memory nothing was written, and else the writer failed.
 abbrev pub Unreported : Option (List ℕ) → Option (List ℕ) → ReportFault → Type 0

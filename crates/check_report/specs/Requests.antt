@@ -1,5 +1,5 @@
 -- What the words of a command line ask a check for.
-use Rattle.std.specs.Prelude.{◌≡◌, ℕ, List, [], Option, Some, None, codes, if◌then◌else◌}
+use Rattle.std.specs.Prelude.{◌≡◌, ℕ, Bool, true, false, List, [], Option, Some, None, codes, if◌then◌else◌}
 use Rattle.std.specs.Str.{bytes_eq}
 use Rattle.worksheet.specs.Names.{is_name}
 use Rattle.check_report.specs.declared.chosen.Ids.{Ids}
@@ -21,6 +21,26 @@ abbrev pub format_asked : Option (List ℕ) → Option Format
 format_asked None = Some format.Text
 format_asked (Some name) = report_named name
 
+-- answers that differ are accepted in words alone
+abbrev pub accepting : Format → Option Format
+accepting format.Text = Some format.Accepting
+accepting format.Tap = None
+accepting format.Junit = None
+accepting format.Accepting = Some format.Accepting
+
+-- the report that is asked for: in a format, and whether answers that differ are accepted
+abbrev pub report_asked : Bool → Format → Option Format
+report_asked false format = Some format
+report_asked true format = accepting format
+
+-- a format is asked for, and this is the report
+abbrev pub AsksReport : Bool → Option (List ℕ) → Format → Type 0
+AsksReport accept name report = (named : Format) × (format_asked name ≡ Some named) × (report_asked accept named ≡ Some report)
+
+-- a format is asked for, in which nothing is accepted
+abbrev pub AsksNoReport : Bool → Option (List ℕ) → Type 0
+AsksNoReport accept name = (named : Format) × (format_asked name ≡ Some named) × (report_asked accept named ≡ None)
+
 -- the session that is asked for, where one is, and it can be the name of one
 abbrev pub session_asked : Option (List ℕ) → Option (Option (List ℕ))
 session_asked None = Some None
@@ -32,12 +52,13 @@ ids_asked None = Some []
 ids_asked (Some text) = ids_named text
 
 -- all that is asked for has a form
-abbrev pub Asks : Option (List ℕ) → Option (List ℕ) → Option (List ℕ) → Request → Type 0
-Asks format session ids request = (format_asked format ≡ Some request.format) × (session_asked session ≡ Some request.chosen.only) × (ids_asked ids ≡ Some request.chosen.left_out)
+abbrev pub Asks : Bool → Option (List ℕ) → Option (List ℕ) → Option (List ℕ) → Request → Type 0
+Asks accept format session ids request = AsksReport accept format request.format × (session_asked session ≡ Some request.chosen.only) × (ids_asked ids ≡ Some request.chosen.left_out)
 
 -- this has none, or there was no memory
-abbrev pub AsksFor : Option (List ℕ) → Option (List ℕ) → Option (List ℕ) → RequestFault → Type 0
-AsksFor format session ids fault.Format = format_asked format ≡ None
-AsksFor format session ids fault.Session = session_asked session ≡ None
-AsksFor format session ids fault.Ids = ids_asked ids ≡ None
-AsksFor format session ids fault.OutOfMemory = Unit {0}
+abbrev pub AsksFor : Bool → Option (List ℕ) → Option (List ℕ) → Option (List ℕ) → RequestFault → Type 0
+AsksFor accept format session ids fault.Format = format_asked format ≡ None
+AsksFor accept format session ids fault.Session = session_asked session ≡ None
+AsksFor accept format session ids fault.Ids = ids_asked ids ≡ None
+AsksFor accept format session ids fault.OutOfMemory = Unit {0}
+AsksFor accept format session ids fault.Accepting = AsksNoReport accept format

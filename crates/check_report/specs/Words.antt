@@ -30,6 +30,17 @@ verdict_text field came verdict.Differs = difference_text field came
 verdict_text field came verdict.Unanswered = difference_text field came
 verdict_text field came verdict.LeftOut = []
 
+-- the line that says that the answer which came to this field is accepted
+abbrev pub accepted_line : ℕ → List ℕ
+accepted_line id = codes "accepted " ++ decimal id ++ 10 ∷ []
+
+-- what is written of a field that came to this, where answers that differ are accepted
+abbrev pub acceptance_text : Field → Option Answer → Verdict → List ℕ
+acceptance_text field came verdict.Same = []
+acceptance_text field came verdict.Differs = difference_text field came ++ accepted_line field.id
+acceptance_text field came verdict.Unanswered = difference_text field came
+acceptance_text field came verdict.LeftOut = []
+
 -- how many were left out, where some were
 abbrev pub left_out_part : ℕ → List ℕ
 left_out_part n = if nat_eq n 0 then [] else codes " left out " ++ decimal n
@@ -38,6 +49,13 @@ left_out_part n = if nat_eq n 0 then [] else codes " left out " ++ decimal n
 abbrev pub compared_part : Counts → List ℕ
 compared_part counts = codes "same " ++ decimal counts.same ++ codes " differ " ++ decimal counts.differ ++ codes " unanswered " ++ decimal counts.unanswered
 
+-- the same, where those that differ were accepted
+abbrev pub accepted_part : Counts → List ℕ
+accepted_part counts = codes "same " ++ decimal counts.same ++ codes " accepted " ++ decimal counts.differ ++ codes " unanswered " ++ decimal counts.unanswered
+
 -- the last line
 abbrev pub counts_text : Counts → List ℕ
 counts_text counts = compared_part counts ++ left_out_part counts.left_out ++ 10 ∷ []
+
+abbrev pub accepted_counts_text : Counts → List ℕ
+accepted_counts_text counts = accepted_part counts ++ left_out_part counts.left_out ++ 10 ∷ []

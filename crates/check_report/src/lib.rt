@@ -15,6 +15,9 @@ mod xml;
 
 pub use chosen::{Chosen, Ids};
 pub use ids::read_ids;
-pub use report::{Format, ReportFault, close_report, is_written, open_report, report_case};
+pub use report::{
+    Format, ReportFault, bring_out, close_report, is_written, open_report, report_case,
+};
 pub use request::{Request, RequestFault, read_request};
 pub use verdict::{Counts, Verdict};
+pub use words::acceptance_in_memory;

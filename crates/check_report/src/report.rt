@@ -2,7 +2,7 @@
 ghost use Rattle.std.specs.Prelude.{◌≡◌, IfErr, OnOk};
 ghost use Rattle.std.specs.Io.KnownBytes.{Appends};
 ghost use Rattle.check_report.specs.Points.{point};
-ghost use Rattle.check_report.specs.Reports.{Unreported, case as case_of, case_text, closing_text, is_written as is_written_in, opening_text};
+ghost use Rattle.check_report.specs.Reports.{Unreported, case as case_of, case_text, closing_text, is_written as is_written_in, is_written_in_words as is_written_words, opening_text};
 ghost use Rattle.check_report.specs.Words as printed;
 ghost use Rattle.check_report.specs.Tap as taps;
 ghost use Rattle.check_report.specs.Junit as junits;
@@ -10,7 +10,11 @@ ghost use Rattle.check_report.specs.Junit as junits;
 use crate::junit::{write_case, write_head, write_tail};
 use crate::tap::{write_plan, write_point, write_version};
 use crate::verdict::{Counts, Verdict};
-use crate::words::{outputs_in_memory, verdict_in_memory, write_counts, write_difference};
+use crate::words::{
+    acceptance_in_memory, outputs_in_memory, verdict_in_memory, write_accepted_counts,
+    write_counts, write_difference,
+};
+use crate::writing::write_bytes;
 use sheet_text::WriteFault;
 use std::alloc::Global;
 use std::io::Write;
@@ -25,6 +29,8 @@ pub enum Format {
     Tap,
     /// In JUnit's XML: a test case for each field.
     Junit,
+    /// In words, where answers that differ are accepted: that is said behind each.
+    Accepting,
 }
 
 /// Why a part of a report wasn't written.
@@ -42,7 +48,7 @@ pub fn open_report<W: Write>(format: Format, writer: &mut W) -> Result<(), Write
         (opening_text format)) }
 {
     match format {
-        Format::Text => return Ok(()),
+        Format::Text | Format::Accepting => return Ok(()),
         Format::Tap => write_version(writer)?,
         Format::Junit => write_head(writer)?,
     }
@@ -58,6 +64,7 @@ fn write_closing<W: Write>(format: Format, counts: Counts, writer: &mut W) -> Re
         Format::Text => write_counts(counts, writer),
         Format::Tap => write_plan(counts.total(), writer),
         Format::Junit => write_tail(writer),
+        Format::Accepting => write_accepted_counts(counts, writer),
     }
 }
 
@@ -75,12 +82,19 @@ pub fn close_report<W: Write>(
     Ok(())
 }
 
+/// Whether anything is written in words of a field that came to this.
+fn is_written_in_words(verdict: Verdict) -> bool
+    ensures { result ≡ is_written_words verdict }
+{
+    matches!(verdict, Verdict::Differs | Verdict::Unanswered)
+}
+
 /// Whether anything is written of a field that came to this.
 pub fn is_written(format: Format, verdict: Verdict) -> bool
     ensures { result ≡ is_written_in format verdict }
 {
     match format {
-        Format::Text => matches!(verdict, Verdict::Differs | Verdict::Unanswered),
+        Format::Text | Format::Accepting => is_written_in_words(verdict),
         Format::Tap | Format::Junit => true,
     }
 }
@@ -220,6 +234,36 @@ fn report_junit<W: Write>(
     }
 }
 
+/// Brings out a text that is in memory.
+pub fn bring_out<W: Write>(text: &[u8], writer: &mut W) -> Result<(), WriteFault>
+    ensures { OnOk result (Appends (W.contents writer.old) (W.contents writer.new) text.now) }
+{
+    write_bytes(text, writer)?;
+    writer.flush().map_err(|_| WriteFault)?;
+    Ok(())
+}
+
+/// Tells a field in words, where answers that differ are accepted.
+fn report_accepting<W: Write>(
+    alloc: Global,
+    field: &Field,
+    came: &Option<Answer>,
+    verdict: Verdict,
+    writer: &mut W,
+) -> Result<(), ReportFault>
+    ensures ok { OnOk result (Appends (W.contents writer.old) (W.contents writer.new)
+        (printed.acceptance_text field.now came.now verdict)) }
+    ensures err { IfErr result (Unreported (W.contents writer.old) (W.contents writer.new)) }
+{
+    let Some(told) = acceptance_in_memory(alloc, field, came, verdict) else {
+        return Err(ReportFault::OutOfMemory);
+    };
+    match bring_out(told.as_slice(), writer) {
+        Ok(()) => Ok(()),
+        Err(_) => Err(ReportFault::Output),
+    }
+}
+
 /// Tells what a field came to, which is the case of this number, and brings it out.
 pub fn report_case<W: Write>(
     alloc: Global,
@@ -238,5 +282,6 @@ pub fn report_case<W: Write>(
         Format::Text => report_words(alloc, field, came, verdict, writer),
         Format::Tap => report_point(alloc, number, field, came, verdict, writer),
         Format::Junit => report_junit(alloc, field, came, verdict, writer),
+        Format::Accepting => report_accepting(alloc, field, came, verdict, writer),
     }
 }

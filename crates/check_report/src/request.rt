@@ -1,5 +1,5 @@
 //! What a check is asked for.
-ghost use Rattle.std.specs.Prelude.{◌≡◌, IfErr, IfOk, None, Some, option_map};
+ghost use Rattle.std.specs.Prelude.{◌≡◌, IfErr, IfOk, None, Some, false, option_map};
 ghost use Rattle.check_report.specs.Requests as asked;
 
 use crate::chosen::{Chosen, Ids};
@@ -27,6 +27,8 @@ pub enum RequestFault {
     Ids,
     /// There was no memory for them.
     OutOfMemory,
+    /// In that format nothing is accepted.
+    Accepting,
 }
 
 /// The format of this name: `text`, `tap` or `junit`. None where there is none of it.
@@ -57,6 +59,36 @@ fn read_format(name: Option<&str>) -> Result<Format, RequestFault>
     }
 }
 
+/// The report in a format, where answers that differ are accepted. None where that format has none.
+fn accepting(format: Format) -> Option<Format>
+    ensures { result ≡ asked.accepting format }
+{
+    match format {
+        Format::Text | Format::Accepting => Some(Format::Accepting),
+        Format::Tap | Format::Junit => None,
+    }
+}
+
+/// The report that is asked for, by the name of its format, and by whether answers that differ are
+/// accepted.
+fn read_report(name: Option<&str>, accept: bool) -> Result<Format, RequestFault>
+    ensures ok { IfOk result (asked.AsksReport accept (option_map (λ text. text.now) name.entry)) }
+    ensures err { IfErr result
+        (asked.AsksFor accept (option_map (λ text. text.now) name.entry) None None) }
+{
+    let format = match read_format(name) {
+        Ok(format) => format,
+        Err(why) => return Err(why),
+    };
+    if !accept {
+        return Ok(format);
+    }
+    match accepting(format) {
+        Some(format) => Ok(format),
+        None => Err(RequestFault::Accepting),
+    }
+}
+
 /// The session that is asked for.
 fn read_session(name: Option<&str>) -> Result<Option<Name>, RequestFault>
     ensures ok { IfOk result (λ session.
@@ -77,7 +109,7 @@ fn read_session(name: Option<&str>) -> Result<Option<Name>, RequestFault>
 fn read_left_out(alloc: Global, text: Option<&str>) -> Result<Sequence<Ids>, RequestFault>
     ensures ok { IfOk result (λ ids.
         asked.ids_asked (option_map (λ text. text.now) text.entry) ≡ Some ids) }
-    ensures err { IfErr result (asked.AsksFor None None (option_map (λ text. text.now) text.entry)) }
+    ensures err { IfErr result (asked.AsksFor false None None (option_map (λ text. text.now) text.entry)) }
 {
     let Some(text) = text else {
         return Ok(Sequence::new(alloc));
@@ -89,20 +121,21 @@ fn read_left_out(alloc: Global, text: Option<&str>) -> Result<Sequence<Ids>, Req
     }
 }
 
-/// What the words of a command line ask for: a format, a session, and numbers of fields that are left
-/// out.
+/// What the words of a command line ask for: a format, a session, numbers of fields that are left out,
+/// and whether answers that differ are accepted.
 pub fn read_request(
     alloc: Global,
     format: Option<&str>,
     session: Option<&str>,
     ids: Option<&str>,
+    accept: bool,
 ) -> Result<Request, RequestFault>
-    ensures ok { IfOk result (asked.Asks (option_map (λ text. text.now) format.entry)
+    ensures ok { IfOk result (asked.Asks accept (option_map (λ text. text.now) format.entry)
         (option_map (λ text. text.now) session.entry) (option_map (λ text. text.now) ids.entry)) }
-    ensures err { IfErr result (asked.AsksFor (option_map (λ text. text.now) format.entry)
+    ensures err { IfErr result (asked.AsksFor accept (option_map (λ text. text.now) format.entry)
         (option_map (λ text. text.now) session.entry) (option_map (λ text. text.now) ids.entry)) }
 {
-    let format = match read_format(format) {
+    let format = match read_report(format, accept) {
         Ok(format) => format,
         Err(why) => return Err(why),
     };

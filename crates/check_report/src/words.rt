@@ -1,5 +1,5 @@
 //! A report in words.
-ghost use Rattle.std.specs.Prelude.{◌≡◌, None, IfOk, IfSome, OnOk};
+ghost use Rattle.std.specs.Prelude.{◌≡◌, ◌++◌, None, IfOk, IfSome, OnOk};
 ghost use Rattle.std.specs.Io.KnownBytes.{Appends};
 ghost use Rattle.sheet_text.specs.Texts.{output_lines};
 ghost use Rattle.check_report.specs.Words as printed;
@@ -113,6 +113,46 @@ pub(crate) fn verdict_in_memory(
     }
 }
 
+/// Writes that the answer which came to a field is accepted.
+fn write_accepted<W: Write>(id: u32, writer: &mut W) -> Result<(), WriteFault>
+    ensures { OnOk result (Appends (W.contents writer.old) (W.contents writer.new)
+        (printed.accepted_line id)) }
+{
+    write!(writer, "accepted {id}\n").map_err(|_| WriteFault)
+}
+
+/// A text with the line behind it that says that the answer which came to a field is accepted.
+fn with_accepted(text: Vec<u8>, id: u32) -> Option<Vec<u8>>
+    ensures { IfSome result (λ whole. whole.items ≡ text.items ++ printed.accepted_line id) }
+{
+    let mut text = text;
+    match write_accepted(id, &mut text) {
+        Ok(()) => Some(text),
+        Err(_) => Option::None,
+    }
+}
+
+/// What is written of a field that came to this, where answers that differ are accepted, in memory.
+/// None where there is none for it.
+pub fn acceptance_in_memory(
+    alloc: Global,
+    field: &Field,
+    came: &Option<Answer>,
+    verdict: Verdict,
+) -> Option<Vec<u8>>
+    ensures { IfSome result (λ text. text.items
+        ≡ printed.acceptance_text field.now came.now verdict) }
+{
+    match verdict {
+        Verdict::Same | Verdict::LeftOut => Some(Vec::new(alloc)),
+        Verdict::Unanswered => difference_in_memory(alloc, field, came),
+        Verdict::Differs => match difference_in_memory(alloc, field, came) {
+            Some(text) => with_accepted(text, field.id),
+            None => Option::None,
+        },
+    }
+}
+
 /// Writes how many were left out, where some were.
 fn write_left_out<W: Write>(left_out: u32, writer: &mut W) -> Result<(), WriteFault>
     ensures { OnOk result (Appends (W.contents writer.old) (W.contents writer.new)
@@ -140,6 +180,39 @@ fn write_compared<W: Write>(counts: Counts, writer: &mut W) -> Result<(), WriteF
         "same {same} differ {differ} unanswered {unanswered}"
     )
     .map_err(|_| WriteFault)
+}
+
+/// Writes how many were compared, by what they came to, where those that differ were accepted.
+fn write_accepted_part<W: Write>(counts: Counts, writer: &mut W) -> Result<(), WriteFault>
+    ensures { OnOk result (Appends (W.contents writer.old) (W.contents writer.new)
+        (printed.accepted_part counts)) }
+{
+    let Counts {
+        same,
+        differ,
+        unanswered,
+        left_out: _,
+    } = counts;
+    write!(
+        writer,
+        "same {same} accepted {differ} unanswered {unanswered}"
+    )
+    .map_err(|_| WriteFault)
+}
+
+/// Writes the counts, where those that differ were accepted.
+#[tactic(auto, using(crate::proofs::Written::steps))]
+pub(crate) fn write_accepted_counts<W: Write>(
+    counts: Counts,
+    writer: &mut W,
+) -> Result<(), WriteFault>
+    ensures { OnOk result (Appends (W.contents writer.old) (W.contents writer.new)
+        (printed.accepted_counts_text counts)) }
+{
+    write_accepted_part(counts, writer)?;
+    write_left_out(counts.left_out, writer)?;
+    write_bytes(b"\n", writer)?;
+    Ok(())
 }
 
 /// Writes the counts.

@@ -15,12 +15,14 @@ pub record CheckView : Type 0 where
   pub format : Option Text
   pub only : Option Text
   pub leave_out : Option Text
+  pub accept : Bool
 
 abbrev pub check_view : CheckWords → CheckView
 check_view words = record {
   format = option_map (λ text. text.now) words.format;
   only = option_map (λ text. text.now) words.only;
   leave_out = option_map (λ text. text.now) words.leave_out;
+  accept = words.accept;
 }
 
 -- a task as contracts see it: a path is its bytes
@@ -72,7 +74,8 @@ json_rule = record (new_rule (codes "json")) { long = Some (codes "json"); actio
 abbrev pub with_json : Text → App
 with_json name = with_rule (with_path name) json_rule
 
--- and of the one with options: the format of its report, the session that it is about, and the fields that aren't compared
+-- and of the one with options: the format of its report, the session that it is about, the fields that aren't compared, and whether
+-- answers that differ are accepted
 abbrev pub report_rule : Rule
 report_rule = record (new_rule (codes "format")) { long = Some (codes "format"); value_names = 1 }
 
@@ -88,8 +91,14 @@ with_session name = with_rule (with_report name) session_rule
 abbrev pub left_out_rule : Rule
 left_out_rule = record (new_rule (codes "leave-out")) { long = Some (codes "leave-out"); value_names = 1 }
 
+abbrev pub with_left_out : Text → App
+with_left_out name = with_rule (with_session name) left_out_rule
+
+abbrev pub accept_rule : Rule
+accept_rule = record (new_rule (codes "accept")) { long = Some (codes "accept"); action = Some SetTrue }
+
 abbrev pub with_check : Text → App
-with_check name = with_rule (with_session name) left_out_rule
+with_check name = with_rule (with_left_out name) accept_rule
 
 -- and of `eval`, with two flags
 abbrev pub unanswered_rule : Rule
@@ -148,7 +157,7 @@ flags_view flags = record { strict = flags.strict; json = flags.json; unanswered
 
 -- what the words of `check` name among these words, and all flags and options
 abbrev pub check_in : List Row → CheckView
-check_in rows = record { format = first_of (codes "format") rows; only = first_of (codes "only") rows; leave_out = first_of (codes "leave-out") rows }
+check_in rows = record { format = first_of (codes "format") rows; only = first_of (codes "only") rows; leave_out = first_of (codes "leave-out") rows; accept = is_set (first_of (codes "accept") rows) }
 
 abbrev pub flags_in : List Row → FlagsView
 flags_in rows = record { strict = is_set (first_of (codes "strict") rows); json = is_set (first_of (codes "json") rows); unanswered = is_set (first_of (codes "unanswered") rows); check = check_in rows }

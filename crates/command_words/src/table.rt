@@ -117,9 +117,13 @@ With --format it reports each field as a test: as a point of TAP 13, or as a cas
 in JUnit's XML. --only names the one session whose fields are evaluated. The\n\
 outputs of the fields that --leave-out names aren't compared, as of 3, 7, 8 and 9\n\
 by --leave-out 3,7-9; they are evaluated all the same.\n\n\
-Status: 0 where all outputs that are compared are the same; 1 where one differs\n\
-or didn't come, where the session that --only names has no field that shows an\n\
-answer, or at a fault; 2 where the words are refused.\n\n\
+With --accept each answer that differs is put into its field of the worksheet,\n\
+which is opened to write. Then its difference is written, with `accepted ID` below,\n\
+and the last line is as `same 4 accepted 1 unanswered 0`. It goes with no format\n\
+but text.\n\n\
+Status: 0 where all outputs that are compared are the same, or were accepted; 1\n\
+where one differs or didn't come, where the session that --only names has no field\n\
+that shows an answer, or at a fault; 2 where the words are refused.\n\n\
 Example: tmhost check --format junit sheet.tm >report.xml";
 
 const RESCUE_NOTES: &str =

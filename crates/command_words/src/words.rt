@@ -19,6 +19,8 @@ pub struct CheckWords<'a> {
     pub only: Option<&'a str>,
     /// The numbers of the fields that aren't compared.
     pub leave_out: Option<&'a str>,
+    /// Answers that differ are put into the worksheet.
+    pub accept: bool,
 }
 
 /// What the program is asked to do. A path is one of the words.
@@ -147,8 +149,8 @@ fn with_session<'a>(alloc: Global, row: Row) -> Result<Command<'a>, AllocError>
 }
 
 /// The same, and with the fields that aren't compared.
-fn with_check<'a>(alloc: Global, row: Row) -> Result<Command<'a>, AllocError>
-    ensures made { IfOk result (λ command. app_of command ≡ asked.with_check row.name.now) }
+fn with_left_out<'a>(alloc: Global, row: Row) -> Result<Command<'a>, AllocError>
+    ensures made { IfOk result (λ command. app_of command ≡ asked.with_left_out row.name.now) }
     ensures local { IfOk result (λ command. (fields_of command).has_globals ≡ false) }
 {
     let first = with_session(alloc, row)?;
@@ -157,6 +159,20 @@ fn with_check<'a>(alloc: Global, row: Row) -> Result<Command<'a>, AllocError>
             .long("leave-out")
             .value_name("IDS")
             .help("Don't compare the outputs of these fields, as 3,7-9"),
+    )
+}
+
+/// The same, and with the flag that has answers accepted.
+fn with_check<'a>(alloc: Global, row: Row) -> Result<Command<'a>, AllocError>
+    ensures made { IfOk result (λ command. app_of command ≡ asked.with_check row.name.now) }
+    ensures local { IfOk result (λ command. (fields_of command).has_globals ≡ false) }
+{
+    let first = with_left_out(alloc, row)?;
+    first.arg(
+        Arg::new(alloc, "accept")
+            .long("accept")
+            .help("Put the answers that differ into the worksheet")
+            .action(ArgAction::SetTrue),
     )
 }
 
@@ -380,6 +396,7 @@ fn check_words<'a>(matches: &ArgMatches<'a>) -> CheckWords<'a>
         format: matches.get_str("format"),
         only: matches.get_str("only"),
         leave_out: matches.get_str("leave-out"),
+        accept: is_set(matches.get_str("accept")),
     }
 }
 

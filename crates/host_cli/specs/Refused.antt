@@ -17,7 +17,8 @@ ShowsText k = (k ≡ kind.DisplayHelp) ⊎ (k ≡ kind.DisplayVersion)
 abbrev pub no_format_text : List ℕ
 no_format_text = codes "error: there is no such format: FORMAT is script, markdown, html, notebook or json\n\nFor more information, try 'tmhost export --help'.\n"
 
--- what is told of words that ask for no check: of a format, of the name of a session, and of numbers of fields
+-- what is told of words that ask for no check: of a format, of the name of a session, of numbers of fields, and of a format in which
+-- nothing is accepted
 abbrev pub no_report_text : List ℕ
 no_report_text = codes "error: there is no such format: FORMAT is text, tap or junit\n\nFor more information, try 'tmhost check --help'.\n"
 
@@ -26,6 +27,9 @@ no_session_text = codes "error: no session can have this name: NAME is 1 to 32 l
 
 abbrev pub no_ids_text : List ℕ
 no_ids_text = codes "error: these are no fields: IDS are numbers and ranges of them, as 3,7-9\n\nFor more information, try 'tmhost check --help'.\n"
+
+abbrev pub no_acceptance_text : List ℕ
+no_acceptance_text = codes "error: --accept goes with no FORMAT but text\n\nFor more information, try 'tmhost check --help'.\n"
 
 -- the words are refused with this text
 abbrev pub RefusesWith : {E : Type 0} → List ℕ → (E → Option (List ℕ)) → E → E → Ending → Type 0
@@ -36,4 +40,5 @@ abbrev pub RefusesRequest : {E : Type 0} → RequestFault → (E → Option (Lis
 RefusesRequest request.Format said old new ending = RefusesWith no_report_text said old new ending
 RefusesRequest request.Session said old new ending = RefusesWith no_session_text said old new ending
 RefusesRequest request.Ids said old new ending = RefusesWith no_ids_text said old new ending
+RefusesRequest request.Accepting said old new ending = RefusesWith no_acceptance_text said old new ending
 RefusesRequest request.OutOfMemory said old new ending = (ending.status ≡ 1) × TellsFault said old new ending.told (Err fault.OutOfMemory)

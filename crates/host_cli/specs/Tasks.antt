@@ -13,6 +13,9 @@ use Rattle.disk_model.specs.Disk.{DiskView}
 use Rattle.disk_model.specs.declared.disk.Disk as disks
 use Rattle.child_edge.specs.Faithful.{Relation}
 use Rattle.check_report.specs.Requests.{Asks, AsksFor}
+use Rattle.check_report.specs.declared.chosen.Chosen.{Chosen}
+use Rattle.check_report.specs.declared.report.Format.{Format as Report}
+use Rattle.check_report.specs.declared.report.Format.TheVariants as report
 use Rattle.check_report.specs.declared.request.Request.{Request}
 use Rattle.check_report.specs.declared.request.RequestFault.{RequestFault}
 use Rattle.command_words.specs.Asked.{CheckView, TaskView, asked_by, task_view, tmhost}
@@ -25,6 +28,7 @@ use Rattle.live.specs.Arrivals.{Watch}
 use Rattle.live.specs.Saying.{Clock}
 use Rattle.offline_programs.specs.declared.fault.RunFault.{RunFault}
 use Rattle.offline_programs.specs.declared.fault.RunFault.TheVariants as fault
+use Rattle.program_endings.specs.AcceptProgram.{AcceptEnds}
 use Rattle.program_endings.specs.CheckProgram.{CheckEnds}
 use Rattle.program_endings.specs.Ending.{BlocksAnswer, ProgramAnswer, TellsFault, status_of}
 use Rattle.program_endings.specs.EvalProgram.{EvaluationEnded}
@@ -133,6 +137,22 @@ module _ {Y D P S I W E Q : Type 0} (o : OutsideView D P S I W E) where
       HeldFirst old new (λ why. (new.sources ≡ old.sources) × EndsWith old new ending (Err why)) (λ held. (files : Result D FilesFault) × o.places.reads held path files new.places
       × CheckEnds o.view o.after request.chosen request.format files old.sources new.sources o.written old.output new.output o.said old.errors new.errors ending)
 
+  -- `check --accept` of what they open to write
+  abbrev pub AcceptsAs : Outside Y D P S I W E Q → Outside Y D P S I W E Q → Ending → Text → Chosen → Type 0
+  AcceptsAs old new ending path chosen =
+      HeldFirst old new (λ why. (new.sources ≡ old.sources) × EndsWith old new ending (Err why)) (λ held. (files : Result D FilesFault) × o.places.opens held path files new.places
+      × AcceptEnds o.view o.after chosen files old.sources new.sources o.written old.output new.output o.said old.errors new.errors ending)
+
+  -- the one or the other
+  abbrev pub ChecksIn : Report → Outside Y D P S I W E Q → Outside Y D P S I W E Q → Ending → Text → Request → Type 0
+  ChecksIn report.Text old new ending path request = ChecksAs old new ending path request
+  ChecksIn report.Tap old new ending path request = ChecksAs old new ending path request
+  ChecksIn report.Junit old new ending path request = ChecksAs old new ending path request
+  ChecksIn report.Accepting old new ending path request = AcceptsAs old new ending path request.chosen
+
+  abbrev pub ChecksBy : Outside Y D P S I W E Q → Outside Y D P S I W E Q → Ending → Text → Request → Type 0
+  ChecksBy old new ending path request = ChecksIn request.format old new ending path request
+
   -- where the words ask for no check they are refused, and nothing is done
   abbrev pub ChecksNone : Outside Y D P S I W E Q → Outside Y D P S I W E Q → Ending → RequestFault → Type 0
   ChecksNone old new ending why = (new.places ≡ old.places) × (new.sources ≡ old.sources) × (new.output ≡ old.output) × (new.progress ≡ old.progress)
@@ -140,8 +160,8 @@ module _ {Y D P S I W E Q : Type 0} (o : OutsideView D P S I W E) where
 
   -- `check` by what its words name
   abbrev pub DoesCheck : Outside Y D P S I W E Q → Outside Y D P S I W E Q → Ending → Text → CheckView → Type 0
-  DoesCheck old new ending path words = (read : Result Request RequestFault) × IfOk read (Asks words.format words.only words.leave_out)
-      × IfErr read (AsksFor words.format words.only words.leave_out) × MatchResult read (ChecksAs old new ending path) (ChecksNone old new ending)
+  DoesCheck old new ending path words = (read : Result Request RequestFault) × IfOk read (Asks words.accept words.format words.only words.leave_out)
+      × IfErr read (AsksFor words.accept words.format words.only words.leave_out) × MatchResult read (ChecksBy old new ending path) (ChecksNone old new ending)
 
   -- files that weren't opened: nothing is read or written, and no child is called
   abbrev pub Unopened : Outside Y D P S I W E Q → Outside Y D P S I W E Q → Ending → FilesFault → Type 0

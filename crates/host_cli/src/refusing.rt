@@ -4,7 +4,7 @@ ghost use Rattle.std.specs.Io.KnownBytes.{Appends};
 ghost use Rattle.std.specs.declared.io.ErrorKind.TheVariants as io_kind;
 ghost use Rattle.clap.specs.Words.{kind_of};
 ghost use Rattle.clap.specs.declared.error.kind.ErrorKind.TheVariants as kind;
-ghost use Rattle.host_cli.specs.Refused.{ShowsText, RefusesRequest, no_format_text, no_ids_text, no_report_text, no_session_text};
+ghost use Rattle.host_cli.specs.Refused.{ShowsText, RefusesRequest, no_acceptance_text, no_format_text, no_ids_text, no_report_text, no_session_text};
 ghost use Rattle.program_endings.specs.Ending.{TellsFault};
 ghost use Rattle.offline_programs.specs.declared.fault.RunFault.TheVariants as fault;
 
@@ -112,6 +112,11 @@ pub(crate) fn refuse_request<E: Write>(why: RequestFault, errors: &mut E) -> End
         ),
         RequestFault::Ids => refuse_with(
             b"error: these are no fields: IDS are numbers and ranges of them, as 3,7-9\n\n\
+            For more information, try 'tmhost check --help'.\n",
+            errors,
+        ),
+        RequestFault::Accepting => refuse_with(
+            b"error: --accept goes with no FORMAT but text\n\n\
             For more information, try 'tmhost check --help'.\n",
             errors,
         ),

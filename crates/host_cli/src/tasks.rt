@@ -2,7 +2,7 @@
 ghost use Rattle.std.specs.Prelude.{◌≡◌, ◌≢◌, [], List, Err, false, map, string_bytes, true};
 ghost use Rattle.command_words.specs.Asked.{check_view, task_view};
 ghost use Rattle.command_words.specs.Asked as asked;
-ghost use Rattle.host_cli.specs.Tasks.{BringsOut, ChecksAs, DoesAsked, DoesBlocks, DoesCheck, DoesCreate, DoesEval, DoesExport, DoesLive, DoesRescue, DoesRun, DoesShow, DoesTask, EndsBy, EvaluatesAs, ExportsAs, LeavesAlone, Performs, RescuesFrom, RescuesTo, outer, plan_of as plan_asked};
+ghost use Rattle.host_cli.specs.Tasks.{AcceptsAs, BringsOut, ChecksAs, ChecksBy, DoesAsked, DoesBlocks, DoesCheck, DoesCreate, DoesEval, DoesExport, DoesLive, DoesRescue, DoesRun, DoesShow, DoesTask, EndsBy, EvaluatesAs, ExportsAs, LeavesAlone, Performs, RescuesFrom, RescuesTo, outer, plan_of as plan_asked};
 ghost use Rattle.program_endings.specs.Ending.{TellsFault};
 ghost use Rattle.offline_programs.specs.declared.fault.RunFault.TheVariants as fault;
 ghost use Rattle.recovery.specs.Sheets.{Makes};
@@ -14,11 +14,11 @@ use crate::outlet::Outlet;
 use crate::outside::{Outside, System};
 use crate::refusing::{refuse_format, refuse_request};
 use crate::{refuse_unread_words, refuse_words};
-use check_report::{Request, read_request};
+use check_report::{Chosen, Format as Report, Request, read_request};
 use command_words::{CheckWords, EvalFlags, Task, read_words};
 use offline_programs::RunFault;
 use program_endings::{
-    Ending, end_program, end_unheld, read_rescued, run_blocks, run_check, run_create,
+    Ending, end_program, end_unheld, read_rescued, run_accept, run_blocks, run_check, run_create,
     run_evaluation, run_export, run_live, run_rescue, run_script, run_show, run_strictly,
 };
 use recovery::Rescued;
@@ -98,6 +98,51 @@ fn check_as<Y: System>(
     }
 }
 
+/// `check --accept` of the worksheet at a path.
+fn accept_as<Y: System>(
+    alloc: Global,
+    outside: &mut Outside<Y>,
+    chosen: &Chosen,
+    path: &str,
+) -> Ending
+    ensures does { AcceptsAs (outer Y.Places.Places Y.Disk.Disk Y.Sources.after
+        Y.Sources.clock Y.Sources.wakes Y.Input.Read Y.Output.Write Y.Output.brought Y.Errors.Write) outside.old outside.new result path.now chosen.now }
+    ensures leaves { outside.new.input ≡ outside.old.input }
+{
+    match outside.places.hold() {
+        Ok(()) => {
+            let files = outside.places.open(path);
+            run_accept(
+                alloc,
+                chosen,
+                files,
+                &mut outside.sources,
+                &mut outside.progress,
+                &mut outside.output,
+                &mut outside.errors,
+            )
+        }
+        Err(why) => end_unheld(why, &mut outside.errors),
+    }
+}
+
+/// `check` of the worksheet at a path, with answers that are accepted or without.
+fn check_by<Y: System>(
+    alloc: Global,
+    outside: &mut Outside<Y>,
+    request: &Request,
+    path: &str,
+) -> Ending
+    ensures does { ChecksBy (outer Y.Places.Places Y.Disk.Disk Y.Sources.after
+        Y.Sources.clock Y.Sources.wakes Y.Input.Read Y.Output.Write Y.Output.brought Y.Errors.Write) outside.old outside.new result path.now request.now }
+    ensures leaves { outside.new.input ≡ outside.old.input }
+{
+    match request.format {
+        Report::Accepting => accept_as(alloc, outside, &request.chosen, path),
+        Report::Text | Report::Tap | Report::Junit => check_as(alloc, outside, request, path),
+    }
+}
+
 /// `check` of the worksheet at a path, as these words ask for it.
 fn check_at<Y: System>(
     alloc: Global,
@@ -109,8 +154,14 @@ fn check_at<Y: System>(
         Y.Sources.clock Y.Sources.wakes Y.Input.Read Y.Output.Write Y.Output.brought Y.Errors.Write) outside.old outside.new result path.now (check_view words.entry) }
     ensures leaves { outside.new.input ≡ outside.old.input }
 {
-    match read_request(alloc, words.format, words.only, words.leave_out) {
-        Ok(request) => check_as(alloc, outside, &request, path),
+    let CheckWords {
+        format,
+        only,
+        leave_out,
+        accept,
+    } = words;
+    match read_request(alloc, format, only, leave_out, accept) {
+        Ok(request) => check_by(alloc, outside, &request, path),
         Err(why) => refuse_request(why, &mut outside.errors),
     }
 }

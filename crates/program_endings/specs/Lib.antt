@@ -4,6 +4,7 @@ pub mod Ending
 pub mod Programs
 pub mod RescueProgram
 pub mod CheckProgram
+pub mod AcceptProgram
 pub mod ExportProgram
 pub mod StrictProgram
 pub mod LiveProgram

@@ -24,7 +24,7 @@ fn are_same(counts: Counts) -> bool
 }
 
 /// Whether any field was checked, where those of one session are asked for.
-fn found_any(chosen: &Chosen, counts: Counts) -> bool
+pub(crate) fn found_any(chosen: &Chosen, counts: Counts) -> bool
     ensures { result ≡ finds_any chosen.now counts }
 {
     match &chosen.only {

@@ -3,6 +3,7 @@
 //! them runs for which words in `host_cli`.
 #![tactic(auto)]
 
+mod accept_program;
 mod block_lines;
 mod check_program;
 mod ending;
@@ -14,6 +15,7 @@ mod rescue_program;
 mod strict_program;
 mod telling;
 
+pub use accept_program::run_accept;
 pub use block_lines::blocks;
 pub use check_program::run_check;
 pub use ending::{Ending, end_program, run_blocks};

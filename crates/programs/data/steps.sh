@@ -380,5 +380,6 @@ counted 'cases that must differ'
 . ./rescues.sh
 . ./exports.sh
 . ./check.sh
+. ./accepts.sh
 . ./progress.sh
 . ./strict.sh

@@ -26,7 +26,7 @@ pub fields_ended : {C : Type 0} (R : Relation C) (chosen : Chosen) (F : Format) 
 fields_ended R chosen F fields s h c d a b counts stops p = (p.0, at p.1 c h.store.disk, p.2, stops.0 p.1 p.3, p.4, p.5)
 
 module _ {C : Type 0} (R : Relation C) (chosen : Chosen) (fields : List Field) (s : At C) (h : HostView) (c d : C) (stops : StopsIn R h c d) where
-  first-stopped : (why : RunFault) → FirstFailed R chosen fields s h c why → FirstStopped R chosen fields s d why
+  pub first-stopped : (why : RunFault) → FirstFailed R chosen fields s h c why → FirstStopped R chosen fields s d why
   first-stopped (fault.Host f) p = (p.0, at p.1 c p.2, h, p.3, p.4, p.5, stops.1 p.1 p.0 p.2 f p.4)
   first-stopped fault.OutOfMemory p = (at p.0 c p.1, p.2, stops_behind R h c d p.0 p.1 stops p.3)
   first-stopped fault.Output p = (at p.0 c p.1, p.2, stops_behind R h c d p.0 p.1 stops p.3)

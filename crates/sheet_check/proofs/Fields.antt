@@ -48,7 +48,7 @@ field_checked R chosen F number field shown s h c a b counts after verdict some 
 
 -- Fields.
 
-fields-more : {C : Type 0} (R : Relation C) (chosen : Chosen) (gone : List Field) (field : Field) (s : At C) (cases : List Case) (mid : At C) (more : List Case) (t : At C)
+pub fields-more : {C : Type 0} (R : Relation C) (chosen : Chosen) (gone : List Field) (field : Field) (s : At C) (cases : List Case) (mid : At C) (more : List Case) (t : At C)
     → FieldsChecked R chosen gone s cases mid → FieldChecked R chosen field mid more t → FieldsChecked R chosen (gone ++ field ∷ []) s (cases ++ more) t
 fields-more R chosen [] field s cases mid more t h p = (
   t,
@@ -121,7 +121,7 @@ module _ {C : Type 0} (R : Relation C) (chosen : Chosen) (F : Format) (all left 
     wrote = subst (Appends a e) (sym (front-more F so.cases p.0 counts so.counted)) (Appends-trans a b e (report_front F so.cases) (cases_text F (total counts + 1) p.0) so.wrote p.5);
   }
 
-  leaves-on : (why : RunFault) → LeavesText b e [] why → LeavesText a e (report_front F so.cases) why
+  pub leaves-on : (why : RunFault) → LeavesText b e [] why → LeavesText a e (report_front F so.cases) why
   leaves-on (fault.Host why) p = subst (Appends a e) (append-nil (report_front F so.cases)) (Appends-trans a b e (report_front F so.cases) [] so.wrote p)
   leaves-on fault.OutOfMemory p = subst (Appends a e) (append-nil (report_front F so.cases)) (Appends-trans a b e (report_front F so.cases) [] so.wrote p)
   leaves-on fault.Output p = tt

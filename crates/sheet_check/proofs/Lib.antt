@@ -3,3 +3,5 @@ pub mod Fields
 pub mod Ends
 pub mod Broken
 pub mod Showing
+pub mod Accepted
+pub mod Kept

@@ -71,7 +71,7 @@ fn check_shown<D: Disk, C: Children, W: Write, P: Progress>(
 }
 
 /// Shows the counts behind a field that was checked, and hands them out.
-fn show_counts<P: Progress>(counts: Counts, all: u32, progress: &mut P) -> Counts
+pub(crate) fn show_counts<P: Progress>(counts: Counts, all: u32, progress: &mut P) -> Counts
     ensures same { result ≡ counts }
     ensures shown { P.shows progress.old (sight.Line counts all) progress.new }
 {
@@ -128,7 +128,11 @@ fn tell_opening<W: Write>(format: Format, writer: &mut W) -> Result<(), RunFault
 }
 
 /// Writes what stands last in it, and brings it out.
-fn tell_closing<W: Write>(format: Format, counts: Counts, writer: &mut W) -> Result<(), RunFault>
+pub(crate) fn tell_closing<W: Write>(
+    format: Format,
+    counts: Counts,
+    writer: &mut W,
+) -> Result<(), RunFault>
     ensures ok { OnOk result (Appends (W.contents writer.old) (W.contents writer.new)
         (closing_text format counts)) }
     ensures err { IfErr result (λ why. why ≡ RunFault.Output) }
@@ -176,7 +180,7 @@ fn check_fields<D: Disk, C: Children, W: Write, P: Progress>(
 }
 
 /// How many fields of a worksheet are checked.
-fn count_answered(chosen: &Chosen, sheet: &Sheet) -> u32
+pub(crate) fn count_answered(chosen: &Chosen, sheet: &Sheet) -> u32
     requires { length sheet.now.contents.fields < 2 ^ 31 }
     ensures { result ≡ answered chosen.now sheet.now.contents.fields }
 {

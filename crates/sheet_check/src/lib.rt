@@ -2,11 +2,14 @@
 //! what differs is told.
 #![tactic(auto)]
 
+mod accepting;
 mod checking;
 mod copying;
+mod differing;
 mod evaluating;
 mod progress;
 mod telling;
 
 pub use checking::{Checked, check};
+pub use differing::check_accepting;
 pub use progress::{NoProgress, Progress, ProgressLine, Sight};

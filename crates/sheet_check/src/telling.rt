@@ -19,7 +19,7 @@ use std::io::Write;
 use worksheet::{Answer, Field};
 
 /// Takes the line of progress away, where what a field came to is written.
-fn make_room<P: Progress>(format: Format, verdict: Verdict, progress: &mut P)
+pub(crate) fn make_room<P: Progress>(format: Format, verdict: Verdict, progress: &mut P)
     ensures { MakesRoom format P.shows verdict progress.old progress.new }
 {
     if is_written(format, verdict) {

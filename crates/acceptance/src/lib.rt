@@ -1,0 +1,6 @@
+//! Answers that are put into a worksheet on a disk, one behind another.
+#![tactic(auto)]
+
+mod accepting;
+
+pub use accepting::{AcceptFault, accept};

@@ -1,0 +1,42 @@
+-- How the program `check --accept` ends: what it evaluates, writes and accepts, what it tells on which stream, and the exit status.
+use Rattle.std.specs.Prelude.{◌≡◌, ◌==◌, ◌&&◌, ℕ, Bool, List, Option, Result, Ok, Err, IfErr, IfOk}
+use Rattle.disk_model.specs.Disk.{DiskView, Rises}
+use Rattle.journal.specs.declared.opening.OpenCause.TheVariants as opens
+use Rattle.child_edge.specs.Faithful.{Relation}
+use Rattle.sheet_check.specs.Accept.{AcceptAnswer}
+use Rattle.check_report.specs.declared.chosen.Chosen.{Chosen}
+use Rattle.check_report.specs.declared.verdict.Counts.{Counts}
+use Rattle.offline_programs.specs.declared.fault.RunFault.{RunFault}
+use Rattle.offline_programs.specs.declared.fault.RunFault.TheVariants as fault
+use Rattle.program_endings.specs.CheckProgram.{finds_any}
+use Rattle.program_endings.specs.Ending.{ProgramAnswer, TellsFault, status_of}
+use Rattle.program_endings.specs.Faults.{no_files}
+use Rattle.program_endings.specs.declared.ending.Ending.{Ending}
+use Rattle.sheet_files.specs.declared.files_fault.FilesFault.{FilesFault}
+
+-- no field was left unanswered, and where those of one session are asked for, any was checked
+abbrev pub accepts_all : Chosen → Counts → Bool
+accepts_all chosen counts = (counts.unanswered == 0) && finds_any chosen counts
+
+-- what the program answers: all is well where each output that is compared is the same, or was accepted
+abbrev pub answer_of_acceptance : Chosen → Result Counts RunFault → ProgramAnswer
+answer_of_acceptance chosen (Ok counts) = Ok (accepts_all chosen counts)
+answer_of_acceptance chosen (Err why) = Err why
+
+-- The check of the worksheet on a disk, from children c to d, what it wrote and accepted, and how the program ends: the status follows
+-- from the counts.
+pub record AcceptDone {D C W E : Type 0} (view : D → DiskView) (R : Relation C) (chosen : Chosen) (disk : D) (c d : C) (written : W → Option (List ℕ)) (a b : W)
+    (said : E → Option (List ℕ)) (old new : E) (ending : Ending) : Type 0 where
+  pub later : D
+  pub answer : Result Counts RunFault
+  pub accepted : AcceptAnswer R chosen (view disk) (view later) c d (written a) (written b) ((b ≡ a) × (d ≡ c)) answer
+  -- that the disk failed at the opening is told only where it did
+  pub failed : answer ≡ Err (fault.Open opens.Disk) → Rises (view disk).faults (view later).faults
+  pub status : ending.status ≡ status_of (answer_of_acceptance chosen answer)
+  pub told : TellsFault said old new ending.told (answer_of_acceptance chosen answer)
+
+-- how `check --accept` ends on its files, or on why they weren't opened
+abbrev pub AcceptEnds : {D C W E : Type 0} → (D → DiskView) → Relation C → Chosen → Result D FilesFault → C → C → (W → Option (List ℕ)) → W → W → (E → Option (List ℕ)) → E → E → Ending → Type 0
+AcceptEnds view R chosen files c d written a b said old new ending =
+    IfErr files (λ why. (b ≡ a) × (d ≡ c) × (ending.status ≡ 1) × TellsFault said old new ending.told (Err (no_files why)))
+    × IfOk files (λ disk. AcceptDone view R chosen disk c d written a b said old new ending)

@@ -1,0 +1,81 @@
+//! The program `check --accept` over a worksheet's files, from its files on.
+ghost use Rattle.std.specs.Prelude.{◌≡◌, Result};
+ghost use Rattle.check_report.specs.declared.verdict.Counts.{Counts};
+ghost use Rattle.offline_programs.specs.declared.fault.RunFault.{RunFault};
+ghost use Rattle.program_endings.specs.Ending.{TellsFault, status_of};
+ghost use Rattle.program_endings.specs.AcceptProgram.{AcceptDone, AcceptEnds, accepts_all, answer_of_acceptance};
+
+use crate::check_program::found_any;
+use crate::telling::no_files;
+use crate::{Ending, end_program};
+use check_report::{Chosen, Counts};
+use child_calls::Children;
+use disk_model::Disk;
+use offline_programs::RunFault;
+use sheet_check::{Checked, Progress, check_accepting};
+use sheet_files::FilesFault;
+use std::alloc::Global;
+use std::io::Write;
+
+/// Whether a check that accepts ends well: an answer came to each field, and there was one.
+fn are_accepted(chosen: &Chosen, counts: Counts) -> bool
+    ensures { result ≡ accepts_all chosen.now counts }
+{
+    counts.unanswered == 0 && found_any(chosen, counts)
+}
+
+/// Ends the program by what a check that accepts answered.
+fn end_acceptance<E: Write>(
+    chosen: &Chosen,
+    answer: Result<Counts, RunFault>,
+    errors: &mut E,
+) -> Ending
+    ensures status { result.status ≡ status_of (answer_of_acceptance chosen.now answer) }
+    ensures told { TellsFault E.contents errors.old errors.new result.told
+        (answer_of_acceptance chosen.now answer) }
+{
+    match answer {
+        Ok(counts) => end_program(Ok(are_accepted(chosen, counts)), errors),
+        Err(fault) => end_program(Err(fault), errors),
+    }
+}
+
+/// Checks the worksheet on a disk and accepts what differs, and drops the disk at the end.
+fn accept_on<D: Disk, C: Children, P: Progress, W: Write, E: Write>(
+    alloc: Global,
+    chosen: &Chosen,
+    disk: D,
+    children: &mut C,
+    progress: &mut P,
+    output: &mut W,
+    errors: &mut E,
+) -> Ending
+    ensures { AcceptDone D.view C.after chosen.now disk children.old children.new W.contents output.old output.new
+        E.contents errors.old errors.new result }
+{
+    let Checked { disk: _, answer } = check_accepting(
+        alloc, chosen, disk, children, progress, output,
+    );
+    end_acceptance(chosen, answer, errors)
+}
+
+/// The whole program `check --accept` on its files, which are opened to write, or on why they weren't
+/// opened: the report goes to `output`, each part flushed once what it tells is on the disk, and the
+/// line of a fault to `errors`. `progress` shows how far it is, and nothing at its end.
+pub fn run_accept<D: Disk, C: Children, P: Progress, W: Write, E: Write>(
+    alloc: Global,
+    chosen: &Chosen,
+    files: Result<D, FilesFault>,
+    children: &mut C,
+    progress: &mut P,
+    output: &mut W,
+    errors: &mut E,
+) -> Ending
+    ensures { AcceptEnds D.view C.after chosen.now files children.old children.new W.contents output.old output.new
+        E.contents errors.old errors.new result }
+{
+    match files {
+        Ok(disk) => accept_on(alloc, chosen, disk, children, progress, output, errors),
+        Err(why) => end_program(Err(no_files(why)), errors),
+    }
+}

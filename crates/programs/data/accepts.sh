@@ -1,0 +1,96 @@
+# Checks that accept what differs: what `check --accept` writes, and the worksheet that it leaves. The interpreter and `made` are those of
+# check.sh.
+
+# A case of `check --accept` over the worksheet as it stands: NAME STATUS TEXT SHEET WORDS. Then it is shown so.
+accepts() {
+    name=$1 want=$(ending "$3" "$2") shown=$(ending "$4" 0)
+    shift 4
+    compare "$name" "$(answer check --accept "$@" sheet </dev/null)" "$want"
+    compare "$name, shown" "$(answer show sheet </dev/null)" "$shown"
+}
+
+# The same, and the files stay as they were.
+accepts_none() {
+    before="$(bytes sheet) $(bytes sheet.alt 2>/dev/null)"
+    accepts "$@"
+    compare "$1, kept" "$(bytes sheet) $(bytes sheet.alt 2>/dev/null)" "$before"
+}
+
+# How many changes stand in the worksheet.
+changes() {
+    rm -f saved saved.alt
+    "$tmhost" rescue sheet saved
+}
+
+made "$a"'new 0 a x\nnew 1 a not evaluated\neval 1\nwait\n'
+accepts_none 'nothing that differs' 0 'same 1 accepted 0 unanswered 0\n' '#1 a\na] x\nx\n#2 a\n> not evaluated\n?\n'
+
+# One that differs is accepted, and one that gets no answer isn't.
+made "$a"'new 0 a one\nnew 1 a differs\nnew 2 a hangs\nnew 3 a four\neval 1\neval 2\neval 3\neval 4\nwait\n'
+was=$(changes)
+accepts 'one of four' 1 '#2 a\na] differs\n- differs\n+ another\naccepted 2\n#3 a\na] hangs\n- hangs\n+ ?\nsame 2 accepted 1 unanswered 1\n' \
+    '#1 a\na] one\none\n#2 a\na] differs\nanother\n#3 a\na] hangs\nhangs\n#4 a\na] four\nfour\n'
+sent 'one of four' 'start a\nsend a one\nsend a differs\nsend a hangs\nstart a\nsend a four'
+ended 'one of four' 2
+compare 'one of four, one change' "$was $(changes)" "$(printf 'kept 13, whole kept 14, whole')"
+accepts_none 'one of four, again' 1 '#3 a\na] hangs\n- hangs\n+ ?\nsame 3 accepted 0 unanswered 1\n' \
+    '#1 a\na] one\none\n#2 a\na] differs\nanother\n#3 a\na] hangs\nhangs\n#4 a\na] four\nfour\n'
+
+# All that differ, in the order of the worksheet; then nothing differs any more.
+made "$a"'new 0 a differs\nnew 1 a longer\nnew 2 a tagged\nnew 3 a shorter\nmove 4 0\neval 1\neval 2\neval 3\neval 4\nwait\n'
+accepts 'four of four' 0 '#4 a\na] shorter\n- shorter\n+ \naccepted 4\n#1 a\na] differs\n- differs\n+ another\naccepted 1\n#2 a\na] longer\n- one\n- two\n+ one\n+ two\n+ three\naccepted 2\n#3 a\na] tagged\n- tagged\n+ {latex:$x$}\naccepted 3\nsame 0 accepted 4 unanswered 0\n' \
+    '#4 a\na] shorter\n\n#1 a\na] differs\nanother\n#2 a\na] longer\none\ntwo\nthree\n#3 a\na] tagged\n{latex:$x$}\n'
+checks 'four that were accepted' 0 'same 4 differ 0 unanswered 0\n'
+
+# The prompt comes with the answer, and a prompt alone is no difference.
+made "$a"'new 0 a prompts\nnew 1 a y\nnew 2 a differs\neval 1\neval 2\neval 3\nwait\n'
+accepts 'a prompt with its answer' 0 '#3 a\na] differs\n- differs\n+ another\naccepted 3\nsame 2 accepted 1 unanswered 0\n' \
+    '#1 a\na] prompts\nprompts\n#2 a\na] y\ny\n#3 a\nnew> differs\nanother\n'
+
+# Some of the fields.
+made "$a"'session b plain sh suite.sh b\nnew 0 a differs\nnew 1 b differs\neval 1\neval 2\nwait\n'
+accepts_none 'one that is left out' 0 'same 0 accepted 0 unanswered 0 left out 2\n' '#1 a\na] differs\ndiffers\n#2 b\nb] differs\ndiffers\n' --leave-out 1-2
+accepts 'one session' 0 '#2 b\nb] differs\n- differs\n+ another\naccepted 2\nsame 0 accepted 1 unanswered 0\n' '#1 a\na] differs\ndiffers\n#2 b\nb] differs\nanother\n' --only b --format text
+accepts_none 'a session that is not there' 1 'same 0 accepted 0 unanswered 0\n' '#1 a\na] differs\ndiffers\n#2 b\nb] differs\nanother\n' --only c
+rm -f sent
+for format in tap junit; do
+    accepts_none "as $format" 2 "error: --accept goes with no FORMAT but text\n\nFor more information, try 'tmhost check --help'.\n" '#1 a\na] differs\ndiffers\n#2 b\nb] differs\nanother\n' --format "$format"
+done
+compare 'words that accept nothing' "$(cat sent 2>/dev/null)" ''
+
+# What was told is on the disk, also where it is killed; where the output can't be written, one more.
+made "$a"'new 0 a differs\nnew 1 a kills\neval 1\neval 2\nwait\n'
+(exec "$tmhost" check --accept sheet >text 2>errors) 2>/dev/null
+compare 'one that is killed' "$? $(cat text errors)" "$(printf '137 #1 a\na] differs\n- differs\n+ another\naccepted 1')"
+compare 'one that is killed, shown' "$(answer show sheet)" "$(printf '#1 a\na] differs\nanother\n#2 a\na] kills\nkills\nstatus 0')"
+made "$a"'new 0 a differs\nnew 1 a differs\neval 1\neval 2\nwait\n'
+"$tmhost" check --accept sheet >/dev/full 2>errors
+compare 'a full output' "$? $(cat errors)" '1 fault 42 Output'
+compare 'a full output, shown' "$(answer show sheet)" "$(printf '#1 a\na] differs\nanother\n#2 a\na] differs\ndiffers\nstatus 0')"
+
+# Files: a worksheet in use, one that is used beside, and none.
+made "$a"'new 0 a differs\neval 1\nwait\n'
+talk_over live sheet
+say '# held\nprint 1\n'
+hears 'a worksheet in use, held' '#1 a\na] differs\ndiffers\n'
+compare 'a worksheet in use' "$(answer check --accept sheet)" "$(printf 'fault 35 InUse\nstatus 1')"
+exec 3>&-
+wait "$host"
+exec 4<&-
+made "$a"'new 0 a looks\neval 1\nwait\n'
+rm -f text
+: >text
+timeout 10 "$tmhost" check --accept sheet >other 2>&1 &
+host=$!
+until [ -s sent ]; do sleep 0.01; done
+compare 'a show beside it' "$(answer show sheet)" "$(printf 'fault 35 InUse\nstatus 1')"
+echo '+ another' >text
+wait "$host"
+compare 'one beside others' "$? $(cat other)" '0 same 1 accepted 0 unanswered 0'
+words 'a path without a file' 1 'fault 32 Disk\n' check --accept nowhere
+printf 'TMWSHEET\001ARR' >sheet
+rm -f sheet.alt
+compare 'a damaged worksheet' "$(answer check --accept sheet) $(bytes sheet)" "$(printf 'fault 30 Damaged 10\nstatus 1') $(printf 'TMWSHEET\001ARR' >other; bytes other)"
+rm -f again sent lives other saved saved.alt
+
+counted acceptances

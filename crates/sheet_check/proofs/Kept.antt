@@ -1,0 +1,170 @@
+-- Where a check ends that accepts what differs.
+use Rattle.std.proofs.Common.{◌≡◌, ◌∙◌, inl, inr, ℕ, List, [], ◌∷◌, ◌++◌, Option, IsTrue, false, ap, refl, sym, subst, append-nil, arith}
+use Rattle.std.specs.Prelude.{Ok, Err}
+use Rattle.std.proofs.KnownBytes.{Appends-trans}
+use Rattle.std.specs.Io.KnownBytes.{Appends}
+use Rattle.disk_model.specs.Disk.{DiskView, InModel, Leaves, Looks, SameDisk, bytes_on}
+use Rattle.disk_model.specs.inside.Moments.{started}
+use Rattle.worksheet.specs.Ops.{sheet_of}
+use Rattle.worksheet.specs.Checks.{Allowed}
+use Rattle.recovery.specs.Laws.{OneSheet}
+use Rattle.worksheet.specs.declared.op.Op.{Op}
+use Rattle.worksheet.specs.Contents.{Contents}
+use Rattle.recovery.specs.Sheets.{IsSheetImage, Makes, StoreView}
+use Rattle.acceptance.specs.Kept.{IsAmong, Stores}
+use Rattle.session_engine.specs.World.{World, sheet_in}
+use Rattle.session_engine.specs.Host.{HostView, IsHost}
+use Rattle.child_edge.specs.Faithful.{Relation, at}
+use Rattle.journal.specs.declared.opening.OpenCause.{OpenCause}
+use Rattle.host_events.specs.declared.outcome.HostFault.TheVariants as hosts
+use Rattle.offline_programs.specs.declared.fault.RunFault.{RunFault}
+use Rattle.offline_programs.specs.declared.fault.RunFault.TheVariants as fault
+use Rattle.sheet_programs.proofs.Runs.{StopsIn}
+use Rattle.check_report.specs.declared.chosen.Chosen.{Chosen}
+use Rattle.check_report.specs.declared.report.Format.TheVariants as format
+use Rattle.check_report.specs.declared.verdict.Counts.{Counts}
+use Rattle.check_report.specs.Reports.{Case, closing_text, report_front, verdicts_of}
+use Rattle.check_report.specs.Verdicts.{counts_of}
+use Rattle.sheet_check.specs.Accept.{AcceptLeft, FoundOn, SheetAccepts, accepted}
+use Rattle.sheet_check.specs.Accept as ends
+use Rattle.sheet_check.specs.Check.{IsCopy, SheetLed, still}
+use Rattle.sheet_check.specs.inside.Accepting.{CopyTook, FieldsBroke, FieldsTook, FieldsUpTo, broken, early, full, unwritten}
+use Rattle.sheet_check.specs.inside.Checking.{FieldsFailed}
+use Rattle.sheet_check.proofs.Ends.{first-stopped}
+
+module _ {C : Type 0} (R : Relation C) (chosen : Chosen) (sheet : Contents) (w : World) (copy : DiskView) (h : HostView) (c mid d : C) (a b : Option (List ℕ)) (ops : List Op) (disk : DiskView) (store : StoreView) (stops : StopsIn R h mid d) where
+  pub took_ended : (counts : Counts) → FieldsTook R chosen sheet.fields (at w c copy) h mid a b (λ took. Stores ops took disk store) counts → CopyTook R chosen sheet w copy c d a b ops disk store counts
+  took_ended counts p = ((p.0.0, at p.0.1 mid h.store.disk, p.0.2, stops.0 p.0.1 p.0.3, p.0.4, p.0.5), p.1)
+
+  led-so : IsCopy sheet w copy → (cases : List Case) → FieldsUpTo R chosen sheet.fields (at w c copy) h mid cases → SheetLed R chosen sheet c d cases
+  led-so copied cases p = record {
+    start = w;
+    copy = copy;
+    copied = copied;
+    gone = p.gone;
+    left = p.left;
+    split = p.split;
+    mid = at p.leads mid h.store.disk;
+    checked = p.checked;
+    leads = at p.leads mid h.store.disk;
+    led = still refl;
+    stops = stops.0 p.leads p.stands;
+  }
+
+  early-left : IsCopy sheet w copy → (why : RunFault) → (p : FieldsFailed R chosen format.Accepting sheet.fields (at w c copy) h mid a b why) → (why ≡ fault.Output → ⊥) → Stores ops (accepted p.cases) disk store
+      → AcceptLeft R chosen sheet c d a b ops disk store.disk why
+  early-left copied (fault.Host f) p untold stores =
+      let q = first-stopped R chosen p.left p.mid h mid d stops (fault.Host f) p.failed in
+      ends.stopped p.cases f refl
+      (record {
+        start = w;
+        copy = copy;
+        copied = copied;
+        gone = p.gone;
+        left = p.left;
+        split = p.split;
+        mid = p.mid;
+        checked = p.checked;
+        failed = q.0;
+        leads = q.1;
+        led = q.3;
+        host = q.2;
+        stopped = q.4;
+        not_of_disk = q.5;
+        stops = q.6;
+      })
+      p.wrote stores.disk
+  early-left copied fault.OutOfMemory p untold stores =
+      let q = first-stopped R chosen p.left p.mid h mid d stops fault.OutOfMemory p.failed in
+      ends.unremembered p.cases refl
+      (record { start = w; copy = copy; copied = copied; gone = p.gone; left = p.left; split = p.split; mid = p.mid; checked = p.checked; leads = q.0; led = q.1; stops = q.2 })
+      p.wrote stores.disk
+  early-left copied fault.Output p untold stores = absurd (untold refl)
+  early-left copied fault.Input p untold stores = absurd p.wrote
+  early-left copied fault.InputTooLong p untold stores = absurd p.wrote
+  early-left copied (fault.Open x) p untold stores = absurd p.wrote
+  early-left copied fault.InUse p untold stores = absurd p.wrote
+
+  pub broke_left : IsCopy sheet w copy → (why : RunFault) → FieldsBroke R chosen sheet.fields (at w c copy) h mid a b ops disk store why → AcceptLeft R chosen sheet c d a b ops disk store.disk why
+  broke_left copied why (early failed untold stores) = early-left copied why failed untold stores
+  broke_left copied why (full cases last one is checked taken wrote stores place) = ends.full cases last one is (led-so copied (cases ++ last ∷ []) checked) taken wrote stores.disk place
+  broke_left copied why (broken cases last one is checked taken wrote holds) = ends.broken cases last one is (led-so copied (cases ++ last ∷ []) checked) taken wrote holds
+  broke_left copied why (unwritten cases is checked stores) = ends.unwritten cases is (led-so copied cases checked) stores.disk
+
+-- The counts are told, or not.
+module _ {C : Type 0} (R : Relation C) (chosen : Chosen) (sheet : Contents) (w : World) (copy : DiskView) (copied : IsCopy sheet w copy) (c d : C) (a b e : Option (List ℕ)) (ops : List Op) (disk : DiskView) (store : StoreView) (nothing : Type 0) (counts : Counts)
+    (p : CopyTook R chosen sheet w copy c d a b ops disk store counts) where
+  pub counts_told : Appends b e (closing_text format.Accepting counts) → SheetAccepts R chosen sheet c d a e nothing ops disk store.disk (Ok counts)
+  counts_told told = (
+    record {
+      start = w;
+      copy = copy;
+      copied = copied;
+      cases = p.0.0;
+      leads = p.0.1;
+      checked = p.0.2;
+      stops = p.0.3;
+      counted = p.0.4;
+      wrote = Appends-trans a b e (report_front format.Accepting p.0.0) (closing_text format.Accepting (counts_of (verdicts_of p.0.0))) p.0.5 (subst (λ x. Appends b e (closing_text format.Accepting x)) p.0.4 told);
+    },
+    p.1.disk,
+  )
+
+  pub counts_kept_back : (why : RunFault) → why ≡ fault.Output → AcceptLeft R chosen sheet c d a e ops disk store.disk why
+  counts_kept_back why is = ends.unwritten p.0.0 is
+      (record {
+        start = w;
+        copy = copy;
+        copied = copied;
+        gone = sheet.fields;
+        left = [];
+        split = sym (append-nil sheet.fields);
+        mid = p.0.1;
+        checked = p.0.2;
+        leads = p.0.1;
+        led = still refl;
+        stops = p.0.3;
+      })
+      p.1.disk
+
+-- A host on a copy has the worksheet that was copied.
+pub copy_is : OneSheet → (sheet : Contents) (w : World) (h : HostView) → IsHost h w → IsCopy sheet w h.store.disk → h.store.sheet.contents ≡ sheet
+copy_is law sheet w h stands copied =
+    stands.stands.contents ∙ ap sheet_in copied.opened.is ∙ law (sheet_of copied.opened.ops) sheet (bytes_on copied.made) (copied.opened.found copied.keeps) copied.is
+
+-- A store that was opened.
+module _ (disk : DiskView) (store : StoreView) (ops : List Op) (makes : Makes ops store.sheet.contents) (going : store.closed ≡ false) (same : SameDisk disk store.disk) where
+  model : IsTrue store.disk.keeps_model → IsTrue disk.keeps_model
+  model keeps = subst IsTrue same.keeps_model keeps
+
+  pub opened_stores : InModel disk (Leaves (IsSheetImage store.sheet.contents) store.disk.history.now) → Stores ops [] store.disk store
+  opened_stores images =
+      let contents : store.sheet.contents ≡ sheet_of (ops ++ []) = makes.is ∙ ap sheet_of (sym (append-nil ops)) in
+      let here : InModel store.disk (Leaves (IsSheetImage (sheet_of (ops ++ []))) store.disk.history.now) = λ keeps. subst (λ (c : Contents). Leaves (IsSheetImage c) store.disk.history.now) contents (images (model keeps)) in
+      record {
+        still_open = going;
+        allowed = subst Allowed (sym (append-nil ops)) makes.allowed;
+        contents = contents;
+        disk = record {
+          same = record { room = refl; keeps_model = refl; later = omega arith };
+          steady = refl;
+          holds = here;
+          moments = λ keeps. started (IsAmong ops []) store.disk.history (λ i image. record { done = []; rest = []; split = refl; image = here keeps i image });
+        };
+      }
+
+  pub opened_on : store.disk.faults ≡ disk.faults → InModel disk (IsSheetImage store.sheet.contents (bytes_on disk)) → InModel disk (Looks disk.history store.disk.history) → FoundOn disk store.sheet.contents ops store.disk
+  opened_on steady found looks = record { is = makes.is; same = same; steady = steady; found = found; looks = looks }
+
+-- A worksheet that was opened isn't told as one that wasn't.
+module _ {C : Type 0} (R : Relation C) (chosen : Chosen) (sheet : Contents) (c d : C) (a b : Option (List ℕ)) (ops : List Op) (now back : DiskView) (x : OpenCause) where
+  left_opened : (why : RunFault) → why ≡ fault.Open x → AcceptLeft R chosen sheet c d a b ops now back why → ⊥
+  left_opened why e (ends.stopped cases f is led wrote holds) = let no : fault.Host f ≡ fault.Open x = sym is ∙ e in cc
+  left_opened why e (ends.unremembered cases is led wrote holds) = let no : fault.OutOfMemory ≡ fault.Open x = sym is ∙ e in cc
+  left_opened why e (ends.full cases last one is led taken wrote holds place) = let no : fault.Host hosts.JournalFull ≡ fault.Open x = sym is ∙ e in cc
+  left_opened why e (ends.broken cases last one is led taken wrote holds) = let no : fault.Host hosts.Disk ≡ fault.Open x = sym is ∙ e in cc
+  left_opened why e (ends.unwritten cases is led holds) = let no : fault.Output ≡ fault.Open x = sym is ∙ e in cc
+
+  pub was_opened : (nothing : Type 0) → SheetAccepts R chosen sheet c d a b nothing ops now back (Err (fault.Open x)) → ⊥
+  was_opened nothing (inl p) = let no : fault.Open x ≡ fault.OutOfMemory = p.0 in cc
+  was_opened nothing (inr left) = left_opened (fault.Open x) refl left

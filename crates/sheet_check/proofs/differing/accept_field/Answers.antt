@@ -1,0 +1,25 @@
+use Rattle.std.proofs.Common.{◌∙◌, ap, inr, subst, sym}
+use Rattle.std.specs.Option.{option_copied}
+use Rattle.child_edge.specs.Faithful.{at}
+use Rattle.sheet_check.specs.declared.progress.Sight.TheVariants as sight
+use Rattle.sheet_check.proofs.Accepted.{checked_took, passed_took}
+use Rattle.sheet_check.proofs.differing.accept_field.Goals as goal
+
+pub returns-in-None-clause-ok : goal.returns-in-None-clause-ok
+returns-in-None-clause-ok g c = λ w h ops more disk stores.
+    passed_took g.C.Children.after c.args.chosen.now c.args.field.now w c.args.host.now c.args.children.now (g.W.Write.contents c.args.writer.now) ops more disk c.args.store.now c.args.counts (sym c.shown.ensures ∙ ap option_copied c.in-None.is) h stores
+
+pub returns-in-Ok-clause-ok : goal.returns-in-Ok-clause-ok
+returns-in-Ok-clause-ok g c = λ w h ops more disk stores.
+    checked_took g.C.Children.after c.args.chosen.now c.args.field.now c.in-Some.shown.now (at w c.args.children.now c.args.host.now.store.disk) c.accept_shown.new.host c.accept_shown.new.children (g.W.Write.contents c.args.writer.now)
+    (g.W.Write.contents c.accept_shown.new.writer) ops more disk c.accept_shown.new.store c.args.counts c.show_counts.result c.in-Ok.verdict (sym c.shown.ensures ∙ ap option_copied c.in-Some.is) (c.in-Ok.ensures.ok w h ops more disk stores)
+    (c.show_counts.ensures.same ∙ c.with.ensures)
+
+pub returns-in-Ok-clause-shown : goal.returns-in-Ok-clause-shown
+returns-in-Ok-clause-shown g c = inr (
+  c.in-Ok.verdict,
+  c.accept_shown.new.progress,
+  c.show_counts.ensures.same ∙ c.with.ensures,
+  c.in-Ok.ensures.room,
+  subst (λ x. g.P.Progress.shows c.accept_shown.new.progress (sight.Line x c.args.all) c.show_counts.new.progress) (sym c.show_counts.ensures.same) c.show_counts.ensures.shown,
+)

@@ -1,0 +1,195 @@
+//! What a field came to is accepted: its answer is put into the worksheet on the disk, and then told.
+ghost use Rattle.std.specs.Prelude.{◌≡◌, ◌++◌, ◌∷◌, [], List, IfErr, IfOk, IfSome, OnOk, false, true};
+ghost use Rattle.std.specs.Io.KnownBytes.{Appends};
+ghost use Rattle.disk_model.specs.Disk.{DiskView};
+ghost use Rattle.worksheet.specs.declared.op.Op.{Op};
+ghost use Rattle.worksheet.specs.Checks.{has_field};
+ghost use Rattle.worksheet.specs.Laws.{HasShortPrompt};
+ghost use Rattle.session_engine.specs.World.{World};
+ghost use Rattle.session_engine.specs.Host.{IsHost};
+ghost use Rattle.acceptance.specs.Kept.{Stores};
+ghost use Rattle.check_report.specs.declared.report.Format.TheVariants as formats;
+ghost use Rattle.sheet_check.specs.Accept.{accepted_answer, answer_ops};
+ghost use Rattle.sheet_check.specs.Evaluated.{came_if, shown_in};
+ghost use Rattle.sheet_check.specs.Progress.{LeavesLine, MakesRoom};
+ghost use Rattle.sheet_check.specs.inside.Accepting.{Finds, NotPut, NotTaken, fault_of_acceptance};
+
+use crate::progress::Progress;
+use crate::telling::make_room;
+use acceptance::{AcceptFault, accept};
+use block_tree::OutOfMemory;
+use check_report::{Chosen, Format, Verdict, acceptance_in_memory, bring_out};
+use disk_model::Disk;
+use host_events::HostFault;
+use offline_programs::RunFault;
+use recovery::Store;
+use session_engine::Host;
+use std::alloc::Global;
+use std::io::Write;
+use worksheet::{Answer, Field};
+
+/// What a field came to, and all that takes memory of what is then done.
+#[derive(Drop)]
+pub(crate) struct Finding {
+    pub(crate) verdict: Verdict,
+    /// The answer that is accepted, where one is.
+    pub(crate) answer: Option<Answer>,
+    /// What is told.
+    pub(crate) text: Vec<u8>,
+}
+
+/// A copy of an answer.
+fn copy_answer(answer: &Answer) -> Result<Answer, OutOfMemory>
+    ensures { IfOk result (λ copy. copy ≡ answer.now) }
+{
+    let prompt = answer.prompt.copy()?;
+    let output = answer.output.copy()?;
+    Ok(Answer { prompt, output })
+}
+
+/// A copy of the answer that came, where one did.
+fn copy_what_came(came: &Option<Answer>) -> Result<Option<Answer>, OutOfMemory>
+    ensures { IfOk result (λ copy. copy ≡ came.now) }
+{
+    match came {
+        None => Ok(None),
+        Some(answer) => match copy_answer(answer) {
+            Ok(copy) => Ok(Some(copy)),
+            Err(why) => Err(why),
+        },
+    }
+}
+
+/// The answer that is accepted, where the one that came differs.
+fn answer_to_accept(came: &Option<Answer>, verdict: Verdict) -> Result<Option<Answer>, OutOfMemory>
+    ensures { IfOk result (λ answer. answer ≡ accepted_answer came.now verdict) }
+{
+    match verdict {
+        Verdict::Differs => copy_what_came(came),
+        Verdict::Same | Verdict::Unanswered | Verdict::LeftOut => Ok(None),
+    }
+}
+
+/// What a field came to by the answer that came. None where there is no memory for it.
+fn find(
+    alloc: Global,
+    chosen: &Chosen,
+    field: &Field,
+    shown: &Answer,
+    came: &Option<Answer>,
+) -> Option<Finding>
+    ensures { IfSome result (Finds chosen.now field.now shown.now came.now) }
+{
+    let verdict = chosen.judge(field.id, shown, came);
+    let Ok(answer) = answer_to_accept(came, verdict) else {
+        return None;
+    };
+    match acceptance_in_memory(alloc, field, came, verdict) {
+        Some(text) => Some(Finding {
+            verdict,
+            answer,
+            text,
+        }),
+        None => None,
+    }
+}
+
+/// The same with the answer that the field shows on the copy now, which came where its line was asked.
+pub(crate) fn find_on_copy<D: Disk>(
+    alloc: Global,
+    chosen: &Chosen,
+    host: &Host<D>,
+    field: &Field,
+    shown: &Answer,
+    asked: bool,
+) -> Option<Finding>
+    ensures { (w : World) → IsHost host.now w → IfSome result (Finds chosen.now field.now shown.now
+        (came_if asked (shown_in w field.now.id))) }
+{
+    if !asked {
+        return find(alloc, chosen, field, shown, &None);
+    }
+    match host.sheet().field(field.id) {
+        None => find(alloc, chosen, field, shown, &None),
+        Some(now) => find(alloc, chosen, field, shown, &now.answer),
+    }
+}
+
+/// The fault of a check by why an answer wasn't accepted.
+fn accept_fault(why: AcceptFault) -> RunFault
+    ensures { result ≡ fault_of_acceptance why }
+{
+    match why {
+        AcceptFault::Full => RunFault::Host(HostFault::JournalFull),
+        AcceptFault::OutOfMemory => RunFault::OutOfMemory,
+        AcceptFault::Disk => RunFault::Host(HostFault::Disk),
+    }
+}
+
+/// Puts an answer into a field of the worksheet on the disk, where there is one.
+fn put<D: Disk>(store: &mut Store<D>, id: u32, answer: Option<Answer>) -> Result<(), AcceptFault>
+    requires open { store.old.closed ≡ false }
+    requires there { has_field store.old.sheet.contents id ≡ true }
+    requires short { HasShortPrompt answer }
+    ensures ok { (ops more : List Op) → (disk : DiskView) → Stores ops more disk store.old
+        → OnOk result (Stores ops (more ++ answer_ops id answer) disk store.new) }
+    ensures err { (ops more : List Op) → (disk : DiskView) → Stores ops more disk store.old
+        → IfErr result (NotPut ops more disk (answer_ops id answer) store.new) }
+{
+    match answer {
+        None => Ok(()),
+        Some(answer) => accept(store, id, answer),
+    }
+}
+
+/// Tells what a field came to, in the place of the line of progress.
+fn tell<W: Write, P: Progress>(
+    verdict: Verdict,
+    text: &[u8],
+    progress: &mut P,
+    writer: &mut W,
+) -> Result<(), RunFault>
+    ensures ok { OnOk result (Appends (W.contents writer.old) (W.contents writer.new) text.now) }
+    ensures err { IfErr result (λ why. why ≡ RunFault.Output) }
+    ensures room { MakesRoom formats.Accepting P.shows verdict progress.old progress.new }
+{
+    make_room(Format::Accepting, verdict, progress);
+    bring_out(text, writer).map_err(|_| RunFault::Output)
+}
+
+/// Accepts what a field came to, and then tells it.
+pub(crate) fn take<D: Disk, W: Write, P: Progress>(
+    store: &mut Store<D>,
+    id: u32,
+    found: Finding,
+    progress: &mut P,
+    writer: &mut W,
+) -> Result<Verdict, RunFault>
+    requires open { store.old.closed ≡ false }
+    requires there { has_field store.old.sheet.contents id ≡ true }
+    requires short { HasShortPrompt found.answer }
+    ensures ok { (ops more : List Op) → (disk : DiskView) → Stores ops more disk store.old
+        → IfOk result (λ verdict. (verdict ≡ found.verdict)
+        × Stores ops (more ++ answer_ops id found.answer) disk store.new
+        × Appends (W.contents writer.old) (W.contents writer.new) found.text.items) }
+    ensures err { (ops more : List Op) → (disk : DiskView) → Stores ops more disk store.old
+        → IfErr result (NotTaken ops more disk (answer_ops id found.answer) store.new
+        (W.contents writer.old) (W.contents writer.new)) }
+    ensures room { IfOk result (λ verdict.
+        MakesRoom formats.Accepting P.shows verdict progress.old progress.new) }
+    ensures left { IfErr result (λ _. LeavesLine P.shows progress.old progress.new) }
+{
+    let Finding {
+        verdict,
+        answer,
+        text,
+    } = found;
+    match put(store, id, answer) {
+        Ok(()) => (),
+        Err(why) => return Err(accept_fault(why)),
+    }
+    match tell(verdict, text.as_slice(), progress, writer) {
+        Ok(()) => Ok(verdict),
+        Err(fault) => Err(fault),
+    }
+}
