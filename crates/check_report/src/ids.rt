@@ -48,7 +48,7 @@ fn value_of(bytes: &[u8]) -> u64
 }
 
 /// The number that all of these bytes write.
-fn read_number(bytes: &[u8]) -> Option<u32>
+pub fn read_number(bytes: &[u8]) -> Option<u32>
     ensures { result ≡ said.number_written bytes.now }
 {
     if !is_numeral(bytes) {

@@ -14,7 +14,7 @@ mod writing;
 mod xml;
 
 pub use chosen::{Chosen, Ids};
-pub use ids::read_ids;
+pub use ids::{read_ids, read_number};
 pub use report::{
     Format, ReportFault, bring_out, close_report, is_written, open_report, report_case,
 };

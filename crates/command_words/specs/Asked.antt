@@ -5,7 +5,7 @@ use Rattle.std.specs.Str.{bytes_eq}
 use Rattle.clap.specs.Words.{App, Row, Rule, Text, first_of, new_app, new_rule, subcommand_of, with_rule, with_subcommand}
 use Rattle.clap.specs.declared.builder.action.ArgAction.TheVariants.{SetTrue}
 use Rattle.command_words.specs.declared.words.CheckWords.{CheckWords}
-use Rattle.command_words.specs.declared.words.EvalFlags.{EvalFlags}
+use Rattle.command_words.specs.declared.words.EvalWords.{EvalWords}
 use Rattle.command_words.specs.declared.words.Flags.{Flags}
 use Rattle.command_words.specs.declared.words.Task.{Task}
 use Rattle.command_words.specs.declared.words.Task.TheVariants as task
@@ -25,6 +25,23 @@ check_view words = record {
   accept = words.accept;
 }
 
+-- what the words of `eval` ask for beside its path, as contracts see it
+pub record EvalView : Type 0 where
+  pub strict : Bool
+  pub unanswered : Bool
+  pub json : Bool
+  pub keep_going : Bool
+  pub timeout : Option Text
+
+abbrev pub eval_view : EvalWords → EvalView
+eval_view words = record {
+  strict = words.strict;
+  unanswered = words.unanswered;
+  json = words.json;
+  keep_going = words.keep_going;
+  timeout = option_map (λ text. text.now) words.timeout;
+}
+
 -- a task as contracts see it: a path is its bytes
 pub data TaskView : Type 0 where
   blocks : TaskView
@@ -33,7 +50,7 @@ pub data TaskView : Type 0 where
   run_strictly : Text → TaskView
   live : Text → TaskView
   live_json : Text → TaskView
-  eval : Text → EvalFlags → TaskView
+  eval : Text → EvalView → TaskView
   show : Text → TaskView
   show_json : Text → TaskView
   check : Text → CheckView → TaskView
@@ -47,7 +64,7 @@ task_view (task.Run path) = run path.now
 task_view (task.RunStrictly path) = run_strictly path.now
 task_view (task.Live path) = live path.now
 task_view (task.LiveJson path) = live_json path.now
-task_view (task.Eval path flags) = eval path.now flags
+task_view (task.Eval path words) = eval path.now (eval_view words)
 task_view (task.Show path) = show path.now
 task_view (task.ShowJson path) = show_json path.now
 task_view (task.Check path words) = check path.now (check_view words)
@@ -100,12 +117,27 @@ accept_rule = record (new_rule (codes "accept")) { long = Some (codes "accept");
 abbrev pub with_check : Text → App
 with_check name = with_rule (with_left_out name) accept_rule
 
--- and of `eval`, with two flags
+-- and of `eval`, with flags and the time that a field may take
 abbrev pub unanswered_rule : Rule
 unanswered_rule = record (new_rule (codes "unanswered")) { long = Some (codes "unanswered"); action = Some SetTrue }
 
+abbrev pub with_unanswered : Text → App
+with_unanswered name = with_rule (with_strict name) unanswered_rule
+
+abbrev pub with_eval_json : Text → App
+with_eval_json name = with_rule (with_unanswered name) json_rule
+
+abbrev pub timeout_rule : Rule
+timeout_rule = record (new_rule (codes "timeout")) { long = Some (codes "timeout"); value_names = 1 }
+
+abbrev pub with_timeout : Text → App
+with_timeout name = with_rule (with_eval_json name) timeout_rule
+
+abbrev pub keep_going_rule : Rule
+keep_going_rule = record (new_rule (codes "keep-going")) { long = Some (codes "keep-going"); action = Some SetTrue }
+
 abbrev pub with_eval : Text → App
-with_eval name = with_rule (with_strict name) unanswered_rule
+with_eval name = with_rule (with_timeout name) keep_going_rule
 
 -- and of the one with a second path after the first
 abbrev pub second_rule : Rule
@@ -149,18 +181,28 @@ is_set (Some value) = bytes_eq value (codes "true")
 pub record FlagsView : Type 0 where
   pub strict : Bool
   pub json : Bool
-  pub unanswered : Bool
+  pub eval : EvalView
   pub check : CheckView
 
 abbrev pub flags_view : Flags → FlagsView
-flags_view flags = record { strict = flags.strict; json = flags.json; unanswered = flags.unanswered; check = check_view flags.check }
+flags_view flags = record { strict = flags.strict; json = flags.json; eval = eval_view flags.eval; check = check_view flags.check }
 
--- what the words of `check` name among these words, and all flags and options
+-- what the words of `check` name among these words
 abbrev pub check_in : List Row → CheckView
 check_in rows = record { format = first_of (codes "format") rows; only = first_of (codes "only") rows; leave_out = first_of (codes "leave-out") rows; accept = is_set (first_of (codes "accept") rows) }
 
+-- what those of `eval` ask for
+abbrev pub eval_in : List Row → EvalView
+eval_in rows = record {
+  strict = is_set (first_of (codes "strict") rows);
+  unanswered = is_set (first_of (codes "unanswered") rows);
+  json = is_set (first_of (codes "json") rows);
+  keep_going = is_set (first_of (codes "keep-going") rows);
+  timeout = first_of (codes "timeout") rows;
+}
+
 abbrev pub flags_in : List Row → FlagsView
-flags_in rows = record { strict = is_set (first_of (codes "strict") rows); json = is_set (first_of (codes "json") rows); unanswered = is_set (first_of (codes "unanswered") rows); check = check_in rows }
+flags_in rows = record { strict = is_set (first_of (codes "strict") rows); json = is_set (first_of (codes "json") rows); eval = eval_in rows; check = check_in rows }
 
 abbrev pub run_by : Bool → Text → TaskView
 run_by true path = run_strictly path
@@ -174,15 +216,12 @@ abbrev pub show_by : Bool → Text → TaskView
 show_by true path = show_json path
 show_by false path = show path
 
-abbrev pub eval_by : Bool → Bool → Text → TaskView
-eval_by strict unanswered path = eval path (record { strict = strict; unanswered = unanswered })
-
 -- the task of a subcommand with a path, by its flags
 abbrev pub by_path : Text → Text → FlagsView → TaskView
 by_path name path flags = if bytes_eq name (codes "create") then create path
     else (if bytes_eq name (codes "run") then run_by flags.strict path
     else (if bytes_eq name (codes "live") then live_by flags.json path
-    else (if bytes_eq name (codes "eval") then eval_by flags.strict flags.unanswered path
+    else (if bytes_eq name (codes "eval") then eval path flags.eval
     else (if bytes_eq name (codes "show") then show_by flags.json path
     else (if bytes_eq name (codes "check") then check path flags.check else blocks)))))
 

@@ -5,4 +5,4 @@
 mod table;
 mod words;
 
-pub use words::{CheckWords, EvalFlags, Task, read_words};
+pub use words::{CheckWords, EvalWords, Task, read_words};

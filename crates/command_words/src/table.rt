@@ -13,7 +13,7 @@ pub(crate) enum Shape {
     Strict,
     /// PATH, and the flag `--json`.
     Json,
-    /// PATH, and the flags `--strict` and `--unanswered`.
+    /// PATH, and the flags and the option of an evaluation.
     Eval,
     /// PATH, and the options of a report and of which fields it is about.
     Check,
@@ -95,8 +95,13 @@ has the counts of the whole worksheet, as `answered 12 unanswered 1`.\n\n\
 With --unanswered only fields without an answer are evaluated. With --strict it\n\
 stops after the first field that is lost or refused: the fields after it keep what\n\
 they show, and standard error has `stopped at line N` of that script.\n\n\
-Status: 0 where each field of the worksheet shows an answer; 1 where one doesn't,\n\
-or at a fault; 2 where the words are refused; 3 where --strict stopped it.\n\n\
+With --timeout SECONDS (1 to 1,000,000) the interpreter of a field that takes longer\n\
+is sent SIGINT, which is reported as `over ID`, and is stopped where it hasn't answered\n\
+two seconds later. Fields after one of their session without an answer are passed\n\
+over then and keep what they show, but with --keep-going. A line `over 1 passed 12`\n\
+has the counts. With --json each line is one object (docs/JSON.md).\n\n\
+Status: 0 where each field of the worksheet shows an answer, in its time; 1 where\n\
+one doesn't, or at a fault; 2 where the words are refused; 3 where --strict stopped it.\n\n\
 Example: tmhost eval sheet.tm";
 
 const SHOW_NOTES: &str =

@@ -2,7 +2,7 @@
 ghost use Rattle.std.specs.Prelude.{◌≡◌, ◌<◌, Bool, IfOk, None, Option, Some, false, map, option_map, string_bytes};
 ghost use Rattle.clap.specs.Words.{FailsBy, Text, app_of, fault_of, found_of, new_app, rows_of, subcommand_rows_of, with_subcommand};
 ghost use Rattle.clap.specs.declared.builder.command.Command.TheViews.{out-Command as fields_of};
-ghost use Rattle.command_words.specs.Asked.{FlagsView, asked_by, by_subcommand, by_words, check_in, check_view, flags_in, flags_view, tmhost, task_view};
+ghost use Rattle.command_words.specs.Asked.{FlagsView, asked_by, by_subcommand, by_words, check_in, check_view, eval_in, eval_view, flags_in, flags_view, tmhost, task_view};
 ghost use Rattle.command_words.specs.Asked as asked;
 ghost use Rattle.command_words.specs.inside.Table as table;
 
@@ -38,8 +38,8 @@ pub enum Task<'a> {
     Live(&'a str),
     /// The same, and write lines of JSON.
     LiveJson(&'a str),
-    /// Evaluate the fields of the worksheet at the path, as these flags say.
-    Eval(&'a str, EvalFlags),
+    /// Evaluate the fields of the worksheet at the path, as these words ask for it.
+    Eval(&'a str, EvalWords<'a>),
     /// Write the worksheet at the path.
     Show(&'a str),
     /// The same, as lines of JSON.
@@ -53,13 +53,19 @@ pub enum Task<'a> {
     Export(&'a str, &'a str),
 }
 
-/// The flags of `eval`.
+/// What the words of `eval` ask for beside its path, as they are.
 #[derive(Clone, Copy, Debug, PartialEq, Eq)]
-pub struct EvalFlags {
+pub struct EvalWords<'a> {
     /// It stops after the first field that is lost or refused.
     pub strict: bool,
     /// It evaluates only fields without an answer.
     pub unanswered: bool,
+    /// It writes lines of JSON.
+    pub json: bool,
+    /// It passes over no field.
+    pub keep_going: bool,
+    /// How many seconds a field may take.
+    pub timeout: Option<&'a str>,
 }
 
 /// The flags and options of a command line. A subcommand without a flag doesn't have it set.
@@ -67,7 +73,7 @@ pub struct EvalFlags {
 pub(crate) struct Flags<'a> {
     pub(crate) strict: bool,
     pub(crate) json: bool,
-    pub(crate) unanswered: bool,
+    pub(crate) eval: EvalWords<'a>,
     pub(crate) check: CheckWords<'a>,
 }
 
@@ -176,9 +182,9 @@ fn with_check<'a>(alloc: Global, row: Row) -> Result<Command<'a>, AllocError>
     )
 }
 
-/// A subcommand with a path, and with the flags of `eval`.
-fn with_eval<'a>(alloc: Global, row: Row) -> Result<Command<'a>, AllocError>
-    ensures made { IfOk result (λ command. app_of command ≡ asked.with_eval row.name.now) }
+/// A subcommand with a path, and with flags that make it strict and that leave fields out.
+fn with_unanswered<'a>(alloc: Global, row: Row) -> Result<Command<'a>, AllocError>
+    ensures made { IfOk result (λ command. app_of command ≡ asked.with_unanswered row.name.now) }
     ensures local { IfOk result (λ command. (fields_of command).has_globals ≡ false) }
 {
     let first = with_strict(alloc, row)?;
@@ -186,6 +192,48 @@ fn with_eval<'a>(alloc: Global, row: Row) -> Result<Command<'a>, AllocError>
         Arg::new(alloc, "unanswered")
             .long("unanswered")
             .help("Evaluate only fields without an answer")
+            .action(ArgAction::SetTrue),
+    )
+}
+
+/// The same, and with a flag that has it write JSON.
+fn with_eval_json<'a>(alloc: Global, row: Row) -> Result<Command<'a>, AllocError>
+    ensures made { IfOk result (λ command. app_of command ≡ asked.with_eval_json row.name.now) }
+    ensures local { IfOk result (λ command. (fields_of command).has_globals ≡ false) }
+{
+    let first = with_unanswered(alloc, row)?;
+    first.arg(
+        Arg::new(alloc, "json")
+            .long("json")
+            .help("Write lines of JSON, which programs read")
+            .action(ArgAction::SetTrue),
+    )
+}
+
+/// The same, and with the time that a field may take.
+fn with_timeout<'a>(alloc: Global, row: Row) -> Result<Command<'a>, AllocError>
+    ensures made { IfOk result (λ command. app_of command ≡ asked.with_timeout row.name.now) }
+    ensures local { IfOk result (λ command. (fields_of command).has_globals ≡ false) }
+{
+    let first = with_eval_json(alloc, row)?;
+    first.arg(
+        Arg::new(alloc, "timeout")
+            .long("timeout")
+            .value_name("SECONDS")
+            .help("Interrupt the interpreter of a field that takes longer than this"),
+    )
+}
+
+/// A subcommand with a path, and with the flags and the option of `eval`.
+fn with_eval<'a>(alloc: Global, row: Row) -> Result<Command<'a>, AllocError>
+    ensures made { IfOk result (λ command. app_of command ≡ asked.with_eval row.name.now) }
+    ensures local { IfOk result (λ command. (fields_of command).has_globals ≡ false) }
+{
+    let first = with_timeout(alloc, row)?;
+    first.arg(
+        Arg::new(alloc, "keep-going")
+            .long("keep-going")
+            .help("With --timeout, pass over no field")
             .action(ArgAction::SetTrue),
     )
 }
@@ -344,13 +392,6 @@ fn task_of_show<'a>(path: &'a str, json: bool) -> Task<'a>
     }
 }
 
-/// The task of `eval`.
-fn task_of_eval<'a>(path: &'a str, strict: bool, unanswered: bool) -> Task<'a>
-    ensures { task_view result ≡ asked.eval_by strict unanswered path.entry.now }
-{
-    Task::Eval(path, EvalFlags { strict, unanswered })
-}
-
 /// The task of a subcommand with a path.
 fn task_with_path<'a>(name: &str, path: &'a str, flags: Flags<'a>) -> Task<'a>
     ensures { task_view result ≡ by_words name.now path.entry.now None None (flags_view flags.entry) }
@@ -359,7 +400,7 @@ fn task_with_path<'a>(name: &str, path: &'a str, flags: Flags<'a>) -> Task<'a>
         "create" => Task::Create(path),
         "run" => task_of_run(path, flags.strict),
         "live" => task_of_live(path, flags.json),
-        "eval" => task_of_eval(path, flags.strict, flags.unanswered),
+        "eval" => Task::Eval(path, flags.eval),
         "show" => task_of_show(path, flags.json),
         "check" => Task::Check(path, flags.check),
         _ => Task::Blocks,
@@ -400,6 +441,19 @@ fn check_words<'a>(matches: &ArgMatches<'a>) -> CheckWords<'a>
     }
 }
 
+/// What the words of `eval` ask for, by the matches of a subcommand.
+fn eval_words<'a>(matches: &ArgMatches<'a>) -> EvalWords<'a>
+    ensures { eval_view result ≡ eval_in (rows_of (found_of matches.now)) }
+{
+    EvalWords {
+        strict: is_set(matches.get_str("strict")),
+        unanswered: is_set(matches.get_str("unanswered")),
+        json: is_set(matches.get_str("json")),
+        keep_going: is_set(matches.get_str("keep-going")),
+        timeout: matches.get_str("timeout"),
+    }
+}
+
 /// The flags and options, by the matches of a subcommand.
 fn flags_of<'a>(matches: &ArgMatches<'a>) -> Flags<'a>
     ensures { flags_view result ≡ flags_in (rows_of (found_of matches.now)) }
@@ -407,7 +461,7 @@ fn flags_of<'a>(matches: &ArgMatches<'a>) -> Flags<'a>
     Flags {
         strict: is_set(matches.get_str("strict")),
         json: is_set(matches.get_str("json")),
-        unanswered: is_set(matches.get_str("unanswered")),
+        eval: eval_words(matches),
         check: check_words(matches),
     }
 }

@@ -17,6 +17,10 @@ ShowsText k = (k ≡ kind.DisplayHelp) ⊎ (k ≡ kind.DisplayVersion)
 abbrev pub no_format_text : List ℕ
 no_format_text = codes "error: there is no such format: FORMAT is script, markdown, html, notebook or json\n\nFor more information, try 'tmhost export --help'.\n"
 
+-- what is told of words that name no time
+abbrev pub no_seconds_text : List ℕ
+no_seconds_text = codes "error: this is no time: SECONDS is a number from 1 to 1000000\n\nFor more information, try 'tmhost eval --help'.\n"
+
 -- what is told of words that ask for no check: of a format, of the name of a session, of numbers of fields, and of a format in which
 -- nothing is accepted
 abbrev pub no_report_text : List ℕ

@@ -1,5 +1,5 @@
 -- Which program runs for which words, over all that is outside.
-use Rattle.std.specs.Prelude.{◌≡◌, ◌≢◌, ◌⊎◌, ℕ, true, false, Bool, List, Option, Result, Ok, Err, IfOk, IfErr, MatchOption, MatchResult}
+use Rattle.std.specs.Prelude.{◌≡◌, ◌≢◌, ◌⊎◌, ◌&&◌, ℕ, true, false, Bool, List, [], Option, Some, None, nat_le, Result, Ok, Err, IfOk, IfErr, MatchOption, MatchResult}
 use Rattle.std.specs.Io.KnownBytes.{Appends}
 use Rattle.std.specs.declared.io.ErrorKind.{ErrorKind as IoKind}
 use Rattle.std.specs.declared.io.ErrorKind.TheVariants as io_kind
@@ -18,11 +18,10 @@ use Rattle.check_report.specs.declared.report.Format.{Format as Report}
 use Rattle.check_report.specs.declared.report.Format.TheVariants as report
 use Rattle.check_report.specs.declared.request.Request.{Request}
 use Rattle.check_report.specs.declared.request.RequestFault.{RequestFault}
-use Rattle.command_words.specs.Asked.{CheckView, TaskView, asked_by, task_view, tmhost}
-use Rattle.command_words.specs.declared.words.EvalFlags.{EvalFlags}
+use Rattle.command_words.specs.Asked.{CheckView, EvalView, TaskView, asked_by, task_view, tmhost}
 use Rattle.command_words.specs.declared.words.Task.{Task}
 use Rattle.command_words.specs.Asked as asked
-use Rattle.host_cli.specs.Refused.{RefusesRequest, ShowsText, no_format_text}
+use Rattle.host_cli.specs.Refused.{RefusesRequest, ShowsText, no_format_text, no_seconds_text}
 use Rattle.host_cli.specs.declared.outside.Outside.{Outside}
 use Rattle.live.specs.Arrivals.{Watch}
 use Rattle.live.specs.Saying.{Clock}
@@ -44,6 +43,7 @@ use Rattle.program_endings.specs.RescueProgram.{FilesAreRead, RescueEnds}
 use Rattle.program_endings.specs.StrictProgram.{StrictEnded}
 use Rattle.program_endings.specs.declared.ending.Ending.{Ending}
 use Rattle.recovery.specs.declared.rescuing.Rescued.{Rescued}
+use Rattle.sheet_text.specs.Script.{number_written}
 use Rattle.sheet_export.specs.Formats.{format_named, last_part}
 use Rattle.sheet_export.specs.declared.formats.Format.{Format}
 use Rattle.sheet_export.specs.declared.formats.Format.TheVariants as formats
@@ -51,9 +51,10 @@ use Rattle.sheet_files.specs.declared.files_fault.FilesFault.{FilesFault}
 use Rattle.sheet_files.specs.declared.files_fault.HoldFault.{HoldFault}
 use Rattle.sheet_files.specs.declared.files_fault.MakeFault.{MakeFault}
 use Rattle.sheet_files.specs.declared.places.Places as places
-use Rattle.sheet_programs.specs.declared.plan.Plan.{Plan}
-use Rattle.sheet_programs.specs.declared.plan.Which.{Which}
-use Rattle.sheet_programs.specs.declared.plan.Which.TheVariants as which
+use Rattle.evaluation.specs.Steps.{setting}
+use Rattle.evaluation.specs.declared.plan.Plan.{Plan}
+use Rattle.evaluation.specs.declared.plan.Which.{Which}
+use Rattle.evaluation.specs.declared.plan.Which.TheVariants as which
 
 -- How what is outside is seen, and what calls on it may lead to.
 pub record OutsideView (D P S I W E : Type 0) : Type 1 where
@@ -75,9 +76,26 @@ abbrev pub which_by : Bool → Which
 which_by true = which.Unanswered
 which_by false = which.All
 
--- what the flags of `eval` ask for
-abbrev pub plan_of : EvalFlags → Plan
-plan_of flags = record { which = which_by flags.unanswered; strict = flags.strict }
+-- the time that a field may take: 1 to 1,000,000 seconds, or without a limit
+abbrev pub seconds_by : Bool → ℕ → Option (Option ℕ)
+seconds_by true seconds = Some (Some seconds)
+seconds_by false seconds = None
+
+abbrev pub limit_if : Option ℕ → Option (Option ℕ)
+limit_if None = None
+limit_if (Some seconds) = seconds_by (nat_le 1 seconds && nat_le seconds 1000000) seconds
+
+abbrev pub limit_asked : Option Text → Option (Option ℕ)
+limit_asked None = Some None
+limit_asked (Some text) = limit_if (number_written text)
+
+-- what the words of `eval` ask for
+abbrev pub plan_by : EvalView → Option ℕ → Plan
+plan_by words limit = record { which = which_by words.unanswered; strict = words.strict; limit = limit; keep_going = words.keep_going }
+
+abbrev pub voice_by : Bool → Voice
+voice_by true = in_json
+voice_by false = in_words
 
 module _ {Y D P S I W E Q : Type 0} where
   -- nothing but the places and the stream of errors was touched
@@ -92,7 +110,7 @@ module _ {Y D P S I W E Q : Type 0} where
   LeavesAlone old new (asked.run_strictly path) = new.progress ≡ old.progress
   LeavesAlone old new (asked.live path) = new.progress ≡ old.progress
   LeavesAlone old new (asked.live_json path) = new.progress ≡ old.progress
-  LeavesAlone old new (asked.eval path flags) = (new.input ≡ old.input) × (new.progress ≡ old.progress)
+  LeavesAlone old new (asked.eval path words) = (new.input ≡ old.input) × (new.progress ≡ old.progress)
   LeavesAlone old new (asked.show path) = (new.sources ≡ old.sources) × (new.input ≡ old.input) × (new.progress ≡ old.progress)
   LeavesAlone old new (asked.show_json path) = (new.sources ≡ old.sources) × (new.input ≡ old.input) × (new.progress ≡ old.progress)
   LeavesAlone old new (asked.check path words) = new.input ≡ old.input
@@ -186,20 +204,31 @@ module _ {Y D P S I W E Q : Type 0} (o : OutsideView D P S I W E) where
       HeldFirst old new (λ why. (new.sources ≡ old.sources) × EndsWith old new ending (Err why)) (λ held. (files : Result D FilesFault) × o.places.opens held path files new.places
       × IfErr files (Unopened old new ending) × IfOk files (RunsOn strict old new ending))
 
-  -- `eval` on a disk
-  abbrev pub EvaluatesOn : Plan → Outside Y D P S I W E Q → Outside Y D P S I W E Q → Ending → D → Type 0
-  EvaluatesOn plan old new ending disk =
-      EvaluationEnded o.view o.after plan disk old.sources new.sources (o.written old.output) (o.written new.output) (Nothing old new) o.said old.errors new.errors ending
+  -- `eval` on a disk, told in a voice
+  abbrev pub EvaluatesOn : Voice → Plan → Outside Y D P S I W E Q → Outside Y D P S I W E Q → Ending → D → Type 0
+  EvaluatesOn V plan old new ending disk =
+      EvaluationEnded (setting V o.after o.clock o.wakes plan []) o.view disk old.sources new.sources o.written old.output new.output o.said old.errors new.errors ending
+
+  -- `eval` of files that weren't opened: why is told last
+  abbrev pub EvaluatesNone : Voice → Outside Y D P S I W E Q → Outside Y D P S I W E Q → Ending → FilesFault → Type 0
+  EvaluatesNone V old new ending why = (new.sources ≡ old.sources) × LastTold V o.written old.output new.output ending.told (Err (no_files why))
+      × (ending.status ≡ 1) × TellsFault o.said old.errors new.errors ending.told (Err (no_files why))
 
   -- `eval` over what the places open at a path, by a plan
-  abbrev pub EvaluatesAs : Outside Y D P S I W E Q → Outside Y D P S I W E Q → Ending → Text → Plan → Type 0
-  EvaluatesAs old new ending path plan =
+  abbrev pub EvaluatesAs : Voice → Plan → Outside Y D P S I W E Q → Outside Y D P S I W E Q → Ending → Text → Type 0
+  EvaluatesAs V plan old new ending path =
       HeldFirst old new (λ why. (new.sources ≡ old.sources) × EndsWith old new ending (Err why)) (λ held. (files : Result D FilesFault) × o.places.opens held path files new.places
-      × IfErr files (Unopened old new ending) × IfOk files (EvaluatesOn plan old new ending))
+      × IfErr files (EvaluatesNone V old new ending) × IfOk files (EvaluatesOn V plan old new ending))
 
-  -- by the plan that the flags of `eval` ask for
-  abbrev pub DoesEval : Outside Y D P S I W E Q → Outside Y D P S I W E Q → Ending → Text → EvalFlags → Type 0
-  DoesEval old new ending path flags = EvaluatesAs old new ending path (plan_of flags)
+  -- where they name no time the words are refused, and nothing is done
+  abbrev pub RefusesLimit : Outside Y D P S I W E Q → Outside Y D P S I W E Q → Ending → Type 0
+  RefusesLimit old new ending = (new.places ≡ old.places) × (new.output ≡ old.output) × (new.sources ≡ old.sources) × (ending.status ≡ 2)
+      × (ending.told ≡ true → Appends (o.said old.errors) (o.said new.errors) no_seconds_text)
+
+  -- as the words of `eval` ask for it
+  abbrev pub DoesEval : Outside Y D P S I W E Q → Outside Y D P S I W E Q → Ending → Text → EvalView → Type 0
+  DoesEval old new ending path words =
+      MatchOption (limit_asked words.timeout) (RefusesLimit old new ending) (λ limit. EvaluatesAs (voice_by words.json) (plan_by words limit) old new ending path)
 
   -- `live` over the same, told in a voice
   abbrev pub DoesLive : Voice → Outside Y D P S I W E Q → Outside Y D P S I W E Q → Ending → Text → Type 0
@@ -250,7 +279,7 @@ module _ {Y D P S I W E Q : Type 0} (o : OutsideView D P S I W E) where
   DoesTask old new ending (asked.run_strictly path) = DoesRun true old new ending path
   DoesTask old new ending (asked.live path) = DoesLive in_words old new ending path
   DoesTask old new ending (asked.live_json path) = DoesLive in_json old new ending path
-  DoesTask old new ending (asked.eval path flags) = DoesEval old new ending path flags
+  DoesTask old new ending (asked.eval path words) = DoesEval old new ending path words
   DoesTask old new ending (asked.show path) = DoesShow old new ending path
   DoesTask old new ending (asked.show_json path) = ExportsAs old new ending path formats.Json
   DoesTask old new ending (asked.check path words) = DoesCheck old new ending path words

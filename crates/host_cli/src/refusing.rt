@@ -4,7 +4,7 @@ ghost use Rattle.std.specs.Io.KnownBytes.{Appends};
 ghost use Rattle.std.specs.declared.io.ErrorKind.TheVariants as io_kind;
 ghost use Rattle.clap.specs.Words.{kind_of};
 ghost use Rattle.clap.specs.declared.error.kind.ErrorKind.TheVariants as kind;
-ghost use Rattle.host_cli.specs.Refused.{ShowsText, RefusesRequest, no_acceptance_text, no_format_text, no_ids_text, no_report_text, no_session_text};
+ghost use Rattle.host_cli.specs.Refused.{RefusesRequest, ShowsText, no_acceptance_text, no_format_text, no_ids_text, no_report_text, no_seconds_text, no_session_text};
 ghost use Rattle.program_endings.specs.Ending.{TellsFault};
 ghost use Rattle.offline_programs.specs.declared.fault.RunFault.TheVariants as fault;
 
@@ -70,6 +70,18 @@ pub fn refuse_unread_words<E: Write>(kind: io::ErrorKind, errors: &mut E) -> End
         io::ErrorKind::OutOfMemory => end_program(Err(RunFault::OutOfMemory), errors),
         _ => refused(true),
     }
+}
+
+/// Refuses words that name no time.
+pub(crate) fn refuse_limit<E: Write>(errors: &mut E) -> Ending
+    ensures status { result.status ≡ 2 }
+    ensures told { result.told ≡ true
+        → Appends (E.contents errors.old) (E.contents errors.new) no_seconds_text }
+{
+    let told = errors.write_all(
+        b"error: this is no time: SECONDS is a number from 1 to 1000000\n\nFor more information, try 'tmhost eval --help'.\n",
+    );
+    refused(told.is_ok())
 }
 
 /// Refuses words that ask for a format that there isn't.

@@ -1,8 +1,8 @@
 //! Which program runs for which words, over all that is outside.
-ghost use Rattle.std.specs.Prelude.{◌≡◌, ◌≢◌, [], List, Err, false, map, string_bytes, true};
-ghost use Rattle.command_words.specs.Asked.{check_view, task_view};
+ghost use Rattle.std.specs.Prelude.{◌≡◌, ◌≢◌, [], List, Err, false, map, option_map, string_bytes, true};
+ghost use Rattle.command_words.specs.Asked.{check_view, eval_view, task_view};
 ghost use Rattle.command_words.specs.Asked as asked;
-ghost use Rattle.host_cli.specs.Tasks.{AcceptsAs, BringsOut, ChecksAs, ChecksBy, DoesAsked, DoesBlocks, DoesCheck, DoesCreate, DoesEval, DoesExport, DoesLive, DoesRescue, DoesRun, DoesShow, DoesTask, EndsBy, EvaluatesAs, ExportsAs, LeavesAlone, Performs, RescuesFrom, RescuesTo, outer, plan_of as plan_asked};
+ghost use Rattle.host_cli.specs.Tasks.{AcceptsAs, BringsOut, ChecksAs, ChecksBy, DoesAsked, DoesBlocks, DoesCheck, DoesCreate, DoesEval, DoesExport, DoesLive, DoesRescue, DoesRun, DoesShow, DoesTask, EndsBy, EvaluatesAs, ExportsAs, LeavesAlone, Performs, RescuesFrom, RescuesTo, limit_asked, outer, plan_by, voice_by};
 ghost use Rattle.program_endings.specs.Ending.{TellsFault};
 ghost use Rattle.offline_programs.specs.declared.fault.RunFault.TheVariants as fault;
 ghost use Rattle.recovery.specs.Sheets.{Makes};
@@ -12,10 +12,11 @@ ghost use Rattle.worksheet.specs.declared.op.Op.{Op};
 
 use crate::outlet::Outlet;
 use crate::outside::{Outside, System};
-use crate::refusing::{refuse_format, refuse_request};
+use crate::refusing::{refuse_format, refuse_limit, refuse_request};
 use crate::{refuse_unread_words, refuse_words};
-use check_report::{Chosen, Format as Report, Request, read_request};
-use command_words::{CheckWords, EvalFlags, Task, read_words};
+use check_report::{Chosen, Format as Report, Request, read_number, read_request};
+use command_words::{CheckWords, EvalWords, Task, read_words};
+use evaluation::{Plan, Which};
 use offline_programs::RunFault;
 use program_endings::{
     Ending, end_program, end_unheld, read_rescued, run_accept, run_blocks, run_check, run_create,
@@ -24,11 +25,13 @@ use program_endings::{
 use recovery::Rescued;
 use sheet_export::{Format, format_named, last_part};
 use sheet_files::{FilesFault, Places};
-use sheet_programs::{Plan, Which};
 use std::alloc::Global;
 use std::io;
 use std::io::Write;
 use tellings::{InJson, InWords, Tells};
+
+/// The most seconds that a field may be given.
+const MOST_SECONDS: u32 = 1_000_000;
 
 /// `blocks`.
 fn blocks<Y: System>(alloc: Global, outside: &mut Outside<Y>) -> Ending
@@ -204,25 +207,52 @@ fn run_strictly_at<Y: System>(alloc: Global, outside: &mut Outside<Y>, path: &st
     }
 }
 
-/// What the flags of `eval` ask for.
-fn plan_of(flags: EvalFlags) -> Plan
-    ensures { result ≡ plan_asked flags }
+/// The time that a field may take, where there is a limit. None where the words name no time.
+fn read_limit(text: Option<&str>) -> Option<Option<u32>>
+    ensures { result ≡ limit_asked (option_map (λ text. text.now) text.entry) }
 {
-    let which = if flags.unanswered {
+    let Some(text) = text else {
+        return Some(None);
+    };
+    match read_number(text.as_bytes()) {
+        None => None,
+        Some(seconds) => {
+            if 1 <= seconds && seconds <= MOST_SECONDS {
+                Some(Some(seconds))
+            } else {
+                None
+            }
+        }
+    }
+}
+
+/// What the words of `eval` ask for, with this limit.
+fn plan_of(words: EvalWords<'_>, limit: Option<u32>) -> Plan
+    ensures { result ≡ plan_by (eval_view words.entry) limit }
+{
+    let which = if words.unanswered {
         Which::Unanswered
     } else {
         Which::All
     };
     Plan {
         which,
-        strict: flags.strict,
+        strict: words.strict,
+        limit,
+        keep_going: words.keep_going,
     }
 }
 
-/// `eval` of the fields of the worksheet at a path, by a plan.
-fn eval_as<Y: System>(alloc: Global, outside: &mut Outside<Y>, path: &str, plan: Plan) -> Ending
+/// `eval` of the fields of the worksheet at a path, by a plan, told in this voice.
+fn eval_as<Y: System, T: Tells>(
+    alloc: Global,
+    outside: &mut Outside<Y>,
+    plan: Plan,
+    tells: &T,
+    path: &str,
+) -> Ending
     ensures does { EvaluatesAs (outer Y.Places.Places Y.Disk.Disk Y.Sources.after
-        Y.Sources.clock Y.Sources.wakes Y.Input.Read Y.Output.Write Y.Output.brought Y.Errors.Write) outside.old outside.new result path.now plan }
+        Y.Sources.clock Y.Sources.wakes Y.Input.Read Y.Output.Write Y.Output.brought Y.Errors.Write) T.voice plan outside.old outside.new result path.now }
     ensures leaves { (outside.new.input ≡ outside.old.input)
         × (outside.new.progress ≡ outside.old.progress) }
 {
@@ -230,6 +260,7 @@ fn eval_as<Y: System>(alloc: Global, outside: &mut Outside<Y>, path: &str, plan:
         Ok(()) => run_evaluation(
             alloc,
             plan,
+            tells,
             &mut outside.output,
             &mut outside.errors,
             outside.places.open(path),
@@ -239,18 +270,41 @@ fn eval_as<Y: System>(alloc: Global, outside: &mut Outside<Y>, path: &str, plan:
     }
 }
 
-/// `eval` of the fields of the worksheet at a path, as its flags say.
+/// `eval` of the fields of the worksheet at a path, by a plan, in words or in lines of JSON.
+fn eval_told<Y: System>(
+    alloc: Global,
+    outside: &mut Outside<Y>,
+    plan: Plan,
+    json: bool,
+    path: &str,
+) -> Ending
+    ensures does { EvaluatesAs (outer Y.Places.Places Y.Disk.Disk Y.Sources.after
+        Y.Sources.clock Y.Sources.wakes Y.Input.Read Y.Output.Write Y.Output.brought Y.Errors.Write) (voice_by json) plan outside.old outside.new result path.now }
+    ensures leaves { (outside.new.input ≡ outside.old.input)
+        × (outside.new.progress ≡ outside.old.progress) }
+{
+    if json {
+        eval_as(alloc, outside, plan, &InJson { alloc }, path)
+    } else {
+        eval_as(alloc, outside, plan, &InWords, path)
+    }
+}
+
+/// `eval` of the fields of the worksheet at a path, as its words ask for it.
 fn eval_at<Y: System>(
     alloc: Global,
     outside: &mut Outside<Y>,
     path: &str,
-    flags: EvalFlags,
+    words: EvalWords<'_>,
 ) -> Ending
     ensures does { DoesEval (outer Y.Places.Places Y.Disk.Disk Y.Sources.after
-        Y.Sources.clock Y.Sources.wakes Y.Input.Read Y.Output.Write Y.Output.brought Y.Errors.Write) outside.old outside.new result path.now flags }
-    ensures leaves { LeavesAlone outside.old outside.new (asked.eval path.now flags) }
+        Y.Sources.clock Y.Sources.wakes Y.Input.Read Y.Output.Write Y.Output.brought Y.Errors.Write) outside.old outside.new result path.now (eval_view words.entry) }
+    ensures leaves { LeavesAlone outside.old outside.new (asked.eval path.now (eval_view words.entry)) }
 {
-    eval_as(alloc, outside, path, plan_of(flags))
+    match read_limit(words.timeout) {
+        None => refuse_limit(&mut outside.errors),
+        Some(limit) => eval_told(alloc, outside, plan_of(words, limit), words.json, path),
+    }
 }
 
 /// `live` with the lines of the input over the worksheet at a path, told in this voice.
@@ -401,7 +455,7 @@ pub fn do_task<Y: System>(alloc: Global, task: Task<'_>, outside: &mut Outside<Y
         Task::RunStrictly(path) => run_strictly_at(alloc, outside, path),
         Task::Live(path) => live_at(alloc, outside, path),
         Task::LiveJson(path) => live_json_at(alloc, outside, path),
-        Task::Eval(path, flags) => eval_at(alloc, outside, path, flags),
+        Task::Eval(path, words) => eval_at(alloc, outside, path, words),
         Task::Show(path) => show_at(alloc, outside, path),
         Task::ShowJson(path) => export_as(alloc, outside, Format::Json, path),
         Task::Check(path, words) => check_at(alloc, outside, path, words),

@@ -15,7 +15,7 @@ use Rattle.child_edge.specs.Faithful.{Relation}
 use Rattle.offline_programs.specs.declared.fault.RunFault.{RunFault}
 use Rattle.offline_programs.specs.declared.fault.RunFault.TheVariants as fault
 use Rattle.live.specs.Arrivals.{LivePlace}
-use Rattle.live.specs.inside.Taking.{IsBy, TakesLines, TakingFailed, TurnFailed, Turns}
+use Rattle.live.specs.Taking.{IsBy, TakesLines, TakingFailed, TurnFailed, TurnComes}
 
 -- a line that is given is the first of those to come
 pub line_given : (h k : Held) (given : InputLine) (r : Option (List ℕ)) → ((more : List ℕ) → left_with h more ≡ given ∷ left_with k more) → TakesLines (line given) (to_come h r) (to_come k r)
@@ -51,23 +51,23 @@ pub told_input : {C : Type 0} (K : Clock C) (W : Watch C) (held : Hold) (c : C) 
 told_input K W held c is_there d (inl t) = t
 told_input K W held c is_there d (inr p) = let wrong : woken.Input ≡ woken.TimeOver = p.0 in absurd cc
 
-told-life : {C : Type 0} (K : Clock C) (W : Watch C) (held : Hold) (c : C) (is_there : Bool) (d : C) (seat : Seat) → ToldBy K W held c is_there d (woken.Life seat) → WatchTells K W held c is_there (Some (woken.Life seat)) d
-told-life K W held c is_there d seat (inl t) = t
-told-life K W held c is_there d seat (inr p) = let wrong : woken.Life seat ≡ woken.TimeOver = p.0 in absurd cc
+pub told_life : {C : Type 0} (K : Clock C) (W : Watch C) (held : Hold) (c : C) (is_there : Bool) (d : C) (seat : Seat) → ToldBy K W held c is_there d (woken.Life seat) → WatchTells K W held c is_there (Some (woken.Life seat)) d
+told_life K W held c is_there d seat (inl t) = t
+told_life K W held c is_there d seat (inr p) = let wrong : woken.Life seat ≡ woken.TimeOver = p.0 in absurd cc
 
 time-told : {C : Type 0} (K : Clock C) (W : Watch C) (held : Hold) (c : C) (is_there : Bool) (d : C) → ToldBy K W held c is_there d woken.TimeOver → Comes K W held c time_over d
 time-told K W held c is_there d (inl t) = inl (is_there, t)
 time-told K W held c is_there d (inr p) = inr p.1
 
 -- what comes of a turn
-pub comes_by : {C : Type 0} (K : Clock C) (W : Watch C) (held : Hold) (c : C) (is_there : Bool) (d : C) (told : Woken) (a : Arrival) → Turns K W held c is_there d told → IsBy told is_there a → Comes K W held c a d
+pub comes_by : {C : Type 0} (K : Clock C) (W : Watch C) (held : Hold) (c : C) (is_there : Bool) (d : C) (told : Woken) (a : Arrival) → TurnComes K W held c is_there d told → IsBy told is_there a → Comes K W held c a d
 comes_by K W held c is_there d woken.Input (line l) turn by = subst (λ there. WatchTells K W held c there (Some woken.Input) d) by (told_input K W held c is_there d turn.1)
 comes_by K W held c is_there d woken.Input part turn by = subst (λ there. WatchTells K W held c there (Some woken.Input) d) by (told_input K W held c is_there d turn.1)
 comes_by K W held c is_there d woken.Input (life seat) turn by = absurd by
 comes_by K W held c is_there d woken.Input time_over turn by = absurd by
 comes_by K W held c is_there d (woken.Life at) (line l) turn by = absurd by
 comes_by K W held c is_there d (woken.Life at) part turn by = absurd by
-comes_by K W held c is_there d (woken.Life at) (life seat) turn by = (is_there, subst (λ s. WatchTells K W held c is_there (Some (woken.Life s)) d) by (told-life K W held c is_there d at turn.1))
+comes_by K W held c is_there d (woken.Life at) (life seat) turn by = (is_there, subst (λ s. WatchTells K W held c is_there (Some (woken.Life s)) d) by (told_life K W held c is_there d at turn.1))
 comes_by K W held c is_there d (woken.Life at) time_over turn by = absurd by
 comes_by K W held c is_there d woken.TimeOver (line l) turn by = absurd by
 comes_by K W held c is_there d woken.TimeOver part turn by = absurd by
@@ -75,7 +75,7 @@ comes_by K W held c is_there d woken.TimeOver (life seat) turn by = absurd by
 comes_by K W held c is_there d woken.TimeOver time_over turn by = time-told K W held c is_there d turn.1
 
 -- a watch that told the input was asked by whether a line was there
-pub input_told : {C : Type 0} (K : Clock C) (W : Watch C) (held : Hold) (c : C) (is_there there : Bool) (d : C) (told : Woken) → Turns K W held c is_there d told → told ≡ woken.Input → is_there ≡ there
+pub input_told : {C : Type 0} (K : Clock C) (W : Watch C) (held : Hold) (c : C) (is_there there : Bool) (d : C) (told : Woken) → TurnComes K W held c is_there d told → told ≡ woken.Input → is_there ≡ there
     → WatchTells K W held c there (Some woken.Input) d
 input_told K W held c is_there there d told turn input same =
     subst (λ b. WatchTells K W held c b (Some woken.Input) d) same (told_input K W held c is_there d (subst (ToldBy K W held c is_there d) input turn.1))

@@ -30,7 +30,7 @@ use Rattle.live.specs.Arrivals as came
 use Rattle.live.specs.Broken.{TakesUpTo, TakesSoFar, TakesLed, LivedUpTo, LivedSoFar, LivedLed, taken_beats}
 use Rattle.live.specs.Broken as broken
 use Rattle.live.specs.Live.{AreFirst, LiveDone, TellsLive, begin_at}
-use Rattle.live.specs.inside.Taking.{Ended, EndedBy, EndedUnwritten, IsFront, LivedThrough, LivedUnwritten, LivingFailed}
+use Rattle.live.specs.Taking.{Ended, EndedBy, EndedUnwritten, IsFront, LivedThrough, LivedUnwritten, LivingFailed}
 
 -- The stops.
 
@@ -73,10 +73,10 @@ said-up-to-goes R (Some (live.PrintField id)) s beats e t p = absurd p
 said-up-to-goes R (Some (live.WaitFor seconds)) s beats e t p = absurd p
 said-up-to-goes R (Some (live.Interrupt name)) s beats e t p = absurd p
 
-stalled-goes : {C : Type 0} (R : Relation C) (seats : List Seat) (k : ℕ) (s : At C) (beats : List Beat) (t : At C) → Rattle.child_edge.specs.Faithful.FirstOf (Taken R false None) seats k s beats t → Goes s.world s.disk beats t.world t.disk
+pub stalled-goes : {C : Type 0} (R : Relation C) (seats : List Seat) (k : ℕ) (s : At C) (beats : List Beat) (t : At C) → Rattle.child_edge.specs.Faithful.FirstOf (Taken R false None) seats k s beats t → Goes s.world s.disk beats t.world t.disk
 stalled-goes R seats k s beats t p = first-goes R (Taken R false None) (λ x. taken-goes R false None x) seats k s beats t p
 
-turn-stopped-goes : {C : Type 0} (R : Relation C) (seats : List Seat) (s : At C) (beats : List Beat) (e : Event) (t : At C) → TurnStopped R false seats s beats e t → Goes s.world s.disk beats t.world t.disk
+pub turn-stopped-goes : {C : Type 0} (R : Relation C) (seats : List Seat) (s : At C) (beats : List Beat) (e : Event) (t : At C) → TurnStopped R false seats s beats e t → Goes s.world s.disk beats t.world t.disk
 turn-stopped-goes R seats s beats e t q =
     subst (λ (l : List Beat). Goes s.world s.disk l t.world t.disk) (sym q.beats)
     (goes_on_by s.world s.disk q.before q.mid.world q.mid.disk q.last t.world t.disk (stalled-goes R seats q.whole s q.before q.mid q.are_done) (taken-goes R false (Some e) q.seat q.mid q.last t q.broken))

@@ -17,13 +17,13 @@ use Rattle.tellings.specs.Voice.{Voice}
 use Rattle.live.specs.Arrivals.{Arrival, LivePlace, Watch, WatchTells, Comes, TakesArrival, Lived, front_text, lines_in, place, woken_at}
 use Rattle.live.specs.Broken.{LivedBefore}
 use Rattle.live.specs.Live.{AreTooMany}
-use Rattle.live.specs.inside.Taking.{ComingFailed, IsFront, LivedThrough, LivedUnwritten, LivingFailed, Steps, TakesLines, TakingFailed, TookUnwritten, Turns, TurnFailed, TurnTook}
+use Rattle.live.specs.Taking.{ComingFailed, IsFront, LivedThrough, LivedUnwritten, LivingFailed, Steps, TakesLines, TakingFailed, TookUnwritten, TurnComes, TurnFailed, TurnTook}
 use Rattle.live.proofs.Coming.{comes_by, input_told, lines_on}
 
 -- A step.
 
 module _ {C : Type 0} (V : Voice) (R : Relation C) (K : Clock C) (W : Watch C) (p : LivePlace C) (mid : C) (told : Woken) (is_there : Bool) (h : HostView) (c : C) (out now : Option (List ℕ)) (old new : Option (List InputLine))
-    (turn : Turns K W p.held p.run.children is_there mid told) where
+    (turn : TurnComes K W p.held p.run.children is_there mid told) where
   watched : (there : Bool) → c ≡ mid → told ≡ woken.Input → is_there ≡ there → WatchTells K W p.held p.run.children there (Some woken.Input) c
   watched there same input is = subst (λ d. WatchTells K W p.held p.run.children there (Some woken.Input) d) (sym same) (input_told K W p.held p.run.children is_there there mid told turn input is)
 

@@ -29,7 +29,7 @@ use Rattle.live.specs.declared.holding.Hold.TheVariants as hold
 use Rattle.child_edge.specs.Interrupts.{Interrupts}
 use Rattle.child_edge.specs.declared.interrupting.Interrupted.{Interrupted}
 use Rattle.live.specs.Saying.{Clock, IsCommand, SaidDone, Begins}
-use Rattle.live.specs.inside.Taking.{Said, SaidLed, SaidUnwritten, SayingFailed, all, up_to, none}
+use Rattle.live.specs.Taking.{Said, SaidLed, SaidUnwritten, SayingFailed, all, up_to, none}
 
 -- memory is wanted for a line that says a command
 pub wants_command : (bytes : List ℕ) → wants_memory (line_of bytes) ≡ true → IsCommand (live_line_of bytes)

@@ -29,8 +29,8 @@ use Rattle.arrivals.specs.Lines.{InputLine}
 use Rattle.live.specs.Arrivals.{Arrival, line, life, time_over, LivePlace, place, said_by}
 use Rattle.live.specs.Broken.{TakesLed}
 use Rattle.live.specs.Broken as broken
-use Rattle.live.specs.inside.Taking.{Heard, HeardLed, HeardUnwritten, Said, SaidLed, SaidUnwritten, SayingFailed, HearingFailed, Stalled, StalledUnwritten, StallingFailed, StallingLed, TakingFailed, Took, TookUnwritten}
-use Rattle.live.specs.inside.Taking as inside
+use Rattle.live.specs.Taking.{Heard, HeardLed, HeardUnwritten, Said, SaidLed, SaidUnwritten, SayingFailed, HearingFailed, Stalled, StalledUnwritten, StallingFailed, StallingLed, TakingFailed, TookArrival, TookUnwritten}
+use Rattle.live.specs.Taking as inside
 
 -- What a life's turn gives.
 abbrev pub TurnBroke : {C : Type 0} → Relation C → Seat → World → HostView → HostView → C → C → List Reply → List Reply → EdgeCause → Type 0
@@ -123,7 +123,7 @@ module _ {C : Type 0} (V : Voice) (R : Relation C) (K : Clock C) (p : LivePlace 
   life_untold seat f mid q is = took_untold (life seat) f is (q.1, h.store.disk, life-all seat q.0 (at q.1 c h.store.disk) q.2, inl (q.3, refl))
 
   pub life_took : (seat : Seat) (mid : Option (List ℕ)) (held : Hold) (q : Heard V R seat p.run h c a mid) → WaitGoesOn p.held q.1 held → Appends mid b (over_text V p.number p.held held)
-      → Took V R K p (life seat) h c a b p.number held
+      → TookArrival V R K p (life seat) h c a b p.number held
   life_took seat mid held q on wrote =
       (q.0, came_text V (sheet_in q.1) (told q.0) ++ over_text V p.number p.held held, q.1, (refl, q.2, refl, on), q.3, Appends-trans a mid b (came_text V (sheet_in q.1) (told q.0)) (over_text V p.number p.held held) q.4 wrote)
 
@@ -153,7 +153,7 @@ module _ {C : Type 0} (V : Voice) (R : Relation C) (K : Clock C) (p : LivePlace 
   time_untold timed f mid q is = took_untold time_over f is (q.1, h.store.disk, time-all timed q.0 (at q.1 c h.store.disk) q.2, inl (q.3, refl))
 
   pub time_took : IsTimed p.held → (mid : Option (List ℕ)) → Stalled V R (waits p.run.world) p.run h c a mid → Appends mid b (V.note (note.Waited p.number true))
-      → Took V R K p time_over h c a b p.number hold.Free
+      → TookArrival V R K p time_over h c a b p.number hold.Free
   time_took timed mid q wrote =
       (q.0, came_text V (sheet_in q.1) (told q.0) ++ V.note (note.Waited p.number true), q.1, (timed, refl, q.2, refl, refl), q.3, Appends-trans a mid b (came_text V (sheet_in q.1) (told q.0)) (V.note (note.Waited p.number true)) q.4 wrote)
 
@@ -273,7 +273,7 @@ module _ {C : Type 0} (V : Voice) (R : Relation C) (K : Clock C) (s : At C) (bef
       took_untold V R K (place s before hold.Free) h c a b (line l) f is (q.2, h.store.disk, line-all l begun q.0 q.1 (at q.2 c h.store.disk) q.4 q.3, inl (q.5, refl))
 
   pub line_took : (l : InputLine) (mid : Option (List ℕ)) (begun held : Hold) (q : Said V R K (before + 1) (said_by l) s h c a mid begun) → WaitGoesOn begun q.2 held → Appends mid b (over_text V (before + 1) begun held)
-      → Took V R K (place s before hold.Free) (line l) h c a b (before + 1) held
+      → TookArrival V R K (place s before hold.Free) (line l) h c a b (before + 1) held
   line_took l mid begun held q on wrote =
       (q.0, q.1 ++ over_text V (before + 1) begun held, q.2, (refl, refl, (q.1, q.3, (begun, q.4, on, refl))), q.5, Appends-trans a mid b q.1 (over_text V (before + 1) begun held) q.6 wrote)
 

@@ -2,4 +2,4 @@ pub mod Saying
 pub mod Arrivals
 pub mod Broken
 pub mod Live
-pub mod inside
+pub mod Taking

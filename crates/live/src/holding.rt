@@ -29,7 +29,7 @@ pub enum Hold {
 }
 
 /// The wait that goes on behind an event, if it does.
-pub(crate) fn go_on<D: Disk>(held: Hold, host: &Host<D>) -> Hold
+pub fn go_on<D: Disk>(held: Hold, host: &Host<D>) -> Hold
     ensures { (w : World) → IsHost host.now w → WaitGoesOn held w result }
 {
     if is_idle(host) { Hold::Free } else { held }

@@ -8,5 +8,8 @@ mod saying;
 mod stepping;
 mod taking;
 
-pub use holding::Hold;
+pub use holding::{Hold, go_on};
 pub use living::live;
+pub use saying::{say_command, wait_for};
+pub use stepping::next_turn;
+pub use taking::{hear, tell_stalled};

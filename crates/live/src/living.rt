@@ -9,7 +9,7 @@ ghost use Rattle.offline_programs.specs.declared.fault.RunFault.TheVariants as t
 ghost use Rattle.journal.specs.declared.opening.OpenCause.TheVariants as opens;
 ghost use Rattle.host_events.specs.declared.outcome.HostFault.TheVariants as hosts;
 ghost use Rattle.live.specs.Live.{LiveDone, TellsLive, begin_at};
-ghost use Rattle.live.specs.inside.Taking.{Ended, EndedBy, LivedThrough, LivingFailed};
+ghost use Rattle.live.specs.Taking.{Ended, EndedBy, LivedThrough, LivingFailed};
 
 use crate::holding::Hold;
 use crate::stepping::{Stand, step};

@@ -10,7 +10,7 @@ ghost use Rattle.arrivals.specs.Lines.{whole};
 ghost use Rattle.tellings.specs.Voice.{IsUntold};
 ghost use Rattle.live.specs.Saying.{WaitGoesOn, seconds_behind};
 ghost use Rattle.live.specs.Arrivals.{line as the_line, place};
-ghost use Rattle.live.specs.inside.Taking.{Said, SayingFailed, TakingFailed, Took};
+ghost use Rattle.live.specs.Taking.{Said, SayingFailed, TakingFailed, TookArrival};
 
 use crate::holding::{Hold, go_on, tell_over};
 use arrivals::Sources;
@@ -51,15 +51,18 @@ fn say_interrupt<D: Disk, S: Sources, T: Tells, W: Write>(
 }
 
 /// The wait until so many seconds behind this moment.
-fn wait_for(now: u64, seconds: u32) -> Hold
+pub fn wait_for(now: u64, seconds: u32) -> Hold
     ensures { result ≡ Hold.Until (seconds_behind now seconds) }
 {
     Hold::Until(now.saturating_add(u64::from(seconds) * 1_000))
 }
 
 /// Takes a command and all that comes of it, and tells what it gave: each reply is of an event that every
-/// image of the disk has from then on.
-fn say_command<D: Disk, S: Sources, T: Tells, W: Write>(
+/// image of the disk has from then on. No wait begins.
+///
+/// `Host` and `OutOfMemory`: what was told before is written. `Output`, and `OutOfMemory` of a voice that
+/// takes memory: a part may have gone out.
+pub fn say_command<D: Disk, S: Sources, T: Tells, W: Write>(
     alloc: Global,
     host: &mut Host<D>,
     sources: &mut S,
@@ -193,7 +196,7 @@ pub(crate) fn take_line<D: Disk, S: Sources, T: Tells, W: Write>(
 ) -> Result<Hold, RunFault>
     requires { before + 1 < 2 ^ 64 }
     ensures same { SameDisk host.old.store.disk host.new.store.disk }
-    ensures ok { (w : World) → IsHost host.old w → IfOk result (Took T.voice S.after S.clock
+    ensures ok { (w : World) → IsHost host.old w → IfOk result (TookArrival T.voice S.after S.clock
         (place (at w sources.old host.old.store.disk) before Hold.Free) (the_line (whole line.now))
         host.new sources.new (W.contents writer.old) (W.contents writer.new) (before + 1)) }
     ensures err { (w : World) → IsHost host.old w → IfErr result (TakingFailed T.voice S.after S.clock

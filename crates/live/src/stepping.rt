@@ -6,7 +6,7 @@ ghost use Rattle.session_engine.specs.Host.{IsHost};
 ghost use Rattle.child_edge.specs.Faithful.{at};
 ghost use Rattle.arrivals.specs.Held.{Readiness, to_come};
 ghost use Rattle.live.specs.Arrivals.{WatchTells, place};
-ghost use Rattle.live.specs.inside.Taking.{ComingFailed, MayTurn, Steps, TurnFailed, TurnTook, Turns};
+ghost use Rattle.live.specs.Taking.{ComingFailed, MayTurn, Steps, TurnFailed, TurnTook, TurnComes};
 
 use crate::holding::{Hold, input, is_over, patience};
 use crate::saying::{take_line, take_too_long};
@@ -126,8 +126,14 @@ fn take_turn<R: Read, D: Disk, S: Sources, T: Tells, W: Write>(
 }
 
 /// Waits until it is someone's turn. A wait whose time is over ends, whatever else has something.
-fn next_turn<S: Sources>(sources: &mut S, held: Hold, is_ready: bool) -> Result<Woken, WatchFault>
-    ensures ok { IfOk result (Turns S.clock S.wakes held sources.old is_ready sources.new) }
+///
+/// `WatchFault` where the sources can't be watched, or nothing could come any more.
+pub fn next_turn<S: Sources>(
+    sources: &mut S,
+    held: Hold,
+    is_ready: bool,
+) -> Result<Woken, WatchFault>
+    ensures ok { IfOk result (TurnComes S.clock S.wakes held sources.old is_ready sources.new) }
     ensures err { OnErr result (WatchTells S.clock S.wakes held sources.old is_ready None sources.new) }
 {
     let now = sources.now();

@@ -8,7 +8,7 @@ ghost use Rattle.child_edge.specs.Edge.{BrokeOff, ByCause, Ran};
 ghost use Rattle.child_edge.specs.Faithful.{at, EachOf, Taken};
 ghost use Rattle.live.specs.Saying.{IsTimed};
 ghost use Rattle.live.specs.Arrivals.{life, place, time_over};
-ghost use Rattle.live.specs.inside.Taking.{Heard, HearingFailed, Stalled, StallingFailed, TakingFailed, Took};
+ghost use Rattle.live.specs.Taking.{Heard, HearingFailed, Stalled, StallingFailed, TakingFailed, TookArrival};
 
 use crate::holding::{Hold, tell_over};
 use crate::stepping::Stand;
@@ -25,7 +25,9 @@ use std::io::Write;
 use tellings::{Note, Tells};
 
 /// Takes a life's turn, and tells what comes of it.
-fn hear<D: Disk, S: Sources, T: Tells, W: Write>(
+///
+/// Faults are those of `say_command`.
+pub fn hear<D: Disk, S: Sources, T: Tells, W: Write>(
     alloc: Global,
     host: &mut Host<D>,
     sources: &mut S,
@@ -63,7 +65,7 @@ pub(crate) fn take_life<D: Disk, S: Sources, T: Tells, W: Write>(
     writer: &mut W,
 ) -> Result<Hold, RunFault>
     ensures same { SameDisk host.old.store.disk host.new.store.disk }
-    ensures ok { (w : World) → IsHost host.old w → IfOk result (Took T.voice S.after S.clock
+    ensures ok { (w : World) → IsHost host.old w → IfOk result (TookArrival T.voice S.after S.clock
         (place (at w sources.old host.old.store.disk) stand.number stand.held) (life seat) host.new sources.new
         (W.contents writer.old) (W.contents writer.new) stand.number) }
     ensures err { (w : World) → IsHost host.old w → IfErr result (TakingFailed T.voice S.after S.clock
@@ -101,8 +103,10 @@ fn stall_each<D: Disk, S: Sources>(
     Ok(())
 }
 
-/// The same, and tells what comes of it.
-fn tell_stalled<D: Disk, S: Sources, T: Tells, W: Write>(
+/// Tells the host of each of these lives that it stalled, and tells what comes of it.
+///
+/// Faults are those of `say_command`.
+pub fn tell_stalled<D: Disk, S: Sources, T: Tells, W: Write>(
     alloc: Global,
     host: &mut Host<D>,
     sources: &mut S,
@@ -139,7 +143,7 @@ pub(crate) fn end_wait<D: Disk, S: Sources, T: Tells, W: Write>(
     writer: &mut W,
 ) -> Result<(), RunFault>
     ensures same { SameDisk host.old.store.disk host.new.store.disk }
-    ensures ok { (held : Hold) (w : World) → IsTimed held → IsHost host.old w → OnOk result (Took T.voice S.after S.clock
+    ensures ok { (held : Hold) (w : World) → IsTimed held → IsHost host.old w → OnOk result (TookArrival T.voice S.after S.clock
         (place (at w sources.old host.old.store.disk) number held) time_over host.new sources.new
         (W.contents writer.old) (W.contents writer.new) number Hold.Free) }
     ensures err { (held : Hold) (w : World) → IsTimed held → IsHost host.old w → IfErr result (TakingFailed T.voice S.after S.clock

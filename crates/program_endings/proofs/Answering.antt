@@ -12,13 +12,12 @@ use Rattle.offline_programs.specs.Faults.{FailedSince}
 use Rattle.offline_programs.specs.declared.fault.RunFault.{RunFault}
 use Rattle.offline_programs.specs.declared.fault.RunFault.TheVariants as fault
 use Rattle.sheet_programs.proofs.Runs.{err_same}
-use Rattle.sheet_programs.specs.Evaluation.{EvaluationDone, TellsEvaluation}
-use Rattle.sheet_programs.specs.declared.evaluating.Evaluated.{Evaluated}
-use Rattle.sheet_programs.specs.declared.plan.Plan.{Plan}
+use Rattle.evaluation.specs.Evaluation.{EvaluationDone, TellsEvaluation}
+use Rattle.evaluation.specs.Steps.{Setting}
+use Rattle.evaluation.specs.declared.evaluating.Evaluated.{Evaluated}
 use Rattle.program_endings.specs.Ending.{ProgramAnswer}
-use Rattle.program_endings.specs.declared.ending.Ending.{Ending}
-use Rattle.program_endings.specs.EvalProgram.{EvaluationEnd, EvaluationEnded, answer_of_evaluation, evaluation_status, stop_of}
-use Rattle.program_endings.specs.StrictProgram.{TellsStop}
+use Rattle.program_endings.specs.EvalProgram.{EvaluatesTo, answer_of_evaluation}
+use Rattle.program_endings.specs.declared.eval_program.EvalEnd.{EvalEnd}
 use Rattle.tellings.specs.Voice.{Voice}
 use Rattle.program_endings.specs.LiveProgram.{LivesOn, answer_of}
 
@@ -42,28 +41,22 @@ module _ {D C : Type 0} (V : Voice) (view : D → DiskView) (R : Relation C) (K 
     fault = told;
   }
 
-module _ {D C E : Type 0} (view : D → DiskView) (R : Relation C) (plan : Plan) (disk : D) (c d : C) (a b : Option (List ℕ)) (nothing : Type 0) (said : E → Option (List ℕ)) (old new : E) (ending : Ending) where
-  pub evaluation_ended : (r : Result (Evaluated D) RunFault) → IfOk r (λ done. EvaluationDone R plan (view disk) c d a b (view done.disk) done.stopped_at done.tally) → IfOk r (λ done. SameDisk (view disk) (view done.disk))
-      → IfErr r (TellsEvaluation R plan (view disk) c d a b nothing) → (IsErrOf r (fault.Open opens.Disk) → FailedSince view disk) → (IsErrOf r (fault.Host hosts.Disk) → FailedSince view disk)
-      → ending.status ≡ evaluation_status (answer_of_evaluation r) → TellsStop said old new ending.told (stop_of (answer_of_evaluation r)) → EvaluationEnded view R plan disk c d a b nothing said old new ending
-  evaluation_ended (Ok done) evaluated same tells unopened failed status told = record {
-    answer = Ok (record { stopped = done.stopped_at; tally = done.tally });
+module _ {D C : Type 0} (o : Setting C) (view : D → DiskView) (disk : D) (c d : C) (a b : Option (List ℕ)) (nothing : Type 0) where
+  pub evaluation_answered : (r : Result (Evaluated D) RunFault) → IfOk r (λ done. EvaluationDone o (view disk) c d a b (view done.disk) done.stopped_at done.counts) → IfOk r (λ done. SameDisk (view disk) (view done.disk))
+      → IfErr r (TellsEvaluation o (view disk) c d a b nothing) → (IsErrOf r (fault.Open opens.Disk) → FailedSince view disk) → (IsErrOf r (fault.Host hosts.Disk) → FailedSince view disk)
+      → EvaluatesTo o view disk c d a b nothing (answer_of_evaluation r)
+  evaluation_answered (Ok done) evaluated same tells unopened failed = record {
     evaluated = (done.disk, same, evaluated);
     unopened = λ e. no-error (fault.Open opens.Disk) e;
     failed = λ e. no-error (fault.Host hosts.Disk) e;
     fault = tt;
-    status = status;
-    told = told;
   }
     where
-      no-error : {P : Type 0} (why : RunFault) → IsErrOf {T = EvaluationEnd} (Ok (record { stopped = done.stopped_at; tally = done.tally })) why → P
+      no-error : {P : Type 0} (why : RunFault) → IsErrOf {T = EvalEnd} (Ok (record { stopped_at = done.stopped_at; counts = done.counts })) why → P
       no-error why e = absurd cc
-  evaluation_ended (Err why) evaluated same tells unopened failed status told = record {
-    answer = Err why;
+  evaluation_answered (Err why) evaluated same tells unopened failed = record {
     evaluated = tt;
     unopened = λ e. unopened (ap (λ x. Err x) (err_same _ why (fault.Open opens.Disk) refl e));
     failed = λ e. failed (ap (λ x. Err x) (err_same _ why (fault.Host hosts.Disk) refl e));
     fault = tells;
-    status = status;
-    told = told;
   }

@@ -1,58 +1,89 @@
 -- How the program `eval` ends: what it evaluates and writes, what it tells on which stream, and the exit status.
-use Rattle.std.specs.Prelude.{◌≡◌, ◌==◌, ℕ, List, Option, Some, None, Result, Ok, Err, IfOk, IfErr, IsErrOf, if◌then◌else◌}
+use Rattle.std.specs.Prelude.{◌≡◌, ◌==◌, ◌&&◌, ℕ, Bool, true, false, List, Option, Some, None, Result, Ok, Err, IfOk, IfErr, IsErrOf, if◌then◌else◌}
 use Rattle.disk_model.specs.Disk.{DiskView, SameDisk}
 use Rattle.journal.specs.declared.opening.OpenCause.TheVariants as opens
 use Rattle.host_events.specs.declared.outcome.HostFault.TheVariants as hosts
-use Rattle.child_edge.specs.Faithful.{Relation}
 use Rattle.offline_programs.specs.Faults.{FailedSince}
 use Rattle.offline_programs.specs.declared.fault.RunFault.{RunFault}
 use Rattle.offline_programs.specs.declared.fault.RunFault.TheVariants as fault
-use Rattle.sheet_programs.specs.Evaluation.{EvaluationDone, TellsEvaluation}
-use Rattle.sheet_programs.specs.declared.evaluating.Evaluated.{Evaluated}
-use Rattle.sheet_programs.specs.declared.plan.Plan.{Plan}
-use Rattle.sheet_programs.specs.declared.plan.Tally.{Tally}
+use Rattle.tellings.specs.Voice.{IsUntold}
+use Rattle.tellings.specs.declared.note.Counts.{Counts}
+use Rattle.tellings.specs.declared.note.Frame.TheVariants as frame
+use Rattle.tellings.specs.declared.note.Overs.{Overs}
+use Rattle.evaluation.specs.Steps.{Setting}
+use Rattle.evaluation.specs.Evaluation.{EvaluationDone, TellsEvaluation}
+use Rattle.evaluation.specs.declared.evaluating.Evaluated.{Evaluated}
+use Rattle.program_endings.specs.Ending.{ProgramAnswer}
+use Rattle.program_endings.specs.LiveProgram.{Framed, LastTold}
 use Rattle.program_endings.specs.StrictProgram.{StrictAnswer, TellsStop}
 use Rattle.program_endings.specs.declared.ending.Ending.{Ending}
+use Rattle.program_endings.specs.declared.eval_program.EvalEnd.{EvalEnd}
 
--- where an evaluation stopped, if it did, and how many fields of the worksheet show an answer then
-pub record EvaluationEnd : Type 0 where
-  pub stopped : Option ℕ
-  pub tally : Tally
-
--- what the program answers: that, or its fault
+-- what the program answers: where the evaluation stopped, if it did, and what it came to; or its fault
 abbrev pub EvaluationAnswer : Type 0
-EvaluationAnswer = Result EvaluationEnd RunFault
+EvaluationAnswer = Result EvalEnd RunFault
 
 abbrev pub answer_of_evaluation : {D : Type 0} → Result (Evaluated D) RunFault → EvaluationAnswer
-answer_of_evaluation (Ok done) = Ok (record { stopped = done.stopped_at; tally = done.tally })
+answer_of_evaluation (Ok done) = Ok (record { stopped_at = done.stopped_at; counts = done.counts })
 answer_of_evaluation (Err why) = Err why
 
--- 0 where each field of the worksheet shows an answer
-abbrev pub tally_status : Tally → ℕ
-tally_status tally = if tally.unanswered == 0 then 0 else 1
+-- no field's time was over, and none was passed over
+abbrev pub are_none_over : Option Overs → Bool
+are_none_over None = true
+are_none_over (Some overs) = (overs.over == 0) && (overs.passed == 0)
 
-abbrev pub status_of_end : Option ℕ → Tally → ℕ
-status_of_end None tally = tally_status tally
-status_of_end (Some number) tally = 3
+-- 0 where each field of the worksheet shows an answer, and none was over or passed over
+abbrev pub counts_status : Counts → ℕ
+counts_status counts = if (counts.unanswered == 0) && are_none_over counts.overs then 0 else 1
+
+abbrev pub status_of_end : Option ℕ → Counts → ℕ
+status_of_end None counts = counts_status counts
+status_of_end (Some number) counts = 3
 
 abbrev pub evaluation_status : EvaluationAnswer → ℕ
-evaluation_status (Ok end) = status_of_end end.stopped end.tally
+evaluation_status (Ok end) = status_of_end end.stopped_at end.counts
 evaluation_status (Err why) = 1
 
 -- where it stopped, as `run --strict` tells it
 abbrev pub stop_of : EvaluationAnswer → StrictAnswer
-stop_of (Ok end) = Ok end.stopped
+stop_of (Ok end) = Ok end.stopped_at
 stop_of (Err why) = Err why
 
--- What `eval` comes to on a disk, from children c to d, and how it ends; `nothing` says that it wrote nothing and called no child.
-pub record EvaluationEnded {D C E : Type 0} (view : D → DiskView) (R : Relation C) (plan : Plan) (disk : D) (c d : C) (a b : Option (List ℕ))
-    (nothing : Type 0) (said : E → Option (List ℕ)) (old new : E) (ending : Ending) : Type 0 where
-  pub answer : EvaluationAnswer
+-- whether it came to its end, or its fault
+abbrev pub whole_end : EvaluationAnswer → ProgramAnswer
+whole_end (Ok end) = Ok true
+whole_end (Err why) = Err why
+
+-- What `eval` answers on a disk between what stands first and last, and what it has written and done then; `nothing` says that it wrote
+-- nothing and called no child.
+pub record EvaluatesTo {D C : Type 0} (o : Setting C) (view : D → DiskView) (disk : D) (c d : C) (a b : Option (List ℕ)) (nothing : Type 0) (answer : EvaluationAnswer) : Type 0 where
   -- the disk that it gives back is the same one, after the evaluation
-  pub evaluated : IfOk answer (λ end. (back : D) × SameDisk (view disk) (view back) × EvaluationDone R plan (view disk) c d a b (view back) end.stopped end.tally)
+  pub evaluated : IfOk answer (λ end. (back : D) × SameDisk (view disk) (view back) × EvaluationDone o (view disk) c d a b (view back) end.stopped_at end.counts)
   -- that the disk failed, at the opening or later, is told only where it did
   pub unopened : IsErrOf answer (fault.Open opens.Disk) → FailedSince view disk
   pub failed : IsErrOf answer (fault.Host hosts.Disk) → FailedSince view disk
-  pub fault : IfErr answer (TellsEvaluation R plan (view disk) c d a b nothing)
+  pub fault : IfErr answer (TellsEvaluation o (view disk) c d a b nothing)
+
+-- What `eval` answers on a disk, and what it has written and done then.
+pub data EvalAnswer {D C O : Type 0} (o : Setting C) (view : D → DiskView) (disk : D) (c d : C) (contents : O → Option (List ℕ)) (old new : O) (answer : EvaluationAnswer) : Type 0 where
+  -- it greeted, and evaluated; where it came to its end that was told last
+  evaluated : (first last : O) → Framed o.voice contents frame.Hello old first
+      → EvaluatesTo o view disk c d (contents first) (contents last) ((last ≡ first) × (d ≡ c)) answer
+      → IfOk answer (λ end. Framed o.voice contents frame.End last new) → IfErr answer (λ why. new ≡ last)
+      → EvalAnswer o view disk c d contents old new answer
+  -- what stands first couldn't be told, and nothing was done
+  ungreeted : (why : RunFault) → answer ≡ Err why → o.voice.takes_memory ≡ true → IsUntold o.voice why → d ≡ c → EvalAnswer o view disk c d contents old new answer
+  -- what stands last couldn't be told
+  unended : (why : RunFault) (first last : O) (end : EvalEnd) → answer ≡ Err why → o.voice.takes_memory ≡ true → IsUntold o.voice why → Framed o.voice contents frame.Hello old first
+      → EvaluatesTo o view disk c d (contents first) (contents last) ((last ≡ first) × (d ≡ c)) (Ok end)
+      → EvalAnswer o view disk c d contents old new answer
+
+-- What `eval` comes to on a disk, from children c to d, and how it ends.
+pub record EvaluationEnded {D C O E : Type 0} (o : Setting C) (view : D → DiskView) (disk : D) (c d : C) (contents : O → Option (List ℕ)) (first last : O)
+    (said : E → Option (List ℕ)) (old new : E) (ending : Ending) : Type 0 where
+  pub answer : EvaluationAnswer
+  pub mid : O
+  pub answered : EvalAnswer o view disk c d contents first mid answer
+  pub last_told : LastTold o.voice contents mid last ending.told (whole_end answer)
   pub status : ending.status ≡ evaluation_status answer
   pub told : TellsStop said old new ending.told (stop_of answer)

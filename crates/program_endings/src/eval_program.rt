@@ -1,87 +1,175 @@
 //! The program `eval` over a worksheet's files, from its files on.
-ghost use Rattle.std.specs.Prelude.{◌≡◌, Err, IfErr, IfOk};
+ghost use Rattle.std.specs.Prelude.{◌≡◌, Err, IfErr, IfOk, []};
+ghost use Rattle.evaluation.specs.Steps.{setting};
 ghost use Rattle.program_endings.specs.Ending.{TellsFault};
-ghost use Rattle.program_endings.specs.EvalProgram.{EvaluationEnded, answer_of_evaluation, evaluation_status, stop_of, tally_status};
+ghost use Rattle.program_endings.specs.EvalProgram.{EvalAnswer, EvaluatesTo, EvaluationEnded, answer_of_evaluation, are_none_over, counts_status, evaluation_status, stop_of, whole_end};
 ghost use Rattle.program_endings.specs.Faults as printed;
+ghost use Rattle.program_endings.specs.LiveProgram.{LastTold};
 ghost use Rattle.program_endings.specs.StrictProgram.{TellsStop};
 
+use crate::Ending;
 use crate::ending::ended;
+use crate::live_program::end_told;
 use crate::telling::no_files;
-use crate::{Ending, end_program};
-use child_calls::Children;
+use arrivals::Sources;
 use disk_model::Disk;
+use evaluation::{Evaluated, Plan, evaluate};
 use offline_programs::RunFault;
 use sheet_files::FilesFault;
-use sheet_programs::{Evaluated, Plan, Tally, evaluate};
 use std::alloc::Global;
 use std::io::Write;
+use tellings::{Counts, Frame, Overs, Tells};
 
-/// The status where an evaluation came to its end.
-fn status_by(tally: Tally) -> u8
-    ensures { result ≡ tally_status tally }
-{
-    if tally.unanswered == 0 { 0 } else { 1 }
+/// Where an evaluation came to its end.
+#[derive(Clone, Copy, Debug, PartialEq, Eq)]
+pub struct EvalEnd {
+    /// The line behind which it stopped, where it did.
+    pub stopped_at: Option<u64>,
+    /// What it came to.
+    pub counts: Counts,
 }
 
-/// Ends the program by where an evaluation stopped, which is told on a line, by its counts, or by its
-/// fault.
-fn end_evaluation<D: Disk, E: Write>(
-    answer: Result<Evaluated<D>, RunFault>,
-    errors: &mut E,
-) -> Ending
-    ensures status { result.status ≡ evaluation_status (answer_of_evaluation answer) }
-    ensures told { TellsStop E.contents errors.old errors.new result.told
-        (stop_of (answer_of_evaluation answer)) }
+/// Whether no field's time was over, and none was passed over.
+fn are_none(overs: Option<Overs>) -> bool
+    ensures { result ≡ are_none_over overs }
 {
-    match answer {
-        Ok(done) => match done.stopped_at {
-            None => ended(status_by(done.tally), true),
-            Some(number) => ended(3, writeln!(errors, "stopped at line {number}").is_ok()),
-        },
-        Err(fault) => end_program(Err(fault), errors),
+    match overs {
+        None => true,
+        Some(overs) => overs.over == 0 && overs.passed == 0,
+    }
+}
+
+/// The status where an evaluation came to its end.
+fn status_by(counts: Counts) -> u8
+    ensures { result ≡ counts_status counts }
+{
+    if counts.unanswered == 0 && are_none(counts.overs) {
+        0
+    } else {
+        1
+    }
+}
+
+/// The answer of an evaluation that gave its disk back, which is dropped, or had a fault.
+fn answered<D: Disk>(done: Result<Evaluated<D>, RunFault>) -> Result<EvalEnd, RunFault>
+    ensures { result ≡ answer_of_evaluation done }
+{
+    match done {
+        Ok(done) => Ok(EvalEnd {
+            stopped_at: done.stopped_at,
+            counts: done.counts,
+        }),
+        Err(fault) => Err(fault),
     }
 }
 
 /// Evaluates the fields of the worksheet on a disk, and drops the disk at the end.
-fn evaluate_on<W: Write, E: Write, D: Disk, C: Children>(
+fn evaluate_on<W: Write, D: Disk, S: Sources, T: Tells>(
     alloc: Global,
     plan: Plan,
+    tells: &T,
+    output: &mut W,
+    disk: D,
+    sources: &mut S,
+) -> Result<EvalEnd, RunFault>
+    ensures { EvaluatesTo (setting T.voice S.after S.clock S.wakes plan []) D.view disk sources.old sources.new
+        (W.contents output.old) (W.contents output.new)
+        ((output.new ≡ output.old) × (sources.new ≡ sources.old)) result }
+{
+    answered(evaluate(alloc, plan, tells, output, disk, sources))
+}
+
+/// The same, between what stands first and what stands last.
+fn evaluate_framed<W: Write, D: Disk, S: Sources, T: Tells>(
+    alloc: Global,
+    plan: Plan,
+    tells: &T,
+    output: &mut W,
+    disk: D,
+    sources: &mut S,
+) -> Result<EvalEnd, RunFault>
+    ensures { EvalAnswer (setting T.voice S.after S.clock S.wakes plan []) D.view disk sources.old sources.new
+        W.contents output.old output.new result }
+{
+    if let Err(fault) = tells.frame(Frame::Hello, output) {
+        return Err(fault);
+    }
+    match evaluate_on(alloc, plan, tells, output, disk, sources) {
+        Ok(end) => match tells.frame(Frame::End, output) {
+            Ok(()) => Ok(end),
+            Err(fault) => Err(fault),
+        },
+        Err(fault) => Err(fault),
+    }
+}
+
+/// Ends the program where an evaluation came to its end: where it stopped is told on a line.
+fn end_evaluated<E: Write>(end: EvalEnd, errors: &mut E) -> Ending
+    ensures status { result.status ≡ evaluation_status (Ok end) }
+    ensures told { TellsStop E.contents errors.old errors.new result.told (Ok end.stopped_at) }
+{
+    match end.stopped_at {
+        None => ended(status_by(end.counts), true),
+        Some(number) => ended(3, writeln!(errors, "stopped at line {number}").is_ok()),
+    }
+}
+
+/// Ends the program by what it answered: a fault is told on both streams.
+fn end_evaluation<W: Write, E: Write, T: Tells>(
+    answer: Result<EvalEnd, RunFault>,
+    tells: &T,
+    output: &mut W,
+    errors: &mut E,
+) -> Ending
+    ensures last { LastTold T.voice W.contents output.old output.new result.told (whole_end answer) }
+    ensures status { result.status ≡ evaluation_status answer }
+    ensures told { TellsStop E.contents errors.old errors.new result.told (stop_of answer) }
+{
+    match answer {
+        Ok(end) => end_evaluated(end, errors),
+        Err(fault) => end_told(Err(fault), tells, output, errors),
+    }
+}
+
+/// Evaluates the fields of the worksheet on a disk, and tells how that ended.
+fn end_on<W: Write, E: Write, D: Disk, S: Sources, T: Tells>(
+    alloc: Global,
+    plan: Plan,
+    tells: &T,
     output: &mut W,
     errors: &mut E,
     disk: D,
-    children: &mut C,
+    sources: &mut S,
 ) -> Ending
-    ensures { EvaluationEnded D.view C.after plan disk children.old children.new
-        (W.contents output.old) (W.contents output.new)
-        ((output.new ≡ output.old) × (children.new ≡ children.old))
-        E.contents errors.old errors.new result }
+    ensures { EvaluationEnded (setting T.voice S.after S.clock S.wakes plan []) D.view disk sources.old sources.new
+        W.contents output.old output.new E.contents errors.old errors.new result }
 {
-    let answer = evaluate(alloc, plan, output, disk, children);
-    end_evaluation(answer, errors)
+    let answer = evaluate_framed(alloc, plan, tells, output, disk, sources);
+    end_evaluation(answer, tells, output, errors)
 }
 
 /// The whole program `eval` on its files, or on why they weren't opened: what comes of each field goes to
-/// `output`, each line flushed, and the counts at the end. The line of a fault goes to `errors`, and so
+/// `output`, brought out at once, and the counts at the end. The line of a fault goes to `errors`, and so
 /// does that of the place where a strict evaluation stopped.
-pub fn run_evaluation<W: Write, E: Write, D: Disk, C: Children>(
+pub fn run_evaluation<W: Write, E: Write, D: Disk, S: Sources, T: Tells>(
     alloc: Global,
     plan: Plan,
+    tells: &T,
     output: &mut W,
     errors: &mut E,
     files: Result<D, FilesFault>,
-    children: &mut C,
+    sources: &mut S,
 ) -> Ending
-    ensures unopened { IfErr files (λ why. (output.new ≡ output.old) × (children.new ≡ children.old)
+    ensures unopened { IfErr files (λ why. (sources.new ≡ sources.old)
+        × LastTold T.voice W.contents output.old output.new result.told (Err (printed.no_files why))
         × (result.status ≡ 1)
         × TellsFault E.contents errors.old errors.new result.told (Err (printed.no_files why))) }
 
-    ensures files { IfOk files (λ disk. EvaluationEnded D.view C.after plan disk
-        children.old children.new (W.contents output.old) (W.contents output.new)
-        ((output.new ≡ output.old) × (children.new ≡ children.old))
-        E.contents errors.old errors.new result) }
+    ensures files { IfOk files (λ disk. EvaluationEnded (setting T.voice S.after S.clock S.wakes plan []) D.view disk
+        sources.old sources.new W.contents output.old output.new E.contents errors.old errors.new result) }
 {
     match files {
-        Ok(disk) => evaluate_on(alloc, plan, output, errors, disk, children),
-        Err(why) => end_program(Err(no_files(why)), errors),
+        Ok(disk) => end_on(alloc, plan, tells, output, errors, disk, sources),
+        Err(why) => end_told(Err(no_files(why)), tells, output, errors),
     }
 }

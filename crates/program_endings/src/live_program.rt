@@ -76,7 +76,7 @@ fn tell_last<W: Write, T: Tells>(answer: Result<bool, RunFault>, tells: &T, outp
 }
 
 /// Ends the program by what it answered: a fault is told on both streams.
-fn end_told<W: Write, E: Write, T: Tells>(
+pub(crate) fn end_told<W: Write, E: Write, T: Tells>(
     answer: Result<bool, RunFault>,
     tells: &T,
     output: &mut W,

@@ -2,4 +2,3 @@ pub mod Stricts
 pub mod Runs
 pub mod Commands
 pub mod Heard
-pub mod Evaluations

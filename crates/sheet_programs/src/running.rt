@@ -36,7 +36,7 @@ pub struct Ran<D: Disk> {
 }
 
 /// Does the lines of a script, and stops each life that goes on then.
-pub(crate) fn run_on_host<D: Disk, C: Children, W: Write>(
+fn run_on_host<D: Disk, C: Children, W: Write>(
     alloc: Global,
     host: &mut Host<D>,
     children: &mut C,

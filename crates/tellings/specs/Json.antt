@@ -42,6 +42,8 @@ note_json (note.Bad line) = telling_line (told.reply line told.bad)
 note_json (note.Nothing line) = telling_line (told.reply line told.nothing)
 note_json (note.Waited line timed) = telling_line (told.reply line (told.waited timed))
 note_json (note.Interrupted line name told_of) = interrupt_json line told_of
+note_json (note.Over line id told_of) = interrupt_json line told_of
+note_json (note.Counted counts) = []
 
 -- what is told of a life, if anything
 abbrev pub event_line : List ℕ → ℕ → Option EventTold → List ℕ

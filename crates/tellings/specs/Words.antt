@@ -1,4 +1,5 @@
 -- What is told, in words. (docs/SCRIPT.md, "Live".)
+use Rattle.std.specs.Fmt.{decimal}
 use Rattle.std.specs.Prelude.{ℕ, false, List, [], ◌∷◌, ◌++◌, Option, Some, None, codes}
 use Rattle.worksheet.specs.Checks.{field_in}
 use Rattle.worksheet.specs.declared.field.Field.{Field}
@@ -9,8 +10,10 @@ use Rattle.child_edge.specs.declared.interrupting.Interrupted.TheVariants as int
 use Rattle.sheet_text.specs.Texts.{field_text, refused_line, reply_text, sheet_text}
 use Rattle.offline_programs.specs.Memory.{bad_line}
 use Rattle.tellings.specs.Voice.{Voice}
+use Rattle.tellings.specs.declared.note.Counts.{Counts}
 use Rattle.tellings.specs.declared.note.Note.{Note}
 use Rattle.tellings.specs.declared.note.Note.TheVariants as note
+use Rattle.tellings.specs.declared.note.Overs.{Overs}
 
 -- one field in print, or that there is none
 abbrev pub field_shown : Option Field → List ℕ
@@ -24,12 +27,30 @@ interrupt_text name interrupted.Idle = codes "idle " ++ name ++ 10 ∷ []
 interrupt_text name interrupted.Sent = codes "interrupted " ++ name ++ 10 ∷ []
 interrupt_text name interrupted.Failed = codes "failed " ++ name ++ 10 ∷ []
 
+-- the last line of an evaluation that has a limit of time
+abbrev pub overs_text : Option Overs → List ℕ
+overs_text None = []
+overs_text (Some overs) = codes "over " ++ decimal overs.over ++ codes " passed " ++ decimal overs.passed ++ 10 ∷ []
+
+abbrev pub answers_text : Counts → List ℕ
+answers_text counts = codes "answered " ++ decimal counts.answered ++ codes " unanswered " ++ decimal counts.unanswered ++ 10 ∷ []
+
+-- what an evaluation came to: how many fields of the worksheet show an answer, and what its limit of time came to
+abbrev pub evaluation_text : Counts → List ℕ
+evaluation_text counts = answers_text counts ++ overs_text counts.overs
+
+-- the time of the field with this number is over
+abbrev pub over_line : ℕ → List ℕ
+over_line id = codes "over " ++ decimal id ++ 10 ∷ []
+
 -- of a remark and of the end of a wait nothing is told
 abbrev pub note_words : Note → List ℕ
 note_words (note.Bad line) = bad_line line
 note_words (note.Nothing line) = []
 note_words (note.Waited line timed) = []
 note_words (note.Interrupted line name told) = interrupt_text name told
+note_words (note.Over line id told) = over_line id
+note_words (note.Counted counts) = evaluation_text counts
 
 -- Words that people read: the number of a line is told of a bad line alone, and a fault is told elsewhere.
 abbrev pub in_words : Voice

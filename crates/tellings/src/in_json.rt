@@ -244,6 +244,8 @@ fn write_note<W: Write>(alloc: Global, note: Note, writer: &mut W) -> Result<(),
         Note::Nothing(line) => write_made(alloc, nothing_value(alloc, line), writer),
         Note::Waited(line, timed) => write_made(alloc, waited_value(alloc, line, timed), writer),
         Note::Interrupted(line, _, told) => write_interrupt(alloc, line, told, writer),
+        Note::Over(line, _, told) => write_interrupt(alloc, line, told, writer),
+        Note::Counted(_) => Ok(()),
     }
 }
 

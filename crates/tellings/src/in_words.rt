@@ -3,9 +3,9 @@ ghost use Rattle.std.specs.Prelude.{◌≡◌, ◌++◌, ◌∷◌, [], IfErr, O
 ghost use Rattle.std.specs.Option.{option_copied};
 ghost use Rattle.std.specs.Io.KnownBytes.{Appends};
 ghost use Rattle.worksheet.specs.Checks.{field_in};
-ghost use Rattle.tellings.specs.Words.{field_shown, interrupt_text};
+ghost use Rattle.tellings.specs.Words.{answers_text, evaluation_text, field_shown, interrupt_text, over_line, overs_text};
 
-use crate::{Frame, Note, Tells};
+use crate::{Counts, Frame, Note, Overs, Tells};
 use child_edge::Interrupted;
 use disk_model::Disk;
 use host_events::Reply;
@@ -83,6 +83,56 @@ fn tell_interrupt<W: Write>(name: Name, told: Interrupted, writer: &mut W) -> Re
     Ok(())
 }
 
+/// Tells that the time of a field is over, and brings it out.
+fn tell_over<W: Write>(id: u32, writer: &mut W) -> Result<(), RunFault>
+    ensures ok { OnOk result (Appends (W.contents writer.old) (W.contents writer.new) (over_line id)) }
+    ensures err { IfErr result (λ fault. fault ≡ RunFault.Output) }
+{
+    writeln!(writer, "over {id}").map_err(|_| RunFault::Output)?;
+    writer.flush().map_err(|_| RunFault::Output)?;
+    Ok(())
+}
+
+/// Writes how many fields show an answer.
+fn write_answers<W: Write>(counts: Counts, writer: &mut W) -> Result<(), RunFault>
+    ensures ok { OnOk result (Appends (W.contents writer.old) (W.contents writer.new)
+        (answers_text counts)) }
+    ensures err { IfErr result (λ fault. fault ≡ RunFault.Output) }
+{
+    let Counts {
+        answered,
+        unanswered,
+        overs: _,
+    } = counts;
+    writeln!(writer, "answered {answered} unanswered {unanswered}").map_err(|_| RunFault::Output)?;
+    Ok(())
+}
+
+/// Writes what a limit of time came to, where there was one.
+fn write_overs<W: Write>(overs: Option<Overs>, writer: &mut W) -> Result<(), RunFault>
+    ensures ok { OnOk result (Appends (W.contents writer.old) (W.contents writer.new)
+        (overs_text overs)) }
+    ensures err { IfErr result (λ fault. fault ≡ RunFault.Output) }
+{
+    let Some(Overs { over, passed }) = overs else {
+        return Ok(());
+    };
+    writeln!(writer, "over {over} passed {passed}").map_err(|_| RunFault::Output)?;
+    Ok(())
+}
+
+/// Tells what an evaluation came to, and brings it out.
+fn tell_counts<W: Write>(counts: Counts, writer: &mut W) -> Result<(), RunFault>
+    ensures ok { OnOk result (Appends (W.contents writer.old) (W.contents writer.new)
+        (evaluation_text counts)) }
+    ensures err { IfErr result (λ fault. fault ≡ RunFault.Output) }
+{
+    write_answers(counts, writer)?;
+    write_overs(counts.overs, writer)?;
+    writer.flush().map_err(|_| RunFault::Output)?;
+    Ok(())
+}
+
 impl Tells for InWords {
     ghost use Rattle.tellings.specs.Words.{in_words};
 
@@ -97,6 +147,8 @@ impl Tells for InWords {
             Note::Bad(line) => tell_bad_line(line, writer),
             Note::Nothing(_) | Note::Waited(_, _) => Ok(()),
             Note::Interrupted(_, name, told) => tell_interrupt(name, told, writer),
+            Note::Over(_, id, _) => tell_over(id, writer),
+            Note::Counted(counts) => tell_counts(counts, writer),
         }
     }
 

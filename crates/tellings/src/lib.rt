@@ -12,5 +12,5 @@ mod writing;
 
 pub use in_json::InJson;
 pub use in_words::InWords;
-pub use note::{Frame, Note};
+pub use note::{Counts, Frame, Note, Overs};
 pub use tells::Tells;

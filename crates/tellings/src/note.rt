@@ -11,6 +11,26 @@ pub enum Frame {
     End,
 }
 
+/// What a limit of time came to in an evaluation.
+#[derive(Clone, Copy, Debug, PartialEq, Eq)]
+pub struct Overs {
+    /// For how many fields the time was over.
+    pub over: u64,
+    /// How many fields were passed over.
+    pub passed: u64,
+}
+
+/// What an evaluation came to.
+#[derive(Clone, Copy, Debug, PartialEq, Eq)]
+pub struct Counts {
+    /// How many fields of the worksheet show an answer.
+    pub answered: usize,
+    /// How many don't.
+    pub unanswered: usize,
+    /// What its limit of time came to, where it had one.
+    pub overs: Option<Overs>,
+}
+
 /// What is told of a line, or of a wait that it began, apart from replies. The number of the line, from 1, is first.
 #[derive(Clone, Copy, Debug, PartialEq, Eq)]
 pub enum Note {
@@ -22,4 +42,8 @@ pub enum Note {
     Waited(u64, bool),
     /// It asked for an interrupt of the interpreter of this session, and this came of it.
     Interrupted(u64, Name, Interrupted),
+    /// The time of the field with this number is over; its interpreter was interrupted, and this came of it.
+    Over(u64, u32, Interrupted),
+    /// An evaluation came to its end.
+    Counted(Counts),
 }

@@ -5,7 +5,7 @@ use Rattle.child_edge.proofs.Faulting.{same-at, same-on}
 use Rattle.arrivals.specs.Held.{to_come}
 use Rattle.live.specs.Arrivals.{place}
 use Rattle.live.specs.Live.{begin_at}
-use Rattle.live.specs.inside.Taking.{Steps}
+use Rattle.live.specs.Taking.{Steps}
 use Rattle.live.proofs.Goings.{none_lived, none_came, one_lived, one_came, all_lived, living_failed, too_many}
 use Rattle.live.specs.declared.holding.Hold.TheVariants as hold
 use Rattle.live.proofs.living.live_on.Goals as goal

@@ -5,7 +5,7 @@ use Rattle.child_edge.specs.Faithful.{at}
 use Rattle.sheet_text.specs.declared.script.ScriptLine.TheVariants as line
 use Rattle.sheet_text.specs.declared.live_line.LiveLine.TheVariants as live
 use Rattle.tellings.specs.Voice.{replied_text}
-use Rattle.live.specs.inside.Taking.{SayingFailed}
+use Rattle.live.specs.Taking.{SayingFailed}
 use Rattle.live.proofs.Said.{command_untold, command_broke, command_broke_untold}
 use Rattle.live.proofs.saying.say_command.Goals as goal
 

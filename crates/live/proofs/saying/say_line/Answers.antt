@@ -4,7 +4,7 @@ use Rattle.std.proofs.KnownBytes.{Appends-nil}
 use Rattle.child_edge.specs.Faithful.{at}
 use Rattle.tellings.specs.declared.note.Note.TheVariants as note
 use Rattle.live.specs.declared.holding.Hold.TheVariants as hold
-use Rattle.live.specs.inside.Taking.{Said, SayingFailed}
+use Rattle.live.specs.Taking.{Said, SayingFailed}
 use Rattle.live.proofs.Said.{said_still, still_unwritten, wants_command}
 use Rattle.live.proofs.saying.say_line.Goals as goal
 

@@ -6,7 +6,7 @@ use Rattle.sheet_text.specs.declared.live_line.LiveLine.TheVariants as live
 use Rattle.child_edge.specs.Faithful.{at}
 use Rattle.tellings.specs.declared.note.Note.TheVariants as note
 use Rattle.live.specs.declared.holding.Hold.TheVariants as hold
-use Rattle.live.specs.inside.Taking.{Said, SayingFailed}
+use Rattle.live.specs.Taking.{Said, SayingFailed}
 use Rattle.live.proofs.Said.{said_still, still_unwritten}
 use Rattle.live.proofs.saying.say_script.Goals as goal
 

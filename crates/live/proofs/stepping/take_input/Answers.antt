@@ -7,7 +7,7 @@ use Rattle.std.proofs.KnownBytes.{Appends-nil}
 use Rattle.tellings.specs.declared.note.Note.TheVariants as note
 use Rattle.live.specs.declared.holding.Hold.TheVariants as hold
 use Rattle.live.specs.Arrivals.{line as the_line, place}
-use Rattle.live.specs.inside.Taking.{TakesLines}
+use Rattle.live.specs.Taking.{TakesLines}
 use Rattle.arrivals.specs.declared.sources.Woken.TheVariants as woken
 use Rattle.live.proofs.Said.{still_unwritten}
 use Rattle.live.proofs.Turns.{line_failed, line_took}

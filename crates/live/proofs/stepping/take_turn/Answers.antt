@@ -4,7 +4,7 @@ use Rattle.child_edge.specs.Faithful.{at}
 use Rattle.arrivals.specs.Held.{to_come}
 use Rattle.arrivals.specs.declared.sources.Woken.TheVariants as woken
 use Rattle.live.specs.Arrivals.{life, time_over, place}
-use Rattle.live.specs.inside.Taking.{MayTurn, TurnFailed, TurnTook}
+use Rattle.live.specs.Taking.{MayTurn, TurnFailed, TurnTook}
 use Rattle.live.proofs.Coming.{keeps_all, turn_failed}
 use Rattle.live.proofs.stepping.take_turn.Goals as goal
 

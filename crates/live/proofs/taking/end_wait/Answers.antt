@@ -4,7 +4,7 @@ use Rattle.std.proofs.lemmas.Result.{on_ok_weaker}
 use Rattle.child_edge.specs.Faithful.{at}
 use Rattle.sheet_programs.proofs.Runs.{if_err_then}
 use Rattle.live.specs.Arrivals.{place}
-use Rattle.live.specs.inside.Taking.{Stalled, StallingFailed}
+use Rattle.live.specs.Taking.{Stalled, StallingFailed}
 use Rattle.live.proofs.Turns.{time_failed, time_took, time_untold}
 use Rattle.live.proofs.taking.end_wait.Goals as goal
 

@@ -4,7 +4,7 @@ use Rattle.std.specs.Io.KnownBytes.{Appends}
 use Rattle.child_edge.specs.Edge.{Ran}
 use Rattle.child_edge.specs.Faithful.{at, Taken}
 use Rattle.tellings.specs.Voice.{came_text}
-use Rattle.live.specs.inside.Taking.{HearingFailed}
+use Rattle.live.specs.Taking.{HearingFailed}
 use Rattle.live.proofs.Turns.{heard_unwritten, heard_failed, heard, TurnGave, TurnBroke}
 use Rattle.live.proofs.taking.hear.Goals as goal
 

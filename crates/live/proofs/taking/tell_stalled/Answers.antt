@@ -5,7 +5,7 @@ use Rattle.child_edge.specs.Broken.{TurnSoFar, TurnStopped}
 use Rattle.child_edge.specs.Edge.{BrokeOff, ByCause, Ran}
 use Rattle.child_edge.specs.Faithful.{at, EachOf, Taken}
 use Rattle.tellings.specs.Voice.{came_text}
-use Rattle.live.specs.inside.Taking.{StallingFailed}
+use Rattle.live.specs.Taking.{StallingFailed}
 use Rattle.live.proofs.Turns.{stalling_unwritten, stalling_failed, stalled}
 use Rattle.live.proofs.taking.tell_stalled.Goals as goal
 

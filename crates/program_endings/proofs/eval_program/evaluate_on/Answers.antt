@@ -1,8 +1,14 @@
-use Rattle.program_endings.proofs.Answering.{evaluation_ended}
+use Rattle.std.proofs.Common.{◌≡◌, [], sym, subst}
+use Rattle.evaluation.specs.Steps.{setting}
+use Rattle.program_endings.specs.EvalProgram.{EvaluatesTo}
+use Rattle.program_endings.proofs.Answering.{evaluation_answered}
 use Rattle.program_endings.proofs.eval_program.evaluate_on.Goals as goal
 
 pub returns : goal.returns
 returns g c =
-    evaluation_ended g.D.Disk.view g.C.Children.after c.args.plan c.args.disk c.args.children.now c.evaluate-answer.new.children (g.W.Write.contents c.args.output.now) (g.W.Write.contents c.evaluate-answer.new.writer) _
-    g.E.Write.contents c.args.errors.now c.end_evaluation.new.errors c.end_evaluation.result c.evaluate-answer.result c.evaluate-answer.ensures.evaluated c.evaluate-answer.ensures.same c.evaluate-answer.ensures.fault
-    c.evaluate-answer.ensures.unopened c.evaluate-answer.ensures.failed c.end_evaluation.ensures.status c.end_evaluation.ensures.told
+    subst
+    (EvaluatesTo (setting g.T.Tells.voice g.S.Children.after g.S.Sources.clock g.S.Sources.wakes c.args.plan []) g.D.Disk.view c.args.disk c.args.sources.now c.evaluate.new.sources (g.W.Write.contents c.args.output.now) (g.W.Write.contents c.evaluate.new.writer)
+    ((c.evaluate.new.writer ≡ c.args.output.now) × (c.evaluate.new.sources ≡ c.args.sources.now)))
+    (sym c.answered.ensures)
+    (evaluation_answered (setting g.T.Tells.voice g.S.Children.after g.S.Sources.clock g.S.Sources.wakes c.args.plan []) g.D.Disk.view c.args.disk c.args.sources.now c.evaluate.new.sources (g.W.Write.contents c.args.output.now) (g.W.Write.contents c.evaluate.new.writer) _
+    c.evaluate.result c.evaluate.ensures.evaluated c.evaluate.ensures.same c.evaluate.ensures.fault c.evaluate.ensures.unopened c.evaluate.ensures.failed)

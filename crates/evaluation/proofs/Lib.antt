@@ -1,0 +1,4 @@
+pub mod Meaning
+pub mod Taking
+pub mod Goings
+pub mod Ends

@@ -1,0 +1,158 @@
+-- What came of a step.
+use Rattle.std.proofs.Common.{◌≡◌, ◌+◌, inl, inr, ℕ, true, false, List, [], ◌∷◌, ◌++◌, Option, Some, None, refl, ap, sym, ◌∙◌, subst}
+use Rattle.std.specs.Prelude.{◌≢◌}
+use Rattle.disk_model.specs.Disk.{DiskView}
+use Rattle.host_events.specs.declared.command.Command.TheVariants as command
+use Rattle.session_engine.specs.World.{World, sheet_in}
+use Rattle.session_engine.specs.Host.{HostView, IsHost}
+use Rattle.child_calls.specs.declared.seat.Seat.{Seat}
+use Rattle.child_edge.specs.Faithful.{At, at, Beat, EachOf, Taken}
+use Rattle.child_edge.specs.Seats.{waits}
+use Rattle.child_edge.specs.Told.{told}
+use Rattle.arrivals.specs.declared.sources.Woken.{Woken}
+use Rattle.arrivals.specs.declared.sources.Woken.TheVariants as woken
+use Rattle.sheet_text.specs.declared.script.ScriptLine.TheVariants as line
+use Rattle.sheet_text.specs.declared.live_line.LiveLine.{LiveLine}
+use Rattle.sheet_text.specs.declared.live_line.LiveLine.TheVariants as live
+use Rattle.offline_programs.specs.declared.fault.RunFault.{RunFault}
+use Rattle.offline_programs.specs.declared.fault.RunFault.TheVariants as fault
+use Rattle.tellings.specs.Voice.{IsUntold, came_text}
+use Rattle.live.specs.declared.holding.Hold.{Hold}
+use Rattle.live.specs.declared.holding.Hold.TheVariants as hold
+use Rattle.live.specs.Saying.{WaitGoesOn}
+use Rattle.live.specs.Arrivals.{time_over}
+use Rattle.live.specs.Taking.{TurnComes, Heard, HeardLed, HeardUnwritten, HearingFailed, Said, SaidLed, SaidUnwritten, SayingFailed, Stalled, StallingLed, StalledUnwritten, StallingFailed}
+use Rattle.live.specs.Taking as lives
+use Rattle.live.proofs.Coming.{comes_by, told_life}
+use Rattle.evaluation.specs.declared.plan.Stand.{Stand}
+use Rattle.evaluation.specs.Meant.{IsAsked, line_behind}
+use Rattle.evaluation.specs.Steps.{Setting, EvalPlace, Step, ask, heard, over, stalled, LimitBegins, StepComes, TakesStep, asked_at, fields_at, held_at, stands, step_text, woken_in}
+use Rattle.evaluation.specs.Broken.{StepLed, StepSoFar, StepUpTo}
+use Rattle.evaluation.specs.Broken as broken
+use Rattle.evaluation.specs.inside.Stepping.{CameFailed, IsOf, IsTimeOf, StepFailed, StepTook, TakingFailed, Took, TookUnwritten, TurnFailed, Turned}
+
+module _ {C : Type 0} (o : Setting C) (p : EvalPlace C) (h : HostView) (c : C) (a b : Option (List ℕ)) where
+  -- what came of a step and couldn't be told
+  pub took_untold : (s : Step) (f : RunFault) → IsUntold o.voice f → TookUnwritten o p s h c → TakingFailed o p s h c a b f
+  took_untold s fault.Output why q = q
+  took_untold s fault.OutOfMemory why q = inr (why, q)
+  took_untold s fault.Input why q = absurd why
+  took_untold s fault.InputTooLong why q = absurd why
+  took_untold s (fault.Open y) why q = absurd why
+  took_untold s fault.InUse why q = absurd why
+  took_untold s (fault.Host y) why q = absurd why
+
+  -- A life.
+
+  life-whole : (seat : Seat) (beats : List Beat) (t : At C) → Taken o.after true None seat p.run beats t → StepLed o p (heard seat) beats t
+  life-whole seat beats t q =
+      broken.whole (came_text o.voice (sheet_in t.world) (told beats)) (q, refl)
+
+  led-life : (seat : Seat) (t : At C) → HeardLed o.after seat p.run t → (beats : List Beat) × StepLed o p (heard seat) beats t
+  led-life seat t (lives.all beats q) = (beats, life-whole seat beats t q)
+  led-life seat t (lives.up_to beats e q) = (beats, broken.up_to e q)
+  led-life seat t (lives.none q) = ([], broken.so_far (refl, q))
+
+  life-unwritten : (seat : Seat) → HeardUnwritten o.after seat p.run h c → TookUnwritten o p (heard seat) h c
+  life-unwritten seat q = let led = led-life seat (at q.0 c q.1) q.2 in (led.0, q.0, q.1, led.1, q.3)
+
+  pub life_failed : (seat : Seat) (f : RunFault) → HearingFailed o.voice o.after seat p.run h c a b f → TakingFailed o p (heard seat) h c a b f
+  life_failed seat (fault.Host f) q = q
+  life_failed seat fault.OutOfMemory (inl q) = inl ([], q.0, (refl, q.1), q.2, q.3)
+  life_failed seat fault.OutOfMemory (inr q) = inr (q.0, life-unwritten seat q.1)
+  life_failed seat fault.Output q = life-unwritten seat q
+  life_failed seat fault.Input q = absurd q
+  life_failed seat fault.InputTooLong q = absurd q
+  life_failed seat (fault.Open why) q = absurd q
+  life_failed seat fault.InUse q = absurd q
+
+  pub life_took : (seat : Seat) (held : Hold) (stand : Stand) (q : Heard o.voice o.after seat p.run h c a b) → WaitGoesOn p.stand.held q.1 held → stand ≡ held_at p.stand held → Took o p (heard seat) h c a b stand
+  life_took seat held stand q on is = (q.0, came_text o.voice (sheet_in q.1) (told q.0), q.1, ((q.2, refl), (held, on, is)), q.3, q.4)
+
+  -- The two seconds of an interrupted one.
+
+  grace-whole : (beats : List Beat) (t : At C) → EachOf (Taken o.after false None) (waits p.run.world) p.run beats t → StepLed o p stalled beats t
+  grace-whole beats t q = broken.whole (came_text o.voice (sheet_in t.world) (told beats)) (q, refl)
+
+  led-grace : (t : At C) → StallingLed o.after (waits p.run.world) p.run t → (beats : List Beat) × StepLed o p stalled beats t
+  led-grace t (lives.each beats q) = (beats, grace-whole beats t q)
+  led-grace t (lives.first beats q) = (beats, broken.so_far q)
+  led-grace t (lives.up_to beats e q) = (beats, broken.up_to e q)
+
+  grace-unwritten : StalledUnwritten o.after (waits p.run.world) p.run h c → TookUnwritten o p stalled h c
+  grace-unwritten q = let led = led-grace (at q.0 c q.1) q.2 in (led.0, q.0, q.1, led.1, q.3)
+
+  pub grace_failed : (f : RunFault) → StallingFailed o.voice o.after (waits p.run.world) p.run h c a b f → TakingFailed o p stalled h c a b f
+  grace_failed (fault.Host f) q = q
+  grace_failed fault.OutOfMemory (inl q) = inl q
+  grace_failed fault.OutOfMemory (inr q) = inr (q.0, grace-unwritten q.1)
+  grace_failed fault.Output q = grace-unwritten q
+  grace_failed fault.Input q = absurd q
+  grace_failed fault.InputTooLong q = absurd q
+  grace_failed (fault.Open why) q = absurd q
+  grace_failed fault.InUse q = absurd q
+
+  pub grace_took : (stand : Stand) (q : Stalled o.voice o.after (waits p.run.world) p.run h c a b) → stand ≡ held_at p.stand hold.Free → Took o p stalled h c a b stand
+  grace_took stand q is = (q.0, came_text o.voice (sheet_in q.1) (told q.0), q.1, ((q.2, refl), is), q.3, q.4)
+
+  -- A field that is asked.
+
+  module _ (k id : ℕ) (is : IsAsked o.plan (fields_at p) o.meant p.stand k id) where
+    abbrev its-line : Option LiveLine
+    its-line = Some (live.Script (line.Command (command.Eval id)))
+
+    led-ask : (t : At C) → SaidLed o.voice o.after o.clock its-line p.run t → (beats : List Beat) × StepLed o p (ask k id) beats t
+    led-ask t (lives.all begun begins done) = let said = done (line_behind (k + 1)) in (said.0, broken.whole said.1 (is, said.2.0, said.2.1))
+    led-ask t (lives.up_to beats e q) = (beats, broken.up_to e (is, q))
+    led-ask t (lives.none command q) = ([], broken.so_far (is, refl, q))
+
+    ask-unwritten : SaidUnwritten o.voice o.after o.clock its-line p.run h c → TookUnwritten o p (ask k id) h c
+    ask-unwritten q = let led = led-ask (at q.0 c q.1) q.2 in (led.0, q.0, q.1, led.1, q.3)
+
+    pub ask_failed : (f : RunFault) → SayingFailed o.voice o.after o.clock (line_behind (k + 1)) its-line p.run h c a b f → TakingFailed o p (ask k id) h c a b f
+    ask_failed (fault.Host f) q = (q.0, q.1, q.2, q.3, (is, q.4), q.5, q.6)
+    ask_failed fault.OutOfMemory (inl q) = inl ([], q.1, (is, refl, q.2), q.3, q.4)
+    ask_failed fault.OutOfMemory (inr q) = inr (q.0, ask-unwritten q.1)
+    ask_failed fault.Output q = ask-unwritten q
+    ask_failed fault.Input q = absurd q
+    ask_failed fault.InputTooLong q = absurd q
+    ask_failed (fault.Open why) q = absurd q
+    ask_failed fault.InUse q = absurd q
+
+    pub ask_took : (free begun held : Hold) (stand : Stand) (q : Said o.voice o.after o.clock (line_behind (k + 1)) its-line p.run h c a b free) → LimitBegins o.clock c o.plan.limit begun → WaitGoesOn begun q.2 held
+        → stand ≡ asked_at p.stand k id held → Took o p (ask k id) h c a b stand
+    ask_took none begun held stand q limits on is-stand = (q.0, q.1, q.2, ((is, q.3.0, q.3.1), (begun, held, limits, on, is-stand)), q.5, q.6)
+
+-- A turn.
+
+module _ {C : Type 0} (o : Setting C) (p : EvalPlace C) (d : C) where
+  abbrev pub TurnsTo : Woken → Type 0
+  TurnsTo told_of = TurnComes o.clock o.wakes p.stand.held p.run.children false d told_of
+
+  time-comes : (s : Step) → TurnsTo woken.TimeOver → IsTimeOf p.stand s → StepComes o p s d
+  time-comes (ask k id) turn is = absurd is
+  time-comes (heard seat) turn is = absurd is
+  time-comes over turn is = (is, turn.0, comes_by o.clock o.wakes p.stand.held p.run.children false d woken.TimeOver time_over turn tt)
+  time-comes stalled turn is = (is, turn.0, comes_by o.clock o.wakes p.stand.held p.run.children false d woken.TimeOver time_over turn tt)
+
+  pub comes_of : (told_of : Woken) (s : Step) → p.stand.held ≢ hold.Free → TurnsTo told_of → IsOf p.stand told_of s → StepComes o p s d
+  comes_of woken.Input s held turn is = absurd is
+  comes_of (woken.Life seat) s held turn is =
+      subst (λ (x : Step). StepComes o p x d) (sym is) (held, told_life o.clock o.wakes p.stand.held p.run.children false d seat turn.1)
+  comes_of woken.TimeOver s held turn is = time-comes s turn is
+
+  module _ (h : HostView) (c : C) (a b : Option (List ℕ)) where
+    pub came_failed : (s : Step) (f : RunFault) → StepComes o p s d → TakingFailed o (woken_in p d) s h c a b f → StepFailed o p h c a b f
+    came_failed s (fault.Host f) comes q = (s, d, comes, q)
+    came_failed s fault.OutOfMemory comes q = (s, d, comes, q)
+    came_failed s fault.Output comes q = (s, d, comes, q)
+    came_failed s fault.Input comes q = absurd q
+    came_failed s fault.InputTooLong comes q = absurd q
+    came_failed s (fault.Open why) comes q = absurd q
+    came_failed s fault.InUse comes q = absurd q
+
+    pub turn_took : (told_of : Woken) (stand : Stand) → p.stand.held ≢ hold.Free → TurnsTo told_of → Turned o (woken_in p d) told_of h c a b stand → StepTook o p h c a b stand
+    turn_took told_of stand held turn t = (t.0, d, comes_of told_of t.0 held turn t.1, t.2)
+
+    pub turn_failed : (told_of : Woken) (f : RunFault) → p.stand.held ≢ hold.Free → TurnsTo told_of → TurnFailed o (woken_in p d) told_of h c a b f → StepFailed o p h c a b f
+    turn_failed told_of f held turn t = came_failed t.0 f (comes_of told_of t.0 held turn t.1) t.2

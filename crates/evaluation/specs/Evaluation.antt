@@ -1,0 +1,129 @@
+-- The evaluation of a worksheet's fields: what it leaves at its end, and what a fault of it leaves. (docs/SCRIPT.md, "Evaluating a worksheet".)
+use Rattle.std.specs.Prelude.{◌≡◌, ◌⊎◌, ℕ, false, true, List, ◌++◌, Option, None, length}
+use Rattle.std.specs.Io.KnownBytes.{Appends}
+use Rattle.disk_model.specs.Disk.{DiskView, InModel, SameDisk, bytes_on}
+use Rattle.recovery.specs.Sheets.{TellsOfSheet}
+use Rattle.host_events.specs.declared.event.Event.{Event}
+use Rattle.host_events.specs.declared.outcome.HostFault.{HostFault}
+use Rattle.session_engine.specs.World.{World, sheet_in}
+use Rattle.session_engine.specs.Host.{HostView}
+use Rattle.child_edge.specs.Faithful.{At, at, Beat}
+use Rattle.child_edge.specs.Edge.{Stopped}
+use Rattle.child_edge.specs.Moments.{LeavesFronts, LeavesFrontsUpTo}
+use Rattle.child_edge.specs.Seats.{running}
+use Rattle.child_edge.specs.Stops.{Stops}
+use Rattle.sheet_programs.specs.Run.{OpenedOn, RunOf}
+use Rattle.sheet_programs.specs.Told.{LeavesFrontsAnyhow}
+use Rattle.offline_programs.specs.declared.fault.RunFault.{RunFault}
+use Rattle.offline_programs.specs.declared.fault.RunFault.TheVariants as fault
+use Rattle.tellings.specs.declared.note.Counts.{Counts}
+use Rattle.tellings.specs.declared.note.Note.TheVariants as note
+use Rattle.live.specs.declared.holding.Hold.TheVariants as hold
+use Rattle.evaluation.specs.declared.plan.Stand.{Stand}
+use Rattle.evaluation.specs.Meant.{EndsHere, evaluation_counts, meant_in}
+use Rattle.evaluation.specs.Steps.{Setting, EvalPlace, Step, StepsTaken, fields_at, stands}
+use Rattle.evaluation.specs.Broken.{Cut, StepUpTo, StepSoFar, StepLed, Unwatched, TooMany}
+
+-- how the fields are evaluated that are meant in the worksheet of this world
+abbrev pub meaning : {C : Type 0} → Setting C → World → Setting C
+meaning o w = record { voice = o.voice; after = o.after; clock = o.clock; wakes = o.wakes; plan = o.plan; meant = meant_in o.plan.which (sheet_in w).fields }
+
+-- nothing was asked yet
+abbrev pub not_begun : Stand
+not_begun = record { taken = 0; field = 0; held = hold.Free; warned = false; at_once = false; asked = 0; overs = 0 }
+
+-- No item waits, and it comes to its end.
+abbrev pub Ends : {C : Type 0} → Setting C → EvalPlace C → Option ℕ → Type 0
+Ends o p stopped = (p.stand.held ≡ hold.Free) × EndsHere o.plan (fields_at p) o.meant p.stand stopped
+
+-- The fields were evaluated up to the end, and then the counts were told.
+pub record Counted {C : Type 0} (o : Setting C) (stopped : Option ℕ) (counts : Counts) (s : At C) (beats : List Beat) (text : List ℕ) (t : At C) : Type 0 where
+  pub steps : List Step
+  pub stand : Stand
+  pub first : List ℕ
+  pub evaluated : StepsTaken (meaning o s.world) (stands s not_begun) steps beats first (stands t stand)
+  pub ends : Ends (meaning o s.world) (stands t stand) stopped
+  pub counted : counts ≡ evaluation_counts o.plan (length (meaning o s.world).meant) (sheet_in t.world).fields stand
+  pub wrote : text ≡ first ++ o.voice.note (note.Counted counts)
+
+-- What an evaluation leaves that had no fault.
+abbrev pub EvaluationDone : {C : Type 0} → Setting C → DiskView → C → C → Option (List ℕ) → Option (List ℕ) → DiskView → Option ℕ → Counts → Type 0
+EvaluationDone o disk c d a b back stopped counts = RunOf o.after (Counted o stopped counts) disk c d a b back
+
+-- At an event the host had this fault, and its disk was left as told. What was told before is written, and each life that goes on was
+-- stopped.
+pub record StoppedOf {C : Type 0} (o : Setting C) (disk : DiskView) (c d : C) (a b : Option (List ℕ)) (f : HostFault) : Type 0 where
+  pub start : World
+  pub now : DiskView
+  pub opened : OpenedOn disk start now
+  pub beats : List Beat
+  pub text : List ℕ
+  pub failed : Event
+  pub leads : At C
+  pub cut : Cut (meaning o start) (stands (at start c now) not_begun) (StepUpTo (meaning o start) failed) beats text leads
+  pub host : HostView
+  pub same : SameDisk disk host.store.disk
+  pub stopped : Stopped leads.disk host leads.world failed f
+  pub moments : LeavesFrontsUpTo start beats failed f now host.store.disk
+  pub stops : Stops o.after (running leads.world) leads.children d
+  pub wrote : Appends a b text
+
+-- So far it came. What was told is written, and each life that goes on was stopped.
+pub record SoFarOf {C : Type 0} (o : Setting C) (disk : DiskView) (c d : C) (a b : Option (List ℕ)) (Came : Setting C → EvalPlace C → List Beat → List ℕ → At C → Type 0) : Type 0 where
+  pub start : World
+  pub now : DiskView
+  pub opened : OpenedOn disk start now
+  pub beats : List Beat
+  pub text : List ℕ
+  pub leads : At C
+  pub came : Came (meaning o start) (stands (at start c now) not_begun) beats text leads
+  pub moments : LeavesFronts start beats now leads.disk
+  pub stops : Stops o.after (running leads.world) leads.children d
+  pub wrote : Appends a b text
+
+-- The writer failed. What came until then is on the disk as ever, and each life that goes on was stopped.
+pub record LedOf {C : Type 0} (o : Setting C) (disk : DiskView) (c d : C) : Type 0 where
+  pub start : World
+  pub now : DiskView
+  pub opened : OpenedOn disk start now
+  pub beats : List Beat
+  pub text : List ℕ
+  pub leads : At C
+  pub led : Cut (meaning o start) (stands (at start c now) not_begun) (StepLed (meaning o start)) beats text leads
+  pub host : HostView
+  pub same : SameDisk disk host.store.disk
+  pub moments : LeavesFrontsAnyhow start beats now host leads.world leads.disk
+  pub stops : Stops o.after (running leads.world) leads.children d
+
+-- It came to its end, each life that goes on was stopped, and the counts couldn't be told.
+pub record Uncounted {C : Type 0} (o : Setting C) (disk : DiskView) (c d : C) : Type 0 where
+  pub start : World
+  pub now : DiskView
+  pub opened : OpenedOn disk start now
+  pub steps : List Step
+  pub beats : List Beat
+  pub text : List ℕ
+  pub leads : EvalPlace C
+  pub stopped : Option ℕ
+  pub evaluated : StepsTaken (meaning o start) (stands (at start c now) not_begun) steps beats text leads
+  pub ends : Ends (meaning o start) leads stopped
+  pub moments : LeavesFronts start beats now leads.run.disk
+  pub stops : Stops o.after (running leads.run.world) leads.run.children d
+
+-- memory was refused in a step
+abbrev pub Short : {C : Type 0} → Setting C → EvalPlace C → List Beat → List ℕ → At C → Type 0
+Short o p beats text t = Cut o p (StepSoFar o) beats text t
+
+abbrev pub Untold : {C : Type 0} → Setting C → DiskView → C → C → Type 0
+Untold o disk c d = LedOf o disk c d ⊎ Uncounted o disk c d
+
+-- What a fault tells: where the disk wasn't opened nothing was done. A voice that takes memory may have none for a line: then it is as where
+-- the writer failed.
+abbrev pub TellsEvaluation : {C : Type 0} → Setting C → DiskView → C → C → Option (List ℕ) → Option (List ℕ) → Type 0 → RunFault → Type 0
+TellsEvaluation o disk c d a b nothing fault.Input = SoFarOf o disk c d a b Unwatched
+TellsEvaluation o disk c d a b nothing fault.InputTooLong = SoFarOf o disk c d a b TooMany
+TellsEvaluation o disk c d a b nothing (fault.Open why) = nothing × InModel disk (TellsOfSheet (bytes_on disk) why)
+TellsEvaluation o disk c d a b nothing fault.InUse = ⊥
+TellsEvaluation o disk c d a b nothing (fault.Host f) = StoppedOf o disk c d a b f
+TellsEvaluation o disk c d a b nothing fault.OutOfMemory = nothing ⊎ (SoFarOf o disk c d a b Short ⊎ ((o.voice.takes_memory ≡ true) × Untold o disk c d))
+TellsEvaluation o disk c d a b nothing fault.Output = Untold o disk c d

@@ -1,0 +1,5 @@
+pub mod Meant
+pub mod Steps
+pub mod Broken
+pub mod Evaluation
+pub mod inside

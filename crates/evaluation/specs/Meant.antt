@@ -1,0 +1,112 @@
+-- Which fields are evaluated, which of them are passed over, and what an evaluation comes to. (docs/SCRIPT.md, "Evaluating a worksheet".)
+use Rattle.std.specs.Prelude.{◌≡◌, ◌+◌, ◌-◌, ◌*◌, ◌&&◌, ℕ, zero, suc, Bool, true, false, not, List, [], ◌∷◌, Option, Some, None, count_by, flat_map, is_some, length, slice_get, take}
+use Rattle.std.specs.List.{list_any}
+use Rattle.std.specs.Str.{bytes_eq}
+use Rattle.worksheet.specs.Checks.{field_in}
+use Rattle.worksheet.specs.declared.field.Field.{Field}
+use Rattle.tellings.specs.declared.note.Counts.{Counts}
+use Rattle.tellings.specs.declared.note.Overs.{Overs}
+use Rattle.evaluation.specs.declared.plan.Plan.{Plan}
+use Rattle.evaluation.specs.declared.plan.Stand.{Stand}
+use Rattle.evaluation.specs.declared.plan.Which.{Which}
+use Rattle.evaluation.specs.declared.plan.Which.TheVariants as which
+
+-- Whether a field shows an answer.
+abbrev pub is_answered : Field → Bool
+is_answered field = is_some field.answer
+
+-- Whether a field is to be evaluated.
+abbrev pub is_meant : Which → Field → Bool
+is_meant which.All field = true
+is_meant which.Unanswered field = not (is_answered field)
+
+abbrev pub id_if : Bool → ℕ → List ℕ
+id_if true id = id ∷ []
+id_if false id = []
+
+-- the numbers of those of these fields that are to be evaluated, in their order
+abbrev pub meant_in : Which → List Field → List ℕ
+meant_in which fields = flat_map (λ field. id_if (is_meant which field) field.id) fields
+
+-- this one of these fields shows no answer
+abbrev pub shows_none : Option Field → Bool
+shows_none None = false
+shows_none (Some field) = not (is_answered field)
+
+abbrev pub is_unanswered : List Field → ℕ → Bool
+is_unanswered fields id = shows_none (field_in fields id)
+
+-- this one of these fields is of this session, and shows no answer
+abbrev pub shows_none_of : List ℕ → Option Field → Bool
+shows_none_of session None = false
+shows_none_of session (Some field) = bytes_eq field.session session && not (is_answered field)
+
+abbrev pub is_lost_of : List Field → List ℕ → ℕ → Bool
+is_lost_of fields session id = shows_none_of session (field_in fields id)
+
+-- one of these numbers is that of a field of this one's session which shows no answer
+abbrev pub is_behind_lost : List Field → List ℕ → Option Field → Bool
+is_behind_lost fields front None = false
+is_behind_lost fields front (Some field) = list_any (is_lost_of fields field.session) front
+
+-- whether fields are passed over
+abbrev pub is_passing : Plan → Bool
+is_passing plan = is_some plan.limit && not plan.keep_going
+
+abbrev pub field_at : List Field → Option ℕ → Option Field
+field_at fields None = None
+field_at fields (Some id) = field_in fields id
+
+-- The field at this place of those that are to be evaluated is passed over where one in front of it that is of its session shows no answer.
+abbrev pub is_passed : Plan → List Field → List ℕ → ℕ → Bool
+is_passed plan fields meant k = is_passing plan && is_behind_lost fields (take k meant) (field_at fields (slice_get meant k))
+
+-- the fields at so many places from this one on are passed over
+abbrev pub ArePassed : Plan → List Field → List ℕ → ℕ → ℕ → Type 0
+ArePassed plan fields meant from zero = Unit {0}
+ArePassed plan fields meant from (suc n) = ArePassed plan fields meant from n × (is_passed plan fields meant (from + n) ≡ true)
+
+-- This place is behind that one, or the same, and the fields from that one up to it are passed over.
+abbrev pub IsNext : Plan → List Field → List ℕ → ℕ → ℕ → Type 0
+IsNext plan fields meant from at = (n : ℕ) × (at ≡ from + n) × ArePassed plan fields meant from n
+
+-- The number of the line that asks for the last of so many fields; that of its wait is the next one.
+abbrev pub line_behind : ℕ → ℕ
+line_behind taken = 2 * taken - 1
+
+-- The line of the last field, where that went wrong: no item waited behind its `eval`, or it shows no answer.
+abbrev pub wrong_line : List Field → Stand → Option ℕ
+wrong_line fields stand = wrong_by stand.at_once (is_unanswered fields stand.field) stand.taken
+  where
+    wrong_by : Bool → Bool → ℕ → Option ℕ
+    wrong_by true lost taken = Some (line_behind taken)
+    wrong_by false true taken = Some (2 * taken)
+    wrong_by false false taken = None
+
+-- the line behind which a strict evaluation stops here, if it does
+abbrev pub stop_line : Bool → List Field → Stand → Option ℕ
+stop_line false fields stand = None
+stop_line true fields stand = wrong_line fields stand
+
+-- The field at this place, which has this number, is asked next: it isn't passed over, all from the last one on are, and a strict evaluation
+-- doesn't stop here.
+pub record IsAsked (plan : Plan) (fields : List Field) (meant : List ℕ) (stand : Stand) (k id : ℕ) : Type 0 where
+  pub goes_on : stop_line plan.strict fields stand ≡ None
+  pub next : IsNext plan fields meant stand.taken k
+  pub there : slice_get meant k ≡ Some id
+  pub asked : is_passed plan fields meant k ≡ false
+
+-- It comes to its end here: a strict one stops behind this line, or all fields that are to come are passed over.
+pub record EndsHere (plan : Plan) (fields : List Field) (meant : List ℕ) (stand : Stand) (stopped : Option ℕ) : Type 0 where
+  pub is : stopped ≡ stop_line plan.strict fields stand
+  pub all : stopped ≡ None → IsNext plan fields meant stand.taken (length meant)
+
+-- what a limit of time came to where so many fields were to be evaluated
+abbrev pub overs_by : Option ℕ → ℕ → Stand → Option Overs
+overs_by None all stand = None
+overs_by (Some seconds) all stand = Some (record { over = stand.overs; passed = all - stand.asked })
+
+-- How many of these fields show an answer, how many don't, and what the limit of time came to.
+abbrev pub evaluation_counts : Plan → ℕ → List Field → Stand → Counts
+evaluation_counts plan all fields stand =
+    record { answered = count_by is_answered fields; unanswered = count_by (λ field. not (is_answered field)) fields; overs = overs_by plan.limit all stand }

@@ -1,0 +1,118 @@
+-- What the functions of an evaluation promise each other. No public contract names this.
+use Rattle.std.specs.Prelude.{◌≡◌, ◌≢◌, ◌⊎◌, ℕ, false, true, List, [], ◌++◌, Option, Some, None}
+use Rattle.std.specs.Io.KnownBytes.{Appends}
+use Rattle.disk_model.specs.Disk.{DiskView}
+use Rattle.host_events.specs.declared.event.Event.{Event}
+use Rattle.session_engine.specs.World.{World, sheet_in}
+use Rattle.session_engine.specs.Host.{HostView, IsHost}
+use Rattle.child_edge.specs.Faithful.{At, at, Beat}
+use Rattle.child_edge.specs.Edge.{Stopped}
+use Rattle.arrivals.specs.declared.sources.Woken.{Woken}
+use Rattle.arrivals.specs.declared.sources.Woken.TheVariants as woken
+use Rattle.live.specs.Arrivals.{WatchTells}
+use Rattle.sheet_programs.specs.Told.{StandsOrStopped}
+use Rattle.offline_programs.specs.declared.fault.RunFault.{RunFault}
+use Rattle.offline_programs.specs.declared.fault.RunFault.TheVariants as fault
+use Rattle.evaluation.specs.declared.plan.Stand.{Stand}
+use Rattle.evaluation.specs.Steps.{Setting, EvalPlace, Step, ask, heard, over, stalled, StepComes, TakesStep, StepsTaken, stands, step_text, woken_in}
+use Rattle.evaluation.specs.Broken.{Cut, StepUpTo, StepSoFar, StepLed, Unwatched, TooMany}
+use Rattle.evaluation.specs.Evaluation.{Ends, Short}
+
+-- the step of a time that is over
+abbrev pub IsTimeOf : Stand → Step → Type 0
+IsTimeOf stand (ask k id) = ⊥
+IsTimeOf stand (heard seat) = ⊥
+IsTimeOf stand over = stand.warned ≡ false
+IsTimeOf stand stalled = stand.warned ≡ true
+
+-- A step was taken, and what came of it is written; the host and the children stand there.
+abbrev pub Took : {C : Type 0} → Setting C → EvalPlace C → Step → HostView → C → Option (List ℕ) → Option (List ℕ) → Stand → Type 0
+Took o p s h c a b stand =
+    (beats : List Beat) × (text : List ℕ) × (w : World) × TakesStep o p s beats text (stands (at w c h.store.disk) stand) × IsHost h w × Appends a b text
+
+-- what came of it couldn't be written
+abbrev pub TookUnwritten : {C : Type 0} → Setting C → EvalPlace C → Step → HostView → C → Type 0
+TookUnwritten o p s h c = (beats : List Beat) × (w : World) × (x : DiskView) × StepLed o p s beats (at w c x) × StandsOrStopped h w x
+
+-- what a fault of that leaves
+abbrev pub TakingFailed : {C : Type 0} → Setting C → EvalPlace C → Step → HostView → C → Option (List ℕ) → Option (List ℕ) → RunFault → Type 0
+TakingFailed o p s h c a b (fault.Host f) =
+    (beats : List Beat) × (e : Event) × (w : World) × (x : DiskView) × StepUpTo o e p s beats (at w c x) × Stopped x h w e f × Appends a b (step_text o.voice s (sheet_in w) beats)
+TakingFailed o p s h c a b fault.OutOfMemory =
+    ((beats : List Beat) × (w : World) × StepSoFar o p s beats (at w c h.store.disk) × IsHost h w × Appends a b (step_text o.voice s (sheet_in w) beats))
+    ⊎ ((o.voice.takes_memory ≡ true) × TookUnwritten o p s h c)
+TakingFailed o p s h c a b fault.Output = TookUnwritten o p s h c
+TakingFailed o p s h c a b fault.Input = ⊥
+TakingFailed o p s h c a b fault.InputTooLong = ⊥
+TakingFailed o p s h c a b (fault.Open why) = ⊥
+TakingFailed o p s h c a b fault.InUse = ⊥
+
+-- the step that comes of this turn
+abbrev pub IsOf : Stand → Woken → Step → Type 0
+IsOf stand woken.Input s = ⊥
+IsOf stand (woken.Life seat) s = s ≡ heard seat
+IsOf stand woken.TimeOver s = IsTimeOf stand s
+
+-- whoever's turn it was had it
+abbrev pub Turned : {C : Type 0} → Setting C → EvalPlace C → Woken → HostView → C → Option (List ℕ) → Option (List ℕ) → Stand → Type 0
+Turned o p told h c a b stand = (s : Step) × IsOf p.stand told s × Took o p s h c a b stand
+
+abbrev pub TurnFailed : {C : Type 0} → Setting C → EvalPlace C → Woken → HostView → C → Option (List ℕ) → Option (List ℕ) → RunFault → Type 0
+TurnFailed o p told h c a b f = (s : Step) × IsOf p.stand told s × TakingFailed o p s h c a b f
+
+-- a step came and was taken
+abbrev pub StepTook : {C : Type 0} → Setting C → EvalPlace C → HostView → C → Option (List ℕ) → Option (List ℕ) → Stand → Type 0
+StepTook {C = C} o p h c a b stand = (s : Step) × (d : C) × StepComes o p s d × Took o (woken_in p d) s h c a b stand
+
+abbrev pub CameFailed : {C : Type 0} → Setting C → EvalPlace C → HostView → C → Option (List ℕ) → Option (List ℕ) → RunFault → Type 0
+CameFailed {C = C} o p h c a b f = (s : Step) × (d : C) × StepComes o p s d × TakingFailed o (woken_in p d) s h c a b f
+
+-- nothing was done
+abbrev pub Rests : {C : Type 0} → EvalPlace C → HostView → Option (List ℕ) → Option (List ℕ) → Type 0
+Rests p h a b = (h.store.disk ≡ p.run.disk) × IsHost h p.run.world × Appends a b []
+
+-- what a fault at a step leaves
+abbrev pub StepFailed : {C : Type 0} → Setting C → EvalPlace C → HostView → C → Option (List ℕ) → Option (List ℕ) → RunFault → Type 0
+StepFailed o p h c a b (fault.Host f) = CameFailed o p h c a b (fault.Host f)
+StepFailed o p h c a b fault.OutOfMemory = CameFailed o p h c a b fault.OutOfMemory
+StepFailed o p h c a b fault.Output = CameFailed o p h c a b fault.Output
+StepFailed o p h c a b fault.Input = Rests p h a b × WatchTells o.clock o.wakes p.stand.held p.run.children false None c
+StepFailed o p h c a b fault.InputTooLong = ⊥
+StepFailed o p h c a b (fault.Open why) = ⊥
+StepFailed o p h c a b fault.InUse = ⊥
+
+-- one step more, or the end, where nothing was done
+abbrev pub StepGave : {C : Type 0} → Setting C → EvalPlace C → HostView → C → Option (List ℕ) → Option (List ℕ) → Option Stand → Type 0
+StepGave o p h c a b (Some stand) = StepTook o p h c a b stand
+StepGave o p h c a b None = Rests p h a b × (c ≡ p.run.children) × ((stopped : Option ℕ) × Ends o p stopped)
+
+-- All steps up to the end were taken.
+abbrev pub Through : {C : Type 0} → Setting C → EvalPlace C → HostView → C → Option (List ℕ) → Option (List ℕ) → Stand → Type 0
+Through o p h c a b stand =
+    (steps : List Step) × (beats : List Beat) × (text : List ℕ) × (w : World) × StepsTaken o p steps beats text (stands (at w c h.store.disk) stand)
+    × IsHost h w × Appends a b text × ((stopped : Option ℕ) × Ends o (stands (at w c h.store.disk) stand) stopped)
+
+-- The same; the children are so behind where it stands.
+abbrev pub ThroughAnd : {C : Type 0} → Setting C → EvalPlace C → (At C → Type 0) → HostView → Option (List ℕ) → Option (List ℕ) → Stand → Type 0
+ThroughAnd {C = C} o p Behind h a b stand =
+    (steps : List Step) × (beats : List Beat) × (text : List ℕ) × (t : At C) × StepsTaken o p steps beats text (stands t stand)
+    × IsHost h t.world × (t.disk ≡ h.store.disk) × Appends a b text × ((stopped : Option ℕ) × Ends o (stands t stand) stopped) × Behind t
+
+-- So far it came, and what was told is written.
+abbrev pub CameSoFar : {C : Type 0} → (List Beat → List ℕ → At C → Type 0) → (At C → Type 0) → HostView → Option (List ℕ) → Option (List ℕ) → Type 0
+CameSoFar {C = C} Came Behind h a b = (beats : List Beat) × (text : List ℕ) × (t : At C) × Came beats text t × IsHost h t.world × (t.disk ≡ h.store.disk) × Behind t × Appends a b text
+
+-- what came last couldn't be written
+abbrev pub CameUnwritten : {C : Type 0} → Setting C → EvalPlace C → (At C → Type 0) → HostView → Type 0
+CameUnwritten {C = C} o p Behind h = (beats : List Beat) × (text : List ℕ) × (t : At C) × Cut o p (StepLed o) beats text t × StandsOrStopped h t.world t.disk × Behind t
+
+-- What a fault of an evaluation leaves; the children are so behind where it stands.
+abbrev pub BrokeOff : {C : Type 0} → Setting C → EvalPlace C → (At C → Type 0) → HostView → Option (List ℕ) → Option (List ℕ) → RunFault → Type 0
+BrokeOff {C = C} o p Behind h a b (fault.Host f) =
+    (beats : List Beat) × (text : List ℕ) × (e : Event) × (t : At C) × Cut o p (StepUpTo o e) beats text t × Stopped t.disk h t.world e f × Behind t × Appends a b text
+BrokeOff o p Behind h a b fault.OutOfMemory = CameSoFar (Short o p) Behind h a b ⊎ ((o.voice.takes_memory ≡ true) × CameUnwritten o p Behind h)
+BrokeOff o p Behind h a b fault.Output = CameUnwritten o p Behind h
+BrokeOff o p Behind h a b fault.Input = CameSoFar (Unwatched o p) Behind h a b
+BrokeOff o p Behind h a b fault.InputTooLong = CameSoFar (TooMany o p) Behind h a b
+BrokeOff o p Behind h a b (fault.Open why) = ⊥
+BrokeOff o p Behind h a b fault.InUse = ⊥

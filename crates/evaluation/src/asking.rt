@@ -1,0 +1,124 @@
+//! Which field is asked next.
+ghost use Rattle.std.specs.Prelude.{◌≡◌, ◌<◌, ◌≤◌, ◌^◌, ℕ, Option, None, Some, IfSome, false, length, slice_get};
+ghost use Rattle.std.specs.List.{list_any};
+ghost use Rattle.std.specs.Option.{option_copied};
+ghost use Rattle.evaluation.specs.Meant as meant;
+
+use crate::plan::{Plan, Stand, is_answered};
+use worksheet::{Field, Name, Sheet};
+
+/// Whether this field shows no answer.
+fn shows_none(field: Option<&Field>) -> bool
+    ensures { result ≡ meant.shows_none (option_copied field.entry) }
+{
+    match field {
+        None => false,
+        Some(field) => !is_answered(field),
+    }
+}
+
+/// Whether this field is of this session, and shows no answer.
+fn shows_none_of(session: Name, field: Option<&Field>) -> bool
+    ensures { result ≡ meant.shows_none_of session (option_copied field.entry) }
+{
+    match field {
+        None => false,
+        Some(field) => field.session == session && !is_answered(field),
+    }
+}
+
+/// Whether one of these numbers is that of a field of this session which shows no answer.
+fn are_lost_of(sheet: &Sheet, ids: &[u32], session: Name) -> bool
+    ensures { result ≡ list_any (meant.is_lost_of sheet.now.contents.fields session) ids.now }
+{
+    ids.iter()
+        .any(|id| shows_none_of(session, sheet.field(*id)))
+}
+
+/// Whether a field stands behind one of its session that shows no answer.
+fn is_behind_lost(sheet: &Sheet, front: &[u32], field: Option<&Field>) -> bool
+    ensures { result ≡ meant.is_behind_lost sheet.now.contents.fields front.now (option_copied field.entry) }
+{
+    match field {
+        None => false,
+        Some(field) => are_lost_of(sheet, front, field.session),
+    }
+}
+
+/// Whether the field at this place of those that are to be evaluated is passed over.
+fn is_passed(plan: Plan, sheet: &Sheet, ids: &[u32], at: usize) -> bool
+    requires { at < length ids.now }
+    ensures { result ≡ meant.is_passed plan sheet.now.contents.fields ids.now at }
+{
+    if plan.limit.is_none() || plan.keep_going {
+        return false;
+    }
+    is_behind_lost(sheet, &ids[..at], sheet.field(ids[at]))
+}
+
+/// The next place, from this one on, whose field isn't passed over, or their number where there is none.
+#[tactic(auto, using(crate::proofs::Meaning::next_steps))]
+pub(crate) fn next_of(plan: Plan, sheet: &Sheet, ids: &[u32], from: usize) -> usize
+    requires { from ≤ length ids.now }
+    ensures next { meant.IsNext plan sheet.now.contents.fields ids.now from result }
+    ensures within { result ≤ length ids.now }
+    ensures found { result < length ids.now → meant.is_passed plan sheet.now.contents.fields ids.now result ≡ false }
+{
+    for at in from..ids.len() {
+        if !is_passed(plan, sheet, ids, at) {
+            return at;
+        }
+    }
+    ids.len()
+}
+
+/// The number of the line that asks for the last of so many fields.
+pub(crate) fn line_behind(taken: usize) -> u64
+    requires { taken < 2 ^ 32 }
+    ensures { result ≡ meant.line_behind taken }
+{
+    (taken as u64 * 2).saturating_sub(1)
+}
+
+/// The line of the field that was asked last, where that went wrong.
+fn wrong_line(sheet: &Sheet, stand: Stand) -> Option<u64>
+    requires { stand.taken < 2 ^ 32 }
+    ensures { result ≡ meant.wrong_line sheet.now.contents.fields stand }
+{
+    if stand.at_once {
+        Some(line_behind(stand.taken))
+    } else if shows_none(sheet.field(stand.field)) {
+        Some(stand.taken as u64 * 2)
+    } else {
+        None
+    }
+}
+
+/// The line behind which a strict evaluation stops here, if it does.
+pub(crate) fn stop_line(plan: Plan, sheet: &Sheet, stand: Stand) -> Option<u64>
+    requires { stand.taken < 2 ^ 32 }
+    ensures { result ≡ meant.stop_line plan.strict sheet.now.contents.fields stand }
+{
+    if plan.strict {
+        wrong_line(sheet, stand)
+    } else {
+        None
+    }
+}
+
+/// The place of the field that is asked next, where it doesn't come to its end here.
+pub(crate) fn next_place(plan: Plan, sheet: &Sheet, ids: &[u32], stand: Stand) -> Option<usize>
+    requires few { length ids.now < 2 ^ 32 }
+    requires taken { stand.taken ≤ length ids.now }
+    ensures within { IfSome result (λ at. at < length ids.now) }
+    ensures next { (id : ℕ) → IfSome result (λ at. slice_get ids.now at ≡ Some id
+        → meant.IsAsked plan sheet.now.contents.fields ids.now stand at id) }
+    ensures ends { result ≡ None → (stopped : Option ℕ)
+        × meant.EndsHere plan sheet.now.contents.fields ids.now stand stopped }
+{
+    if stop_line(plan, sheet, stand).is_some() {
+        return None;
+    }
+    let at = next_of(plan, sheet, ids, stand.taken);
+    if at == ids.len() { None } else { Some(at) }
+}

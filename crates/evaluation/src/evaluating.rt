@@ -1,0 +1,208 @@
+//! The evaluation of a worksheet's fields.
+ghost use Rattle.std.specs.Prelude.{◌≡◌, ◌<◌, ◌≤◌, ◌^◌, [], IfErr, IfOk, IsErrOf, length};
+ghost use Rattle.disk_model.specs.Disk.{SameDisk};
+ghost use Rattle.session_engine.specs.World.{World, sheet_in};
+ghost use Rattle.session_engine.specs.Host.{IsHost};
+ghost use Rattle.child_edge.specs.Faithful.{at};
+ghost use Rattle.child_edge.specs.Seats.{running};
+ghost use Rattle.child_edge.specs.Stops.{Stops};
+ghost use Rattle.offline_programs.specs.Faults.{FailedSince};
+ghost use Rattle.evaluation.specs.Meant as meant;
+ghost use Rattle.evaluation.specs.Steps.{setting, stands};
+ghost use Rattle.evaluation.specs.Evaluation.{EvaluationDone, TellsEvaluation, not_begun};
+ghost use Rattle.evaluation.specs.inside.Stepping.{BrokeOff, Through, ThroughAnd};
+ghost use Rattle.offline_programs.specs.declared.fault.RunFault.TheVariants as told;
+ghost use Rattle.journal.specs.declared.opening.OpenCause.TheVariants as opens;
+ghost use Rattle.host_events.specs.declared.outcome.HostFault.TheVariants as hosts;
+
+use crate::asking::stop_line;
+use crate::plan::{Plan, Stand, Which, counts_of, meant_in};
+use crate::stepping::step;
+use arrivals::Sources;
+use child_edge::stop_all;
+use disk_model::Disk;
+use live::Hold;
+use offline_programs::RunFault;
+use session_engine::Host;
+use std::alloc::{AllocError, Global};
+use std::io::Write;
+use tellings::{Counts, Note, Tells};
+
+/// An evaluation that had no fault.
+#[derive(Drop)]
+pub struct Evaluated<D: Disk> {
+    /// The disk, with what was told.
+    pub disk: D,
+    /// The number of the line behind which it stopped, where it did: 2N - 1 and 2N are those of the field
+    /// that is the Nth of those to be evaluated.
+    pub stopped_at: Option<u64>,
+    /// What it came to.
+    pub counts: Counts,
+}
+
+/// Evaluates fields up to the end.
+fn evaluate_on<D: Disk, S: Sources, T: Tells, W: Write>(
+    alloc: Global,
+    host: &mut Host<D>,
+    sources: &mut S,
+    plan: Plan,
+    ids: &[u32],
+    tells: &T,
+    writer: &mut W,
+) -> Result<Stand, RunFault>
+    requires few { length ids.now < 2 ^ 31 }
+    ensures same { SameDisk host.old.store.disk host.new.store.disk }
+    ensures ok { (w : World) → IsHost host.old w → IfOk result (Through
+        (setting T.voice S.after S.clock S.wakes plan ids.now) (stands (at w sources.old host.old.store.disk) not_begun)
+        host.new sources.new (W.contents writer.old) (W.contents writer.new)) }
+    ensures err { (w : World) → IsHost host.old w → IfErr result (BrokeOff
+        (setting T.voice S.after S.clock S.wakes plan ids.now) (stands (at w sources.old host.old.store.disk) not_begun)
+        (λ t. t.children ≡ sources.new) host.new (W.contents writer.old) (W.contents writer.new)) }
+    ensures taken { IfOk result (λ stand. stand.taken ≤ length ids.now) }
+{
+    let mut stand = Stand {
+        taken: 0,
+        field: 0,
+        held: Hold::Free,
+        warned: false,
+        at_once: false,
+        asked: 0,
+        overs: 0,
+    };
+    for _ in 0..u64::MAX {
+        match step(alloc, host, sources, plan, ids, stand, tells, writer) {
+            Ok(Some(next)) => stand = next,
+            Ok(None) => return Ok(stand),
+            Err(fault) => return Err(fault),
+        }
+    }
+    Err(RunFault::InputTooLong)
+}
+
+/// The same, and each life that goes on is stopped then.
+fn evaluate_and_stop<D: Disk, S: Sources, T: Tells, W: Write>(
+    alloc: Global,
+    host: &mut Host<D>,
+    sources: &mut S,
+    plan: Plan,
+    ids: &[u32],
+    tells: &T,
+    writer: &mut W,
+) -> Result<Stand, RunFault>
+    requires few { length ids.now < 2 ^ 31 }
+    ensures same { SameDisk host.old.store.disk host.new.store.disk }
+    ensures ok { (w : World) → IsHost host.old w → IfOk result (ThroughAnd
+        (setting T.voice S.after S.clock S.wakes plan ids.now) (stands (at w sources.old host.old.store.disk) not_begun)
+        (λ t. Stops S.after (running t.world) t.children sources.new) host.new (W.contents writer.old) (W.contents writer.new)) }
+    ensures err { (w : World) → IsHost host.old w → IfErr result (BrokeOff
+        (setting T.voice S.after S.clock S.wakes plan ids.now) (stands (at w sources.old host.old.store.disk) not_begun)
+        (λ t. Stops S.after (running t.world) t.children sources.new) host.new (W.contents writer.old) (W.contents writer.new)) }
+    ensures taken { IfOk result (λ stand. stand.taken ≤ length ids.now) }
+{
+    let done = evaluate_on(alloc, host, sources, plan, ids, tells, writer);
+    stop_all(host, sources);
+    done
+}
+
+/// A worksheet has few fields.
+fn few_fields<D: Disk>(host: &Host<D>)
+    requires { (w : World) × IsHost host.now w }
+    ensures { length host.now.store.sheet.contents.fields < 2 ^ 31 }
+{
+    worksheet::laws::ops_make_worksheets();
+}
+
+/// The numbers of the fields that are to be evaluated of the worksheet of a host.
+fn ids_in<D: Disk>(alloc: Global, which: Which, host: &Host<D>) -> Result<Vec<u32>, AllocError>
+    requires { (w : World) × IsHost host.now w }
+    ensures ids { (w : World) → IsHost host.now w
+        → IfOk result (λ ids. ids.items ≡ meant.meant_in which (sheet_in w).fields) }
+    ensures few { IfOk result (λ ids. length ids.items < 2 ^ 31) }
+{
+    few_fields(host);
+    meant_in(alloc, which, host.sheet())
+}
+
+/// What an evaluation of so many fields came to, by the worksheet of a host.
+fn counts_in<D: Disk>(plan: Plan, all: u64, host: &Host<D>, stand: Stand) -> Counts
+    requires { (w : World) × IsHost host.now w }
+    ensures { (w : World) → IsHost host.now w
+        → result ≡ meant.evaluation_counts plan all (sheet_in w).fields stand }
+{
+    worksheet::laws::ops_make_worksheets();
+    counts_of(plan, all, host.sheet(), stand)
+}
+
+/// Evaluates fields of the worksheet on a disk, one at a time and in the worksheet's order, with its
+/// interpreters as children, and tells what comes of each at once. Where it is strict it stops behind the
+/// first field that is lost or refused, and the fields behind keep what they show. At the end each life that
+/// goes on is stopped, and the counts are told. It gives the disk back.
+///
+/// With a limit, a field whose time is over is told, and its interpreter is interrupted once; where an item
+/// still waits two seconds later it has stalled. Fields behind one of their session that shows no answer are
+/// passed over then, unless it keeps going: they aren't asked, and keep what they show.
+///
+/// So one field at a time is without its old answer, and what was told is on the disk.
+///
+/// `Open` where the disk isn't opened, and `OutOfMemory` where there is no memory for the fields' numbers:
+/// nothing was written, and no child was called. `Input` where the sources can't be watched, `InputTooLong`
+/// behind 2^64 - 1 steps, `Host` where the host has a fault, `OutOfMemory`: what was told before is written.
+/// `Output` where the writer fails: a part of the text may have gone out. A voice that takes memory has
+/// `OutOfMemory` for that too.
+pub fn evaluate<W: Write, D: Disk, S: Sources, T: Tells>(
+    alloc: Global,
+    plan: Plan,
+    tells: &T,
+    writer: &mut W,
+    disk: D,
+    sources: &mut S,
+) -> Result<Evaluated<D>, RunFault>
+    ensures evaluated { IfOk result (λ done. EvaluationDone (setting T.voice S.after S.clock S.wakes plan [])
+        (D.view disk) sources.old sources.new (W.contents writer.old) (W.contents writer.new)
+        (D.view done.disk) done.stopped_at done.counts) }
+    ensures same { IfOk result (λ done. SameDisk (D.view disk) (D.view done.disk)) }
+    ensures fault { IfErr result (TellsEvaluation (setting T.voice S.after S.clock S.wakes plan [])
+        (D.view disk) sources.old sources.new (W.contents writer.old) (W.contents writer.new)
+        ((writer.new ≡ writer.old) × (sources.new ≡ sources.old))) }
+
+    // That the disk failed, at the opening or later, is told only where it did.
+    ensures unopened { IsErrOf result (told.Open opens.Disk) → FailedSince D.view disk }
+    ensures failed { IsErrOf result (told.Host hosts.Disk) → FailedSince D.view disk }
+{
+    let mut host = match Host::open(alloc, disk) {
+        Ok(host) => host,
+        Err(fault) => return Err(RunFault::Open(fault.cause)),
+    };
+    let ids = match ids_in(alloc, plan.which, &host) {
+        Ok(ids) => ids,
+        Err(_) => return Err(RunFault::OutOfMemory),
+    };
+    let done = evaluate_and_stop(
+        alloc,
+        &mut host,
+        sources,
+        plan,
+        ids.as_slice(),
+        tells,
+        writer,
+    );
+    match done {
+        Ok(stand) => {
+            let stopped_at = stop_line(plan, host.sheet(), stand);
+            let counts = counts_in(plan, ids.len() as u64, &host, stand);
+            let disk = host.close();
+            match tells.note(Note::Counted(counts), writer) {
+                Ok(()) => Ok(Evaluated {
+                    disk,
+                    stopped_at,
+                    counts,
+                }),
+                Err(fault) => Err(fault),
+            }
+        }
+        Err(fault) => {
+            host.close();
+            Err(fault)
+        }
+    }
+}

@@ -1,0 +1,11 @@
+//! The evaluation of a worksheet's fields, one behind another, with a limit of time where one is wanted.
+#![tactic(auto)]
+
+mod asking;
+mod evaluating;
+pub mod plan;
+mod stepping;
+mod timing;
+
+pub use evaluating::{Evaluated, evaluate};
+pub use plan::{Plan, Which};

@@ -1,0 +1,262 @@
+//! The steps of an evaluation.
+ghost use Rattle.std.specs.Prelude.{◌≡◌, ◌+◌, ◌<◌, ◌≤◌, ◌^◌, ℕ, List, IfErr, IfOk, IfSome, Some, not, length, slice_get};
+ghost use Rattle.disk_model.specs.Disk.{SameDisk};
+ghost use Rattle.session_engine.specs.World.{World, sheet_in};
+ghost use Rattle.session_engine.specs.Host.{IsHost};
+ghost use Rattle.child_edge.specs.Faithful.{at};
+ghost use Rattle.evaluation.specs.declared.plan.Plan.{Plan};
+ghost use Rattle.evaluation.specs.Meant.{IsAsked};
+ghost use Rattle.live.specs.Saying.{is_held};
+ghost use Rattle.evaluation.specs.Steps as steps;
+ghost use Rattle.evaluation.specs.Steps.{ask, heard, setting, stands};
+ghost use Rattle.evaluation.specs.inside.Stepping.{StepFailed, StepGave, StepTook, TakingFailed, Took, Turned, TurnFailed};
+ghost use Rattle.live.specs.Taking.{MayTurn};
+
+use crate::asking::{line_behind, next_place};
+use crate::plan::{Plan, Stand, held_at};
+use crate::timing::{limit_from, take_time};
+use arrivals::{Sources, Woken};
+use child_calls::Seat;
+use disk_model::Disk;
+use host_events::Command;
+use live::{Hold, go_on, hear, next_turn, say_command};
+use offline_programs::RunFault;
+use session_engine::Host;
+use std::alloc::Global;
+use std::io::Write;
+use tellings::Tells;
+
+/// Whether no item waits for an answer right behind an `eval`.
+fn is_free(held: Hold) -> bool
+    ensures { result ≡ not (is_held held) }
+{
+    match held {
+        Hold::Free => true,
+        Hold::Wait | Hold::Until(_) => false,
+    }
+}
+
+/// The place behind the field with this number, which was asked at this place.
+fn asked_at(stand: Stand, at: usize, id: u32, held: Hold) -> Stand
+    requires few { at + 1 < 2 ^ 64 }
+    requires counted { stand.asked + 1 < 2 ^ 64 }
+    ensures { result ≡ steps.asked_at stand at id held }
+{
+    Stand {
+        taken: at + 1,
+        field: id,
+        held,
+        warned: false,
+        at_once: is_free(held),
+        asked: stand.asked + 1,
+        overs: stand.overs,
+    }
+}
+
+/// Asks the field at this place.
+fn ask_field<D: Disk, S: Sources, T: Tells, W: Write>(
+    alloc: Global,
+    host: &mut Host<D>,
+    sources: &mut S,
+    plan: Plan,
+    id: u32,
+    place: usize,
+    stand: Stand,
+    tells: &T,
+    writer: &mut W,
+) -> Result<Stand, RunFault>
+    requires few { place + 1 < 2 ^ 32 }
+    requires counted { stand.asked + 1 < 2 ^ 64 }
+    ensures same { SameDisk host.old.store.disk host.new.store.disk }
+    ensures ok { (meant : List ℕ) (w : World) → IsHost host.old w → IsAsked plan (sheet_in w).fields meant stand place id → IfOk result (Took
+        (setting T.voice S.after S.clock S.wakes plan meant) (stands (at w sources.old host.old.store.disk) stand) (ask place id)
+        host.new sources.new (W.contents writer.old) (W.contents writer.new)) }
+    ensures err { (meant : List ℕ) (w : World) → IsHost host.old w → IsAsked plan (sheet_in w).fields meant stand place id → IfErr result (TakingFailed
+        (setting T.voice S.after S.clock S.wakes plan meant) (stands (at w sources.old host.old.store.disk) stand) (ask place id)
+        host.new sources.new (W.contents writer.old) (W.contents writer.new)) }
+    ensures taken { IfOk result (λ next. next.taken ≡ place + 1) }
+    ensures counts { IfOk result (λ next. (next.asked ≡ stand.asked + 1) × (next.overs ≡ stand.overs)) }
+{
+    match say_command(
+        alloc,
+        host,
+        sources,
+        Command::Eval { id },
+        line_behind(place + 1),
+        tells,
+        writer,
+    ) {
+        Ok(_) => {
+            let held = go_on(limit_from(sources, plan.limit), host);
+            Ok(asked_at(stand, place, id, held))
+        }
+        Err(fault) => Err(fault),
+    }
+}
+
+/// Takes what a life has.
+fn take_life<D: Disk, S: Sources, T: Tells, W: Write>(
+    alloc: Global,
+    host: &mut Host<D>,
+    sources: &mut S,
+    seat: Seat,
+    stand: Stand,
+    tells: &T,
+    writer: &mut W,
+) -> Result<Stand, RunFault>
+    ensures same { SameDisk host.old.store.disk host.new.store.disk }
+    ensures ok { (plan : Plan) (meant : List ℕ) (w : World) → IsHost host.old w → IfOk result (Took
+        (setting T.voice S.after S.clock S.wakes plan meant) (stands (at w sources.old host.old.store.disk) stand) (heard seat)
+        host.new sources.new (W.contents writer.old) (W.contents writer.new)) }
+    ensures err { (plan : Plan) (meant : List ℕ) (w : World) → IsHost host.old w → IfErr result (TakingFailed
+        (setting T.voice S.after S.clock S.wakes plan meant) (stands (at w sources.old host.old.store.disk) stand) (heard seat)
+        host.new sources.new (W.contents writer.old) (W.contents writer.new)) }
+    ensures taken { IfOk result (λ next. next.taken ≡ stand.taken) }
+    ensures counts { IfOk result (λ next. (next.asked ≡ stand.asked) × (next.overs ≡ stand.overs)) }
+{
+    match hear(alloc, host, sources, seat, tells, writer) {
+        Ok(()) => Ok(held_at(stand, go_on(stand.held, host))),
+        Err(fault) => Err(fault),
+    }
+}
+
+/// Takes what it is the turn of while an item waits.
+fn take_woken<D: Disk, S: Sources, T: Tells, W: Write>(
+    alloc: Global,
+    host: &mut Host<D>,
+    sources: &mut S,
+    woken: Woken,
+    stand: Stand,
+    tells: &T,
+    writer: &mut W,
+) -> Result<Stand, RunFault>
+    requires few { stand.taken < 2 ^ 32 }
+    requires counted { stand.overs + 1 < 2 ^ 64 }
+    requires turn { MayTurn stand.held woken }
+    requires held { stand.held ≡ Hold.Free → ⊥ }
+    ensures same { SameDisk host.old.store.disk host.new.store.disk }
+    ensures ok { (plan : Plan) (meant : List ℕ) (w : World) → IsHost host.old w → IfOk result (Turned
+        (setting T.voice S.after S.clock S.wakes plan meant) (stands (at w sources.old host.old.store.disk) stand) woken
+        host.new sources.new (W.contents writer.old) (W.contents writer.new)) }
+    ensures err { (plan : Plan) (meant : List ℕ) (w : World) → IsHost host.old w → IfErr result (TurnFailed
+        (setting T.voice S.after S.clock S.wakes plan meant) (stands (at w sources.old host.old.store.disk) stand) woken
+        host.new sources.new (W.contents writer.old) (W.contents writer.new)) }
+    ensures taken { IfOk result (λ next. next.taken ≡ stand.taken) }
+    ensures counts { IfOk result (λ next. (next.asked ≡ stand.asked) × (next.overs ≤ stand.overs + 1)) }
+{
+    match woken {
+        Woken::Life(seat) => take_life(alloc, host, sources, seat, stand, tells, writer),
+        Woken::TimeOver => take_time(alloc, host, sources, stand, tells, writer),
+        Woken::Input => unreachable!(),
+    }
+}
+
+/// Waits until something comes, and takes it.
+fn take_turn<D: Disk, S: Sources, T: Tells, W: Write>(
+    alloc: Global,
+    host: &mut Host<D>,
+    sources: &mut S,
+    stand: Stand,
+    tells: &T,
+    writer: &mut W,
+) -> Result<Stand, RunFault>
+    requires few { stand.taken < 2 ^ 32 }
+    requires counted { stand.overs + 1 < 2 ^ 64 }
+    requires held { stand.held ≡ Hold.Free → ⊥ }
+    ensures same { SameDisk host.old.store.disk host.new.store.disk }
+    ensures ok { (plan : Plan) (meant : List ℕ) (w : World) → IsHost host.old w → IfOk result (StepTook
+        (setting T.voice S.after S.clock S.wakes plan meant) (stands (at w sources.old host.old.store.disk) stand)
+        host.new sources.new (W.contents writer.old) (W.contents writer.new)) }
+    ensures err { (plan : Plan) (meant : List ℕ) (w : World) → IsHost host.old w → IfErr result (StepFailed
+        (setting T.voice S.after S.clock S.wakes plan meant) (stands (at w sources.old host.old.store.disk) stand)
+        host.new sources.new (W.contents writer.old) (W.contents writer.new)) }
+    ensures taken { IfOk result (λ next. next.taken ≡ stand.taken) }
+    ensures counts { IfOk result (λ next. (next.asked ≡ stand.asked) × (next.overs ≤ stand.overs + 1)) }
+{
+    match next_turn(sources, stand.held, false) {
+        Ok(woken) => take_woken(alloc, host, sources, woken, stand, tells, writer),
+        Err(_) => Err(RunFault::Input),
+    }
+}
+
+/// The number at this place.
+fn id_at(ids: &[u32], place: usize) -> u32
+    requires { place < length ids.now }
+    ensures { slice_get ids.now place ≡ Some result }
+{
+    ids[place]
+}
+
+/// Asks the next field. `None` at the end.
+fn take_next<D: Disk, S: Sources, T: Tells, W: Write>(
+    alloc: Global,
+    host: &mut Host<D>,
+    sources: &mut S,
+    plan: Plan,
+    ids: &[u32],
+    stand: Stand,
+    tells: &T,
+    writer: &mut W,
+) -> Result<Option<Stand>, RunFault>
+    requires few { length ids.now < 2 ^ 31 }
+    requires taken { stand.taken ≤ length ids.now }
+    requires counted { stand.asked + 1 < 2 ^ 64 }
+    requires free { stand.held ≡ Hold.Free }
+    ensures same { SameDisk host.old.store.disk host.new.store.disk }
+    ensures ok { (w : World) → IsHost host.old w → IfOk result (StepGave
+        (setting T.voice S.after S.clock S.wakes plan ids.now) (stands (at w sources.old host.old.store.disk) stand)
+        host.new sources.new (W.contents writer.old) (W.contents writer.new)) }
+    ensures err { (w : World) → IsHost host.old w → IfErr result (StepFailed
+        (setting T.voice S.after S.clock S.wakes plan ids.now) (stands (at w sources.old host.old.store.disk) stand)
+        host.new sources.new (W.contents writer.old) (W.contents writer.new)) }
+    ensures taken { IfOk result (λ next. IfSome next (λ after. after.taken ≤ length ids.now)) }
+    ensures counts { IfOk result (λ next. IfSome next (λ after.
+        (after.asked ≤ stand.asked + 1) × (after.overs ≤ stand.overs + 1))) }
+{
+    match next_place(plan, host.sheet(), ids, stand) {
+        Some(place) => {
+            let id = id_at(ids, place);
+            match ask_field(alloc, host, sources, plan, id, place, stand, tells, writer) {
+                Ok(next) => Ok(Some(next)),
+                Err(fault) => Err(fault),
+            }
+        }
+        None => Ok(None),
+    }
+}
+
+/// Asks the next field while no item waits, and takes what comes while one does. `None` at the end.
+pub(crate) fn step<D: Disk, S: Sources, T: Tells, W: Write>(
+    alloc: Global,
+    host: &mut Host<D>,
+    sources: &mut S,
+    plan: Plan,
+    ids: &[u32],
+    stand: Stand,
+    tells: &T,
+    writer: &mut W,
+) -> Result<Option<Stand>, RunFault>
+    requires few { length ids.now < 2 ^ 31 }
+    requires taken { stand.taken ≤ length ids.now }
+    requires counted { (stand.asked + 1 < 2 ^ 64) × (stand.overs + 1 < 2 ^ 64) }
+    ensures same { SameDisk host.old.store.disk host.new.store.disk }
+    ensures ok { (w : World) → IsHost host.old w → IfOk result (StepGave
+        (setting T.voice S.after S.clock S.wakes plan ids.now) (stands (at w sources.old host.old.store.disk) stand)
+        host.new sources.new (W.contents writer.old) (W.contents writer.new)) }
+    ensures err { (w : World) → IsHost host.old w → IfErr result (StepFailed
+        (setting T.voice S.after S.clock S.wakes plan ids.now) (stands (at w sources.old host.old.store.disk) stand)
+        host.new sources.new (W.contents writer.old) (W.contents writer.new)) }
+    ensures taken { IfOk result (λ next. IfSome next (λ after. after.taken ≤ length ids.now)) }
+    ensures counts { IfOk result (λ next. IfSome next (λ after.
+        (after.asked ≤ stand.asked + 1) × (after.overs ≤ stand.overs + 1))) }
+{
+    match stand.held {
+        Hold::Free => take_next(alloc, host, sources, plan, ids, stand, tells, writer),
+        Hold::Wait | Hold::Until(_) => {
+            match take_turn(alloc, host, sources, stand, tells, writer) {
+                Ok(next) => Ok(Some(next)),
+                Err(fault) => Err(fault),
+            }
+        }
+    }
+}
