@@ -126,7 +126,7 @@ done
 # In lines of JSON.
 made 'session a plain sh count.sh\nnew 0 a x\n'
 cat >wanted <<'END'
-{"format":1,"program":"tmhost","protocol":1,"type":"hello","version":"0.1.0"}
+{"format":1,"program":"tmhost","protocol":2,"type":"hello","version":"0.1.0"}
 {"life":1,"line":1,"type":"asked"}
 {"life":1,"output":{"items":[],"kind":"format","tag":"verbatim"},"session":"a","shown":"","type":"banner"}
 {"id":1,"life":1,"output":{"items":["x 1"],"kind":"format","tag":"verbatim"},"prompt":"> ","session":"a","shown":"x 1","type":"answered"}
