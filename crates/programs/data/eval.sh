@@ -71,54 +71,39 @@ printf 'x' | dd of=damaged bs=1 seek=0 conv=notrunc 2>errors
 compare 'a damaged worksheet' "$(answer eval damaged </dev/null)" "$(ending 'fault 31 NotASheet\n' 1)"
 words 'no worksheet' 1 'fault 32 Disk\n' eval missing
 
-# Limits of time. An interpreter that answers each line but `loop`, at which it loops until it is interrupted, and `deaf`, at which it
+# Limits of time. An interpreter that answers each line but `loop`, at which it loops until it is interrupted (`env`: also where this
+# script was started with the signal ignored), and `deaf`, at which it
 # loops for ever.
-cat >turns.py <<'END'
-import signal
-import sys
-import time
-
-
-def interrupted(number, frame):
-    raise KeyboardInterrupt
-
-
-def answer(text):
-    sys.stdout.write("\002verbatim:%s\005" % text)
-    sys.stdout.flush()
-
-
-signal.signal(signal.SIGINT, interrupted)
-answer("")
-for line in sys.stdin:
-    line = line.rstrip("\n")
-    try:
-        while line in ("loop", "deaf"):
-            if line == "deaf":
-                signal.signal(signal.SIGINT, signal.SIG_IGN)
-            time.sleep(0.01)
-        answer(line)
-    except KeyboardInterrupt:
-        answer("interrupted")
+cat >turns.sh <<'END'
+trap 'over=1' INT
+printf '\002verbatim:\005'
+while IFS= read -r l; do
+    over=
+    case $l in
+    loop) while [ -z "$over" ]; do sleep 0.05; done; l=interrupted ;;
+    deaf) trap '' INT; while :; do sleep 0.05; done ;;
+    esac
+    printf '\002verbatim:%s\005' "$l"
+done
 END
-made 'session a plain python3 turns.py\nsession b plain sh count.sh\nnew 0 a x\nnew 1 a loop\nnew 2 a y\nnew 3 b z\n'
-evaluates 'a loop is interrupted, and the fields behind it are asked' 1 \
+made 'session a plain env --default-signal=INT sh turns.sh\nsession b plain sh count.sh\nnew 0 a x\nnew 1 a loop\nnew 2 a y\nnew 3 b z\n'
+evaluates 'a loop is interrupted, and the fields after it are asked' 1 \
     'asked\nbanner a\nanswered 1\nasked\nover 2\nanswered 2\nasked\nanswered 3\nasked\nbanner b\nanswered 4\nanswered 4 unanswered 0\nover 1 passed 0\n' \
-    '#1 a\n> x\nx\n#2 a\n> loop\ninterrupted\n#3 a\n> y\ny\n#4 b\n> z\nz 1\n' --timeout 1
+    '#1 a\n> x\nx\n#2 a\n> loop\ninterrupted\n#3 a\n> y\ny\n#4 b\n> z\nz 1\n' --timeout 2
 printf 'remove 2\n' >given
 "$tmhost" run sheet <given >text
 evaluates 'none is over' 0 'asked\nbanner a\nanswered 1\nasked\nanswered 3\nasked\nbanner b\nanswered 4\nanswered 3 unanswered 0\nover 0 passed 0\n' \
     '#1 a\n> x\nx\n#3 a\n> y\ny\n#4 b\n> z\nz 1\n' --timeout 60
 printf 'new 1 a deaf\n' >given
 "$tmhost" run sheet <given >text
-evaluates 'one that hears no interrupt stalls, and the fields behind it keep what they show' 1 \
+evaluates 'one that hears no interrupt stalls, and the fields after it keep what they show' 1 \
     'asked\nbanner a\nanswered 1\nasked\nover 5\nended a Stalled lost 1\nasked\nbanner b\nanswered 4\nanswered 3 unanswered 1\nover 1 passed 1\n' \
-    '#1 a\n> x\nx\n#5 a\n> deaf\n? Stalled\n#3 a\n> y\ny\n#4 b\n> z\nz 1\n' --timeout 1
+    '#1 a\n> x\nx\n#5 a\n> deaf\n? Stalled\n#3 a\n> y\ny\n#4 b\n> z\nz 1\n' --timeout 2
 evaluates 'they go to another interpreter' 1 \
     'asked\nbanner a\nanswered 1\nasked\nover 5\nended a Stalled lost 1\nasked\nbanner a\nanswered 3\nasked\nbanner b\nanswered 4\nanswered 3 unanswered 1\nover 1 passed 0\n' \
-    '#1 a\n> x\nx\n#5 a\n> deaf\n? Stalled\n#3 a\n> y\ny\n#4 b\n> z\nz 1\n' --timeout 1 --keep-going
+    '#1 a\n> x\nx\n#5 a\n> deaf\n? Stalled\n#3 a\n> y\ny\n#4 b\n> z\nz 1\n' --timeout 2 --keep-going
 evaluates 'strictly' 3 'asked\nbanner a\nanswered 1\nasked\nover 5\nended a Stalled lost 1\nanswered 3 unanswered 1\nover 1 passed 2\nstopped at line 4\n' \
-    '#1 a\n> x\nx\n#5 a\n> deaf\n? Stalled\n#3 a\n> y\ny\n#4 b\n> z\nz 1\n' --timeout 1 --strict
+    '#1 a\n> x\nx\n#5 a\n> deaf\n? Stalled\n#3 a\n> y\ny\n#4 b\n> z\nz 1\n' --timeout 2 --strict
 for seconds in 0 1000001 x '' 1.5; do
     words "no time: $seconds" 2 "error: this is no time: SECONDS is a number from 1 to 1000000\n\nFor more information, try 'tmhost eval --help'.\n" eval --timeout "$seconds" sheet
 done
