@@ -14,6 +14,7 @@ from .evaluation import Evaluator
 from .texts import LINE_END, harmless
 
 SECONDS = 2.0  # that an interpreter has to tell completions
+STARTING = 10.0  # where it has to start first
 
 
 class Draft:
@@ -91,7 +92,7 @@ class Completer:
         behind = readline.get_line_buffer()[len(front) :]
         cell = self.draft.with_text(self.session, self.prefix + front + behind)
         cursor = len((self.prefix + front).replace("\n", LINE_END).encode("utf-8", "surrogatepass"))
-        return matches(cell.complete(cursor, SECONDS), front)
+        return matches(cell.complete(cursor, STARTING if session.life is None else SECONDS), front)
 
     def _display(self, substitution: str, found: Sequence[str], longest: int) -> None:
         """The words alone, and the line again below them."""
