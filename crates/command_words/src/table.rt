@@ -88,21 +88,24 @@ commands; 1 at a fault; 2 where the words are refused.\n\n\
 Example: printf 'print\\n' | tmhost live sheet.tm";
 
 const EVAL_NOTES: &str =
-    "It does the script that has an `eval` and a `wait` for each field, in the order\n\
-of the worksheet, and writes what `run` writes of it. Each answer that it reports\n\
-is on the disk. Interpreters start empty; at the end each is stopped. The last line\n\
-has the counts of the whole worksheet, as `answered 12 unanswered 1`.\n\n\
+    "It evaluates the fields in the worksheet's order, each by an `eval` and a `wait`,\n\
+and writes what `live` writes of these. Each answer that it reports is on the disk.\n\
+Interpreters start empty; at the end each is stopped. A line at the end has the\n\
+counts of the whole worksheet, as `answered 12 unanswered 1`.\n\n\
 With --unanswered only fields without an answer are evaluated. With --strict it\n\
 stops after the first field that is lost or refused: the fields after it keep what\n\
-they show, and standard error has `stopped at line N` of that script.\n\n\
-With --timeout SECONDS (1 to 1,000,000) the interpreter of a field that takes longer\n\
-is sent SIGINT, which is reported as `over ID`, and is stopped where it hasn't answered\n\
-two seconds later. Fields after one of their session without an answer are passed\n\
-over then and keep what they show, but with --keep-going. A line `over 1 passed 12`\n\
-has the counts. With --json each line is one object (docs/JSON.md).\n\n\
-Status: 0 where each field of the worksheet shows an answer, in its time; 1 where\n\
-one doesn't, or at a fault; 2 where the words are refused; 3 where --strict stopped it.\n\n\
-Example: tmhost eval sheet.tm";
+they show, and standard error has `stopped at line N`, where the Nth field has the\n\
+lines 2N - 1 and 2N.\n\n\
+With --timeout SECONDS (1 to 1,000,000) the interpreter of a field that takes\n\
+longer is sent SIGINT, which is reported as `over ID`, and is stopped where it\n\
+hasn't answered two seconds later. Fields after one of their session that shows no\n\
+answer are passed over then, and keep what they show, but with --keep-going. A\n\
+line `over 1 passed 12` has these counts. With --json each line is one object\n\
+(docs/JSON.md).\n\n\
+Status: 0 where each field of the worksheet shows an answer, and none was over or\n\
+passed over; 1 where that isn't so, or at a fault; 2 where the words are refused; 3\n\
+where --strict stopped it.\n\n\
+Example: tmhost eval --timeout 10 sheet.tm";
 
 const SHOW_NOTES: &str =
     "It writes and makes no file. A field without an output shows `?`. Where a program\n\
