@@ -66,7 +66,7 @@ helps blocks 'Write the blocks of the stream on standard input, a line each' "Us
 helps create 'Make an empty worksheet' "Usage: ${tmhost##*/} create <PATH>" 'Example: tmhost create sheet.tm' 3
 helps run 'Run the script on standard input over a worksheet' "Usage: ${tmhost##*/} run [OPTIONS] <PATH>" 'Example: tmhost run sheet.tm <script.txt' 1
 helps live 'Hold a worksheet open for lines that come on standard input' "Usage: ${tmhost##*/} live [OPTIONS] <PATH>" "Example: printf 'print\\n' | tmhost live sheet.tm" 1
-helps eval 'Evaluate the fields of a worksheet' "Usage: ${tmhost##*/} eval [OPTIONS] <PATH>" 'Example: tmhost eval sheet.tm' 1
+helps eval 'Evaluate the fields of a worksheet' "Usage: ${tmhost##*/} eval [OPTIONS] <PATH>" 'Example: tmhost eval --timeout 10 sheet.tm' 1
 helps show 'Write a worksheet' "Usage: ${tmhost##*/} show [OPTIONS] <PATH>" 'Example: tmhost show sheet.tm' 1
 helps check 'Evaluate a worksheet again, and write what differs' "Usage: ${tmhost##*/} check [OPTIONS] <PATH>" 'Example: tmhost check --format junit sheet.tm >report.xml' 1
 helps rescue 'Write what stands before a damage to a new worksheet' "Usage: ${tmhost##*/} rescue <PATH> <NEW>" 'Example: tmhost rescue sheet.tm new.tm' 1
