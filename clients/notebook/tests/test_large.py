@@ -55,7 +55,8 @@ new Promise((done) => {
 
 def told(name: str, times: List[float], limit: Optional[float]) -> str:
     middle = sorted(times)[len(times) // 2]
-    beside = [f"{limit:.0f} wanted"] * (limit is not None) + [f"{max(times):.0f} at most"] * (len(times) > 1)
+    wanted = [] if limit is None else [f"{limit:.0f} wanted"]
+    beside = wanted + [f"{max(times):.0f} at most"] * (len(times) > 1)
     return f"{name} {middle:.0f} ms" + (f" ({', '.join(beside)})" if beside else "")
 
 
