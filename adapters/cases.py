@@ -74,7 +74,7 @@ GP: List[Case] = [
     ("Strchr([2, 5, 27])", '%41 = "\\x02\\x05\\e"'),
     ("while (1, )", "..user interrupt", True),
     ("y", r"{latex:$\%42 = 5$}"),
-    ("forprime (p = 2, , print(p))", "..user interrupt", True),
+    ("forprime (p = 2, , print(p); for (i = 1, 10^5, ))", "..user interrupt", True),
     ("while (1, )\u2028y = 6", "..user interrupt", True),
     ("{while (1, )}", "..user interrupt", True),
     ("y", r"{latex:$\%43 = 5$}"),

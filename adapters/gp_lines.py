@@ -102,5 +102,5 @@ LINES: List[Line] = [
     ("print(Strchr(vector(255, i, i)))", "..\\x02"),
     ("1 + 1\u20282 + 2;\u20283 + 3", value(60, "2") + "\n" + value(62, "6")),
     ("1 + 1\u20281/0\u20283 + 3", "..impossible inverse"),
-    ('forprime(p = 2, , print(p))', "..user interrupt", True),
+    ('forprime(p = 2, , print(p); for(i = 1, 10^5, ))', "..user interrupt", True),
 ]
