@@ -1,9 +1,9 @@
 -- What the words of a command line ask for.
-use Rattle.std.specs.Prelude.{Bool, true, false, List, Option, Some, None, codes, if◌then◌else◌}
+use Rattle.std.specs.Prelude.{Bool, true, false, List, [], Option, Some, None, codes, if◌then◌else◌, map, unwrap_or}
 use Rattle.std.specs.Option.{option_map}
 use Rattle.std.specs.Str.{bytes_eq}
-use Rattle.clap.specs.Words.{App, Row, Rule, Text, first_of, new_app, new_rule, subcommand_of, with_rule, with_subcommand}
-use Rattle.clap.specs.declared.builder.action.ArgAction.TheVariants.{SetTrue}
+use Rattle.clap.specs.Words.{App, Row, Rule, Text, all_of, first_of, new_app, new_rule, subcommand_of, with_rule, with_subcommand}
+use Rattle.clap.specs.declared.builder.action.ArgAction.TheVariants.{Append, SetTrue}
 use Rattle.command_words.specs.declared.words.CheckWords.{CheckWords}
 use Rattle.command_words.specs.declared.words.EvalWords.{EvalWords}
 use Rattle.command_words.specs.declared.words.Flags.{Flags}
@@ -32,6 +32,8 @@ pub record EvalView : Type 0 where
   pub json : Bool
   pub keep_going : Bool
   pub timeout : Option Text
+  pub from : Option Text
+  pub ids : List Text
 
 abbrev pub eval_view : EvalWords → EvalView
 eval_view words = record {
@@ -40,6 +42,8 @@ eval_view words = record {
   json = words.json;
   keep_going = words.keep_going;
   timeout = option_map (λ text. text.now) words.timeout;
+  from = option_map (λ text. text.now) words.from;
+  ids = map (λ text. text.now) words.ids.items;
 }
 
 -- a task as contracts see it: a path is its bytes
@@ -117,7 +121,7 @@ accept_rule = record (new_rule (codes "accept")) { long = Some (codes "accept");
 abbrev pub with_check : Text → App
 with_check name = with_rule (with_left_out name) accept_rule
 
--- and of `eval`, with flags and the time that a field may take
+-- and of `eval`, with flags, the time that a field may take, the number of the first field, and numbers of fields after the path
 abbrev pub unanswered_rule : Rule
 unanswered_rule = record (new_rule (codes "unanswered")) { long = Some (codes "unanswered"); action = Some SetTrue }
 
@@ -136,8 +140,20 @@ with_timeout name = with_rule (with_eval_json name) timeout_rule
 abbrev pub keep_going_rule : Rule
 keep_going_rule = record (new_rule (codes "keep-going")) { long = Some (codes "keep-going"); action = Some SetTrue }
 
+abbrev pub with_keep_going : Text → App
+with_keep_going name = with_rule (with_timeout name) keep_going_rule
+
+abbrev pub from_rule : Rule
+from_rule = record (new_rule (codes "from")) { long = Some (codes "from"); value_names = 1 }
+
+abbrev pub with_from : Text → App
+with_from name = with_rule (with_keep_going name) from_rule
+
+abbrev pub ids_rule : Rule
+ids_rule = record (new_rule (codes "ID")) { action = Some Append }
+
 abbrev pub with_eval : Text → App
-with_eval name = with_rule (with_timeout name) keep_going_rule
+with_eval name = with_rule (with_from name) ids_rule
 
 -- and of the one with a second path after the first
 abbrev pub second_rule : Rule
@@ -165,7 +181,7 @@ help_alone name =
 abbrev pub bare_tmhost : App
 bare_tmhost = let a = new_app (codes "tmhost") in record a { top = record a.top { has_version = true } }
 
--- the command line of `tmhost`: subcommands, six of them with a path, `run`, `live`, `show` and `eval` with flags beside it, `check` with options, one with two, and one with a format and a path
+-- the command line of `tmhost`: subcommands, six of them with a path, `run`, `live` and `show` with flags beside it, `eval` with flags, options and numbers, `check` with options, one with two, and one with a format and a path
 abbrev pub tmhost : App
 tmhost = with_subcommand (with_subcommand (with_subcommand (with_subcommand (with_subcommand (with_subcommand (with_subcommand (with_subcommand (with_subcommand
     (with_subcommand bare_tmhost (new_app (codes "blocks")).top)
@@ -191,6 +207,10 @@ flags_view flags = record { strict = flags.strict; json = flags.json; eval = eva
 abbrev pub check_in : List Row → CheckView
 check_in rows = record { format = first_of (codes "format") rows; only = first_of (codes "only") rows; leave_out = first_of (codes "leave-out") rows; accept = is_set (first_of (codes "accept") rows) }
 
+-- the numbers of fields that those of `eval` name
+abbrev pub ids_in : List Row → List Text
+ids_in rows = unwrap_or (all_of (codes "ID") rows) []
+
 -- what those of `eval` ask for
 abbrev pub eval_in : List Row → EvalView
 eval_in rows = record {
@@ -199,6 +219,8 @@ eval_in rows = record {
   json = is_set (first_of (codes "json") rows);
   keep_going = is_set (first_of (codes "keep-going") rows);
   timeout = first_of (codes "timeout") rows;
+  from = first_of (codes "from") rows;
+  ids = ids_in rows;
 }
 
 abbrev pub flags_in : List Row → FlagsView

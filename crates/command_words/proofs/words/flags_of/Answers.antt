@@ -12,4 +12,4 @@ pub returns : goal.returns
 returns c =
     let found = found_of c.args.matches.now in
     viewed _ _ _ _ _ _ _ _ (c.is_set.ensures ∙ ap is_set (c.get_str.ensures ∙ first_value-rows found (codes "strict"))) (c.is_set-2.ensures ∙ ap is_set (c.get_str-2.ensures ∙ first_value-rows found (codes "json")))
-    c.eval_words.ensures c.check_words.ensures
+    c.in_ok-eval.ensures c.check_words.ensures

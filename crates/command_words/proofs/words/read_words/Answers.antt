@@ -13,14 +13,14 @@ tmhost_is_simple_and_free = refl
 tmhost_is_simple : is_simple tmhost ≡ true
 tmhost_is_simple = simple_of tmhost tmhost_is_simple_and_free
 
-pub returns-in-Ok-clause-task : goal.returns-in-Ok-clause-task
-returns-in-Ok-clause-task c =
+pub returns-in_ok-task_of-in-Ok-clause-task : goal.returns-in_ok-task_of-in-Ok-clause-task
+returns-in_ok-task_of-in-Ok-clause-task c =
     let app_is = c.in_ok-command.ensures in
     let rows_are = (c.in-Ok.ensures.matches (ap is_simple app_is ∙ tmhost_is_simple)).1 in
-    c.task_of.ensures ∙ ap by_subcommand (rows_are ∙ ap (λ (app : App). subcommand_of app (map string_bytes c.args.words.now)) app_is)
+    c.in_ok-task_of-in-Ok.ensures ∙ ap by_subcommand (rows_are ∙ ap (λ (app : App). subcommand_of app (map string_bytes c.args.words.now)) app_is)
 
-pub returns-in-Ok-clause-kinds : goal.returns-in-Ok-clause-kinds
-returns-in-Ok-clause-kinds c =
+pub returns-in_ok-task_of-in-Ok-clause-kinds : goal.returns-in_ok-task_of-in-Ok-clause-kinds
+returns-in_ok-task_of-in-Ok-clause-kinds c =
     let app_is = c.in_ok-command.ensures in
     let none = c.in-Ok.ensures.kinds (ap is_simple_and_free app_is ∙ tmhost_is_simple_and_free) in
     ap (λ (app : App). fault_of app (map string_bytes c.args.words.now)) (sym app_is) ∙ none

@@ -28,8 +28,8 @@ returns-in-Some-get_str-3 c =
     c.task_with_format.ensures (flags_in (rows_of found)) ∙ sym (ap by_subcommand rows_are ∙ ap (λ (path : Option Text). by_paths c.in-Some.name.now path (first_of (codes "NEW") (rows_of found)) (first_of (codes "FORMAT") (rows_of found)) (flags_in (rows_of found))) path_is
     ∙ ap₂ (λ (new format : Option Text). by_paths c.in-Some.name.now (Some c.in-Some-get_str.path.now) new format (flags_in (rows_of found))) new_is format_is)
 
-pub returns-in-None : goal.returns-in-None
-returns-in-None c =
+pub returns-in_ok-flags_of-in-None : goal.returns-in_ok-flags_of-in-None
+returns-in_ok-flags_of-in-None c =
     let found = found_of c.in-Some.inner.now in
     let rows_are = joined (out-ArgMatches c.args.matches.now).subcommand (λ b. (out-SubCommand (box_value b)).name.now)
     (λ b. rows_of (found_of (out-SubCommand (box_value b)).matches)) c.in-Some.name.now (rows_of found) c.in-Some.ensures.name c.in-Some.ensures.rows in
@@ -38,7 +38,7 @@ returns-in-None c =
     let format_is : first_of (codes "FORMAT") (rows_of found) ≡ None = sym (first_value-rows found (codes "FORMAT")) ∙ sym c.in-None.ensures in
     c.task_with_path.ensures ∙ sym (ap by_subcommand rows_are ∙ ap (λ (path : Option Text). by_paths c.in-Some.name.now path (first_of (codes "NEW") (rows_of found)) (first_of (codes "FORMAT") (rows_of found)) (flags_in (rows_of found))) path_is
     ∙ ap₂ (λ (new format : Option Text). by_paths c.in-Some.name.now (Some c.in-Some-get_str.path.now) new format (flags_in (rows_of found))) new_is format_is
-    ∙ ap (λ (flags : FlagsView). by_paths c.in-Some.name.now (Some c.in-Some-get_str.path.now) None None flags) (sym c.flags_of.ensures))
+    ∙ ap (λ (flags : FlagsView). by_paths c.in-Some.name.now (Some c.in-Some-get_str.path.now) None None flags) (sym c.in_ok-flags_of-in-None.ensures))
 
 pub returns-in_default-get_str : goal.returns-in_default-get_str
 returns-in_default-get_str c =

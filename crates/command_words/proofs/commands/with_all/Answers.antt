@@ -2,7 +2,7 @@ use Rattle.std.proofs.Common.{◌≡◌, ◌∙◌, ◌≤◌, ap, arith, subst,
 use native.Mathlib.Numerals.{unary_clauses}
 use Rattle.clap.specs.Words.{App, app_of, with_subcommand}
 use Rattle.command_words.specs.inside.Table as asked
-use Rattle.command_words.proofs.words.with_all.Goals as goal
+use Rattle.command_words.proofs.commands.with_all.Goals as goal
 
 pub loop-at-preserved : goal.loop-at-preserved
 loop-at-preserved c =
