@@ -13,7 +13,7 @@ pub(crate) enum Shape {
     Strict,
     /// PATH, and the flag `--json`.
     Json,
-    /// PATH, and the flags and the option of an evaluation.
+    /// PATH and numbers of fields, and the flags and options of an evaluation.
     Eval,
     /// PATH, and the options of a report and of which fields it is about.
     Check,
@@ -92,10 +92,14 @@ const EVAL_NOTES: &str =
 and writes what `live` writes of these. Each answer that it reports is on the disk.\n\
 Interpreters start empty; at the end each is stopped. A line at the end has the\n\
 counts of the whole worksheet, as `answered 12 unanswered 1`.\n\n\
-With --unanswered only fields without an answer are evaluated. With --strict it\n\
-stops after the first field that is lost or refused: the fields after it keep what\n\
-they show, and standard error has `stopped at line N`, where the Nth field has the\n\
-lines 2N - 1 and 2N.\n\n\
+With IDs only the fields with these numbers are evaluated, each once; with --from\n\
+the field with this number and those after it. Both at once are refused. Variables\n\
+of fields that aren't evaluated are missing. Where no field has one of the numbers\n\
+nothing is evaluated: that is the fault 37 NoField. With --unanswered only those of\n\
+all, of the IDs or from the ID on that show no answer are evaluated.\n\n\
+With --strict it stops after the first field that is lost or refused: the fields\n\
+after it keep what they show, and standard error has `stopped at line N`, where the\n\
+Nth field that is evaluated has the lines 2N - 1 and 2N.\n\n\
 With --timeout SECONDS (1 to 1,000,000) the interpreter of a field that takes\n\
 longer is sent SIGINT, which is reported as `over ID`, and is stopped where it\n\
 hasn't answered two seconds later. Fields after one of their session that shows no\n\
@@ -105,7 +109,7 @@ line `over 1 passed 12` has these counts. With --json each line is one object\n\
 Status: 0 where each field of the worksheet shows an answer, and none was over or\n\
 passed over; 1 where that isn't so, or at a fault; 2 where the words are refused; 3\n\
 where --strict stopped it.\n\n\
-Example: tmhost eval --timeout 10 sheet.tm";
+Example: tmhost eval --timeout 10 sheet.tm 3 7";
 
 const SHOW_NOTES: &str =
     "It writes and makes no file. A field without an output shows `?`. Where a program\n\
@@ -185,6 +189,8 @@ const FAULTS_NOTES: &str =
 35 InUse         another program has the worksheet; nothing was done: wait for its end\n\
 36 NoScript      a session has a word with a space, which no line of a script makes;\n\
 \x20                nothing was written: export it in another format\n\
+37 NoField ID    no field has this number, which was given to `eval`; nothing was\n\
+\x20                evaluated: `show` has the numbers\n\
 40 Input         standard input can't be read; nothing was done: give it again. Of\n\
 \x20                `live`: at some line; all that was printed is kept\n\
 41 InputTooLong  more than 67,108,864 bytes; nothing was done: cut it into parts\n\

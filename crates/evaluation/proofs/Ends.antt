@@ -16,7 +16,6 @@ use Rattle.child_edge.specs.Moments.{LeavesFronts}
 use Rattle.child_edge.specs.Seats.{running, waits}
 use Rattle.child_edge.specs.Stops.{Stops}
 use Rattle.child_edge.proofs.Timeline.{Goes, goes_on_by, follows-goes, taken-goes, goes_leaves, goes_up_to}
-use Rattle.sheet_programs.specs.Run.{OpenedOn}
 use Rattle.sheet_programs.specs.Told.{StandsOrStopped}
 use Rattle.sheet_programs.proofs.Runs.{StopsIn, stops_behind, no_beats, goes_anyhow, goes_same, min_since}
 use Rattle.offline_programs.specs.declared.fault.RunFault.{RunFault}
@@ -30,7 +29,7 @@ use Rattle.evaluation.specs.Meant.{EndsHere, evaluation_counts, stop_line}
 use Rattle.evaluation.specs.Steps.{Setting, EvalPlace, Step, ask, heard, over, stalled, StepComes, StepDone, StepsTaken, fields_at, stands, woken_in}
 use Rattle.evaluation.specs.Broken.{Cut, StepLed, StepSoFar, StepUpTo, TooMany, Unwatched}
 use Rattle.evaluation.specs.Broken as broken
-use Rattle.evaluation.specs.Evaluation.{Ends, EvaluationDone, LedOf, Short, SoFarOf, StoppedOf, TellsEvaluation, Uncounted, not_begun, meaning}
+use Rattle.evaluation.specs.Evaluation.{Ends, EvaluationDone, LedOf, Short, SoFarOf, StoppedOf, TellsEvaluation, Uncounted, Begins, not_begun, meaning}
 use Rattle.evaluation.specs.inside.Stepping.{BrokeOff, CameSoFar, CameUnwritten, Through, ThroughAnd}
 
 -- The stops.
@@ -109,13 +108,13 @@ short-goes o p beats text t q = cut-goes o p (StepSoFar o) beats text t (λ r s 
 
 -- What is left.
 
-module _ {C : Type 0} (o : Setting C) (disk now : DiskView) (c d : C) (a b : Option (List ℕ)) (start : World) (h : HostView) (opened : OpenedOn disk start now) (held : HoldsSheet start now) where
+module _ {C : Type 0} (o : Setting C) (disk now : DiskView) (c d : C) (a b : Option (List ℕ)) (start : World) (h : HostView) (begins : Begins o disk start now) (held : HoldsSheet start now) where
   so-far-of : (Came : Setting C → EvalPlace C → List Beat → List ℕ → At C → Type 0) → ((beats : List Beat) (text : List ℕ) (t : At C) → Came (meaning o start) (stands (at start c now) not_begun) beats text t → Goes start now beats t.world t.disk)
       → CameSoFar (Came (meaning o start) (stands (at start c now) not_begun)) (StoppedBehind o.after d) h a b → SoFarOf o disk c d a b Came
   so-far-of Came goes t = record {
     start = start;
     now = now;
-    opened = opened;
+    begins = begins;
     beats = t.0;
     text = t.1;
     leads = t.2;
@@ -129,7 +128,7 @@ module _ {C : Type 0} (o : Setting C) (disk now : DiskView) (c d : C) (a b : Opt
   led-of same t = record {
     start = start;
     now = now;
-    opened = opened;
+    begins = begins;
     beats = t.0;
     text = t.1;
     leads = t.2;
@@ -148,7 +147,7 @@ module _ {C : Type 0} (o : Setting C) (disk now : DiskView) (c d : C) (a b : Opt
   evaluation_failed nothing (fault.Host f) same t = record {
     start = start;
     now = now;
-    opened = opened;
+    begins = begins;
     beats = t.0;
     text = t.1;
     failed = t.2;
@@ -171,11 +170,12 @@ module _ {C : Type 0} (o : Setting C) (disk now : DiskView) (c d : C) (a b : Opt
     evaluation_done e back stopped counts same is counted told = record {
       start = start;
       now = now;
-      opened = opened;
+      opened = begins.0;
       beats = t.1;
       text = t.2 ++ o.voice.note (note.Counted counts);
       leads = t.3;
       lines = record {
+        there = begins.1;
         steps = t.0;
         stand = stand;
         first = t.2;
@@ -195,7 +195,7 @@ module _ {C : Type 0} (o : Setting C) (disk now : DiskView) (c d : C) (a b : Opt
     uncounted = record {
       start = start;
       now = now;
-      opened = opened;
+      begins = begins;
       steps = t.0;
       beats = t.1;
       text = t.2;

@@ -1,4 +1,5 @@
 pub mod Meaning
+pub mod InVain
 pub mod Taking
 pub mod Goings
 pub mod Ends

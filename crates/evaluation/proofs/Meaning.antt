@@ -1,40 +1,107 @@
 -- The fields that are to be evaluated.
-use Rattle.std.proofs.Common.{◌≡◌, ◌⊎◌, inl, inr, absurd, ◌+◌, ◌≤◌, ◌<◌, ◌^◌, ℕ, suc, subst, Bool, true, false, List, [], ◌∷◌, ◌++◌, refl, ap, sym, ◌∙◌, append_assoc, append-nil, length, arith}
+use Rattle.std.proofs.Common.{◌≡◌, ◌⊎◌, inl, inr, absurd, ◌+◌, ◌≤◌, ◌<◌, ◌^◌, ◌==◌, ◌&&◌, ℕ, subst, Bool, true, false, List, [], ◌∷◌, ◌++◌, refl, ap, sym, ◌∙◌, append_assoc, append-nil, length, arith, map}
+use Rattle.std.specs.Prelude.{cond}
+use Rattle.std.specs.List.{filter}
 use Rattle.std.proofs.lemmas.Bool.{cases_lt}
+use Rattle.std.proofs.lemmas.List.{length-map}
+use Rattle.std.proofs.lemmas.List.Sums.{count_by-le-length, length-filter}
 use Rattle.worksheet.specs.declared.field.Field.{Field}
 use Rattle.evaluation.specs.declared.plan.Plan.{Plan}
 use Rattle.evaluation.specs.declared.plan.Which.{Which}
-use Rattle.evaluation.specs.Meant.{IsNext, is_meant, is_passed, meant_in, id_if}
+use Rattle.evaluation.specs.declared.plan.Which.TheVariants as which
+use Rattle.evaluation.specs.Meant.{IsNext, asked_for, fields_from, is_meant, is_one_of, is_passed, meant_in}
+use Rattle.evaluation.specs.inside.Choosing.{id_if, is_asked_for}
 
--- the numbers of a front of the fields, and these fields are to come
-pub record MeantSoFar (which : Which) (all left : List Field) (ids : List ℕ) : Type 0 where
-  pub whole : ids ++ meant_in which left ≡ meant_in which all
+-- Those that are asked for of the fields that are to come, where the one before them is asked for or isn't.
+abbrev pub asked_left : Which → Bool → List Field → List Field
+asked_left which.All before left = left
+asked_left (which.Named ids) before left = filter (is_one_of ids) left
+asked_left (which.From id) true left = left
+asked_left (which.From id) false left = fields_from id left
 
-pub none_meant : (which : Which) (all left : List Field) (ids : List ℕ) → ids ≡ [] → left ≡ all → MeantSoFar which all left ids
-none_meant which all left ids none e = record { whole = ap (λ (x : List ℕ). x ++ meant_in which left) none ∙ ap (meant_in which) e }
+abbrev pub ids_of : (Field → Bool) → List Field → List ℕ
+ids_of test fields = map (λ field. field.id) (filter test fields)
 
-pub more_meant : (which : Which) (all left : List Field) (field : Field) (others : List Field) (ids more : List ℕ) → left ≡ field ∷ others → MeantSoFar which all left ids → more ≡ ids ++ id_if (is_meant which field) field.id
-    → MeantSoFar which all others more
-more_meant which all left field others ids more e so is = record {
-  whole = ap (λ (x : List ℕ). x ++ meant_in which others) is ∙ append_assoc ids (id_if (is_meant which field) field.id) (meant_in which others) ∙ ap (λ fields. ids ++ meant_in which fields) (sym e) ∙ so.whole;
+abbrev pub meant_left : Plan → Bool → List Field → List ℕ
+meant_left plan before left = ids_of (is_meant plan) (asked_left plan.which before left)
+
+all_left : (which : Which) (fields : List Field) → asked_left which false fields ≡ asked_for which fields
+all_left which.All fields = refl
+all_left (which.Named ids) fields = refl
+all_left (which.From id) fields = refl
+
+none_left : (which : Which) (before : Bool) → asked_left which before [] ≡ []
+none_left which.All before = refl
+none_left (which.Named ids) before = refl
+none_left (which.From id) true = refl
+none_left (which.From id) false = refl
+
+kept : (b : Bool) (id : ℕ) (ids : List ℕ) (field : Field) (fields : List Field) → field.id ≡ id → map (λ (f : Field). f.id) fields ≡ ids → map (λ (f : Field). f.id) (cond b (field ∷ fields) fields) ≡ id_if b id ++ ids
+kept true id ids field fields e f = cc
+kept false id ids field fields e f = f
+
+passed : (b : Bool) (test : Field → Bool) (field : Field) (others : List Field) → ids_of test (cond b (field ∷ others) others) ≡ id_if (b && test field) field.id ++ ids_of test others
+passed true test field others = kept (test field) field.id (ids_of test others) field (filter test others) refl refl
+passed false test field others = refl
+
+begun : (b : Bool) (id : ℕ) (test : Field → Bool) (field : Field) (others : List Field)
+    → ids_of test (cond b (field ∷ others) (fields_from id others)) ≡ id_if (b && test field) field.id ++ ids_of test (asked_left (which.From id) b others)
+begun true id test field others = passed true test field others
+begun false id test field others = refl
+
+one_left : (which : Which) (before : Bool) (test : Field → Bool) (field : Field) (others : List Field)
+    → ids_of test (asked_left which before (field ∷ others)) ≡ id_if (is_asked_for which before field && test field) field.id ++ ids_of test (asked_left which (is_asked_for which before field) others)
+one_left which.All before test field others = passed true test field others
+one_left (which.Named ids) before test field others = passed (is_one_of ids field) test field (filter (is_one_of ids) others)
+one_left (which.From id) true test field others = passed true test field others
+one_left (which.From id) false test field others = begun (field.id == id) id test field others
+
+-- the numbers of a front of the fields, of which the last one is asked for or isn't, and these fields are to come
+pub record MeantSoFar (plan : Plan) (all left : List Field) (before : Bool) (ids : List ℕ) : Type 0 where
+  pub whole : ids ++ meant_left plan before left ≡ meant_in plan all
+
+pub none_meant : (plan : Plan) (all left : List Field) (before : Bool) (ids : List ℕ) → ids ≡ [] → left ≡ all → before ≡ false → MeantSoFar plan all left before ids
+none_meant plan all left before ids none e not_yet = record {
+  whole = ap (λ (x : List ℕ). x ++ meant_left plan before left) none ∙ ap (λ (b : Bool). meant_left plan b left) not_yet ∙ ap (λ (fields : List Field). meant_left plan false fields) e ∙ ap (ids_of (is_meant plan)) (all_left plan.which all);
 }
 
-pub all_meant : (which : Which) (all left : List Field) (ids : List ℕ) → left ≡ [] → MeantSoFar which all left ids → ids ≡ meant_in which all
-all_meant which all left ids e so = sym (append-nil ids) ∙ ap (λ fields. ids ++ meant_in which fields) (sym e) ∙ so.whole
+pub more_meant : (plan : Plan) (all left : List Field) (before after : Bool) (field : Field) (others : List Field) (ids more : List ℕ) → left ≡ field ∷ others → MeantSoFar plan all left before ids → after ≡ is_asked_for plan.which before field
+    → more ≡ ids ++ id_if (after && is_meant plan field) field.id → MeantSoFar plan all others after more
+more_meant plan all left before after field others ids more e so goes is =
+    let put : Bool → List ℕ = λ b. id_if (b && is_meant plan field) field.id in
+    let one = one_left plan.which before (is_meant plan) field others in
+    record {
+      whole = ap (λ (x : List ℕ). x ++ meant_left plan after others) is ∙ append_assoc ids (put after) (meant_left plan after others) ∙ ap (λ (b : Bool). ids ++ (put b ++ meant_left plan b others)) goes
+          ∙ ap (λ (x : List ℕ). ids ++ x) (sym one) ∙ ap (λ (fields : List Field). ids ++ meant_left plan before fields) (sym e) ∙ so.whole;
+    }
+
+pub all_meant : (plan : Plan) (all left : List Field) (before : Bool) (ids : List ℕ) → left ≡ [] → MeantSoFar plan all left before ids → ids ≡ meant_in plan all
+all_meant plan all left before ids e so =
+    sym (append-nil ids) ∙ ap (λ (fields : List Field). ids ++ ids_of (is_meant plan) fields) (sym (none_left plan.which before)) ∙ ap (λ (fields : List Field). ids ++ meant_left plan before fields) (sym e) ∙ so.whole
 
 pub ruleset meant_steps = (none_meant, more_meant, all_meant)
 
-few-more : (b : Bool) (id : ℕ) (ids : List ℕ) (n : ℕ) → length ids ≤ n → length (id_if b id ++ ids) ≤ suc n
-few-more true id ids n p = omega (arith, p)
-few-more false id ids n p = omega (arith, p)
+few-cond : (b : Bool) (field : Field) (fields rest : List Field) → length rest ≤ length fields → length (cond b (field ∷ fields) rest) ≤ length (field ∷ fields)
+few-cond true field fields rest few = omega arith
+few-cond false field fields rest few = omega (arith, few)
+
+few-from : (id : ℕ) (fields : List Field) → length (fields_from id fields) ≤ length fields
+few-from id [] = omega arith
+few-from id (field ∷ fields) = few-cond (field.id == id) field fields (fields_from id fields) (few-from id fields)
+
+few-asked : (which : Which) (fields : List Field) → length (asked_for which fields) ≤ length fields
+few-asked which.All fields = omega arith
+few-asked (which.Named ids) fields = omega (arith, length-filter (is_one_of ids) fields, count_by-le-length (is_one_of ids) fields)
+few-asked (which.From id) fields = few-from id fields
 
 -- no more than there are fields
-pub few_meant : (which : Which) (fields : List Field) → length (meant_in which fields) ≤ length fields
-few_meant which [] = omega arith
-few_meant which (field ∷ fields) = few-more (is_meant which field) field.id (meant_in which fields) (length fields) (few_meant which fields)
+pub few_meant : (plan : Plan) (fields : List Field) → length (meant_in plan fields) ≤ length fields
+few_meant plan fields =
+    let asked = asked_for plan.which fields in
+    omega (arith, length-map (filter (is_meant plan) asked) (λ (field : Field). field.id), length-filter (is_meant plan) asked, count_by-le-length (is_meant plan) asked, few-asked plan.which fields)
 
-pub few_ids : (which : Which) (fields : List Field) (ids : List ℕ) → ids ≡ meant_in which fields → length fields < 2 ^ 31 → length ids < 2 ^ 31
-few_ids which fields ids is few = omega (arith, ap length is, few_meant which fields, few)
+pub few_ids : (plan : Plan) (fields : List Field) (ids : List ℕ) → ids ≡ meant_in plan fields → length fields < 2 ^ 31 → length ids < 2 ^ 31
+few_ids plan fields ids is few = omega (arith, ap length is, few_meant plan fields, few)
 
 -- one more is passed over
 pub next_one : (plan : Plan) (fields : List Field) (meant : List ℕ) (from at : ℕ) → IsNext plan fields meant from at → is_passed plan fields meant at ≡ true → IsNext plan fields meant from (at + 1)

@@ -1,5 +1,5 @@
 -- The evaluation of a worksheet's fields: what it leaves at its end, and what a fault of it leaves. (docs/SCRIPT.md, "Evaluating a worksheet".)
-use Rattle.std.specs.Prelude.{◌≡◌, ◌⊎◌, ℕ, false, true, List, ◌++◌, Option, None, length}
+use Rattle.std.specs.Prelude.{◌≡◌, ◌⊎◌, ℕ, false, true, List, ◌++◌, Option, Some, None, length}
 use Rattle.std.specs.Io.KnownBytes.{Appends}
 use Rattle.disk_model.specs.Disk.{DiskView, InModel, SameDisk, bytes_on}
 use Rattle.recovery.specs.Sheets.{TellsOfSheet}
@@ -16,17 +16,27 @@ use Rattle.sheet_programs.specs.Run.{OpenedOn, RunOf}
 use Rattle.sheet_programs.specs.Told.{LeavesFrontsAnyhow}
 use Rattle.offline_programs.specs.declared.fault.RunFault.{RunFault}
 use Rattle.offline_programs.specs.declared.fault.RunFault.TheVariants as fault
+use Rattle.evaluation.specs.declared.fault.EvalFault.{EvalFault}
+use Rattle.evaluation.specs.declared.fault.EvalFault.TheVariants as evals
 use Rattle.tellings.specs.declared.note.Counts.{Counts}
 use Rattle.tellings.specs.declared.note.Note.TheVariants as note
 use Rattle.live.specs.declared.holding.Hold.TheVariants as hold
 use Rattle.evaluation.specs.declared.plan.Stand.{Stand}
-use Rattle.evaluation.specs.Meant.{EndsHere, evaluation_counts, meant_in}
+use Rattle.evaluation.specs.Meant.{EndsHere, evaluation_counts, meant_in, missing_in}
 use Rattle.evaluation.specs.Steps.{Setting, EvalPlace, Step, StepsTaken, fields_at, stands}
 use Rattle.evaluation.specs.Broken.{Cut, StepUpTo, StepSoFar, StepLed, Unwatched, TooMany}
 
 -- how the fields are evaluated that are meant in the worksheet of this world
 abbrev pub meaning : {C : Type 0} → Setting C → World → Setting C
-meaning o w = record { voice = o.voice; after = o.after; clock = o.clock; wakes = o.wakes; plan = o.plan; meant = meant_in o.plan.which (sheet_in w).fields }
+meaning o w = record { voice = o.voice; after = o.after; clock = o.clock; wakes = o.wakes; plan = o.plan; meant = meant_in o.plan (sheet_in w).fields }
+
+-- the worksheet of this world has each field that is asked for
+abbrev pub HasThem : {C : Type 0} → Setting C → World → Type 0
+HasThem o w = missing_in o.plan.which (sheet_in w).fields ≡ None
+
+-- The evaluation begins on this disk, in which the worksheet of this world was found: each field that is asked for is there.
+abbrev pub Begins : {C : Type 0} → Setting C → DiskView → World → DiskView → Type 0
+Begins o disk start now = OpenedOn disk start now × HasThem o start
 
 -- nothing was asked yet
 abbrev pub not_begun : Stand
@@ -36,8 +46,9 @@ not_begun = record { taken = 0; field = 0; held = hold.Free; warned = false; at_
 abbrev pub Ends : {C : Type 0} → Setting C → EvalPlace C → Option ℕ → Type 0
 Ends o p stopped = (p.stand.held ≡ hold.Free) × EndsHere o.plan (fields_at p) o.meant p.stand stopped
 
--- The fields were evaluated up to the end, and then the counts were told.
+-- Each field that is asked for is there, they were evaluated up to the end, and then the counts were reported.
 pub record Counted {C : Type 0} (o : Setting C) (stopped : Option ℕ) (counts : Counts) (s : At C) (beats : List Beat) (text : List ℕ) (t : At C) : Type 0 where
+  pub there : HasThem o s.world
   pub steps : List Step
   pub stand : Stand
   pub first : List ℕ
@@ -50,12 +61,12 @@ pub record Counted {C : Type 0} (o : Setting C) (stopped : Option ℕ) (counts :
 abbrev pub EvaluationDone : {C : Type 0} → Setting C → DiskView → C → C → Option (List ℕ) → Option (List ℕ) → DiskView → Option ℕ → Counts → Type 0
 EvaluationDone o disk c d a b back stopped counts = RunOf o.after (Counted o stopped counts) disk c d a b back
 
--- At an event the host had this fault, and its disk was left as told. What was told before is written, and each life that goes on was
--- stopped.
+-- At an event the host had this fault, which says how its disk was left. What was reported before is written, and each life that goes on
+-- was stopped.
 pub record StoppedOf {C : Type 0} (o : Setting C) (disk : DiskView) (c d : C) (a b : Option (List ℕ)) (f : HostFault) : Type 0 where
   pub start : World
   pub now : DiskView
-  pub opened : OpenedOn disk start now
+  pub begins : Begins o disk start now
   pub beats : List Beat
   pub text : List ℕ
   pub failed : Event
@@ -68,11 +79,11 @@ pub record StoppedOf {C : Type 0} (o : Setting C) (disk : DiskView) (c d : C) (a
   pub stops : Stops o.after (running leads.world) leads.children d
   pub wrote : Appends a b text
 
--- So far it came. What was told is written, and each life that goes on was stopped.
+-- So far it came. What was reported is written, and each life that goes on was stopped.
 pub record SoFarOf {C : Type 0} (o : Setting C) (disk : DiskView) (c d : C) (a b : Option (List ℕ)) (Came : Setting C → EvalPlace C → List Beat → List ℕ → At C → Type 0) : Type 0 where
   pub start : World
   pub now : DiskView
-  pub opened : OpenedOn disk start now
+  pub begins : Begins o disk start now
   pub beats : List Beat
   pub text : List ℕ
   pub leads : At C
@@ -85,7 +96,7 @@ pub record SoFarOf {C : Type 0} (o : Setting C) (disk : DiskView) (c d : C) (a b
 pub record LedOf {C : Type 0} (o : Setting C) (disk : DiskView) (c d : C) : Type 0 where
   pub start : World
   pub now : DiskView
-  pub opened : OpenedOn disk start now
+  pub begins : Begins o disk start now
   pub beats : List Beat
   pub text : List ℕ
   pub leads : At C
@@ -95,11 +106,11 @@ pub record LedOf {C : Type 0} (o : Setting C) (disk : DiskView) (c d : C) : Type
   pub moments : LeavesFrontsAnyhow start beats now host leads.world leads.disk
   pub stops : Stops o.after (running leads.world) leads.children d
 
--- It came to its end, each life that goes on was stopped, and the counts couldn't be told.
+-- It came to its end, each life that goes on was stopped, and the counts couldn't be written.
 pub record Uncounted {C : Type 0} (o : Setting C) (disk : DiskView) (c d : C) : Type 0 where
   pub start : World
   pub now : DiskView
-  pub opened : OpenedOn disk start now
+  pub begins : Begins o disk start now
   pub steps : List Step
   pub beats : List Beat
   pub text : List ℕ
@@ -127,3 +138,9 @@ TellsEvaluation o disk c d a b nothing fault.InUse = ⊥
 TellsEvaluation o disk c d a b nothing (fault.Host f) = StoppedOf o disk c d a b f
 TellsEvaluation o disk c d a b nothing fault.OutOfMemory = nothing ⊎ (SoFarOf o disk c d a b Short ⊎ ((o.voice.takes_memory ≡ true) × Untold o disk c d))
 TellsEvaluation o disk c d a b nothing fault.Output = Untold o disk c d
+
+-- What a fault of it says where that may be a field that isn't there: then this is the first number that no field of the worksheet found
+-- on the disk has, and nothing was done.
+abbrev pub TellsEvalFault : {C : Type 0} → Setting C → DiskView → C → C → Option (List ℕ) → Option (List ℕ) → Type 0 → EvalFault → Type 0
+TellsEvalFault o disk c d a b nothing (evals.NoField id) = nothing × ((start : World) × (now : DiskView) × OpenedOn disk start now × (missing_in o.plan.which (sheet_in start).fields ≡ Some id))
+TellsEvalFault o disk c d a b nothing (evals.Run why) = TellsEvaluation o disk c d a b nothing why

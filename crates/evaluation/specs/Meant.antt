@@ -1,5 +1,5 @@
 -- Which fields are evaluated, which of them are passed over, and what an evaluation comes to. (docs/SCRIPT.md, "Evaluating a worksheet".)
-use Rattle.std.specs.Prelude.{◌≡◌, ◌<◌, ◌≤◌, ◌-◌, ◌*◌, ◌&&◌, ℕ, Bool, true, false, not, List, [], ◌∷◌, Option, Some, None, count_by, flat_map, is_some, length, slice_get, take}
+use Rattle.std.specs.Prelude.{◌≡◌, ◌==◌, ◌<◌, ◌≤◌, ◌-◌, ◌*◌, ◌&&◌, ℕ, Bool, true, false, not, List, [], ◌∷◌, Option, Some, None, count_by, filter, find, if◌then◌else◌, is_some, length, map, slice_get, take}
 use Rattle.std.specs.List.{list_any}
 use Rattle.std.specs.Str.{bytes_eq}
 use Rattle.worksheet.specs.Checks.{field_in}
@@ -15,18 +15,38 @@ use Rattle.evaluation.specs.declared.plan.Which.TheVariants as which
 abbrev pub is_answered : Field → Bool
 is_answered field = is_some field.answer
 
--- Whether a field is to be evaluated.
-abbrev pub is_meant : Which → Field → Bool
-is_meant which.All field = true
-is_meant which.Unanswered field = not (is_answered field)
+-- one of these numbers is that of this field
+abbrev pub is_one_of : List ℕ → Field → Bool
+is_one_of ids field = list_any (λ id. id == field.id) ids
 
-abbrev pub id_if : Bool → ℕ → List ℕ
-id_if true id = id ∷ []
-id_if false id = []
+-- the field with this number and those after it
+abbrev pub fields_from : ℕ → List Field → List Field
+fields_from id [] = []
+fields_from id (field ∷ fields) = if field.id == id then field ∷ fields else fields_from id fields
 
--- the numbers of those of these fields that are to be evaluated, in their order
-abbrev pub meant_in : Which → List Field → List ℕ
-meant_in which fields = flat_map (λ field. id_if (is_meant which field) field.id) fields
+-- The fields that are asked for: all, those that are named, or one and those after it.
+abbrev pub asked_for : Which → List Field → List Field
+asked_for which.All fields = fields
+asked_for (which.Named ids) fields = filter (is_one_of ids) fields
+asked_for (which.From id) fields = fields_from id fields
+
+-- Whether a field that is asked for is to be evaluated.
+abbrev pub is_meant : Plan → Field → Bool
+is_meant plan field = not (plan.unanswered && is_answered field)
+
+-- The numbers of the fields that are to be evaluated, each once, in the worksheet's order.
+abbrev pub meant_in : Plan → List Field → List ℕ
+meant_in plan fields = map (λ field. field.id) (filter (is_meant plan) (asked_for plan.which fields))
+
+-- no field has this number
+abbrev pub is_missing : List Field → ℕ → Bool
+is_missing fields id = not (is_some (field_in fields id))
+
+-- The first number that is asked for and that no field has. Where there is one, nothing is evaluated.
+abbrev pub missing_in : Which → List Field → Option ℕ
+missing_in which.All fields = None
+missing_in (which.Named ids) fields = find (is_missing fields) ids
+missing_in (which.From id) fields = find (is_missing fields) (id ∷ [])
 
 -- this one of these fields shows no answer
 abbrev pub shows_none : Option Field → Bool
@@ -69,7 +89,7 @@ IsNext plan fields meant from at = (from ≤ at) × ((k : ℕ) → from ≤ k �
 abbrev pub line_behind : ℕ → ℕ
 line_behind taken = 2 * taken - 1
 
--- The line of the last field, where that went wrong: no item waited behind its `eval`, or it shows no answer.
+-- The line of the last field, where that went wrong: no item waited after its `eval`, or it shows no answer.
 abbrev pub wrong_line : List Field → Stand → Option ℕ
 wrong_line fields stand = wrong_by stand.at_once (is_unanswered fields stand.field) stand.taken
   where
@@ -78,7 +98,7 @@ wrong_line fields stand = wrong_by stand.at_once (is_unanswered fields stand.fie
     wrong_by false true taken = Some (2 * taken)
     wrong_by false false taken = None
 
--- the line behind which a strict evaluation stops here, if it does
+-- the line after which a strict evaluation stops here, if it does
 abbrev pub stop_line : Bool → List Field → Stand → Option ℕ
 stop_line false fields stand = None
 stop_line true fields stand = wrong_line fields stand
@@ -91,7 +111,7 @@ pub record IsAsked (plan : Plan) (fields : List Field) (meant : List ℕ) (stand
   pub there : slice_get meant k ≡ Some id
   pub asked : is_passed plan fields meant k ≡ false
 
--- It comes to its end here: a strict one stops behind this line, or all fields that are to come are passed over.
+-- It comes to its end here: a strict one stops after this line, or all fields that are to come are passed over.
 pub record EndsHere (plan : Plan) (fields : List Field) (meant : List ℕ) (stand : Stand) (stopped : Option ℕ) : Type 0 where
   pub is : stopped ≡ stop_line plan.strict fields stand
   pub all : stopped ≡ None → IsNext plan fields meant stand.taken (length meant)

@@ -4,7 +4,8 @@ ghost use Rattle.std.specs.List.{list_any};
 ghost use Rattle.std.specs.Option.{option_copied};
 ghost use Rattle.evaluation.specs.Meant as meant;
 
-use crate::plan::{Plan, Stand, is_answered};
+use crate::choosing::is_answered;
+use crate::plan::{Plan, Stand};
 use worksheet::{Field, Name, Sheet};
 
 /// Whether this field shows no answer.
@@ -35,7 +36,7 @@ fn are_lost_of(sheet: &Sheet, ids: &[u32], session: Name) -> bool
         .any(|id| shows_none_of(session, sheet.field(*id)))
 }
 
-/// Whether a field stands behind one of its session that shows no answer.
+/// Whether a field stands after one of its session that shows no answer.
 fn is_behind_lost(sheet: &Sheet, front: &[u32], field: Option<&Field>) -> bool
     ensures { result ≡ meant.is_behind_lost sheet.now.contents.fields front.now (option_copied field.entry) }
 {
@@ -46,9 +47,9 @@ fn is_behind_lost(sheet: &Sheet, front: &[u32], field: Option<&Field>) -> bool
 }
 
 /// Whether the field at this place of those that are to be evaluated is passed over.
-fn is_passed(plan: Plan, sheet: &Sheet, ids: &[u32], at: usize) -> bool
+fn is_passed(plan: &Plan, sheet: &Sheet, ids: &[u32], at: usize) -> bool
     requires { at < length ids.now }
-    ensures { result ≡ meant.is_passed plan sheet.now.contents.fields ids.now at }
+    ensures { result ≡ meant.is_passed plan.now sheet.now.contents.fields ids.now at }
 {
     if plan.limit.is_none() || plan.keep_going {
         return false;
@@ -58,11 +59,11 @@ fn is_passed(plan: Plan, sheet: &Sheet, ids: &[u32], at: usize) -> bool
 
 /// The next place, from this one on, whose field isn't passed over, or their number where there is none.
 #[tactic(auto, using(crate::proofs::Meaning::next_steps))]
-pub(crate) fn next_of(plan: Plan, sheet: &Sheet, ids: &[u32], from: usize) -> usize
+pub(crate) fn next_of(plan: &Plan, sheet: &Sheet, ids: &[u32], from: usize) -> usize
     requires { from ≤ length ids.now }
-    ensures next { meant.IsNext plan sheet.now.contents.fields ids.now from result }
+    ensures next { meant.IsNext plan.now sheet.now.contents.fields ids.now from result }
     ensures within { result ≤ length ids.now }
-    ensures found { result < length ids.now → meant.is_passed plan sheet.now.contents.fields ids.now result ≡ false }
+    ensures found { result < length ids.now → meant.is_passed plan.now sheet.now.contents.fields ids.now result ≡ false }
 {
     for at in from..ids.len() {
         if !is_passed(plan, sheet, ids, at) {
@@ -94,10 +95,10 @@ fn wrong_line(sheet: &Sheet, stand: Stand) -> Option<u64>
     }
 }
 
-/// The line behind which a strict evaluation stops here, if it does.
-pub(crate) fn stop_line(plan: Plan, sheet: &Sheet, stand: Stand) -> Option<u64>
+/// The line after which a strict evaluation stops here, if it does.
+pub(crate) fn stop_line(plan: &Plan, sheet: &Sheet, stand: Stand) -> Option<u64>
     requires { stand.taken < 2 ^ 32 }
-    ensures { result ≡ meant.stop_line plan.strict sheet.now.contents.fields stand }
+    ensures { result ≡ meant.stop_line plan.now.strict sheet.now.contents.fields stand }
 {
     if plan.strict {
         wrong_line(sheet, stand)
@@ -107,14 +108,14 @@ pub(crate) fn stop_line(plan: Plan, sheet: &Sheet, stand: Stand) -> Option<u64>
 }
 
 /// The place of the field that is asked next, where it doesn't come to its end here.
-pub(crate) fn next_place(plan: Plan, sheet: &Sheet, ids: &[u32], stand: Stand) -> Option<usize>
+pub(crate) fn next_place(plan: &Plan, sheet: &Sheet, ids: &[u32], stand: Stand) -> Option<usize>
     requires few { length ids.now < 2 ^ 32 }
     requires taken { stand.taken ≤ length ids.now }
     ensures within { IfSome result (λ at. at < length ids.now) }
     ensures next { (id : ℕ) → IfSome result (λ at. slice_get ids.now at ≡ Some id
-        → meant.IsAsked plan sheet.now.contents.fields ids.now stand at id) }
+        → meant.IsAsked plan.now sheet.now.contents.fields ids.now stand at id) }
     ensures ends { result ≡ None → (stopped : Option ℕ)
-        × meant.EndsHere plan sheet.now.contents.fields ids.now stand stopped }
+        × meant.EndsHere plan.now sheet.now.contents.fields ids.now stand stopped }
 {
     if stop_line(plan, sheet, stand).is_some() {
         return None;

@@ -9,14 +9,18 @@ ghost use Rattle.child_edge.specs.Stops.{Stops};
 ghost use Rattle.offline_programs.specs.Faults.{FailedSince};
 ghost use Rattle.evaluation.specs.Meant as meant;
 ghost use Rattle.evaluation.specs.Steps.{setting, stands};
-ghost use Rattle.evaluation.specs.Evaluation.{EvaluationDone, TellsEvaluation, not_begun};
+ghost use Rattle.evaluation.specs.Evaluation.{EvaluationDone, TellsEvalFault, not_begun};
+ghost use Rattle.evaluation.specs.declared.fault.EvalFault.TheVariants as evals;
+ghost use Rattle.evaluation.specs.inside.Choosing.{AsksInVain};
 ghost use Rattle.evaluation.specs.inside.Stepping.{BrokeOff, Through, ThroughAnd};
 ghost use Rattle.offline_programs.specs.declared.fault.RunFault.TheVariants as told;
 ghost use Rattle.journal.specs.declared.opening.OpenCause.TheVariants as opens;
 ghost use Rattle.host_events.specs.declared.outcome.HostFault.TheVariants as hosts;
 
 use crate::asking::stop_line;
-use crate::plan::{Plan, Stand, Which, counts_of, meant_in};
+use crate::choosing::{meant_in, missing_in};
+use crate::fault::EvalFault;
+use crate::plan::{Plan, Stand, counts_of};
 use crate::stepping::step;
 use arrivals::Sources;
 use child_edge::stop_all;
@@ -24,16 +28,17 @@ use disk_model::Disk;
 use live::Hold;
 use offline_programs::RunFault;
 use session_engine::Host;
-use std::alloc::{AllocError, Global};
+use std::alloc::Global;
 use std::io::Write;
 use tellings::{Counts, Note, Tells};
+use worksheet::Sheet;
 
 /// An evaluation that had no fault.
 #[derive(Drop)]
 pub struct Evaluated<D: Disk> {
-    /// The disk, with what was told.
+    /// The disk, with what was reported.
     pub disk: D,
-    /// The number of the line behind which it stopped, where it did: 2N - 1 and 2N are those of the field
+    /// The number of the line after which it stopped, where it did: 2N - 1 and 2N are those of the field
     /// that is the Nth of those to be evaluated.
     pub stopped_at: Option<u64>,
     /// What it came to.
@@ -45,7 +50,7 @@ fn evaluate_on<D: Disk, S: Sources, T: Tells, W: Write>(
     alloc: Global,
     host: &mut Host<D>,
     sources: &mut S,
-    plan: Plan,
+    plan: &Plan,
     ids: &[u32],
     tells: &T,
     writer: &mut W,
@@ -53,10 +58,10 @@ fn evaluate_on<D: Disk, S: Sources, T: Tells, W: Write>(
     requires few { length ids.now < 2 ^ 31 }
     ensures same { SameDisk host.old.store.disk host.new.store.disk }
     ensures ok { (w : World) → IsHost host.old w → IfOk result (Through
-        (setting T.voice S.after S.clock S.wakes plan ids.now) (stands (at w sources.old host.old.store.disk) not_begun)
+        (setting T.voice S.after S.clock S.wakes plan.now ids.now) (stands (at w sources.old host.old.store.disk) not_begun)
         host.new sources.new (W.contents writer.old) (W.contents writer.new)) }
     ensures err { (w : World) → IsHost host.old w → IfErr result (BrokeOff
-        (setting T.voice S.after S.clock S.wakes plan ids.now) (stands (at w sources.old host.old.store.disk) not_begun)
+        (setting T.voice S.after S.clock S.wakes plan.now ids.now) (stands (at w sources.old host.old.store.disk) not_begun)
         (λ t. t.children ≡ sources.new) host.new (W.contents writer.old) (W.contents writer.new)) }
     ensures taken { IfOk result (λ stand. stand.taken ≤ length ids.now) }
 {
@@ -84,7 +89,7 @@ fn evaluate_and_stop<D: Disk, S: Sources, T: Tells, W: Write>(
     alloc: Global,
     host: &mut Host<D>,
     sources: &mut S,
-    plan: Plan,
+    plan: &Plan,
     ids: &[u32],
     tells: &T,
     writer: &mut W,
@@ -92,10 +97,10 @@ fn evaluate_and_stop<D: Disk, S: Sources, T: Tells, W: Write>(
     requires few { length ids.now < 2 ^ 31 }
     ensures same { SameDisk host.old.store.disk host.new.store.disk }
     ensures ok { (w : World) → IsHost host.old w → IfOk result (ThroughAnd
-        (setting T.voice S.after S.clock S.wakes plan ids.now) (stands (at w sources.old host.old.store.disk) not_begun)
+        (setting T.voice S.after S.clock S.wakes plan.now ids.now) (stands (at w sources.old host.old.store.disk) not_begun)
         (λ t. Stops S.after (running t.world) t.children sources.new) host.new (W.contents writer.old) (W.contents writer.new)) }
     ensures err { (w : World) → IsHost host.old w → IfErr result (BrokeOff
-        (setting T.voice S.after S.clock S.wakes plan ids.now) (stands (at w sources.old host.old.store.disk) not_begun)
+        (setting T.voice S.after S.clock S.wakes plan.now ids.now) (stands (at w sources.old host.old.store.disk) not_begun)
         (λ t. Stops S.after (running t.world) t.children sources.new) host.new (W.contents writer.old) (W.contents writer.new)) }
     ensures taken { IfOk result (λ stand. stand.taken ≤ length ids.now) }
 {
@@ -112,70 +117,89 @@ fn few_fields<D: Disk>(host: &Host<D>)
     worksheet::laws::ops_make_worksheets();
 }
 
-/// The numbers of the fields that are to be evaluated of the worksheet of a host.
-fn ids_in<D: Disk>(alloc: Global, which: Which, host: &Host<D>) -> Result<Vec<u32>, AllocError>
+/// The numbers of these fields that are to be evaluated.
+fn ids_of(alloc: Global, plan: &Plan, sheet: &Sheet) -> Result<Vec<u32>, EvalFault>
+    ensures ids { IfOk result (λ ids. ids.items ≡ meant.meant_in plan.now sheet.now.contents.fields) }
+    ensures fault { IfErr result (λ why. why ≡ evals.Run told.OutOfMemory) }
+{
+    match meant_in(alloc, plan, sheet) {
+        Ok(ids) => Ok(ids),
+        Err(_) => Err(EvalFault::Run(RunFault::OutOfMemory)),
+    }
+}
+
+/// The numbers of the fields that are to be evaluated of the worksheet of a host, in which each that is
+/// asked for is there.
+fn ids_in<D: Disk>(alloc: Global, plan: &Plan, host: &Host<D>) -> Result<Vec<u32>, EvalFault>
     requires { (w : World) × IsHost host.now w }
     ensures ids { (w : World) → IsHost host.now w
-        → IfOk result (λ ids. ids.items ≡ meant.meant_in which (sheet_in w).fields) }
+        → IfOk result (λ ids. (meant.missing_in plan.now.which (sheet_in w).fields ≡ None)
+        × (ids.items ≡ meant.meant_in plan.now (sheet_in w).fields)) }
     ensures few { IfOk result (λ ids. length ids.items < 2 ^ 31) }
+    ensures fault { (w : World) → IsHost host.now w
+        → IfErr result (AsksInVain plan.now.which (sheet_in w).fields) }
 {
     few_fields(host);
-    meant_in(alloc, which, host.sheet())
+    match missing_in(&plan.which, host.sheet()) {
+        Some(id) => Err(EvalFault::NoField(id)),
+        None => ids_of(alloc, plan, host.sheet()),
+    }
 }
 
 /// What an evaluation of so many fields came to, by the worksheet of a host.
-fn counts_in<D: Disk>(plan: Plan, all: u64, host: &Host<D>, stand: Stand) -> Counts
+fn counts_in<D: Disk>(plan: &Plan, all: u64, host: &Host<D>, stand: Stand) -> Counts
     requires { (w : World) × IsHost host.now w }
     ensures { (w : World) → IsHost host.now w
-        → result ≡ meant.evaluation_counts plan all (sheet_in w).fields stand }
+        → result ≡ meant.evaluation_counts plan.now all (sheet_in w).fields stand }
 {
     worksheet::laws::ops_make_worksheets();
     counts_of(plan, all, host.sheet(), stand)
 }
 
 /// Evaluates fields of the worksheet on a disk, one at a time and in the worksheet's order, with its
-/// interpreters as children, and tells what comes of each at once. Where it is strict it stops behind the
-/// first field that is lost or refused, and the fields behind keep what they show. At the end each life that
-/// goes on is stopped, and the counts are told. It gives the disk back.
+/// interpreters as children, and reports what comes of each at once. Where it is strict it stops after the
+/// first field that is lost or refused, and the fields after it keep what they show. At the end each life that
+/// goes on is stopped, and the counts are reported. It gives the disk back.
 ///
-/// With a limit, a field whose time is over is told, and its interpreter is interrupted once; where an item
-/// still waits two seconds later it has stalled. Fields behind one of their session that shows no answer are
-/// passed over then, unless it keeps going: they aren't asked, and keep what they show.
+/// With a limit, a field whose time is over is reported, and its interpreter is interrupted once; where an
+/// item still waits two seconds later it has stalled. Fields after one of their session that shows no answer
+/// are passed over then, unless it keeps going: they aren't asked, and keep what they show.
 ///
-/// So one field at a time is without its old answer, and what was told is on the disk.
+/// So one field at a time is without its old answer, and what was reported is on the disk.
 ///
-/// `Open` where the disk isn't opened, and `OutOfMemory` where there is no memory for the fields' numbers:
-/// nothing was written, and no child was called. `Input` where the sources can't be watched, `InputTooLong`
-/// behind 2^64 - 1 steps, `Host` where the host has a fault, `OutOfMemory`: what was told before is written.
+/// `Open` where the disk isn't opened, `NoField` where no field has a number that is asked for, and
+/// `OutOfMemory` where there is no memory for the fields' numbers: nothing was written, and no child was
+/// called. `Input` where the sources can't be watched, `InputTooLong` after 2^64 - 1 steps, `Host` where the
+/// host has a fault, `OutOfMemory`: what was reported before is written.
 /// `Output` where the writer fails: a part of the text may have gone out. A voice that takes memory has
 /// `OutOfMemory` for that too.
 pub fn evaluate<W: Write, D: Disk, S: Sources, T: Tells>(
     alloc: Global,
-    plan: Plan,
+    plan: &Plan,
     tells: &T,
     writer: &mut W,
     disk: D,
     sources: &mut S,
-) -> Result<Evaluated<D>, RunFault>
-    ensures evaluated { IfOk result (λ done. EvaluationDone (setting T.voice S.after S.clock S.wakes plan [])
+) -> Result<Evaluated<D>, EvalFault>
+    ensures evaluated { IfOk result (λ done. EvaluationDone (setting T.voice S.after S.clock S.wakes plan.now [])
         (D.view disk) sources.old sources.new (W.contents writer.old) (W.contents writer.new)
         (D.view done.disk) done.stopped_at done.counts) }
     ensures same { IfOk result (λ done. SameDisk (D.view disk) (D.view done.disk)) }
-    ensures fault { IfErr result (TellsEvaluation (setting T.voice S.after S.clock S.wakes plan [])
+    ensures fault { IfErr result (TellsEvalFault (setting T.voice S.after S.clock S.wakes plan.now [])
         (D.view disk) sources.old sources.new (W.contents writer.old) (W.contents writer.new)
         ((writer.new ≡ writer.old) × (sources.new ≡ sources.old))) }
 
-    // That the disk failed, at the opening or later, is told only where it did.
-    ensures unopened { IsErrOf result (told.Open opens.Disk) → FailedSince D.view disk }
-    ensures failed { IsErrOf result (told.Host hosts.Disk) → FailedSince D.view disk }
+    // That the disk failed, at the opening or later, is reported only where it did.
+    ensures unopened { IsErrOf result (evals.Run (told.Open opens.Disk)) → FailedSince D.view disk }
+    ensures failed { IsErrOf result (evals.Run (told.Host hosts.Disk)) → FailedSince D.view disk }
 {
     let mut host = match Host::open(alloc, disk) {
         Ok(host) => host,
-        Err(fault) => return Err(RunFault::Open(fault.cause)),
+        Err(fault) => return Err(EvalFault::Run(RunFault::Open(fault.cause))),
     };
-    let ids = match ids_in(alloc, plan.which, &host) {
+    let ids = match ids_in(alloc, plan, &host) {
         Ok(ids) => ids,
-        Err(_) => return Err(RunFault::OutOfMemory),
+        Err(why) => return Err(why),
     };
     let done = evaluate_and_stop(
         alloc,
@@ -197,12 +221,12 @@ pub fn evaluate<W: Write, D: Disk, S: Sources, T: Tells>(
                     stopped_at,
                     counts,
                 }),
-                Err(fault) => Err(fault),
+                Err(fault) => Err(EvalFault::Run(fault)),
             }
         }
         Err(fault) => {
             host.close();
-            Err(fault)
+            Err(EvalFault::Run(fault))
         }
     }
 }

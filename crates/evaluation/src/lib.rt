@@ -1,11 +1,14 @@
-//! The evaluation of a worksheet's fields, one behind another, with a limit of time where one is wanted.
+//! The evaluation of a worksheet's fields, one after another, with a limit of time where one is wanted.
 #![tactic(auto)]
 
 mod asking;
+mod choosing;
 mod evaluating;
+mod fault;
 pub mod plan;
 mod stepping;
 mod timing;
 
 pub use evaluating::{Evaluated, evaluate};
+pub use fault::{EvalFault, eval_fault_text};
 pub use plan::{Plan, Which};

@@ -26,7 +26,7 @@ use std::alloc::Global;
 use std::io::Write;
 use tellings::Tells;
 
-/// Whether no item waits for an answer right behind an `eval`.
+/// Whether no item waits for an answer right after an `eval`.
 fn is_free(held: Hold) -> bool
     ensures { result ≡ not (is_held held) }
 {
@@ -36,7 +36,7 @@ fn is_free(held: Hold) -> bool
     }
 }
 
-/// The place behind the field with this number, which was asked at this place.
+/// The place after the field with this number, which was asked at this place.
 fn asked_at(stand: Stand, at: usize, id: u32, held: Hold) -> Stand
     requires few { at + 1 < 2 ^ 64 }
     requires counted { stand.asked + 1 < 2 ^ 64 }
@@ -58,7 +58,7 @@ fn ask_field<D: Disk, S: Sources, T: Tells, W: Write>(
     alloc: Global,
     host: &mut Host<D>,
     sources: &mut S,
-    plan: Plan,
+    plan: &Plan,
     id: u32,
     place: usize,
     stand: Stand,
@@ -68,11 +68,11 @@ fn ask_field<D: Disk, S: Sources, T: Tells, W: Write>(
     requires few { place + 1 < 2 ^ 32 }
     requires counted { stand.asked + 1 < 2 ^ 64 }
     ensures same { SameDisk host.old.store.disk host.new.store.disk }
-    ensures ok { (meant : List ℕ) (w : World) → IsHost host.old w → IsAsked plan (sheet_in w).fields meant stand place id → IfOk result (Took
-        (setting T.voice S.after S.clock S.wakes plan meant) (stands (at w sources.old host.old.store.disk) stand) (ask place id)
+    ensures ok { (meant : List ℕ) (w : World) → IsHost host.old w → IsAsked plan.now (sheet_in w).fields meant stand place id → IfOk result (Took
+        (setting T.voice S.after S.clock S.wakes plan.now meant) (stands (at w sources.old host.old.store.disk) stand) (ask place id)
         host.new sources.new (W.contents writer.old) (W.contents writer.new)) }
-    ensures err { (meant : List ℕ) (w : World) → IsHost host.old w → IsAsked plan (sheet_in w).fields meant stand place id → IfErr result (TakingFailed
-        (setting T.voice S.after S.clock S.wakes plan meant) (stands (at w sources.old host.old.store.disk) stand) (ask place id)
+    ensures err { (meant : List ℕ) (w : World) → IsHost host.old w → IsAsked plan.now (sheet_in w).fields meant stand place id → IfErr result (TakingFailed
+        (setting T.voice S.after S.clock S.wakes plan.now meant) (stands (at w sources.old host.old.store.disk) stand) (ask place id)
         host.new sources.new (W.contents writer.old) (W.contents writer.new)) }
     ensures taken { IfOk result (λ next. next.taken ≡ place + 1) }
     ensures counts { IfOk result (λ next. (next.asked ≡ stand.asked + 1) × (next.overs ≡ stand.overs)) }
@@ -192,7 +192,7 @@ fn take_next<D: Disk, S: Sources, T: Tells, W: Write>(
     alloc: Global,
     host: &mut Host<D>,
     sources: &mut S,
-    plan: Plan,
+    plan: &Plan,
     ids: &[u32],
     stand: Stand,
     tells: &T,
@@ -204,10 +204,10 @@ fn take_next<D: Disk, S: Sources, T: Tells, W: Write>(
     requires free { stand.held ≡ Hold.Free }
     ensures same { SameDisk host.old.store.disk host.new.store.disk }
     ensures ok { (w : World) → IsHost host.old w → IfOk result (StepGave
-        (setting T.voice S.after S.clock S.wakes plan ids.now) (stands (at w sources.old host.old.store.disk) stand)
+        (setting T.voice S.after S.clock S.wakes plan.now ids.now) (stands (at w sources.old host.old.store.disk) stand)
         host.new sources.new (W.contents writer.old) (W.contents writer.new)) }
     ensures err { (w : World) → IsHost host.old w → IfErr result (StepFailed
-        (setting T.voice S.after S.clock S.wakes plan ids.now) (stands (at w sources.old host.old.store.disk) stand)
+        (setting T.voice S.after S.clock S.wakes plan.now ids.now) (stands (at w sources.old host.old.store.disk) stand)
         host.new sources.new (W.contents writer.old) (W.contents writer.new)) }
     ensures taken { IfOk result (λ next. IfSome next (λ after. after.taken ≤ length ids.now)) }
     ensures counts { IfOk result (λ next. IfSome next (λ after.
@@ -230,7 +230,7 @@ pub(crate) fn step<D: Disk, S: Sources, T: Tells, W: Write>(
     alloc: Global,
     host: &mut Host<D>,
     sources: &mut S,
-    plan: Plan,
+    plan: &Plan,
     ids: &[u32],
     stand: Stand,
     tells: &T,
@@ -241,10 +241,10 @@ pub(crate) fn step<D: Disk, S: Sources, T: Tells, W: Write>(
     requires counted { (stand.asked + 1 < 2 ^ 64) × (stand.overs + 1 < 2 ^ 64) }
     ensures same { SameDisk host.old.store.disk host.new.store.disk }
     ensures ok { (w : World) → IsHost host.old w → IfOk result (StepGave
-        (setting T.voice S.after S.clock S.wakes plan ids.now) (stands (at w sources.old host.old.store.disk) stand)
+        (setting T.voice S.after S.clock S.wakes plan.now ids.now) (stands (at w sources.old host.old.store.disk) stand)
         host.new sources.new (W.contents writer.old) (W.contents writer.new)) }
     ensures err { (w : World) → IsHost host.old w → IfErr result (StepFailed
-        (setting T.voice S.after S.clock S.wakes plan ids.now) (stands (at w sources.old host.old.store.disk) stand)
+        (setting T.voice S.after S.clock S.wakes plan.now ids.now) (stands (at w sources.old host.old.store.disk) stand)
         host.new sources.new (W.contents writer.old) (W.contents writer.new)) }
     ensures taken { IfOk result (λ next. IfSome next (λ after. after.taken ≤ length ids.now)) }
     ensures counts { IfOk result (λ next. IfSome next (λ after.

@@ -1,2 +1,4 @@
+pub mod Plans
 pub mod Refused
 pub mod Tasks
+pub mod inside

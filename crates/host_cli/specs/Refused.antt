@@ -4,6 +4,8 @@ use Rattle.std.specs.Io.KnownBytes.{Appends}
 use Rattle.check_report.specs.declared.request.RequestFault.{RequestFault}
 use Rattle.check_report.specs.declared.request.RequestFault.TheVariants as request
 use Rattle.offline_programs.specs.declared.fault.RunFault.TheVariants as fault
+use Rattle.host_cli.specs.declared.plans.PlanFault.{PlanFault}
+use Rattle.host_cli.specs.declared.plans.PlanFault.TheVariants as plans
 use Rattle.program_endings.specs.Ending.{TellsFault}
 use Rattle.program_endings.specs.declared.ending.Ending.{Ending}
 use Rattle.clap.specs.declared.error.kind.ErrorKind.{ErrorKind}
@@ -17,11 +19,17 @@ ShowsText k = (k ≡ kind.DisplayHelp) ⊎ (k ≡ kind.DisplayVersion)
 abbrev pub no_format_text : List ℕ
 no_format_text = codes "error: there is no such format: FORMAT is script, markdown, html, notebook or json\n\nFor more information, try 'tmhost export --help'.\n"
 
--- what is told of words that name no time
+-- what is said of words that ask for no evaluation: that name no time, or no number of a field, or numbers of fields and one to begin with
 abbrev pub no_seconds_text : List ℕ
 no_seconds_text = codes "error: this is no time: SECONDS is a number from 1 to 1000000\n\nFor more information, try 'tmhost eval --help'.\n"
 
--- what is told of words that ask for no check: of a format, of the name of a session, of numbers of fields, and of a format in which
+abbrev pub no_id_text : List ℕ
+no_id_text = codes "error: this is no field: ID is a number, as 3\n\nFor more information, try 'tmhost eval --help'.\n"
+
+abbrev pub no_both_text : List ℕ
+no_both_text = codes "error: --from goes with no ID after PATH\n\nFor more information, try 'tmhost eval --help'.\n"
+
+-- what is said of words that ask for no check: of a format, of the name of a session, of numbers of fields, and of a format in which
 -- nothing is accepted
 abbrev pub no_report_text : List ℕ
 no_report_text = codes "error: there is no such format: FORMAT is text, tap or junit\n\nFor more information, try 'tmhost check --help'.\n"
@@ -38,6 +46,13 @@ no_acceptance_text = codes "error: --accept goes with no FORMAT but text\n\nFor 
 -- the words are refused with this text
 abbrev pub RefusesWith : {E : Type 0} → List ℕ → (E → Option (List ℕ)) → E → E → Ending → Type 0
 RefusesWith text said old new ending = (ending.status ≡ 2) × (ending.told ≡ true → Appends (said old) (said new) text)
+
+-- how the program ends where the words of `eval` ask for nothing that there is, or where there was no memory for them
+abbrev pub RefusesPlan : {E : Type 0} → PlanFault → (E → Option (List ℕ)) → E → E → Ending → Type 0
+RefusesPlan plans.Seconds said old new ending = RefusesWith no_seconds_text said old new ending
+RefusesPlan plans.Id said old new ending = RefusesWith no_id_text said old new ending
+RefusesPlan plans.Both said old new ending = RefusesWith no_both_text said old new ending
+RefusesPlan plans.OutOfMemory said old new ending = (ending.status ≡ 1) × TellsFault said old new ending.told (Err fault.OutOfMemory)
 
 -- how the program ends where the words of `check` ask for none, or where there was no memory for them
 abbrev pub RefusesRequest : {E : Type 0} → RequestFault → (E → Option (List ℕ)) → E → E → Ending → Type 0

@@ -21,8 +21,10 @@ use Rattle.check_report.specs.declared.request.RequestFault.{RequestFault}
 use Rattle.command_words.specs.Asked.{CheckView, EvalView, TaskView, asked_by, task_view, tmhost}
 use Rattle.command_words.specs.declared.words.Task.{Task}
 use Rattle.command_words.specs.Asked as asked
-use Rattle.host_cli.specs.Refused.{RefusesRequest, ShowsText, no_format_text, no_seconds_text}
+use Rattle.host_cli.specs.Plans.{AsksNoPlan, AsksPlan}
+use Rattle.host_cli.specs.Refused.{RefusesPlan, RefusesRequest, ShowsText, no_format_text}
 use Rattle.host_cli.specs.declared.outside.Outside.{Outside}
+use Rattle.host_cli.specs.declared.plans.PlanFault.{PlanFault}
 use Rattle.live.specs.Arrivals.{Watch}
 use Rattle.live.specs.Saying.{Clock}
 use Rattle.offline_programs.specs.declared.fault.RunFault.{RunFault}
@@ -43,7 +45,6 @@ use Rattle.program_endings.specs.RescueProgram.{FilesAreRead, RescueEnds}
 use Rattle.program_endings.specs.StrictProgram.{StrictEnded}
 use Rattle.program_endings.specs.declared.ending.Ending.{Ending}
 use Rattle.recovery.specs.declared.rescuing.Rescued.{Rescued}
-use Rattle.sheet_text.specs.Script.{number_written}
 use Rattle.sheet_export.specs.Formats.{format_named, last_part}
 use Rattle.sheet_export.specs.declared.formats.Format.{Format}
 use Rattle.sheet_export.specs.declared.formats.Format.TheVariants as formats
@@ -53,8 +54,6 @@ use Rattle.sheet_files.specs.declared.files_fault.MakeFault.{MakeFault}
 use Rattle.sheet_files.specs.declared.places.Places as places
 use Rattle.evaluation.specs.Steps.{setting}
 use Rattle.evaluation.specs.declared.plan.Plan.{Plan}
-use Rattle.evaluation.specs.declared.plan.Which.{Which}
-use Rattle.evaluation.specs.declared.plan.Which.TheVariants as which
 
 -- How what is outside is seen, and what calls on it may lead to.
 pub record OutsideView (D P S I W E : Type 0) : Type 1 where
@@ -70,28 +69,6 @@ pub record OutsideView (D P S I W E : Type 0) : Type 1 where
 
 abbrev pub outer : {D P S I W E : Type 0} → places.Ghosts P D → disks.Ghosts D → Relation S → Clock S → Watch S → read.Ghosts I → write.Ghosts W → (W → Bool → W → Type 0) → write.Ghosts E → OutsideView D P S I W E
 outer p d after clock wakes i w b e = record { places = p; view = d.view; after = after; clock = clock; wakes = wakes; stream = i.remaining; written = w.contents; brought = b; said = e.contents }
-
--- which fields are evaluated
-abbrev pub which_by : Bool → Which
-which_by true = which.Unanswered
-which_by false = which.All
-
--- the time that a field may take: 1 to 1,000,000 seconds, or without a limit
-abbrev pub seconds_by : Bool → ℕ → Option (Option ℕ)
-seconds_by true seconds = Some (Some seconds)
-seconds_by false seconds = None
-
-abbrev pub limit_if : Option ℕ → Option (Option ℕ)
-limit_if None = None
-limit_if (Some seconds) = seconds_by (nat_le 1 seconds && nat_le seconds 1000000) seconds
-
-abbrev pub limit_asked : Option Text → Option (Option ℕ)
-limit_asked None = Some None
-limit_asked (Some text) = limit_if (number_written text)
-
--- what the words of `eval` ask for
-abbrev pub plan_by : EvalView → Option ℕ → Plan
-plan_by words limit = record { which = which_by words.unanswered; strict = words.strict; limit = limit; keep_going = words.keep_going }
 
 abbrev pub voice_by : Bool → Voice
 voice_by true = in_json
@@ -209,7 +186,7 @@ module _ {Y D P S I W E Q : Type 0} (o : OutsideView D P S I W E) where
   EvaluatesOn V plan old new ending disk =
       EvaluationEnded (setting V o.after o.clock o.wakes plan []) o.view disk old.sources new.sources o.written old.output new.output o.said old.errors new.errors ending
 
-  -- `eval` of files that weren't opened: why is told last
+  -- `eval` of files that weren't opened: why is reported last
   abbrev pub EvaluatesNone : Voice → Outside Y D P S I W E Q → Outside Y D P S I W E Q → Ending → FilesFault → Type 0
   EvaluatesNone V old new ending why = (new.sources ≡ old.sources) × LastTold V o.written old.output new.output ending.told (Err (no_files why))
       × (ending.status ≡ 1) × TellsFault o.said old.errors new.errors ending.told (Err (no_files why))
@@ -220,15 +197,14 @@ module _ {Y D P S I W E Q : Type 0} (o : OutsideView D P S I W E) where
       HeldFirst old new (λ why. (new.sources ≡ old.sources) × EndsWith old new ending (Err why)) (λ held. (files : Result D FilesFault) × o.places.opens held path files new.places
       × IfErr files (EvaluatesNone V old new ending) × IfOk files (EvaluatesOn V plan old new ending))
 
-  -- where they name no time the words are refused, and nothing is done
-  abbrev pub RefusesLimit : Outside Y D P S I W E Q → Outside Y D P S I W E Q → Ending → Type 0
-  RefusesLimit old new ending = (new.places ≡ old.places) × (new.output ≡ old.output) × (new.sources ≡ old.sources) × (ending.status ≡ 2)
-      × (ending.told ≡ true → Appends (o.said old.errors) (o.said new.errors) no_seconds_text)
+  -- where the words ask for nothing that there is they are refused, and nothing is done
+  abbrev pub EvaluatesNothing : Outside Y D P S I W E Q → Outside Y D P S I W E Q → Ending → PlanFault → Type 0
+  EvaluatesNothing old new ending why = (new.places ≡ old.places) × (new.output ≡ old.output) × (new.sources ≡ old.sources) × RefusesPlan why o.said old.errors new.errors ending
 
   -- as the words of `eval` ask for it
   abbrev pub DoesEval : Outside Y D P S I W E Q → Outside Y D P S I W E Q → Ending → Text → EvalView → Type 0
-  DoesEval old new ending path words =
-      MatchOption (limit_asked words.timeout) (RefusesLimit old new ending) (λ limit. EvaluatesAs (voice_by words.json) (plan_by words limit) old new ending path)
+  DoesEval old new ending path words = (read : Result Plan PlanFault) × IfOk read (AsksPlan words) × IfErr read (AsksNoPlan words)
+      × MatchResult read (λ plan. EvaluatesAs (voice_by words.json) plan old new ending path) (EvaluatesNothing old new ending)
 
   -- `live` over the same, told in a voice
   abbrev pub DoesLive : Voice → Outside Y D P S I W E Q → Outside Y D P S I W E Q → Ending → Text → Type 0

@@ -5,10 +5,12 @@
 
 mod outlet;
 mod outside;
+mod plans;
 mod refusing;
 mod tasks;
 
 pub use outlet::Outlet;
 pub use outside::{Outside, System};
+pub use plans::PlanFault;
 pub use refusing::{refuse_unread_words, refuse_words};
 pub use tasks::{do_task, perform};

@@ -4,10 +4,11 @@ ghost use Rattle.std.specs.Io.KnownBytes.{Appends};
 ghost use Rattle.std.specs.declared.io.ErrorKind.TheVariants as io_kind;
 ghost use Rattle.clap.specs.Words.{kind_of};
 ghost use Rattle.clap.specs.declared.error.kind.ErrorKind.TheVariants as kind;
-ghost use Rattle.host_cli.specs.Refused.{RefusesRequest, ShowsText, no_acceptance_text, no_format_text, no_ids_text, no_report_text, no_seconds_text, no_session_text};
+ghost use Rattle.host_cli.specs.Refused.{RefusesPlan, RefusesRequest, ShowsText, no_acceptance_text, no_both_text, no_format_text, no_id_text, no_ids_text, no_report_text, no_seconds_text, no_session_text};
 ghost use Rattle.program_endings.specs.Ending.{TellsFault};
 ghost use Rattle.offline_programs.specs.declared.fault.RunFault.TheVariants as fault;
 
+use crate::plans::PlanFault;
 use check_report::RequestFault;
 use clap::error::ErrorKind;
 use offline_programs::RunFault;
@@ -72,18 +73,6 @@ pub fn refuse_unread_words<E: Write>(kind: io::ErrorKind, errors: &mut E) -> End
     }
 }
 
-/// Refuses words that name no time.
-pub(crate) fn refuse_limit<E: Write>(errors: &mut E) -> Ending
-    ensures status { result.status ≡ 2 }
-    ensures told { result.told ≡ true
-        → Appends (E.contents errors.old) (E.contents errors.new) no_seconds_text }
-{
-    let told = errors.write_all(
-        b"error: this is no time: SECONDS is a number from 1 to 1000000\n\nFor more information, try 'tmhost eval --help'.\n",
-    );
-    refused(told.is_ok())
-}
-
 /// Refuses words that ask for a format that there isn't.
 pub(crate) fn refuse_format<E: Write>(errors: &mut E) -> Ending
     ensures status { result.status ≡ 2 }
@@ -97,7 +86,7 @@ pub(crate) fn refuse_format<E: Write>(errors: &mut E) -> Ending
     refused(told.is_ok())
 }
 
-/// Refuses words that ask for no check, with this text.
+/// Refuses words that ask for nothing that there is, with this text.
 fn refuse_with<E: Write>(text: &[u8], errors: &mut E) -> Ending
     ensures status { result.status ≡ 2 }
     ensures told { result.told ≡ true
@@ -105,6 +94,30 @@ fn refuse_with<E: Write>(text: &[u8], errors: &mut E) -> Ending
 {
     let told = errors.write_all(text);
     refused(told.is_ok())
+}
+
+/// Ends the program where the words of `eval` ask for nothing that there is.
+pub(crate) fn refuse_plan<E: Write>(why: PlanFault, errors: &mut E) -> Ending
+    ensures { RefusesPlan why E.contents errors.old errors.new result }
+{
+    match why {
+        PlanFault::Seconds => refuse_with(
+            b"error: this is no time: SECONDS is a number from 1 to 1000000\n\n\
+            For more information, try 'tmhost eval --help'.\n",
+            errors,
+        ),
+        PlanFault::Id => refuse_with(
+            b"error: this is no field: ID is a number, as 3\n\n\
+            For more information, try 'tmhost eval --help'.\n",
+            errors,
+        ),
+        PlanFault::Both => refuse_with(
+            b"error: --from goes with no ID after PATH\n\n\
+            For more information, try 'tmhost eval --help'.\n",
+            errors,
+        ),
+        PlanFault::OutOfMemory => end_program(Err(RunFault::OutOfMemory), errors),
+    }
 }
 
 /// Ends the program where the words of `check` ask for none.

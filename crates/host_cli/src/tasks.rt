@@ -2,7 +2,7 @@
 ghost use Rattle.std.specs.Prelude.{◌≡◌, ◌≢◌, [], List, Err, false, map, option_map, string_bytes, true};
 ghost use Rattle.command_words.specs.Asked.{check_view, eval_view, task_view};
 ghost use Rattle.command_words.specs.Asked as asked;
-ghost use Rattle.host_cli.specs.Tasks.{AcceptsAs, BringsOut, ChecksAs, ChecksBy, DoesAsked, DoesBlocks, DoesCheck, DoesCreate, DoesEval, DoesExport, DoesLive, DoesRescue, DoesRun, DoesShow, DoesTask, EndsBy, EvaluatesAs, ExportsAs, LeavesAlone, Performs, RescuesFrom, RescuesTo, limit_asked, outer, plan_by, voice_by};
+ghost use Rattle.host_cli.specs.Tasks.{AcceptsAs, BringsOut, ChecksAs, ChecksBy, DoesAsked, DoesBlocks, DoesCheck, DoesCreate, DoesEval, DoesExport, DoesLive, DoesRescue, DoesRun, DoesShow, DoesTask, EndsBy, EvaluatesAs, ExportsAs, LeavesAlone, Performs, RescuesFrom, RescuesTo, outer, voice_by};
 ghost use Rattle.program_endings.specs.Ending.{TellsFault};
 ghost use Rattle.offline_programs.specs.declared.fault.RunFault.TheVariants as fault;
 ghost use Rattle.recovery.specs.Sheets.{Makes};
@@ -12,11 +12,12 @@ ghost use Rattle.worksheet.specs.declared.op.Op.{Op};
 
 use crate::outlet::Outlet;
 use crate::outside::{Outside, System};
-use crate::refusing::{refuse_format, refuse_limit, refuse_request};
+use crate::plans::read_plan;
+use crate::refusing::{refuse_format, refuse_plan, refuse_request};
 use crate::{refuse_unread_words, refuse_words};
-use check_report::{Chosen, Format as Report, Request, read_number, read_request};
+use check_report::{Chosen, Format as Report, Request, read_request};
 use command_words::{CheckWords, EvalWords, Task, read_words};
-use evaluation::{Plan, Which};
+use evaluation::Plan;
 use offline_programs::RunFault;
 use program_endings::{
     Ending, end_program, end_unheld, read_rescued, run_accept, run_blocks, run_check, run_create,
@@ -29,9 +30,6 @@ use std::alloc::Global;
 use std::io;
 use std::io::Write;
 use tellings::{InJson, InWords, Tells};
-
-/// The most seconds that a field may be given.
-const MOST_SECONDS: u32 = 1_000_000;
 
 /// `blocks`.
 fn blocks<Y: System>(alloc: Global, outside: &mut Outside<Y>) -> Ending
@@ -207,52 +205,16 @@ fn run_strictly_at<Y: System>(alloc: Global, outside: &mut Outside<Y>, path: &st
     }
 }
 
-/// The time that a field may take, where there is a limit. None where the words name no time.
-fn read_limit(text: Option<&str>) -> Option<Option<u32>>
-    ensures { result ≡ limit_asked (option_map (λ text. text.now) text.entry) }
-{
-    let Some(text) = text else {
-        return Some(None);
-    };
-    match read_number(text.as_bytes()) {
-        None => None,
-        Some(seconds) => {
-            if 1 <= seconds && seconds <= MOST_SECONDS {
-                Some(Some(seconds))
-            } else {
-                None
-            }
-        }
-    }
-}
-
-/// What the words of `eval` ask for, with this limit.
-fn plan_of(words: EvalWords<'_>, limit: Option<u32>) -> Plan
-    ensures { result ≡ plan_by (eval_view words.entry) limit }
-{
-    let which = if words.unanswered {
-        Which::Unanswered
-    } else {
-        Which::All
-    };
-    Plan {
-        which,
-        strict: words.strict,
-        limit,
-        keep_going: words.keep_going,
-    }
-}
-
-/// `eval` of the fields of the worksheet at a path, by a plan, told in this voice.
+/// `eval` of the fields of the worksheet at a path, by a plan, written in this voice.
 fn eval_as<Y: System, T: Tells>(
     alloc: Global,
     outside: &mut Outside<Y>,
-    plan: Plan,
+    plan: &Plan,
     tells: &T,
     path: &str,
 ) -> Ending
     ensures does { EvaluatesAs (outer Y.Places.Places Y.Disk.Disk Y.Sources.after
-        Y.Sources.clock Y.Sources.wakes Y.Input.Read Y.Output.Write Y.Output.brought Y.Errors.Write) T.voice plan outside.old outside.new result path.now }
+        Y.Sources.clock Y.Sources.wakes Y.Input.Read Y.Output.Write Y.Output.brought Y.Errors.Write) T.voice plan.now outside.old outside.new result path.now }
     ensures leaves { (outside.new.input ≡ outside.old.input)
         × (outside.new.progress ≡ outside.old.progress) }
 {
@@ -274,12 +236,12 @@ fn eval_as<Y: System, T: Tells>(
 fn eval_told<Y: System>(
     alloc: Global,
     outside: &mut Outside<Y>,
-    plan: Plan,
+    plan: &Plan,
     json: bool,
     path: &str,
 ) -> Ending
     ensures does { EvaluatesAs (outer Y.Places.Places Y.Disk.Disk Y.Sources.after
-        Y.Sources.clock Y.Sources.wakes Y.Input.Read Y.Output.Write Y.Output.brought Y.Errors.Write) (voice_by json) plan outside.old outside.new result path.now }
+        Y.Sources.clock Y.Sources.wakes Y.Input.Read Y.Output.Write Y.Output.brought Y.Errors.Write) (voice_by json) plan.now outside.old outside.new result path.now }
     ensures leaves { (outside.new.input ≡ outside.old.input)
         × (outside.new.progress ≡ outside.old.progress) }
 {
@@ -301,9 +263,9 @@ fn eval_at<Y: System>(
         Y.Sources.clock Y.Sources.wakes Y.Input.Read Y.Output.Write Y.Output.brought Y.Errors.Write) outside.old outside.new result path.now (eval_view words.entry) }
     ensures leaves { LeavesAlone outside.old outside.new (asked.eval path.now (eval_view words.entry)) }
 {
-    match read_limit(words.timeout) {
-        None => refuse_limit(&mut outside.errors),
-        Some(limit) => eval_told(alloc, outside, plan_of(words, limit), words.json, path),
+    match read_plan(alloc, &words) {
+        Ok(plan) => eval_told(alloc, outside, &plan, words.json, path),
+        Err(why) => refuse_plan(why, &mut outside.errors),
     }
 }
 

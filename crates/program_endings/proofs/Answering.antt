@@ -12,7 +12,9 @@ use Rattle.offline_programs.specs.Faults.{FailedSince}
 use Rattle.offline_programs.specs.declared.fault.RunFault.{RunFault}
 use Rattle.offline_programs.specs.declared.fault.RunFault.TheVariants as fault
 use Rattle.sheet_programs.proofs.Runs.{err_same}
-use Rattle.evaluation.specs.Evaluation.{EvaluationDone, TellsEvaluation}
+use Rattle.evaluation.specs.Evaluation.{EvaluationDone, TellsEvalFault}
+use Rattle.evaluation.specs.declared.fault.EvalFault.{EvalFault}
+use Rattle.evaluation.specs.declared.fault.EvalFault.TheVariants as evals
 use Rattle.evaluation.specs.Steps.{Setting}
 use Rattle.evaluation.specs.declared.evaluating.Evaluated.{Evaluated}
 use Rattle.program_endings.specs.Ending.{ProgramAnswer}
@@ -42,21 +44,21 @@ module _ {D C : Type 0} (V : Voice) (view : D → DiskView) (R : Relation C) (K 
   }
 
 module _ {D C : Type 0} (o : Setting C) (view : D → DiskView) (disk : D) (c d : C) (a b : Option (List ℕ)) (nothing : Type 0) where
-  pub evaluation_answered : (r : Result (Evaluated D) RunFault) → IfOk r (λ done. EvaluationDone o (view disk) c d a b (view done.disk) done.stopped_at done.counts) → IfOk r (λ done. SameDisk (view disk) (view done.disk))
-      → IfErr r (TellsEvaluation o (view disk) c d a b nothing) → (IsErrOf r (fault.Open opens.Disk) → FailedSince view disk) → (IsErrOf r (fault.Host hosts.Disk) → FailedSince view disk)
+  pub evaluation_answered : (r : Result (Evaluated D) EvalFault) → IfOk r (λ done. EvaluationDone o (view disk) c d a b (view done.disk) done.stopped_at done.counts) → IfOk r (λ done. SameDisk (view disk) (view done.disk))
+      → IfErr r (TellsEvalFault o (view disk) c d a b nothing) → (IsErrOf r (evals.Run (fault.Open opens.Disk)) → FailedSince view disk) → (IsErrOf r (evals.Run (fault.Host hosts.Disk)) → FailedSince view disk)
       → EvaluatesTo o view disk c d a b nothing (answer_of_evaluation r)
   evaluation_answered (Ok done) evaluated same tells unopened failed = record {
     evaluated = (done.disk, same, evaluated);
-    unopened = λ e. no-error (fault.Open opens.Disk) e;
-    failed = λ e. no-error (fault.Host hosts.Disk) e;
+    unopened = λ e. no-error (evals.Run (fault.Open opens.Disk)) e;
+    failed = λ e. no-error (evals.Run (fault.Host hosts.Disk)) e;
     fault = tt;
   }
     where
-      no-error : {P : Type 0} (why : RunFault) → IsErrOf {T = EvalEnd} (Ok (record { stopped_at = done.stopped_at; counts = done.counts })) why → P
+      no-error : {P : Type 0} (why : EvalFault) → IsErrOf {T = EvalEnd} (Ok (record { stopped_at = done.stopped_at; counts = done.counts })) why → P
       no-error why e = absurd cc
   evaluation_answered (Err why) evaluated same tells unopened failed = record {
     evaluated = tt;
-    unopened = λ e. unopened (ap (λ x. Err x) (err_same _ why (fault.Open opens.Disk) refl e));
-    failed = λ e. failed (ap (λ x. Err x) (err_same _ why (fault.Host hosts.Disk) refl e));
+    unopened = λ e. unopened (ap (λ x. Err x) (err_same _ why (evals.Run (fault.Open opens.Disk)) refl e));
+    failed = λ e. failed (ap (λ x. Err x) (err_same _ why (evals.Run (fault.Host hosts.Disk)) refl e));
     fault = tells;
   }

@@ -1,4 +1,5 @@
--- How the program `eval` ends: what it evaluates and writes, what it tells on which stream, and the exit status.
+-- How the program `eval` ends: what it evaluates and writes, what it says on which stream, and the exit status.
+use Rattle.std.specs.Io.KnownBytes.{Appends}
 use Rattle.std.specs.Prelude.{◌≡◌, ◌==◌, ◌&&◌, ℕ, Bool, true, false, List, Option, Some, None, Result, Ok, Err, IfOk, IfErr, IsErrOf, if◌then◌else◌}
 use Rattle.disk_model.specs.Disk.{DiskView, SameDisk}
 use Rattle.journal.specs.declared.opening.OpenCause.TheVariants as opens
@@ -6,24 +7,26 @@ use Rattle.host_events.specs.declared.outcome.HostFault.TheVariants as hosts
 use Rattle.offline_programs.specs.Faults.{FailedSince}
 use Rattle.offline_programs.specs.declared.fault.RunFault.{RunFault}
 use Rattle.offline_programs.specs.declared.fault.RunFault.TheVariants as fault
-use Rattle.tellings.specs.Voice.{IsUntold}
+use Rattle.tellings.specs.Voice.{IsUntold, Voice}
 use Rattle.tellings.specs.declared.note.Counts.{Counts}
 use Rattle.tellings.specs.declared.note.Frame.TheVariants as frame
 use Rattle.tellings.specs.declared.note.Overs.{Overs}
 use Rattle.evaluation.specs.Steps.{Setting}
-use Rattle.evaluation.specs.Evaluation.{EvaluationDone, TellsEvaluation}
+use Rattle.evaluation.specs.Evaluation.{EvaluationDone, TellsEvalFault}
+use Rattle.evaluation.specs.Faults.{eval_fault_text}
 use Rattle.evaluation.specs.declared.evaluating.Evaluated.{Evaluated}
-use Rattle.program_endings.specs.Ending.{ProgramAnswer}
+use Rattle.evaluation.specs.declared.fault.EvalFault.{EvalFault}
+use Rattle.evaluation.specs.declared.fault.EvalFault.TheVariants as evals
 use Rattle.program_endings.specs.LiveProgram.{Framed, LastTold}
-use Rattle.program_endings.specs.StrictProgram.{StrictAnswer, TellsStop}
+use Rattle.program_endings.specs.StrictProgram.{TellsStop}
 use Rattle.program_endings.specs.declared.ending.Ending.{Ending}
 use Rattle.program_endings.specs.declared.eval_program.EvalEnd.{EvalEnd}
 
 -- what the program answers: where the evaluation stopped, if it did, and what it came to; or its fault
 abbrev pub EvaluationAnswer : Type 0
-EvaluationAnswer = Result EvalEnd RunFault
+EvaluationAnswer = Result EvalEnd EvalFault
 
-abbrev pub answer_of_evaluation : {D : Type 0} → Result (Evaluated D) RunFault → EvaluationAnswer
+abbrev pub answer_of_evaluation : {D : Type 0} → Result (Evaluated D) EvalFault → EvaluationAnswer
 answer_of_evaluation (Ok done) = Ok (record { stopped_at = done.stopped_at; counts = done.counts })
 answer_of_evaluation (Err why) = Err why
 
@@ -44,37 +47,39 @@ abbrev pub evaluation_status : EvaluationAnswer → ℕ
 evaluation_status (Ok end) = status_of_end end.stopped_at end.counts
 evaluation_status (Err why) = 1
 
--- where it stopped, as `run --strict` tells it
-abbrev pub stop_of : EvaluationAnswer → StrictAnswer
-stop_of (Ok end) = Ok end.stopped_at
-stop_of (Err why) = Err why
+-- Where it stopped is a line on the stream of errors, as of `run --strict`, where that takes it, and so is a fault; nothing else stands
+-- there.
+abbrev pub TellsEval : {E : Type 0} → (E → Option (List ℕ)) → E → E → Bool → EvaluationAnswer → Type 0
+TellsEval said old new told (Ok end) = TellsStop said old new told (Ok end.stopped_at)
+TellsEval said old new told (Err why) = told ≡ true → Appends (said old) (said new) (eval_fault_text why)
 
--- whether it came to its end, or its fault
-abbrev pub whole_end : EvaluationAnswer → ProgramAnswer
-whole_end (Ok end) = Ok true
-whole_end (Err why) = Err why
+-- A fault is reported last of all, where the voice has it and the output takes it; that a field isn't there no voice has.
+abbrev pub LastOfEval : {O : Type 0} → Voice → (O → Option (List ℕ)) → O → O → Bool → EvaluationAnswer → Type 0
+LastOfEval V contents old new told (Ok end) = new ≡ old
+LastOfEval V contents old new told (Err (evals.NoField id)) = new ≡ old
+LastOfEval V contents old new told (Err (evals.Run why)) = LastTold V contents old new told (Err why)
 
 -- What `eval` answers on a disk between what stands first and last, and what it has written and done then; `nothing` says that it wrote
 -- nothing and called no child.
 pub record EvaluatesTo {D C : Type 0} (o : Setting C) (view : D → DiskView) (disk : D) (c d : C) (a b : Option (List ℕ)) (nothing : Type 0) (answer : EvaluationAnswer) : Type 0 where
   -- the disk that it gives back is the same one, after the evaluation
   pub evaluated : IfOk answer (λ end. (back : D) × SameDisk (view disk) (view back) × EvaluationDone o (view disk) c d a b (view back) end.stopped_at end.counts)
-  -- that the disk failed, at the opening or later, is told only where it did
-  pub unopened : IsErrOf answer (fault.Open opens.Disk) → FailedSince view disk
-  pub failed : IsErrOf answer (fault.Host hosts.Disk) → FailedSince view disk
-  pub fault : IfErr answer (TellsEvaluation o (view disk) c d a b nothing)
+  -- that the disk failed, at the opening or later, is reported only where it did
+  pub unopened : IsErrOf answer (evals.Run (fault.Open opens.Disk)) → FailedSince view disk
+  pub failed : IsErrOf answer (evals.Run (fault.Host hosts.Disk)) → FailedSince view disk
+  pub fault : IfErr answer (TellsEvalFault o (view disk) c d a b nothing)
 
 -- What `eval` answers on a disk, and what it has written and done then.
 pub data EvalAnswer {D C O : Type 0} (o : Setting C) (view : D → DiskView) (disk : D) (c d : C) (contents : O → Option (List ℕ)) (old new : O) (answer : EvaluationAnswer) : Type 0 where
-  -- it greeted, and evaluated; where it came to its end that was told last
+  -- it greeted, and evaluated; where it came to its end that was reported last
   evaluated : (first last : O) → Framed o.voice contents frame.Hello old first
       → EvaluatesTo o view disk c d (contents first) (contents last) ((last ≡ first) × (d ≡ c)) answer
       → IfOk answer (λ end. Framed o.voice contents frame.End last new) → IfErr answer (λ why. new ≡ last)
       → EvalAnswer o view disk c d contents old new answer
-  -- what stands first couldn't be told, and nothing was done
-  ungreeted : (why : RunFault) → answer ≡ Err why → o.voice.takes_memory ≡ true → IsUntold o.voice why → d ≡ c → EvalAnswer o view disk c d contents old new answer
-  -- what stands last couldn't be told
-  unended : (why : RunFault) (first last : O) (end : EvalEnd) → answer ≡ Err why → o.voice.takes_memory ≡ true → IsUntold o.voice why → Framed o.voice contents frame.Hello old first
+  -- what stands first couldn't be written, and nothing was done
+  ungreeted : (why : RunFault) → answer ≡ Err (evals.Run why) → o.voice.takes_memory ≡ true → IsUntold o.voice why → d ≡ c → EvalAnswer o view disk c d contents old new answer
+  -- what stands last couldn't be written
+  unended : (why : RunFault) (first last : O) (end : EvalEnd) → answer ≡ Err (evals.Run why) → o.voice.takes_memory ≡ true → IsUntold o.voice why → Framed o.voice contents frame.Hello old first
       → EvaluatesTo o view disk c d (contents first) (contents last) ((last ≡ first) × (d ≡ c)) (Ok end)
       → EvalAnswer o view disk c d contents old new answer
 
@@ -84,6 +89,6 @@ pub record EvaluationEnded {D C O E : Type 0} (o : Setting C) (view : D → Disk
   pub answer : EvaluationAnswer
   pub mid : O
   pub answered : EvalAnswer o view disk c d contents first mid answer
-  pub last_told : LastTold o.voice contents mid last ending.told (whole_end answer)
+  pub last_told : LastOfEval o.voice contents mid last ending.told answer
   pub status : ending.status ≡ evaluation_status answer
-  pub told : TellsStop said old new ending.told (stop_of answer)
+  pub told : TellsEval said old new ending.told answer

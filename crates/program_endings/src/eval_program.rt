@@ -2,10 +2,9 @@
 ghost use Rattle.std.specs.Prelude.{◌≡◌, Err, IfErr, IfOk, []};
 ghost use Rattle.evaluation.specs.Steps.{setting};
 ghost use Rattle.program_endings.specs.Ending.{TellsFault};
-ghost use Rattle.program_endings.specs.EvalProgram.{EvalAnswer, EvaluatesTo, EvaluationEnded, answer_of_evaluation, are_none_over, counts_status, evaluation_status, stop_of, whole_end};
+ghost use Rattle.program_endings.specs.EvalProgram.{EvalAnswer, EvaluatesTo, EvaluationEnded, LastOfEval, TellsEval, answer_of_evaluation, are_none_over, counts_status, evaluation_status};
 ghost use Rattle.program_endings.specs.Faults as printed;
 ghost use Rattle.program_endings.specs.LiveProgram.{LastTold};
-ghost use Rattle.program_endings.specs.StrictProgram.{TellsStop};
 
 use crate::Ending;
 use crate::ending::ended;
@@ -13,8 +12,7 @@ use crate::live_program::end_told;
 use crate::telling::no_files;
 use arrivals::Sources;
 use disk_model::Disk;
-use evaluation::{Evaluated, Plan, evaluate};
-use offline_programs::RunFault;
+use evaluation::{EvalFault, Evaluated, Plan, eval_fault_text, evaluate};
 use sheet_files::FilesFault;
 use std::alloc::Global;
 use std::io::Write;
@@ -23,7 +21,7 @@ use tellings::{Counts, Frame, Overs, Tells};
 /// Where an evaluation came to its end.
 #[derive(Clone, Copy, Debug, PartialEq, Eq)]
 pub struct EvalEnd {
-    /// The line behind which it stopped, where it did.
+    /// The line after which it stopped, where it did.
     pub stopped_at: Option<u64>,
     /// What it came to.
     pub counts: Counts,
@@ -51,7 +49,7 @@ fn status_by(counts: Counts) -> u8
 }
 
 /// The answer of an evaluation that gave its disk back, which is dropped, or had a fault.
-fn answered<D: Disk>(done: Result<Evaluated<D>, RunFault>) -> Result<EvalEnd, RunFault>
+fn answered<D: Disk>(done: Result<Evaluated<D>, EvalFault>) -> Result<EvalEnd, EvalFault>
     ensures { result ≡ answer_of_evaluation done }
 {
     match done {
@@ -66,13 +64,13 @@ fn answered<D: Disk>(done: Result<Evaluated<D>, RunFault>) -> Result<EvalEnd, Ru
 /// Evaluates the fields of the worksheet on a disk, and drops the disk at the end.
 fn evaluate_on<W: Write, D: Disk, S: Sources, T: Tells>(
     alloc: Global,
-    plan: Plan,
+    plan: &Plan,
     tells: &T,
     output: &mut W,
     disk: D,
     sources: &mut S,
-) -> Result<EvalEnd, RunFault>
-    ensures { EvaluatesTo (setting T.voice S.after S.clock S.wakes plan []) D.view disk sources.old sources.new
+) -> Result<EvalEnd, EvalFault>
+    ensures { EvaluatesTo (setting T.voice S.after S.clock S.wakes plan.now []) D.view disk sources.old sources.new
         (W.contents output.old) (W.contents output.new)
         ((output.new ≡ output.old) × (sources.new ≡ sources.old)) result }
 {
@@ -82,31 +80,31 @@ fn evaluate_on<W: Write, D: Disk, S: Sources, T: Tells>(
 /// The same, between what stands first and what stands last.
 fn evaluate_framed<W: Write, D: Disk, S: Sources, T: Tells>(
     alloc: Global,
-    plan: Plan,
+    plan: &Plan,
     tells: &T,
     output: &mut W,
     disk: D,
     sources: &mut S,
-) -> Result<EvalEnd, RunFault>
-    ensures { EvalAnswer (setting T.voice S.after S.clock S.wakes plan []) D.view disk sources.old sources.new
+) -> Result<EvalEnd, EvalFault>
+    ensures { EvalAnswer (setting T.voice S.after S.clock S.wakes plan.now []) D.view disk sources.old sources.new
         W.contents output.old output.new result }
 {
     if let Err(fault) = tells.frame(Frame::Hello, output) {
-        return Err(fault);
+        return Err(EvalFault::Run(fault));
     }
     match evaluate_on(alloc, plan, tells, output, disk, sources) {
         Ok(end) => match tells.frame(Frame::End, output) {
             Ok(()) => Ok(end),
-            Err(fault) => Err(fault),
+            Err(fault) => Err(EvalFault::Run(fault)),
         },
         Err(fault) => Err(fault),
     }
 }
 
-/// Ends the program where an evaluation came to its end: where it stopped is told on a line.
+/// Ends the program where an evaluation came to its end: where it stopped is a line.
 fn end_evaluated<E: Write>(end: EvalEnd, errors: &mut E) -> Ending
     ensures status { result.status ≡ evaluation_status (Ok end) }
-    ensures told { TellsStop E.contents errors.old errors.new result.told (Ok end.stopped_at) }
+    ensures told { TellsEval E.contents errors.old errors.new result.told (Ok end) }
 {
     match end.stopped_at {
         None => ended(status_by(end.counts), true),
@@ -114,34 +112,51 @@ fn end_evaluated<E: Write>(end: EvalEnd, errors: &mut E) -> Ending
     }
 }
 
-/// Ends the program by what it answered: a fault is told on both streams.
-fn end_evaluation<W: Write, E: Write, T: Tells>(
-    answer: Result<EvalEnd, RunFault>,
+/// Ends the program where an evaluation had a fault, which goes to both streams where its voice has it.
+fn end_faulty<W: Write, E: Write, T: Tells>(
+    fault: EvalFault,
     tells: &T,
     output: &mut W,
     errors: &mut E,
 ) -> Ending
-    ensures last { LastTold T.voice W.contents output.old output.new result.told (whole_end answer) }
-    ensures status { result.status ≡ evaluation_status answer }
-    ensures told { TellsStop E.contents errors.old errors.new result.told (stop_of answer) }
+    ensures last { LastOfEval T.voice W.contents output.old output.new result.told (Err fault) }
+    ensures status { result.status ≡ 1 }
+    ensures told { TellsEval E.contents errors.old errors.new result.told (Err fault) }
 {
-    match answer {
-        Ok(end) => end_evaluated(end, errors),
-        Err(fault) => end_told(Err(fault), tells, output, errors),
+    match fault {
+        EvalFault::NoField(_) => ended(1, eval_fault_text(fault, errors).is_ok()),
+        EvalFault::Run(why) => end_told(Err(why), tells, output, errors),
     }
 }
 
-/// Evaluates the fields of the worksheet on a disk, and tells how that ended.
+/// Ends the program by what it answered.
+fn end_evaluation<W: Write, E: Write, T: Tells>(
+    answer: Result<EvalEnd, EvalFault>,
+    tells: &T,
+    output: &mut W,
+    errors: &mut E,
+) -> Ending
+    ensures last { LastOfEval T.voice W.contents output.old output.new result.told answer }
+    ensures status { result.status ≡ evaluation_status answer }
+    ensures told { TellsEval E.contents errors.old errors.new result.told answer }
+{
+    match answer {
+        Ok(end) => end_evaluated(end, errors),
+        Err(fault) => end_faulty(fault, tells, output, errors),
+    }
+}
+
+/// Evaluates the fields of the worksheet on a disk, and reports how that ended.
 fn end_on<W: Write, E: Write, D: Disk, S: Sources, T: Tells>(
     alloc: Global,
-    plan: Plan,
+    plan: &Plan,
     tells: &T,
     output: &mut W,
     errors: &mut E,
     disk: D,
     sources: &mut S,
 ) -> Ending
-    ensures { EvaluationEnded (setting T.voice S.after S.clock S.wakes plan []) D.view disk sources.old sources.new
+    ensures { EvaluationEnded (setting T.voice S.after S.clock S.wakes plan.now []) D.view disk sources.old sources.new
         W.contents output.old output.new E.contents errors.old errors.new result }
 {
     let answer = evaluate_framed(alloc, plan, tells, output, disk, sources);
@@ -149,11 +164,11 @@ fn end_on<W: Write, E: Write, D: Disk, S: Sources, T: Tells>(
 }
 
 /// The whole program `eval` on its files, or on why they weren't opened: what comes of each field goes to
-/// `output`, brought out at once, and the counts at the end. The line of a fault goes to `errors`, and so
-/// does that of the place where a strict evaluation stopped.
+/// `output`, flushed at once, and the counts at the end. The line of a fault goes to `errors`, and so does
+/// that of the place where a strict evaluation stopped.
 pub fn run_evaluation<W: Write, E: Write, D: Disk, S: Sources, T: Tells>(
     alloc: Global,
-    plan: Plan,
+    plan: &Plan,
     tells: &T,
     output: &mut W,
     errors: &mut E,
@@ -165,7 +180,7 @@ pub fn run_evaluation<W: Write, E: Write, D: Disk, S: Sources, T: Tells>(
         × (result.status ≡ 1)
         × TellsFault E.contents errors.old errors.new result.told (Err (printed.no_files why))) }
 
-    ensures files { IfOk files (λ disk. EvaluationEnded (setting T.voice S.after S.clock S.wakes plan []) D.view disk
+    ensures files { IfOk files (λ disk. EvaluationEnded (setting T.voice S.after S.clock S.wakes plan.now []) D.view disk
         sources.old sources.new W.contents output.old output.new E.contents errors.old errors.new result) }
 {
     match files {

@@ -25,9 +25,10 @@ told() {
 }
 for task in create run live eval show check; do
     told "$task without a path" 'error: the following required arguments were not provided:' "$task"
-    told "$task with two paths" "error: unexpected argument 'b' found" "$task" a b
+    [ "$task" = eval ] || told "$task with two paths" "error: unexpected argument 'b' found" "$task" a b
     told "$task with a flag" "error: unexpected argument '-w' found" "$task" -w
 done
+told 'eval with two paths' 'error: this is no field: ID is a number, as 3' eval a b
 told 'run with a flag alone' 'error: the following required arguments were not provided:' run --strict
 told 'run with a flag twice' "error: the argument '--strict' cannot be used multiple times" run --strict --strict a
 told 'run with a flag that has a value' "error: unexpected value 'yes' for '--strict' found; no more were expected" run --strict=yes a
@@ -66,7 +67,7 @@ helps blocks 'Write the blocks of the stream on standard input, a line each' "Us
 helps create 'Make an empty worksheet' "Usage: ${tmhost##*/} create <PATH>" 'Example: tmhost create sheet.tm' 3
 helps run 'Run the script on standard input over a worksheet' "Usage: ${tmhost##*/} run [OPTIONS] <PATH>" 'Example: tmhost run sheet.tm <script.txt' 1
 helps live 'Hold a worksheet open for lines that come on standard input' "Usage: ${tmhost##*/} live [OPTIONS] <PATH>" "Example: printf 'print\\n' | tmhost live sheet.tm" 1
-helps eval 'Evaluate the fields of a worksheet' "Usage: ${tmhost##*/} eval [OPTIONS] <PATH>" 'Example: tmhost eval --timeout 10 sheet.tm' 1
+helps eval 'Evaluate the fields of a worksheet' "Usage: ${tmhost##*/} eval [OPTIONS] <PATH> [ID]..." 'Example: tmhost eval --timeout 10 sheet.tm 3 7' 1
 helps show 'Write a worksheet' "Usage: ${tmhost##*/} show [OPTIONS] <PATH>" 'Example: tmhost show sheet.tm' 1
 helps check 'Evaluate a worksheet again, and write what differs' "Usage: ${tmhost##*/} check [OPTIONS] <PATH>" 'Example: tmhost check --format junit sheet.tm >report.xml' 1
 helps rescue 'Write what stands before a damage to a new worksheet' "Usage: ${tmhost##*/} rescue <PATH> <NEW>" 'Example: tmhost rescue sheet.tm new.tm' 1
@@ -84,7 +85,7 @@ compare 'a version over a full output' "$? $(cat errors)" '1 fault 42 Output'
 # What `help faults` has of each fault that a program tells: its number and its name.
 "$tmhost" help faults >text 2>errors
 compare 'the help of faults' "$? $(wc -c <errors) $(head -n 1 text)|$(grep '^Usage' text)" "0 0 What each fault means|Usage: ${tmhost##*/} faults"
-compare 'the faults' "$(grep -o '^[0-9][0-9] [A-Za-z]*' text | tr '\n' ' ')" '21 Disk 22 OutOfMemory 23 JournalFull 30 Damaged 31 NotASheet 32 Disk 33 OutOfMemory 34 NotEmpty 35 InUse 36 NoScript 40 Input 41 InputTooLong 42 Output 43 OutOfMemory '
+compare 'the faults' "$(grep -o '^[0-9][0-9] [A-Za-z]*' text | tr '\n' ' ')" '21 Disk 22 OutOfMemory 23 JournalFull 30 Damaged 31 NotASheet 32 Disk 33 OutOfMemory 34 NotEmpty 35 InUse 36 NoScript 37 NoField 40 Input 41 InputTooLong 42 Output 43 OutOfMemory '
 "$tmhost" faults --help >same 2>errors
 compare 'the same by a flag' "$? $(wc -c <errors) $(bytes same)" "0 0 $(bytes text)"
 "$tmhost" faults >same 2>errors

@@ -5,7 +5,7 @@
 evaluates() {
     name=$1 want=$(ending "$3" "$2") shown=$(ending "$4" 0)
     shift 4
-    compare "$name" "$(answer eval "$@" sheet </dev/null)" "$want"
+    compare "$name" "$(answer eval sheet "$@" </dev/null)" "$want"
     compare "$name, shown" "$(answer show sheet </dev/null)" "$shown"
 }
 
@@ -43,6 +43,40 @@ printf 'set 1 w\nnew 2 b v\n' >given
 evaluates 'those without an answer' 0 'asked\nbanner a\nanswered 1\nasked\nbanner b\nanswered 4\nanswered 4 unanswered 0\n' \
     '#3 a\n> z\nz 1\n#1 a\n> w\nw 1\n#2 b\n> y\ny 1\n#4 b\n> v\nv 1\n' --unanswered
 
+# Some of the fields: those that are named, and one with those after it. The worksheet has them in the order 3, 1, 2, 4.
+made 'session a plain sh count.sh\nsession b plain sh count.sh\nnew 0 a x\nnew 1 b y\nnew 0 a z\nnew 2 b w\neval 1\nwait\n'
+evaluates 'the fields that are named, in the order of the worksheet and each once' 1 \
+    'asked\nbanner a\nanswered 3\nasked\nbanner b\nanswered 4\nanswered 3 unanswered 1\n' \
+    '#3 a\n> z\nz 1\n#1 a\n> x\nx 1\n#2 b\n> y\n?\n#4 b\n> w\nw 1\n' 4 3 4
+evaluates 'a field and those after it' 0 \
+    'asked\nbanner a\nanswered 1\nasked\nbanner b\nanswered 2\nasked\nanswered 4\nanswered 4 unanswered 0\n' \
+    '#3 a\n> z\nz 1\n#1 a\n> x\nx 1\n#2 b\n> y\ny 1\n#4 b\n> w\nw 2\n' --from 1
+evaluates 'the last field' 0 'asked\nbanner b\nanswered 4\nanswered 4 unanswered 0\n' \
+    '#3 a\n> z\nz 1\n#1 a\n> x\nx 1\n#2 b\n> y\ny 1\n#4 b\n> w\nw 1\n' --from 4
+printf 'set 1 v\nset 4 u\n' >given
+"$tmhost" run sheet <given >text
+evaluates 'of those that are named the ones without an answer' 1 'asked\nbanner a\nanswered 1\nanswered 3 unanswered 1\n' \
+    '#3 a\n> z\nz 1\n#1 a\n> v\nv 1\n#2 b\n> y\ny 1\n#4 b\n> u\n?\n' --unanswered 3 1 2
+evaluates 'of a field and those after it the ones without an answer' 0 'asked\nbanner b\nanswered 4\nanswered 4 unanswered 0\n' \
+    '#3 a\n> z\nz 1\n#1 a\n> v\nv 1\n#2 b\n> y\ny 1\n#4 b\n> u\nu 1\n' --unanswered --from 2
+evaluates 'one that is named and shows an answer' 0 'answered 4 unanswered 0\n' \
+    '#3 a\n> z\nz 1\n#1 a\n> v\nv 1\n#2 b\n> y\ny 1\n#4 b\n> u\nu 1\n' --unanswered 3
+
+# Numbers that no field has: nothing is evaluated, and not a byte is written.
+printf 'remove 2\n' >given
+"$tmhost" run sheet <given >text
+bytes sheet >before
+for id in 2 9 0 4294967295; do
+    evaluates "no field has the number $id" 1 "fault 37 NoField $id\n" '#3 a\n> z\nz 1\n#1 a\n> v\nv 1\n#4 b\n> u\nu 1\n' 3 "$id" 1 8
+    evaluates "none to begin with has the number $id" 1 "fault 37 NoField $id\n" '#3 a\n> z\nz 1\n#1 a\n> v\nv 1\n#4 b\n> u\nu 1\n' --from "$id"
+done
+compare 'the bytes are the same' "$(bytes sheet)" "$(cat before)"
+for id in x '' 3,1 03 1-3 4294967296; do
+    words "no number: $id" 2 "error: this is no field: ID is a number, as 3\n\nFor more information, try 'tmhost eval --help'.\n" eval sheet 3 "$id"
+    words "no number to begin with: $id" 2 "error: this is no field: ID is a number, as 3\n\nFor more information, try 'tmhost eval --help'.\n" eval --from "$id" sheet
+done
+words 'fields and one to begin with' 2 "error: --from goes with no ID after PATH\n\nFor more information, try 'tmhost eval --help'.\n" eval --from 1 sheet 3
+
 # Fields that are lost.
 made 'session a plain sh count.sh\nsession b plain ./nothing\nnew 0 a x\nnew 1 a end\nnew 2 a z\nnew 3 b y\n'
 evaluates 'an end goes on with another interpreter' 1 \
@@ -53,6 +87,11 @@ evaluates 'strictly: it stops behind the first one, and the fields behind keep w
     '#1 a\n> x\nx 1\n#2 a\n> end\n? Ended\n#3 a\n> z\nz 1\n#4 b\n> y\n? StartRefused\n' --strict
 evaluates 'strictly, those that were lost' 3 'asked\nbanner a\nended a Ended lost 1\nanswered 2 unanswered 2\nstopped at line 2\n' \
     '#1 a\n> x\nx 1\n#2 a\n> end\n? Ended\n#3 a\n> z\nz 1\n#4 b\n> y\n? StartRefused\n' --strict --unanswered
+evaluates 'strictly, a field that is named' 3 'asked\nbanner a\nended a Ended lost 1\nanswered 2 unanswered 2\nstopped at line 2\n' \
+    '#1 a\n> x\nx 1\n#2 a\n> end\n? Ended\n#3 a\n> z\nz 1\n#4 b\n> y\n? StartRefused\n' --strict 3 2
+evaluates 'one that is named is passed over after one that is lost' 1 \
+    'asked\nbanner a\nended a Ended lost 1\nanswered 2 unanswered 2\nover 0 passed 1\n' \
+    '#1 a\n> x\nx 1\n#2 a\n> end\n? Ended\n#3 a\n> z\nz 1\n#4 b\n> y\n? StartRefused\n' --timeout 60 2 3
 printf 'remove 2\nremove 4\n' >given
 "$tmhost" run sheet <given >text
 evaluates 'strictly, where none is lost' 0 'asked\nbanner a\nanswered 1\nasked\nanswered 3\nanswered 2 unanswered 0\n' '#1 a\n> x\nx 1\n#3 a\n> z\nz 2\n' --strict
@@ -119,6 +158,7 @@ cat >wanted <<'END'
 status 0
 END
 compare 'as JSON' "$(answer eval --json sheet </dev/null)" "$(cat wanted)"
+compare 'as JSON, a number that no field has' "$(answer eval --json sheet 9 </dev/null)" "$(head -n 1 wanted; printf 'fault 37 NoField 9\nstatus 1')"
 compare 'as JSON, no worksheet' "$(answer eval --json missing </dev/null)" "$(printf '{"name":"Disk","number":32,"type":"fault"}\nfault 32 Disk\nstatus 1')"
 
 # Many fields.

@@ -7,8 +7,8 @@ use Rattle.program_endings.proofs.eval_program.evaluate_on.Goals as goal
 pub returns : goal.returns
 returns g c =
     subst
-    (EvaluatesTo (setting g.T.Tells.voice g.S.Children.after g.S.Sources.clock g.S.Sources.wakes c.args.plan []) g.D.Disk.view c.args.disk c.args.sources.now c.evaluate.new.sources (g.W.Write.contents c.args.output.now) (g.W.Write.contents c.evaluate.new.writer)
+    (EvaluatesTo (setting g.T.Tells.voice g.S.Children.after g.S.Sources.clock g.S.Sources.wakes c.args.plan.now []) g.D.Disk.view c.args.disk c.args.sources.now c.evaluate.new.sources (g.W.Write.contents c.args.output.now) (g.W.Write.contents c.evaluate.new.writer)
     ((c.evaluate.new.writer ≡ c.args.output.now) × (c.evaluate.new.sources ≡ c.args.sources.now)))
     (sym c.answered.ensures)
-    (evaluation_answered (setting g.T.Tells.voice g.S.Children.after g.S.Sources.clock g.S.Sources.wakes c.args.plan []) g.D.Disk.view c.args.disk c.args.sources.now c.evaluate.new.sources (g.W.Write.contents c.args.output.now) (g.W.Write.contents c.evaluate.new.writer) _
+    (evaluation_answered (setting g.T.Tells.voice g.S.Children.after g.S.Sources.clock g.S.Sources.wakes c.args.plan.now []) g.D.Disk.view c.args.disk c.args.sources.now c.evaluate.new.sources (g.W.Write.contents c.args.output.now) (g.W.Write.contents c.evaluate.new.writer) _
     c.evaluate.result c.evaluate.ensures.evaluated c.evaluate.ensures.same c.evaluate.ensures.fault c.evaluate.ensures.unopened c.evaluate.ensures.failed)

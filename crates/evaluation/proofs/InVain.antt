@@ -1,0 +1,55 @@
+-- Where nothing is evaluated, since a field isn't there or there was no memory for the fields' numbers.
+use Rattle.std.proofs.Common.{◌≡◌, ℕ, Bool, true, false, List, Option, Some, None, inl, ap, sym, subst, absurd, refl, ◌∙◌}
+use Rattle.std.specs.Prelude.{Result, Ok, Err, IfErr, IfOk, cond}
+use Rattle.disk_model.specs.Disk.{DiskView}
+use Rattle.journal.specs.declared.opening.OpenCause.{OpenCause}
+use Rattle.host_events.specs.declared.outcome.HostFault.{HostFault}
+use Rattle.worksheet.specs.declared.field.Field.{Field}
+use Rattle.session_engine.specs.World.{World, sheet_in}
+use Rattle.sheet_programs.specs.Run.{OpenedOn}
+use Rattle.offline_programs.specs.declared.fault.RunFault.{RunFault}
+use Rattle.offline_programs.specs.declared.fault.RunFault.TheVariants as fault
+use Rattle.evaluation.specs.declared.fault.EvalFault.{EvalFault}
+use Rattle.evaluation.specs.declared.fault.EvalFault.TheVariants as evals
+use Rattle.evaluation.specs.declared.plan.Which.{Which}
+use Rattle.evaluation.specs.Meant.{missing_in}
+use Rattle.evaluation.specs.Steps.{Setting}
+use Rattle.evaluation.specs.Evaluation.{TellsEvalFault, TellsEvaluation}
+use Rattle.evaluation.specs.inside.Choosing.{AsksInVain}
+
+pub in_vain : {C : Type 0} (o : Setting C) (disk now : DiskView) (c d : C) (a b : Option (List ℕ)) (start : World) (nothing : Type 0) (why : EvalFault)
+    → nothing → OpenedOn disk start now → AsksInVain o.plan.which (sheet_in start).fields why → TellsEvalFault o disk c d a b nothing why
+in_vain o disk now c d a b start nothing (evals.NoField id) none opened is = (none, (start, now, opened, is))
+in_vain o disk now c d a b start nothing (evals.Run why) none opened is = subst (TellsEvaluation o disk c d a b nothing) (sym is) (inl none)
+
+abbrev run_or : RunFault → EvalFault → RunFault
+run_or other (evals.NoField id) = other
+run_or other (evals.Run why) = why
+
+-- one that others have too is known by what it is there
+pub same_run : (f g : RunFault) → evals.Run f ≡ evals.Run g → f ≡ g
+same_run f g e = ap (run_or f) e
+
+abbrev IsMemory : RunFault → Type 0
+IsMemory fault.OutOfMemory = Unit {0}
+IsMemory fault.Input = ⊥
+IsMemory fault.InputTooLong = ⊥
+IsMemory fault.Output = ⊥
+IsMemory (fault.Host f) = ⊥
+IsMemory (fault.Open f) = ⊥
+IsMemory fault.InUse = ⊥
+
+abbrev IsVain : EvalFault → Type 0
+IsVain (evals.NoField id) = Unit {0}
+IsVain (evals.Run why) = IsMemory why
+
+is-vain : (which : Which) (fields : List Field) (why : EvalFault) → AsksInVain which fields why → IsVain why
+is-vain which fields (evals.NoField id) is = tt
+is-vain which fields (evals.Run why) is = subst IsMemory (sym is) tt
+
+-- so no disk failed
+pub not_opened : {X : Type 0} (which : Which) (fields : List Field) (why : EvalFault) (cause : OpenCause) → AsksInVain which fields why → why ≡ evals.Run (fault.Open cause) → X
+not_opened which fields why cause is e = absurd (subst IsVain e (is-vain which fields why is))
+
+pub not_host : {X : Type 0} (which : Which) (fields : List Field) (why : EvalFault) (f : HostFault) → AsksInVain which fields why → why ≡ evals.Run (fault.Host f) → X
+not_host which fields why f is e = absurd (subst IsVain e (is-vain which fields why is))

@@ -1,0 +1,11 @@
+-- The faults of an evaluation, as they are printed.
+use Rattle.std.specs.Prelude.{ℕ, List, [], ◌∷◌, ◌++◌, codes}
+use Rattle.std.specs.Fmt.{decimal}
+use Rattle.offline_programs.specs.Faults.{fault_text}
+use Rattle.evaluation.specs.declared.fault.EvalFault.{EvalFault}
+use Rattle.evaluation.specs.declared.fault.EvalFault.TheVariants as fault
+
+-- the line that reports a fault
+abbrev pub eval_fault_text : EvalFault → List ℕ
+eval_fault_text (fault.NoField id) = codes "fault 37 NoField " ++ decimal id ++ 10 ∷ []
+eval_fault_text (fault.Run why) = fault_text why

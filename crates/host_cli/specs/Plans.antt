@@ -1,0 +1,73 @@
+-- What the words of `eval` ask for. (docs/SCRIPT.md, "Evaluating a worksheet".)
+use Rattle.std.specs.Prelude.{◌≡◌, ◌&&◌, ℕ, Bool, true, false, List, [], ◌∷◌, Option, Some, None, nat_le, Result, Ok, Err}
+use Rattle.std.specs.Option.{option_map}
+use Rattle.clap.specs.Words.{Text}
+use Rattle.command_words.specs.Asked.{EvalView}
+use Rattle.sheet_text.specs.Script.{number_written}
+use Rattle.evaluation.specs.declared.plan.Plan.{Plan}
+use Rattle.evaluation.specs.declared.plan.Which.{Which}
+use Rattle.evaluation.specs.declared.plan.Which.TheVariants as which
+use Rattle.host_cli.specs.declared.plans.PlanFault.{PlanFault}
+use Rattle.host_cli.specs.declared.plans.PlanFault.TheVariants as plans
+
+-- the time that a field may take: 1 to 1,000,000 seconds, or without a limit
+abbrev pub seconds_by : Bool → ℕ → Option (Option ℕ)
+seconds_by true seconds = Some (Some seconds)
+seconds_by false seconds = None
+
+abbrev pub limit_if : Option ℕ → Option (Option ℕ)
+limit_if None = None
+limit_if (Some seconds) = seconds_by (nat_le 1 seconds && nat_le seconds 1000000) seconds
+
+abbrev pub limit_asked : Option Text → Option (Option ℕ)
+limit_asked None = Some None
+limit_asked (Some text) = limit_if (number_written text)
+
+-- the numbers that words write, where each of them writes one
+abbrev pub with_number : Option ℕ → Option (List ℕ) → Option (List ℕ)
+with_number None others = None
+with_number (Some id) others = option_map (λ ids. id ∷ ids) others
+
+abbrev pub numbers_in : List Text → Option (List ℕ)
+numbers_in [] = Some []
+numbers_in (word ∷ words) = with_number (number_written word) (numbers_in words)
+
+-- the fields with these numbers, where they are numbers
+abbrev pub which_named : Option (List ℕ) → Result Which PlanFault
+which_named None = Err plans.Id
+which_named (Some ids) = Ok (which.Named ids)
+
+-- those that are named; all, where none is
+abbrev pub named_asked : List Text → Result Which PlanFault
+named_asked [] = Ok which.All
+named_asked (word ∷ words) = which_named (numbers_in (word ∷ words))
+
+-- the field with this number and those after it, where it is a number
+abbrev pub which_from : Option ℕ → Result Which PlanFault
+which_from None = Err plans.Id
+which_from (Some id) = Ok (which.From id)
+
+-- a number to begin with goes with no others
+abbrev pub from_asked : Text → List Text → Result Which PlanFault
+from_asked from [] = which_from (number_written from)
+from_asked from (word ∷ words) = Err plans.Both
+
+-- Which fields are asked for, by the number to begin with, where there is one, and the numbers that are named.
+abbrev pub which_asked : Option Text → List Text → Result Which PlanFault
+which_asked None words = named_asked words
+which_asked (Some from) words = from_asked from words
+
+-- The words of `eval` ask for this.
+pub record AsksPlan (words : EvalView) (plan : Plan) : Type 0 where
+  pub which : which_asked words.from words.ids ≡ Ok plan.which
+  pub unanswered : plan.unanswered ≡ words.unanswered
+  pub strict : plan.strict ≡ words.strict
+  pub limit : limit_asked words.timeout ≡ Some plan.limit
+  pub keep_going : plan.keep_going ≡ words.keep_going
+
+-- They ask for nothing that there is, for this reason, or there was no memory.
+abbrev pub AsksNoPlan : EvalView → PlanFault → Type 0
+AsksNoPlan words plans.Seconds = limit_asked words.timeout ≡ None
+AsksNoPlan words plans.Id = which_asked words.from words.ids ≡ Err plans.Id
+AsksNoPlan words plans.Both = which_asked words.from words.ids ≡ Err plans.Both
+AsksNoPlan words plans.OutOfMemory = Unit {0}

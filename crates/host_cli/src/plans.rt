@@ -1,0 +1,122 @@
+//! What the words of `eval` ask for.
+ghost use Rattle.std.specs.Prelude.{◌≡◌, Err, IfErr, IfOk, Ok, map, option_map};
+ghost use Rattle.command_words.specs.Asked.{eval_view};
+ghost use Rattle.host_cli.specs.Plans.{AsksNoPlan, AsksPlan, from_asked, limit_asked, named_asked, numbers_in, which_asked};
+ghost use Rattle.host_cli.specs.inside.Reading.{IsWhy};
+
+use block_tree::{OutOfMemory, Sequence};
+use check_report::read_number;
+use command_words::EvalWords;
+use evaluation::{Plan, Which};
+use std::alloc::Global;
+
+/// The most seconds that a field may be given.
+const MOST_SECONDS: u32 = 1_000_000;
+
+/// Why the words of `eval` ask for nothing that there is.
+#[derive(Clone, Copy, Debug, PartialEq, Eq)]
+pub enum PlanFault {
+    /// They name no time.
+    Seconds,
+    /// A word that is to be the number of a field is none.
+    Id,
+    /// They name fields, and one to begin with.
+    Both,
+    /// There was no memory for them.
+    OutOfMemory,
+}
+
+/// The time that a field may take, where there is a limit. None where the words name no time.
+fn read_limit(text: Option<&str>) -> Option<Option<u32>>
+    ensures { result ≡ limit_asked (option_map (λ text. text.now) text.entry) }
+{
+    let Some(text) = text else {
+        return Some(None);
+    };
+    match read_number(text.as_bytes()) {
+        None => None,
+        Some(seconds) => {
+            if 1 <= seconds && seconds <= MOST_SECONDS {
+                Some(Some(seconds))
+            } else {
+                None
+            }
+        }
+    }
+}
+
+/// The numbers that words write. None where one of them writes none.
+#[tactic(auto, using(crate::proofs::NumbersRead::number_steps))]
+fn read_numbers(alloc: Global, words: &[&str]) -> Result<Option<Sequence<u32>>, OutOfMemory>
+    ensures { IfOk result (λ ids. ids ≡ numbers_in (map (λ word. word.now) words.now)) }
+{
+    let mut ids = Vec::new(alloc);
+    for word in words {
+        let Some(id) = read_number(word.as_bytes()) else {
+            return Ok(None);
+        };
+        ids.push(id)?;
+    }
+    Ok(Some(Sequence::from_vec(ids)))
+}
+
+/// The fields that are named, or all where none is.
+fn read_named(alloc: Global, words: &[&str]) -> Result<Which, PlanFault>
+    ensures ok { IfOk result (λ which. named_asked (map (λ word. word.now) words.now) ≡ Ok which) }
+    ensures err { IfErr result (IsWhy (named_asked (map (λ word. word.now) words.now))) }
+{
+    if words.is_empty() {
+        return Ok(Which::All);
+    }
+    match read_numbers(alloc, words) {
+        Ok(Some(ids)) => Ok(Which::Named(ids)),
+        Ok(None) => Err(PlanFault::Id),
+        Err(_) => Err(PlanFault::OutOfMemory),
+    }
+}
+
+/// The field with a number and those after it, where no others are named.
+fn read_from(from: &str, words: &[&str]) -> Result<Which, PlanFault>
+    ensures { result ≡ from_asked from.now (map (λ word. word.now) words.now) }
+{
+    if !words.is_empty() {
+        return Err(PlanFault::Both);
+    }
+    match read_number(from.as_bytes()) {
+        Some(id) => Ok(Which::From(id)),
+        None => Err(PlanFault::Id),
+    }
+}
+
+/// The fields that are asked for.
+fn read_which(alloc: Global, from: Option<&str>, words: &[&str]) -> Result<Which, PlanFault>
+    ensures ok { IfOk result (λ which. which_asked (option_map (λ text. text.now) from.entry)
+        (map (λ word. word.now) words.now) ≡ Ok which) }
+    ensures err { IfErr result (IsWhy (which_asked (option_map (λ text. text.now) from.entry)
+        (map (λ word. word.now) words.now))) }
+{
+    match from {
+        None => read_named(alloc, words),
+        Some(from) => read_from(from, words),
+    }
+}
+
+/// What the words of `eval` ask for.
+pub(crate) fn read_plan(alloc: Global, words: &EvalWords<'_>) -> Result<Plan, PlanFault>
+    ensures ok { IfOk result (AsksPlan (eval_view words.now)) }
+    ensures err { IfErr result (AsksNoPlan (eval_view words.now)) }
+{
+    let Some(limit) = read_limit(words.timeout) else {
+        return Err(PlanFault::Seconds);
+    };
+    match read_which(alloc, words.from, words.ids.as_slice()) {
+        Ok(which) => Ok(Plan {
+            which,
+            unanswered: words.unanswered,
+            strict: words.strict,
+            limit,
+            keep_going: words.keep_going,
+        }),
+        Err(why) => Err(why),
+    }
+}
