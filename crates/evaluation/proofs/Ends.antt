@@ -29,7 +29,7 @@ use Rattle.evaluation.specs.Meant.{EndsHere, evaluation_counts, stop_line}
 use Rattle.evaluation.specs.Steps.{Setting, EvalPlace, Step, ask, heard, over, stalled, StepComes, StepDone, StepsTaken, fields_at, stands, woken_in}
 use Rattle.evaluation.specs.Broken.{Cut, StepLed, StepSoFar, StepUpTo, TooMany, Unwatched}
 use Rattle.evaluation.specs.Broken as broken
-use Rattle.evaluation.specs.Evaluation.{Ends, EvaluationDone, LedOf, Short, SoFarOf, StoppedOf, TellsEvaluation, Uncounted, Begins, not_begun, meaning}
+use Rattle.evaluation.specs.Evaluation.{Ends, EvaluationDone, LedOf, Short, SoFarOf, StoppedOf, TellsEvaluation, Uncounted, OpenedFor, not_begun, meaning}
 use Rattle.evaluation.specs.inside.Stepping.{BrokeOff, CameSoFar, CameUnwritten, Through, ThroughAnd}
 
 -- The stops.
@@ -108,13 +108,13 @@ short-goes o p beats text t q = cut-goes o p (StepSoFar o) beats text t (λ r s 
 
 -- What is left.
 
-module _ {C : Type 0} (o : Setting C) (disk now : DiskView) (c d : C) (a b : Option (List ℕ)) (start : World) (h : HostView) (begins : Begins o disk start now) (held : HoldsSheet start now) where
+module _ {C : Type 0} (o : Setting C) (disk now : DiskView) (c d : C) (a b : Option (List ℕ)) (start : World) (h : HostView) (opened : OpenedFor o disk start now) (held : HoldsSheet start now) where
   so-far-of : (Came : Setting C → EvalPlace C → List Beat → List ℕ → At C → Type 0) → ((beats : List Beat) (text : List ℕ) (t : At C) → Came (meaning o start) (stands (at start c now) not_begun) beats text t → Goes start now beats t.world t.disk)
       → CameSoFar (Came (meaning o start) (stands (at start c now) not_begun)) (StoppedBehind o.after d) h a b → SoFarOf o disk c d a b Came
   so-far-of Came goes t = record {
     start = start;
     now = now;
-    begins = begins;
+    opened = opened;
     beats = t.0;
     text = t.1;
     leads = t.2;
@@ -128,7 +128,7 @@ module _ {C : Type 0} (o : Setting C) (disk now : DiskView) (c d : C) (a b : Opt
   led-of same t = record {
     start = start;
     now = now;
-    begins = begins;
+    opened = opened;
     beats = t.0;
     text = t.1;
     leads = t.2;
@@ -147,7 +147,7 @@ module _ {C : Type 0} (o : Setting C) (disk now : DiskView) (c d : C) (a b : Opt
   evaluation_failed nothing (fault.Host f) same t = record {
     start = start;
     now = now;
-    begins = begins;
+    opened = opened;
     beats = t.0;
     text = t.1;
     failed = t.2;
@@ -170,12 +170,12 @@ module _ {C : Type 0} (o : Setting C) (disk now : DiskView) (c d : C) (a b : Opt
     evaluation_done e back stopped counts same is counted told = record {
       start = start;
       now = now;
-      opened = begins.0;
+      opened = opened.0;
       beats = t.1;
       text = t.2 ++ o.voice.note (note.Counted counts);
       leads = t.3;
       lines = record {
-        there = begins.1;
+        there = opened.1;
         steps = t.0;
         stand = stand;
         first = t.2;
@@ -195,7 +195,7 @@ module _ {C : Type 0} (o : Setting C) (disk now : DiskView) (c d : C) (a b : Opt
     uncounted = record {
       start = start;
       now = now;
-      begins = begins;
+      opened = opened;
       steps = t.0;
       beats = t.1;
       text = t.2;

@@ -32,7 +32,7 @@ use Rattle.evaluation.specs.Broken as broken
 use Rattle.evaluation.specs.inside.Stepping.{CameFailed, IsOf, IsTimeOf, StepFailed, StepTook, TakingFailed, Took, TookUnwritten, TurnFailed, Turned}
 
 module _ {C : Type 0} (o : Setting C) (p : EvalPlace C) (h : HostView) (c : C) (a b : Option (List ℕ)) where
-  -- what came of a step and couldn't be told
+  -- what came of a step and couldn't be written
   pub took_untold : (s : Step) (f : RunFault) → IsUntold o.voice f → TookUnwritten o p s h c → TakingFailed o p s h c a b f
   took_untold s fault.Output why q = q
   took_untold s fault.OutOfMemory why q = inr (why, q)

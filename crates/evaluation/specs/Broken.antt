@@ -11,7 +11,7 @@ use Rattle.live.specs.Arrivals.{WatchTells}
 use Rattle.evaluation.specs.Meant.{IsAsked}
 use Rattle.evaluation.specs.Steps.{Setting, EvalPlace, Step, ask, heard, over, stalled, StepComes, StepDone, StepsTaken, fields_at, step_text, woken_in}
 
--- A step came up to this event, at which the host had a fault: these beats of it came before.
+-- A step came up to this event, at which the host had a fault: these entries of it came before.
 abbrev pub StepUpTo : {C : Type 0} → Setting C → Event → EvalPlace C → Step → List Beat → At C → Type 0
 StepUpTo o e p (ask k id) beats t = IsAsked o.plan (fields_at p) o.meant p.stand k id × ServedUpTo o.after p.run (event.Command (command.Eval id)) beats e t
 StepUpTo o e p (heard seat) beats t = TakenUpTo o.after true seat p.run beats e t
@@ -19,7 +19,7 @@ StepUpTo o e p over beats t = ⊥
 StepUpTo o e p stalled beats t = TurnStopped o.after false (waits p.run.world) p.run beats e t
 
 -- A step came so far when memory was refused: a field was not asked, of a life nothing was received, and of the lives that were to be
--- told that they stalled the first ones were.
+-- taken for stalled the first ones were.
 abbrev pub StepSoFar : {C : Type 0} → Setting C → EvalPlace C → Step → List Beat → At C → Type 0
 StepSoFar o p (ask k id) beats t = IsAsked o.plan (fields_at p) o.meant p.stand k id × (beats ≡ []) × (t ≡ p.run)
 StepSoFar o p (heard seat) beats t = (beats ≡ []) × (t ≡ p.run)

@@ -34,9 +34,9 @@ meaning o w = record { voice = o.voice; after = o.after; clock = o.clock; wakes 
 abbrev pub HasThem : {C : Type 0} → Setting C → World → Type 0
 HasThem o w = missing_in o.plan.which (sheet_in w).fields ≡ None
 
--- The evaluation begins on this disk, in which the worksheet of this world was found: each field that is asked for is there.
-abbrev pub Begins : {C : Type 0} → Setting C → DiskView → World → DiskView → Type 0
-Begins o disk start now = OpenedOn disk start now × HasThem o start
+-- The worksheet of this world was found on this disk, and each field that is asked for is there.
+abbrev pub OpenedFor : {C : Type 0} → Setting C → DiskView → World → DiskView → Type 0
+OpenedFor o disk start now = OpenedOn disk start now × HasThem o start
 
 -- nothing was asked yet
 abbrev pub not_begun : Stand
@@ -66,7 +66,7 @@ EvaluationDone o disk c d a b back stopped counts = RunOf o.after (Counted o sto
 pub record StoppedOf {C : Type 0} (o : Setting C) (disk : DiskView) (c d : C) (a b : Option (List ℕ)) (f : HostFault) : Type 0 where
   pub start : World
   pub now : DiskView
-  pub begins : Begins o disk start now
+  pub opened : OpenedFor o disk start now
   pub beats : List Beat
   pub text : List ℕ
   pub failed : Event
@@ -83,7 +83,7 @@ pub record StoppedOf {C : Type 0} (o : Setting C) (disk : DiskView) (c d : C) (a
 pub record SoFarOf {C : Type 0} (o : Setting C) (disk : DiskView) (c d : C) (a b : Option (List ℕ)) (Came : Setting C → EvalPlace C → List Beat → List ℕ → At C → Type 0) : Type 0 where
   pub start : World
   pub now : DiskView
-  pub begins : Begins o disk start now
+  pub opened : OpenedFor o disk start now
   pub beats : List Beat
   pub text : List ℕ
   pub leads : At C
@@ -96,7 +96,7 @@ pub record SoFarOf {C : Type 0} (o : Setting C) (disk : DiskView) (c d : C) (a b
 pub record LedOf {C : Type 0} (o : Setting C) (disk : DiskView) (c d : C) : Type 0 where
   pub start : World
   pub now : DiskView
-  pub begins : Begins o disk start now
+  pub opened : OpenedFor o disk start now
   pub beats : List Beat
   pub text : List ℕ
   pub leads : At C
@@ -110,7 +110,7 @@ pub record LedOf {C : Type 0} (o : Setting C) (disk : DiskView) (c d : C) : Type
 pub record Uncounted {C : Type 0} (o : Setting C) (disk : DiskView) (c d : C) : Type 0 where
   pub start : World
   pub now : DiskView
-  pub begins : Begins o disk start now
+  pub opened : OpenedFor o disk start now
   pub steps : List Step
   pub beats : List Beat
   pub text : List ℕ

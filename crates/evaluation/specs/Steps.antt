@@ -56,14 +56,14 @@ pub data Step : Type 0 where
   heard : Seat → Step
   -- the time of the field that was asked last is over
   over : Step
-  -- so are the two seconds that its interpreter has behind the interrupt
+  -- so are the two seconds that its interpreter has after the interrupt
   stalled : Step
 
 -- the seconds that an interrupted interpreter has
 abbrev pub grace : ℕ
 grace = 2
 
--- The step is due, and these are the sources behind the watch that told it. While no item waits the next field is asked; while one does,
+-- The step is due, and these are the sources after the watch that reported it. While no item waits the next field is asked; while one does,
 -- sources are watched, and the clock is read before each watch.
 abbrev pub StepComes : {C : Type 0} → Setting C → EvalPlace C → Step → C → Type 0
 StepComes o p (ask k id) d = (p.stand.held ≡ hold.Free) × (d ≡ p.run.children)
@@ -75,7 +75,7 @@ StepComes o p stalled d = (p.stand.warned ≡ true) × IsTimed p.stand.held × C
 abbrev pub fields_at : {C : Type 0} → EvalPlace C → List Field
 fields_at p = (sheet_in p.run.world).fields
 
--- The wait for a field that is asked where the sources stand so: with a limit of time it lasts until so many seconds behind what the
+-- The wait for a field that is asked where the sources stand so: with a limit of time it lasts until so many seconds after what the
 -- clock reads there.
 abbrev pub LimitBegins : {C : Type 0} → Clock C → C → Option ℕ → Hold → Type 0
 LimitBegins K c None held = held ≡ hold.Wait
@@ -95,15 +95,15 @@ abbrev pub InterruptsFor : {C : Type 0} → Relation C → World → Option Fiel
 InterruptsFor R w None c came d = (came ≡ interrupted.NoSession) × (d ≡ c)
 InterruptsFor R w (Some field) c came d = Interrupts R w field.session c came d
 
--- what is written of a step's beats, where this is the worksheet behind it
+-- what is written of a step's entries of the trace, where this is the worksheet after it
 abbrev pub step_text : Voice → Step → Contents → List Beat → List ℕ
 step_text V (ask k id) sheet beats = replied_text V (line_behind (k + 1)) sheet (told beats)
 step_text V (heard seat) sheet beats = came_text V sheet (told beats)
 step_text V over sheet beats = []
 step_text V stalled sheet beats = came_text V sheet (told beats)
 
--- What came of a step: the beats, what is written, and where the run stands behind it. An interrupt gives no beat, and all but the children
--- stays.
+-- What came of a step: its entries of the trace, what is written, and where the run stands after it. An interrupt gives no entry, and all
+-- but the children stays.
 abbrev pub StepDone : {C : Type 0} → Setting C → EvalPlace C → Step → List Beat → List ℕ → At C → Type 0
 StepDone o p (ask k id) beats text t =
     IsAsked o.plan (fields_at p) o.meant p.stand k id × Served o.after p.run (event.Command (command.Eval id)) beats t × (text ≡ step_text o.voice (ask k id) (sheet_in t.world) beats)
@@ -113,7 +113,7 @@ StepDone o p over beats text t =
     × (text ≡ o.voice.note (note.Over (line_behind p.stand.taken) p.stand.field came))) × (t ≡ at p.run.world t.children p.run.disk)
 StepDone o p stalled beats text t = OneTurn o.after false (waits p.run.world) p.run beats t × (text ≡ step_text o.voice stalled (sheet_in t.world) beats)
 
--- How the evaluation stands behind a step that led there.
+-- How the evaluation stands after a step that led there.
 abbrev pub StandsBehind : {C : Type 0} → Setting C → EvalPlace C → Step → At C → Stand → Type 0
 StandsBehind o p (ask k id) t stand = (begun : Hold) × (held : Hold) × LimitBegins o.clock t.children o.plan.limit begun × WaitGoesOn begun t.world held × (stand ≡ asked_at p.stand k id held)
 StandsBehind o p (heard seat) t stand = (held : Hold) × WaitGoesOn p.stand.held t.world held × (stand ≡ held_at p.stand held)

@@ -24,13 +24,13 @@ limit_asked None = Some None
 limit_asked (Some text) = limit_if (number_written text)
 
 -- the numbers that words write, where each of them writes one
-abbrev pub with_number : Option ℕ → Option (List ℕ) → Option (List ℕ)
-with_number None others = None
-with_number (Some id) others = option_map (λ ids. id ∷ ids) others
+abbrev pub with_id : Option ℕ → Option (List ℕ) → Option (List ℕ)
+with_id None others = None
+with_id (Some id) others = option_map (λ ids. id ∷ ids) others
 
 abbrev pub numbers_in : List Text → Option (List ℕ)
 numbers_in [] = Some []
-numbers_in (word ∷ words) = with_number (number_written word) (numbers_in words)
+numbers_in (word ∷ words) = with_id (number_written word) (numbers_in words)
 
 -- the fields with these numbers, where they are numbers
 abbrev pub which_named : Option (List ℕ) → Result Which PlanFault

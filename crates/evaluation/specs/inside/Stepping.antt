@@ -92,13 +92,13 @@ Through o p h c a b stand =
     (steps : List Step) × (beats : List Beat) × (text : List ℕ) × (w : World) × StepsTaken o p steps beats text (stands (at w c h.store.disk) stand)
     × IsHost h w × Appends a b text × ((stopped : Option ℕ) × Ends o (stands (at w c h.store.disk) stand) stopped)
 
--- The same; the children are so behind where it stands.
+-- The same; the children are so after where it stands.
 abbrev pub ThroughAnd : {C : Type 0} → Setting C → EvalPlace C → (At C → Type 0) → HostView → Option (List ℕ) → Option (List ℕ) → Stand → Type 0
 ThroughAnd {C = C} o p Behind h a b stand =
     (steps : List Step) × (beats : List Beat) × (text : List ℕ) × (t : At C) × StepsTaken o p steps beats text (stands t stand)
     × IsHost h t.world × (t.disk ≡ h.store.disk) × Appends a b text × ((stopped : Option ℕ) × Ends o (stands t stand) stopped) × Behind t
 
--- So far it came, and what was told is written.
+-- So far it came, and what was reported is written.
 abbrev pub CameSoFar : {C : Type 0} → (List Beat → List ℕ → At C → Type 0) → (At C → Type 0) → HostView → Option (List ℕ) → Option (List ℕ) → Type 0
 CameSoFar {C = C} Came Behind h a b = (beats : List Beat) × (text : List ℕ) × (t : At C) × Came beats text t × IsHost h t.world × (t.disk ≡ h.store.disk) × Behind t × Appends a b text
 
@@ -106,7 +106,7 @@ CameSoFar {C = C} Came Behind h a b = (beats : List Beat) × (text : List ℕ) �
 abbrev pub CameUnwritten : {C : Type 0} → Setting C → EvalPlace C → (At C → Type 0) → HostView → Type 0
 CameUnwritten {C = C} o p Behind h = (beats : List Beat) × (text : List ℕ) × (t : At C) × Cut o p (StepLed o) beats text t × StandsOrStopped h t.world t.disk × Behind t
 
--- What a fault of an evaluation leaves; the children are so behind where it stands.
+-- What a fault of an evaluation leaves; the children are so after where it stands.
 abbrev pub BrokeOff : {C : Type 0} → Setting C → EvalPlace C → (At C → Type 0) → HostView → Option (List ℕ) → Option (List ℕ) → RunFault → Type 0
 BrokeOff {C = C} o p Behind h a b (fault.Host f) =
     (beats : List Beat) × (text : List ℕ) × (e : Event) × (t : At C) × Cut o p (StepUpTo o e) beats text t × Stopped t.disk h t.world e f × Behind t × Appends a b text
