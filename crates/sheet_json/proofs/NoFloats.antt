@@ -99,6 +99,8 @@ none_told (told.sheet line ids next sessions) = whole_none ids sessions next
 none_told (told.whole ids next sessions) = whole_none ids sessions next
 none_told (told.fault n name None) = refl
 none_told (told.fault n name (Some offset)) = refl
+none_told (told.counted answered unanswered) = refl
+none_told (told.counted_in_time answered unanswered over passed) = refl
 none_told told.end = refl
 
 -- a value that is told has none
