@@ -1,4 +1,4 @@
-//! Worksheets and what is told of them as JSON.
+//! Worksheets and what is printed of them, as JSON.
 #![tactic(auto)]
 
 mod blocks;

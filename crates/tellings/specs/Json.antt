@@ -1,4 +1,4 @@
--- What is told, as lines of JSON. (docs/JSON.md.)
+-- What is printed, as lines of JSON. (docs/JSON.md.)
 use Rattle.std.specs.Prelude.{ℕ, true, Bool, List, [], ◌++◌, Option, Some, None, map, option_map, option_and_then, length, codes}
 use Rattle.std.specs.List.{flat_map}
 use Rattle.worksheet.specs.Checks.{field_in}
@@ -51,7 +51,7 @@ note_json (note.Interrupted line name told_of) = interrupt_json line told_of
 note_json (note.Over line id told_of) = interrupt_json line told_of
 note_json (note.Counted counts) = counted_json counts.answered counts.unanswered counts.overs
 
--- what is told of a life, if anything
+-- what is printed of a life, if anything
 abbrev pub event_line : List ℕ → ℕ → Option EventTold → List ℕ
 event_line session life None = []
 event_line session life (Some e) = telling_line (told.event session life e)

@@ -234,7 +234,7 @@ fn write_interrupt<W: Write>(
     }
 }
 
-/// What an evaluation came to.
+/// Writes what an evaluation came to.
 fn write_counts<W: Write>(alloc: Global, counts: Counts, writer: &mut W) -> Result<(), RunFault>
     ensures ok { OnOk result (Appends (W.contents writer.old) (W.contents writer.new)
         (texts.counted_json counts.answered counts.unanswered counts.overs)) }
@@ -250,7 +250,7 @@ fn write_counts<W: Write>(alloc: Global, counts: Counts, writer: &mut W) -> Resu
     }
 }
 
-/// What is told of a line, or of a wait that it began.
+/// Writes what is printed of a line, or of a wait that it began.
 fn write_note<W: Write>(alloc: Global, note: Note, writer: &mut W) -> Result<(), RunFault>
     ensures ok { OnOk result (Appends (W.contents writer.old) (W.contents writer.new) (texts.note_json note)) }
     ensures err { IfErr result (IsUntold texts.in_json) }
