@@ -32,7 +32,7 @@ pub(crate) fn create<F: Drop, N: Names<F>>(
 {
     look_for(names, path, alt)?;
     let first = names.make(path)?;
-    if names.lock(&first, Lock::Exclusive) {
+    if names.lock(&first, Lock::Exclusive)? {
         return Err(MakeFault::InUse);
     }
     let second = names.make(alt)?;
@@ -49,7 +49,7 @@ fn open_first<F: Drop, N: Names<F>>(names: &mut N, path: &str, lock: Lock) -> Re
         path.now lock first names.old names.new) }
 {
     let first = names.open(path, lock)?;
-    if names.lock(&first, lock) {
+    if names.lock(&first, lock)? {
         return Err(FilesFault::InUse);
     }
     names.single(&first)?;
