@@ -24,7 +24,7 @@ pub(crate) fn ended(status: u8, told: bool) -> Ending
     Ending { status, told }
 }
 
-/// Ends a program by what it answered, whether all is well or its fault, which is told on a line.
+/// Ends a program by what it answered, whether all is well or its fault, which is printed on a line.
 pub fn end_program<E: Write>(answer: Result<bool, RunFault>, errors: &mut E) -> Ending
     ensures status { result.status ≡ status_of answer }
     ensures told { TellsFault E.contents errors.old errors.new result.told answer }

@@ -8,7 +8,7 @@ use journal::CreateCause;
 use std::io;
 use std::io::ErrorKind;
 
-/// Looks for both files before one is made: one that is there is told first.
+/// Looks for both files before one is made: one that is there is reported first.
 fn look_for<F, N: Names<F>>(names: &mut N, path: &str, alt: &str) -> Result<(), MakeFault>
     ensures { IfOk result (λ _. (a : N) × N.looks names.old path.now (Ok false) a
         × N.looks a alt.now (Ok false) names.new) }

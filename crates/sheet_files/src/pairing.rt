@@ -74,7 +74,7 @@ fn single<F: SheetFile>(file: &F) -> io::Result<Identity> {
 /// How the first file begins of a worksheet that lies in its second one.
 const NAMES_SECOND: &[u8] = b"TMWSHEET\x01B";
 
-/// Whether a first file says that its worksheet lies in the second one. It has a gate behind that, as each
+/// Whether a first file says that its worksheet lies in the second one. It has a gate after that, as each
 /// first file.
 fn names_second<F: FileExt>(first: &F) -> io::Result<bool> {
     let mut header = [0; 11];
