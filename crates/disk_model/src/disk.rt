@@ -10,7 +10,7 @@ pub const GREATEST_ROOM: u64 = 2_147_483_648;
 pub enum Area {
     /// The first one. A journal has its header here.
     First,
-    /// The second one. A journal that was written anew may be here.
+    /// The second one. A rewritten journal may be here.
     Second,
 }
 

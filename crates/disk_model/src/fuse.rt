@@ -64,7 +64,7 @@ pub struct FuseDisk<D: Disk> {
 impl<D: Disk> FuseDisk<D> {
     ghost use Rattle.disk_model.specs.Fused.{IsNew};
 
-    /// Fails the k-th call on `inner` and all behind it, or the k-th alone. With `k` 0 the first
+    /// Fails the k-th call on `inner` and all after it, or the k-th alone. With `k` 0 the first
     /// fails all calls and the second none.
     pub fn new(inner: D, k: u64, mode: FuseMode) -> FuseDisk<D>
         ensures { IsNew result inner k mode }

@@ -9,7 +9,7 @@ ghost use Rattle.journal.specs.Limits.{longest_payload};
 use crate::walk::OPEN_GATE;
 use disk_model::{Area, Disk, DiskFault};
 
-/// Writes the bytes of records behind the closed gate at `end` of the active area, all but their first
+/// Writes the bytes of records after the closed gate at `end` of the active area, all but their first
 /// gate, and opens that gate once they are durable.
 pub(crate) fn add<D: Disk>(
     disk: &mut D,

@@ -12,7 +12,7 @@ use std::mem;
 // The most bytes that are read at once.
 const LONGEST_READ: u64 = 65_536;
 
-/// Some bytes of an area, from `start` on. None at `limit` or behind it is read.
+/// Some bytes of an area, from `start` on. None at `limit` or after it is read.
 #[derive(Drop)]
 pub(crate) struct Window {
     alloc: Global,

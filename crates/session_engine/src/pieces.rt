@@ -57,7 +57,7 @@ impl<D: Disk> Engine<D> {
     }
 }
 
-/// What is told of a piece.
+/// What is returned for a piece.
 fn told(
     name: Name,
     life: u32,
