@@ -1,4 +1,4 @@
-// A disk that fails from some call on, or at one call alone.
+//! A disk that fails from some call on, or at one call alone.
 ghost use Rattle.std.specs.Prelude.{◌≡◌, ◌+◌, ◌≤◌, ◌↔◌, length, take, drop, max, min, IfOk, IsErr, OnErr, OnOk};
 ghost use Rattle.disk_model.specs.Fuse.{Blows};
 ghost use Rattle.disk_model.specs.Disk.{Called, InModel, Looks, Rises, Syncs, Writes, area_of, greatest_count, bytes_on};

@@ -1,4 +1,4 @@
-// The calls on the disk that add records.
+//! The calls on the disk that add records.
 ghost use Rattle.std.specs.Prelude.{◌≡◌, ◌<◌, ◌≤◌, ◌+◌, ◌++◌, ◌∷◌, [], List, ℕ, length, OnOk};
 ghost use Rattle.disk_model.specs.Disk.{InModel, Called, LeavesOnly, area_of, greatest_room, other_area, overwritten, bytes_on};
 ghost use Rattle.journal.specs.Area.{ArePayloads, body_of, closed_gate, first_gate, IsPayload, open_gate, records};

@@ -1,4 +1,4 @@
-// The bytes of a record after its gate, and the closed gate that follows them.
+//! The bytes of a record after its gate, and the closed gate that follows them.
 ghost use Rattle.std.specs.Prelude.{◌≡◌, ◌<◌, ◌≤◌, ◌+◌, ◌++◌, ◌∷◌, [], List, ℕ, drop, length, IfOk};
 ghost use Rattle.std.specs.Int.{to_be_bytes, w32};
 ghost use Rattle.journal.specs.Area.{body_of, closed_gate, IsBody, IsPayload};

@@ -1,4 +1,4 @@
-// The payloads at the front of a journal, one after another.
+//! The payloads at the front of a journal, one after another.
 ghost use Rattle.std.specs.Prelude.{◌≡◌, ◌≤◌, ◌<◌, List, ℕ, [], IfErr, IfOk, MatchResult};
 ghost use Rattle.disk_model.specs.Disk.{InModel, Looks, SameDisk, Rises, bytes_on, greatest_room};
 ghost use Rattle.journal.specs.Area.{first_gate};

@@ -1,4 +1,4 @@
-// A journal on a disk that it owns.
+//! A journal on a disk that it owns.
 ghost use Rattle.std.specs.Prelude.{◌≡◌, ◌≢◌, ◌<◌, ◌≤◌, ◌+◌, ◌++◌, ◌∷◌, ◌↔◌, [], List, ℕ, length, IfOk, IfErr, IsTrue, MatchResult, vec_capacity};
 ghost use Rattle.disk_model.specs.Disk.{ChangesArea, InModel, IsImage, LeavesOnly, Looks, Reaches, SameDisk, Torn, Rises, bytes_on, greatest_room, other_area};
 ghost use Rattle.journal.specs.Payloads.{payloads_in, AreGates};

@@ -1,4 +1,4 @@
-// Making a journal's disk, and reading it.
+//! Making a journal's disk, and reading it.
 ghost use Rattle.std.specs.Prelude.{◌≡◌, ◌≤◌, ◌<◌, [], List, ℕ, get_or, IfOk, IfErr, OnErr, OnOk, IsErrOf, MatchResult};
 ghost use Rattle.disk_model.specs.Disk.{ChangesArea, InModel, Leaves, LeavesOnly, Looks, Reaches, SameDisk, Rises, Torn, area_of, bytes_on};
 ghost use Rattle.journal.specs.Area.{HasHeader, created, end_of, first_gate, selector_at};

@@ -1,4 +1,4 @@
-// The calls on the disk that rewrite a journal from a source.
+//! The calls on the disk that rewrite a journal from a source.
 ghost use Rattle.std.specs.Prelude.{◌≡◌, ◌<◌, ◌≤◌, ◌+◌, ◌++◌, ◌∷◌, [], List, ℕ, get_or, length, IfOk, OnOk, vec_capacity, vec_len};
 ghost use Rattle.disk_model.specs.Disk.{InModel, Called, Leaves, LeavesOnly, area_of, bytes_on, greatest_room, other_area};
 ghost use Rattle.journal.specs.Area.{ArePayloads, HasHeader, IsPayload, StandsFor, closed_gate, end_of, first_gate, record_of, records};

@@ -1,4 +1,4 @@
-// The calls on the disk that rewrite a journal.
+//! The calls on the disk that rewrite a journal.
 ghost use Rattle.std.specs.Prelude.{◌≡◌, ◌<◌, ◌≤◌, ◌+◌, ◌++◌, ◌∷◌, [], List, ℕ, length, IfNone, IfSome, OnOk};
 ghost use Rattle.disk_model.specs.Disk.{InModel, Called, Leaves, LeavesOnly, area_of, bytes_on, greatest_room, other_area};
 ghost use Rattle.journal.specs.Area.{HasHeader, IsPayload, StandsFor, body_of, closed_gate, end_of, first_gate};

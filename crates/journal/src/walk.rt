@@ -1,4 +1,4 @@
-// The walk over the gates of an area, by their length fields alone.
+//! The walk over the gates of an area, by their length fields alone.
 ghost use Rattle.std.specs.Prelude.{◌≡◌, ◌<◌, ◌≤◌, ◌+◌, ◌++◌, List, ℕ, get_or, length, min, drop, IfOk, IfErr, IfSome, IfNone, OnOk};
 ghost use Rattle.disk_model.specs.Disk.{InModel, area_of, bytes_on};
 ghost use Rattle.journal.specs.Limits.{longest_payload};

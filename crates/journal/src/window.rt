@@ -1,4 +1,4 @@
-// Reads of an area through a window of at most 65,536 bytes.
+//! Reads of an area through a window of at most 65,536 bytes.
 ghost use Rattle.std.specs.Prelude.{◌≡◌, ◌+◌, ◌-◌, ◌≤◌, List, ℕ, length, take, drop, IfErr, IfOk, OnOk, vec_len};
 ghost use Rattle.disk_model.specs.Disk.{InModel, area_of, bytes_on, greatest_room};
 ghost use Rattle.journal.specs.Open.{IsPassing};

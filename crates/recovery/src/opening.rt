@@ -1,4 +1,4 @@
-// The worksheet of payloads.
+//! The worksheet of payloads.
 ghost use Rattle.std.specs.Prelude.{◌≡◌, ◌≤◌, [], List, ℕ, IfOk, IfErr, OnErr, OnOk, IsErrOf, MatchResult};
 ghost use Rattle.disk_model.specs.Disk.{InModel, Looks, Rises, SameDisk};
 ghost use Rattle.worksheet.specs.declared.op.Op.{Op};

@@ -1,4 +1,4 @@
-// The parts of a payload, read from left to right.
+//! The parts of a payload, read from left to right.
 ghost use Rattle.std.specs.Prelude.{◌≡◌, length, IfSome, IfOk};
 ghost use Rattle.std.specs.List.{AllByRecursion};
 ghost use Rattle.recovery.specs.Code.{IsShort, IsLong};

@@ -256,7 +256,7 @@ impl<D: Disk> Store<D> {
     /// Writes the worksheet again, in place of the ops that have made it. Those of fields that are
     /// gone, of answers that were removed and of inputs that were changed take no room any more. It
     /// changes neither the worksheet nor the number of its next new field. (docs/FORMAT.md,
-    /// "Checkpoint".)
+    /// "Payloads".)
     ///
     /// `Full` and `OutOfMemory` change nothing and touch no disk. After `Disk` the store is closed.
     pub fn checkpoint(&mut self) -> Result<(), CheckpointFault>

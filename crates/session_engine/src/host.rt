@@ -96,6 +96,7 @@ impl<D: Disk> Host<D> {
             Ok(store) => store,
             Err(fault) => return Err(fault),
         };
+        // Its clause says that the worksheet is one that ops make.
         let _sheet = store.sheet();
         Ok(Host {
             engine: Engine {
@@ -155,6 +156,7 @@ impl<D: Disk> Host<D> {
             → LeavesOnly (IsSheetImage self.old.store.sheet.contents) self.old.store.disk.history
             self.new.store.disk.history) }
     {
+        // Its clause says that the worksheet is one that ops make.
         let _sheet = self.sheet();
         self.step(Event::Command(Command::Checkpoint))
     }

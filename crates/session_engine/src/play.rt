@@ -23,7 +23,8 @@ pub enum PlayFault {
 
 impl<D: Disk> Host<D> {
     /// Takes events in order, each as a `step` takes it, up to the first fault. So an event that gives no
-    /// op, and one that fails but for the disk, makes no call on the disk.
+    /// op, and one that fails but for the disk, makes no call on the disk; a checkpoint gives none, and
+    /// rewrites an area.
     ///
     /// At every moment each image of the disk is one of the worksheet after some of the first events.
     /// Those whose outcomes are returned are among them once the call has ended.
