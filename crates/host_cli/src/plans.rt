@@ -27,7 +27,7 @@ pub enum PlanFault {
 }
 
 /// The time that a field may take, where there is a limit. None where the words name no time.
-fn read_limit(text: Option<&str>) -> Option<Option<u32>>
+pub(crate) fn read_limit(text: Option<&str>) -> Option<Option<u32>>
     ensures { result ≡ limit_asked (option_map (λ text. text.now) text.entry) }
 {
     let Some(text) = text else {

@@ -4,7 +4,7 @@ use Rattle.sheet_programs.proofs.Runs.{if_ok_then}
 use Rattle.evaluation.proofs.Meaning.{few_ids}
 use Rattle.evaluation.proofs.evaluating.ids_in.Goals as goal
 
-pub returns-clause-few : goal.returns-clause-few
-returns-clause-few g c =
-    if_ok_then c.meant_in.result _ _
-    (λ ids is. few_ids c.args.which c.sheet.result.now.contents.fields ids.items is (subst (λ (s : SheetView). length s.contents.fields < 2 ^ 31) (sym c.sheet.ensures.sheet) c.few_fields.ensures)) c.meant_in.ensures
+pub returns-in-None-clause-few : goal.returns-in-None-clause-few
+returns-in-None-clause-few g c =
+    if_ok_then c.ids_of.result _ _
+    (λ ids is. few_ids c.args.plan.now c.sheet-in-None.result.now.contents.fields ids.items is (subst (λ (s : SheetView). length s.contents.fields < 2 ^ 31) (sym c.sheet-in-None.ensures.sheet) c.few_fields.ensures)) c.ids_of.ensures.ids
