@@ -1,5 +1,5 @@
 //! The words of a command line.
-ghost use Rattle.std.specs.Prelude.{◌≡◌, IfOk, None, Option, Some, map, option_map, string_bytes};
+ghost use Rattle.std.specs.Prelude.{◌≡◌, [], IfOk, None, Option, Some, map, option_map, string_bytes, unwrap_or};
 ghost use Rattle.clap.specs.Words.{FailsBy, Text, fault_of, found_of, rows_of, subcommand_rows_of};
 ghost use Rattle.command_words.specs.Asked.{FlagsView, asked_by, by_subcommand, by_words, check_in, check_view, eval_in, eval_view, flags_in, flags_view, ids_in, tmhost, task_view};
 ghost use Rattle.command_words.specs.Asked as asked;
@@ -171,15 +171,23 @@ fn check_words<'a>(matches: &ArgMatches<'a>) -> CheckWords<'a>
     }
 }
 
+/// A copy of these words, where there are any.
+fn copied<'a>(alloc: Global, words: Option<&[&'a str]>) -> Result<Vec<&'a str>, AllocError>
+    ensures { IfOk result (λ copy. map (λ text. text.now) copy.items
+        ≡ unwrap_or (option_map (λ words. map (λ text. text.now) words.now) words.entry) []) }
+{
+    match words {
+        Some(words) => Vec::from_slice(alloc, words),
+        None => Ok(Vec::new(alloc)),
+    }
+}
+
 /// The numbers of fields that the words of `eval` name, by the matches of a subcommand.
 fn ids_of<'a>(alloc: Global, matches: &ArgMatches<'a>) -> Result<Vec<&'a str>, AllocError>
     ensures { IfOk result (λ ids.
         map (λ text. text.now) ids.items ≡ ids_in (rows_of (found_of matches.now))) }
 {
-    match matches.get_strs("ID") {
-        Some(ids) => Vec::from_slice(alloc, ids),
-        None => Ok(Vec::new(alloc)),
-    }
+    copied(alloc, matches.get_strs("ID"))
 }
 
 /// What the words of `eval` ask for, by the matches of a subcommand.
