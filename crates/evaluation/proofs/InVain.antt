@@ -1,5 +1,5 @@
 -- Where nothing is evaluated, since a field isn't there or there was no memory for the fields' numbers.
-use Rattle.std.proofs.Common.{◌≡◌, ℕ, Bool, true, false, List, Option, Some, None, inl, ap, sym, subst, absurd, refl, ◌∙◌}
+use Rattle.std.proofs.Common.{◌≡◌, ℕ, Bool, true, false, List, Option, Some, None, inl, ap, sym, subst, refl, ◌∙◌}
 use Rattle.std.specs.Prelude.{Result, Ok, Err, IfErr, IfOk, cond}
 use Rattle.disk_model.specs.Disk.{DiskView}
 use Rattle.journal.specs.declared.opening.OpenCause.{OpenCause}

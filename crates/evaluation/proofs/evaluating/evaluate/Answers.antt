@@ -13,7 +13,7 @@ use Rattle.evaluation.specs.Steps.{setting, stands}
 use Rattle.evaluation.specs.Evaluation.{not_begun}
 use Rattle.evaluation.specs.inside.Stepping.{BrokeOff, ThroughAnd}
 use Rattle.evaluation.specs.declared.fault.EvalFault.TheVariants as evals
-use Rattle.evaluation.proofs.InVain.{same_run}
+use Rattle.evaluation.proofs.InVain.{in_vain, not_host, not_opened, same_run}
 use Rattle.evaluation.proofs.Ends.{StoppedBehind, counts_untold, evaluation_done, evaluation_failed, evaluation_failed_since}
 use Rattle.evaluation.proofs.evaluating.evaluate.Goals as goal
 
@@ -43,6 +43,27 @@ returns-in-Ok-done-clause-fault g c =
     counts_untold (setting g.T.Tells.voice g.S.Children.after g.S.Sources.clock g.S.Sources.wakes c.args.plan.now []) disk c.in-Ok.host.store.disk c.args.sources.now c.evaluate_and_stop-done.new.sources (g.W.Write.contents c.args.writer.now) (g.W.Write.contents c.evaluate_and_stop-done.new.writer) start c.evaluate_and_stop-done.new.host
     ((opened_on disk c.in-Ok.host o.0 o.1 c.in-Ok.ensures.found c.in-Ok.ensures.ends c.in-Ok.ensures.looks), found.0) o.1.stands.images c.in-Ok-done.stand t
     (g.W.Write.contents c.note.new.writer) _ c.in-Err-note.fault c.in-Err-note.ensures.err
+
+pub returns-in-Err-ids_in-clause-fault : goal.returns-in-Err-ids_in-clause-fault
+returns-in-Err-ids_in-clause-fault g c =
+    let o = c.in-Ok.ensures.opens in
+    let disk = g.D.Disk.view c.args.disk in
+    let start = world_at_opening o.0 disk.room c.in-Ok.host.store.end in
+    in_vain (setting g.T.Tells.voice g.S.Children.after g.S.Sources.clock g.S.Sources.wakes c.args.plan.now []) disk c.in-Ok.host.store.disk c.args.sources.now c.args.sources.now (g.W.Write.contents c.args.writer.now) (g.W.Write.contents c.args.writer.now) start
+    ((c.args.writer.now ≡ c.args.writer.now) × (c.args.sources.now ≡ c.args.sources.now)) c.in-Err-ids_in.why (refl, refl)
+    (opened_on disk c.in-Ok.host o.0 o.1 c.in-Ok.ensures.found c.in-Ok.ensures.ends c.in-Ok.ensures.looks) (c.in-Err-ids_in.ensures.fault start o.1)
+
+pub returns-in-Err-ids_in-clause-unopened : goal.returns-in-Err-ids_in-clause-unopened
+returns-in-Err-ids_in-clause-unopened g c = λ e.
+    let o = c.in-Ok.ensures.opens in
+    let start = world_at_opening o.0 (g.D.Disk.view c.args.disk).room c.in-Ok.host.store.end in
+    not_opened c.args.plan.now.which (sheet_in start).fields c.in-Err-ids_in.why opens.Disk (c.in-Err-ids_in.ensures.fault start o.1) (err_same _ c.in-Err-ids_in.why (evals.Run (told.Open opens.Disk)) refl e)
+
+pub returns-in-Err-ids_in-clause-failed : goal.returns-in-Err-ids_in-clause-failed
+returns-in-Err-ids_in-clause-failed g c = λ e.
+    let o = c.in-Ok.ensures.opens in
+    let start = world_at_opening o.0 (g.D.Disk.view c.args.disk).room c.in-Ok.host.store.end in
+    not_host c.args.plan.now.which (sheet_in start).fields c.in-Err-ids_in.why hosts.Disk (c.in-Err-ids_in.ensures.fault start o.1) (err_same _ c.in-Err-ids_in.why (evals.Run (told.Host hosts.Disk)) refl e)
 
 pub returns-clause-fault : goal.returns-clause-fault
 returns-clause-fault g c =
