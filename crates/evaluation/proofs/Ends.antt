@@ -1,5 +1,5 @@
 -- The end of an evaluation, and the moments up to it.
-use Rattle.std.proofs.Common.{◌≡◌, inl, inr, ℕ, false, List, [], ◌∷◌, ◌++◌, Option, Some, None, refl, ap, sym, ◌∙◌, subst, length, arith}
+use Rattle.std.proofs.Common.{◌≡◌, inl, inr, ℕ, List, [], ◌∷◌, ◌++◌, Option, Some, None, refl, ap, sym, ◌∙◌, subst, length, arith}
 use Rattle.std.proofs.KnownBytes.{Appends-trans}
 use Rattle.std.specs.Io.KnownBytes.{Appends}
 use Rattle.std.specs.Prelude.{true}
@@ -9,14 +9,13 @@ use Rattle.host_events.specs.declared.event.Event.{Event}
 use Rattle.host_events.specs.declared.event.Event.TheVariants as event
 use Rattle.host_events.specs.declared.outcome.HostFault.TheVariants as hosts
 use Rattle.session_engine.specs.World.{World, sheet_in}
-use Rattle.session_engine.specs.Host.{HostView, IsHost}
+use Rattle.session_engine.specs.Host.{HostView}
 use Rattle.child_edge.specs.Faithful.{At, at, Beat, Relation}
 use Rattle.child_edge.specs.Kept.{HoldsSheet}
 use Rattle.child_edge.specs.Moments.{LeavesFronts}
 use Rattle.child_edge.specs.Seats.{running, waits}
 use Rattle.child_edge.specs.Stops.{Stops}
 use Rattle.child_edge.proofs.Timeline.{Goes, goes_on_by, follows-goes, taken-goes, goes_leaves, goes_up_to}
-use Rattle.sheet_programs.specs.Told.{StandsOrStopped}
 use Rattle.sheet_programs.proofs.Runs.{StopsIn, stops_behind, no_beats, goes_anyhow, goes_same, min_since}
 use Rattle.offline_programs.specs.declared.fault.RunFault.{RunFault}
 use Rattle.offline_programs.specs.declared.fault.RunFault.TheVariants as fault
@@ -25,11 +24,11 @@ use Rattle.tellings.specs.declared.note.Counts.{Counts}
 use Rattle.tellings.specs.declared.note.Note.TheVariants as note
 use Rattle.live.proofs.Ends.{stalled-goes, turn-stopped-goes}
 use Rattle.evaluation.specs.declared.plan.Stand.{Stand}
-use Rattle.evaluation.specs.Meant.{EndsHere, evaluation_counts, stop_line}
-use Rattle.evaluation.specs.Steps.{Setting, EvalPlace, Step, ask, heard, over, stalled, StepComes, StepDone, StepsTaken, fields_at, stands, woken_in}
+use Rattle.evaluation.specs.Meant.{evaluation_counts, stop_line}
+use Rattle.evaluation.specs.Steps.{Setting, EvalPlace, Step, ask, heard, over, stalled, StepDone, StepsTaken, stands, woken_in}
 use Rattle.evaluation.specs.Broken.{Cut, StepLed, StepSoFar, StepUpTo, TooMany, Unwatched}
 use Rattle.evaluation.specs.Broken as broken
-use Rattle.evaluation.specs.Evaluation.{Ends, EvaluationDone, LedOf, Short, SoFarOf, StoppedOf, TellsEvaluation, Uncounted, OpenedFor, not_begun, meaning}
+use Rattle.evaluation.specs.Evaluation.{EvaluationDone, LedOf, Short, SoFarOf, TellsEvaluation, Uncounted, OpenedFor, not_begun, meaning}
 use Rattle.evaluation.specs.inside.Stepping.{BrokeOff, CameSoFar, CameUnwritten, Through, ThroughAnd}
 
 -- The stops.

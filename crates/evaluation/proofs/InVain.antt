@@ -1,6 +1,5 @@
 -- Where nothing is evaluated, since a field isn't there or there was no memory for the fields' numbers.
-use Rattle.std.proofs.Common.{◌≡◌, ℕ, Bool, true, false, List, Option, Some, None, inl, ap, sym, subst, refl, ◌∙◌}
-use Rattle.std.specs.Prelude.{Result, Ok, Err, IfErr, IfOk, cond}
+use Rattle.std.proofs.Common.{◌≡◌, ℕ, List, Option, inl, ap, sym, subst}
 use Rattle.disk_model.specs.Disk.{DiskView}
 use Rattle.journal.specs.declared.opening.OpenCause.{OpenCause}
 use Rattle.host_events.specs.declared.outcome.HostFault.{HostFault}
@@ -12,7 +11,6 @@ use Rattle.offline_programs.specs.declared.fault.RunFault.TheVariants as fault
 use Rattle.evaluation.specs.declared.fault.EvalFault.{EvalFault}
 use Rattle.evaluation.specs.declared.fault.EvalFault.TheVariants as evals
 use Rattle.evaluation.specs.declared.plan.Which.{Which}
-use Rattle.evaluation.specs.Meant.{missing_in}
 use Rattle.evaluation.specs.Steps.{Setting}
 use Rattle.evaluation.specs.Evaluation.{TellsEvalFault, TellsEvaluation}
 use Rattle.evaluation.specs.inside.Choosing.{AsksInVain}

@@ -1,10 +1,9 @@
 -- What came of a step.
-use Rattle.std.proofs.Common.{◌≡◌, ◌+◌, inl, inr, ℕ, true, false, List, [], ◌∷◌, ◌++◌, Option, Some, None, refl, ap, sym, ◌∙◌, subst}
+use Rattle.std.proofs.Common.{◌≡◌, ◌+◌, inl, inr, ℕ, true, false, List, [], Option, Some, None, refl, sym, subst}
 use Rattle.std.specs.Prelude.{◌≢◌}
-use Rattle.disk_model.specs.Disk.{DiskView}
 use Rattle.host_events.specs.declared.command.Command.TheVariants as command
-use Rattle.session_engine.specs.World.{World, sheet_in}
-use Rattle.session_engine.specs.Host.{HostView, IsHost}
+use Rattle.session_engine.specs.World.{sheet_in}
+use Rattle.session_engine.specs.Host.{HostView}
 use Rattle.child_calls.specs.declared.seat.Seat.{Seat}
 use Rattle.child_edge.specs.Faithful.{At, at, Beat, EachOf, Taken}
 use Rattle.child_edge.specs.Seats.{waits}
@@ -26,10 +25,10 @@ use Rattle.live.specs.Taking as lives
 use Rattle.live.proofs.Coming.{comes_by, told_life}
 use Rattle.evaluation.specs.declared.plan.Stand.{Stand}
 use Rattle.evaluation.specs.Meant.{IsAsked, line_behind}
-use Rattle.evaluation.specs.Steps.{Setting, EvalPlace, Step, ask, heard, over, stalled, LimitBegins, StepComes, TakesStep, asked_at, fields_at, held_at, stands, step_text, woken_in}
+use Rattle.evaluation.specs.Steps.{Setting, EvalPlace, Step, ask, heard, over, stalled, LimitBegins, StepComes, asked_at, fields_at, held_at, woken_in}
 use Rattle.evaluation.specs.Broken.{StepLed, StepSoFar, StepUpTo}
 use Rattle.evaluation.specs.Broken as broken
-use Rattle.evaluation.specs.inside.Stepping.{CameFailed, IsOf, IsTimeOf, StepFailed, StepTook, TakingFailed, Took, TookUnwritten, TurnFailed, Turned}
+use Rattle.evaluation.specs.inside.Stepping.{IsOf, IsTimeOf, StepFailed, StepTook, TakingFailed, Took, TookUnwritten, TurnFailed, Turned}
 
 module _ {C : Type 0} (o : Setting C) (p : EvalPlace C) (h : HostView) (c : C) (a b : Option (List ℕ)) where
   -- what came of a step and couldn't be written

@@ -1,6 +1,5 @@
 -- The steps of an evaluation, one after the other, and what comes of each.
-use Rattle.std.specs.Prelude.{◌≡◌, ◌≢◌, ◌+◌, ℕ, Bool, false, true, not, List, [], ◌∷◌, ◌++◌, Option, Some, None}
-use Rattle.disk_model.specs.Disk.{DiskView}
+use Rattle.std.specs.Prelude.{◌≡◌, ◌≢◌, ◌+◌, ℕ, false, true, not, List, [], ◌∷◌, ◌++◌, Option, Some, None}
 use Rattle.worksheet.specs.Checks.{field_in}
 use Rattle.worksheet.specs.Contents.{Contents}
 use Rattle.worksheet.specs.declared.field.Field.{Field}

@@ -1,5 +1,5 @@
 -- What the functions of an evaluation promise each other. No public contract names this.
-use Rattle.std.specs.Prelude.{◌≡◌, ◌≢◌, ◌⊎◌, ℕ, false, true, List, [], ◌++◌, Option, Some, None}
+use Rattle.std.specs.Prelude.{◌≡◌, ◌⊎◌, ℕ, false, true, List, [], Option, Some, None}
 use Rattle.std.specs.Io.KnownBytes.{Appends}
 use Rattle.disk_model.specs.Disk.{DiskView}
 use Rattle.host_events.specs.declared.event.Event.{Event}
