@@ -38,6 +38,7 @@ HOLDS = """
 """
 PAGE = "document.body.innerText + [...document.querySelectorAll('textarea')].map((text) => text.value).join('\\n')"
 NOTE = "document.querySelector('#note').textContent"
+IS_IN_PROSE = "document.activeElement.matches('.cell.prose textarea')"
 IS_EDITING = "document.activeElement.tagName === 'TEXTAREA' && document.activeElement.closest('.cell').id"
 
 
@@ -207,7 +208,8 @@ class Session(Case):
         self.keys("ArrowDown", "Enter")
 
     def write_prose(self) -> None:
-        self.do("new prose", lambda: self.tab.click("[data-do=addProse]"), "document.querySelectorAll('.cell.prose').length", 1)
+        self.do("new prose", lambda: self.tab.click("[data-do=addProse]"), "document.querySelectorAll('.cell.prose').length", 1,
+                IS_IN_PROSE, True)
         prose = self.tab.value("document.querySelector('.cell.prose').id")
         reading = f"document.querySelector('#{prose} .reading')"
         self.do("write it", lambda: self.typed("# A *title*\n\n- one\n- <b>two</b>\n", "Control+Enter"),
