@@ -53,6 +53,7 @@ USABLE = f"""
 [...document.querySelectorAll("button, select, a[href]")].filter((node) => node.getBoundingClientRect().height && !node.disabled)
   .map((node) => {NAME_OF % "node"})
 """
+SELECTED = "document.querySelector('.cell.selected').id"
 IN_TEXT = "document.activeElement.localName === 'textarea' && document.activeElement.closest('.cell').id"
 PROSE = """# Head
 
@@ -96,6 +97,23 @@ import(location.href + "setter.js").then(async ({ setInto }) => {
     if (!place.querySelector(".katex-html") || !place.querySelector("math") || place.querySelector(".katex-error")) left.push(tex);
   }
   return left;
+})
+"""
+# A machine that is too busy to set a text, so many times: it doesn't come to the worker.
+IS_BUSY = """
+(() => {
+  let times = %d;
+  const post = Worker.prototype.postMessage;
+  Worker.prototype.postMessage = function (job) {
+    if (job.text === %s && times > 0) times -= 1;
+    else post.call(this, job);
+  };
+})()
+"""
+SETS = """
+import(location.href + "setter.js").then(async ({ setInto }) => {
+  const place = document.createElement("span");
+  return [await setInto(place, "markdown", %s), place.classList.contains("set")];
 })
 """
 SUGGESTED = "[...document.querySelectorAll('#session-known button')].map((one) => one.textContent)"
@@ -262,6 +280,31 @@ class ThePage(Case):
         self.assertEqual(tab.value(f"document.querySelector('#cell-{prose} .reading').textContent"), "# A *head*")
         self.assertEqual(tab.value(f"document.querySelector('#cell-{code} .output pre').textContent"), "$\\sqrt{x}$")
         self.assertEqual(self.browser.trouble, [])
+
+    def test_a_busy_machine(self) -> None:
+        """A text that isn't set in time is tried again by itself, and once more when its cell is left."""
+        self.begin()
+        tab = opened(self.browser, self.server)
+        reading = self.write_prose(tab, 1, "# A *title*")
+        tab.until(f"{reading}.querySelector('h3 em')?.textContent", "title")
+        reading = self.write_prose(tab, 2, "# Another *one*")
+        self.assertEqual(tab.value(SETS % json.dumps("# Another *one*")), [False, False])
+        self.assertEqual(tab.value(f"{reading}.textContent"), "# Another *one*")
+        tab.key("Enter")
+        tab.until(IN_TEXT, lambda found: bool(found))
+        tab.key("Escape")
+        tab.until(f"{reading}.querySelector('h3 em')?.textContent", "one")
+        self.assertEqual(tab.value(SETS % json.dumps("# Another *one*")), [True, True])
+        self.assertEqual(self.browser.trouble, [])
+
+    def write_prose(self, tab: Any, busy: int, text: str) -> str:
+        """Makes a cell of prose with a text, which the machine is too busy to set so many times. Gives the place of what is read."""
+        tab.click("[data-do=addProse]")
+        tab.until("document.activeElement.matches('.cell.prose textarea') && document.activeElement.value", "")
+        tab.value(IS_BUSY % (busy, json.dumps(text)))
+        tab.type(text)
+        tab.key("Enter", "Control")
+        return f"document.querySelector('#{tab.value(SELECTED)} .reading')"
 
     def test_a_draft_waits(self) -> None:
         """What is typed while a cell is evaluated is saved behind its answer; what is too long isn't saved, and stays."""
