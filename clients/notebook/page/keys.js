@@ -121,9 +121,9 @@ export class Keys {
     this.completions.close();
     const next = then === "next" ? this.cells.beside(view, 1) : undefined;
     const evaluated = this.actions.evaluate(view);
-    if (next) this.cells.select(next);
-    else this.cells.select(view);
-    if ((await evaluated) && !next && then !== "stay") await this.actions.insertBelow(view, true);
+    this.cells.select(next ?? view);
+    if (next || then === "stay") return;
+    await this.actions.held.during(async () => (await evaluated) && this.actions.insertBelow(view, true));
   }
 
   /** @type {(event: KeyboardEvent, view: CellView) => boolean} */

@@ -10,7 +10,7 @@ import threading
 import unittest
 from typing import Any, List
 
-from harness import READY, REPOSITORY, SPOKEN, Case, Page, needs_chromium, needs_program, opened
+from harness import HOLDS, READY, REPOSITORY, SPOKEN, Case, Page, needs_chromium, needs_program, opened
 
 # Each text that is seen, with its contrast to what lies behind it. Formulas and texts of disabled buttons don't count.
 CONTRAST = """
@@ -108,6 +108,18 @@ IS_BUSY = """
     if (job.text === %s && times > 0) times -= 1;
     else post.call(this, job);
   };
+})()
+"""
+# The next request fails when `go` is called.
+FAILS = """
+(() => {
+  const kept = fetch;
+  window.fetch = () => new Promise((_, fail) => {
+    window.go = () => {
+      window.fetch = kept;
+      fail(new TypeError());
+    };
+  });
 })()
 """
 SETS = """
@@ -237,6 +249,33 @@ class ThePage(Case):
             tab.key("Tab")
             seen.append(tab.value(NAME_OF % "document.activeElement"))
         self.assertEqual(set(wanted) - set(seen), set())
+
+    def test_keys_before_their_cell(self) -> None:
+        """What is typed while a new cell is on its way is for that cell, and no command to the one that was there. Where none comes it is dropped."""
+        self.begin()
+        self.page.call("new", session="s", text="say 1", after=0)
+        tab = opened(self.browser, self.server)
+        tab.click("#cell-1 .number")
+        self.press(tab, HOLDS, "b", "Enter", *"say map")
+        tab.until(f"[{IN_TEXT}, document.activeElement.value]", ["cell-2", "say map"])
+        self.press(tab, HOLDS, "Alt+Enter", *"mdd")
+        tab.until(f"[{IN_TEXT}, document.activeElement.value]", ["cell-3", "mdd"])
+        tab.until("document.querySelector('#cell-2 .output pre').textContent", "map")
+        tab.until("document.querySelector('#cell-3 .text-state').textContent", "saved")
+        tab.key("Escape")
+        self.press(tab, FAILS, "b", *"dd")
+        tab.until("document.querySelector('#note').textContent", "the server can't be reached")
+        self.press(tab, "window.go = () => 0", "Enter", "x")
+        tab.until("document.querySelector('#cell-3 textarea').value", "mddx")
+        self.assertEqual(self.page.snapshot()["order"], [1, 2, 3])
+
+    def press(self, tab: Any, before: str, *keys: str) -> None:
+        """Presses keys, the first of which asks the server for something; its reply comes when all are pressed."""
+        tab.value(before)
+        for key in keys:
+            *modifiers, name = key.split("+")
+            tab.key(name, *modifiers)
+        tab.value("window.go(), 0")
 
     def tab_to(self, tab: Any, wanted: str) -> List[str]:
         seen: List[str] = []

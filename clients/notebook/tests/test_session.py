@@ -7,7 +7,7 @@ from typing import Any, Callable, List
 
 import chromium
 import harness
-from harness import AS_SHOWN, SPOKEN, Case, needs_chromium, needs_program, opened
+from harness import AS_SHOWN, HOLDS, SPOKEN, Case, needs_chromium, needs_program, opened
 
 STATE = "document.querySelector('#cell-%d').dataset.state"
 OUTPUT = "document.querySelector('#cell-%d .output pre').textContent"
@@ -22,18 +22,6 @@ CHOOSES = """
   const which = document.querySelector(".toolbar select");
   which.value = "%s";
   which.dispatchEvent(new Event("change", { bubbles: true }));
-})()
-"""
-# The next request waits for a call of `go`.
-HOLDS = """
-(() => {
-  const kept = fetch;
-  window.fetch = (...words) => new Promise((done) => {
-    window.go = () => {
-      window.fetch = kept;
-      done(kept(...words));
-    };
-  });
 })()
 """
 PAGE = "document.body.innerText + [...document.querySelectorAll('textarea')].map((text) => text.value).join('\\n')"
