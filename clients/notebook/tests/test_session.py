@@ -161,13 +161,14 @@ class Session(Case):
         self.do("evaluate from here on", lambda: self.tab.click("[data-do=evaluateFrom]"), OUTPUT % 2, "kept", OUTPUT % 3, "8", SAYS % 3, "")
         self.do("a long line", lambda: self.replace("sleep 60", "Control+Enter"), SAYS % 2, begins("running since "))
         self.do("one behind it", lambda: self.at(3, "Control+Enter"), SAYS % 3, "waits for its turn")
-        self.do("interrupt", lambda: self.at(2, "i", "i"), OUTPUT % 2, "interrupted", OUTPUT % 3, "8")
+        self.do("interrupt", lambda: self.interrupt(lambda: self.at(2, "i", "i")), OUTPUT % 2, "interrupted", OUTPUT % 3, "8")
         self.do("a loop again", lambda: self.keys("Control+Enter"), STATE % 2, "running")
         self.do("stop it", lambda: self.tab.click("[data-do=stop]"), SAYS % 2, "lost: Stopped (its interpreter was stopped)",
                 SAYS % 3, "its interpreter has ended: variables are gone")
         self.do("a line without an end", lambda: self.replace("slowly 60", "Control+Enter"), STATE % 2, "running")
-        self.do("interrupt one that ends by it", lambda: self.tab.click("[data-session=a] [data-do=interruptSession]"), SAYS % 2,
-            "lost: Ended (its interpreter ended)")
+        self.do("interrupt one that ends by it",
+                lambda: self.interrupt(lambda: self.tab.click("[data-session=a] [data-do=interruptSession]")), SAYS % 2,
+                "lost: Ended (its interpreter ended)")
         self.do("write a line that ends it", lambda: self.replace("exit", "Control+s"), SAVED % 2, "saved", STATE % 2, "empty")
         self.do("evaluate that", lambda: self.keys("Control+Enter"), SAYS % 2, "lost: Ended (its interpreter ended)")
         self.do("mend it", lambda: self.replace("set 9", "Control+Enter"), OUTPUT % 2, "kept")
@@ -179,6 +180,16 @@ class Session(Case):
         self.do("complete of three", self.complete_of_three, TEXT % 3, "say cave")
         self.do("evaluate what was completed", lambda: self.keys("Control+Enter"), OUTPUT % 3, "cave")
         self.do("a formula, and its text", self.set_formula, OUTPUT % 3, "{latex:$\\sqrt{x}$}")
+
+    def interrupt(self, press: Callable[[], Any]) -> None:
+        """A signal may come before the interpreter has begun with the line. As a user does, it is sent again where nothing comes of it."""
+        for _ in range(10):
+            press()
+            try:
+                self.tab.until(STATE % 2, lambda state: bool(state != "running"), chromium.SLOW / 24)
+                return
+            except chromium.Failed:
+                pass
 
     def set_formula(self) -> None:
         self.replace("block latex JFxzcXJ0e3h9JA==", "Control+Enter")
