@@ -216,7 +216,7 @@ export class Actions {
       if (!(await this.isSaved(view))) return false;
       const told = await this.ask("change", { id: view.id, session });
       const made = await this.cells.whenThere(told.id ?? view.id);
-      this.cells.select(made);
+      if (made !== this.cells.selected) this.cells.select(made); // who is in its text already stays there
       if (made) this.cells.toolbar.show(made);
       return !told.refused;
     });

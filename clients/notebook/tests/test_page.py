@@ -110,6 +110,19 @@ IS_BUSY = """
   };
 })()
 """
+# The reply to the next request comes when `go` is called.
+IS_SLOW = """
+(() => {
+  const kept = fetch;
+  window.fetch = (...words) => {
+    window.fetch = kept;
+    const reply = kept(...words);
+    return new Promise((done) => {
+      window.go = () => done(reply);
+    });
+  };
+})()
+"""
 # The next request fails when `go` is called.
 FAILS = """
 (() => {
@@ -269,8 +282,21 @@ class ThePage(Case):
         tab.until("document.querySelector('#cell-3 textarea').value", "mddx")
         self.assertEqual(self.page.snapshot()["order"], [1, 2, 3])
 
+    def test_completions_beside_a_save(self) -> None:
+        """They are asked for when a save that is on its way is over: its text isn't another page's."""
+        self.begin()
+        self.page.call("new", session="s", text="", after=0)
+        tab = opened(self.browser, self.server)
+        tab.click("#cell-1 .number")
+        tab.key("Enter")
+        tab.type("say c")
+        self.press(tab, IS_SLOW, "Control+s", "a", "Tab")
+        tab.until("[...document.querySelectorAll('.completions li')].map((one) => one.textContent)", ["cat", "cave", "call"])
+        tab.until("document.querySelector('#cell-1 .text-state').textContent", "saved")
+        self.assertEqual((tab.value("document.querySelector('#note').textContent"), self.page.cells()[1]["input"]), ("", "say ca"))
+
     def press(self, tab: Any, before: str, *keys: str) -> None:
-        """Presses keys, the first of which asks the server for something; its reply comes when all are pressed."""
+        """Presses keys, the first of which asks the server for something; that goes on when all are pressed."""
         tab.value(before)
         for key in keys:
             *modifiers, name = key.split("+")

@@ -100,7 +100,9 @@ class Session(Case):
 
     def replace(self, text: str, *keys: str) -> None:
         """Edits the selected cell by keys, from command mode."""
-        self.keys("Enter", "Control+a")
+        self.keys("Enter")
+        self.tab.until(IS_EDITING, is_there)
+        self.keys("Control+a")
         self.tab.ask("Input.dispatchKeyEvent", {"type": "keyDown", "commands": ["selectAll"]})
         self.typed(text, *keys)
 
