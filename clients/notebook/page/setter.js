@@ -34,11 +34,11 @@ const start = workerOf();
 class Lane {
   /**
    * @param {number} limit of each text
-   * @param {(job: Job) => void} isLate takes what wasn't set within it
+   * @param {(job: Job) => void} takeLate gets what wasn't set within it
    */
-  constructor(limit, isLate) {
+  constructor(limit, takeLate) {
     this.limit = limit;
-    this.isLate = isLate;
+    this.takeLate = takeLate;
     /** @type {Job[]} */
     this.waiting = [];
     /** @type {Worker | undefined} */
@@ -83,7 +83,7 @@ class Lane {
     this.worker?.terminate();
     this.worker = undefined;
     this.isReady = false;
-    if (late) this.isLate(late);
+    if (late) this.takeLate(late);
     this.next();
   }
 }
