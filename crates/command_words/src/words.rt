@@ -19,6 +19,8 @@ pub struct CheckWords<'a> {
     pub only: Option<&'a str>,
     /// The numbers of the fields that aren't compared.
     pub leave_out: Option<&'a str>,
+    /// How many seconds a field may take.
+    pub timeout: Option<&'a str>,
     /// Answers that differ are put into the worksheet.
     pub accept: bool,
 }
@@ -168,12 +170,26 @@ fn with_left_out<'a>(alloc: Global, row: Row) -> Result<Command<'a>, AllocError>
     )
 }
 
+/// The same, and with the time that a field may take.
+fn with_check_timeout<'a>(alloc: Global, row: Row) -> Result<Command<'a>, AllocError>
+    ensures made { IfOk result (λ command. app_of command ≡ asked.with_check_timeout row.name.now) }
+    ensures local { IfOk result (λ command. (fields_of command).has_globals ≡ false) }
+{
+    let first = with_left_out(alloc, row)?;
+    first.arg(
+        Arg::new(alloc, "timeout")
+            .long("timeout")
+            .value_name("SECONDS")
+            .help("Interrupt the interpreter of a field that takes longer than this"),
+    )
+}
+
 /// The same, and with the flag that has answers accepted.
 fn with_check<'a>(alloc: Global, row: Row) -> Result<Command<'a>, AllocError>
     ensures made { IfOk result (λ command. app_of command ≡ asked.with_check row.name.now) }
     ensures local { IfOk result (λ command. (fields_of command).has_globals ≡ false) }
 {
-    let first = with_left_out(alloc, row)?;
+    let first = with_check_timeout(alloc, row)?;
     first.arg(
         Arg::new(alloc, "accept")
             .long("accept")
@@ -437,6 +453,7 @@ fn check_words<'a>(matches: &ArgMatches<'a>) -> CheckWords<'a>
         format: matches.get_str("format"),
         only: matches.get_str("only"),
         leave_out: matches.get_str("leave-out"),
+        timeout: matches.get_str("timeout"),
         accept: is_set(matches.get_str("accept")),
     }
 }

@@ -2,4 +2,5 @@ pub mod Meant
 pub mod Steps
 pub mod Broken
 pub mod Evaluation
+pub mod Within
 pub mod inside

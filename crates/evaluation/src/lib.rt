@@ -4,8 +4,11 @@
 mod asking;
 mod evaluating;
 pub mod plan;
+mod silence;
 mod stepping;
 mod timing;
+mod within;
 
 pub use evaluating::{Evaluated, evaluate};
 pub use plan::{Plan, Which};
+pub use within::wait_within;
