@@ -279,7 +279,7 @@ reports 'the same as TAP' 1 'TAP version 13\nok 1 - field 1 of l\nnot ok 2 - fie
 reports 'the same left out' 0 'same 2 differ 0 unanswered 0 left out 1\n' --timeout 2 --leave-out 2
 made "$l"'session a plain sh suite.sh a\nnew 0 l deaf\nnew 1 l y\nnew 2 a differs\neval 1\neval 2\neval 3\nwait\n'
 reports 'one that hears no interrupt' 1 '#1 l\n> deaf\n- deaf\n+ ?\n#3 a\na] differs\n- differs\n+ another\nsame 1 differ 1 unanswered 1\n' --timeout 2
-sent 'one that hears no interrupt' 'start\nsend deaf\nstart\nsend y\nstart a\nsend differs'
+sent 'one that hears no interrupt' 'start\nsend deaf\nstart\nsend y\nstart a\nsend a differs'
 ended 'one that hears no interrupt' 3
 reports 'one session within its time' 1 '#3 a\na] differs\n- differs\n+ another\nsame 0 differ 1 unanswered 0\n' --timeout 1000000 --only a
 
