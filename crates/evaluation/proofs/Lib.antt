@@ -2,5 +2,5 @@ pub mod Meaning
 pub mod Taking
 pub mod Goings
 pub mod Ends
-pub mod Silence
+pub mod Unsaid
 pub mod Waits

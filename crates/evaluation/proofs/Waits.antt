@@ -1,16 +1,20 @@
 -- Where the wait for the answer to one field ends.
-use Rattle.std.proofs.Common.{◌≡◌, inl, inr, ℕ, Bool, List, Option, sym, subst}
+use Rattle.std.proofs.Common.{◌≡◌, inl, inr, ℕ, Bool, List, [], Option, Some, refl, sym, subst}
 use Rattle.std.specs.Prelude.{◌==◌}
 use Rattle.host_events.specs.declared.event.Event.{Event}
 use Rattle.session_engine.specs.World.{World}
 use Rattle.session_engine.specs.Host.{HostView, IsHost}
-use Rattle.child_edge.specs.Faithful.{At, at, Beat}
+use Rattle.child_edge.specs.Faithful.{Relation, At, at, Beat}
 use Rattle.offline_programs.specs.declared.fault.RunFault.{RunFault}
 use Rattle.offline_programs.specs.declared.fault.RunFault.TheVariants as fault
+use Rattle.live.specs.declared.holding.Hold.{Hold}
+use Rattle.live.specs.Saying.{Clock, WaitGoesOn}
+use Rattle.live.specs.Arrivals.{Watch}
+use Rattle.evaluation.specs.declared.plan.Plan.{Plan}
 use Rattle.evaluation.specs.declared.plan.Stand.{Stand}
-use Rattle.evaluation.specs.Steps.{Setting, EvalPlace}
+use Rattle.evaluation.specs.Steps.{Setting, EvalPlace, LimitBegins, setting, stands}
 use Rattle.evaluation.specs.Broken.{Cut, StepLed, StepSoFar, StepUpTo, TooMany, Unwatched, so_far, up_to}
-use Rattle.evaluation.specs.Within.{WaitBegins, WaitFailed, WaitInPart, WaitUpTo, WaitedWithin}
+use Rattle.evaluation.specs.Within.{WaitBegins, WaitFailed, WaitInPart, WaitUpTo, WaitedWithin, asked_one, silent, waiting, waiting_plan}
 use Rattle.evaluation.specs.inside.Stepping.{BrokeOff, CameSoFar, CameUnwritten, Through, fault_of_wait}
 
 module _ {C : Type 0} (o : Setting C) (id : ℕ) (s : At C) (p : EvalPlace C) (begins : WaitBegins o id s p) (h : HostView) (c : C) (a b : Option (List ℕ)) where
@@ -97,3 +101,20 @@ up_to_led o id s e t q =
         },
       ),
     )
+
+-- The wait begins where the line of a field was sent right before.
+module _ {C : Type 0} (R : Relation C) (K : Clock C) (W : Watch C) (seconds id : ℕ) (s : At C) (plan : Plan) (ids : List ℕ) (from : Stand) (begun held : Hold) (is-plan : plan ≡ waiting_plan seconds) (no-ids : ids ≡ []) (is-from : from ≡ asked_one id held)
+    (limit : LimitBegins K s.children (Some seconds) begun) (goes_on : WaitGoesOn begun s.world held) (h : HostView) (c : C) (a b : Option (List ℕ)) where
+  begins-here : WaitBegins (waiting R K W seconds) id s (stands s (asked_one id held))
+  begins-here = record { begun = begun; held = held; limit = limit; goes_on = goes_on; is = refl }
+
+  on : (P : Setting C → EvalPlace C → Type 0) → P (setting silent R K W plan ids) (stands s from) → P (waiting R K W seconds) (stands s (asked_one id held))
+  on P q = subst (λ (x : Stand). P (waiting R K W seconds) (stands s x)) is-from
+      (subst (λ (x : List ℕ). P (setting silent R K W (waiting_plan seconds) x) (stands s from)) no-ids (subst (λ (x : Plan). P (setting silent R K W x ids) (stands s from)) is-plan q))
+
+  pub waited_within : (stand : Stand) → Through (setting silent R K W plan ids) (stands s from) h c a b stand → (t : World) × WaitedWithin (waiting R K W seconds) id s (stand.overs == 0) (at t c h.store.disk) × IsHost h t
+  waited_within stand q = wait_ended (waiting R K W seconds) id s (stands s (asked_one id held)) begins-here h c a b stand (stand.overs == 0) refl (on (λ o p. Through o p h c a b stand) q)
+
+  pub broke_within : (f why : RunFault) → why ≡ fault_of_wait f → BrokeOff (setting silent R K W plan ids) (stands s from) (λ t. t.children ≡ c) h a b f → WaitFailed (waiting R K W seconds) id s h c why
+  broke_within f why is q = subst (WaitFailed (waiting R K W seconds) id s h c) (sym is)
+      (wait_failed (waiting R K W seconds) id s (stands s (asked_one id held)) begins-here h c a b f (on (λ o p. BrokeOff o p (λ t. t.children ≡ c) h a b f) q))

@@ -1,6 +1,6 @@
 -- The wait for the answer to one field within a limit of time: the steps of an evaluation that asks for nothing more, and tells nothing.
 -- (docs/CHECK.md.)
-use Rattle.std.specs.Prelude.{◌≡◌, ◌==◌, ℕ, Bool, false, List, [], Option, Some}
+use Rattle.std.specs.Prelude.{◌≡◌, ◌==◌, ℕ, Bool, false, List, [], Some}
 use Rattle.disk_model.specs.Disk.{DiskView}
 use Rattle.host_events.specs.declared.event.Event.{Event}
 use Rattle.session_engine.specs.World.{World}

@@ -23,7 +23,7 @@ impl Tells for Silence {
         Ok(())
     }
 
-    #[tactic(auto, using(crate::proofs::Silence::nothing_said))]
+    #[tactic(auto, using(crate::proofs::Unsaid::replies_unsaid))]
     fn replies<W: Write>(
         &self,
         _line: u64,
@@ -34,7 +34,6 @@ impl Tells for Silence {
         Ok(())
     }
 
-    #[tactic(auto, using(crate::proofs::Silence::nothing_said))]
     fn events<W: Write>(
         &self,
         _sheet: &Sheet,

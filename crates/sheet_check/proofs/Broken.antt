@@ -12,7 +12,6 @@ use Rattle.child_edge.specs.Faithful.{Relation, At, at}
 use Rattle.child_edge.specs.Broken.{WaitSoFar, WaitStopped}
 use Rattle.child_edge.specs.Edge.{ByCause}
 use Rattle.child_edge.specs.Moments.{BrokeFrom, RanFrom}
-use Rattle.sheet_text.specs.declared.script.ScriptLine.TheVariants as said
 use Rattle.offline_programs.specs.declared.fault.RunFault.{RunFault}
 use Rattle.offline_programs.specs.declared.fault.RunFault.TheVariants as fault
 use Rattle.sheet_programs.specs.Lines.{up_to, so_far}

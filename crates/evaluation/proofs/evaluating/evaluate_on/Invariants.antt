@@ -13,6 +13,6 @@ invariant-loop g l = record {
   asked : l.stand.asked ≤ l.counter;
   overs : l.stand.overs ≤ l.counter;
   same : SameDisk l.initial.host.store.disk l.host.store.disk;
-  runs : (w : World) → IsHost l.initial.host w → SoFar (setting g.T.Tells.voice g.S.Children.after g.S.Sources.clock g.S.Sources.wakes l.plan l.ids) (stands (at w l.initial.sources l.initial.host.store.disk) l.from) l.stand l.host l.sources
+  runs : (w : World) → IsHost l.initial.host w → SoFar (setting g.T.Tells.voice g.S.Children.after g.S.Sources.clock g.S.Sources.wakes l.plan l.ids) (stands (at w l.initial.sources l.initial.host.store.disk) l.fn.from) l.stand l.host l.sources
       (g.W.Write.contents l.initial.writer) (g.W.Write.contents l.writer) l.counter;
 }

@@ -1,4 +1,4 @@
-use Rattle.std.proofs.Common.{Some, inl, refl, sym, subst}
+use Rattle.std.proofs.Common.{inl, refl, sym, subst}
 use Rattle.std.proofs.lemmas.Result.{IfErr-weaker}
 use Rattle.child_edge.specs.Faithful.{at}
 use Rattle.sheet_programs.specs.Lines.{beats_text, whole}
