@@ -9,15 +9,15 @@ returns-in-Err-clause-err g c = λ w h.
     evaluation_failed (way g.C.Children.after g.C.Sources.clock g.C.Sources.wakes c.args.request.now.limit) c.args.request.now.chosen c.args.field.now c.args.shown.now c.requires (at w c.args.sources.now c.args.host.now.store.disk) c.evaluate.new.host c.evaluate.new.sources
     (g.W.Write.contents c.args.writer.now) c.in-Err.fault (c.in-Err.ensures.err w h)
 
-pub returns-in-Ok-clause-ok : goal.returns-in-Ok-clause-ok
-returns-in-Ok-clause-ok g c = λ w h.
+pub returns-clause-ok : goal.returns-clause-ok
+returns-clause-ok g c = λ w h.
     let q = c.in-Ok.ensures.ok w h in
     IfOk-weaker c.tell_what_came.result _ _
     (λ verdict p. (came_if c.in-Ok.came (shown_in q.0 c.args.field.now.id), q.0, q.1, q.2, p.0, p.1))
     (c.tell_what_came.ensures.ok q.0 q.2)
 
-pub returns-in-Ok-clause-err : goal.returns-in-Ok-clause-err
-returns-in-Ok-clause-err g c = λ w h.
+pub returns-clause-err : goal.returns-clause-err
+returns-clause-err g c = λ w h.
     let q = c.in-Ok.ensures.ok w h in
     IfErr-weaker c.tell_what_came.result _ _
     (λ why p. tell_failed (way g.C.Children.after g.C.Sources.clock g.C.Sources.wakes c.args.request.now.limit) c.args.request.now.chosen c.args.field.now c.args.shown.now c.requires (at w c.args.sources.now c.args.host.now.store.disk) c.evaluate.new.host c.evaluate.new.sources
