@@ -21,7 +21,7 @@ no_format_text = codes "error: there is no such format: FORMAT is script, markdo
 abbrev pub no_seconds_text : List ℕ
 no_seconds_text = codes "error: this is no time: SECONDS is a number from 1 to 1000000\n\nFor more information, try 'tmhost eval --help'.\n"
 
--- what is reported of words that ask for no check: of a time, of a format, of the name of a session, of numbers of fields, and of a format in
+-- what is printed of words that ask for no check: of a time, of a format, of the name of a session, of numbers of fields, and of a format in
 -- which nothing is accepted
 abbrev pub no_check_seconds_text : List ℕ
 no_check_seconds_text = codes "error: this is no time: SECONDS is a number from 1 to 1000000\n\nFor more information, try 'tmhost check --help'.\n"
