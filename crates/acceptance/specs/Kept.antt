@@ -1,4 +1,4 @@
--- Ops that are put behind those of a worksheet on a disk, one behind another, and what a crash leaves of them.
+-- Ops that are put after those of a worksheet on a disk, one after another, and what a crash leaves of them.
 use Rattle.std.specs.Prelude.{◌≡◌, ℕ, List, [], ◌∷◌, ◌++◌, false, length, Result, Ok, Err}
 use Rattle.disk_model.specs.Disk.{DiskView, Image, InModel, Leaves, LeavesOnly, Rises, SameDisk}
 use Rattle.worksheet.specs.declared.op.Op.{Op}
@@ -22,15 +22,15 @@ pub record IsAmong (ops more : List Op) (i : Image) : Type 0 where
   pub split : more ≡ done ++ rest
   pub image : IsSheetImage (sheet_of (ops ++ done)) i
 
--- From a disk that holds the worksheet of these ops to the same disk with more behind them, which are durable. At every moment each
--- image was of the worksheet behind some of the first of those.
+-- From a disk that holds the worksheet of these ops to the same disk with more after them, which are durable. At every moment each
+-- image was of the worksheet after some of the first of those.
 pub record HoldsAll (ops more : List Op) (old new : DiskView) : Type 0 where
   pub same : SameDisk old new
   pub steady : new.faults ≡ old.faults
   pub holds : InModel old (Leaves (IsSheetImage (sheet_of (ops ++ more))) new.history.now)
   pub moments : InModel old (LeavesOnly (IsAmong ops more) old.history new.history)
 
--- The same where the disk failed at one op behind those: an image may have it, or not.
+-- The same where the disk failed at one op after those: an image may have it, or not.
 pub record HoldsBut (ops more : List Op) (one : Op) (old new : DiskView) : Type 0 where
   pub same : SameDisk old new
   pub failed : Rises old.faults new.faults
@@ -44,7 +44,7 @@ pub record Stores (ops more : List Op) (old : DiskView) (store : StoreView) : Ty
   pub contents : store.sheet.contents ≡ sheet_of (ops ++ more)
   pub disk : HoldsAll ops more old store.disk
 
--- The op doesn't fit on this disk, behind the payloads that stand there.
+-- The op doesn't fit on this disk, after the payloads that stand there.
 pub record NoPlace (one : Op) (disk : DiskView) : Type 0 where
   pub store : StoreView
   pub is : IsStore store
@@ -52,7 +52,7 @@ pub record NoPlace (one : Op) (disk : DiskView) : Type 0 where
   pub place : HasPlace store (length (code_of one)) → ⊥
   pub on_it : store.disk ≡ disk
 
--- What comes of one op behind those: it is put there, or nothing is, or the disk failed.
+-- What comes of one op after those: it is put there, or nothing is, or the disk failed.
 abbrev pub PutsOne : List Op → List Op → DiskView → Op → StoreView → Result Unit AcceptFault → Type 0
 PutsOne ops more disk one new (Ok u) = Stores ops (more ++ one ∷ []) disk new
 PutsOne ops more disk one new (Err fault.Full) = Stores ops more disk new × NoPlace one new.disk

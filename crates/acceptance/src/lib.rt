@@ -1,4 +1,4 @@
-//! Answers that are put into a worksheet on a disk, one behind another.
+//! Answers that are put into a worksheet on a disk, one after another.
 #![tactic(auto)]
 
 mod accepting;

@@ -34,7 +34,7 @@ some_behind bytes others h = go (nat_lt (position_or_len is_comma bytes) (length
     go true e less = let is : Some (after_first is_comma bytes) ≡ Some others = rw e at h in (less refl, cc)
     go false e less = let is : None ≡ Some others = rw e at h in cc
 
--- the first part, and those behind it
+-- the first part, and those after it
 split-more : (rest others : List ℕ) → behind_first is_comma rest ≡ Some others → slice_split is_comma rest ≡ before_first is_comma rest ∷ slice_split is_comma others
 split-more rest others e =
     let p = some_behind rest others e in

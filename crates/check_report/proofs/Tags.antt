@@ -12,7 +12,7 @@ use Rattle.check_report.specs.Laws.{TextsAreNoTags, tag_behind, tags, untold}
 use Rattle.check_report.proofs.Lines.{both-first, both-second}
 use Rattle.check_report.proofs.NoMarks.{no_marks, passes}
 
--- whether a tag is open behind bytes
+-- whether a tag is open after bytes
 abbrev open_behind : Bool → List ℕ → Bool
 open_behind inside [] = inside
 open_behind inside (byte ∷ rest) = open_behind (tag_behind inside byte) rest
@@ -87,7 +87,7 @@ case-closed p =
     open-append false (case_start p.id p.session ++ result_start p.verdict ++ xml_text p.told) (result_end p.verdict)
     ∙ ap (λ b. open_behind b (result_end p.verdict)) (told-closed p) ∙ result_end-closed p.verdict
 
--- the tags of a case, without what is told
+-- the tags of a case, without what is reported
 case-tags : (p : Point) → tags false (junit_case p) ≡ tags false (case_start p.id p.session ++ result_start p.verdict) ++ tags false (result_end p.verdict)
 case-tags p =
     let front = case_start p.id p.session ++ result_start p.verdict in

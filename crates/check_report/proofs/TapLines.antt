@@ -20,9 +20,9 @@ use Rattle.check_report.proofs.Lines.{both-first, both-second, comment-first, st
 all : (xs ys : List ℕ) → list_all stays xs ≡ true → list_all stays ys ≡ true → list_all stays (xs ++ ys) ≡ true
 all xs ys p q = list_all-append stays xs ys ∙ (rw (p, q) refl)
 
--- Comments are no lines that are told.
+-- Comments are no lines that are reported.
 
--- what is left of a text, where a line begins or behind a front of a comment
+-- what is left of a text, where a line begins or after a front of a comment
 record Unheard (bytes : List ℕ) : Type 0 where
   at_start : (rest : List ℕ) → told (comments_behind true bytes ++ rest) ≡ told rest
   inside : (front rest : List ℕ) → list_all stays front ≡ true → told ((35 ∷ front) ++ (comments_behind false bytes ++ rest)) ≡ told rest

@@ -27,7 +27,7 @@ has_id id ids = nat_le ids.first id && nat_le id ids.last
 abbrev pub is_left_out : Chosen → ℕ → Bool
 is_left_out chosen id = list_any (has_id id) chosen.left_out
 
--- What an evaluation anew of the field with this number comes to, by the output that it shows and the answer that came: what is left out
+-- What another evaluation of the field with this number comes to, by the output that it shows and the answer that came: what is left out
 -- isn't compared.
 pub data Judged (chosen : Chosen) (id : ℕ) (shown : Tree) (came : Option Answer) (v : Verdict) : Type 0 where
   left_out : is_left_out chosen id ≡ true → v ≡ verdict.LeftOut → Judged chosen id shown came v

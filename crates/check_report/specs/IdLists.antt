@@ -11,7 +11,7 @@ is_comma byte = byte == 44
 abbrev pub is_dash : ℕ → Bool
 is_dash byte = byte == 45
 
--- what stands behind the first of these bytes, where there is one
+-- what stands after the first of these bytes, where there is one
 abbrev pub behind_first : (ℕ → Bool) → List ℕ → Option (List ℕ)
 behind_first p bytes = option_map (λ at. drop (at + 1) bytes) (position p bytes)
 
@@ -32,7 +32,7 @@ part_behind front (Some rest) = range_of (number_written front) (number_written 
 abbrev pub part_of : List ℕ → Option Ids
 part_of part = part_behind (before_first is_dash part) (behind_first is_dash part)
 
--- behind others
+-- after others
 abbrev pub with_others : List Ids → Option (List Ids) → Option (List Ids)
 with_others front None = None
 with_others front (Some ids) = Some (front ++ ids)

@@ -11,7 +11,7 @@ use Rattle.check_report.specs.Xml.{xml_text}
 abbrev pub head : List ℕ
 head = codes "<?xml version=\"1.0\" encoding=\"UTF-8\"?>\n<testsuites>\n<testsuite name=\"tmhost check\">\n"
 
--- behind the last one
+-- after the last one
 abbrev pub tail : List ℕ
 tail = codes "</testsuite>\n</testsuites>\n"
 
@@ -19,14 +19,14 @@ tail = codes "</testsuite>\n</testsuites>\n"
 abbrev pub case_start : ℕ → List ℕ → List ℕ
 case_start id session = codes "<testcase classname=\"" ++ xml_text session ++ codes "\" name=\"field " ++ decimal id ++ codes "\">"
 
--- in front of what is told of a case
+-- in front of what is reported of a case
 abbrev pub result_start : Verdict → List ℕ
 result_start verdict.Same = []
 result_start verdict.Differs = codes "<failure message=\"differs\">"
 result_start verdict.Unanswered = codes "<error message=\"unanswered\">"
 result_start verdict.LeftOut = codes "<skipped message=\"left out\">"
 
--- behind it
+-- after it
 abbrev pub result_end : Verdict → List ℕ
 result_end verdict.Same = codes "</testcase>\n"
 result_end verdict.Differs = codes "</failure></testcase>\n"

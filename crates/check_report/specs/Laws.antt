@@ -48,7 +48,7 @@ TapIsItsPoints = (points : List Point) → ArePoints points → length points < 
 abbrev pub is_xml_mark : ℕ → Bool
 is_xml_mark byte = byte == 60 || byte == 62 || byte == 34 || not (stays_in_xml byte)
 
--- what stands behind the '&' of a reference
+-- what stands after the '&' of a reference
 abbrev pub xml_reference_names : List (List ℕ)
 xml_reference_names = codes "amp;" ∷ codes "lt;" ∷ codes "gt;" ∷ codes "quot;" ∷ []
 
@@ -65,20 +65,20 @@ has_xml_references_alone (byte ∷ rest) = (not (byte == 38) || has_xml_referenc
 abbrev pub XmlHasNoMarks : Type 0
 XmlHasNoMarks = (bytes : List ℕ) → (list_all (λ byte. not (is_xml_mark byte)) (xml_text bytes) ≡ true) × (has_xml_references_alone (xml_text bytes) ≡ true)
 
--- whether a tag is open behind a byte
+-- whether a tag is open after a byte
 abbrev pub tag_behind : Bool → ℕ → Bool
 tag_behind inside byte = cond inside (not (byte == 62)) (byte == 60)
 
--- the tags of a text, from each '<' to the '>' behind it, by whether one is open
+-- the tags of a text, from each '<' to the '>' after it, by whether one is open
 abbrev pub tags : Bool → List ℕ → List ℕ
 tags inside [] = []
 tags inside (byte ∷ rest) = cond (inside || byte == 60) (byte ∷ tags (tag_behind inside byte) rest) (tags (tag_behind inside byte) rest)
 
--- a point of which nothing is told
+-- a point of which nothing is reported
 abbrev pub untold : Point → Point
 untold p = record p { told = [] }
 
--- The tags of a report in JUnit's XML are those of one in which nothing is told: what an interpreter wrote is no element, no
+-- The tags of a report in JUnit's XML are those of one in which nothing is reported: what an interpreter wrote is no element, no
 -- attribute, and no part of one.
 abbrev pub TextsAreNoTags : Type 0
 TextsAreNoTags = (points : List Point) → tags false (junit_text points) ≡ tags false (junit_text (map untold points))

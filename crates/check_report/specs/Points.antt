@@ -1,4 +1,4 @@
--- What a report says of a field that was evaluated anew.
+-- What a report says of a field that was evaluated again.
 use Rattle.std.specs.Prelude.{ℕ, List}
 use Rattle.check_report.specs.declared.verdict.Verdict.{Verdict}
 

@@ -16,7 +16,7 @@ use Rattle.check_report.specs.Words.{acceptance_text, accepted_counts_text, coun
 use Rattle.check_report.specs.Tap.{plan_line, tap_point, version_line}
 use Rattle.check_report.specs.Junit.{head, junit_case, tail}
 
--- A field that was evaluated anew: the answer that came, or none, and what that came to.
+-- A field that was evaluated again: the answer that came, or none, and what that came to.
 pub record Case : Type 0 where
   pub field : Field
   pub came : Option Answer
@@ -46,7 +46,7 @@ case_text format.Tap number c = tap_point number (point_of c)
 case_text format.Junit number c = junit_case (point_of c)
 case_text format.Accepting number c = acceptance_text c.field c.came c.verdict
 
--- the same of cases, one behind another, of which the first has this number
+-- the same of cases, one after another, of which the first has this number
 abbrev pub cases_text : Format → ℕ → List Case → List ℕ
 cases_text F number [] = []
 cases_text F number (c ∷ cases) = case_text F number c ++ cases_text F (number + 1) cases

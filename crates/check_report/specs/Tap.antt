@@ -19,7 +19,7 @@ result_words verdict.LeftOut = codes "ok "
 abbrev pub description : ℕ → List ℕ → List ℕ
 description id session = codes " - field " ++ decimal id ++ codes " of " ++ session
 
--- what a parser is told to do with the point, where that is anything, and the end of the line
+-- what a parser is to do with the point, where that is anything, and the end of the line
 abbrev pub directive : Verdict → List ℕ
 directive verdict.Same = 10 ∷ []
 directive verdict.Differs = 10 ∷ []
@@ -47,7 +47,7 @@ comments_behind begins (byte ∷ rest) = comment_byte begins byte ++ comments_be
 abbrev pub comments : List ℕ → List ℕ
 comments text = comments_behind true text
 
--- a point, and what is told of it
+-- a point, and what is reported of it
 abbrev pub tap_point : ℕ → Point → List ℕ
 tap_point number p = point_line number p.id p.session p.verdict ++ comments p.told
 

@@ -1,4 +1,4 @@
--- What an evaluation anew comes to, and how such are counted.
+-- What another evaluation comes to, and how such are counted.
 use Rattle.std.specs.Prelude.{◌≡◌, ◌+◌, ℕ, List, [], ◌∷◌, Option, Some, None}
 use Rattle.block_tree.specs.Tree.{Tree}
 use Rattle.worksheet.specs.declared.field.Answer.{Answer}

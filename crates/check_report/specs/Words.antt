@@ -19,7 +19,7 @@ abbrev pub difference_of : Field → List ℕ → List ℕ → List ℕ
 difference_of field shown came = number_line field ++ (input_line field ++ (marked (codes "- ") shown ++ marked (codes "+ ") came))
 
 -- A field, and how the answer that came differs from the one that it shows: its lines as `print` has them, but those of the output
--- with `- ` in front, and behind them those of the output that came with `+ `, or `+ ?` where none came.
+-- with `- ` in front, and after them those of the output that came with `+ `, or `+ ?` where none came.
 abbrev pub difference_text : Field → Option Answer → List ℕ
 difference_text field came = difference_of field (output_lines field.answer None) (output_lines came None)
 

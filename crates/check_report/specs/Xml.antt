@@ -37,7 +37,7 @@ xml_length bytes = cond (is_allowed (decoded bytes).char) (decoded bytes).size 0
 abbrev pub xml_belonging : ℕ → List ℕ → ℕ
 xml_belonging left bytes = cond (nat_lt 0 left) left (xml_length bytes)
 
--- the bytes behind a character of which so many are left
+-- the bytes after a character of which so many are left
 unfoldable pub xml_behind : ℕ → List ℕ → List ℕ
 xml_behind left [] = []
 xml_behind left (byte ∷ rest) = xml_byte (nat_lt 0 (xml_belonging left (byte ∷ rest))) byte ++ xml_behind (xml_belonging left (byte ∷ rest) - 1) rest

@@ -81,7 +81,7 @@ impl Chosen {
         have(self.left_out.as_slice(), id)
     }
 
-    /// What an evaluation anew of the field with this number comes to, by the answer that it shows and the
+    /// What another evaluation of the field with this number comes to, by the answer that it shows and the
     /// one that came.
     pub fn judge(&self, id: u32, shown: &Answer, came: &Option<Answer>) -> Verdict
         ensures { choice.Judged self.now id shown.now.output came.now result }

@@ -77,7 +77,7 @@ fn dash_in(bytes: &[u8]) -> Option<usize>
     bytes.iter().position(|byte| *byte == b'-')
 }
 
-/// The bytes up to the next comma, and those behind it.
+/// The bytes up to the next comma, and those after it.
 fn split_comma(bytes: &[u8]) -> (&[u8], Option<&[u8]>)
     ensures before { result.0.now ≡ before_first lists.is_comma bytes.now }
     ensures behind { option_copied result.1 ≡ lists.behind_first lists.is_comma bytes.now }
@@ -88,7 +88,7 @@ fn split_comma(bytes: &[u8]) -> (&[u8], Option<&[u8]>)
     }
 }
 
-/// The bytes up to the next dash, and those behind it.
+/// The bytes up to the next dash, and those after it.
 fn split_dash(bytes: &[u8]) -> (&[u8], Option<&[u8]>)
     ensures before { result.0.now ≡ before_first lists.is_dash bytes.now }
     ensures behind { option_copied result.1 ≡ lists.behind_first lists.is_dash bytes.now }

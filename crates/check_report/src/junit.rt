@@ -22,7 +22,7 @@ pub(crate) fn write_head<W: Write>(out: &mut W) -> Result<(), WriteFault>
     )
 }
 
-/// Writes what stands behind the last case.
+/// Writes what stands after the last case.
 pub(crate) fn write_tail<W: Write>(out: &mut W) -> Result<(), WriteFault>
     ensures { OnOk result (Appends (W.contents out.old) (W.contents out.new) junit.tail) }
 {
@@ -43,7 +43,7 @@ fn write_start<W: Write>(id: u32, session: &[u8], out: &mut W) -> Result<(), Wri
     Ok(())
 }
 
-/// Writes what stands in front of what is told of a case.
+/// Writes what stands in front of what is reported of a case.
 fn write_result_start<W: Write>(verdict: Verdict, out: &mut W) -> Result<(), WriteFault>
     ensures { OnOk result (Appends (W.contents out.old) (W.contents out.new)
         (junit.result_start verdict)) }
@@ -56,7 +56,7 @@ fn write_result_start<W: Write>(verdict: Verdict, out: &mut W) -> Result<(), Wri
     }
 }
 
-/// Writes what stands behind it.
+/// Writes what stands after it.
 fn write_result_end<W: Write>(verdict: Verdict, out: &mut W) -> Result<(), WriteFault>
     ensures { OnOk result (Appends (W.contents out.old) (W.contents out.new)
         (junit.result_end verdict)) }

@@ -18,7 +18,7 @@ pub fn xml_has_no_marks()
     ensures { XmlHasNoMarks }
 {}
 
-/// The tags of a report in JUnit's XML are those of one in which nothing is told.
+/// The tags of a report in JUnit's XML are those of one in which nothing is reported.
 pub fn texts_are_no_tags()
     ensures { TextsAreNoTags }
 {}

@@ -29,7 +29,7 @@ pub enum Format {
     Tap,
     /// In JUnit's XML: a test case for each field.
     Junit,
-    /// In words, where answers that differ are accepted: that is said behind each.
+    /// In words, where answers that differ are accepted: that is said after each.
     Accepting,
 }
 
@@ -234,7 +234,7 @@ fn report_junit<W: Write>(
     }
 }
 
-/// Brings out a text that is in memory.
+/// Writes a text that is in memory, and flushes it.
 pub fn bring_out<W: Write>(text: &[u8], writer: &mut W) -> Result<(), WriteFault>
     ensures { OnOk result (Appends (W.contents writer.old) (W.contents writer.new) text.now) }
 {

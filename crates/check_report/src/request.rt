@@ -9,10 +9,12 @@ use block_tree::Sequence;
 use std::alloc::Global;
 use worksheet::Name;
 
-/// What a check is asked for: which fields, and how it reports them.
+/// What a check is asked for: which fields, how long each may take, and how it reports them.
 #[derive(Debug, Drop)]
 pub struct Request {
     pub chosen: Chosen,
+    /// How many seconds a field may take from when its line was sent, where there is a limit.
+    pub limit: Option<u32>,
     pub format: Format,
 }
 
@@ -122,16 +124,18 @@ fn read_left_out(alloc: Global, text: Option<&str>) -> Result<Sequence<Ids>, Req
 }
 
 /// What the words of a command line ask for: a format, a session, numbers of fields that are left out,
-/// and whether answers that differ are accepted.
+/// and whether answers that differ are accepted; within this limit of time, where there is one.
 pub fn read_request(
     alloc: Global,
     format: Option<&str>,
     session: Option<&str>,
     ids: Option<&str>,
     accept: bool,
+    limit: Option<u32>,
 ) -> Result<Request, RequestFault>
     ensures ok { IfOk result (asked.Asks accept (option_map (λ text. text.now) format.entry)
         (option_map (λ text. text.now) session.entry) (option_map (λ text. text.now) ids.entry)) }
+    ensures within { IfOk result (λ request. request.limit ≡ limit) }
     ensures err { IfErr result (asked.AsksFor accept (option_map (λ text. text.now) format.entry)
         (option_map (λ text. text.now) session.entry) (option_map (λ text. text.now) ids.entry)) }
 {
@@ -146,6 +150,7 @@ pub fn read_request(
     match read_left_out(alloc, ids) {
         Ok(left_out) => Ok(Request {
             chosen: Chosen { only, left_out },
+            limit,
             format,
         }),
         Err(why) => Err(why),

@@ -123,7 +123,7 @@ fn write_comments<W: Write>(text: &[u8], out: &mut W) -> Result<(), WriteFault>
     Ok(())
 }
 
-/// Writes a test point, and what is told of it as comments.
+/// Writes a test point, and what is reported of it as comments.
 #[tactic(auto, using(crate::proofs::Written::steps))]
 pub(crate) fn write_point<W: Write>(
     number: u64,

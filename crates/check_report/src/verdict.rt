@@ -4,7 +4,7 @@ ghost use Rattle.check_report.specs.Verdicts.{Compared, counted_with, total};
 
 use worksheet::Answer;
 
-/// What an evaluation anew came to.
+/// What another evaluation came to.
 #[derive(Clone, Copy, Debug, PartialEq, Eq)]
 pub enum Verdict {
     /// The output that came is the one that the field shows.

@@ -121,7 +121,7 @@ fn write_accepted<W: Write>(id: u32, writer: &mut W) -> Result<(), WriteFault>
     write!(writer, "accepted {id}\n").map_err(|_| WriteFault)
 }
 
-/// A text with the line behind it that says that the answer which came to a field is accepted.
+/// A text with the line after it that says that the answer which came to a field is accepted.
 fn with_accepted(text: Vec<u8>, id: u32) -> Option<Vec<u8>>
     ensures { IfSome result (λ whole. whole.items ≡ text.items ++ printed.accepted_line id) }
 {

@@ -15,6 +15,7 @@ pub record CheckView : Type 0 where
   pub format : Option Text
   pub only : Option Text
   pub leave_out : Option Text
+  pub timeout : Option Text
   pub accept : Bool
 
 abbrev pub check_view : CheckWords → CheckView
@@ -22,6 +23,7 @@ check_view words = record {
   format = option_map (λ text. text.now) words.format;
   only = option_map (λ text. text.now) words.only;
   leave_out = option_map (λ text. text.now) words.leave_out;
+  timeout = option_map (λ text. text.now) words.timeout;
   accept = words.accept;
 }
 
@@ -95,8 +97,8 @@ json_rule = record (new_rule (codes "json")) { long = Some (codes "json"); actio
 abbrev pub with_json : Text → App
 with_json name = with_rule (with_path name) json_rule
 
--- and of the one with options: the format of its report, the session that it is about, the fields that aren't compared, and whether
--- answers that differ are accepted
+-- and of the one with options: the format of its report, the session that it is about, the fields that aren't compared, the time that a
+-- field may take, and whether answers that differ are accepted
 abbrev pub report_rule : Rule
 report_rule = record (new_rule (codes "format")) { long = Some (codes "format"); value_names = 1 }
 
@@ -115,11 +117,17 @@ left_out_rule = record (new_rule (codes "leave-out")) { long = Some (codes "leav
 abbrev pub with_left_out : Text → App
 with_left_out name = with_rule (with_session name) left_out_rule
 
+abbrev pub timeout_rule : Rule
+timeout_rule = record (new_rule (codes "timeout")) { long = Some (codes "timeout"); value_names = 1 }
+
+abbrev pub with_check_timeout : Text → App
+with_check_timeout name = with_rule (with_left_out name) timeout_rule
+
 abbrev pub accept_rule : Rule
 accept_rule = record (new_rule (codes "accept")) { long = Some (codes "accept"); action = Some SetTrue }
 
 abbrev pub with_check : Text → App
-with_check name = with_rule (with_left_out name) accept_rule
+with_check name = with_rule (with_check_timeout name) accept_rule
 
 -- and of `eval`, with flags, the time that a field may take, the number of the first field, and numbers of fields after the path
 abbrev pub unanswered_rule : Rule
@@ -130,9 +138,6 @@ with_unanswered name = with_rule (with_strict name) unanswered_rule
 
 abbrev pub with_eval_json : Text → App
 with_eval_json name = with_rule (with_unanswered name) json_rule
-
-abbrev pub timeout_rule : Rule
-timeout_rule = record (new_rule (codes "timeout")) { long = Some (codes "timeout"); value_names = 1 }
 
 abbrev pub with_timeout : Text → App
 with_timeout name = with_rule (with_eval_json name) timeout_rule
@@ -205,7 +210,13 @@ flags_view flags = record { strict = flags.strict; json = flags.json; eval = eva
 
 -- what the words of `check` name among these words
 abbrev pub check_in : List Row → CheckView
-check_in rows = record { format = first_of (codes "format") rows; only = first_of (codes "only") rows; leave_out = first_of (codes "leave-out") rows; accept = is_set (first_of (codes "accept") rows) }
+check_in rows = record {
+  format = first_of (codes "format") rows;
+  only = first_of (codes "only") rows;
+  leave_out = first_of (codes "leave-out") rows;
+  timeout = first_of (codes "timeout") rows;
+  accept = is_set (first_of (codes "accept") rows);
+}
 
 -- the numbers of fields that those of `eval` name
 abbrev pub ids_in : List Row → List Text

@@ -101,12 +101,26 @@ fn with_left_out<'a>(alloc: Global, row: Row) -> Result<Command<'a>, AllocError>
     )
 }
 
+/// The same, and with the time that a field may take.
+fn with_check_timeout<'a>(alloc: Global, row: Row) -> Result<Command<'a>, AllocError>
+    ensures made { IfOk result (λ command. app_of command ≡ asked.with_check_timeout row.name.now) }
+    ensures local { IfOk result (λ command. (fields_of command).has_globals ≡ false) }
+{
+    let first = with_left_out(alloc, row)?;
+    first.arg(
+        Arg::new(alloc, "timeout")
+            .long("timeout")
+            .value_name("SECONDS")
+            .help("Interrupt the interpreter of a field that takes longer than this"),
+    )
+}
+
 /// The same, and with the flag that has answers accepted.
 fn with_check<'a>(alloc: Global, row: Row) -> Result<Command<'a>, AllocError>
     ensures made { IfOk result (λ command. app_of command ≡ asked.with_check row.name.now) }
     ensures local { IfOk result (λ command. (fields_of command).has_globals ≡ false) }
 {
-    let first = with_left_out(alloc, row)?;
+    let first = with_check_timeout(alloc, row)?;
     first.arg(
         Arg::new(alloc, "accept")
             .long("accept")

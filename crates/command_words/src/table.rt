@@ -129,6 +129,10 @@ With --format it reports each field as a test: as a point of TAP 13, or as a cas
 in JUnit's XML. --only names the one session whose fields are evaluated. The\n\
 outputs of the fields that --leave-out names aren't compared, as of 3, 7, 8 and 9\n\
 by --leave-out 3,7-9; they are evaluated all the same.\n\n\
+With --timeout SECONDS (1 to 1,000,000) the interpreter of a field that takes\n\
+longer is sent SIGINT, and is stopped where it hasn't answered two seconds later.\n\
+No answer came then, whatever came after SIGINT, and the next field is checked.\n\
+Without it a field that computes without an end holds the check back for ever.\n\n\
 With --accept each answer that differs is put into its field of the worksheet,\n\
 which is opened to write. Then its difference is written, with `accepted ID` below,\n\
 and the last line is as `same 4 accepted 1 unanswered 0`. It goes with no format\n\

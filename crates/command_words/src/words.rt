@@ -17,6 +17,8 @@ pub struct CheckWords<'a> {
     pub only: Option<&'a str>,
     /// The numbers of the fields that aren't compared.
     pub leave_out: Option<&'a str>,
+    /// How many seconds a field may take.
+    pub timeout: Option<&'a str>,
     /// Answers that differ are put into the worksheet.
     pub accept: bool,
 }
@@ -167,6 +169,7 @@ fn check_words<'a>(matches: &ArgMatches<'a>) -> CheckWords<'a>
         format: matches.get_str("format"),
         only: matches.get_str("only"),
         leave_out: matches.get_str("leave-out"),
+        timeout: matches.get_str("timeout"),
         accept: is_set(matches.get_str("accept")),
     }
 }

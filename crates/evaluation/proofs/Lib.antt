@@ -3,3 +3,5 @@ pub mod InVain
 pub mod Taking
 pub mod Goings
 pub mod Ends
+pub mod Unsaid
+pub mod Waits

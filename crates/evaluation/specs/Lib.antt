@@ -3,4 +3,5 @@ pub mod Steps
 pub mod Broken
 pub mod Evaluation
 pub mod Faults
+pub mod Within
 pub mod inside

@@ -9,7 +9,7 @@ ghost use Rattle.child_edge.specs.Stops.{Stops};
 ghost use Rattle.offline_programs.specs.Faults.{FailedSince};
 ghost use Rattle.evaluation.specs.Meant as meant;
 ghost use Rattle.evaluation.specs.Steps.{setting, stands};
-ghost use Rattle.evaluation.specs.Evaluation.{EvaluationDone, TellsEvalFault, not_begun};
+ghost use Rattle.evaluation.specs.Evaluation.{EvaluationDone, TellsEvalFault, not_begun as begins};
 ghost use Rattle.evaluation.specs.declared.fault.EvalFault.TheVariants as evals;
 ghost use Rattle.evaluation.specs.inside.Choosing.{AsksInVain};
 ghost use Rattle.evaluation.specs.inside.Stepping.{BrokeOff, Through, ThroughAnd};
@@ -45,27 +45,11 @@ pub struct Evaluated<D: Disk> {
     pub counts: Counts,
 }
 
-/// Evaluates fields up to the end.
-fn evaluate_on<D: Disk, S: Sources, T: Tells, W: Write>(
-    alloc: Global,
-    host: &mut Host<D>,
-    sources: &mut S,
-    plan: &Plan,
-    ids: &[u32],
-    tells: &T,
-    writer: &mut W,
-) -> Result<Stand, RunFault>
-    requires few { length ids.now < 2 ^ 31 }
-    ensures same { SameDisk host.old.store.disk host.new.store.disk }
-    ensures ok { (w : World) → IsHost host.old w → IfOk result (Through
-        (setting T.voice S.after S.clock S.wakes plan.now ids.now) (stands (at w sources.old host.old.store.disk) not_begun)
-        host.new sources.new (W.contents writer.old) (W.contents writer.new)) }
-    ensures err { (w : World) → IsHost host.old w → IfErr result (BrokeOff
-        (setting T.voice S.after S.clock S.wakes plan.now ids.now) (stands (at w sources.old host.old.store.disk) not_begun)
-        (λ t. t.children ≡ sources.new) host.new (W.contents writer.old) (W.contents writer.new)) }
-    ensures taken { IfOk result (λ stand. stand.taken ≤ length ids.now) }
+/// The place where nothing was asked yet.
+fn not_begun() -> Stand
+    ensures { result ≡ begins }
 {
-    let mut stand = Stand {
+    Stand {
         taken: 0,
         field: 0,
         held: Hold::Free,
@@ -73,7 +57,33 @@ fn evaluate_on<D: Disk, S: Sources, T: Tells, W: Write>(
         at_once: false,
         asked: 0,
         overs: 0,
-    };
+    }
+}
+
+/// Evaluates fields from this place up to the end.
+pub(crate) fn evaluate_on<D: Disk, S: Sources, T: Tells, W: Write>(
+    alloc: Global,
+    host: &mut Host<D>,
+    sources: &mut S,
+    plan: &Plan,
+    ids: &[u32],
+    from: Stand,
+    tells: &T,
+    writer: &mut W,
+) -> Result<Stand, RunFault>
+    requires few { length ids.now < 2 ^ 31 }
+    requires taken { from.taken ≤ length ids.now }
+    requires counted { (from.asked ≡ 0) × (from.overs ≡ 0) }
+    ensures same { SameDisk host.old.store.disk host.new.store.disk }
+    ensures ok { (w : World) → IsHost host.old w → IfOk result (Through
+        (setting T.voice S.after S.clock S.wakes plan.now ids.now) (stands (at w sources.old host.old.store.disk) from)
+        host.new sources.new (W.contents writer.old) (W.contents writer.new)) }
+    ensures err { (w : World) → IsHost host.old w → IfErr result (BrokeOff
+        (setting T.voice S.after S.clock S.wakes plan.now ids.now) (stands (at w sources.old host.old.store.disk) from)
+        (λ t. t.children ≡ sources.new) host.new (W.contents writer.old) (W.contents writer.new)) }
+    ensures taken { IfOk result (λ stand. stand.taken ≤ length ids.now) }
+{
+    let mut stand = from;
     for _ in 0..u64::MAX {
         match step(alloc, host, sources, plan, ids, stand, tells, writer) {
             Ok(Some(next)) => stand = next,
@@ -84,7 +94,7 @@ fn evaluate_on<D: Disk, S: Sources, T: Tells, W: Write>(
     Err(RunFault::InputTooLong)
 }
 
-/// The same, and each life that goes on is stopped then.
+/// The same from the beginning, and each life that goes on is stopped then.
 fn evaluate_and_stop<D: Disk, S: Sources, T: Tells, W: Write>(
     alloc: Global,
     host: &mut Host<D>,
@@ -97,14 +107,14 @@ fn evaluate_and_stop<D: Disk, S: Sources, T: Tells, W: Write>(
     requires few { length ids.now < 2 ^ 31 }
     ensures same { SameDisk host.old.store.disk host.new.store.disk }
     ensures ok { (w : World) → IsHost host.old w → IfOk result (ThroughAnd
-        (setting T.voice S.after S.clock S.wakes plan.now ids.now) (stands (at w sources.old host.old.store.disk) not_begun)
+        (setting T.voice S.after S.clock S.wakes plan.now ids.now) (stands (at w sources.old host.old.store.disk) begins)
         (λ t. Stops S.after (running t.world) t.children sources.new) host.new (W.contents writer.old) (W.contents writer.new)) }
     ensures err { (w : World) → IsHost host.old w → IfErr result (BrokeOff
-        (setting T.voice S.after S.clock S.wakes plan.now ids.now) (stands (at w sources.old host.old.store.disk) not_begun)
+        (setting T.voice S.after S.clock S.wakes plan.now ids.now) (stands (at w sources.old host.old.store.disk) begins)
         (λ t. Stops S.after (running t.world) t.children sources.new) host.new (W.contents writer.old) (W.contents writer.new)) }
     ensures taken { IfOk result (λ stand. stand.taken ≤ length ids.now) }
 {
-    let done = evaluate_on(alloc, host, sources, plan, ids, tells, writer);
+    let done = evaluate_on(alloc, host, sources, plan, ids, not_begun(), tells, writer);
     stop_all(host, sources);
     done
 }

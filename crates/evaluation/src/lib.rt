@@ -6,9 +6,12 @@ mod choosing;
 mod evaluating;
 mod fault;
 pub mod plan;
+mod silence;
 mod stepping;
 mod timing;
+mod within;
 
 pub use evaluating::{Evaluated, evaluate};
 pub use fault::{EvalFault, eval_fault_text};
 pub use plan::{Plan, Which};
+pub use within::wait_within;

@@ -29,8 +29,11 @@ no_id_text = codes "error: this is no field: ID is a number, as 3\n\nFor more in
 abbrev pub no_both_text : List ℕ
 no_both_text = codes "error: --from goes with no ID after PATH\n\nFor more information, try 'tmhost eval --help'.\n"
 
--- what is printed of words that ask for no check: of a format, of the name of a session, of numbers of fields, and of a format in which
--- nothing is accepted
+-- what is printed of words that ask for no check: of a time, of a format, of the name of a session, of numbers of fields, and of a format in
+-- which nothing is accepted
+abbrev pub no_check_seconds_text : List ℕ
+no_check_seconds_text = codes "error: this is no time: SECONDS is a number from 1 to 1000000\n\nFor more information, try 'tmhost check --help'.\n"
+
 abbrev pub no_report_text : List ℕ
 no_report_text = codes "error: there is no such format: FORMAT is text, tap or junit\n\nFor more information, try 'tmhost check --help'.\n"
 

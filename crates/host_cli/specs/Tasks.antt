@@ -13,7 +13,6 @@ use Rattle.disk_model.specs.Disk.{DiskView}
 use Rattle.disk_model.specs.declared.disk.Disk as disks
 use Rattle.child_edge.specs.Faithful.{Relation}
 use Rattle.check_report.specs.Requests.{Asks, AsksFor}
-use Rattle.check_report.specs.declared.chosen.Chosen.{Chosen}
 use Rattle.check_report.specs.declared.report.Format.{Format as Report}
 use Rattle.check_report.specs.declared.report.Format.TheVariants as report
 use Rattle.check_report.specs.declared.request.Request.{Request}
@@ -21,8 +20,8 @@ use Rattle.check_report.specs.declared.request.RequestFault.{RequestFault}
 use Rattle.command_words.specs.Asked.{CheckView, EvalView, TaskView, asked_by, task_view, tmhost}
 use Rattle.command_words.specs.declared.words.Task.{Task}
 use Rattle.command_words.specs.Asked as asked
-use Rattle.host_cli.specs.Plans.{AsksNoPlan, AsksPlan}
-use Rattle.host_cli.specs.Refused.{RefusesPlan, RefusesRequest, ShowsText, no_format_text}
+use Rattle.host_cli.specs.Plans.{AsksNoPlan, AsksPlan, limit_asked}
+use Rattle.host_cli.specs.Refused.{RefusesPlan, RefusesRequest, RefusesWith, ShowsText, no_check_seconds_text, no_format_text}
 use Rattle.host_cli.specs.declared.outside.Outside.{Outside}
 use Rattle.host_cli.specs.declared.plans.PlanFault.{PlanFault}
 use Rattle.live.specs.Arrivals.{Watch}
@@ -52,6 +51,7 @@ use Rattle.sheet_files.specs.declared.files_fault.FilesFault.{FilesFault}
 use Rattle.sheet_files.specs.declared.files_fault.HoldFault.{HoldFault}
 use Rattle.sheet_files.specs.declared.files_fault.MakeFault.{MakeFault}
 use Rattle.sheet_files.specs.declared.places.Places as places
+use Rattle.sheet_check.specs.Evaluated.{way}
 use Rattle.evaluation.specs.Steps.{setting}
 use Rattle.evaluation.specs.declared.plan.Plan.{Plan}
 
@@ -130,20 +130,20 @@ module _ {Y D P S I W E Q : Type 0} (o : OutsideView D P S I W E) where
   abbrev pub ChecksAs : Outside Y D P S I W E Q → Outside Y D P S I W E Q → Ending → Text → Request → Type 0
   ChecksAs old new ending path request =
       HeldFirst old new (λ why. (new.sources ≡ old.sources) × EndsWith old new ending (Err why)) (λ held. (files : Result D FilesFault) × o.places.reads held path files new.places
-      × CheckEnds o.view o.after request.chosen request.format files old.sources new.sources o.written old.output new.output o.said old.errors new.errors ending)
+      × CheckEnds o.view (way o.after o.clock o.wakes request.limit) request.chosen request.format files old.sources new.sources o.written old.output new.output o.said old.errors new.errors ending)
 
   -- `check --accept` of what they open to write
-  abbrev pub AcceptsAs : Outside Y D P S I W E Q → Outside Y D P S I W E Q → Ending → Text → Chosen → Type 0
-  AcceptsAs old new ending path chosen =
+  abbrev pub AcceptsAs : Outside Y D P S I W E Q → Outside Y D P S I W E Q → Ending → Text → Request → Type 0
+  AcceptsAs old new ending path request =
       HeldFirst old new (λ why. (new.sources ≡ old.sources) × EndsWith old new ending (Err why)) (λ held. (files : Result D FilesFault) × o.places.opens held path files new.places
-      × AcceptEnds o.view o.after chosen files old.sources new.sources o.written old.output new.output o.said old.errors new.errors ending)
+      × AcceptEnds o.view (way o.after o.clock o.wakes request.limit) request.chosen files old.sources new.sources o.written old.output new.output o.said old.errors new.errors ending)
 
   -- the one or the other
   abbrev pub ChecksIn : Report → Outside Y D P S I W E Q → Outside Y D P S I W E Q → Ending → Text → Request → Type 0
   ChecksIn report.Text old new ending path request = ChecksAs old new ending path request
   ChecksIn report.Tap old new ending path request = ChecksAs old new ending path request
   ChecksIn report.Junit old new ending path request = ChecksAs old new ending path request
-  ChecksIn report.Accepting old new ending path request = AcceptsAs old new ending path request.chosen
+  ChecksIn report.Accepting old new ending path request = AcceptsAs old new ending path request
 
   abbrev pub ChecksBy : Outside Y D P S I W E Q → Outside Y D P S I W E Q → Ending → Text → Request → Type 0
   ChecksBy old new ending path request = ChecksIn request.format old new ending path request
@@ -153,10 +153,20 @@ module _ {Y D P S I W E Q : Type 0} (o : OutsideView D P S I W E) where
   ChecksNone old new ending why = (new.places ≡ old.places) × (new.sources ≡ old.sources) × (new.output ≡ old.output) × (new.progress ≡ old.progress)
       × RefusesRequest why o.said old.errors new.errors ending
 
-  -- `check` by what its words name
-  abbrev pub DoesCheck : Outside Y D P S I W E Q → Outside Y D P S I W E Q → Ending → Text → CheckView → Type 0
-  DoesCheck old new ending path words = (read : Result Request RequestFault) × IfOk read (Asks words.accept words.format words.only words.leave_out)
+  -- where they name no time
+  abbrev pub ChecksNoTime : Outside Y D P S I W E Q → Outside Y D P S I W E Q → Ending → Type 0
+  ChecksNoTime old new ending = (new.places ≡ old.places) × (new.sources ≡ old.sources) × (new.output ≡ old.output) × (new.progress ≡ old.progress)
+      × RefusesWith no_check_seconds_text o.said old.errors new.errors ending
+
+  -- `check` by what its words name, within this limit of time, where there is one
+  abbrev pub ChecksWithin : Outside Y D P S I W E Q → Outside Y D P S I W E Q → Ending → Text → CheckView → Option ℕ → Type 0
+  ChecksWithin old new ending path words limit = (read : Result Request RequestFault) × IfOk read (Asks words.accept words.format words.only words.leave_out)
+      × IfOk read (λ request. request.limit ≡ limit)
       × IfErr read (AsksFor words.accept words.format words.only words.leave_out) × MatchResult read (ChecksBy old new ending path) (ChecksNone old new ending)
+
+  -- `check` as its words ask for it
+  abbrev pub DoesCheck : Outside Y D P S I W E Q → Outside Y D P S I W E Q → Ending → Text → CheckView → Type 0
+  DoesCheck old new ending path words = MatchOption (limit_asked words.timeout) (ChecksNoTime old new ending) (ChecksWithin old new ending path words)
 
   -- files that weren't opened: nothing is read or written, and no child is called
   abbrev pub Unopened : Outside Y D P S I W E Q → Outside Y D P S I W E Q → Ending → FilesFault → Type 0

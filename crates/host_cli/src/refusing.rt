@@ -4,7 +4,7 @@ ghost use Rattle.std.specs.Io.KnownBytes.{Appends};
 ghost use Rattle.std.specs.declared.io.ErrorKind.TheVariants as io_kind;
 ghost use Rattle.clap.specs.Words.{kind_of};
 ghost use Rattle.clap.specs.declared.error.kind.ErrorKind.TheVariants as kind;
-ghost use Rattle.host_cli.specs.Refused.{RefusesPlan, RefusesRequest, ShowsText, no_acceptance_text, no_both_text, no_format_text, no_id_text, no_ids_text, no_report_text, no_seconds_text, no_session_text};
+ghost use Rattle.host_cli.specs.Refused.{RefusesPlan, RefusesRequest, RefusesWith, ShowsText, no_acceptance_text, no_both_text, no_check_seconds_text, no_format_text, no_id_text, no_ids_text, no_report_text, no_seconds_text, no_session_text};
 ghost use Rattle.program_endings.specs.Ending.{TellsFault};
 ghost use Rattle.offline_programs.specs.declared.fault.RunFault.TheVariants as fault;
 
@@ -118,6 +118,17 @@ pub(crate) fn refuse_plan<E: Write>(why: PlanFault, errors: &mut E) -> Ending
         ),
         PlanFault::OutOfMemory => end_program(Err(RunFault::OutOfMemory), errors),
     }
+}
+
+/// Refuses words of `check` that name no time.
+pub(crate) fn refuse_check_limit<E: Write>(errors: &mut E) -> Ending
+    ensures { RefusesWith no_check_seconds_text E.contents errors.old errors.new result }
+{
+    refuse_with(
+        b"error: this is no time: SECONDS is a number from 1 to 1000000\n\n\
+        For more information, try 'tmhost check --help'.\n",
+        errors,
+    )
 }
 
 /// Ends the program where the words of `check` ask for none.

@@ -2,7 +2,8 @@
 ghost use Rattle.std.specs.Prelude.{◌≡◌, ◌≢◌, [], List, Err, false, map, option_map, string_bytes, true};
 ghost use Rattle.command_words.specs.Asked.{check_view, eval_view, task_view};
 ghost use Rattle.command_words.specs.Asked as asked;
-ghost use Rattle.host_cli.specs.Tasks.{AcceptsAs, BringsOut, ChecksAs, ChecksBy, DoesAsked, DoesBlocks, DoesCheck, DoesCreate, DoesEval, DoesExport, DoesLive, DoesRescue, DoesRun, DoesShow, DoesTask, EndsBy, EvaluatesAs, ExportsAs, LeavesAlone, Performs, RescuesFrom, RescuesTo, outer, voice_by};
+ghost use Rattle.host_cli.specs.Tasks.{AcceptsAs, BringsOut, ChecksAs, ChecksBy, ChecksWithin, DoesAsked, DoesBlocks, DoesCheck, DoesCreate, DoesEval, DoesExport, DoesLive, DoesRescue, DoesRun, DoesShow, DoesTask, EndsBy, EvaluatesAs, ExportsAs, LeavesAlone, Performs, RescuesFrom, RescuesTo, outer, voice_by};
+ghost use Rattle.host_cli.specs.Plans.{limit_asked};
 ghost use Rattle.program_endings.specs.Ending.{TellsFault};
 ghost use Rattle.offline_programs.specs.declared.fault.RunFault.TheVariants as fault;
 ghost use Rattle.recovery.specs.Sheets.{Makes};
@@ -12,10 +13,10 @@ ghost use Rattle.worksheet.specs.declared.op.Op.{Op};
 
 use crate::outlet::Outlet;
 use crate::outside::{Outside, System};
-use crate::plans::read_plan;
-use crate::refusing::{refuse_format, refuse_plan, refuse_request};
+use crate::plans::{read_limit, read_plan};
+use crate::refusing::{refuse_check_limit, refuse_format, refuse_plan, refuse_request};
 use crate::{refuse_unread_words, refuse_words};
-use check_report::{Chosen, Format as Report, Request, read_request};
+use check_report::{Format as Report, Request, read_request};
 use command_words::{CheckWords, EvalWords, Task, read_words};
 use evaluation::Plan;
 use offline_programs::RunFault;
@@ -103,11 +104,11 @@ fn check_as<Y: System>(
 fn accept_as<Y: System>(
     alloc: Global,
     outside: &mut Outside<Y>,
-    chosen: &Chosen,
+    request: &Request,
     path: &str,
 ) -> Ending
     ensures does { AcceptsAs (outer Y.Places.Places Y.Disk.Disk Y.Sources.after
-        Y.Sources.clock Y.Sources.wakes Y.Input.Read Y.Output.Write Y.Output.brought Y.Errors.Write) outside.old outside.new result path.now chosen.now }
+        Y.Sources.clock Y.Sources.wakes Y.Input.Read Y.Output.Write Y.Output.brought Y.Errors.Write) outside.old outside.new result path.now request.now }
     ensures leaves { outside.new.input ≡ outside.old.input }
 {
     match outside.places.hold() {
@@ -115,7 +116,7 @@ fn accept_as<Y: System>(
             let files = outside.places.open(path);
             run_accept(
                 alloc,
-                chosen,
+                request,
                 files,
                 &mut outside.sources,
                 &mut outside.progress,
@@ -139,12 +140,38 @@ fn check_by<Y: System>(
     ensures leaves { outside.new.input ≡ outside.old.input }
 {
     match request.format {
-        Report::Accepting => accept_as(alloc, outside, &request.chosen, path),
+        Report::Accepting => accept_as(alloc, outside, request, path),
         Report::Text | Report::Tap | Report::Junit => check_as(alloc, outside, request, path),
     }
 }
 
-/// `check` of the worksheet at a path, as these words ask for it.
+/// `check` of the worksheet at a path, as these words ask for it, within this limit of time, where there is
+/// one.
+fn check_within<Y: System>(
+    alloc: Global,
+    outside: &mut Outside<Y>,
+    path: &str,
+    words: CheckWords<'_>,
+    limit: Option<u32>,
+) -> Ending
+    ensures does { ChecksWithin (outer Y.Places.Places Y.Disk.Disk Y.Sources.after
+        Y.Sources.clock Y.Sources.wakes Y.Input.Read Y.Output.Write Y.Output.brought Y.Errors.Write) outside.old outside.new result path.now (check_view words.entry) limit }
+    ensures leaves { outside.new.input ≡ outside.old.input }
+{
+    let CheckWords {
+        format,
+        only,
+        leave_out,
+        timeout: _,
+        accept,
+    } = words;
+    match read_request(alloc, format, only, leave_out, accept, limit) {
+        Ok(request) => check_by(alloc, outside, &request, path),
+        Err(why) => refuse_request(why, &mut outside.errors),
+    }
+}
+
+/// `check` of the worksheet at a path, as its words ask for it.
 fn check_at<Y: System>(
     alloc: Global,
     outside: &mut Outside<Y>,
@@ -155,15 +182,9 @@ fn check_at<Y: System>(
         Y.Sources.clock Y.Sources.wakes Y.Input.Read Y.Output.Write Y.Output.brought Y.Errors.Write) outside.old outside.new result path.now (check_view words.entry) }
     ensures leaves { outside.new.input ≡ outside.old.input }
 {
-    let CheckWords {
-        format,
-        only,
-        leave_out,
-        accept,
-    } = words;
-    match read_request(alloc, format, only, leave_out, accept) {
-        Ok(request) => check_by(alloc, outside, &request, path),
-        Err(why) => refuse_request(why, &mut outside.errors),
+    match read_limit(words.timeout) {
+        None => refuse_check_limit(&mut outside.errors),
+        Some(limit) => check_within(alloc, outside, path, words, limit),
     }
 }
 

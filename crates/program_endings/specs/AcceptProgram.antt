@@ -2,8 +2,8 @@
 use Rattle.std.specs.Prelude.{◌≡◌, ◌==◌, ◌&&◌, ℕ, Bool, List, Option, Result, Ok, Err, IfErr, IfOk}
 use Rattle.disk_model.specs.Disk.{DiskView, Rises}
 use Rattle.journal.specs.declared.opening.OpenCause.TheVariants as opens
-use Rattle.child_edge.specs.Faithful.{Relation}
 use Rattle.sheet_check.specs.Accept.{AcceptAnswer}
+use Rattle.sheet_check.specs.Evaluated.{Way}
 use Rattle.check_report.specs.declared.chosen.Chosen.{Chosen}
 use Rattle.check_report.specs.declared.verdict.Counts.{Counts}
 use Rattle.offline_programs.specs.declared.fault.RunFault.{RunFault}
@@ -25,18 +25,18 @@ answer_of_acceptance chosen (Err why) = Err why
 
 -- The check of the worksheet on a disk, from children c to d, what it wrote and accepted, and how the program ends: the status follows
 -- from the counts.
-pub record AcceptDone {D C W E : Type 0} (view : D → DiskView) (R : Relation C) (chosen : Chosen) (disk : D) (c d : C) (written : W → Option (List ℕ)) (a b : W)
+pub record AcceptDone {D C W E : Type 0} (view : D → DiskView) (o : Way C) (chosen : Chosen) (disk : D) (c d : C) (written : W → Option (List ℕ)) (a b : W)
     (said : E → Option (List ℕ)) (old new : E) (ending : Ending) : Type 0 where
   pub later : D
   pub answer : Result Counts RunFault
-  pub accepted : AcceptAnswer R chosen (view disk) (view later) c d (written a) (written b) ((b ≡ a) × (d ≡ c)) answer
+  pub accepted : AcceptAnswer o chosen (view disk) (view later) c d (written a) (written b) ((b ≡ a) × (d ≡ c)) answer
   -- that the disk failed at the opening is reported only where it did
   pub failed : answer ≡ Err (fault.Open opens.Disk) → Rises (view disk).faults (view later).faults
   pub status : ending.status ≡ status_of (answer_of_acceptance chosen answer)
   pub told : TellsFault said old new ending.told (answer_of_acceptance chosen answer)
 
 -- how `check --accept` ends on its files, or on why they weren't opened
-abbrev pub AcceptEnds : {D C W E : Type 0} → (D → DiskView) → Relation C → Chosen → Result D FilesFault → C → C → (W → Option (List ℕ)) → W → W → (E → Option (List ℕ)) → E → E → Ending → Type 0
-AcceptEnds view R chosen files c d written a b said old new ending =
+abbrev pub AcceptEnds : {D C W E : Type 0} → (D → DiskView) → Way C → Chosen → Result D FilesFault → C → C → (W → Option (List ℕ)) → W → W → (E → Option (List ℕ)) → E → E → Ending → Type 0
+AcceptEnds view o chosen files c d written a b said old new ending =
     IfErr files (λ why. (b ≡ a) × (d ≡ c) × (ending.status ≡ 1) × TellsFault said old new ending.told (Err (no_files why)))
-    × IfOk files (λ disk. AcceptDone view R chosen disk c d written a b said old new ending)
+    × IfOk files (λ disk. AcceptDone view o chosen disk c d written a b said old new ending)

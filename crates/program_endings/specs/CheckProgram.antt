@@ -2,8 +2,8 @@
 use Rattle.std.specs.Prelude.{◌≡◌, ◌==◌, ◌&&◌, ℕ, Bool, true, nat_lt, List, Option, Some, None, Result, Ok, Err, IfErr, IfOk}
 use Rattle.disk_model.specs.Disk.{DiskView, Rises}
 use Rattle.journal.specs.declared.opening.OpenCause.TheVariants as opens
-use Rattle.child_edge.specs.Faithful.{Relation}
 use Rattle.sheet_check.specs.Check.{CheckAnswer, OnlyRead}
+use Rattle.sheet_check.specs.Evaluated.{Way}
 use Rattle.check_report.specs.declared.chosen.Chosen.{Chosen}
 use Rattle.check_report.specs.declared.report.Format.{Format}
 use Rattle.check_report.specs.declared.verdict.Counts.{Counts}
@@ -37,11 +37,11 @@ answer_of_check chosen (Err why) = Err why
 
 -- The check of the worksheet on a disk, from children c to d, what it wrote, and how the program ends: the status follows from the
 -- counts.
-pub record CheckDone {D C W E : Type 0} (view : D → DiskView) (R : Relation C) (chosen : Chosen) (F : Format) (disk : D) (c d : C) (written : W → Option (List ℕ)) (a b : W)
+pub record CheckDone {D C W E : Type 0} (view : D → DiskView) (o : Way C) (chosen : Chosen) (F : Format) (disk : D) (c d : C) (written : W → Option (List ℕ)) (a b : W)
     (said : E → Option (List ℕ)) (old new : E) (ending : Ending) : Type 0 where
   pub later : D
   pub answer : Result Counts RunFault
-  pub checked : CheckAnswer R chosen F (view disk) c d (written a) (written b) ((b ≡ a) × (d ≡ c)) answer
+  pub checked : CheckAnswer o chosen F (view disk) c d (written a) (written b) ((b ≡ a) × (d ≡ c)) answer
   pub read : OnlyRead (view disk) (view later)
   -- that the disk failed is reported only where it did
   pub failed : answer ≡ Err (fault.Open opens.Disk) → Rises (view disk).faults (view later).faults
@@ -49,7 +49,7 @@ pub record CheckDone {D C W E : Type 0} (view : D → DiskView) (R : Relation C)
   pub told : TellsFault said old new ending.told (answer_of_check chosen answer)
 
 -- how `check` ends on its files, or on why they weren't opened
-abbrev pub CheckEnds : {D C W E : Type 0} → (D → DiskView) → Relation C → Chosen → Format → Result D FilesFault → C → C → (W → Option (List ℕ)) → W → W → (E → Option (List ℕ)) → E → E → Ending → Type 0
-CheckEnds view R chosen F files c d written a b said old new ending =
+abbrev pub CheckEnds : {D C W E : Type 0} → (D → DiskView) → Way C → Chosen → Format → Result D FilesFault → C → C → (W → Option (List ℕ)) → W → W → (E → Option (List ℕ)) → E → E → Ending → Type 0
+CheckEnds view o chosen F files c d written a b said old new ending =
     IfErr files (λ why. (b ≡ a) × (d ≡ c) × (ending.status ≡ 1) × TellsFault said old new ending.told (Err (no_files why)))
-    × IfOk files (λ disk. CheckDone view R chosen F disk c d written a b said old new ending)
+    × IfOk files (λ disk. CheckDone view o chosen F disk c d written a b said old new ending)

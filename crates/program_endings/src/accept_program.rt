@@ -2,14 +2,15 @@
 ghost use Rattle.std.specs.Prelude.{◌≡◌, Result};
 ghost use Rattle.check_report.specs.declared.verdict.Counts.{Counts};
 ghost use Rattle.offline_programs.specs.declared.fault.RunFault.{RunFault};
+ghost use Rattle.sheet_check.specs.Evaluated.{way};
 ghost use Rattle.program_endings.specs.Ending.{TellsFault, status_of};
 ghost use Rattle.program_endings.specs.AcceptProgram.{AcceptDone, AcceptEnds, accepts_all, answer_of_acceptance};
 
 use crate::check_program::found_any;
 use crate::telling::no_files;
 use crate::{Ending, end_program};
-use check_report::{Chosen, Counts};
-use child_calls::Children;
+use arrivals::Sources;
+use check_report::{Chosen, Counts, Request};
 use disk_model::Disk;
 use offline_programs::RunFault;
 use sheet_check::{Checked, Progress, check_accepting};
@@ -41,41 +42,43 @@ fn end_acceptance<E: Write>(
 }
 
 /// Checks the worksheet on a disk and accepts what differs, and drops the disk at the end.
-fn accept_on<D: Disk, C: Children, P: Progress, W: Write, E: Write>(
+fn accept_on<D: Disk, C: Sources, P: Progress, W: Write, E: Write>(
     alloc: Global,
-    chosen: &Chosen,
+    request: &Request,
     disk: D,
-    children: &mut C,
+    sources: &mut C,
     progress: &mut P,
     output: &mut W,
     errors: &mut E,
 ) -> Ending
-    ensures { AcceptDone D.view C.after chosen.now disk children.old children.new W.contents output.old output.new
+    ensures { AcceptDone D.view (way C.after C.clock C.wakes request.now.limit)
+        request.now.chosen disk sources.old sources.new W.contents output.old output.new
         E.contents errors.old errors.new result }
 {
     let Checked { disk: _, answer } = check_accepting(
-        alloc, chosen, disk, children, progress, output,
+        alloc, request, disk, sources, progress, output,
     );
-    end_acceptance(chosen, answer, errors)
+    end_acceptance(&request.chosen, answer, errors)
 }
 
 /// The whole program `check --accept` on its files, which are opened to write, or on why they weren't
 /// opened: the report goes to `output`, each part flushed once what it tells is on the disk, and the
 /// line of a fault to `errors`. `progress` shows how far it is, and nothing at its end.
-pub fn run_accept<D: Disk, C: Children, P: Progress, W: Write, E: Write>(
+pub fn run_accept<D: Disk, C: Sources, P: Progress, W: Write, E: Write>(
     alloc: Global,
-    chosen: &Chosen,
+    request: &Request,
     files: Result<D, FilesFault>,
-    children: &mut C,
+    sources: &mut C,
     progress: &mut P,
     output: &mut W,
     errors: &mut E,
 ) -> Ending
-    ensures { AcceptEnds D.view C.after chosen.now files children.old children.new W.contents output.old output.new
+    ensures { AcceptEnds D.view (way C.after C.clock C.wakes request.now.limit)
+        request.now.chosen files sources.old sources.new W.contents output.old output.new
         E.contents errors.old errors.new result }
 {
     match files {
-        Ok(disk) => accept_on(alloc, chosen, disk, children, progress, output, errors),
+        Ok(disk) => accept_on(alloc, request, disk, sources, progress, output, errors),
         Err(why) => end_program(Err(no_files(why)), errors),
     }
 }

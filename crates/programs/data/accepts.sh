@@ -58,6 +58,11 @@ for format in tap junit; do
 done
 compare 'words that accept nothing' "$(cat sent 2>/dev/null)" ''
 
+# An answer that came after its time is none, and isn't accepted.
+made "$l"'new 0 l differs\nnew 1 l late\nnew 2 l y\neval 1\neval 2\neval 3\nwait\n'
+accepts 'one that was over' 1 '#1 l\n> differs\n- differs\n+ another\naccepted 1\n#2 l\n> late\n- late\n+ ?\nsame 1 accepted 1 unanswered 1\n' \
+    '#1 l\n> differs\nanother\n#2 l\n> late\nlate\n#3 l\n> y\ny\n' --timeout 2
+
 # What was told is on the disk, also where it is killed; where the output can't be written, one more.
 made "$a"'new 0 a differs\nnew 1 a kills\neval 1\neval 2\nwait\n'
 (exec "$tmhost" check --accept sheet >text 2>errors) 2>/dev/null

@@ -228,6 +228,9 @@ reports 'the name of no session' 2 "error: no session can have this name: NAME i
 for ids in '' , 1, 1,,2 x 3-1 1- -1 01 1-2-3 4294967296 '1, 2'; do
     reports "no fields: $ids" 2 "error: these are no fields: IDS are numbers and ranges of them, as 3,7-9$help" "--leave-out=$ids"
 done
+for seconds in 0 1000001 x '' 1.5; do
+    reports "no time: $seconds" 2 "error: this is no time: SECONDS is a number from 1 to 1000000$help" --timeout "$seconds"
+done
 compare 'words that ask for no check' "$(cat sent 2>/dev/null)" ''
 
 # In JUnit's XML: outputs that look like tags are texts, and what XML can't have is replaced.
@@ -245,6 +248,40 @@ compare 'cases, read' "$(python3 cases.py report 2>&1; cat errors)" "$(cat <<'EN
 ('a', 'field 5', [('skipped', 'left out', None)])
 END_OF_CASES
 )"
+
+# Limits of time. An interpreter that answers each line with it while there is no file `again`. Then it loops at `loop` and `late` until
+# it is interrupted (`env`: also where this script was started with the signal ignored), and answers the first as ever; at `deaf` it loops
+# for ever.
+cat >loops.sh <<'END_OF_CHILD'
+trap 'over=1' INT
+echo $$ >>lives
+echo start >>sent
+printf '\002verbatim:\005'
+while IFS= read -r line; do
+    echo "send $line" >>sent
+    over=
+    if [ -e again ]; then
+        case $line in
+            loop) while [ -z "$over" ]; do sleep 0.05; done ;;
+            late) while [ -z "$over" ]; do sleep 0.05; done; line=interrupted ;;
+            deaf) trap '' INT; while :; do sleep 0.05; done ;;
+            differs) line=another ;;
+        esac
+    fi
+    printf '\002verbatim:%s\005' "$line"
+done
+END_OF_CHILD
+l='session l plain env --default-signal=INT sh loops.sh\n'
+made "$l"'new 0 l x\nnew 1 l loop\nnew 2 l y\neval 1\neval 2\neval 3\nwait\n'
+reports 'an answer after its time is none' 1 '#2 l\n> loop\n- loop\n+ ?\nsame 2 differ 0 unanswered 1\n' --timeout 2
+sent 'an answer after its time is none' 'start\nsend x\nsend loop\nsend y'
+reports 'the same as TAP' 1 'TAP version 13\nok 1 - field 1 of l\nnot ok 2 - field 2 of l\n# #2 l\n# > loop\n# - loop\n# + ?\nok 3 - field 3 of l\n1..3\n' --timeout 2 --format tap
+reports 'the same left out' 0 'same 2 differ 0 unanswered 0 left out 1\n' --timeout 2 --leave-out 2
+made "$l"'session a plain sh suite.sh a\nnew 0 l deaf\nnew 1 l y\nnew 2 a differs\neval 1\neval 2\neval 3\nwait\n'
+reports 'one that hears no interrupt' 1 '#1 l\n> deaf\n- deaf\n+ ?\n#3 a\na] differs\n- differs\n+ another\nsame 1 differ 1 unanswered 1\n' --timeout 2
+sent 'one that hears no interrupt' 'start\nsend deaf\nstart\nsend y\nstart a\nsend a differs'
+ended 'one that hears no interrupt' 3
+reports 'one session within its time' 1 '#3 a\na] differs\n- differs\n+ another\nsame 0 differ 1 unanswered 0\n' --timeout 1000000 --only a
 
 # A report that is cut off has no plan, and isn't well-formed.
 made "$a"'new 0 a x\nnew 1 a kills\neval 1\neval 2\nwait\n'

@@ -1,5 +1,5 @@
--- Fields that are checked one behind another, where what differs is accepted.
-use Rattle.std.proofs.Common.{◌≡◌, ◌+◌, ℕ, List, [], ◌∷◌, ◌++◌, Bool, true, false, Option, Some, None, map, refl, ap, sym, ◌∙◌, subst, append_assoc, append-nil, arith}
+-- Fields that are checked one after another, where what differs is accepted.
+use Rattle.std.proofs.Common.{◌≡◌, ◌+◌, inl, inr, ℕ, List, [], ◌∷◌, ◌++◌, Bool, true, false, Option, Some, None, map, refl, ap, sym, ◌∙◌, subst, append_assoc, append-nil, arith}
 use Rattle.std.specs.Prelude.{◌==◌, is_some, cond}
 use Rattle.std.specs.List.{AllByRecursion}
 use Rattle.std.specs.Option.{option_map_or}
@@ -22,7 +22,7 @@ use Rattle.acceptance.specs.declared.accepting.AcceptFault.TheVariants as refuse
 use Rattle.host_events.specs.declared.outcome.HostFault.TheVariants as hosts
 use Rattle.session_engine.specs.World.{World}
 use Rattle.session_engine.specs.Host.{HostView, IsHost}
-use Rattle.child_edge.specs.Faithful.{Relation, At, at}
+use Rattle.child_edge.specs.Faithful.{At, at}
 use Rattle.offline_programs.specs.declared.fault.RunFault.{RunFault}
 use Rattle.offline_programs.specs.declared.fault.RunFault.TheVariants as fault
 use Rattle.check_report.specs.declared.chosen.Chosen.{Chosen}
@@ -33,12 +33,11 @@ use Rattle.check_report.specs.declared.verdict.Verdict.TheVariants as verdict
 use Rattle.check_report.specs.Chosen.{shown_by}
 use Rattle.check_report.specs.Reports.{Case, case, case_text, cases_text, report_front, verdicts_of}
 use Rattle.check_report.specs.Verdicts.{counts_of, total}
-use Rattle.sheet_text.specs.declared.script.ScriptLine.{ScriptLine}
-use Rattle.sheet_check.specs.Evaluated.{Evaluated, FieldsChecked, came_if, checked, passed, shown_in}
+use Rattle.sheet_check.specs.Evaluated.{Evaluated, FieldsChecked, Way, came_if, checked, passed, shown_in}
 use Rattle.sheet_check.specs.declared.accepting.Finding.{Finding}
 use Rattle.sheet_check.specs.Accept.{accepted, accepted_answer, accepted_of, answer_ops}
 use Rattle.sheet_check.specs.inside.Accepting.{FieldBroke, FieldLast, FieldTook, FieldsBroke, FieldsTook, FieldsUpTo, Finds, GoesOn, NotPut, NotTaken, ShownTook, broken, early, fault_of_acceptance, full, unwritten}
-use Rattle.sheet_check.specs.inside.Checking.{FieldFailed, FirstFailed, PartFailed, counted_on}
+use Rattle.sheet_check.specs.inside.Checking.{AskFailed, EvaluationBroke, FieldFailed, FirstFailed, WaitBroke, counted_on}
 use Rattle.sheet_check.proofs.Counting.{cases-more, front-more}
 use Rattle.sheet_check.proofs.Fields.{FieldsSoFar, fields-more, leaves-on}
 
@@ -119,25 +118,26 @@ not_taken ops more disk ones new a refused.Full p = (p.0, p.1, p.2, p.3, refl)
 not_taken ops more disk ones new a refused.OutOfMemory p = (p, refl)
 not_taken ops more disk ones new a refused.Disk p = (p.0, p.1, p.2, refl)
 
-part-told : {C : Type 0} (R : Relation C) (l : Option ScriptLine) (s : At C) (h : HostView) (c : C) (why : RunFault) → PartFailed R l s h c why → why ≡ fault.Output → ⊥
-part-told R l s h c why p e = subst (PartFailed R l s h c) e p
+evaluation-told : {C : Type 0} (o : Way C) (id : ℕ) (s : At C) (h : HostView) (c : C) (why : RunFault) → EvaluationBroke o id s h c why → why ≡ fault.Output → ⊥
+evaluation-told o id s h c why (inl p) e = subst (AskFailed o.after id s h c) e p
+evaluation-told o id s h c why (inr p) e = subst (WaitBroke o id p.1 h c) e p.3
 
-module _ {C : Type 0} (R : Relation C) (chosen : Chosen) (field : Field) (s : At C) (h : HostView) (c : C) (a : Option (List ℕ)) (ops more : List Op) (disk : DiskView) (store : StoreView) where
+module _ {C : Type 0} (o : Way C) (chosen : Chosen) (field : Field) (s : At C) (h : HostView) (c : C) (a : Option (List ℕ)) (ops more : List Op) (disk : DiskView) (store : StoreView) where
   -- the evaluation broke off
-  pub part_broke : (l : Option ScriptLine) (x : At C) (why : RunFault) → PartFailed R l x h c why → FieldFailed R chosen field s h c a a why → Stores ops more disk store → FieldBroke R chosen field s h c a a ops more disk store why
-  part_broke l x why part failed stores = early failed (part-told R l x h c why part) stores
+  pub evaluation_broke : (why : RunFault) → EvaluationBroke o field.id s h c why → FieldFailed o chosen field s h c a a why → Stores ops more disk store → FieldBroke o chosen field s h c a a ops more disk store why
+  evaluation_broke why broke failed stores = early failed (evaluation-told o field.id s h c why broke) stores
 
   -- there was no memory for what came
-  pub memory_broke : FieldFailed R chosen field s h c a a fault.OutOfMemory → Stores ops more disk store → FieldBroke R chosen field s h c a a ops more disk store fault.OutOfMemory
+  pub memory_broke : FieldFailed o chosen field s h c a a fault.OutOfMemory → Stores ops more disk store → FieldBroke o chosen field s h c a a ops more disk store fault.OutOfMemory
   memory_broke failed stores = early failed (λ e. let no : fault.OutOfMemory ≡ fault.Output = e in cc) stores
 
-  -- what came wasn't accepted, or not told
-  pub take_broke : (last : Case) (ones : List Op) (b : Option (List ℕ)) (why : RunFault) → FieldFailed R chosen field s h c a a fault.OutOfMemory → FieldLast R chosen field s h c last → ones ≡ accepted_of last
-      → NotTaken ops more disk ones store a b why → FieldBroke R chosen field s h c a b ops more disk store why
+  -- what came wasn't accepted, or not reported
+  pub take_broke : (last : Case) (ones : List Op) (b : Option (List ℕ)) (why : RunFault) → FieldFailed o chosen field s h c a a fault.OutOfMemory → FieldLast o chosen field s h c last → ones ≡ accepted_of last
+      → NotTaken ops more disk ones store a b why → FieldBroke o chosen field s h c a b ops more disk store why
   take_broke last ones b (fault.Host hosts.JournalFull) failed came is p = full last p.0 refl came (sym is ∙ p.1) p.4 p.2 p.3
   take_broke last ones b (fault.Host hosts.Disk) failed came is p = broken last p.0 refl came (sym is ∙ p.1) p.3 p.2
   take_broke last ones b fault.OutOfMemory failed came is p =
-      subst (λ (b : Option (List ℕ)). FieldBroke R chosen field s h c a b ops more disk store fault.OutOfMemory) (sym p.1) (memory_broke failed p.0)
+      subst (λ (b : Option (List ℕ)). FieldBroke o chosen field s h c a b ops more disk store fault.OutOfMemory) (sym p.1) (memory_broke failed p.0)
   take_broke last ones b fault.Output failed came is p = unwritten last refl came (subst (λ (os : List Op). Stores ops (more ++ os) disk store) is p)
   take_broke last ones b (fault.Host hosts.OutOfMemory) failed came is p = absurd p
   take_broke last ones b (fault.Host hosts.Closed) failed came is p = absurd p
@@ -148,24 +148,24 @@ module _ {C : Type 0} (R : Relation C) (chosen : Chosen) (field : Field) (s : At
 
 -- A field.
 
-pub shown_took : {C : Type 0} (R : Relation C) (chosen : Chosen) (field : Field) (shown : Answer) (s : At C) (h : HostView) (c : C) (a b : Option (List ℕ)) (ops more : List Op) (disk : DiskView) (store : StoreView)
-    (came : Option Answer) (t : World) (found : Finding) (v : Verdict) → Evaluated R field.id s came (at t c h.store.disk) → IsHost h t → Finds chosen field shown came found → v ≡ found.verdict
-    → Stores ops (more ++ answer_ops field.id found.answer) disk store → Appends a b found.text.items → ShownTook R chosen field shown s h c a b (λ took. Stores ops (more ++ took) disk store) v
-shown_took R chosen field shown s h c a b ops more disk store came t found v evaluated stands f is stores wrote =
-    subst (ShownTook R chosen field shown s h c a b (λ took. Stores ops (more ++ took) disk store)) (sym is) (
+pub shown_took : {C : Type 0} (o : Way C) (chosen : Chosen) (field : Field) (shown : Answer) (s : At C) (h : HostView) (c : C) (a b : Option (List ℕ)) (ops more : List Op) (disk : DiskView) (store : StoreView)
+    (came : Option Answer) (t : World) (found : Finding) (v : Verdict) → Evaluated o field.id s came (at t c h.store.disk) → IsHost h t → Finds chosen field shown came found → v ≡ found.verdict
+    → Stores ops (more ++ answer_ops field.id found.answer) disk store → Appends a b found.text.items → ShownTook o chosen field shown s h c a b (λ took. Stores ops (more ++ took) disk store) v
+shown_took o chosen field shown s h c a b ops more disk store came t found v evaluated stands f is stores wrote =
+    subst (ShownTook o chosen field shown s h c a b (λ took. Stores ops (more ++ took) disk store)) (sym is) (
       (came, t, evaluated, stands, f.judged, subst (Appends a b) f.told wrote),
-      subst (λ (o : Option Answer). Stores ops (more ++ answer_ops field.id o) disk store) f.taken stores,
+      subst (λ (x : Option Answer). Stores ops (more ++ answer_ops field.id x) disk store) f.taken stores,
     )
 
-pub passed_took : {C : Type 0} (R : Relation C) (chosen : Chosen) (field : Field) (w : World) (h : HostView) (c : C) (a : Option (List ℕ)) (ops more : List Op) (disk : DiskView) (store : StoreView) (counts : Counts)
-    → shown_by chosen field ≡ None → IsHost h w → Stores ops more disk store → FieldTook R chosen field (at w c h.store.disk) h c a a (λ took. Stores ops (more ++ took) disk store) counts counts
-passed_took R chosen field w h c a ops more disk store counts none stands stores =
+pub passed_took : {C : Type 0} (o : Way C) (chosen : Chosen) (field : Field) (w : World) (h : HostView) (c : C) (a : Option (List ℕ)) (ops more : List Op) (disk : DiskView) (store : StoreView) (counts : Counts)
+    → shown_by chosen field ≡ None → IsHost h w → Stores ops more disk store → FieldTook o chosen field (at w c h.store.disk) h c a a (λ took. Stores ops (more ++ took) disk store) counts counts
+passed_took o chosen field w h c a ops more disk store counts none stands stores =
     (([], w, passed none, stands, refl, Appends-nil a), subst (λ (os : List Op). Stores ops os disk store) (sym (append-nil more)) stores)
 
-pub checked_took : {C : Type 0} (R : Relation C) (chosen : Chosen) (field : Field) (shown : Answer) (s : At C) (h : HostView) (c : C) (a b : Option (List ℕ)) (ops more : List Op) (disk : DiskView) (store : StoreView)
-    (counts after : Counts) (v : Verdict) → shown_by chosen field ≡ Some shown → ShownTook R chosen field shown s h c a b (λ took. Stores ops (more ++ took) disk store) v → after ≡ counted_on (v ∷ []) counts
-    → FieldTook R chosen field s h c a b (λ took. Stores ops (more ++ took) disk store) counts after
-checked_took R chosen field shown s h c a b ops more disk store counts after v some p is =
+pub checked_took : {C : Type 0} (o : Way C) (chosen : Chosen) (field : Field) (shown : Answer) (s : At C) (h : HostView) (c : C) (a b : Option (List ℕ)) (ops more : List Op) (disk : DiskView) (store : StoreView)
+    (counts after : Counts) (v : Verdict) → shown_by chosen field ≡ Some shown → ShownTook o chosen field shown s h c a b (λ took. Stores ops (more ++ took) disk store) v → after ≡ counted_on (v ∷ []) counts
+    → FieldTook o chosen field s h c a b (λ took. Stores ops (more ++ took) disk store) counts after
+checked_took o chosen field shown s h c a b ops more disk store counts after v some p is =
     let q = p.0 in
     let one = case field q.0 v in (
       (one ∷ [], q.1, checked shown q.0 v (at q.1 c h.store.disk) some q.2 q.4, q.3, is, subst (Appends a b) (sym (append-nil (case_text format.Accepting 0 one))) q.5),
@@ -175,13 +175,13 @@ checked_took R chosen field shown s h c a b ops more disk store counts after v s
 -- Fields.
 
 -- some of the first fields were checked and what differs of them accepted, and these are left
-pub record TookSoFar {C : Type 0} (R : Relation C) (chosen : Chosen) (all left : List Field) (s : At C) (h : HostView) (c : C) (a b : Option (List ℕ)) (ops : List Op) (disk : DiskView) (store : StoreView) (counts : Counts) : Type 0 where
-  pub so : FieldsSoFar R chosen format.Accepting all left s h c a b counts
+pub record TookSoFar {C : Type 0} (o : Way C) (chosen : Chosen) (all left : List Field) (s : At C) (h : HostView) (c : C) (a b : Option (List ℕ)) (ops : List Op) (disk : DiskView) (store : StoreView) (counts : Counts) : Type 0 where
+  pub so : FieldsSoFar o chosen format.Accepting all left s h c a b counts
   pub kept : Stores ops (accepted so.cases) disk store
 
-pub none_took : {C : Type 0} (R : Relation C) (chosen : Chosen) (all left : List Field) (w : World) (h : HostView) (c : C) (a : Option (List ℕ)) (ops : List Op) (disk : DiskView) (store : StoreView) (counts : Counts) → left ≡ all → counts ≡ counts_of [] → IsHost h w
-    → Stores ops [] disk store → TookSoFar R chosen all left (at w c h.store.disk) h c a a ops disk store counts
-none_took R chosen all left w h c a ops disk store counts e is stands stores = record {
+pub none_took : {C : Type 0} (o : Way C) (chosen : Chosen) (all left : List Field) (w : World) (h : HostView) (c : C) (a : Option (List ℕ)) (ops : List Op) (disk : DiskView) (store : StoreView) (counts : Counts) → left ≡ all → counts ≡ counts_of [] → IsHost h w
+    → Stores ops [] disk store → TookSoFar o chosen all left (at w c h.store.disk) h c a a ops disk store counts
+none_took o chosen all left w h c a ops disk store counts e is stands stores = record {
   so = record { gone = []; cases = []; leads = w; split = sym e; ran = (refl, refl); stands = stands; counted = is; wrote = Appends-nil a };
   kept = stores;
 }
@@ -198,16 +198,16 @@ goes_further sheet store new on cases stores = record {
   stores = subst (λ (os : List Op). Stores on.ops os on.disk new) (accepted-more on.cases cases) stores;
 }
 
-module _ {C : Type 0} (R : Relation C) (chosen : Chosen) (all left : List Field) (field : Field) (others : List Field) (s : At C) (h : HostView) (c : C) (a b : Option (List ℕ)) (ops : List Op) (disk : DiskView) (store : StoreView)
-    (counts : Counts) (g : HostView) (d : C) (e : Option (List ℕ)) (new : StoreView) (is : left ≡ field ∷ others) (taken : TookSoFar R chosen all left s h c a b ops disk store counts) where
-  so : FieldsSoFar R chosen format.Accepting all left s h c a b counts
+module _ {C : Type 0} (o : Way C) (chosen : Chosen) (all left : List Field) (field : Field) (others : List Field) (s : At C) (h : HostView) (c : C) (a b : Option (List ℕ)) (ops : List Op) (disk : DiskView) (store : StoreView)
+    (counts : Counts) (g : HostView) (d : C) (e : Option (List ℕ)) (new : StoreView) (is : left ≡ field ∷ others) (taken : TookSoFar o chosen all left s h c a b ops disk store counts) where
+  so : FieldsSoFar o chosen format.Accepting all left s h c a b counts
   so = taken.so
 
   split-on : all ≡ (taken.so.gone ++ field ∷ []) ++ others
   split-on = taken.so.split ∙ ap (λ x. taken.so.gone ++ x) is ∙ sym (append_assoc taken.so.gone (field ∷ []) others)
 
-  pub one_took : (after : Counts) → FieldTook R chosen field (at taken.so.leads c h.store.disk) g d b e (λ took. Stores ops (accepted taken.so.cases ++ took) disk new) counts after
-      → TookSoFar R chosen all others s g d a e ops disk new after
+  pub one_took : (after : Counts) → FieldTook o chosen field (at taken.so.leads c h.store.disk) g d b e (λ took. Stores ops (accepted taken.so.cases ++ took) disk new) counts after
+      → TookSoFar o chosen all others s g d a e ops disk new after
   one_took after q =
       let p = q.0 in
       record {
@@ -216,7 +216,7 @@ module _ {C : Type 0} (R : Relation C) (chosen : Chosen) (all left : List Field)
           cases = taken.so.cases ++ p.0;
           leads = p.1;
           split = split-on;
-          ran = fields-more R chosen taken.so.gone field s taken.so.cases (at taken.so.leads c h.store.disk) p.0 (at p.1 d g.store.disk) taken.so.ran p.2;
+          ran = fields-more o chosen taken.so.gone field s taken.so.cases (at taken.so.leads c h.store.disk) p.0 (at p.1 d g.store.disk) taken.so.ran p.2;
           stands = p.3;
           counted = p.4 ∙ ap (λ x. counted_on (verdicts_of p.0) x) taken.so.counted ∙ sym (cases-more taken.so.cases p.0);
           wrote = subst (Appends a e) (sym (front-more format.Accepting taken.so.cases p.0 counts taken.so.counted))
@@ -225,20 +225,20 @@ module _ {C : Type 0} (R : Relation C) (chosen : Chosen) (all left : List Field)
         kept = subst (λ (os : List Op). Stores ops os disk new) (accepted-more taken.so.cases p.0) q.1;
       }
 
-  up-to : (last : Case) → FieldLast R chosen field (at taken.so.leads c h.store.disk) g d last → FieldsUpTo R chosen all s g d (taken.so.cases ++ last ∷ [])
+  up-to : (last : Case) → FieldLast o chosen field (at taken.so.leads c h.store.disk) g d last → FieldsUpTo o chosen all s g d (taken.so.cases ++ last ∷ [])
   up-to last p = record {
     gone = taken.so.gone ++ field ∷ [];
     left = others;
     split = split-on;
     leads = p.0;
-    checked = fields-more R chosen taken.so.gone field s taken.so.cases (at taken.so.leads c h.store.disk) (last ∷ []) (at p.0 d g.store.disk) taken.so.ran p.1;
+    checked = fields-more o chosen taken.so.gone field s taken.so.cases (at taken.so.leads c h.store.disk) (last ∷ []) (at p.0 d g.store.disk) taken.so.ran p.1;
     stands = p.2;
   }
 
   told-so : e ≡ b → Appends a e (report_front format.Accepting taken.so.cases)
   told-so same = subst (λ (x : Option (List ℕ)). Appends a x (report_front format.Accepting taken.so.cases)) (sym same) taken.so.wrote
 
-  pub one_broke : (why : RunFault) → FieldBroke R chosen field (at taken.so.leads c h.store.disk) g d b e ops (accepted taken.so.cases) disk new why → FieldsBroke R chosen all s g d a e ops disk new why
+  pub one_broke : (why : RunFault) → FieldBroke o chosen field (at taken.so.leads c h.store.disk) g d b e ops (accepted taken.so.cases) disk new why → FieldsBroke o chosen all s g d a e ops disk new why
   one_broke why (early failed untold stores) = early
       (record {
         gone = taken.so.gone;
@@ -247,8 +247,8 @@ module _ {C : Type 0} (R : Relation C) (chosen : Chosen) (all left : List Field)
         cases = taken.so.cases;
         mid = at taken.so.leads c h.store.disk;
         checked = taken.so.ran;
-        failed = subst (λ x. FirstFailed R chosen x (at taken.so.leads c h.store.disk) g d why) (sym is) (failed.0 others);
-        wrote = leaves-on R chosen format.Accepting all left field others s h c a b counts g d e is taken.so why failed.1;
+        failed = subst (λ x. FirstFailed o chosen x (at taken.so.leads c h.store.disk) g d why) (sym is) (failed.0 others);
+        wrote = leaves-on o chosen format.Accepting all left field others s h c a b counts g d e is taken.so why failed.1;
       })
       untold stores
   one_broke why (full last one is-full came taken-is same stores place) = full taken.so.cases last one is-full (up-to last came) taken-is (told-so same) stores place
@@ -256,10 +256,10 @@ module _ {C : Type 0} (R : Relation C) (chosen : Chosen) (all left : List Field)
   one_broke why (unwritten last is-output came stores) = unwritten (taken.so.cases ++ last ∷ []) is-output (up-to last came)
       (subst (λ (os : List Op). Stores ops os disk new) (ap (λ (os : List Op). accepted taken.so.cases ++ os) (sym (append-nil (accepted_of last))) ∙ accepted-more taken.so.cases (last ∷ [])) stores)
 
-pub all_took : {C : Type 0} (R : Relation C) (chosen : Chosen) (all left : List Field) (s : At C) (h : HostView) (c : C) (a b : Option (List ℕ)) (ops : List Op) (disk : DiskView) (store : StoreView) (counts : Counts) → left ≡ []
-    → TookSoFar R chosen all left s h c a b ops disk store counts → FieldsTook R chosen all s h c a b (λ took. Stores ops took disk store) counts
-all_took R chosen all left s h c a b ops disk store counts e taken =
+pub all_took : {C : Type 0} (o : Way C) (chosen : Chosen) (all left : List Field) (s : At C) (h : HostView) (c : C) (a b : Option (List ℕ)) (ops : List Op) (disk : DiskView) (store : StoreView) (counts : Counts) → left ≡ []
+    → TookSoFar o chosen all left s h c a b ops disk store counts → FieldsTook o chosen all s h c a b (λ took. Stores ops took disk store) counts
+all_took o chosen all left s h c a b ops disk store counts e taken =
     let same : taken.so.gone ≡ all = sym (taken.so.split ∙ ap (λ x. taken.so.gone ++ x) e ∙ append-nil taken.so.gone) in (
-      (taken.so.cases, taken.so.leads, subst (λ fs. FieldsChecked R chosen fs s taken.so.cases (at taken.so.leads c h.store.disk)) same taken.so.ran, taken.so.stands, taken.so.counted, taken.so.wrote),
+      (taken.so.cases, taken.so.leads, subst (λ fs. FieldsChecked o chosen fs s taken.so.cases (at taken.so.leads c h.store.disk)) same taken.so.ran, taken.so.stands, taken.so.counted, taken.so.wrote),
       taken.kept,
     )

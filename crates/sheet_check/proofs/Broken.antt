@@ -1,4 +1,4 @@
--- An `eval` and a `wait` that broke off.
+-- An `eval` and a wait for its answer that broke off.
 use Rattle.std.proofs.Common.{inl, inr, ℕ, List, None, Some, refl}
 use Rattle.session_engine.specs.World.{World}
 use Rattle.session_engine.specs.Host.{HostView, IsHost}
@@ -12,24 +12,44 @@ use Rattle.child_edge.specs.Faithful.{Relation, At, at}
 use Rattle.child_edge.specs.Broken.{WaitSoFar, WaitStopped}
 use Rattle.child_edge.specs.Edge.{ByCause}
 use Rattle.child_edge.specs.Moments.{BrokeFrom, RanFrom}
-use Rattle.sheet_text.specs.declared.script.ScriptLine.TheVariants as said
+use Rattle.offline_programs.specs.declared.fault.RunFault.{RunFault}
 use Rattle.offline_programs.specs.declared.fault.RunFault.TheVariants as fault
 use Rattle.sheet_programs.specs.Lines.{up_to, so_far}
 use Rattle.sheet_programs.proofs.Commands.{CommandBroke, command_broke_unwritten}
-use Rattle.sheet_check.specs.inside.Checking.{PartFailed, fault_of_cause}
+use Rattle.live.specs.Arrivals.{Watch}
+use Rattle.live.specs.Saying.{Clock}
+use Rattle.evaluation.specs.Within.{WaitFailed, waiting}
+use Rattle.evaluation.proofs.Waits.{up_to_led}
+use Rattle.sheet_check.specs.Evaluated.{way}
+use Rattle.sheet_check.specs.inside.Checking.{AskFailed, WaitBroke, fault_of_cause, fault_on_copy}
 
 module _ {C : Type 0} (R : Relation C) (id : ℕ) (w : World) (h g : HostView) (c d : C) (replies : List Reply) (stands : IsHost h w) where
-  pub eval_broke : (why : EdgeCause) → CommandBroke R (command.Eval id) w h g c d replies why → PartFailed R (Some (said.Command (command.Eval id))) (at w c h.store.disk) g d (fault_of_cause why)
+  pub eval_broke : (why : EdgeCause) → CommandBroke R (command.Eval id) w h g c d replies why → AskFailed R id (at w c h.store.disk) g d (fault_of_cause why)
   eval_broke (cause.Host hosts.Disk) q = (q.broke.leads, q.broke.disk, up_to q.broke.beats q.broke.failed q.broke.form, inr (q.broke.failed, hosts.Disk, q.broke.stopped))
   eval_broke (cause.Host hosts.OutOfMemory) q = (q.broke.beats, q.broke.failed, q.broke.leads, q.broke.disk, q.broke.form, q.broke.stopped, tt)
   eval_broke (cause.Host hosts.JournalFull) q = (q.broke.beats, q.broke.failed, q.broke.leads, q.broke.disk, q.broke.form, q.broke.stopped, tt)
   eval_broke (cause.Host hosts.Closed) q = (q.broke.beats, q.broke.failed, q.broke.leads, q.broke.disk, q.broke.form, q.broke.stopped, tt)
   eval_broke cause.OutOfMemory q = command_broke_unwritten R (command.Eval id) w h g c d replies None None cause.OutOfMemory fault.Output stands q refl
 
-pub wait_broke : {C : Type 0} (R : Relation C) (s : At C) (g : HostView) (d : C) (replies : List Reply) (why : EdgeCause)
-    → ByCause why (BrokeFrom s (WaitStopped R most_turns) g d replies) (RanFrom s (WaitSoFar R most_turns) g d replies) → PartFailed R (Some said.Wait) s g d (fault_of_cause why)
-wait_broke R s g d replies (cause.Host hosts.Disk) q = (q.broke.leads, q.broke.disk, up_to q.broke.beats q.broke.failed q.broke.form, inr (q.broke.failed, hosts.Disk, q.broke.stopped))
-wait_broke R s g d replies (cause.Host hosts.OutOfMemory) q = (q.broke.beats, q.broke.failed, q.broke.leads, q.broke.disk, q.broke.form, q.broke.stopped, tt)
-wait_broke R s g d replies (cause.Host hosts.JournalFull) q = (q.broke.beats, q.broke.failed, q.broke.leads, q.broke.disk, q.broke.form, q.broke.stopped, tt)
-wait_broke R s g d replies (cause.Host hosts.Closed) q = (q.broke.beats, q.broke.failed, q.broke.leads, q.broke.disk, q.broke.form, q.broke.stopped, tt)
-wait_broke R s g d replies cause.OutOfMemory q = (q.ran.leads, g.store.disk, so_far q.ran.beats q.ran.form, inl (q.ran.stands, refl))
+module _ {C : Type 0} (R : Relation C) (K : Clock C) (W : Watch C) (id : ℕ) (s : At C) (g : HostView) (d : C) where
+  -- without a limit
+  pub wait_broke : (replies : List Reply) (why : EdgeCause) → ByCause why (BrokeFrom s (WaitStopped R most_turns) g d replies) (RanFrom s (WaitSoFar R most_turns) g d replies)
+      → WaitBroke (way R K W None) id s g d (fault_of_cause why)
+  wait_broke replies (cause.Host hosts.Disk) q = (q.broke.leads, q.broke.disk, up_to q.broke.beats q.broke.failed q.broke.form, inr (q.broke.failed, hosts.Disk, q.broke.stopped))
+  wait_broke replies (cause.Host hosts.OutOfMemory) q = (q.broke.failed, q.broke.leads, q.broke.disk, (q.broke.beats, q.broke.form), q.broke.stopped, tt)
+  wait_broke replies (cause.Host hosts.JournalFull) q = (q.broke.failed, q.broke.leads, q.broke.disk, (q.broke.beats, q.broke.form), q.broke.stopped, tt)
+  wait_broke replies (cause.Host hosts.Closed) q = (q.broke.failed, q.broke.leads, q.broke.disk, (q.broke.beats, q.broke.form), q.broke.stopped, tt)
+  wait_broke replies cause.OutOfMemory q = (q.ran.leads, g.store.disk, so_far q.ran.beats q.ran.form, inl (q.ran.stands, refl))
+
+  -- with one
+  pub limit_broke : (seconds : ℕ) (why : RunFault) → WaitFailed (waiting R K W seconds) id s g d why → WaitBroke (way R K W (Some seconds)) id s g d (fault_on_copy why)
+  limit_broke seconds (fault.Host hosts.Disk) q = (q.1, q.2, inr (up_to_led (waiting R K W seconds) id s q.0 (at q.1 d q.2) q.3), inr (q.0, hosts.Disk, q.4))
+  limit_broke seconds (fault.Host hosts.OutOfMemory) q = (q.0, q.1, q.2, q.3, q.4, tt)
+  limit_broke seconds (fault.Host hosts.JournalFull) q = (q.0, q.1, q.2, q.3, q.4, tt)
+  limit_broke seconds (fault.Host hosts.Closed) q = (q.0, q.1, q.2, q.3, q.4, tt)
+  limit_broke seconds fault.OutOfMemory q = (q.0, q.1, inr q.2, q.3)
+  limit_broke seconds fault.Input q = q
+  limit_broke seconds fault.InputTooLong q = q
+  limit_broke seconds fault.Output q = absurd q
+  limit_broke seconds (fault.Open why) q = absurd q
+  limit_broke seconds fault.InUse q = absurd q

@@ -1,4 +1,4 @@
--- Counts, one verdict behind another.
+-- Counts, one verdict after another.
 use Rattle.std.proofs.Common.{◌≡◌, ◌+◌, ℕ, suc, List, [], ◌∷◌, ◌++◌, length, append_assoc, refl, ap, sym, ◌∙◌, arith}
 use Rattle.check_report.specs.declared.report.Format.{Format}
 use Rattle.check_report.specs.declared.verdict.Counts.{Counts}
@@ -46,7 +46,7 @@ cases-more cases more = ap counts_of (all cases) ∙ counts-more (verdicts_of ca
     all [] = refl
     all (x ∷ xs) = ap (λ vs. x.verdict ∷ vs) (all xs)
 
--- The report, one case behind another.
+-- The report, one case after another.
 
 texts-more : (F : Format) (number : ℕ) (cases more : List Case) → cases_text F number (cases ++ more) ≡ cases_text F number cases ++ cases_text F (number + length cases) more
 texts-more F number [] more = ap (λ n. cases_text F n more) (omega arith)

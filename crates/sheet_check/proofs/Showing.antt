@@ -1,4 +1,4 @@
--- What is shown behind fields, one after another.
+-- What is shown after fields, one after another.
 use Rattle.std.proofs.Common.{◌≡◌, inl, inr, ℕ, Bool, true, false, [], sym, subst}
 use Rattle.std.specs.Prelude.{Result, Ok, Err, IfOk, IfErr}
 use Rattle.offline_programs.specs.declared.fault.RunFault.{RunFault}

@@ -1,5 +1,5 @@
--- The fields of a worksheet evaluated anew, one behind another.
-use Rattle.std.specs.Prelude.{◌≡◌, ℕ, Bool, true, false, List, [], ◌∷◌, ◌++◌, Option, Some, None}
+-- The fields of a worksheet evaluated again, one after another.
+use Rattle.std.specs.Prelude.{◌≡◌, ◌&&◌, ℕ, Bool, true, false, List, [], ◌∷◌, ◌++◌, Option, Some, None}
 use Rattle.std.specs.Option.{option_map_or}
 use Rattle.worksheet.specs.Checks.{field_in}
 use Rattle.worksheet.specs.declared.field.Answer.{Answer}
@@ -14,10 +14,29 @@ use Rattle.session_engine.specs.World.{World, sheet_in}
 use Rattle.child_edge.specs.Limits.{most_turns}
 use Rattle.child_edge.specs.Faithful.{Relation, At, Beat, Served, Waited}
 use Rattle.child_edge.specs.Told.{told}
+use Rattle.live.specs.Arrivals.{Watch}
+use Rattle.live.specs.Saying.{Clock}
+use Rattle.evaluation.specs.Steps.{Setting}
+use Rattle.evaluation.specs.Within.{WaitedWithin, waiting}
 use Rattle.check_report.specs.declared.chosen.Chosen.{Chosen}
 use Rattle.check_report.specs.declared.verdict.Verdict.{Verdict}
 use Rattle.check_report.specs.Chosen.{Judged, shown_by}
 use Rattle.check_report.specs.Reports.{Case, case}
+
+-- How fields are evaluated again: what may come of the calls on the children, of their clock and of a watch of them, and how many seconds
+-- a field may take from when its line was sent, where there is a limit.
+pub record Way (C : Type 0) : Type 1 where
+  pub after : Relation C
+  pub clock : Clock C
+  pub wakes : Watch C
+  pub limit : Option ℕ
+
+abbrev pub way : {C : Type 0} → Relation C → Clock C → Watch C → Option ℕ → Way C
+way R K W limit = record { after = R; clock = K; wakes = W; limit = limit }
+
+-- how an answer is waited for within so many seconds
+abbrev pub limited : {C : Type 0} → Way C → ℕ → Setting C
+limited o seconds = waiting o.after o.clock o.wakes seconds
 
 -- the event of an `eval` of this field
 abbrev pub eval_of : ℕ → Event
@@ -51,33 +70,39 @@ begins_for_memory (first ∷ others) = is_for_memory first
 abbrev pub shown_in : World → ℕ → Option Answer
 shown_in w id = option_map_or (λ field. field.answer) (field_in (sheet_in w).fields id) None
 
--- An answer came where the line was asked: the one that the field shows then. Else what it shows is the worksheet's, and none came.
+-- An answer came where the line was asked, and its time wasn't over: the one that the field shows then. Else none came: what it shows is
+-- the worksheet's, or came too late.
 abbrev pub came_if : Bool → Option Answer → Option Answer
 came_if false shown = None
 came_if true shown = shown
 
--- The field with this number was evaluated: an `eval`, for which there was memory, and all that came of it, and then a `wait`. This
--- answer came, or none.
-pub record Evaluated {C : Type 0} (R : Relation C) (id : ℕ) (s : At C) (came : Option Answer) (t : At C) : Type 0 where
+-- The answer to this field was waited for: without a limit by a `wait`, which is always in time.
+abbrev pub WaitedBy : {C : Type 0} → Option ℕ → Way C → ℕ → At C → Bool → At C → Type 0
+WaitedBy None o id s in_time t = (beats : List Beat) × Waited o.after most_turns s beats t × (in_time ≡ true)
+WaitedBy (Some seconds) o id s in_time t = WaitedWithin (limited o seconds) id s in_time t
+
+-- The field with this number was evaluated: an `eval`, for which there was memory, and all that came of it, and then a wait for the
+-- answer. This answer came, or none.
+pub record Evaluated {C : Type 0} (o : Way C) (id : ℕ) (s : At C) (came : Option Answer) (t : At C) : Type 0 where
   pub asked : At C
   pub first : List Beat
-  pub last : List Beat
-  pub served : Served R s (eval_of id) first asked
-  pub waited : Waited R most_turns asked last t
+  pub served : Served o.after s (eval_of id) first asked
   pub remembered : begins_for_memory (told first) ≡ false
-  pub came_is : came ≡ came_if (begins_asked (told first)) (shown_in t.world id)
+  pub in_time : Bool
+  pub waited : WaitedBy o.limit o id asked in_time t
+  pub came_is : came ≡ came_if (begins_asked (told first) && in_time) (shown_in t.world id)
 
 -- A field was checked: where it shows an answer, and its session is checked, it was evaluated, and what came was judged by that answer.
 -- The case that this is, where it is one, and where that led.
-pub data FieldChecked {C : Type 0} (R : Relation C) (chosen : Chosen) (field : Field) (s : At C) : List Case → At C → Type 0 where
-  passed : shown_by chosen field ≡ None → FieldChecked R chosen field s [] s
+pub data FieldChecked {C : Type 0} (o : Way C) (chosen : Chosen) (field : Field) (s : At C) : List Case → At C → Type 0 where
+  passed : shown_by chosen field ≡ None → FieldChecked o chosen field s [] s
   checked : (shown : Answer) (came : Option Answer) (verdict : Verdict) (t : At C) → shown_by chosen field ≡ Some shown
-      → Evaluated R field.id s came t → Judged chosen field.id shown.output came verdict
-      → FieldChecked R chosen field s (case field came verdict ∷ []) t
+      → Evaluated o field.id s came t → Judged chosen field.id shown.output came verdict
+      → FieldChecked o chosen field s (case field came verdict ∷ []) t
 
--- fields were checked, one behind another
-abbrev pub FieldsChecked : {C : Type 0} → Relation C → Chosen → List Field → At C → List Case → At C → Type 0
-FieldsChecked R chosen [] s cases t = (cases ≡ []) × (t ≡ s)
-FieldsChecked {C = C} R chosen (field ∷ fields) s cases t =
-    (mid : At C) × (one : List Case) × (others : List Case) × FieldChecked R chosen field s one mid
-    × FieldsChecked R chosen fields mid others t × (cases ≡ one ++ others)
+-- fields were checked, one after another
+abbrev pub FieldsChecked : {C : Type 0} → Way C → Chosen → List Field → At C → List Case → At C → Type 0
+FieldsChecked o chosen [] s cases t = (cases ≡ []) × (t ≡ s)
+FieldsChecked {C = C} o chosen (field ∷ fields) s cases t =
+    (mid : At C) × (one : List Case) × (others : List Case) × FieldChecked o chosen field s one mid
+    × FieldsChecked o chosen fields mid others t × (cases ≡ one ++ others)

@@ -31,13 +31,13 @@ TakesLine false S p q = q ≡ p
 abbrev pub MakesRoom : {P : Type 0} → Format → (P → Sight → P → Type 0) → Verdict → P → P → Type 0
 MakesRoom F S verdict p q = TakesLine (is_written F verdict) S p q
 
--- Fields came to these counts, one behind another: behind each the line stands with the counts so far, of so many fields in all.
+-- Fields came to these counts, one after another: after each the line stands with the counts so far, of so many fields in all.
 pub data FieldsShow {P : Type 0} (F : Format) (S : P → Sight → P → Type 0) (all : ℕ) (p : P) : Counts → P → Type 0 where
   none : FieldsShow F S all p (counts_of []) p
   more : (one : Verdict) (counts : Counts) (before free q : P) → FieldsShow F S all p counts before → MakesRoom F S one before free
       → S free (sight.Line (counted_with one counts) all) q → FieldsShow F S all p (counted_with one counts) q
 
--- A field that wasn't counted leaves what was shown, or took the line away for what couldn't be told.
+-- A field that wasn't counted leaves what was shown, or took the line away for what couldn't be reported.
 abbrev pub LeavesLine : {P : Type 0} → (P → Sight → P → Type 0) → P → P → Type 0
 LeavesLine S p q = (q ≡ p) ⊎ S p sight.Nothing q
 

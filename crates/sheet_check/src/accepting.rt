@@ -1,4 +1,4 @@
-//! What a field came to is accepted: its answer is put into the worksheet on the disk, and then told.
+//! What a field came to is accepted: its answer is put into the worksheet on the disk, and then reported.
 ghost use Rattle.std.specs.Prelude.{◌≡◌, ◌++◌, ◌∷◌, [], List, IfErr, IfOk, IfSome, OnOk, false, true};
 ghost use Rattle.std.specs.Io.KnownBytes.{Appends};
 ghost use Rattle.disk_model.specs.Disk.{DiskView};
@@ -34,7 +34,7 @@ pub(crate) struct Finding {
     pub(crate) verdict: Verdict,
     /// The answer that is accepted, where one is.
     pub(crate) answer: Option<Answer>,
-    /// What is told.
+    /// What is reported.
     pub(crate) text: Vec<u8>,
 }
 

@@ -12,17 +12,18 @@ ghost use Rattle.journal.specs.declared.opening.OpenCause.TheVariants as opens;
 ghost use Rattle.check_report.specs.Chosen.{shown_by};
 ghost use Rattle.check_report.specs.Reports.{closing_text, opening_text};
 ghost use Rattle.check_report.specs.Verdicts.{total};
+ghost use Rattle.sheet_check.specs.Evaluated.{way};
 ghost use Rattle.sheet_check.specs.Check.{CheckAnswer, OnlyRead, SheetAnswer};
 ghost use Rattle.sheet_check.specs.Progress.{CheckShows, FieldsLeft, FieldsShow, LeavesLine, MakesRoom, SheetShows, answered};
 ghost use Rattle.sheet_check.specs.declared.progress.Sight.TheVariants as sight;
 ghost use Rattle.sheet_check.specs.inside.Checking.{FieldFailed, FieldShown, FieldWrote, FieldsEnded, FieldsFailed, FieldsStopped, FieldsWrote, OnCopy, ShownWrote};
 
 use crate::copying::open_copy;
-use crate::evaluating::{ask, wait_for_all};
+use crate::evaluating::evaluate;
 use crate::progress::{Progress, Sight};
 use crate::telling::tell_what_came;
+use arrivals::Sources;
 use check_report::{Chosen, Counts, Format, Request, Verdict, close_report, open_report};
-use child_calls::Children;
 use child_edge::stop_all;
 use disk_model::Disk;
 use journal::OpenFault;
@@ -34,11 +35,11 @@ use std::io::Write;
 use worksheet::{Answer, Field, Sheet};
 
 /// Evaluates a field that shows this answer, and tells what that came to, as the case of this number.
-fn check_shown<D: Disk, C: Children, W: Write, P: Progress>(
+fn check_shown<D: Disk, C: Sources, W: Write, P: Progress>(
     alloc: Global,
     request: &Request,
     host: &mut Host<D>,
-    children: &mut C,
+    sources: &mut C,
     number: u64,
     field: &Field,
     shown: &Answer,
@@ -46,31 +47,28 @@ fn check_shown<D: Disk, C: Children, W: Write, P: Progress>(
     writer: &mut W,
 ) -> Result<Verdict, RunFault>
     requires { shown_by request.now.chosen field.now ≡ Some shown.now }
-    ensures ok { (w : World) → IsHost host.old w → IfOk result (ShownWrote C.after
+    ensures ok { (w : World) → IsHost host.old w → IfOk result (ShownWrote (way C.after C.clock C.wakes request.now.limit)
         request.now.chosen request.now.format number field.now shown.now
-        (at w children.old host.old.store.disk) host.new children.new
+        (at w sources.old host.old.store.disk) host.new sources.new
         (W.contents writer.old) (W.contents writer.new)) }
-    ensures err { (w : World) → IsHost host.old w → IfErr result (FieldFailed C.after
+    ensures err { (w : World) → IsHost host.old w → IfErr result (FieldFailed (way C.after C.clock C.wakes request.now.limit)
         request.now.chosen field.now
-        (at w children.old host.old.store.disk) host.new children.new
+        (at w sources.old host.old.store.disk) host.new sources.new
         (W.contents writer.old) (W.contents writer.new)) }
     ensures room { IfOk result (λ verdict.
         MakesRoom request.now.format P.shows verdict progress.old progress.new) }
     ensures left { IfErr result (λ _. LeavesLine P.shows progress.old progress.new) }
 {
-    let asked = match ask(alloc, host, children, field.id) {
-        Ok(asked) => asked,
+    let came = match evaluate(alloc, request.limit, host, sources, field.id) {
+        Ok(came) => came,
         Err(fault) => return Err(fault),
     };
-    if let Err(fault) = wait_for_all(alloc, host, children) {
-        return Err(fault);
-    }
     tell_what_came(
-        alloc, request, host, number, field, shown, asked, progress, writer,
+        alloc, request, host, number, field, shown, came, progress, writer,
     )
 }
 
-/// Shows the counts behind a field that was checked, and hands them out.
+/// Shows the counts after a field that was checked, and hands them out.
 pub(crate) fn show_counts<P: Progress>(counts: Counts, all: u32, progress: &mut P) -> Counts
     ensures same { result ≡ counts }
     ensures shown { P.shows progress.old (sight.Line counts all) progress.new }
@@ -81,11 +79,11 @@ pub(crate) fn show_counts<P: Progress>(counts: Counts, all: u32, progress: &mut 
 
 /// Checks a field, where it shows an answer and its session is checked. The counts with what that came
 /// to, which are shown.
-fn check_field<D: Disk, C: Children, W: Write, P: Progress>(
+fn check_field<D: Disk, C: Sources, W: Write, P: Progress>(
     alloc: Global,
     request: &Request,
     host: &mut Host<D>,
-    children: &mut C,
+    sources: &mut C,
     field: &Field,
     counts: Counts,
     all: u32,
@@ -93,14 +91,14 @@ fn check_field<D: Disk, C: Children, W: Write, P: Progress>(
     writer: &mut W,
 ) -> Result<Counts, RunFault>
     requires { total counts < 2 ^ 31 }
-    ensures ok { (w : World) → IsHost host.old w → IfOk result (FieldWrote C.after
+    ensures ok { (w : World) → IsHost host.old w → IfOk result (FieldWrote (way C.after C.clock C.wakes request.now.limit)
         request.now.chosen request.now.format field.now
-        (at w children.old host.old.store.disk) host.new children.new
+        (at w sources.old host.old.store.disk) host.new sources.new
         (W.contents writer.old) (W.contents writer.new) counts) }
     ensures bound { IfOk result (λ after. total after ≤ total counts + 1) }
-    ensures err { (w : World) → IsHost host.old w → IfErr result (FieldFailed C.after
+    ensures err { (w : World) → IsHost host.old w → IfErr result (FieldFailed (way C.after C.clock C.wakes request.now.limit)
         request.now.chosen field.now
-        (at w children.old host.old.store.disk) host.new children.new
+        (at w sources.old host.old.store.disk) host.new sources.new
         (W.contents writer.old) (W.contents writer.new)) }
     ensures shown { IfOk result (λ after.
         FieldShown request.now.format P.shows all counts after progress.old progress.new) }
@@ -110,7 +108,7 @@ fn check_field<D: Disk, C: Children, W: Write, P: Progress>(
     match request.chosen.shown(field) {
         None => Ok(counts),
         Some(shown) => match check_shown(
-            alloc, request, host, children, number, field, shown, progress, writer,
+            alloc, request, host, sources, number, field, shown, progress, writer,
         ) {
             Ok(verdict) => Ok(show_counts(counts.with(verdict), all, progress)),
             Err(fault) => Err(fault),
@@ -127,7 +125,7 @@ fn tell_opening<W: Write>(format: Format, writer: &mut W) -> Result<(), RunFault
     open_report(format, writer).map_err(|_| RunFault::Output)
 }
 
-/// Writes what stands last in it, and brings it out.
+/// Writes what stands last in it, and flushes it.
 pub(crate) fn tell_closing<W: Write>(
     format: Format,
     counts: Counts,
@@ -140,23 +138,23 @@ pub(crate) fn tell_closing<W: Write>(
     close_report(format, counts, writer).map_err(|_| RunFault::Output)
 }
 
-/// Checks the fields of a worksheet in their order, behind what stands first in their report.
-fn check_fields<D: Disk, C: Children, W: Write, P: Progress>(
+/// Checks the fields of a worksheet in their order, after what stands first in their report.
+fn check_fields<D: Disk, C: Sources, W: Write, P: Progress>(
     alloc: Global,
     request: &Request,
     sheet: &Sheet,
     host: &mut Host<D>,
-    children: &mut C,
+    sources: &mut C,
     all: u32,
     progress: &mut P,
     writer: &mut W,
 ) -> Result<Counts, RunFault>
     requires { length sheet.now.contents.fields < 2 ^ 31 }
-    ensures ok { (w : World) → IsHost host.old w → IfOk result (FieldsWrote C.after
-        request.now.chosen request.now.format sheet.now.contents.fields (at w children.old host.old.store.disk) host.new children.new
+    ensures ok { (w : World) → IsHost host.old w → IfOk result (FieldsWrote (way C.after C.clock C.wakes request.now.limit)
+        request.now.chosen request.now.format sheet.now.contents.fields (at w sources.old host.old.store.disk) host.new sources.new
         (W.contents writer.old) (W.contents writer.new)) }
-    ensures err { (w : World) → IsHost host.old w → IfErr result (FieldsFailed C.after
-        request.now.chosen request.now.format sheet.now.contents.fields (at w children.old host.old.store.disk) host.new children.new
+    ensures err { (w : World) → IsHost host.old w → IfErr result (FieldsFailed (way C.after C.clock C.wakes request.now.limit)
+        request.now.chosen request.now.format sheet.now.contents.fields (at w sources.old host.old.store.disk) host.new sources.new
         (W.contents writer.old) (W.contents writer.new)) }
     ensures shown { IfOk result (λ counts.
         FieldsShow request.now.format P.shows all progress.old counts progress.new) }
@@ -170,7 +168,7 @@ fn check_fields<D: Disk, C: Children, W: Write, P: Progress>(
     let mut fields = sheet.fields();
     while let Some(field) = fields.next() {
         match check_field(
-            alloc, request, host, children, field, counts, all, progress, writer,
+            alloc, request, host, sources, field, counts, all, progress, writer,
         ) {
             Ok(after) => counts = after,
             Err(fault) => return Err(fault),
@@ -195,48 +193,48 @@ pub(crate) fn count_answered(chosen: &Chosen, sheet: &Sheet) -> u32
 }
 
 /// The same, and then the line of progress is taken away, and each life that goes on is stopped.
-fn check_and_stop<D: Disk, C: Children, W: Write, P: Progress>(
+fn check_and_stop<D: Disk, C: Sources, W: Write, P: Progress>(
     alloc: Global,
     request: &Request,
     sheet: &Sheet,
     host: &mut Host<D>,
-    children: &mut C,
+    sources: &mut C,
     progress: &mut P,
     writer: &mut W,
 ) -> Result<Counts, RunFault>
     requires { length sheet.now.contents.fields < 2 ^ 31 }
-    ensures ok { (w : World) → IsHost host.old w → IfOk result (FieldsEnded C.after
-        request.now.chosen request.now.format sheet.now.contents.fields (at w children.old host.old.store.disk) children.new
+    ensures ok { (w : World) → IsHost host.old w → IfOk result (FieldsEnded (way C.after C.clock C.wakes request.now.limit)
+        request.now.chosen request.now.format sheet.now.contents.fields (at w sources.old host.old.store.disk) sources.new
         (W.contents writer.old) (W.contents writer.new)) }
-    ensures err { (w : World) → IsHost host.old w → IfErr result (FieldsStopped C.after
-        request.now.chosen request.now.format sheet.now.contents.fields (at w children.old host.old.store.disk) children.new
+    ensures err { (w : World) → IsHost host.old w → IfErr result (FieldsStopped (way C.after C.clock C.wakes request.now.limit)
+        request.now.chosen request.now.format sheet.now.contents.fields (at w sources.old host.old.store.disk) sources.new
         (W.contents writer.old) (W.contents writer.new)) }
     ensures shown { SheetShows request.now.format P.shows
         (answered request.now.chosen sheet.now.contents.fields)
         progress.old progress.new result }
 {
     let all = count_answered(&request.chosen, sheet);
-    let counted = check_fields(alloc, request, sheet, host, children, all, progress, writer);
+    let counted = check_fields(alloc, request, sheet, host, sources, all, progress, writer);
     progress.show(Sight::Nothing);
-    stop_all(host, children);
+    stop_all(host, sources);
     counted
 }
 
 /// Checks a worksheet on a copy of it, whose host ends here. None where there is no memory for the copy.
-fn checked_on_copy<C: Children, W: Write, P: Progress>(
+fn checked_on_copy<C: Sources, W: Write, P: Progress>(
     alloc: Global,
     request: &Request,
     sheet: &Sheet,
-    children: &mut C,
+    sources: &mut C,
     progress: &mut P,
     writer: &mut W,
 ) -> Option<Result<Counts, RunFault>>
     requires made { (ops : List Op) × Makes ops sheet.now.contents }
     requires few { length sheet.now.contents.fields < 2 ^ 31 }
-    ensures none { IfNone result ((children.new ≡ children.old) × (writer.new ≡ writer.old)
+    ensures none { IfNone result ((sources.new ≡ sources.old) × (writer.new ≡ writer.old)
         × (progress.new ≡ progress.old)) }
-    ensures some { IfSome result (λ counted. OnCopy C.after request.now.chosen
-        request.now.format sheet.now.contents children.old children.new
+    ensures some { IfSome result (λ counted. OnCopy (way C.after C.clock C.wakes request.now.limit)
+        request.now.chosen request.now.format sheet.now.contents sources.old sources.new
         (W.contents writer.old) (W.contents writer.new) counted) }
     ensures shown { IfSome result (λ counted. SheetShows request.now.format P.shows
         (answered request.now.chosen sheet.now.contents.fields)
@@ -244,31 +242,32 @@ fn checked_on_copy<C: Children, W: Write, P: Progress>(
 {
     match open_copy(alloc, sheet) {
         Some(mut host) => Some(check_and_stop(
-            alloc, request, sheet, &mut host, children, progress, writer,
+            alloc, request, sheet, &mut host, sources, progress, writer,
         )),
         None => None,
     }
 }
 
 /// Checks a worksheet on a copy of it, and tells the counts.
-fn check_sheet<C: Children, W: Write, P: Progress>(
+fn check_sheet<C: Sources, W: Write, P: Progress>(
     alloc: Global,
     request: &Request,
     sheet: &Sheet,
-    children: &mut C,
+    sources: &mut C,
     progress: &mut P,
     writer: &mut W,
 ) -> Result<Counts, RunFault>
     requires { (ops : List Op) × Makes ops sheet.now.contents }
-    ensures checked { SheetAnswer C.after request.now.chosen request.now.format sheet.now.contents children.old children.new
+    ensures checked { SheetAnswer (way C.after C.clock C.wakes request.now.limit)
+        request.now.chosen request.now.format sheet.now.contents sources.old sources.new
         (W.contents writer.old) (W.contents writer.new)
-        ((writer.new ≡ writer.old) × (children.new ≡ children.old)) result }
+        ((writer.new ≡ writer.old) × (sources.new ≡ sources.old)) result }
     ensures shown { SheetShows request.now.format P.shows
         (answered request.now.chosen sheet.now.contents.fields)
         progress.old progress.new result }
 {
     worksheet::laws::ops_make_worksheets();
-    let Some(counted) = checked_on_copy(alloc, request, sheet, children, progress, writer) else {
+    let Some(counted) = checked_on_copy(alloc, request, sheet, sources, progress, writer) else {
         progress.show(Sight::Nothing);
         return Err(RunFault::OutOfMemory);
     };
@@ -290,45 +289,50 @@ pub struct Checked<D: Disk> {
     pub answer: Result<Counts, RunFault>,
 }
 
-/// Checks the worksheet on a disk: evaluates each field that shows an answer anew, in their order, on a
-/// copy of the worksheet in memory and with interpreters of its own, each `eval` with a `wait` behind
+/// Checks the worksheet on a disk: evaluates each field that shows an answer again, in their order, on a
+/// copy of the worksheet in memory and with interpreters of its own, each `eval` with a `wait` after
 /// it, and compares the output that came with the one that the field shows. The prompt is no part of
 /// it. Each difference is written and flushed when it is known, and the counts at the end
 /// (docs/CHECK.md). A field whose evaluation gave no answer is counted as unanswered, and the next one
 /// is checked with a new interpreter.
 ///
-/// Behind each field that was checked `progress` shows how far the check is. That is taken away before a
+/// With a limit, a field may take so many seconds from when its line was sent. Then its interpreter is
+/// interrupted, and where an item still waits two seconds later it has stalled: the field is unanswered.
+///
+/// After each field that was checked `progress` shows how far the check is. That is taken away before a
 /// difference is written, at the end, before the counts, and at a fault.
 ///
 /// At the end and at a fault each life that goes on is stopped. The disk is only read, and the
 /// worksheet there stays as it is.
 ///
 /// `Open` where the disk isn't opened: nothing was done. `OutOfMemory`, also where the copy has no
-/// room in memory, and `Host` where the host of the copy has another fault: what was told before is
-/// written. `Output` where the writer fails: a part of the text may have gone out.
-pub fn check<D: Disk, C: Children, W: Write, P: Progress>(
+/// room in memory, `Host` where the host of the copy has another fault, and with a limit `Input` where the
+/// sources can't be watched, and `InputTooLong` after 2^64 - 1 steps of one field: what was reported before
+/// is written. `Output` where the writer fails: a part of the text may have gone out.
+pub fn check<D: Disk, C: Sources, W: Write, P: Progress>(
     alloc: Global,
     request: &Request,
     disk: D,
-    children: &mut C,
+    sources: &mut C,
     progress: &mut P,
     writer: &mut W,
 ) -> Checked<D>
-    ensures checked { CheckAnswer C.after request.now.chosen request.now.format (D.view disk) children.old children.new
+    ensures checked { CheckAnswer (way C.after C.clock C.wakes request.now.limit)
+        request.now.chosen request.now.format (D.view disk) sources.old sources.new
         (W.contents writer.old) (W.contents writer.new)
-        ((writer.new ≡ writer.old) × (children.new ≡ children.old)) result.answer }
+        ((writer.new ≡ writer.old) × (sources.new ≡ sources.old)) result.answer }
     ensures read { OnlyRead (D.view disk) (D.view result.disk) }
 
     ensures shown { CheckShows request.now.format P.shows request.now.chosen (D.view disk)
         progress.old progress.new result.answer }
 
-    // That the disk failed is told only where it did.
+    // That the disk failed is reported only where it did.
     ensures failed { result.answer ≡ Err (told.Open opens.Disk)
         → Rises (D.view disk).faults (D.view result.disk).faults }
 {
     match Store::open(alloc, disk) {
         Ok(store) => {
-            let answer = check_sheet(alloc, request, store.sheet(), children, progress, writer);
+            let answer = check_sheet(alloc, request, store.sheet(), sources, progress, writer);
             Checked {
                 disk: store.into_disk(),
                 answer,

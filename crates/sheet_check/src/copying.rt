@@ -1,4 +1,4 @@
-//! The copy of a worksheet that is evaluated anew.
+//! The copy of a worksheet that is evaluated again.
 ghost use Rattle.std.specs.Prelude.{◌≡◌, List, IfSome, IsTrue};
 ghost use Rattle.worksheet.specs.declared.op.Op.{Op};
 ghost use Rattle.disk_model.specs.Disk.{Leaves, greatest_room};
@@ -29,7 +29,7 @@ fn open_saved<D: Disk>(alloc: Global, disk: D, sheet: &Sheet) -> Option<Host<D>>
     }
 }
 
-/// A host on a copy of a worksheet, written anew to a disk in memory of the greatest room. None where
+/// A host on a copy of a worksheet, which is written to a disk in memory of the greatest room. None where
 /// memory was refused.
 pub(crate) fn open_copy(alloc: Global, sheet: &Sheet) -> Option<Host<MemoryDisk>>
     requires { (ops : List Op) × Makes ops sheet.now.contents }

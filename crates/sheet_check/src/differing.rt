@@ -16,6 +16,7 @@ ghost use Rattle.check_report.specs.Chosen.{shown_by};
 ghost use Rattle.check_report.specs.Verdicts.{total};
 ghost use Rattle.check_report.specs.declared.report.Format.TheVariants as formats;
 ghost use Rattle.sheet_check.specs.Accept.{AcceptAnswer, AcceptLeft, SheetAccepts, accepted};
+ghost use Rattle.sheet_check.specs.Evaluated.{way};
 ghost use Rattle.sheet_check.specs.Check.{IsCopy};
 ghost use Rattle.sheet_check.specs.Progress.{CheckShows, FieldsLeft, FieldsShow, LeavesLine, MakesRoom, SheetShows, answered};
 ghost use Rattle.sheet_check.specs.declared.progress.Sight.TheVariants as sight;
@@ -25,10 +26,10 @@ ghost use Rattle.sheet_check.specs.inside.Checking.{FieldShown};
 use crate::accepting::{find_on_copy, take};
 use crate::checking::{Checked, count_answered, show_counts, tell_closing};
 use crate::copying::open_copy;
-use crate::evaluating::{ask, wait_for_all};
+use crate::evaluating::evaluate;
 use crate::progress::{Progress, Sight};
-use check_report::{Chosen, Counts, Format, Verdict};
-use child_calls::Children;
+use arrivals::Sources;
+use check_report::{Counts, Format, Request, Verdict};
 use child_edge::stop_all;
 use disk_model::Disk;
 use journal::OpenFault;
@@ -40,42 +41,41 @@ use std::io::Write;
 use worksheet::{Answer, Field, Sheet};
 
 /// Evaluates a field that shows this answer, and accepts and tells what that came to.
-fn accept_shown<D: Disk, S: Disk, C: Children, W: Write, P: Progress>(
+fn accept_shown<D: Disk, S: Disk, C: Sources, W: Write, P: Progress>(
     alloc: Global,
-    chosen: &Chosen,
+    request: &Request,
     host: &mut Host<D>,
-    children: &mut C,
+    sources: &mut C,
     store: &mut Store<S>,
     field: &Field,
     shown: &Answer,
     progress: &mut P,
     writer: &mut W,
 ) -> Result<Verdict, RunFault>
-    requires shows { shown_by chosen.now field.now ≡ Some shown.now }
+    requires shows { shown_by request.now.chosen field.now ≡ Some shown.now }
     requires stands { (w : World) × IsHost host.old w }
     requires open { store.old.closed ≡ false }
     requires there { has_field store.old.sheet.contents field.now.id ≡ true }
     ensures ok { (w : World) → IsHost host.old w → (ops more : List Op) → (disk : DiskView)
-        → Stores ops more disk store.old → IfOk result (ShownTook C.after chosen.now field.now shown.now
-        (at w children.old host.old.store.disk) host.new children.new
+        → Stores ops more disk store.old → IfOk result (ShownTook (way C.after C.clock C.wakes request.now.limit)
+        request.now.chosen field.now shown.now
+        (at w sources.old host.old.store.disk) host.new sources.new
         (W.contents writer.old) (W.contents writer.new) (λ took. Stores ops (more ++ took) disk store.new)) }
     ensures err { (w : World) → IsHost host.old w → (ops more : List Op) → (disk : DiskView)
-        → Stores ops more disk store.old → IfErr result (FieldBroke C.after chosen.now field.now
-        (at w children.old host.old.store.disk) host.new children.new
+        → Stores ops more disk store.old → IfErr result (FieldBroke (way C.after C.clock C.wakes request.now.limit)
+        request.now.chosen field.now
+        (at w sources.old host.old.store.disk) host.new sources.new
         (W.contents writer.old) (W.contents writer.new) ops more disk store.new) }
     ensures room { IfOk result (λ verdict.
         MakesRoom formats.Accepting P.shows verdict progress.old progress.new) }
     ensures left { IfErr result (λ _. LeavesLine P.shows progress.old progress.new) }
 {
     worksheet::laws::ops_make_worksheets();
-    let asked = match ask(alloc, host, children, field.id) {
-        Ok(asked) => asked,
+    let came = match evaluate(alloc, request.limit, host, sources, field.id) {
+        Ok(came) => came,
         Err(fault) => return Err(fault),
     };
-    if let Err(fault) = wait_for_all(alloc, host, children) {
-        return Err(fault);
-    }
-    match find_on_copy(alloc, chosen, host, field, shown, asked) {
+    match find_on_copy(alloc, &request.chosen, host, field, shown, came) {
         None => Err(RunFault::OutOfMemory),
         Some(found) => take(store, field.id, found, progress, writer),
     }
@@ -83,11 +83,11 @@ fn accept_shown<D: Disk, S: Disk, C: Children, W: Write, P: Progress>(
 
 /// Checks a field, where it shows an answer and its session is checked, and accepts what came where it
 /// differs. The counts with what that came to, which are shown.
-fn accept_field<D: Disk, S: Disk, C: Children, W: Write, P: Progress>(
+fn accept_field<D: Disk, S: Disk, C: Sources, W: Write, P: Progress>(
     alloc: Global,
-    chosen: &Chosen,
+    request: &Request,
     host: &mut Host<D>,
-    children: &mut C,
+    sources: &mut C,
     store: &mut Store<S>,
     field: &Field,
     counts: Counts,
@@ -100,22 +100,24 @@ fn accept_field<D: Disk, S: Disk, C: Children, W: Write, P: Progress>(
     requires open { store.old.closed ≡ false }
     requires there { has_field store.old.sheet.contents field.now.id ≡ true }
     ensures ok { (w : World) → IsHost host.old w → (ops more : List Op) → (disk : DiskView)
-        → Stores ops more disk store.old → IfOk result (FieldTook C.after chosen.now field.now
-        (at w children.old host.old.store.disk) host.new children.new
+        → Stores ops more disk store.old → IfOk result (FieldTook (way C.after C.clock C.wakes request.now.limit)
+        request.now.chosen field.now
+        (at w sources.old host.old.store.disk) host.new sources.new
         (W.contents writer.old) (W.contents writer.new) (λ took. Stores ops (more ++ took) disk store.new) counts) }
     ensures bound { IfOk result (λ after. total after ≤ total counts + 1) }
     ensures err { (w : World) → IsHost host.old w → (ops more : List Op) → (disk : DiskView)
-        → Stores ops more disk store.old → IfErr result (FieldBroke C.after chosen.now field.now
-        (at w children.old host.old.store.disk) host.new children.new
+        → Stores ops more disk store.old → IfErr result (FieldBroke (way C.after C.clock C.wakes request.now.limit)
+        request.now.chosen field.now
+        (at w sources.old host.old.store.disk) host.new sources.new
         (W.contents writer.old) (W.contents writer.new) ops more disk store.new) }
     ensures shown { IfOk result (λ after.
         FieldShown formats.Accepting P.shows all counts after progress.old progress.new) }
     ensures left { IfErr result (λ _. LeavesLine P.shows progress.old progress.new) }
 {
-    match chosen.shown(field) {
+    match request.chosen.shown(field) {
         None => Ok(counts),
         Some(shown) => match accept_shown(
-            alloc, chosen, host, children, store, field, shown, progress, writer,
+            alloc, request, host, sources, store, field, shown, progress, writer,
         ) {
             Ok(verdict) => Ok(show_counts(counts.with(verdict), all, progress)),
             Err(fault) => Err(fault),
@@ -124,12 +126,12 @@ fn accept_field<D: Disk, S: Disk, C: Children, W: Write, P: Progress>(
 }
 
 /// Checks the fields of a worksheet in their order, and accepts the answers that differ.
-fn accept_fields<D: Disk, S: Disk, C: Children, W: Write, P: Progress>(
+fn accept_fields<D: Disk, S: Disk, C: Sources, W: Write, P: Progress>(
     alloc: Global,
-    chosen: &Chosen,
+    request: &Request,
     sheet: &Sheet,
     host: &mut Host<D>,
-    children: &mut C,
+    sources: &mut C,
     store: &mut Store<S>,
     all: u32,
     progress: &mut P,
@@ -139,12 +141,14 @@ fn accept_fields<D: Disk, S: Disk, C: Children, W: Write, P: Progress>(
     requires stands { (w : World) × IsHost host.old w }
     requires goes_on { GoesOn sheet.now.contents store.old }
     ensures ok { (w : World) → IsHost host.old w → (ops : List Op) → (disk : DiskView)
-        → Stores ops [] disk store.old → IfOk result (FieldsTook C.after chosen.now sheet.now.contents.fields
-        (at w children.old host.old.store.disk) host.new children.new
+        → Stores ops [] disk store.old → IfOk result (FieldsTook (way C.after C.clock C.wakes request.now.limit)
+        request.now.chosen sheet.now.contents.fields
+        (at w sources.old host.old.store.disk) host.new sources.new
         (W.contents writer.old) (W.contents writer.new) (λ took. Stores ops took disk store.new)) }
     ensures err { (w : World) → IsHost host.old w → (ops : List Op) → (disk : DiskView)
-        → Stores ops [] disk store.old → IfErr result (FieldsBroke C.after chosen.now sheet.now.contents.fields
-        (at w children.old host.old.store.disk) host.new children.new
+        → Stores ops [] disk store.old → IfErr result (FieldsBroke (way C.after C.clock C.wakes request.now.limit)
+        request.now.chosen sheet.now.contents.fields
+        (at w sources.old host.old.store.disk) host.new sources.new
         (W.contents writer.old) (W.contents writer.new) ops disk store.new) }
     ensures shown { IfOk result (λ counts.
         FieldsShow formats.Accepting P.shows all progress.old counts progress.new) }
@@ -155,7 +159,7 @@ fn accept_fields<D: Disk, S: Disk, C: Children, W: Write, P: Progress>(
     let mut fields = sheet.fields();
     while let Some(field) = fields.next() {
         match accept_field(
-            alloc, chosen, host, children, store, field, counts, all, progress, writer,
+            alloc, request, host, sources, store, field, counts, all, progress, writer,
         ) {
             Ok(after) => counts = after,
             Err(fault) => return Err(fault),
@@ -165,12 +169,12 @@ fn accept_fields<D: Disk, S: Disk, C: Children, W: Write, P: Progress>(
 }
 
 /// The same, and then the line of progress is taken away, and each life that goes on is stopped.
-fn accept_and_stop<D: Disk, S: Disk, C: Children, W: Write, P: Progress>(
+fn accept_and_stop<D: Disk, S: Disk, C: Sources, W: Write, P: Progress>(
     alloc: Global,
-    chosen: &Chosen,
+    request: &Request,
     sheet: &Sheet,
     host: &mut Host<D>,
-    children: &mut C,
+    sources: &mut C,
     store: &mut Store<S>,
     progress: &mut P,
     writer: &mut W,
@@ -179,33 +183,35 @@ fn accept_and_stop<D: Disk, S: Disk, C: Children, W: Write, P: Progress>(
     requires stands { (w : World) × IsHost host.old w }
     requires goes_on { GoesOn sheet.now.contents store.old }
     ensures ok { (w : World) → IsHost host.old w → (ops : List Op) → (disk : DiskView)
-        → Stores ops [] disk store.old → IfOk result (CopyTook C.after chosen.now sheet.now.contents
-        w host.old.store.disk children.old children.new
+        → Stores ops [] disk store.old → IfOk result (CopyTook (way C.after C.clock C.wakes request.now.limit)
+        request.now.chosen sheet.now.contents
+        w host.old.store.disk sources.old sources.new
         (W.contents writer.old) (W.contents writer.new) ops disk store.new) }
     ensures err { (w : World) → IsHost host.old w → IsCopy sheet.now.contents w host.old.store.disk
         → (ops : List Op) → (disk : DiskView) → Stores ops [] disk store.old
-        → IfErr result (AcceptLeft C.after chosen.now sheet.now.contents children.old children.new
+        → IfErr result (AcceptLeft (way C.after C.clock C.wakes request.now.limit)
+        request.now.chosen sheet.now.contents sources.old sources.new
         (W.contents writer.old) (W.contents writer.new) ops disk store.new.disk) }
     ensures shown { SheetShows formats.Accepting P.shows
-        (answered chosen.now sheet.now.contents.fields)
+        (answered request.now.chosen sheet.now.contents.fields)
         progress.old progress.new result }
 {
-    let all = count_answered(chosen, sheet);
+    let all = count_answered(&request.chosen, sheet);
     let counted = accept_fields(
-        alloc, chosen, sheet, host, children, store, all, progress, writer,
+        alloc, request, sheet, host, sources, store, all, progress, writer,
     );
     progress.show(Sight::Nothing);
-    stop_all(host, children);
+    stop_all(host, sources);
     counted
 }
 
 /// Checks a worksheet on a copy of it, and accepts the answers that differ in the store, which had the
 /// same. None where there is no memory for the copy.
-fn accepted_on_copy<S: Disk, C: Children, W: Write, P: Progress>(
+fn accepted_on_copy<S: Disk, C: Sources, W: Write, P: Progress>(
     alloc: Global,
-    chosen: &Chosen,
+    request: &Request,
     sheet: &Sheet,
-    children: &mut C,
+    sources: &mut C,
     store: &mut Store<S>,
     progress: &mut P,
     writer: &mut W,
@@ -213,18 +219,19 @@ fn accepted_on_copy<S: Disk, C: Children, W: Write, P: Progress>(
     requires made { (ops : List Op) × Makes ops sheet.now.contents }
     requires few { length sheet.now.contents.fields < 2 ^ 31 }
     requires goes_on { GoesOn sheet.now.contents store.old }
-    ensures none { IfNone result ((children.new ≡ children.old) × (writer.new ≡ writer.old)
+    ensures none { IfNone result ((sources.new ≡ sources.old) × (writer.new ≡ writer.old)
         × (progress.new ≡ progress.old) × (store.new ≡ store.old)) }
     ensures some { (ops : List Op) → (disk : DiskView) → Stores ops [] disk store.old
-        → IfSome result (OnCopy C.after chosen.now sheet.now.contents children.old children.new
+        → IfSome result (OnCopy (way C.after C.clock C.wakes request.now.limit)
+        request.now.chosen sheet.now.contents sources.old sources.new
         (W.contents writer.old) (W.contents writer.new) ops disk store.new) }
     ensures shown { IfSome result (λ counted. SheetShows formats.Accepting P.shows
-        (answered chosen.now sheet.now.contents.fields)
+        (answered request.now.chosen sheet.now.contents.fields)
         progress.old progress.new counted) }
 {
     match open_copy(alloc, sheet) {
         Some(mut host) => Some(accept_and_stop(
-            alloc, chosen, sheet, &mut host, children, store, progress, writer,
+            alloc, request, sheet, &mut host, sources, store, progress, writer,
         )),
         None => None,
     }
@@ -232,10 +239,10 @@ fn accepted_on_copy<S: Disk, C: Children, W: Write, P: Progress>(
 
 /// The same of the worksheet of a store, by a copy that stays as it was. None where there is no memory
 /// for the copies.
-fn accepted_on_copies<S: Disk, C: Children, W: Write, P: Progress>(
+fn accepted_on_copies<S: Disk, C: Sources, W: Write, P: Progress>(
     alloc: Global,
-    chosen: &Chosen,
-    children: &mut C,
+    request: &Request,
+    sources: &mut C,
     store: &mut Store<S>,
     progress: &mut P,
     writer: &mut W,
@@ -243,22 +250,23 @@ fn accepted_on_copies<S: Disk, C: Children, W: Write, P: Progress>(
     requires made { (ops : List Op) × Makes ops store.old.sheet.contents }
     requires few { length store.old.sheet.contents.fields < 2 ^ 31 }
     requires goes_on { GoesOn store.old.sheet.contents store.old }
-    ensures none { IfNone result ((children.new ≡ children.old) × (writer.new ≡ writer.old)
+    ensures none { IfNone result ((sources.new ≡ sources.old) × (writer.new ≡ writer.old)
         × (progress.new ≡ progress.old) × (store.new ≡ store.old)) }
     ensures some { (ops : List Op) → (disk : DiskView) → Stores ops [] disk store.old
-        → IfSome result (OnCopy C.after chosen.now store.old.sheet.contents children.old children.new
+        → IfSome result (OnCopy (way C.after C.clock C.wakes request.now.limit)
+        request.now.chosen store.old.sheet.contents sources.old sources.new
         (W.contents writer.old) (W.contents writer.new) ops disk store.new) }
     ensures shown { IfSome result (λ counted. SheetShows formats.Accepting P.shows
-        (answered chosen.now store.old.sheet.contents.fields)
+        (answered request.now.chosen store.old.sheet.contents.fields)
         progress.old progress.new counted) }
 {
     one_sheet();
     match open_copy(alloc, store.sheet()) {
         Some(was) => accepted_on_copy(
             alloc,
-            chosen,
+            request,
             was.sheet(),
-            children,
+            sources,
             store,
             progress,
             writer,
@@ -268,10 +276,10 @@ fn accepted_on_copies<S: Disk, C: Children, W: Write, P: Progress>(
 }
 
 /// Checks the worksheet of a store, accepts the answers that differ, and tells the counts.
-fn accept_sheet<S: Disk, C: Children, W: Write, P: Progress>(
+fn accept_sheet<S: Disk, C: Sources, W: Write, P: Progress>(
     alloc: Global,
-    chosen: &Chosen,
-    children: &mut C,
+    request: &Request,
+    sources: &mut C,
     store: &mut Store<S>,
     progress: &mut P,
     writer: &mut W,
@@ -279,15 +287,16 @@ fn accept_sheet<S: Disk, C: Children, W: Write, P: Progress>(
     requires made { (ops : List Op) × Makes ops store.old.sheet.contents }
     requires goes_on { GoesOn store.old.sheet.contents store.old }
     ensures accepted { (ops : List Op) → (disk : DiskView) → Stores ops [] disk store.old
-        → SheetAccepts C.after chosen.now store.old.sheet.contents children.old children.new
+        → SheetAccepts (way C.after C.clock C.wakes request.now.limit)
+        request.now.chosen store.old.sheet.contents sources.old sources.new
         (W.contents writer.old) (W.contents writer.new)
-        ((writer.new ≡ writer.old) × (children.new ≡ children.old)) ops disk store.new.disk result }
+        ((writer.new ≡ writer.old) × (sources.new ≡ sources.old)) ops disk store.new.disk result }
     ensures shown { SheetShows formats.Accepting P.shows
-        (answered chosen.now store.old.sheet.contents.fields)
+        (answered request.now.chosen store.old.sheet.contents.fields)
         progress.old progress.new result }
 {
     worksheet::laws::ops_make_worksheets();
-    let Some(counted) = accepted_on_copies(alloc, chosen, children, store, progress, writer) else {
+    let Some(counted) = accepted_on_copies(alloc, request, sources, store, progress, writer) else {
         progress.show(Sight::Nothing);
         return Err(RunFault::OutOfMemory);
     };
@@ -302,36 +311,37 @@ fn accept_sheet<S: Disk, C: Children, W: Write, P: Progress>(
 
 /// Checks the worksheet on a disk as `check` does, and accepts the answers that differ: each of them is
 /// put into its field, with the prompt that came with it, and is durable before its difference is
-/// written, with a line `accepted ID` behind. Where the output is the same, where no answer came, and
-/// where a field is left out, nothing is put anywhere. The worksheet is then the one from before with
+/// written, with a line `accepted ID` after it. Where the output is the same, where no answer came, or none
+/// in time, and where a field is left out, nothing is put anywhere. The worksheet is then the one from before with
 /// those answers, in their order, and no other change.
 ///
 /// `Open` where the disk isn't opened: nothing was done. `Host(JournalFull)` where an answer doesn't fit
-/// on the disk, or on that of the copy; `Host(Disk)` where the disk failed: one answer more than was told
+/// on the disk, or on that of the copy; `Host(Disk)` where the disk failed: one answer more than was reported
 /// may be on it. `Output` where the writer fails: the same. `OutOfMemory`, and `Host` of another fault
-/// of the copy's host: what was told is on the disk, and no more.
-pub fn check_accepting<D: Disk, C: Children, W: Write, P: Progress>(
+/// of the copy's host: what was reported is on the disk, and no more.
+pub fn check_accepting<D: Disk, C: Sources, W: Write, P: Progress>(
     alloc: Global,
-    chosen: &Chosen,
+    request: &Request,
     disk: D,
-    children: &mut C,
+    sources: &mut C,
     progress: &mut P,
     writer: &mut W,
 ) -> Checked<D>
-    ensures accepted { AcceptAnswer C.after chosen.now (D.view disk) (D.view result.disk)
-        children.old children.new (W.contents writer.old) (W.contents writer.new)
-        ((writer.new ≡ writer.old) × (children.new ≡ children.old)) result.answer }
+    ensures accepted { AcceptAnswer (way C.after C.clock C.wakes request.now.limit)
+        request.now.chosen (D.view disk) (D.view result.disk)
+        sources.old sources.new (W.contents writer.old) (W.contents writer.new)
+        ((writer.new ≡ writer.old) × (sources.new ≡ sources.old)) result.answer }
 
-    ensures shown { CheckShows formats.Accepting P.shows chosen.now (D.view disk)
+    ensures shown { CheckShows formats.Accepting P.shows request.now.chosen (D.view disk)
         progress.old progress.new result.answer }
 
-    // That the disk can't be read is told only where it failed.
+    // That the disk can't be read is reported only where it failed.
     ensures failed { result.answer ≡ Err (told.Open opens.Disk)
         → Rises (D.view disk).faults (D.view result.disk).faults }
 {
     match Store::open(alloc, disk) {
         Ok(mut store) => {
-            let answer = accept_sheet(alloc, chosen, children, &mut store, progress, writer);
+            let answer = accept_sheet(alloc, request, sources, &mut store, progress, writer);
             Checked {
                 disk: store.into_disk(),
                 answer,

@@ -1,25 +1,23 @@
-//! The evaluation of a field anew.
-ghost use Rattle.std.specs.Prelude.{◌≡◌, ◌∷◌, [], List, IfErr, IfOk, OnOk, Some, false};
+//! The evaluation of a field again.
+ghost use Rattle.std.specs.Prelude.{◌≡◌, ◌∷◌, ◌&&◌, [], List, IfErr, IfOk, Some, false};
 ghost use Rattle.session_engine.specs.World.{World};
 ghost use Rattle.session_engine.specs.Host.{IsHost};
-ghost use Rattle.host_events.specs.declared.command.Command.TheVariants as command;
-ghost use Rattle.child_edge.specs.Faithful.{at, Beat, Served, Waited};
-ghost use Rattle.child_edge.specs.Limits.{most_turns};
+ghost use Rattle.child_edge.specs.Faithful.{at, Beat, Served};
 ghost use Rattle.child_edge.specs.Told.{told};
-ghost use Rattle.sheet_text.specs.declared.script.ScriptLine.TheVariants as said;
-ghost use Rattle.sheet_check.specs.Evaluated.{begins_asked, begins_for_memory, eval_of, is_asked as says_asked, is_for_memory as says_for_memory};
-ghost use Rattle.sheet_check.specs.inside.Checking.{PartFailed, fault_of_cause};
+ghost use Rattle.sheet_check.specs.Evaluated.{Evaluated, WaitedBy, begins_asked, begins_for_memory, came_if, eval_of, is_asked as says_asked, is_for_memory as says_for_memory, shown_in, way};
+ghost use Rattle.sheet_check.specs.inside.Checking.{AskFailed, EvaluationBroke, WaitBroke, fault_of_cause, fault_on_copy};
 
-use child_calls::Children;
+use arrivals::Sources;
 use child_edge::{EdgeCause, EdgeFault, serve, wait};
 use disk_model::Disk;
+use evaluation::wait_within;
 use host_events::{Command, HostFault, Reply};
 use offline_programs::RunFault;
 use session_engine::Host;
 use std::alloc::Global;
 use worksheet::Refusal;
 
-/// The fault of a check by why its edge broke off. Its disk lies in memory, so it fails for want of that
+/// The fault of a check by why its edge broke off. Its disk lies in memory, so it fails for lack of that
 /// alone.
 fn check_fault(cause: EdgeCause) -> RunFault
     ensures { result ≡ fault_of_cause cause }
@@ -30,6 +28,23 @@ fn check_fault(cause: EdgeCause) -> RunFault
         EdgeCause::Host(HostFault::JournalFull) => RunFault::Host(HostFault::JournalFull),
         EdgeCause::Host(HostFault::Closed) => RunFault::Host(HostFault::Closed),
         EdgeCause::OutOfMemory => RunFault::OutOfMemory,
+    }
+}
+
+/// The fault of a check by that of a wait within a limit, on the same disk.
+fn wait_fault(fault: RunFault) -> RunFault
+    ensures { result ≡ fault_on_copy fault }
+{
+    match fault {
+        RunFault::Host(HostFault::Disk) | RunFault::OutOfMemory => RunFault::OutOfMemory,
+        RunFault::Host(HostFault::OutOfMemory) => RunFault::Host(HostFault::OutOfMemory),
+        RunFault::Host(HostFault::JournalFull) => RunFault::Host(HostFault::JournalFull),
+        RunFault::Host(HostFault::Closed) => RunFault::Host(HostFault::Closed),
+        RunFault::Input => RunFault::Input,
+        RunFault::InputTooLong => RunFault::InputTooLong,
+        RunFault::Output => RunFault::Output,
+        RunFault::Open(why) => RunFault::Open(why),
+        RunFault::InUse => RunFault::InUse,
     }
 }
 
@@ -66,41 +81,81 @@ fn was_asked(replies: &[Reply]) -> Result<bool, RunFault>
 }
 
 /// Asks the line of a field. Whether it was asked; `OutOfMemory` where there is no memory for it.
-pub(crate) fn ask<D: Disk, C: Children>(
+fn ask<D: Disk, C: Sources>(
     alloc: Global,
     host: &mut Host<D>,
-    children: &mut C,
+    sources: &mut C,
     id: u32,
 ) -> Result<bool, RunFault>
     ensures ok { (w : World) → IsHost host.old w → IfOk result (λ asked. (beats : List Beat) × (t : World)
-        × Served C.after (at w children.old host.old.store.disk) (eval_of id) beats
-        (at t children.new host.new.store.disk)
+        × Served C.after (at w sources.old host.old.store.disk) (eval_of id) beats
+        (at t sources.new host.new.store.disk)
         × IsHost host.new t × (asked ≡ begins_asked (told beats))
         × (begins_for_memory (told beats) ≡ false)) }
-    ensures err { (w : World) → IsHost host.old w → IfErr result (PartFailed C.after
-        (Some (said.Command (command.Eval id))) (at w children.old host.old.store.disk)
-        host.new children.new) }
+    ensures err { (w : World) → IsHost host.old w → IfErr result (AskFailed
+        C.after id (at w sources.old host.old.store.disk) host.new sources.new) }
 {
-    match serve(alloc, host, children, Command::Eval { id }) {
+    match serve(alloc, host, sources, Command::Eval { id }) {
         Ok(replies) => was_asked(replies.as_slice()),
         Err(EdgeFault { replies: _, cause }) => Err(check_fault(cause)),
     }
 }
 
-/// Waits for the answers.
-pub(crate) fn wait_for_all<D: Disk, C: Children>(
+/// Waits for the answers. Whether the time of the field with this number, whose line was sent last, wasn't
+/// over.
+fn wait_for_all<D: Disk, C: Sources>(
     alloc: Global,
+    limit: Option<u32>,
     host: &mut Host<D>,
-    children: &mut C,
-) -> Result<(), RunFault>
-    ensures ok { (w : World) → IsHost host.old w → OnOk result ((beats : List Beat) × (t : World)
-        × Waited C.after most_turns (at w children.old host.old.store.disk) beats
-        (at t children.new host.new.store.disk) × IsHost host.new t) }
-    ensures err { (w : World) → IsHost host.old w → IfErr result (PartFailed C.after
-        (Some said.Wait) (at w children.old host.old.store.disk) host.new children.new) }
+    sources: &mut C,
+    id: u32,
+) -> Result<bool, RunFault>
+    ensures ok { (w : World) → IsHost host.old w → IfOk result (λ in_time. (t : World)
+        × WaitedBy limit (way C.after C.clock C.wakes limit) id (at w sources.old host.old.store.disk)
+        in_time (at t sources.new host.new.store.disk) × IsHost host.new t) }
+    ensures err { (w : World) → IsHost host.old w → IfErr result (WaitBroke
+        (way C.after C.clock C.wakes limit) id (at w sources.old host.old.store.disk) host.new sources.new) }
 {
-    match wait(alloc, host, children) {
-        Ok(_) => Ok(()),
-        Err(EdgeFault { replies: _, cause }) => Err(check_fault(cause)),
+    match limit {
+        None => match wait(alloc, host, sources) {
+            Ok(_) => Ok(true),
+            Err(EdgeFault { replies: _, cause }) => Err(check_fault(cause)),
+        },
+        Some(seconds) => match wait_within(alloc, host, sources, seconds, id) {
+            Ok(in_time) => Ok(in_time),
+            Err(fault) => Err(wait_fault(fault)),
+        },
+    }
+}
+
+/// Whether an answer came: the line was asked, and its time wasn't over.
+fn comes(asked: bool, in_time: bool) -> bool
+    ensures { result ≡ (asked && in_time) }
+{
+    asked && in_time
+}
+
+/// Evaluates a field again: asks its line, and waits for the answer, within the limit of time where there is
+/// one. Whether the answer that it shows then is one that came.
+pub(crate) fn evaluate<D: Disk, C: Sources>(
+    alloc: Global,
+    limit: Option<u32>,
+    host: &mut Host<D>,
+    sources: &mut C,
+    id: u32,
+) -> Result<bool, RunFault>
+    ensures ok { (w : World) → IsHost host.old w → IfOk result (λ came. (t : World)
+        × Evaluated (way C.after C.clock C.wakes limit) id (at w sources.old host.old.store.disk)
+        (came_if came (shown_in t id)) (at t sources.new host.new.store.disk) × IsHost host.new t) }
+    ensures err { (w : World) → IsHost host.old w → IfErr result (EvaluationBroke
+        (way C.after C.clock C.wakes limit) id (at w sources.old host.old.store.disk) host.new sources.new) }
+{
+    let asked = match ask(alloc, host, sources, id) {
+        Ok(asked) => asked,
+        Err(fault) => return Err(fault),
+    };
+    match wait_for_all(alloc, limit, host, sources, id) {
+        Ok(in_time) => Ok(comes(asked, in_time)),
+        Err(fault) => Err(fault),
     }
 }

@@ -1,5 +1,5 @@
-//! A worksheet as a test suite: the fields that show an answer are evaluated anew on a copy in memory, and
-//! what differs is told.
+//! A worksheet as a test suite: the fields that show an answer are evaluated again on a copy in memory, and
+//! what differs is reported.
 #![tactic(auto)]
 
 mod accepting;

@@ -27,10 +27,10 @@ pub enum Sight {
 pub trait Progress {
     ghost use Rattle.sheet_check.specs.declared.progress.Sight.{Sight};
 
-    /// The progress before something is shown, what that is, and the progress behind it.
+    /// The progress before something is shown, what that is, and the progress after it.
     ghost shows: { Self → Sight → Self → Type 0 };
 
-    /// Shows this in the place of what was shown before. That it can't be shown is told to nobody: a
+    /// Shows this in the place of what was shown before. No one learns that it can't be shown: a
     /// check ends as it would without.
     fn show(&mut self, sight: Sight)
         ensures { shows self.old sight self.new };

@@ -1,4 +1,4 @@
-//! What a field came to, as it is told.
+//! What a field came to, as it is reported.
 ghost use Rattle.std.specs.Prelude.{◌≡◌, IfErr, IfOk, OnOk};
 ghost use Rattle.std.specs.Io.KnownBytes.{Appends};
 ghost use Rattle.session_engine.specs.World.{World};

@@ -116,3 +116,13 @@ BrokeOff o p Behind h a b fault.Input = CameSoFar (Unwatched o p) Behind h a b
 BrokeOff o p Behind h a b fault.InputTooLong = CameSoFar (TooMany o p) Behind h a b
 BrokeOff o p Behind h a b (fault.Open why) = ⊥
 BrokeOff o p Behind h a b fault.InUse = ⊥
+
+-- the fault of a wait by that of its steps, which write to a text in memory
+abbrev pub fault_of_wait : RunFault → RunFault
+fault_of_wait fault.Output = fault.OutOfMemory
+fault_of_wait fault.OutOfMemory = fault.OutOfMemory
+fault_of_wait fault.Input = fault.Input
+fault_of_wait fault.InputTooLong = fault.InputTooLong
+fault_of_wait (fault.Host f) = fault.Host f
+fault_of_wait (fault.Open why) = fault.Open why
+fault_of_wait fault.InUse = fault.InUse

@@ -3,18 +3,17 @@ use Rattle.std.specs.Prelude.{IfSome}
 use Rattle.child_edge.specs.Faithful.{at}
 use Rattle.child_edge.proofs.Faulting.{same-at, same-on}
 use Rattle.evaluation.specs.Steps.{setting, stands}
-use Rattle.evaluation.specs.Evaluation.{not_begun}
 use Rattle.evaluation.specs.inside.Stepping.{StepGave}
 use Rattle.evaluation.proofs.Goings.{all_taken, broke_off, none_taken, one_taken, too_many}
 use Rattle.evaluation.proofs.evaluating.evaluate_on.Goals as goal
 
 pub loop-init : goal.loop-init
 loop-init g c = record {
-  taken = omega arith;
-  asked = omega arith;
-  overs = omega arith;
+  taken = c.requires.taken;
+  asked = omega (arith, c.requires.counted.0);
+  overs = omega (arith, c.requires.counted.1);
   same = same-at c.args.host.now.store.disk;
-  runs = λ w h. none_taken (setting g.T.Tells.voice g.S.Children.after g.S.Sources.clock g.S.Sources.wakes c.args.plan.now c.args.ids.now) w c.args.host.now c.args.sources.now not_begun (g.W.Write.contents c.args.writer.now) h;
+  runs = λ w h. none_taken (setting g.T.Tells.voice g.S.Children.after g.S.Sources.clock g.S.Sources.wakes c.args.plan.now c.args.ids.now) w c.args.host.now c.args.sources.now c.args.from (g.W.Write.contents c.args.writer.now) h;
 }
 
 pub returns-in-Ok-None-clause-same : goal.returns-in-Ok-None-clause-same
@@ -23,7 +22,7 @@ returns-in-Ok-None-clause-same g c = same-on c.args.host.now.store.disk c.loop.h
 pub returns-in-Ok-None-clause-ok : goal.returns-in-Ok-None-clause-ok
 returns-in-Ok-None-clause-ok g c = λ w h.
     let so = c.loop.invariant.runs w h in
-    all_taken (setting g.T.Tells.voice g.S.Children.after g.S.Sources.clock g.S.Sources.wakes c.args.plan.now c.args.ids.now) (stands (at w c.args.sources.now c.args.host.now.store.disk) not_begun) c.loop.stand c.loop.host c.step.new.host c.loop.sources c.step.new.sources
+    all_taken (setting g.T.Tells.voice g.S.Children.after g.S.Sources.clock g.S.Sources.wakes c.args.plan.now c.args.ids.now) (stands (at w c.args.sources.now c.args.host.now.store.disk) c.args.from) c.loop.stand c.loop.host c.step.new.host c.loop.sources c.step.new.sources
     (g.W.Write.contents c.args.writer.now) (g.W.Write.contents c.loop.writer) (g.W.Write.contents c.step.new.writer) _ so
     (subst (StepGave (setting g.T.Tells.voice g.S.Children.after g.S.Sources.clock g.S.Sources.wakes c.args.plan.now c.args.ids.now) (stands (at so.leads c.loop.sources c.loop.host.store.disk) c.loop.stand) c.step.new.host c.step.new.sources (g.W.Write.contents c.loop.writer) (g.W.Write.contents c.step.new.writer)) c.in-Ok-None.field-0-is (c.in-Ok-None.ensures.ok so.leads so.stands))
 
@@ -33,7 +32,7 @@ returns-in-Err-clause-same g c = same-on c.args.host.now.store.disk c.loop.host.
 pub returns-in-Err-clause-err : goal.returns-in-Err-clause-err
 returns-in-Err-clause-err g c = λ w h.
     let so = c.loop.invariant.runs w h in
-    broke_off (setting g.T.Tells.voice g.S.Children.after g.S.Sources.clock g.S.Sources.wakes c.args.plan.now c.args.ids.now) (stands (at w c.args.sources.now c.args.host.now.store.disk) not_begun) c.loop.stand c.loop.host c.step.new.host c.loop.sources c.step.new.sources
+    broke_off (setting g.T.Tells.voice g.S.Children.after g.S.Sources.clock g.S.Sources.wakes c.args.plan.now c.args.ids.now) (stands (at w c.args.sources.now c.args.host.now.store.disk) c.args.from) c.loop.stand c.loop.host c.step.new.host c.loop.sources c.step.new.sources
     (g.W.Write.contents c.args.writer.now) (g.W.Write.contents c.loop.writer) (g.W.Write.contents c.step.new.writer) _ so c.in-Err.fault (c.in-Err.ensures.err so.leads so.stands)
 
 pub loop-preserved : goal.loop-preserved
@@ -44,11 +43,11 @@ loop-preserved g c = record {
   same = same-on c.args.host.now.store.disk c.loop.host.store.disk c.step.new.host.store.disk c.loop.invariant.same c.in-Ok-Some.ensures.same;
   runs = λ w h.
       let so = c.loop.invariant.runs w h in
-      one_taken (setting g.T.Tells.voice g.S.Children.after g.S.Sources.clock g.S.Sources.wakes c.args.plan.now c.args.ids.now) (stands (at w c.args.sources.now c.args.host.now.store.disk) not_begun) c.loop.stand c.loop.host c.step.new.host c.loop.sources c.step.new.sources
+      one_taken (setting g.T.Tells.voice g.S.Children.after g.S.Sources.clock g.S.Sources.wakes c.args.plan.now c.args.ids.now) (stands (at w c.args.sources.now c.args.host.now.store.disk) c.args.from) c.loop.stand c.loop.host c.step.new.host c.loop.sources c.step.new.sources
       (g.W.Write.contents c.args.writer.now) (g.W.Write.contents c.loop.writer) (g.W.Write.contents c.step.new.writer) _ so c.in-Ok-Some.next
       (subst (StepGave (setting g.T.Tells.voice g.S.Children.after g.S.Sources.clock g.S.Sources.wakes c.args.plan.now c.args.ids.now) (stands (at so.leads c.loop.sources c.loop.host.store.disk) c.loop.stand) c.step.new.host c.step.new.sources (g.W.Write.contents c.loop.writer) (g.W.Write.contents c.step.new.writer)) c.in-Ok-Some.field-0-is (c.in-Ok-Some.ensures.ok so.leads so.stands));
 }
 
 pub returns-clause-err : goal.returns-clause-err
 returns-clause-err g c = λ w h.
-    too_many (setting g.T.Tells.voice g.S.Children.after g.S.Sources.clock g.S.Sources.wakes c.args.plan.now c.args.ids.now) (stands (at w c.args.sources.now c.args.host.now.store.disk) not_begun) c.loop.stand c.loop.host c.loop.sources (g.W.Write.contents c.args.writer.now) (g.W.Write.contents c.loop.writer) _ (c.loop.invariant.runs w h) (omega (arith, c.loop-test.false))
+    too_many (setting g.T.Tells.voice g.S.Children.after g.S.Sources.clock g.S.Sources.wakes c.args.plan.now c.args.ids.now) (stands (at w c.args.sources.now c.args.host.now.store.disk) c.args.from) c.loop.stand c.loop.host c.loop.sources (g.W.Write.contents c.args.writer.now) (g.W.Write.contents c.loop.writer) _ (c.loop.invariant.runs w h) (omega (arith, c.loop-test.false))

@@ -4,7 +4,6 @@ use Rattle.session_engine.specs.World.{World}
 use Rattle.session_engine.specs.Host.{IsHost}
 use Rattle.child_edge.specs.Faithful.{at}
 use Rattle.evaluation.specs.Steps.{setting, stands}
-use Rattle.evaluation.specs.Evaluation.{not_begun}
 use Rattle.evaluation.proofs.Goings.{SoFar}
 use Rattle.evaluation.proofs.evaluating.evaluate_on.Given as goal
 
@@ -14,6 +13,6 @@ invariant-loop g l = record {
   asked : l.stand.asked ≤ l.counter;
   overs : l.stand.overs ≤ l.counter;
   same : SameDisk l.initial.host.store.disk l.host.store.disk;
-  runs : (w : World) → IsHost l.initial.host w → SoFar (setting g.T.Tells.voice g.S.Children.after g.S.Sources.clock g.S.Sources.wakes l.plan l.ids) (stands (at w l.initial.sources l.initial.host.store.disk) not_begun) l.stand l.host l.sources
+  runs : (w : World) → IsHost l.initial.host w → SoFar (setting g.T.Tells.voice g.S.Children.after g.S.Sources.clock g.S.Sources.wakes l.plan l.ids) (stands (at w l.initial.sources l.initial.host.store.disk) l.fn.from) l.stand l.host l.sources
       (g.W.Write.contents l.initial.writer) (g.W.Write.contents l.writer) l.counter;
 }

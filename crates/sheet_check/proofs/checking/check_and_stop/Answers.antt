@@ -1,6 +1,7 @@
 use Rattle.std.proofs.Common.{subst}
 use Rattle.std.proofs.lemmas.Result.{IfErr-weaker, IfOk-weaker}
 use Rattle.child_edge.specs.Faithful.{at}
+use Rattle.sheet_check.specs.Evaluated.{way}
 use Rattle.sheet_check.specs.Progress.{SheetShows}
 use Rattle.sheet_check.proofs.Ends.{fields_ended, fields_stopped}
 use Rattle.sheet_check.proofs.Showing.{sheet_shows}
@@ -9,14 +10,14 @@ use Rattle.sheet_check.proofs.checking.check_and_stop.Goals as goal
 pub returns-clause-ok : goal.returns-clause-ok
 returns-clause-ok g c = λ w h.
     IfOk-weaker c.check_fields-counted.result _ _
-    (λ counts p. fields_ended g.C.Children.after c.args.request.now.chosen c.args.request.now.format c.args.sheet.now.contents.fields (at w c.args.children.now c.args.host.now.store.disk) c.check_fields-counted.new.host c.check_fields-counted.new.children c.stop_all.new.children
+    (λ counts p. fields_ended (way g.C.Children.after g.C.Sources.clock g.C.Sources.wakes c.args.request.now.limit) c.args.request.now.chosen c.args.request.now.format c.args.sheet.now.contents.fields (at w c.args.sources.now c.args.host.now.store.disk) c.check_fields-counted.new.host c.check_fields-counted.new.sources c.stop_all.new.children
     (g.W.Write.contents c.args.writer.now) (g.W.Write.contents c.check_fields-counted.new.writer) counts (c.stop_all.ensures.working, c.stop_all.ensures.stopped) p)
     (c.check_fields-counted.ensures.ok w h)
 
 pub returns-clause-err : goal.returns-clause-err
 returns-clause-err g c = λ w h.
     IfErr-weaker c.check_fields-counted.result _ _
-    (λ why p. fields_stopped g.C.Children.after c.args.request.now.chosen c.args.request.now.format c.args.sheet.now.contents.fields (at w c.args.children.now c.args.host.now.store.disk) c.check_fields-counted.new.host c.check_fields-counted.new.children c.stop_all.new.children
+    (λ why p. fields_stopped (way g.C.Children.after g.C.Sources.clock g.C.Sources.wakes c.args.request.now.limit) c.args.request.now.chosen c.args.request.now.format c.args.sheet.now.contents.fields (at w c.args.sources.now c.args.host.now.store.disk) c.check_fields-counted.new.host c.check_fields-counted.new.sources c.stop_all.new.children
     (g.W.Write.contents c.args.writer.now) (g.W.Write.contents c.check_fields-counted.new.writer) why (c.stop_all.ensures.working, c.stop_all.ensures.stopped) p)
     (c.check_fields-counted.ensures.err w h)
 

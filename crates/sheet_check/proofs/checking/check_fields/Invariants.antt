@@ -2,6 +2,7 @@ use Rattle.std.proofs.Common.{◌+◌, ◌≤◌, length}
 use Rattle.session_engine.specs.World.{World}
 use Rattle.session_engine.specs.Host.{IsHost}
 use Rattle.child_edge.specs.Faithful.{at}
+use Rattle.sheet_check.specs.Evaluated.{way}
 use Rattle.sheet_check.specs.Progress.{FieldsShow}
 use Rattle.check_report.specs.Verdicts.{total}
 use Rattle.sheet_check.proofs.Fields.{FieldsSoFar}
@@ -12,5 +13,5 @@ invariant-loop-field g l = record {
   few : total l.counts + length l.fields ≤ length l.fn.sheet.contents.fields;
   shown : FieldsShow l.fn.request.format g.P.Progress.shows l.fn.all l.fn.progress l.counts l.progress;
   runs : (w : World) → IsHost l.fn.host w
-      → FieldsSoFar g.C.Children.after l.fn.request.chosen l.fn.request.format l.fn.sheet.contents.fields l.fields (at w l.fn.children l.fn.host.store.disk) l.host l.children (g.W.Write.contents l.fn.writer) (g.W.Write.contents l.writer) l.counts;
+      → FieldsSoFar (way g.C.Children.after g.C.Sources.clock g.C.Sources.wakes l.fn.request.limit) l.fn.request.chosen l.fn.request.format l.fn.sheet.contents.fields l.fields (at w l.fn.sources l.fn.host.store.disk) l.host l.sources (g.W.Write.contents l.fn.writer) (g.W.Write.contents l.writer) l.counts;
 }

@@ -1,6 +1,7 @@
 use Rattle.std.proofs.Common.{[], inl, refl, subst}
 use Rattle.sheet_programs.proofs.Runs.{if_err_is, if_ok_is}
 use Rattle.check_report.specs.Verdicts.{counts_of}
+use Rattle.sheet_check.specs.Evaluated.{way}
 use Rattle.sheet_check.specs.Progress.{SheetShows, answered, none}
 use Rattle.sheet_check.specs.declared.progress.Sight.TheVariants as sight
 use Rattle.sheet_check.proofs.Ends.{sheet_checked, counts_untold, stopped_tells}
@@ -9,19 +10,19 @@ use Rattle.sheet_check.proofs.checking.check_sheet.Goals as goal
 pub returns-in-Ok-tell_closing-clause-checked : goal.returns-in-Ok-tell_closing-clause-checked
 returns-in-Ok-tell_closing-clause-checked g c =
     let o = c.in-Some.ensures.some in
-    sheet_checked g.C.Children.after c.args.request.now.chosen c.args.request.now.format c.args.sheet.now.contents o.0 o.1 o.2 c.args.children.now c.checked_on_copy.new.children (g.W.Write.contents c.args.writer.now) (g.W.Write.contents c.checked_on_copy.new.writer)
+    sheet_checked (way g.C.Children.after g.C.Sources.clock g.C.Sources.wakes c.args.request.now.limit) c.args.request.now.chosen c.args.request.now.format c.args.sheet.now.contents o.0 o.1 o.2 c.args.sources.now c.checked_on_copy.new.sources (g.W.Write.contents c.args.writer.now) (g.W.Write.contents c.checked_on_copy.new.writer)
     (g.W.Write.contents c.tell_closing.new.writer) c.in-Ok.counts (if_ok_is c.in-Some.counted _ c.in-Ok.counts c.in-Ok.is o.3) c.in-Ok-tell_closing.ensures.ok
 
 pub returns-in-Err-tell_closing-clause-checked : goal.returns-in-Err-tell_closing-clause-checked
 returns-in-Err-tell_closing-clause-checked g c =
     let o = c.in-Some.ensures.some in
-    counts_untold g.C.Children.after c.args.request.now.chosen c.args.request.now.format c.args.sheet.now.contents o.0 o.1 o.2 c.args.children.now c.checked_on_copy.new.children (g.W.Write.contents c.args.writer.now) (g.W.Write.contents c.checked_on_copy.new.writer)
+    counts_untold (way g.C.Children.after g.C.Sources.clock g.C.Sources.wakes c.args.request.now.limit) c.args.request.now.chosen c.args.request.now.format c.args.sheet.now.contents o.0 o.1 o.2 c.args.sources.now c.checked_on_copy.new.sources (g.W.Write.contents c.args.writer.now) (g.W.Write.contents c.checked_on_copy.new.writer)
     (g.W.Write.contents c.tell_closing.new.writer) c.in-Ok.counts _ c.in-Err-tell_closing.fault (if_ok_is c.in-Some.counted _ c.in-Ok.counts c.in-Ok.is o.3) c.in-Err-tell_closing.ensures.err
 
 pub returns-in-Err-clause-checked : goal.returns-in-Err-clause-checked
 returns-in-Err-clause-checked g c =
     let o = c.in-Some.ensures.some in
-    stopped_tells g.C.Children.after c.args.request.now.chosen c.args.request.now.format c.args.sheet.now.contents o.0 o.1 o.2 c.args.children.now c.checked_on_copy.new.children (g.W.Write.contents c.args.writer.now) (g.W.Write.contents c.checked_on_copy.new.writer) _
+    stopped_tells (way g.C.Children.after g.C.Sources.clock g.C.Sources.wakes c.args.request.now.limit) c.args.request.now.chosen c.args.request.now.format c.args.sheet.now.contents o.0 o.1 o.2 c.args.sources.now c.checked_on_copy.new.sources (g.W.Write.contents c.args.writer.now) (g.W.Write.contents c.checked_on_copy.new.writer) _
     c.in-Err.fault (if_err_is c.in-Some.counted _ c.in-Err.fault c.in-Err.is o.4)
 
 -- The line of progress is taken away at each end.

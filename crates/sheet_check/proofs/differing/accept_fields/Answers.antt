@@ -3,6 +3,7 @@ use Rattle.worksheet.specs.declared.field.Field.{Field}
 use Rattle.child_edge.specs.Faithful.{at}
 use Rattle.check_report.specs.declared.report.Format.TheVariants as format
 use Rattle.check_report.specs.Verdicts.{total}
+use Rattle.sheet_check.specs.Evaluated.{way}
 use Rattle.sheet_check.specs.Accept.{accepted}
 use Rattle.sheet_check.proofs.Accepted.{all_took, goes_further, none_took, one_broke, one_took, there_in}
 use Rattle.sheet_check.proofs.Showing.{none_shown, one_shown}
@@ -18,7 +19,7 @@ loop-field-init g c =
       rest = ([], sym c.fields-fields.ensures);
       stands = c.requires.stands;
       goes = c.requires.goes_on;
-      runs = λ w h ops disk stores. none_took g.C.Children.after c.args.chosen.now c.args.sheet.now.contents.fields _ w c.args.host.now c.args.children.now (g.W.Write.contents c.args.writer.now) ops disk c.args.store.now c.none-counts.result c.fields-fields.ensures c.none-counts.ensures h stores;
+      runs = λ w h ops disk stores. none_took (way g.C.Children.after g.C.Sources.clock g.C.Sources.wakes c.args.request.now.limit) c.args.request.now.chosen c.args.sheet.now.contents.fields _ w c.args.host.now c.args.sources.now (g.W.Write.contents c.args.writer.now) ops disk c.args.store.now c.none-counts.result c.fields-fields.ensures c.none-counts.ensures h stores;
     }
 
 pub accept_field-requires-clause-few : goal.accept_field-requires-clause-few
@@ -43,21 +44,21 @@ loop-field-preserved g c =
       goes = goes_further c.args.sheet.now.contents c.loop-field.store c.accept_field.new.store was.goes took.0.0 took.1;
       runs = λ w h ops disk stores.
           let so = was.runs w h ops disk stores in
-          one_took g.C.Children.after c.args.chosen.now c.args.sheet.now.contents.fields c.loop-field.fields c.in-Some.field.now c.next.new.self (at w c.args.children.now c.args.host.now.store.disk) c.loop-field.host c.loop-field.children
-          (g.W.Write.contents c.args.writer.now) (g.W.Write.contents c.loop-field.writer) ops disk c.loop-field.store c.loop-field.counts c.accept_field.new.host c.accept_field.new.children (g.W.Write.contents c.accept_field.new.writer)
+          one_took (way g.C.Children.after g.C.Sources.clock g.C.Sources.wakes c.args.request.now.limit) c.args.request.now.chosen c.args.sheet.now.contents.fields c.loop-field.fields c.in-Some.field.now c.next.new.self (at w c.args.sources.now c.args.host.now.store.disk) c.loop-field.host c.loop-field.sources
+          (g.W.Write.contents c.args.writer.now) (g.W.Write.contents c.loop-field.writer) ops disk c.loop-field.store c.loop-field.counts c.accept_field.new.host c.accept_field.new.sources (g.W.Write.contents c.accept_field.new.writer)
           c.accept_field.new.store c.in-Some.ensures.steps so c.in-Ok.after (c.in-Ok.ensures.ok so.so.leads so.so.stands ops (accepted so.so.cases) disk so.kept);
     }
 
 pub returns-clause-ok : goal.returns-clause-ok
 returns-clause-ok g c = λ w h ops disk stores.
-    all_took g.C.Children.after c.args.chosen.now c.args.sheet.now.contents.fields c.loop-field.fields (at w c.args.children.now c.args.host.now.store.disk) c.loop-field.host c.loop-field.children
+    all_took (way g.C.Children.after g.C.Sources.clock g.C.Sources.wakes c.args.request.now.limit) c.args.request.now.chosen c.args.sheet.now.contents.fields c.loop-field.fields (at w c.args.sources.now c.args.host.now.store.disk) c.loop-field.host c.loop-field.sources
     (g.W.Write.contents c.args.writer.now) (g.W.Write.contents c.loop-field.writer) ops disk c.loop-field.store c.loop-field.counts c.in_default.ensures.steps.0 (c.loop-field.invariant.runs w h ops disk stores)
 
 pub returns-in-Err-clause-err : goal.returns-in-Err-clause-err
 returns-in-Err-clause-err g c = λ w h ops disk stores.
     let so = c.loop-field.invariant.runs w h ops disk stores in
-    one_broke g.C.Children.after c.args.chosen.now c.args.sheet.now.contents.fields c.loop-field.fields c.in-Some.field.now c.next.new.self (at w c.args.children.now c.args.host.now.store.disk) c.loop-field.host c.loop-field.children
-    (g.W.Write.contents c.args.writer.now) (g.W.Write.contents c.loop-field.writer) ops disk c.loop-field.store c.loop-field.counts c.accept_field.new.host c.accept_field.new.children (g.W.Write.contents c.accept_field.new.writer)
+    one_broke (way g.C.Children.after g.C.Sources.clock g.C.Sources.wakes c.args.request.now.limit) c.args.request.now.chosen c.args.sheet.now.contents.fields c.loop-field.fields c.in-Some.field.now c.next.new.self (at w c.args.sources.now c.args.host.now.store.disk) c.loop-field.host c.loop-field.sources
+    (g.W.Write.contents c.args.writer.now) (g.W.Write.contents c.loop-field.writer) ops disk c.loop-field.store c.loop-field.counts c.accept_field.new.host c.accept_field.new.sources (g.W.Write.contents c.accept_field.new.writer)
     c.accept_field.new.store c.in-Some.ensures.steps so c.in-Err.fault (c.in-Err.ensures.err so.so.leads so.so.stands ops (accepted so.so.cases) disk so.kept)
 
 pub returns-in-Err-clause-left : goal.returns-in-Err-clause-left

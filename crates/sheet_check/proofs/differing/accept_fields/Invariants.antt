@@ -8,6 +8,7 @@ use Rattle.child_edge.specs.Faithful.{at}
 use Rattle.acceptance.specs.Kept.{Stores}
 use Rattle.check_report.specs.declared.report.Format.TheVariants as format
 use Rattle.check_report.specs.Verdicts.{total}
+use Rattle.sheet_check.specs.Evaluated.{way}
 use Rattle.sheet_check.specs.Progress.{FieldsShow}
 use Rattle.sheet_check.specs.inside.Accepting.{GoesOn}
 use Rattle.sheet_check.proofs.Accepted.{TookSoFar}
@@ -21,5 +22,5 @@ invariant-loop-field g l = record {
   stands : (w : World) × IsHost l.host w;
   goes : GoesOn l.fn.sheet.contents l.store;
   runs : (w : World) → IsHost l.fn.host w → (ops : List Op) → (disk : DiskView) → Stores ops [] disk l.fn.store
-      → TookSoFar g.C.Children.after l.fn.chosen l.fn.sheet.contents.fields l.fields (at w l.fn.children l.fn.host.store.disk) l.host l.children (g.W.Write.contents l.fn.writer) (g.W.Write.contents l.writer) ops disk l.store l.counts;
+      → TookSoFar (way g.C.Children.after g.C.Sources.clock g.C.Sources.wakes l.fn.request.limit) l.fn.request.chosen l.fn.sheet.contents.fields l.fields (at w l.fn.sources l.fn.host.store.disk) l.host l.sources (g.W.Write.contents l.fn.writer) (g.W.Write.contents l.writer) ops disk l.store l.counts;
 }

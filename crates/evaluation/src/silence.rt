@@ -1,0 +1,68 @@
+//! A voice that says nothing.
+use disk_model::Disk;
+use host_events::Reply;
+use offline_programs::RunFault;
+use session_engine::Host;
+use std::io::Write;
+use tellings::{Frame, Note, Tells};
+use worksheet::Sheet;
+
+/// Nothing is written, whatever there is to tell.
+pub(crate) struct Silence;
+
+impl Tells for Silence {
+    ghost use Rattle.evaluation.specs.Within.{silent};
+
+    ghost voice = { silent };
+
+    fn frame<W: Write>(&self, _frame: Frame, _writer: &mut W) -> Result<(), RunFault> {
+        Ok(())
+    }
+
+    fn note<W: Write>(&self, _note: Note, _writer: &mut W) -> Result<(), RunFault> {
+        Ok(())
+    }
+
+    #[tactic(auto, using(crate::proofs::Unsaid::replies_unsaid))]
+    fn replies<W: Write>(
+        &self,
+        _line: u64,
+        _sheet: &Sheet,
+        _replies: &[Reply],
+        _writer: &mut W,
+    ) -> Result<(), RunFault> {
+        Ok(())
+    }
+
+    fn events<W: Write>(
+        &self,
+        _sheet: &Sheet,
+        _replies: &[Reply],
+        _writer: &mut W,
+    ) -> Result<(), RunFault> {
+        Ok(())
+    }
+
+    fn sheet<D: Disk, W: Write>(
+        &self,
+        _line: u64,
+        _host: &Host<D>,
+        _writer: &mut W,
+    ) -> Result<(), RunFault> {
+        Ok(())
+    }
+
+    fn field<D: Disk, W: Write>(
+        &self,
+        _line: u64,
+        _id: u32,
+        _host: &Host<D>,
+        _writer: &mut W,
+    ) -> Result<(), RunFault> {
+        Ok(())
+    }
+
+    fn fault<W: Write>(&self, _why: RunFault, _writer: &mut W) -> bool {
+        true
+    }
+}
