@@ -95,9 +95,9 @@ SPOKEN: list[tuple[str, str]] = [
 REMARKS: dict[Key, str] = {
     ("disk_model.Disk", "area_of"): "the bytes of an area",
     ("journal.Area", "closed_gate"): "as which a closed gate is written",
-    ("session_engine.Host", "IsHost"): "Any invariant would do in its place: `open` establishes it ([stands](#open.stands)), `step` and `play` "
+    ("session_engine.Host", "IsHost"): "Any invariant with these contracts would do in its place: `open` establishes it ([stands](#open.stands)), `step` and `play` "
     "need it and keep it for the world after the events, and other clauses say what is claimed of replies, worksheet and disk.",
-    ("recovery.Sheets", "IsSheetImage"): "Any relation would do in its place: each call that writes establishes it of all that a crash may "
+    ("recovery.Sheets", "IsSheetImage"): "Any relation with these contracts would do in its place: each call that writes establishes it of all that a crash may "
     "leave, and `open` turns it into a host with this worksheet ([exact](#open.exact)).",
     ("session_engine.Host", "EndsAt"): "`open` gives it of the disk that it has read (clause `ends`), and the laws take it: so the end of the "
     "journal in the world is that of the bytes.",

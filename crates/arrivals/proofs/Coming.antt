@@ -1,4 +1,4 @@
--- What may come where it is told.
+-- What may come where it is returned.
 use Rattle.std.proofs.Common.{◌≡◌, ℕ, true, List, Option, Some, None, sym, ap, ◌∙◌, position, get_or}
 use Rattle.std.specs.Prelude.{is_some}
 use Rattle.std.proofs.lemmas.List.Quantifiers.{position-Some}

@@ -35,7 +35,7 @@ read-lines h k (Some xs) (Some ys) bytes added dropping before took end =
     ∙ ap (λ b. lines_from h.dropping (b ++ ys)) added ∙ ap (lines_from h.dropping) (append_assoc h.bytes bytes ys)
     ∙ ap (λ more. lines_from h.dropping (h.bytes ++ more)) (sym took) ∙ ap (λ x. lines_from h.dropping (h.bytes ++ if_read x xs)) (sym before))
 
--- bytes of a room behind others
+-- bytes of a room after others
 pub take-both : (room : List ℕ) (at len : ℕ) → take (at + len) room ≡ take at room ++ take len (drop at room)
 take-both room at len =
     sym (take-append-drop at (take (at + len) room)) ∙ ap (λ l. l ++ drop at (take (at + len) room)) (take-take at (at + len) room (omega arith))

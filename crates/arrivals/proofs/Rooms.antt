@@ -15,7 +15,7 @@ range-len room start end ordered fits =
     let left = length-drop start room in
     length-take-le (end - start) (drop start room) (omega arith)
 
--- what stands behind the first bytes
+-- what comes after the first bytes
 pub range-rest : (room : List ℕ) (start end len : ℕ) → start + len ≤ end → slice_range room (start + len) end ≡ drop len (slice_range room start end)
 range-rest room start end len fits =
     let m = end - (start + len) in

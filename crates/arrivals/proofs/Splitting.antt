@@ -9,7 +9,7 @@ use Rattle.arrivals.specs.Lines.{too_long, longest_line, bounded_line, input_lin
 use Rattle.arrivals.specs.Held.{IsUnended, lines_from}
 use Rattle.arrivals.specs.inside.Buffers.{first_line}
 
--- the first line ends behind bytes that have no line feed
+-- the first line ends after bytes that have no line feed
 pub line_len-on : (xs ys : List ℕ) → IsUnended xs → line_len (xs ++ ys) ≡ length xs + line_len ys
 unfolding line_len
 line_len-on [] ys none = omega arith

@@ -23,7 +23,7 @@ abbrev pub lines_from : Bool → List ℕ → List InputLine
 lines_from false bytes = input_lines bytes
 lines_from true bytes = too_long ∷ input_lines (behind_line bytes)
 
--- behind the end of the input reads give nothing
+-- after the end of the input reads give nothing
 abbrev pub if_read : Bool → List ℕ → List ℕ
 if_read ended more = if ended then [] else more
 

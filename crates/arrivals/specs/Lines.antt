@@ -20,6 +20,6 @@ bounded_line bytes =
 unfoldable pub input_lines : List ℕ → List InputLine
 input_lines bytes = map bounded_line (lines_of bytes)
 
--- the bytes behind the first line
+-- the bytes after the first line
 abbrev pub behind_line : List ℕ → List ℕ
 behind_line bytes = drop (line_len bytes) bytes

@@ -34,7 +34,7 @@ behind_input input.HeldBack patience = behind_patience patience
 behind_input input.Empty patience = Some woken.Input
 behind_input input.Ready patience = Some woken.Input
 
--- behind the list: the input where it is wanted, else that the time is over where there is a limit, else a fault
+-- after the list: the input where it is wanted, else that the time is over where there is a limit, else a fault
 abbrev pub behind_turns : Asked → Option Woken
 behind_turns a = behind_input a.input a.patience
 
@@ -42,7 +42,7 @@ abbrev pub AtTurn : Option ℕ → List Woken → Asked → Option Woken → Lis
 AtTurn None ws a told vs = (told ≡ behind_turns a) × (vs ≡ ws)
 AtTurn (Some i) ws a told vs = (told ≡ slice_get ws i) × (vs ≡ remove ws i)
 
--- The first turn that may come is told and taken off. No child is touched.
+-- The first turn that may come is returned and taken off. No child is touched.
 abbrev pub ByTurns : TurnList → Asked → Option Woken → TurnList → Type 0
 ByTurns s a told t = (t.parts ≡ s.parts) × AtTurn (position (may_come a) s.turns) s.turns a told t.turns
 

@@ -15,7 +15,7 @@ pub struct InputFault;
 /// An input, of which whole lines are given and no more is read than was asked for.
 ///
 /// Its lines are those of `bstr`'s `lines`: each ends at a line feed, one carriage return in front of that
-/// is dropped, and the last one may lack its line feed. One of more than `LONGEST_LINE` bytes is told as
+/// is dropped, and the last one may lack its line feed. One of more than `LONGEST_LINE` bytes is reported as
 /// too long, and its bytes are dropped as they come. All memory is taken at the beginning.
 #[derive(Drop)]
 pub struct InputLines<R> {
@@ -38,7 +38,7 @@ impl<R: Read> InputLines<R> {
     }
 
     /// Reads once what is there, up to 65,536 bytes. It may block where nothing is there; no bytes are the
-    /// end of the input, behind which nothing is read. Nothing is read either where the buffer is full, which
+    /// end of the input, after which nothing is read. Nothing is read either where the buffer is full, which
     /// it never is where `next` asked for more.
     ///
     /// `InputFault`: the read failed, also where it was interrupted 1,001 times. Nothing is lost.
@@ -80,7 +80,7 @@ impl<R: Read> InputLines<R> {
         self.held.is_ready()
     }
 
-    /// Whether the input was read to its end, behind which nothing is read.
+    /// Whether the input was read to its end, after which nothing is read.
     pub fn is_at_end(&self) -> bool
         ensures { result ≡ self.now.held.ended }
     {

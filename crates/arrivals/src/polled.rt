@@ -31,8 +31,8 @@ const LEFT_OUT: pollfd = pollfd {
 /// Children and an input, watched by `poll`. Each call on a child is handed on as it is.
 ///
 /// A watch first goes on with the lives that were ready at the last poll, of which each gets its turn once,
-/// and polls when none of them is left; of a poll the input is told first. A life that was stopped since
-/// then is passed over. Nothing is read, and where no limit is given an idle watch takes no processor time.
+/// and polls when none of them is left; of a poll the input is returned first. A life that was stopped
+/// since then is passed over. Nothing is read, and an idle watch without a limit takes no processor time.
 ///
 /// A child that closed its output, and an input at its end, are ready for ever: a caller takes the end of
 /// the first, which stops it, and holds the other back. At most 64 children are watched, those that were

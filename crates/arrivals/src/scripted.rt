@@ -87,7 +87,7 @@ fn place(turns: &[Woken], input: Input, patience: Option<u64>) -> Option<usize>
         .position(|turn| may_come(*turn, input, patience))
 }
 
-/// What is told where no turn may come.
+/// What is returned where no turn may come.
 fn behind(input: Input, patience: Option<u64>) -> Result<Woken, WatchFault>
     ensures { result_ok result ≡ behind_turns (asked input patience) }
 {

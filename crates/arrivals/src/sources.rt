@@ -27,7 +27,7 @@ pub enum Woken {
 #[derive(Clone, Copy, Debug, PartialEq, Eq)]
 pub struct WatchFault;
 
-/// Children and an input, of which the first one that has something is told.
+/// Children and an input, of which the first one that has something is returned.
 ///
 /// The relation `wakes` says what a watch may answer and what it leads to, as `after` does for the calls on
 /// children. It takes nothing: what a life has is received, and lines are read, by calls of their own.
@@ -37,7 +37,7 @@ pub trait Sources: Children {
     ghost use Rattle.arrivals.specs.Watching.{Asked, MayCome, asked};
     ghost use Rattle.arrivals.specs.declared.sources.Woken.{Woken};
 
-    /// The sources before a watch, what it was asked, what it told (none: a fault), and the sources after it.
+    /// The sources before a watch, what it was asked, what it gave (none: a fault), and those after it.
     ghost wakes: { Self → Asked → Option Woken → Self → Type 0 };
 
     /// The sources, and what their clock may read while they stand so.

@@ -36,7 +36,7 @@ output b = cond (is_aside b.channel b.name) (record { channel = false; name = co
 abbrev pub own_text : List ℕ → Bool → List ℕ → Items → Option (List ℕ)
 own_text wanted channel name inside = cond (channel && bytes_eq name wanted) (Some (text_of inside)) None
 
--- The text of the last to open among the blocks of this channel: those behind a block open later than
+-- The text of the last to open among the blocks of this channel. Those after a block open later than
 -- those in it, and these open later than the block itself.
 abbrev pub last_text : List ℕ → Items → Option (List ℕ)
 last_text wanted end = None

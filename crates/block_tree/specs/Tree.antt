@@ -5,9 +5,9 @@ use Rattle.std.specs.Prelude.{ℕ, Bool, List, [], ◌∷◌}
 -- what stands in a block, in reading order
 pub data Items : Type 0 where
   end : Items
-  -- the bytes of a text, and what stands behind it
+  -- the bytes of a text, and what follows it
   text : List ℕ → Items → Items
-  -- whether it is a channel, its name, what stands in it, and what stands behind it
+  -- whether it is a channel, its name, what stands in it, and what follows it
   block : Bool → List ℕ → Items → Items → Items
 
 -- a block: a format or a channel, with this name and this content

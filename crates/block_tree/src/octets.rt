@@ -50,7 +50,7 @@ impl Octets {
         self.bytes.as_slice()
     }
 
-    /// Adds bytes behind the others.
+    /// Adds bytes after the others.
     pub fn extend(&mut self, more: &[u8]) -> Result<(), OutOfMemory>
         ensures ok { OnOk result (self.new ≡ self.old ++ more.now) }
         ensures err { OnErr result (self.new ≡ self.old) }

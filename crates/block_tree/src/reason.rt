@@ -19,6 +19,6 @@ pub enum Reason {
     TooDeep,
     /// A block or an output that is too long.
     TooLong,
-    /// It was told to stop.
+    /// A command stopped it.
     Stopped,
 }

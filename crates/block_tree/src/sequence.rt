@@ -48,7 +48,7 @@ impl<T> Sequence<T> {
         self.values.as_slice()
     }
 
-    /// Puts a value behind the others, or gives it back.
+    /// Puts a value after the others, or gives it back.
     pub fn push(&mut self, value: T) -> Result<(), (T, OutOfMemory)>
         ensures ok { OnOk result (self.new ≡ self.old ++ value ∷ []) }
         ensures returned { IfErr result (λ refused. refused.0 ≡ value) }

@@ -21,7 +21,7 @@ pub enum Item {
     Block(Node),
 }
 
-/// A tag and what stands behind it, in reading order. Any tree may be built; `Block` holds those that
+/// A tag and what follows it, in reading order. Any tree may be built; `Block` holds those that
 /// are blocks.
 #[cycle(tree)]
 #[derive(Debug, Drop)]

@@ -1,8 +1,9 @@
 -- Children that are processes: each call on a child is one call on the process of its life, and what that answered is the answer.
-use Rattle.std.specs.Prelude.{◌≡◌, ◌⊎◌, ◌==◌, ◌&&◌, ◌++◌, ℕ, Bool, List, [], ◌∷◌, Option, Some, None, position, remove, slice_get, slice_set}
+use Rattle.std.specs.Prelude.{◌≡◌, ◌⊎◌, ◌==◌, ◌&&◌, ◌++◌, ℕ, Bool, List, [], ◌∷◌, Option, Some, None, position, remove, slice_set}
 use Rattle.std.specs.Str.{bytes_eq}
 use Rattle.child_calls.specs.Calls.{Call, start, send, receive, interrupt, stop, Answer, done, fault, no_memory}
 use Rattle.child_calls.specs.Deeds.{Deed}
+use Rattle.child_calls.specs.Parts.{ByFirst}
 use Rattle.child_calls.specs.Deeds as deed
 use Rattle.child_calls.specs.declared.lives.Running.{Running}
 
@@ -36,15 +37,10 @@ launched_for name life p = record { name = name; life = life; process = p }
 abbrev pub with_process : {P : Type 0} → P → Running P → Running P
 with_process p r = record r { process = p }
 
--- by the child at this place, where there is one
-abbrev pub AtPlace : {P : Type 0} → Option ℕ → List (Running P) → Type 0 → (ℕ → Running P → Type 0) → Type 0
-AtPlace None rs none some = none
-AtPlace {P = P} (Some i) rs none some = (r : Running P) × (slice_get rs i ≡ Some r) × some i r
-
 module _ {L P : Type 0} (s : Stand L P) where
   -- by the first child of this life; where none runs nothing is called, and the answer is a fault
   abbrev pub AtLife : List ℕ → ℕ → Answer → Stand L P → (ℕ → Running P → Type 0) → Type 0
-  AtLife name life a t by = AtPlace (position (runs_for name life) s.running) s.running ((a ≡ fault) × (t ≡ s)) by
+  AtLife name life a t by = ByFirst (position (runs_for name life) s.running) s.running ((a ≡ fault) × (t ≡ s)) by
 
   -- this process is in the place of the one that was there, and all else is as before
   abbrev pub Changed : ℕ → Running P → P → L → Stand L P → Type 0
@@ -52,7 +48,7 @@ module _ {L P : Type 0} (s : Stand L P) where
 
 module _ {L P : Type 0} (w : Ways L P) where
   -- Each call is one call of its kind on the process of its life, which no other call touches. A piece that was read, and that there is no
-  -- memory to hand out, is told as a fault.
+  -- memory to hand out, is answered as a fault.
   abbrev pub HandsOn : Stand L P → Call → Answer → Stand L P → Type 0
   HandsOn s (start name life words) a t =
       ((p : P) × w.launched s.launcher words (Some p) t.launcher × (a ≡ done) × (t.running ≡ s.running ++ launched_for name life p ∷ []))

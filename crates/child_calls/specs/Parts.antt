@@ -9,10 +9,10 @@ use Rattle.child_calls.specs.Calls.{Call, start, send, receive, interrupt, stop,
 abbrev pub is_of : List ℕ → ℕ → Part → Bool
 is_of name life p = bytes_eq p.name name && (p.life == life)
 
--- by the part at this place
-abbrev pub ByFirst : Option ℕ → List Part → Type 0 → (ℕ → Part → Type 0) → Type 0
+-- by what stands at this place, where something does
+abbrev pub ByFirst : {P : Type 0} → Option ℕ → List P → Type 0 → (ℕ → P → Type 0) → Type 0
 ByFirst None ps none some = none
-ByFirst (Some i) ps none some = (p : Part) × (slice_get ps i ≡ Some p) × some i p
+ByFirst {P = P} (Some i) ps none some = (p : P) × (slice_get ps i ≡ Some p) × some i p
 
 abbrev pub done_if : Bool → Answer
 done_if true = done

@@ -31,7 +31,7 @@ pub enum ReceiveFault {
 /// number.
 ///
 /// The relation `after` says what a call may answer and what it leads to. An implementation may make
-/// it as narrow as it can: that of `Scripted` is exact, that of `Processes` allows every answer.
+/// it as narrow as it can: that of `Scripted` is exact, that of `Lives` says which process it called.
 pub trait Children {
     ghost use Rattle.std.specs.Prelude.{◌≡◌, Err};
     ghost use Rattle.child_calls.specs.Calls.{Answer, Call, interrupt, receive, send, start, stop};

@@ -1,6 +1,6 @@
 //! Children that are processes: each call on a child is handed on to the process of its life.
-ghost use Rattle.std.specs.Prelude.{◌≡◌, ◌⊎◌, ◌<◌, Err, IfOk, IfSome, length, position};
-ghost use Rattle.child_calls.specs.Answers.{HasSize, longest_piece, received, sent};
+ghost use Rattle.std.specs.Prelude.{◌≡◌, ◌⊎◌, ◌<◌, Err, IfOk, IfSome, is_some, length, position};
+ghost use Rattle.child_calls.specs.Answers.{HasSize, longest_piece, received};
 ghost use Rattle.child_calls.specs.Calls.{Answer, fault};
 ghost use Rattle.child_calls.specs.Deeds as deed;
 ghost use Rattle.child_calls.specs.Handing.{runs_for};
@@ -29,7 +29,7 @@ pub struct Running<P> {
 
 /// Children that are processes, which a launcher starts.
 ///
-/// Each call but `start` may wait for the process. A receive is one read. A start that is refused for want
+/// `send`, `receive` and `stop` may wait for the process. A receive is one read. A start that is refused for lack
 /// of memory is a fault of that start.
 #[derive(Drop)]
 pub struct Lives<L: Launcher + Drop> {
@@ -48,13 +48,10 @@ impl<L: Launcher + Drop> Lives<L> {
         }
     }
 
-    /// How many children run: those that were started and not stopped.
-    pub fn count(&self) -> usize {
-        self.running.len()
-    }
-
     /// Whether the child of this life runs: it was started and not stopped.
-    pub fn runs(&self, seat: Seat) -> bool {
+    pub fn runs(&self, seat: Seat) -> bool
+        ensures { result ≡ is_some (position (runs_for seat.name seat.life) self.now.running.items) }
+    {
         place(self.running.as_slice(), seat.name, seat.life).is_some()
     }
 }
@@ -71,7 +68,7 @@ fn place<P>(running: &[Running<P>], name: Name, life: u32) -> Option<usize>
 
 /// Has memory kept that is given back. glibc returns each block above a threshold to the system, and raises the
 /// threshold to the largest block that it has returned: this one. Else the pages of each large answer would be
-/// taken and cleared anew. So twice that is kept at most. Where the block is refused, nothing else changes.
+/// taken and cleared again. So twice that is kept at most. Where the block is refused, nothing else changes.
 fn keep_memory(alloc: Global) {
     drop(Vec::<u8>::with_capacity(alloc, LARGEST_KEPT));
 }
@@ -117,7 +114,7 @@ impl<L: Launcher + Drop> Children for Lives<L> {
         if self.running.is_empty() {
             keep_memory(self.alloc);
         }
-        // Its place is made first: a child that runs is never lost for want of memory.
+        // Its place is made first: a child that runs is never lost for lack of memory.
         let Ok(()) = self.running.reserve(1) else {
             return Err(ChildFault);
         };

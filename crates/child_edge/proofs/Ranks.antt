@@ -92,7 +92,7 @@ due-rank w (Child name life child.End) d a h = omega (arith, rank-due d.told.eff
 due-rank w (Child name life child.ReadFault) d a h = omega (arith, rank-due d.told.effect a)
 due-rank w (Child name life child.Stalled) d a h = omega (arith, rank-due d.told.effect a)
 
--- as the outcome is told
+-- of the outcome that is returned
 pub rank-told : (w : World) (e : Event) (d : Does) (o : Outcome) (a : Option Answer) → MayDo w e d → o ≡ d.told → rank (due_of o.effect a) < rank_of e
 rank-told w e d o a may same = subst (λ (x : Outcome). rank (due_of x.effect a) < rank_of e) (sym same) (due-rank w e d a may)
 

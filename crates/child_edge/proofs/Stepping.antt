@@ -42,7 +42,7 @@ module _ {C : Type 0} (R : Relation C) (wait : Waiting) (s : At C) (bs : List Be
       let turns : Turns R most_turns wait.whole s bs t = subst (λ (x : At C). Turns R most_turns wait.whole s bs x) (sym part.1) (subst (λ (x : List Beat). Turns R most_turns wait.whole s x came.mid) (sym same) came.turns) in
       (wait.whole, turns, inl (ap (λ (x : At C). waits x.world) part.1 ∙ sym came.seats ∙ none, came.fits))
 
-  -- none waits behind it
+  -- none waits after it
   pub came_quiet : wait.place ≡ length wait.seats.items → wait.whole < most_turns → waits t.world ≡ [] → Waited R most_turns s bs t
   came_quiet all few none = (wait.whole + 1, came_turn all, inl (none, omega (arith, few)))
 

@@ -24,7 +24,7 @@ use Rattle.child_calls.specs.declared.seat.Seat.{Seat}
 use Rattle.child_edge.specs.Edge.{Ran, BrokeOff, Stopped}
 use Rattle.child_edge.specs.Moments.{events_of, outcomes_of, LeavesFronts, LeavesFrontsUpTo, RanFrom, BrokeFrom}
 
--- From this world and disk these beats led to those, whatever the children did.
+-- From this world and disk these entries led to those, whatever the children did.
 abbrev pub Goes : World → DiskView → List Beat → World → DiskView → Type 0
 Goes w d [] v f = (v ≡ w) × (f ≡ d)
 Goes w d (b ∷ bs) v f = (mid : World) × (now : DiskView) × (gives : Gives w b.event b.outcome mid) × Kept w gives.0 mid d now × Goes mid now bs v f
@@ -102,7 +102,7 @@ left_more w e o mid es os i gives l = record {
   image = l.image;
 }
 
--- the moments of one event, whatever comes behind it
+-- the moments of one event, whatever comes after it
 one_event : (w : World) (e : Event) (o : Outcome) (mid : World) (es : List Event) (os : List Outcome) (old new : DiskView) (gives : Gives w e o mid)
     → HoldsSheet w old → OnDisk w.ops gives.0.anew gives.0.op old new → InModel old (LeavesOnly (LeftAmong w (e ∷ es) (o ∷ os)) old.history new.history)
 one_event w e o mid es os old new gives holds disk model = weakens (EitherSheet w gives.0) (LeftAmong w (e ∷ es) (o ∷ os)) old.history new.history

@@ -29,7 +29,7 @@ pub record Stopped (before : DiskView) (h : HostView) (w : World) (e : Event) (f
   pub numbers : (name : List ℕ) → number_in h.lives name ≡ option_map (λ l. l.number) (life_of w name)
   pub cause : CauseOf w e before h.store.disk fault
 
--- A run of this form came about, and leads to where the host and the children are now. Its replies stand behind those before.
+-- A run of this form came about, and leads to where the host and the children are now. Its replies come after those before.
 pub record Ran {C : Type 0} (Form : List Beat → At C → Type 0) (before : List Reply) (h : HostView) (c : C) (replies : List Reply) : Type 0 where
   pub beats : List Beat
   pub leads : World
@@ -52,7 +52,7 @@ abbrev pub ByCause : EdgeCause → (HostFault → Type 0) → Type 0 → Type 0
 ByCause (cause.Host f) broken short = broken f
 ByCause cause.OutOfMemory broken short = short
 
--- the host told that it is closed, or memory was refused
+-- the host reported that it is closed, or memory was refused
 abbrev pub ClosedOrNoMemory : EdgeCause → Type 0
 ClosedOrNoMemory why = ByCause why (λ f. f ≡ faults.Closed) (Unit {0})
 
@@ -61,11 +61,11 @@ abbrev pub FailsClosed : {E : Type 0} → Result (Vec Reply E) EdgeFault → Typ
 FailsClosed (Ok replies) = ⊥
 FailsClosed (Err fault) = (fault.replies.items ≡ []) × ClosedOrNoMemory fault.cause
 
--- On a closed host one child was heard before the host told that it is closed, and none where memory was refused.
+-- On a closed host one child was heard before the host reported that it is closed, and none where memory was refused.
 abbrev pub HeardOne : {C : Type 0} → Relation C → Bool → C → C → EdgeCause → Type 0
 HeardOne R listens c d why = ByCause why (λ f. (seat : Seat) × (event : ChildEvent) × Hears R listens seat.name seat.life c event d) (d ≡ c)
 
--- On a closed host nothing is told: no item waits, or the wait breaks off.
+-- On a closed host there is no reply: no item waits, or the wait breaks off.
 abbrev pub TellsClosed : {E : Type 0} → Result (Vec Reply E) EdgeFault → Type 0
 TellsClosed (Ok replies) = replies.items ≡ []
 TellsClosed (Err fault) = (fault.replies.items ≡ []) × ClosedOrNoMemory fault.cause

@@ -28,7 +28,7 @@ pub record At (C : Type 0) : Type 0 where
 abbrev pub at : {C : Type 0} → World → C → DiskView → At C
 at w c disk = record { world = w; children = c; disk = disk }
 
--- One event of a run, what it told, and what the call that its effect is was answered.
+-- An entry of a run's trace: an event, its outcome, and what the call that is its effect gave.
 pub record Beat : Type 0 where
   pub event : Event
   pub outcome : Outcome
@@ -86,7 +86,7 @@ Served R s e bs t = Follows R s (Some e) bs None t
 abbrev pub ServedUpTo : {C : Type 0} → Relation C → At C → Event → List Beat → Event → At C → Type 0
 ServedUpTo R s e bs left t = Follows R s (Some e) bs (Some left) t
 
--- the first k of these things, one after another, and the beats of all of them
+-- the first k of these things, one after another, and the entries of all of them
 abbrev pub FirstOf : {A S B : Type 0} → (A → S → List B → S → Type 0) → List A → ℕ → S → List B → S → Type 0
 FirstOf P xs zero s bs t = (bs ≡ []) × (t ≡ s)
 FirstOf {A = A} {S = S} {B = B} P xs (suc k) s bs t =
@@ -112,7 +112,7 @@ Gave fault = Unit {0}
 Gave done = ⊥
 Gave no_memory = ⊥
 
--- What is told of a life in a turn: in a turn that listens what a receive gave, in another that it stalled.
+-- The event of a life in a turn: what a receive gave in a turn that listens, and `Stalled` in another.
 abbrev pub Hears : {C : Type 0} → Relation C → Bool → List ℕ → ℕ → C → ChildEvent → C → Type 0
 Hears R true name life c event d = (a : Answer) × Gave a × R c (receive name life) a d × (event ≡ event_of a)
 Hears R false name life c event d = (event ≡ child.Stalled) × (d ≡ c)
@@ -130,7 +130,8 @@ TakenUpTo R listens seat s bs left t = Taken R listens (Some left) seat s bs t
 abbrev pub OneTurn : {C : Type 0} → Relation C → Bool → List Seat → At C → List Beat → At C → Type 0
 OneTurn R listens seats s bs t = EachOf (Taken R listens None) seats s bs t
 
--- So many turns, each of the lives in which an item waits as it begins. A turn behind the most that listen tells that they stalled.
+-- So many turns, each of the lives in which an item waits as it begins. The first `most` listen; after them these lives count as
+-- stalled.
 abbrev pub Turns : {C : Type 0} → Relation C → ℕ → ℕ → At C → List Beat → At C → Type 0
 Turns R most zero s bs t = (bs ≡ []) × (t ≡ s)
 Turns {C = C} R most (suc n) s bs t =

@@ -11,7 +11,7 @@ use Rattle.child_edge.specs.Seats.{life_view, seat_of}
 use Rattle.child_edge.specs.declared.interrupting.Interrupted.{Interrupted}
 use Rattle.child_edge.specs.declared.interrupting.Interrupted.TheVariants as interrupted
 
--- what is told of an interrupt by what its call was answered
+-- what is reported of an interrupt, by what its call gave
 abbrev pub interrupt_told : Answer → Interrupted
 interrupt_told done = interrupted.Sent
 interrupt_told fault = interrupted.Failed

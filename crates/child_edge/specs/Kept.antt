@@ -9,9 +9,9 @@ use Rattle.session_engine.specs.Host.{OnDisk}
 abbrev pub HoldsSheet : World → DiskView → Type 0
 HoldsSheet w disk = InModel disk (Leaves (IsSheetImage (sheet_in w)) disk.history.now)
 
--- An event did this, and led from this world to that one. One that neither gives an op nor writes the journal anew made no call on
+-- An event did this, and led from this world to that one. One that neither gives an op nor rewrites the journal made no call on
 -- the disk. While one that gives an op went on, each image at every moment was one of the worksheet before it, or of that with the
--- op; while the journal was written anew, each was one of the same worksheet. Behind it each is one of that world's.
+-- op; while the journal was rewritten, each was one of the same worksheet. After the event each is one of that world's.
 pub record Kept (w : World) (did : Does) (v : World) (old new : DiskView) : Type 0 where
   pub same : SameDisk old new
   pub moments : OnDisk w.ops did.anew did.op old new

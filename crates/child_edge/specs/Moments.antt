@@ -17,17 +17,16 @@ events_of bs = map (λ b. b.event) bs
 abbrev pub outcomes_of : List Beat → List Outcome
 outcomes_of bs = map (λ b. b.outcome) bs
 
--- From this disk to that one, at every moment each image is one of the worksheet behind some of the first of these beats, which
+-- From this disk to that one, at every moment each image is one of the worksheet after some of the first of these entries, which
 -- begin in this world.
 abbrev pub LeavesFronts : World → List Beat → DiskView → DiskView → Type 0
 LeavesFronts w bs old new = Moments w (events_of bs) (outcomes_of bs) old new
 
--- The same where this event came behind them and had this fault: where the disk failed, its op may be there too.
+-- The same where this event came after them and had this fault: where the disk failed, its op may be there too.
 abbrev pub LeavesFrontsUpTo : World → List Beat → Event → HostFault → DiskView → DiskView → Type 0
 LeavesFrontsUpTo w bs e fault old new = MomentsBefore w (events_of bs ++ e ∷ []) (outcomes_of bs) fault old new
 
--- A run of this form came about from here, and at every moment of it each image is one of the worksheet behind some of its first
--- beats.
+-- A run of this form came about from here, and at every moment of it each image is one of the worksheet after some of its first entries.
 pub record RanFrom {C : Type 0} (s : At C) (Form : At C → List Beat → At C → Type 0) (h : HostView) (c : C) (replies : List Reply) : Type 0 where
   pub ran : Ran (Form s) [] h c replies
   pub moments : LeavesFronts s.world ran.beats s.disk h.store.disk

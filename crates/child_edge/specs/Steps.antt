@@ -31,7 +31,7 @@ pub record Came {C : Type 0} (R : Relation C) (wait : Waiting) (s : At C) (bs : 
 abbrev pub left_of : Waiting → ℕ
 left_of wait = (most_turns - wait.whole) * 2 ^ 64 + (length wait.seats.items - wait.place)
 
--- What a step of it leaves. One life was taken, and what came of it is told; or the wait was over, and nothing is changed.
+-- What a step of it leaves. One life was taken, and the replies have what came of it; or the wait was over, and nothing changed.
 abbrev pub Stepped : {C : Type 0} → Relation C → Waiting → At C → List Beat → World → HostView → HostView → C → C → List Reply → List Reply → Bool → Type 0
 Stepped R wait s bs w h g c d before replies true = Ran (λ cs t. Came R wait s (bs ++ cs) t) before g d replies
 Stepped R wait s bs w h g c d before replies false = Waited R most_turns s bs (at w c h.store.disk) × (g ≡ h) × (d ≡ c) × (replies ≡ before)

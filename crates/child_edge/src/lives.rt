@@ -13,7 +13,7 @@ use host_events::Reply;
 use session_engine::Host;
 
 /// Receives once from the child of this life and takes what it gives, with its effect and all that comes of
-/// that. The replies to it are put behind those that are there: at most three.
+/// that. The replies to it are put after those that are there: at most three.
 ///
 /// `OutOfMemory`: nothing has changed, no byte that the child wrote is lost, and it can be called again.
 /// `Host`: as for `serve`.
@@ -43,7 +43,7 @@ pub fn listen<D: Disk, C: Children>(
 }
 
 /// Takes that this life stalled, with its effect and all that comes of that. Its child isn't received from.
-/// The replies to it are put behind those that are there: at most three.
+/// The replies to it are put after those that are there: at most three.
 ///
 /// `OutOfMemory`: nothing has changed, and it can be called again. `Host`: as for `serve`.
 pub fn stall<D: Disk, C: Children>(

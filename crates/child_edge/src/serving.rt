@@ -177,7 +177,7 @@ fn follow<D: Disk, C: Children>(
 /// The run is faithful: each effect is one call on the children and each fault of such a call the
 /// next event, and nothing else happens (docs/EDGE.md, "A faithful run"). The replies are those of
 /// its events but `Nothing`: at most three. At every moment each image of the disk is one of the
-/// worksheet behind some of the first events; behind `Ok` it is the one behind all of them.
+/// worksheet after some of the first events; after `Ok` it is the one after all of them.
 ///
 /// `OutOfMemory`: the command was dropped before it was taken, and nothing happened. `Host`: the
 /// event that was due had this fault, and the host is closed; the replies are those before it, and
@@ -219,8 +219,8 @@ pub fn serve<D: Disk, C: Children>(
     }
 }
 
-/// What is told of a life in a turn: in a turn that listens what its child gives, in another that it
-/// stalled.
+/// The event of a life in a turn: what its child gives in a turn that listens, and `Stalled` in
+/// another.
 fn hear<C: Children>(
     children: &mut C,
     listens: bool,
@@ -284,8 +284,8 @@ pub(crate) fn take<D: Disk, C: Children>(
 /// A turn is one receive from the child of each life in which an item waits, in the order in which
 /// their sessions were made; what it gives is taken at once, with its effect and all that comes of
 /// that, before the next child is received from. After `MOST_TURNS` turns each life in which an item
-/// still waits is told that it stalled. The count begins anew with each call. The run is faithful, as
-/// that of `serve`, at every moment too, and the replies are those of its events but `Nothing`.
+/// still waits counts as stalled. The count begins again with each call. The run is faithful, as that
+/// of `serve`, at every moment too, and the replies are its events' but `Nothing`.
 ///
 /// `OutOfMemory`: memory is taken before a child is received from, so no byte that a child wrote is
 /// lost, and `wait` can be called again. `Host`: as for `serve`.
@@ -304,8 +304,8 @@ pub fn wait<D: Disk, C: Children>(
         (RanFrom (at w children.old host.old.store.disk) (WaitSoFar C.after most_turns)
         host.new children.new fault.replies.items)) }
 
-    // On a closed host nothing is told, and it stays as it is. Where the host told that it is closed,
-    // one child was received from, and else none.
+    // On a closed host there is no reply, and it stays as it is. Where the host reported that it is
+    // closed, one child was received from, and else none.
     ensures closed { host.old.closed ≡ true → TellsClosed result }
     ensures still { host.old.closed ≡ true → host.new ≡ host.old }
     ensures heard { host.old.closed ≡ true → MatchResult result

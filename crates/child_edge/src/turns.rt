@@ -17,8 +17,8 @@ use host_events::Reply;
 use session_engine::Host;
 use std::alloc::{AllocError, Global};
 
-/// A wait that is taken life by life, so that what each child wrote can be told before the next one is
-/// received from. Between two steps the host is as after any call: what was told is on the disk.
+/// A wait that is taken life by life, so that what each child wrote can be reported before the next
+/// one is received from. Between two steps the host is as after any call: the disk has what it returned.
 #[derive(Drop)]
 pub struct Waiting {
     pub(crate) whole: u32,
@@ -80,8 +80,8 @@ impl Waiting {
     }
 
     /// Takes the next life in which an item waits, with all that comes of what its child gave, and adds
-    /// what is told of it to `replies`: at most three. `false` where no item waits any more, or where
-    /// each life in which one still waits has been told that it stalled; nothing is changed then.
+    /// the replies to it to `replies`: at most three. `false` where no item waits any more, or where
+    /// each life in which one still waits has stalled; then nothing changes.
     ///
     /// `OutOfMemory`: nothing has changed, no byte that a child wrote is lost, and it can be called
     /// again. `Host`: as for `serve`.
@@ -107,7 +107,7 @@ impl Waiting {
             × (replies.new.items ≡ replies.old.items))) }
         ensures less { IfOk result (λ more. more ≡ true → left_of self.new < left_of self.old) }
 
-        // On a closed host nothing is told.
+        // On a closed host there is no reply.
         ensures closed { host.old.closed ≡ true
             → MatchResult result (λ more. more ≡ false) ClosedOrNoMemory }
         ensures still { host.old.closed ≡ true

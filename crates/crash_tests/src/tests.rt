@@ -1,5 +1,5 @@
-//! Worked examples, by their events: what is told, what is to be done with the children, what the worksheet and
-//! the disk have then, and what crashes and failing disks leave of them.
+//! Worked examples, by their events: what is reported, what is to be done with the children, and what the worksheet and the disk have then.
+//! Also what crashes and failing disks leave of them.
 mod desk;
 mod events;
 mod failing;

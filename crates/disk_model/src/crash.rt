@@ -1,4 +1,4 @@
-// The image that a crash leaves by a choice.
+//! The image that a crash leaves by a choice.
 ghost use Rattle.std.specs.Prelude.{◌≡◌, ◌≤◌, ◌<◌, ◌+◌, ◌^◌, length, IfOk, OnOk};
 ghost use Rattle.disk_model.specs.Disk.{DiskState, History, state_of};
 ghost use Rattle.disk_model.specs.Crash.{laid, image_of};

@@ -1,4 +1,4 @@
-// A disk as a journal sees it.
+//! A disk as a journal sees it.
 ghost use Rattle.std.specs.Prelude.{◌≡◌, ◌+◌, ◌≤◌, length, take, drop, IsTrue, IfOk, OnOk};
 ghost use Rattle.disk_model.specs.Disk.{DiskView, InModel, Called, Looks, Writes, Syncs, IsImage, area_of, greatest_room, bytes_on};
 
@@ -10,7 +10,7 @@ pub const GREATEST_ROOM: u64 = 2_147_483_648;
 pub enum Area {
     /// The first one. A journal has its header here.
     First,
-    /// The second one. A journal that was written anew may be here.
+    /// The second one. A rewritten journal may be here.
     Second,
 }
 

@@ -1,4 +1,4 @@
-// A disk that fails from some call on, or at one call alone.
+//! A disk that fails from some call on, or at one call alone.
 ghost use Rattle.std.specs.Prelude.{◌≡◌, ◌+◌, ◌≤◌, ◌↔◌, length, take, drop, max, min, IfOk, IsErr, OnErr, OnOk};
 ghost use Rattle.disk_model.specs.Fuse.{Blows};
 ghost use Rattle.disk_model.specs.Disk.{Called, InModel, Looks, Rises, Syncs, Writes, area_of, greatest_count, bytes_on};
@@ -64,7 +64,7 @@ pub struct FuseDisk<D: Disk> {
 impl<D: Disk> FuseDisk<D> {
     ghost use Rattle.disk_model.specs.Fused.{IsNew};
 
-    /// Fails the k-th call on `inner` and all behind it, or the k-th alone. With `k` 0 the first
+    /// Fails the k-th call on `inner` and all after it, or the k-th alone. With `k` 0 the first
     /// fails all calls and the second none.
     pub fn new(inner: D, k: u64, mode: FuseMode) -> FuseDisk<D>
         ensures { IsNew result inner k mode }

@@ -1,4 +1,4 @@
-// A disk in memory, which keeps a record of its calls.
+//! A disk in memory, which keeps a record of its calls.
 ghost use Rattle.std.specs.Prelude.{◌≡◌, ◌≤◌, ◌<◌, ◌+◌, ◌^◌, ◌++◌, ◌∷◌, [], length, take, drop, IfOk, OnOk, OnErr};
 ghost use Rattle.disk_model.specs.Disk.{Called, InModel, Looks, Syncs, Writes, area_of, greatest_room, overwritten, bytes_on};
 ghost use Rattle.disk_model.specs.Calls.{Notes, after_sync, after_write, fresh, history_after, started_with, step, with_area};
@@ -204,6 +204,7 @@ impl Disk for MemoryDisk {
             (IfOk result (λ n. n ≡ length (area_of area (bytes_on (view_of self.old))))) }
         ensures records { Records result (λ s. s) (view_of self.old) (view_of self.new) }
     {
+        // Its type says that the count is a u64.
         let _faults = self.faults;
         if let Err(AllocError) = note(&mut self.calls, Call::Look) {
             self.faults = self.faults.saturating_add(1);
@@ -227,6 +228,7 @@ impl Disk for MemoryDisk {
             (drop offset (area_of area (bytes_on (view_of self.old)))))) }
         ensures records { Records result (λ s. s) (view_of self.old) (view_of self.new) }
     {
+        // Its type says that the count is a u64.
         let _faults = self.faults;
         if let Err(AllocError) = note(&mut self.calls, Call::Look) {
             self.faults = self.faults.saturating_add(1);
@@ -252,6 +254,7 @@ impl Disk for MemoryDisk {
         ensures records { Records result (with_area area (after_write offset bytes.now))
             (view_of self.old) (view_of self.new) }
     {
+        // Its type says that the count is a u64.
         let _faults = self.faults;
         match area {
             Area::First => {
@@ -291,6 +294,7 @@ impl Disk for MemoryDisk {
         ensures records { Records result (with_area area after_sync) (view_of self.old)
             (view_of self.new) }
     {
+        // Its type says that the count is a u64.
         let _faults = self.faults;
         if let Err(AllocError) = note(&mut self.calls, Call::Sync(area)) {
             self.faults = self.faults.saturating_add(1);

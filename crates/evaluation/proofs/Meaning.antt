@@ -1,5 +1,6 @@
 -- The fields that are to be evaluated.
-use Rattle.std.proofs.Common.{◌≡◌, ◌+◌, ◌≤◌, ◌<◌, ◌^◌, ℕ, suc, subst, Bool, true, false, List, [], ◌∷◌, ◌++◌, refl, ap, sym, ◌∙◌, append_assoc, append-nil, length, arith}
+use Rattle.std.proofs.Common.{◌≡◌, ◌⊎◌, inl, inr, absurd, ◌+◌, ◌≤◌, ◌<◌, ◌^◌, ℕ, suc, subst, Bool, true, false, List, [], ◌∷◌, ◌++◌, refl, ap, sym, ◌∙◌, append_assoc, append-nil, length, arith}
+use Rattle.std.proofs.lemmas.Bool.{cases_lt}
 use Rattle.worksheet.specs.declared.field.Field.{Field}
 use Rattle.evaluation.specs.declared.plan.Plan.{Plan}
 use Rattle.evaluation.specs.declared.plan.Which.{Which}
@@ -37,9 +38,15 @@ few_ids which fields ids is few = omega (arith, ap length is, few_meant which fi
 
 -- one more is passed over
 pub next_one : (plan : Plan) (fields : List Field) (meant : List ℕ) (from at : ℕ) → IsNext plan fields meant from at → is_passed plan fields meant at ≡ true → IsNext plan fields meant from (at + 1)
-next_one plan fields meant from at q is = (suc q.0, omega (arith, q.1), (q.2, subst (λ k. is_passed plan fields meant k ≡ true) q.1 is))
+next_one plan fields meant from at q is = (omega (arith, q.0), λ k low high. up_to k low (cases_lt k at) high)
+  where
+    up_to : (k : ℕ) → from ≤ k → (k < at) ⊎ (at ≤ k) → k < at + 1 → is_passed plan fields meant k ≡ true
+    up_to k low (inl below) high = q.1 k low below
+    up_to k low (inr last) high =
+        let here : at ≡ k = omega (arith, last, high) in
+        subst (λ n. is_passed plan fields meant n ≡ true) here is
 
 pub next_here : (plan : Plan) (fields : List Field) (meant : List ℕ) (from : ℕ) → IsNext plan fields meant from from
-next_here plan fields meant from = (0, omega arith, tt)
+next_here plan fields meant from = (omega arith, λ k low high. absurd (omega (arith, low, high)))
 
 pub ruleset next_steps = (next_one, next_here)

@@ -1,5 +1,5 @@
 -- Which fields are evaluated, which of them are passed over, and what an evaluation comes to. (docs/SCRIPT.md, "Evaluating a worksheet".)
-use Rattle.std.specs.Prelude.{◌≡◌, ◌+◌, ◌-◌, ◌*◌, ◌&&◌, ℕ, zero, suc, Bool, true, false, not, List, [], ◌∷◌, Option, Some, None, count_by, flat_map, is_some, length, slice_get, take}
+use Rattle.std.specs.Prelude.{◌≡◌, ◌<◌, ◌≤◌, ◌-◌, ◌*◌, ◌&&◌, ℕ, Bool, true, false, not, List, [], ◌∷◌, Option, Some, None, count_by, flat_map, is_some, length, slice_get, take}
 use Rattle.std.specs.List.{list_any}
 use Rattle.std.specs.Str.{bytes_eq}
 use Rattle.worksheet.specs.Checks.{field_in}
@@ -61,14 +61,9 @@ field_at fields (Some id) = field_in fields id
 abbrev pub is_passed : Plan → List Field → List ℕ → ℕ → Bool
 is_passed plan fields meant k = is_passing plan && is_behind_lost fields (take k meant) (field_at fields (slice_get meant k))
 
--- the fields at so many places from this one on are passed over
-abbrev pub ArePassed : Plan → List Field → List ℕ → ℕ → ℕ → Type 0
-ArePassed plan fields meant from zero = Unit {0}
-ArePassed plan fields meant from (suc n) = ArePassed plan fields meant from n × (is_passed plan fields meant (from + n) ≡ true)
-
--- This place is behind that one, or the same, and the fields from that one up to it are passed over.
+-- This place is after that one, or the same, and the fields from that one up to it are passed over.
 abbrev pub IsNext : Plan → List Field → List ℕ → ℕ → ℕ → Type 0
-IsNext plan fields meant from at = (n : ℕ) × (at ≡ from + n) × ArePassed plan fields meant from n
+IsNext plan fields meant from at = (from ≤ at) × ((k : ℕ) → from ≤ k → k < at → is_passed plan fields meant k ≡ true)
 
 -- The number of the line that asks for the last of so many fields; that of its wait is the next one.
 abbrev pub line_behind : ℕ → ℕ

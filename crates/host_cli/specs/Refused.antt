@@ -1,4 +1,4 @@
--- What is told where the words ask for nothing that there is.
+-- What is printed where the words ask for nothing that there is.
 use Rattle.std.specs.Prelude.{◌≡◌, ◌⊎◌, ℕ, true, List, Option, Err, codes}
 use Rattle.std.specs.Io.KnownBytes.{Appends}
 use Rattle.check_report.specs.declared.request.RequestFault.{RequestFault}
@@ -13,15 +13,15 @@ use Rattle.clap.specs.declared.error.kind.ErrorKind.TheVariants as kind
 abbrev pub ShowsText : ErrorKind → Type 0
 ShowsText k = (k ≡ kind.DisplayHelp) ⊎ (k ≡ kind.DisplayVersion)
 
--- what is told of a format that there isn't
+-- what is printed of a format that there isn't
 abbrev pub no_format_text : List ℕ
 no_format_text = codes "error: there is no such format: FORMAT is script, markdown, html, notebook or json\n\nFor more information, try 'tmhost export --help'.\n"
 
--- what is told of words that name no time
+-- what is printed of words that name no time
 abbrev pub no_seconds_text : List ℕ
 no_seconds_text = codes "error: this is no time: SECONDS is a number from 1 to 1000000\n\nFor more information, try 'tmhost eval --help'.\n"
 
--- what is reported of words that ask for no check: of a time, of a format, of the name of a session, of numbers of fields, and of a format in
+-- what is printed of words that ask for no check: of a time, of a format, of the name of a session, of numbers of fields, and of a format in
 -- which nothing is accepted
 abbrev pub no_check_seconds_text : List ℕ
 no_check_seconds_text = codes "error: this is no time: SECONDS is a number from 1 to 1000000\n\nFor more information, try 'tmhost check --help'.\n"

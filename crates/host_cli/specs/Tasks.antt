@@ -214,12 +214,12 @@ module _ {Y D P S I W E Q : Type 0} (o : OutsideView D P S I W E) where
       HeldFirst old new (λ why. (new.sources ≡ old.sources) × EndsWith old new ending (Err why)) (λ held. (files : Result D FilesFault) × o.places.opens held path files new.places
       × IfErr files (Unopened old new ending) × IfOk files (RunsOn strict old new ending))
 
-  -- `eval` on a disk, told in a voice
+  -- `eval` on a disk, printed in a voice
   abbrev pub EvaluatesOn : Voice → Plan → Outside Y D P S I W E Q → Outside Y D P S I W E Q → Ending → D → Type 0
   EvaluatesOn V plan old new ending disk =
       EvaluationEnded (setting V o.after o.clock o.wakes plan []) o.view disk old.sources new.sources o.written old.output new.output o.said old.errors new.errors ending
 
-  -- `eval` of files that weren't opened: why is told last
+  -- `eval` of files that weren't opened: why is printed last
   abbrev pub EvaluatesNone : Voice → Outside Y D P S I W E Q → Outside Y D P S I W E Q → Ending → FilesFault → Type 0
   EvaluatesNone V old new ending why = (new.sources ≡ old.sources) × LastTold V o.written old.output new.output ending.told (Err (no_files why))
       × (ending.status ≡ 1) × TellsFault o.said old.errors new.errors ending.told (Err (no_files why))
@@ -240,7 +240,7 @@ module _ {Y D P S I W E Q : Type 0} (o : OutsideView D P S I W E) where
   DoesEval old new ending path words =
       MatchOption (limit_asked words.timeout) (RefusesLimit old new ending) (λ limit. EvaluatesAs (voice_by words.json) (plan_by words limit) old new ending path)
 
-  -- `live` over the same, told in a voice
+  -- `live` over the same, printed in a voice
   abbrev pub DoesLive : Voice → Outside Y D P S I W E Q → Outside Y D P S I W E Q → Ending → Text → Type 0
   DoesLive V old new ending path =
       HeldFirst old new (λ why. (new.sources ≡ old.sources) × EndsWith old new ending (Err why)) (λ held. (files : Result D FilesFault) × o.places.opens held path files new.places
@@ -309,23 +309,23 @@ module _ {Y D P S I W E Q : Type 0} (o : OutsideView D P S I W E) where
       × MatchResult read (λ task. DoesTask old new ending (task_view task) × LeavesAlone old new (task_view task))
       (λ error. Refuses old new ending (kind_of error) × OnlyWritten old new)
 
-  -- How the program ends by its words, before its output is brought out. Words that can't be had are no text, or there was no memory for them.
+  -- How the program ends by its words, before its output is flushed. Words that can't be had are no text, or there was no memory for them.
   pub record EndsBy {T : Type 0} (texts : T → List Text) (words : Result T IoKind) (old new : Outside Y D P S I W E Q) (ending : Ending) : Type 0 where
     pub no_memory : IfErr words (λ k. k ≡ io_kind.OutOfMemory → EndsWith old new ending (Err fault.OutOfMemory))
     pub no_text : IfErr words (λ k. k ≢ io_kind.OutOfMemory → (new.errors ≡ old.errors) × (ending.status ≡ 2))
     pub no_words : IfErr words (λ k. OnlyWritten old new × (new.output ≡ old.output))
     pub asked : IfOk words (λ all. DoesAsked (texts all) old new ending)
 
-  -- how the program ends where all that it wrote was brought out, or not: then it is the fault of an end that has none
+  -- how the program ends where all that it wrote was flushed, or not: then that is the fault of an end that has none
   abbrev pub EndsBrought : Bool → Outside Y D P S I W E Q → Outside Y D P S I W E Q → Ending → Ending → Type 0
   EndsBrought true old new alone ending = (ending ≡ alone) × (new.errors ≡ old.errors)
   EndsBrought false old new alone ending = (alone.status ≡ 1 → (ending ≡ alone) × (new.errors ≡ old.errors))
       × (alone.status ≢ 1 → EndsWith old new ending (Err fault.Output))
 
-  -- Last of all the output is brought out, behind what the program came to.
+  -- Last of all the output is flushed, after what the program came to.
   abbrev pub BringsOut : Outside Y D P S I W E Q → Outside Y D P S I W E Q → Ending → Ending → Type 0
   BringsOut old new alone ending = OnlyWritten old new × ((all : Bool) × o.brought old.output all new.output × EndsBrought all old new alone ending)
 
-  -- the whole program: it ends by its words, and then its output is brought out
+  -- the whole program: it ends by its words, and then its output is flushed
   abbrev pub Performs : {T : Type 0} → (T → List Text) → Result T IoKind → Outside Y D P S I W E Q → Outside Y D P S I W E Q → Ending → Type 0
   Performs texts words old new ending = (mid : Outside Y D P S I W E Q) × (alone : Ending) × EndsBy texts words old mid alone × BringsOut mid new alone ending

@@ -6,15 +6,15 @@ ghost use Rattle.std.specs.Io.Buffered.{writer_buffer};
 use std::io;
 use std::io::{BufWriter, Write};
 
-/// An output that may keep text back until it is brought out.
+/// An output that may keep text back until it is flushed.
 ///
-/// What a call on a real stream brings about no contract can say. That the call was made, after all that was
+/// No contract can say what a call on a real stream brings about. That the call was made, after all that was
 /// written, the relation says: generic code has it by that call alone.
 pub trait Outlet: Write {
-    /// The output before the call, whether all was brought out, and the output after it.
+    /// The output before the call, whether all was flushed, and the output after it.
     ghost brought: { Self → Bool → Self → Type 0 };
 
-    /// Brings out what is kept back.
+    /// Flushes what is kept back.
     fn bring_out(&mut self) -> io::Result<()>
         ensures { brought self.old (is_ok result) self.new };
 }

@@ -23,8 +23,8 @@ fn refused(told: bool) -> Ending
 }
 
 /// Ends the program where `clap` gave no task for its words: help that was asked for goes to `output`,
-/// and why the words are refused to `errors`. Help that can't be written is `Output`, and want of
-/// memory is told as the program's own.
+/// and why the words are refused to `errors`. Help that can't be written is `Output`, and lack of
+/// memory is reported as the program's own.
 pub fn refuse_words<W: Write, E: Write>(
     error: &clap::Error,
     output: &mut W,
@@ -58,7 +58,7 @@ pub fn refuse_words<W: Write, E: Write>(
 }
 
 /// Ends the program where its words can't be had: a word that is not UTF-8 gives status 2 without a
-/// text, and want of memory is told.
+/// text, and lack of memory is reported.
 pub fn refuse_unread_words<E: Write>(kind: io::ErrorKind, errors: &mut E) -> Ending
     ensures memory { kind ≡ io_kind.OutOfMemory
         → (result.status ≡ 1)

@@ -263,7 +263,7 @@ fn plan_of(words: EvalWords<'_>, limit: Option<u32>) -> Plan
     }
 }
 
-/// `eval` of the fields of the worksheet at a path, by a plan, told in this voice.
+/// `eval` of the fields of the worksheet at a path, by a plan, printed in this voice.
 fn eval_as<Y: System, T: Tells>(
     alloc: Global,
     outside: &mut Outside<Y>,
@@ -327,7 +327,7 @@ fn eval_at<Y: System>(
     }
 }
 
-/// `live` with the lines of the input over the worksheet at a path, told in this voice.
+/// `live` with the lines of the input over the worksheet at a path, printed in this voice.
 fn live_told<Y: System, T: Tells>(
     alloc: Global,
     outside: &mut Outside<Y>,
@@ -495,7 +495,7 @@ fn do_words<Y: System>(alloc: Global, words: Vec<String>, outside: &mut Outside<
     }
 }
 
-/// The program before its output is brought out.
+/// The program before its output is flushed.
 fn end_by_words<Y: System>(
     alloc: Global,
     words: Result<Vec<String>, io::ErrorKind>,
@@ -510,7 +510,7 @@ fn end_by_words<Y: System>(
     }
 }
 
-/// The end of a program whose output can't be brought out: the fault `Output`, where it has none of its own.
+/// The end of a program whose output can't be flushed: the fault `Output`, where it has none of its own.
 fn end_unsent<E: Write>(alone: Ending, errors: &mut E) -> Ending
     ensures same { alone.status ≡ 1 → (result ≡ alone) × (errors.new ≡ errors.old) }
     ensures unsent { alone.status ≢ 1 → (result.status ≡ 1)
@@ -523,7 +523,7 @@ fn end_unsent<E: Write>(alone: Ending, errors: &mut E) -> Ending
     }
 }
 
-/// Brings out what the output keeps back, at the end of the program.
+/// Flushes what the output keeps back, at the end of the program.
 fn bring_out<Y: System>(outside: &mut Outside<Y>, alone: Ending) -> Ending
     ensures { BringsOut (outer Y.Places.Places Y.Disk.Disk Y.Sources.after
         Y.Sources.clock Y.Sources.wakes Y.Input.Read Y.Output.Write Y.Output.brought Y.Errors.Write) outside.old outside.new alone result }

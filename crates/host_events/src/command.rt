@@ -1,4 +1,4 @@
-//! What the host is told to do (docs/HOST.md, "Events").
+//! What a user asks of the host (docs/HOST.md, "Events").
 ghost use Rattle.std.specs.Prelude.{◌≡◌};
 
 use block_tree::{Octets, Sequence};
@@ -15,7 +15,7 @@ pub enum Command {
         tab: bool,
         words: Sequence<Octets>,
     },
-    /// A new field directly behind the field `after`, or first where that is 0.
+    /// A new field directly after the field `after`, or first where that is 0.
     New {
         after: u32,
         session: Octets,
@@ -30,7 +30,7 @@ pub enum Command {
     Remove {
         id: u32,
     },
-    /// A field goes directly behind the field `after`, or to the front where that is 0.
+    /// A field goes directly after the field `after`, or to the front where that is 0.
     Move {
         id: u32,
         after: u32,
@@ -56,7 +56,7 @@ pub enum Command {
     Stop {
         name: Octets,
     },
-    /// The journal is written anew into the area that isn't active, with the ops that make the same
+    /// The journal is rewritten into the area that isn't active, with the ops that make the same
     /// worksheet. Neither the worksheet nor the interpreters change.
     Checkpoint,
 }

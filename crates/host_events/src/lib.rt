@@ -1,4 +1,4 @@
-//! What a host is told, what it replies, and what is to be done with the interpreters: the words that it
+//! What a host takes, what it replies, and what is to be done with the interpreters: the words that it
 //! shares with those who call it.
 #![tactic(auto)]
 

@@ -78,7 +78,7 @@ goes_ops : (l : Going) (e : Option Ended) (w : World) → (goes_on l e w).ops �
 goes_ops l None w = refl
 goes_ops l (Some e) w = refl
 
--- what an end by a fault loses waits behind the piece
+-- what an end by a fault loses waits after the piece
 lost_is : (l : Going) (piece : List ℕ) (blocks : List Outer) (fault : Option Kind) (x : Ended) → (step_of l.past l.blocks piece blocks fault).ended ≡ Some x → x.lost ≡ waiting_of (l.past ++ received piece ∷ []) blocks
 lost_is l piece blocks None x e = cc
 lost_is l piece blocks (Some kind) x e = let same : ended_by (l.past ++ received piece ∷ []) blocks kind ≡ x = cc in ap (λ (z : Ended). z.lost) (sym same)

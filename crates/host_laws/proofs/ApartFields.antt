@@ -1,4 +1,4 @@
--- Fields, and whose they are, behind one op more.
+-- Fields, and whose they are, after one op more.
 use Rattle.std.proofs.Common.{◌≡◌, ◌<◌, ◌≤◌, ◌+◌, ℕ, List, [], ◌∷◌, ◌++◌, map, refl, ap, sym, ◌∙◌, subst, arith, append_assoc, Bool, true, false, Option, Some, None}
 use Rattle.std.specs.Prelude.{if◌then◌else◌, ◌==◌, not, cond, is_some}
 use Rattle.std.specs.Str.{bytes_eq}

@@ -121,7 +121,7 @@ input_of_alike w x id h =
     ap (λ (ids : List ℕ). by_field (find (λ (f : Field). f.id == id) (map (field_of w.ops) ids)) [] (λ f. f.input)) (order_alike w.ops x.ops h)
     ∙ found_alike (λ f. f.input) w.ops x.ops id (order_of x.ops) (λ j. input_alike w.ops x.ops j h)
 
--- what is behind a list
+-- what follows a list
 pub drop_length : (os us : List Op) → drop (length os) (os ++ us) ≡ us
 drop_length [] us = refl
 drop_length (o ∷ os) us = drop_length os us

@@ -26,7 +26,7 @@ use Rattle.host_laws.proofs.ApartSteps.{none_told}
 use Rattle.host_laws.proofs.InFlight.{Waits, waits_step}
 use Rattle.host_laws.proofs.ApartRuns.{sessions_are_independent}
 
--- all ops that are told of
+-- all ops that are reported
 abbrev pub ops_told : List Told → List Op
 ops_told [] = []
 ops_told (t ∷ ts) = t.ops ++ ops_told ts
@@ -68,7 +68,7 @@ unseen n w (event.Child m number c) o v b k h g s =
     go z kept (Some (op.Lost id why)) mine none =
         subst (λ (os : List Op). Seen n (os ++ op.Lost id why ∷ []) b) (sym kept) (seen_lost n w.ops b id why (none id why (ap (λ (os : List Op). os ++ op.Lost id why ∷ []) kept)) s)
 
--- what is told of is all that is seen
+-- what is reported is all that is seen
 seen_run : (n : List ℕ) (w : World) (es : List Event) (os : List Outcome) (v : World) (run : Runs w es os v) (b : List Op) → Waits w → Seen n w.ops b → Seen n v.ops (b ++ ops_told (session_tells n w es os v run))
 seen_run n w [] [] v run b h s = subst (λ (z : World). Seen n z.ops (b ++ [])) (sym run) (subst (λ (os : List Op). Seen n w.ops os) (sym (append-nil b)) s)
 seen_run n w [] (o ∷ os) v run b h s = absurd run

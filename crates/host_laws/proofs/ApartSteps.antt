@@ -71,7 +71,7 @@ nothing_added w x os us e f = ap but_reasons (ap (λ (l : List Op). drop (length
 pub one_added : (w x : World) (o : Op) → but_reasons (drop (length w.ops) (w.ops ++ o ∷ [])) ≡ but_reasons (drop (length x.ops) (x.ops ++ o ∷ []))
 one_added w x o = ap but_reasons (drop_length w.ops (o ∷ []) ∙ sym (drop_length x.ops (o ∷ [])))
 
--- a reason isn't told, and is no op that was commanded
+-- a reason isn't reported, and is no op that was commanded
 pub none_told : (w u : World) → u.ops ≡ w.ops → added w u ≡ []
 none_told w u e = ap but_reasons (ap (λ (l : List Op). drop (length w.ops) l) e ∙ drop_itself w.ops)
 

@@ -86,14 +86,14 @@ next_life = refl
 stale : MayDo refused_start (event.Child a 1 child.End) (record { told = replies reply.Nothing; op = None; anew = false; begun = 1; lives = [] })
 stale = refl
 
--- where the record of the Clear ends behind the room, an evaluation is refused
+-- where the record of the Clear ends past the room, an evaluation is refused
 no_room : first_of (command_refusals (world_at_opening ops 62 53) (command.Eval 1)) ≡ Some refusal.JournalFull
 no_room = refl
 
 room : first_of (command_refusals (world_at_opening ops 64 53) (command.Eval 1)) ≡ None
 room = refl
 
--- behind 100,000 lives none begins
+-- after 100,000 lives none begins
 lives_spent : first_of (command_refusals (record start { begun = 100000 }) (command.Eval 1)) ≡ Some refusal.LivesSpent
 lives_spent = refl
 
@@ -119,7 +119,7 @@ with_tab = world_at_opening ops_with_tab 1000 40
 no_tab : first_of (command_refusals start (command.Complete 1 9)) ≡ Some refusal.NoTab
 no_tab = refl
 
--- the cursor stands in front of the character or behind it
+-- the cursor stands in front of the character or after it
 inside_a_character : first_of (command_refusals with_tab (command.Complete 1 1)) ≡ Some refusal.BadCursor
 inside_a_character = refl
 
@@ -143,8 +143,8 @@ still_free = refl
 keeps_its_text : waiting_in (begun_with with_tab a (request_of_field with_tab 1 2)) ≡ item.Complete 1 (195 ∷ 169 ∷ []) 2 ∷ []
 keeps_its_text = refl
 
--- A checkpoint: of the session, a field that was removed and one behind it there are left the session, the number of the field and
--- the field.
+-- A checkpoint. There were the session, a field that was removed and one after it. Left are the session, the number of the field and the
+-- field.
 
 abbrev ops_with_removed : List Op
 ops_with_removed = op.Session a false (p ∷ []) ∷ op.New 0 a (120 ∷ []) ∷ op.Remove 1 ∷ op.New 0 a (121 ∷ []) ∷ []
@@ -161,7 +161,7 @@ the_ops_stay = refl
 the_end_moves : (behind (with_removed 64) (does (with_removed 64) command.Checkpoint)).end ≡ 48
 the_end_moves = refl
 
--- the gate behind the records needs room too
+-- the gate after the records needs room too
 no_room_anew : first_of (command_refusals (with_removed 48) command.Checkpoint) ≡ Some refusal.JournalFull
 no_room_anew = refl
 

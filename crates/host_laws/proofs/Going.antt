@@ -168,7 +168,7 @@ evaluated_anew found room end es os w allowed run id o mid given clears later to
     (λ answered. answered)
     (shown more after own f a some has)
 
--- Plays behind other events.
+-- Plays after other events.
 
 runs_on : (w : World) (es : List Event) (os : List Outcome) (v : World) (fs : List Event) (ps : List Outcome) (u : World) → Runs w es os v → Runs v fs ps u → Runs w (es ++ fs) (os ++ ps) u
 runs_on w [] [] v fs ps u p q = subst (λ (x : World). Runs x fs ps u) p q
@@ -181,11 +181,12 @@ module _ (room end : ℕ) (before : Image) (found : List Op) (allowed : Allowed 
   abbrev first : World
   first = world_at_opening found room end
 
-  -- a turn of the events before the play and of those in it, which told these outcomes
+  -- a turn of the events before the play and of those in it, which returned these outcomes
   abbrev IsTurn : List Outcome → Image → Type 0
   IsTurn outcomes = LeftByTurn room before found (record { events = earlier ++ events; told = outcomes })
 
-  -- The first of the play's events were taken; those before it were told, and of these some.
+  -- The first of the play's events were taken; the outcomes of those before the play were returned, and
+  -- some of these.
   turn_of : (done rest : List Event) → events ≡ done ++ rest → (outcomes untold : List Outcome) (v : World) → Runs first (earlier ++ done) (outcomes ++ untold) v
       → (i : Image) → IsSheetImage (sheet_in v) i → IsTurn outcomes i
   turn_of done rest split outcomes untold v run i image = (
@@ -210,12 +211,12 @@ module _ (room end : ℕ) (before : Image) (found : List Op) (allowed : Allowed 
   within : (i : Image) → LeftAmong w events told i → IsTurn said i
   within i left = turn_of left.done left.more left.split said left.outcomes left.leads (runs_on first earlier said w left.done left.outcomes left.leads so_far left.runs) i left.image
 
-  -- one that leaves the worksheet behind the events with an outcome
+  -- one that leaves the worksheet after the events with an outcome
   without_it : (rest : List Event) (host : HostView) (p : HasPlayed w events rest told host) (i : Image) → IsSheetImage (sheet_in p.leads) i → IsTurn (said ++ told) i
   without_it rest host p = turn_of p.done rest p.split (said ++ told) [] p.leads
       (subst (λ (os : List Outcome). Runs first (earlier ++ p.done) os p.leads) (sym (append-nil (said ++ told))) (runs_on first earlier said w p.done told p.leads so_far p.runs))
 
-  -- one that leaves that behind the event behind them
+  -- one that leaves the worksheet after the event that follows them
   with_it : (e : Event) (rest : List Event) (host : HostView) (p : HasPlayed w events (e ∷ rest) told host) (d : Does) (i : Image) → MayDo p.leads e d
       → IsSheetImage (sheet_in (behind p.leads d)) i → IsTurn (said ++ told) i
   with_it e rest host p d i may image =

@@ -93,7 +93,7 @@ module _ (id : ℕ) (prompt : List ℕ) (out : Tree) where
   one_less (suc k) [] = refl
   one_less (suc k) (i ∷ items) = one_less k items
 
--- what waits behind an answer, and before it
+-- what waits after an answer, and before it
 left_waiting : (id : ℕ) (answers : List Outer) (o : Option Outer) (items : List Item) (prompt : List ℕ)
     → lines_among id (unanswered (answers ++ option_to_list o) items) + answers_one id (option_and_then (λ b. answer_behind answers items prompt b.block) o) ≡ lines_among id (unanswered answers items)
 left_waiting id [] None items prompt = omega arith

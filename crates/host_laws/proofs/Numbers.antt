@@ -1,4 +1,4 @@
--- Which lives go on behind an event, and their numbers.
+-- Which lives go on after an event, and their numbers.
 use Rattle.std.proofs.Common.{◌≡◌, ◌⊎◌, inl, inr, ⊎_elim, ◌+◌, ◌<◌, ◌≤◌, ℕ, suc, List, [], ◌∷◌, ◌++◌, length, refl, ap, sym, ◌∙◌, subst, arith, append_assoc, append-nil, Bool, true, false, Option, Some, None}
 use Rattle.std.specs.Prelude.{if◌then◌else◌, ◌==◌, ◌&&◌, option_map}
 use Rattle.std.specs.Str.{bytes_eq}
@@ -129,7 +129,7 @@ module _ (w : World) where
   becomes (event.Child name number e) d may =
       child_so (with_number number (life_of w name)) e d (λ l h. its_own w name l (with_its_number number (life_of w name) l h)) may
 
--- the lives and the count of a world behind an event are those of the row
+-- the lives and the count of a world after an event are those of the row
 behind_lives : (w : World) (d : Does) → ((behind w d).lives ≡ d.lives) × ((behind w d).begun ≡ d.begun)
 behind_lives w d = go d.anew d.op
   where
@@ -314,7 +314,7 @@ are_numbered w h = record {
   given = λ number not_given. empty (lives_numbered number w.lives) (numbered_are number w.lives ∙ ⊎_elim (λ is. ap (λ (n : ℕ). total (is_numbered n) w.lives) is ∙ h.not_zero) (h.given number) not_given);
 }
 
--- Starts are told with one number after another.
+-- Starts get one number after another.
 
 starts_row : (w : World) (d : Does) → Becomes w d → numbers_to w.begun ++ started_by d.told.effect ≡ numbers_to d.begun
 starts_row w d (Becomes.all_stay lives begun none) = ap (λ (ns : List ℕ). numbers_to w.begun ++ ns) none ∙ append-nil (numbers_to w.begun) ∙ ap numbers_to (sym begun)

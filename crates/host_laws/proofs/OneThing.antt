@@ -92,10 +92,10 @@ module _ (one : OneReading) (w : World) where
 pub an_event_does_one_thing : OneReading → AnEventDoesOneThing
 an_event_does_one_thing one w e d f a b = one_does one w e d f a b
 
--- Where it leads is settled by what it told.
+-- Where it leads is settled by what it returned.
 
 module _ (one : OneReading) (w : World) where
-  -- what is accepted isn't told as refused
+  -- what is accepted isn't reported as refused
   accepts : (c : Command) → is_refusal (does w c).told.reply ≡ false
   accepts (command.Session name tab words) = refl
   accepts (command.New after session input) = refl

@@ -296,7 +296,7 @@ module _ (w : World) (b : List Op) (h : Sound w) (allowed : Allowed b) (same : s
   follows (event.Child name number child.Stalled) o v given = ended (event.Child name number child.Stalled) (with_number number (life_of w name)) reason.Stalled true o v (λ l is. the_life name l w h (numbered number (life_of w name) l is)) (λ u g. g) given
   follows (event.Child name number child.StopFault) o v given = nothing w b h allowed same (event.Child name number child.StopFault) o v given.1 (given.0, refl)
 
--- events one behind another
+-- events one after another
 pub record RunsAlike (w : World) (b : List Op) (es : List Event) (os : List Outcome) (v : World) : Type 0 where
   pub ops : List Op
   pub run : Runs (by_ops b w) es os (by_ops ops v)

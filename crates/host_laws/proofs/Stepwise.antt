@@ -23,7 +23,7 @@ module _ (room end : ℕ) (before : Image) (found : List Op) (allowed : Allowed 
   abbrev first : World
   first = world_at_opening found room end
 
-  -- a turn of the events with this one, which told these outcomes
+  -- a turn of the events with this one, which returned these outcomes
   abbrev IsTurn : List Outcome → Image → Type 0
   IsTurn outcomes i = (kept : List Op) × Turned room before found (record { events = events ++ e ∷ []; told = outcomes }) i kept
 
@@ -47,7 +47,7 @@ module _ (room end : ℕ) (before : Image) (found : List Op) (allowed : Allowed 
     },
   )
 
-  -- one that leaves the worksheet behind it, where these outcomes were told, and those were not
+  -- one that leaves the worksheet after it, where these outcomes were returned, and those were not
   behind_it : (outcomes untold : List Outcome) (v : World) (i : Image) → Runs first (events ++ e ∷ []) (outcomes ++ untold) v → IsSheetImage (sheet_in v) i → IsTurn outcomes i
   behind_it outcomes untold v i run image = (
     v.ops,

@@ -1,4 +1,4 @@
--- What one session is told, whatever others' interpreters do.
+-- What is reported to one session, whatever others' interpreters do.
 use Rattle.std.specs.Prelude.{◌≡◌, ◌+◌, ℕ, List, [], ◌∷◌, ◌++◌, length, drop, map, Bool, true, false, None, Option, Some, if◌then◌else◌}
 use Rattle.std.specs.Str.{bytes_eq}
 use Rattle.std.specs.List.{AllByRecursion}
@@ -81,7 +81,7 @@ is_refusal reply.Nothing = false
 abbrev pub NoneRefused : List Outcome → Type 0
 NoneRefused os = AllByRecursion (λ o. is_refusal o.reply ≡ false) os
 
--- What is told of an event: what it gave, where it is of the session, and the ops that it added.
+-- What is reported of an event: what it gave, where it is of the session, and the ops that it added.
 pub record Told : Type 0 where
   pub event : Event
   pub outcome : Option Outcome

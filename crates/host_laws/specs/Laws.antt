@@ -31,7 +31,7 @@ use Rattle.host_laws.specs.Apart.{named}
 abbrev pub EachEventHasAnOutcome : Type 0
 EachEventHasAnOutcome = (w : World) (e : Event) → (o : Outcome) × (v : World) × Gives w e o v
 
--- a refusal for want of memory
+-- a refusal for lack of memory
 abbrev pub lacks_memory : World → Does
 lacks_memory w = tells w (reply.Refused refusal.OutOfMemory)
 
@@ -40,12 +40,12 @@ abbrev pub may_want : World → Event → Bool
 may_want w (event.Command c) = command_takes_memory w c
 may_want w (event.Child name number e) = false
 
--- What an event does in a world is settled, but that a command may be refused for want of memory.
+-- What an event does in a world is settled, but that a command may be refused for lack of memory.
 abbrev pub AnEventDoesOneThing : Type 0
 AnEventDoesOneThing = (w : World) (e : Event) (d f : Does) → MayDo w e d → MayDo w e f
     → (d ≡ f) ⊎ ((may_want w e ≡ true) × ((d ≡ lacks_memory w) ⊎ (f ≡ lacks_memory w)))
 
--- What was told settles where events have led.
+-- What was returned settles where events have led.
 abbrev pub OutcomesLeadToOneWorld : Type 0
 OutcomesLeadToOneWorld = (w : World) (es : List Event) (os : List Outcome) (v u : World) → Runs w es os v → Runs w es os u → v ≡ u
 
@@ -60,7 +60,7 @@ IsOwnReply (reply.Refused why) = Unit {0}
 IsOwnReply (reply.Child told) = (told.closed ≡ None) × ((ended : Ended) × (told.ended ≡ Some ended) × (ended.reason ≡ reason.Stopped))
 IsOwnReply reply.Nothing = ⊥
 
--- Each command has a reply of its own. So of what is told of a command and of all that comes of it, the first reply is the command's.
+-- Each command has a reply of its own. So of what is returned for a command and for all that comes of it, the first reply is the command's.
 abbrev pub EachCommandHasAReply : Type 0
 EachCommandHasAReply = (w : World) (c : Command) (o : Outcome) (v : World) → Gives w (event.Command c) o v → IsOwnReply o.reply
 
@@ -99,8 +99,8 @@ abbrev pub NumbersAreGivenOnce : Type 0
 NumbersAreGivenOnce = (ops : List Op) (room end : ℕ) (es : List Event) (os : List Outcome) (v : World) → Runs (world_at_opening ops room end) es os v
     → (all_started os ≡ numbers_to v.begun) × AreNumbered v
 
--- Nothing of an interpreter whose life has ended does anything: whatever a child event says of it later, it is told as nothing,
--- gives no op, and changes no life.
+-- Nothing of an interpreter whose life has ended does anything: whatever a child event says of it later, the reply is Nothing, it gives no
+-- op, and changes no life.
 abbrev pub NothingOfAnEndedLife : Type 0
 NothingOfAnEndedLife = (ops : List Op) (room end : ℕ) (es : List Event) (os : List Outcome) (w : World) → Runs (world_at_opening ops room end) es os w
     → (name : List ℕ) (number : ℕ) → number ≤ w.begun → with_number number (life_of w name) ≡ None

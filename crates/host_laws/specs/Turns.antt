@@ -61,24 +61,24 @@ pub record ClosesAnswer (w : World) (e : Event) (f : Field) : Type 0 where
   pub closes : ClosesIn (life.past ++ received piece ∷ []) (length life.past) block
   pub shows : f.answer ≡ Some (record { prompt = prompt_of life.past life.blocks; output = output block.block })
 
--- One event that a host took: the world before it, the event, and the world behind it.
+-- One event that a host took: the world before it, the event, and the world after it.
 pub record HostStep : Type 0 where
   pub before : World
   pub event : Event
   pub behind : World
 
--- These are the steps of these events, which told these outcomes, one behind another from this world to that one.
+-- These are the steps of these events, with these outcomes, one after another from this world to that one.
 pub data StepsOf : World → List Event → List Outcome → List HostStep → World → Type 0 where
   no_step : {w : World} → StepsOf w [] [] [] w
   step_first : {w mid v : World} {e : Event} {o : Outcome} {es : List Event} {os : List Outcome} {steps : List HostStep}
       → Gives w e o mid → StepsOf mid es os steps v
       → StepsOf w (e ∷ es) (o ∷ os) (record { before = w; event = e; behind = mid } ∷ steps) v
 
--- behind each of these steps the worksheet has exactly this field
+-- after each of these steps the worksheet has exactly this field
 abbrev pub KeepField : Field → List HostStep → Type 0
 KeepField f steps = AllByRecursion (λ s. Has (sheet_in s.behind) f) steps
 
--- One of these steps closed the answer that the field shows, and behind it and behind each later one the worksheet has the field so.
+-- One of these steps closed the answer that the field shows, and after it and after each later one the worksheet has the field so.
 pub record AnsweredIn (steps : List HostStep) (f : Field) : Type 0 where
   pub earlier : List HostStep
   pub step : HostStep
@@ -89,13 +89,13 @@ pub record AnsweredIn (steps : List HostStep) (f : Field) : Type 0 where
 
 -- Hosts one after another.
 
--- What a caller saw of one host: the events that it gave it, in order, and the outcomes that it was told, of the first of them.
+-- What a caller saw of one host: the events that it gave it, in order, and the outcomes that were returned to it, of the first of them.
 pub record HostTurn : Type 0 where
   pub events : List Event
   pub told : List Outcome
 
--- A host was opened on an image of the worksheet of these ops. It took a prefix of the events that it was given, which has all
--- those of which it told. A crash left an image of the worksheet of those ops.
+-- A host was opened on an image of the worksheet of these ops. It took a prefix of the events that it was given, which has all those whose
+-- outcome it returned. A crash left an image of the worksheet of those ops.
 pub record Turned (room : ℕ) (before : Image) (found : List Op) (turn : HostTurn) (after : Image) (kept : List Op) : Type 0 where
   pub allowed : Allowed found
   pub opens : IsSheetImage (sheet_of found) before
@@ -106,7 +106,7 @@ pub record Turned (room : ℕ) (before : Image) (found : List Op) (turn : HostTu
   pub taken : List Event
   pub lost : List Event
   pub split : turn.events ≡ taken ++ lost
-  -- the outcomes of those that it took: what it told, and then what it didn't come to tell
+  -- the outcomes of those that it took: what it returned, and then what it didn't come to return
   pub untold : List Outcome
   pub leads : World
   pub run : Runs (world_at_opening found room end) taken (turn.told ++ untold) leads
@@ -117,10 +117,10 @@ pub record Turned (room : ℕ) (before : Image) (found : List Op) (turn : HostTu
 abbrev pub LeftByTurn : ℕ → Image → List Op → HostTurn → Image → Type 0
 LeftByTurn room before found turn after = (kept : List Op) × Turned room before found turn after kept
 
--- A play is a part of such a turn. A host was opened, took events and told their outcomes, and a play
--- of these events comes behind them. A crash inside it makes a turn that told the outcomes of those
--- before it, and a crash behind it one that told all its outcomes too: where it took some of the first
--- events, and where it stopped at a fault.
+-- A play is a part of such a turn. A host was opened, took events and returned their outcomes, and a
+-- play of these events comes after them. A crash inside it makes a turn that returned the outcomes of
+-- those before it. A crash after it makes one that returned all its outcomes too: where it took some of
+-- the first events, and where it stopped at a fault.
 abbrev pub PlaysAreTurns : Type 0
 PlaysAreTurns = (room end : ℕ) (before : Image) (found : List Op)
     → Allowed found → IsSheetImage (sheet_of found) before → EndsAt before end
@@ -143,11 +143,11 @@ abbrev pub CrashesAreTurns : ℕ → Image → List Op → HostTurn → DiskView
 CrashesAreTurns room before found turn old new = InModel old
     (LeavesOnly (LeftByTurn room before found turn) old.history new.history)
 
--- So are single steps. A host was opened, took events and told their outcomes, and stands for the
+-- So are single steps. A host was opened, took events and returned their outcomes, and stands for the
 -- world that they led to; now a step takes one event more. A crash at any moment of it, whatever it
--- answers, makes a turn of the events with this one that told those outcomes. Where it answers Ok, the
--- host stands for the world that the events with this one lead to, and a crash behind it makes a turn
--- that told this outcome too.
+-- answers, makes a turn of the events with this one that returned those outcomes. Where it answers Ok,
+-- the host stands for the world that the events with this one lead to. A crash after it then makes a
+-- turn that returned this outcome too.
 abbrev pub StepsAreTurns : Type 0
 StepsAreTurns = (room end : ℕ) (before : Image) (found : List Op)
     → Allowed found → IsSheetImage (sheet_of found) before → EndsAt before end
@@ -174,9 +174,9 @@ pub data WentOn (room : ℕ) : Image → List Op → List HostTurn → List Host
       → WentOn room mid ops turns more after kept
       → WentOn room before found (turn ∷ turns) (steps ++ more) after kept
 
--- What these hosts have left in the end: the worksheet of the first ops and of those of a prefix of each host's events in turn, where
--- each prefix has all that was told. A field of it that shows an answer was there in the worksheet that was found first and has stayed
--- as it was; or it shows the output of a whole block that answered its line in one of the steps, and has stayed so since.
+-- What these hosts have left in the end: the worksheet of the first ops and of those of a prefix of each host's events in turn. Each prefix
+-- has all events whose outcomes were returned. A field of it that shows an answer was there in the worksheet that was found first, and has
+-- stayed as it was. Or it shows the output of a whole block that answered its line in one of the steps, and has stayed so since.
 pub record LeftInTurn (room : ℕ) (first : List Op) (before after : Image) (turns : List HostTurn) : Type 0 where
   pub kept : List Op
   pub steps : List HostStep
@@ -191,7 +191,7 @@ HostsInTurn = (room : ℕ) (first : List Op) (before after : Image) (turns : Lis
     → Allowed first → IsSheetImage (sheet_of first) before → EachTurned room before turns after
     → LeftInTurn room first before after turns
 
--- Where an evaluation was accepted, what its field shows from there on is what a whole block answered to a line behind it, or
+-- Where an evaluation was accepted, what its field shows from there on is what a whole block answered to a line after it, or
 -- nothing: not where it was Stopped, nor where its interpreter ended before.
 abbrev pub EvaluatedAnew : Type 0
 EvaluatedAnew = (found : List Op) (room end : ℕ) (es : List Event) (os : List Outcome) (w : World)

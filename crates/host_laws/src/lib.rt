@@ -6,9 +6,10 @@ ghost use Rattle.host_laws.specs.Apart.{OthersAreSilent, SessionsAreIndependent,
 ghost use Rattle.host_laws.specs.Turns.{EvaluatedAnew, HostsInTurn, PlaysAreTurns, StepsAreTurns};
 ghost use Rattle.host_laws.specs.Laws.{AnEventDoesOneThing, EachCommandHasAReply, EachEventHasAnOutcome, NothingIsShownInFlight, NothingOfAnEndedLife, NumbersAreGivenOnce, OutcomesLeadToOneWorld};
 
-/// A session is told the same whatever others' interpreters do: two histories without refusals from
-/// worlds alike for it that agree in the merged list of all commands and this session's child events, and
-/// in the numbers of its lives, give it equal replies, effects and answers.
+/// The same is reported to a session whatever others' interpreters do. Take two histories without
+/// refusals, from worlds alike for it. Where they agree in the merged list of all commands and this
+/// session's child events, and in the numbers of its lives, they give it equal replies, effects and
+/// answers.
 pub fn sessions_are_independent()
     ensures { SessionsAreIndependent }
 {
@@ -27,9 +28,10 @@ pub fn others_are_silent()
     ensures { OthersAreSilent }
 {}
 
-/// Hosts one after another on one disk, each from its opening to a crash: the worksheet is the one found
-/// first with the ops of a prefix of each host's events in turn, and each prefix has all that was told. A
-/// field that shows an answer shows what was found first, or the whole block that answered its line.
+/// Hosts one after another on one disk, each from its opening to a crash. The worksheet is the one
+/// found first with the ops of a prefix of each host's events in turn. Each prefix has all events whose
+/// outcomes were returned. A field that shows an answer shows what was found first, or the whole block
+/// that answered its line.
 pub fn hosts_in_turn()
     ensures { HostsInTurn }
 {
@@ -41,13 +43,14 @@ pub fn plays_are_turns()
     ensures { PlaysAreTurns }
 {}
 
-/// So are events that a caller gives a host one by one, each by a step: a crash within a step makes a
-/// turn that told what the steps before it told, and one behind it a turn that told its outcome too.
+/// So are events that a caller gives a host one by one, each by a step. A crash within a step makes a
+/// turn that returned what the steps before it returned. One after it makes a turn that returned its
+/// outcome too.
 pub fn steps_are_turns()
     ensures { StepsAreTurns }
 {}
 
-/// What a field shows behind an accepted evaluation of it is what a whole block answered behind it, or
+/// What a field shows after an accepted evaluation of it is what a whole block answered after it, or
 /// nothing.
 pub fn evaluated_anew()
     ensures { EvaluatedAnew }
@@ -58,14 +61,14 @@ pub fn each_event_has_an_outcome()
     ensures { EachEventHasAnOutcome }
 {}
 
-/// What an event does is settled, but that a command may be refused for want of memory.
+/// What an event does is settled, but that a command may be refused for lack of memory.
 pub fn an_event_does_one_thing()
     ensures { AnEventDoesOneThing }
 {
     plugin_core::streams_read_one_way();
 }
 
-/// What was told of a list of events settles the world that they have led to.
+/// What was returned for a list of events settles the world that they have led to.
 pub fn outcomes_lead_to_one_world()
     ensures { OutcomesLeadToOneWorld }
 {
@@ -82,7 +85,7 @@ pub fn numbers_are_given_once()
     ensures { NumbersAreGivenOnce }
 {}
 
-/// Nothing that comes of a life that has ended does anything: it is told as nothing, gives no op and
+/// Nothing that comes of a life that has ended does anything: the reply is Nothing, it gives no op and
 /// changes no life. So nothing of an earlier interpreter's life answers a later line.
 pub fn nothing_of_an_ended_life()
     ensures { NothingOfAnEndedLife }

@@ -1,4 +1,4 @@
-//! Hostile use, with what is told typed in.
+//! Hostile use, with what is reported typed in.
 mod broken;
 mod children;
 mod desk;

@@ -27,7 +27,7 @@ same_selector : (a b : List ℕ) (at : ℕ) → first_gate ≤ at → take at a 
 same_selector a b at behind same =
     sym (get_or-take at a selector_at 0 (omega (arith, behind))) ∙ ap (λ (l : List ℕ). get_or l selector_at 0) same ∙ get_or-take at b selector_at 0 (omega (arith, behind))
 
--- a header stays where something is written behind it
+-- a header stays where something is written after it
 pub header_stays : (a b : List ℕ) (at n : ℕ) → first_gate ≤ at → HasHeader a → Torn at n a b → HasHeader b
 header_stays a b at n behind has torn =
     let front : take first_gate b ≡ header has.1.selector =
@@ -56,7 +56,7 @@ pub first_of_both : (area : Area) (old i j : Image) → FirstKept area old i →
 first_of_both First old i j one two same = same
 first_of_both Second old i j one two same = one ∙ sym two
 
--- An image while something is written into the active area, behind its header.
+-- An image while something is written into the active area, after its header.
 pub record Works (area : Area) (old i : Image) : Type 0 where
   pub named : active_area i ≡ area
   pub headed : HasHeader i.first

@@ -1,4 +1,4 @@
--- What a crash leaves while a journal is written anew.
+-- What a crash leaves while a journal is rewritten.
 use Rattle.std.proofs.Common.{◌≡◌, ◌==◌, if◌then◌else◌, inl, inr, ℕ, ◌+◌, ◌<◌, ◌≤◌, true, false, Bool, List, [], ◌∷◌, ◌++◌, length, get_or, drop, take, refl, sym, ◌∙◌, ap, subst, arith, length-drop, take-append-drop, Result, Ok, Err, IsTrue}
 use Rattle.std.proofs.lemmas.List.{take-take, take_more, drop_more}
 use Rattle.disk_model.specs.Disk.{Called, DiskView, Rises, Image, History, IsImage, ChangesArea, Leaves, LeavesOnly, Torn, Writes, Syncs, area_of, content_of, other_area, overwritten}
@@ -31,7 +31,7 @@ pub spared_on : (area : Area) (i j k : Image) → SparedBy area i j → SparedBy
 spared_on First i j k one two = (two.0 ∙ one.0, omega (arith, one.1, two.1), two.2 ∙ one.2)
 spared_on Second i j k one two = two ∙ one
 
--- a write behind the header of area First, or anywhere in Second
+-- a write after the header of area First, or anywhere in Second
 abbrev pub BehindHeader : Area → ℕ → Type 0
 BehindHeader First at = first_gate ≤ at
 BehindHeader Second at = Unit {0}

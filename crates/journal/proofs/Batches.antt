@@ -27,7 +27,7 @@ batch_more payloads from next bytes longer batch some payload is =
 pub holds_more : (c d : ℕ) (payloads : List (List ℕ)) → HoldsEach c payloads → c ≤ d → HoldsEach d payloads
 holds_more c d payloads holds more = λ i some. omega (arith, holds i some, more)
 
--- the end behind a batch, which is at most that of all
+-- the end after a batch, which is at most that of all
 pub end_behind : (payloads : List (List ℕ)) (from next : ℕ) (bytes : List ℕ) → IsBatch payloads from next bytes → end_of (take next payloads) ≡ end_of (take from payloads) + length bytes
 end_behind payloads from next bytes batch =
     omega (arith, ap end_of batch.split, end-append (take from payloads) batch.those, ap length batch.are)

@@ -21,7 +21,7 @@ pub ArePayloads-append : (limit : ℕ) (a b : List (List ℕ)) → ArePayloads l
 ArePayloads-append limit [] b one two = two
 ArePayloads-append limit (p ∷ a) b one two = (one.0, ArePayloads-append limit a b one.1 two)
 
--- what is written behind a gate for one payload, with that gate open in front of it
+-- what is written after a gate for one payload, with that gate open in front of it
 pub one_group : (payload bytes : List ℕ) → bytes ≡ body_of payload ++ closed_gate ∷ [] → open_gate ∷ bytes ≡ records (payload ∷ []) ++ closed_gate ∷ []
 one_group payload bytes are = ap (λ (l : List ℕ). open_gate ∷ l) are ∙ ap (λ (l : List ℕ). l ++ closed_gate ∷ []) (sym (append-nil (record_of payload)))
 
@@ -49,7 +49,7 @@ module _ (limit selector : ℕ) (content : List ℕ) (payloads : List (List ℕ)
   pub inside : end < length content
   inside = omega (arith, ap length split, length-front, length-append front (lays.gate ∷ lays.rest))
 
-  -- a closed gate behind the front ends these payloads
+  -- a closed gate after the front ends these payloads
   pub shut : (gate : ℕ) (rest : List ℕ) → gate ≢ open_gate → Laid limit selector (front ++ gate ∷ rest) payloads
   unfolding front
   shut gate rest closed = record {
@@ -71,7 +71,7 @@ module _ (limit selector : ℕ) (content : List ℕ) (payloads : List (List ℕ)
       subst (λ l. Laid limit selector l payloads) (sym whole) (shut lays.gate (drop (end + 1) c) lays.closed)
 
   module _ (more : List (List ℕ)) (each : ArePayloads limit more) (bytes : List ℕ) (are : open_gate ∷ bytes ≡ records more ++ closed_gate ∷ []) where
-    -- with the records behind the closed gate
+    -- with the records after the closed gate
     pub staged : List ℕ → List ℕ
     staged rest = front ++ lays.gate ∷ (bytes ++ rest)
 
@@ -119,7 +119,7 @@ module _ (limit selector : ℕ) (content : List ℕ) (payloads : List (List ℕ)
       unfolding staged
       length-staged = omega (arith, length-front, length-append front (lays.gate ∷ (bytes ++ rest)))
 
-      -- the second write leaves the records whole, behind any gate
+      -- the second write leaves the records whole, after any gate
       pub torn_gate : (c : List ℕ) → Torn end 1 (staged rest) c → Laid limit selector c payloads ⊎ Laid limit selector c (payloads ++ more)
       torn_gate c torn =
           let gate = get_or c end 0 in
@@ -141,7 +141,7 @@ end-push payloads payload = ap (λ (l : List ℕ). first_gate + length l) (recor
 pub end-append : (a b : List (List ℕ)) → end_of (a ++ b) ≡ end_of a + length (records b)
 end-append a b = omega (arith, ap length (records-append a b), length-append (records a) (records b))
 
--- two writes, of what stands behind an offset and then of the byte there, are one
+-- two writes, of what follows an offset and then of the byte there, are one
 pub overwritten-overwritten : (old : List ℕ) (end c : ℕ) (bytes : List ℕ) → end < length old → overwritten (overwritten old (end + 1) bytes) end (c ∷ []) ≡ overwritten old end (c ∷ bytes)
 overwritten-overwritten old end c bytes h =
     let last = get_or old end 0 in

@@ -106,7 +106,7 @@ next_left area gate end given (p ∷ others) has far =
           ∙ drop_at (head ++ records given) (record_of p ++ rest) gate (omega (arith, has.gate_is, length-append head (records given)));
     }
 
--- the payloads are parted anew where one more is given
+-- the payloads are parted again where one more is given
 parted : (given left others : List (List ℕ)) (bytes : List ℕ) → left ≡ bytes ∷ others → given ++ left ≡ (given ++ bytes ∷ []) ++ others
 parted given left others bytes is = ap (λ (l : List (List ℕ)). given ++ l) is ∙ sym (append_assoc given (bytes ∷ []) others)
 

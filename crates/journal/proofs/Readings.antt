@@ -38,7 +38,7 @@ unfailed P old new none reads = record {
   steady = λ _. reads.steady (λ no. no);
 }
 
--- calls that told no failure
+-- calls that reported no failure
 pub untroubled : (old new : DiskView) → SameDisk old new → InModel old (Looks old.history new.history) → new.faults ≡ old.faults → Reads ⊥ old new
 untroubled old new same looks steady = record { same = same; looks = looks; faulty = λ no. absurd no; steady = λ _. steady }
 

@@ -34,7 +34,7 @@ module _ (limit : ℕ) (fits : limit < 2 ^ 32) where
       let others = same_records ps qs g h x y eps.1 eqs.1 cg ch rest in
       cc
 
-  -- what stands behind the header
+  -- what follows the header
   behind : (bytes : List ℕ) (ps : List (List ℕ)) (s : StandsFor limit bytes ps) → drop 10 bytes ≡ records ps ++ s.lays.gate ∷ s.lays.more
   behind bytes ps s = ap (λ (l : List ℕ). drop 10 l) s.header_is.is ∙ s.lays.is
 
@@ -45,7 +45,7 @@ module _ (limit : ℕ) (fits : limit < 2 ^ 32) where
   laid_out_once bytes ps qs s t = same_records ps qs s.lays.gate t.lays.gate s.lays.more t.lays.more s.lays.each t.lays.each s.lays.closed t.lays.closed
       (sym (behind bytes ps s) ∙ behind bytes qs t)
 
-  -- behind the records of an area there is no broken one
+  -- after the records of an area there is no broken one
   none_broken : (ps qs : List (List ℕ)) (g : ℕ) (x more : List ℕ) → ArePayloads limit ps → ArePayloads limit qs → g ≢ open_gate → IsBroken limit more → records ps ++ g ∷ x ≡ records qs ++ open_gate ∷ more → ⊥
   none_broken [] [] g x more eps eqs closed broken same = closed cc
   none_broken [] (q ∷ qs) g x more eps eqs closed broken same = closed cc
@@ -63,7 +63,7 @@ module _ (limit : ℕ) (fits : limit < 2 ^ 32) where
       let rest : records ps ++ g ∷ x ≡ records qs ++ open_gate ∷ more = sym (drop_at p (records ps ++ g ∷ x) (length p) refl) ∙ ap (λ (l : List ℕ). drop (length p) l) behind ∙ drop_at q (records qs ++ open_gate ∷ more) (length p) (sym size) in
       none_broken ps qs g x more eps.1 eqs.1 closed broken rest
 
-  -- a record and what stands behind it are not broken
+  -- a record and what follows it are not broken
   pub whole_record : (p rest : List ℕ) → IsPayload limit p → 0 < length rest → IsBroken limit (body_of p ++ rest) → ⊥
   whole_record p rest is some broken =
       let told : from_be_bytes w32 (to_be_bytes w32 (length p)) ≡ length p = from_be_bytes-to_be_bytes_4 (length p) (omega (arith, is.1, fits)) in

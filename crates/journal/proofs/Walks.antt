@@ -116,7 +116,7 @@ header_there front area rest begins is some = (
   omega (arith, length-append rest begins.0),
 )
 
--- at a whole record its length is told
+-- at a whole record the step names its length
 pub told_here : (payload rest : List ℕ) (step : Step) → IsPayload longest_payload payload → 0 < length rest → IsStep longest_payload (record_of payload ++ rest) step → step ≡ steps.Record (length payload)
 told_here payload rest steps.End is some step = absurd (step.3 (sym (ap (λ (l : List ℕ). get_or l 0 0) step.2)))
 told_here payload rest steps.Broken is some step =

@@ -27,14 +27,14 @@ begins_less front bytes n begins = (
 begins_behind : (front bytes : List ℕ) (n : ℕ) → n ≤ length front → Begins front bytes → Begins (drop n front) (drop n bytes)
 begins_behind front bytes n le begins = (begins.0, ap (λ (l : List ℕ). drop n l) begins.1 ∙ drop-append-le n front begins.0 le)
 
--- what begins the rest of an area, and what begins the rest behind that
+-- what begins the rest of an area, and what begins the rest after that
 pub begins_on : (area front next : List ℕ) (at : ℕ) → Begins front (drop at area) → Begins next (drop (at + length front) area) → Begins (front ++ next) (drop at area)
 begins_on area front next at first second =
     let behind : drop (at + length front) area ≡ first.0 =
     sym (drop-drop (length front) at area) ∙ ap (λ (l : List ℕ). drop (length front) l) first.1 ∙ drop_at front first.0 (length front) refl in
     (second.0, first.1 ∙ ap (λ (l : List ℕ). front ++ l) (sym behind ∙ second.1) ∙ sym (append_assoc front next second.0))
 
--- a part of what is shown there, put behind them
+-- a part of what is shown there, put after them
 pub more_read : (area items shown part new : List ℕ) (at n k : ℕ) → n ≡ length items → part ≡ take k shown → new ≡ items ++ part → Begins items (drop at area) → Begins shown (drop (at + n) area) → Begins new (drop at area)
 more_read area items shown part new at n k size taken is before here =
     let there = subst (λ (l : List ℕ). Begins l (drop (at + length items) area)) (sym taken)

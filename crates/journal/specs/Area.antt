@@ -32,15 +32,15 @@ open_gate = 82
 abbrev pub closed_gate : ℕ
 closed_gate = 0
 
--- behind a gate: the payload's length in four bytes, and the payload
+-- what follows a gate: the payload's length in four bytes, and the payload
 abbrev pub body_of : List ℕ → List ℕ
 body_of payload = to_be_bytes w32 (length payload) ++ payload
 
--- an open gate, and what stands behind it
+-- an open gate, and what follows it
 abbrev pub record_of : List ℕ → List ℕ
 record_of payload = open_gate ∷ body_of payload
 
--- record behind record
+-- record after record
 abbrev pub records : List (List ℕ) → List ℕ
 records [] = []
 records (payload ∷ payloads) = record_of payload ++ records payloads
@@ -49,7 +49,7 @@ records (payload ∷ payloads) = record_of payload ++ records payloads
 abbrev pub IsPayload : ℕ → List ℕ → Type 0
 IsPayload limit payload = (1 ≤ length payload) × (length payload ≤ limit)
 
--- a payload behind its length
+-- a payload after its length
 pub record IsBody (limit : ℕ) (bytes : List ℕ) : Type 0 where
   pub is : bytes ≡ body_of (drop 4 bytes)
   pub payload : IsPayload limit (drop 4 bytes)
@@ -58,11 +58,11 @@ abbrev pub ArePayloads : ℕ → List (List ℕ) → Type 0
 ArePayloads limit [] = Unit {0}
 ArePayloads limit (payload ∷ payloads) = IsPayload limit payload × ArePayloads limit payloads
 
--- the offset of the first gate, which stands behind the header
+-- the offset of the first gate, which follows the header
 abbrev pub first_gate : ℕ
 first_gate = 10
 
--- the offset of the gate behind the records of these payloads
+-- the offset of the gate after the records of these payloads
 abbrev pub end_of : List (List ℕ) → ℕ
 end_of payloads = first_gate + length (records payloads)
 
@@ -71,11 +71,11 @@ pub record HeaderOf (bytes rest : List ℕ) : Type 0 where
   pub selector : ℕ
   pub is : bytes ≡ header selector ++ rest
 
--- a header, and at least one byte behind it
+-- a header, and at least one byte after it
 abbrev pub HasHeader : List ℕ → Type 0
 HasHeader bytes = (rest : List ℕ) × HeaderOf bytes rest × (0 < length rest)
 
--- behind a header: the records of these payloads, a closed gate, and then anything
+-- after a header: the records of these payloads, a closed gate, and then anything
 pub record Lays (limit : ℕ) (rest : List ℕ) (payloads : List (List ℕ)) : Type 0 where
   pub gate : ℕ
   pub more : List ℕ
@@ -83,13 +83,13 @@ pub record Lays (limit : ℕ) (rest : List ℕ) (payloads : List (List ℕ)) : T
   pub closed : gate ≢ open_gate
   pub each : ArePayloads limit payloads
 
--- an area stands for these payloads: behind its header it lays them out
+-- an area stands for these payloads: after its header it lays them out
 pub record StandsFor (limit : ℕ) (bytes : List ℕ) (payloads : List (List ℕ)) : Type 0 where
   pub rest : List ℕ
   pub header_is : HeaderOf bytes rest
   pub lays : Lays limit rest payloads
 
--- an area behind whose closed gate a payload was added: its record, with the gate open, and the
+-- an area to which a payload was added at its closed gate: its record, with the gate open, and the
 -- next gate, written closed
 abbrev pub added_at : ℕ → List ℕ → List ℕ → List ℕ
 added_at end payload old = overwritten old end (record_of payload ++ closed_gate ∷ [])
@@ -98,7 +98,7 @@ added_at end payload old = overwritten old end (record_of payload ++ closed_gate
 abbrev pub all_added_at : ℕ → List (List ℕ) → List ℕ → List ℕ
 all_added_at end payloads old = overwritten old end (records payloads ++ closed_gate ∷ [])
 
--- the records of these payloads, and a closed gate behind them
+-- the records of these payloads, and a closed gate after them
 pub record IsGroup (limit : ℕ) (bytes : List ℕ) (payloads : List (List ℕ)) : Type 0 where
   pub is : bytes ≡ records payloads ++ closed_gate ∷ []
   pub each : ArePayloads limit payloads

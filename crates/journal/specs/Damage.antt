@@ -3,8 +3,8 @@ use Rattle.std.specs.Prelude.{◌≡◌, ◌⊎◌, ℕ, ◌<◌, ◌≤◌, Lis
 use Rattle.std.specs.Int.{from_be_bytes, w32}
 use Rattle.journal.specs.Area.{HeaderOf, records, ArePayloads, end_of, open_gate}
 
--- the bytes behind an open gate are no record and a next gate: the length field, the payload or the
--- next gate ends past the area, or the length is 0 or too large
+-- The bytes after an open gate aren't a record and a next gate. The length field, the payload or the
+-- next gate ends past the area, or the length is 0 or too large.
 abbrev pub IsBroken : ℕ → List ℕ → Type 0
 IsBroken limit (b0 ∷ b1 ∷ b2 ∷ b3 ∷ more) =
     let n = from_be_bytes w32 (b0 ∷ b1 ∷ b2 ∷ b3 ∷ []) in
@@ -18,7 +18,7 @@ pub record Walked (limit : ℕ) (bytes : List ℕ) (payloads : List (List ℕ))
   pub each : ArePayloads limit payloads
   pub some : 0 < length rest
 
--- the records before this gate are whole, and what stands behind it is broken
+-- the records before this gate are whole, and what follows it is broken
 abbrev pub IsDamaged : ℕ → List ℕ → ℕ → Type 0
 IsDamaged limit bytes gate = (payloads : List (List ℕ)) × (more : List ℕ)
     × Walked limit bytes payloads (open_gate ∷ more) × (gate ≡ end_of payloads)

@@ -9,14 +9,14 @@ use Rattle.journal.specs.Limits.{longest_payload}
 use Rattle.journal.specs.declared.opening.OpenCause.{OpenCause}
 use Rattle.journal.specs.declared.opening.OpenCause.TheVariants as causes
 
--- behind its header an area has the records of these payloads, and then a gate that is closed, or
+-- after its header an area has the records of these payloads, and then a gate that is closed, or
 -- one that is damaged
 abbrev pub HasFront : ℕ → List ℕ → List (List ℕ) → Bool → Type 0
 HasFront limit bytes payloads false = StandsFor limit bytes payloads
 HasFront limit bytes payloads true = (more : List ℕ)
     × Walked limit bytes payloads (open_gate ∷ more) × IsBroken limit more
 
--- area First of an image has a header, and a byte behind it, and the active area has this front
+-- area First of an image has a header, and a byte after it, and the active area has this front
 pub record ImageHasFront (i : Image) (payloads : List (List ℕ)) (damaged : Bool) : Type 0 where
   pub headed : HasHeader i.first
   pub front : HasFront longest_payload (active_of i) payloads damaged
@@ -34,8 +34,8 @@ TellsHeader i causes.NotASheet = HasHeader i.first → HasHeader (active_of i) �
 TellsHeader i causes.Disk = Unit {0}
 TellsHeader i causes.OutOfMemory = Unit {0}
 
--- a front as contracts see it: its disk, the offset of the gate of the payload that it gives next, that
--- of the gate behind all whole records, and whether that one is damaged
+-- a front as contracts see it: its disk, the offsets of the gate of the next payload and of the gate
+-- after all whole records, and whether that one is damaged
 pub record FrontView : Type 0 where
   pub disk : DiskView
   pub gate : ℕ
@@ -43,7 +43,7 @@ pub record FrontView : Type 0 where
   pub damaged : Bool
 
 -- It has given these payloads, and these are left: they are those of the whole records on its disk, and
--- the next gate is that behind the given ones.
+-- the next gate is the one after the given ones.
 pub record HasGivenFront (front : FrontView) (given left : List (List ℕ)) : Type 0 where
   pub has : ImageHasFront (bytes_on front.disk) (given ++ left) front.damaged
   pub end_is : front.end ≡ end_of (given ++ left)

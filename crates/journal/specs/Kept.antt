@@ -16,14 +16,14 @@ active_of i = area_of (active_area i) i
 abbrev pub other_of : Image → List ℕ
 other_of i = area_of (other_area (active_area i)) i
 
--- the image stands for these payloads: area First has a header, and a byte behind it, and the active area
--- lays them out
+-- the image stands for these payloads: area First has a header, and a byte after it, and the active
+-- area lays them out
 pub record ImageStandsFor (i : Image) (payloads : List (List ℕ)) : Type 0 where
   pub headed : HasHeader i.first
   pub stands : StandsFor longest_payload (active_of i) payloads
 
 -- the disk stands for these payloads; they are durable, and so is area First, whose header names their
--- area; the closed gate behind them is at `end`
+-- area; the closed gate after them is at `end`
 pub record Keeps (h : History) (end : ℕ) (payloads : List (List ℕ)) : Type 0 where
   pub stands : ImageStandsFor (content_of h) payloads
   pub end_is : end ≡ end_of payloads
@@ -34,7 +34,7 @@ pub record Keeps (h : History) (end : ℕ) (payloads : List (List ℕ)) : Type 0
 abbrev pub OtherUntouched : DiskState → Image → Type 0
 OtherUntouched s i = (j : Image) × IsImage s j × (other_of i ≡ other_of j)
 
--- the image stands for the payloads, with all of these behind them or with none, and the other area is
+-- the image stands for the payloads, with all of these after them or with none, and the other area is
 -- untouched
 abbrev pub BeforeOrAll : DiskState → List (List ℕ) → List (List ℕ) → Image → Type 0
 BeforeOrAll s payloads more i =
@@ -49,11 +49,11 @@ pub record JournalView : Type 0 where
   pub disk : DiskView
   pub end : ℕ
 
--- a payload of n bytes, its record and the next gate fit behind the end
+-- a payload of n bytes, its record and the next gate fit after the end
 abbrev pub Fits : ℕ → ℕ → ℕ → Type 0
 Fits room end n = (n ≤ longest_payload) × (end + 5 + n + 1 ≤ room)
 
--- these payloads, their records and the next gate fit behind the end
+-- these payloads, their records and the next gate fit after the end
 abbrev pub FitsAll : ℕ → ℕ → List (List ℕ) → Type 0
 FitsAll room end payloads = end + length (records payloads) + 1 ≤ room
 
@@ -61,6 +61,6 @@ FitsAll room end payloads = end + length (records payloads) + 1 ≤ room
 abbrev pub EitherStands : List (List ℕ) → List (List ℕ) → Image → Type 0
 EitherStands before payloads i = ImageStandsFor i before ⊎ ImageStandsFor i payloads
 
--- these payloads fit in an area: the header, their records, and the gate behind them
+-- these payloads fit in an area: the header, their records, and the gate after them
 abbrev pub FitsAnew : ℕ → List (List ℕ) → Type 0
 FitsAnew room payloads = end_of payloads + 1 ≤ room

@@ -36,14 +36,14 @@ abbrev pub StandingOpens : Type 0
 StandingOpens = (i : Image) (payloads : List (List ℕ)) (cause : OpenCause)
     → ImageStandsFor i payloads → Tells i cause → IsPassing cause
 
--- Where no payload is, the gate is at 10, behind the header. Behind each payload it is 5 bytes and the payload's length further on: a
+-- Where there is no payload, the gate is at 10, after the header. Each payload moves it on by 5 bytes and the payload's length: a
 -- gate of one byte and a length of four bytes stand in front of the payload.
 abbrev pub GateBehind : Type 0
 GateBehind = (end_of [] ≡ 10)
     × ((payloads : List (List ℕ)) (payload : List ℕ) → end_of (payloads ++ payload ∷ []) ≡ end_of payloads + 5 + length payload)
 
--- A disk to which payloads are owed keeps them behind its own. One more that is owed is an append by itself: at every moment of it each
--- image stands for the payloads from before it, with the new one or without, and the area that isn't active is left alone.
+-- A disk to which payloads are owed keeps them after its own. One more that is owed is an append by itself. At every moment of it each
+-- image stands for the payloads from before it, with the new one or without. The area that isn't active is left alone.
 abbrev pub OwesMore : Type 0
 OwesMore = (v : DiskView) (end : ℕ) (before ps : List (List ℕ)) (payload : List ℕ) → IsImage v.history.now (bytes_on v) → Keeps v.history end before → ArePayloads longest_payload ps → IsPayload longest_payload payload
     → Keeps (owed_disk v end ps).history (end + length (records ps)) (before ++ ps)

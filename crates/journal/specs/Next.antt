@@ -37,8 +37,8 @@ GivesNext given left (Ok (next.End journal)) =
     (left ≡ []) × Keeps journal.disk.history journal.end given
 GivesNext given left (Err fault) = Unit {0}
 
--- Over any disk: a payload names the gate at which it was next, has a payload's length, and the next
--- gate is the one behind its record, at most at the end; the journal's end is that of the opening.
+-- Over any disk: a payload names the gate at which it was next, and has a payload's length. The next
+-- gate is the one after its record, at most at the end. The journal's end is that of the opening.
 abbrev pub StepsOn : {D : Type 0} → OpeningView → Result (Next D) (OpenFault D) → Type 0
 StepsOn old (Ok (next.Payload opening payload)) = (payload.gate ≡ old.gate)
     × IsPayload longest_payload payload.bytes × (opening.gate ≡ old.gate + 5 + length payload.bytes)

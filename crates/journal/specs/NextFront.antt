@@ -27,8 +27,8 @@ GivesInFront given left (Ok (next.Payload front payload)) = (others : List (List
 GivesInFront given left (Ok (next.End disk damage)) = left ≡ []
 GivesInFront given left (Err fault) = Unit {0}
 
--- Over any disk: a payload names the gate at which it was next, has a payload's length, and the next
--- gate is the one behind its record, at most at the end; at the end that gate is told where it is
+-- Over any disk: a payload names the gate at which it was next, and has a payload's length. The next
+-- gate is the one after its record, at most at the end. At the end that gate is returned where it is
 -- damaged.
 abbrev pub StepsInFront : {D : Type 0} → FrontView → Result (InFront D) (OpenFault D) → Type 0
 StepsInFront old (Ok (next.Payload front payload)) = (payload.gate ≡ old.gate)

@@ -1,4 +1,4 @@
-// The calls on the disk that add records.
+//! The calls on the disk that add records.
 ghost use Rattle.std.specs.Prelude.{◌≡◌, ◌<◌, ◌≤◌, ◌+◌, ◌++◌, ◌∷◌, [], List, ℕ, length, OnOk};
 ghost use Rattle.disk_model.specs.Disk.{InModel, Called, LeavesOnly, area_of, greatest_room, other_area, overwritten, bytes_on};
 ghost use Rattle.journal.specs.Area.{ArePayloads, body_of, closed_gate, first_gate, IsPayload, open_gate, records};
@@ -9,7 +9,7 @@ ghost use Rattle.journal.specs.Limits.{longest_payload};
 use crate::walk::OPEN_GATE;
 use disk_model::{Area, Disk, DiskFault};
 
-/// Writes the bytes of records behind the closed gate at `end` of the active area, all but their first
+/// Writes the bytes of records after the closed gate at `end` of the active area, all but their first
 /// gate, and opens that gate once they are durable.
 pub(crate) fn add<D: Disk>(
     disk: &mut D,

@@ -1,4 +1,4 @@
-// The bytes of a record behind its gate, and the closed gate after it.
+//! The bytes of a record after its gate, and the closed gate that follows them.
 ghost use Rattle.std.specs.Prelude.{◌≡◌, ◌<◌, ◌≤◌, ◌+◌, ◌++◌, ◌∷◌, [], List, ℕ, drop, length, IfOk};
 ghost use Rattle.std.specs.Int.{to_be_bytes, w32};
 ghost use Rattle.journal.specs.Area.{body_of, closed_gate, IsBody, IsPayload};
@@ -42,7 +42,7 @@ impl Frame {
     }
 
     /// The front of a frame, with memory for a payload of so many bytes and what else a frame has: the
-    /// payload is to be written behind it, for [`Frame::closed`].
+    /// payload is to be written after it, for [`Frame::closed`].
     pub fn begin(alloc: Global, payload_len: u64) -> Result<Vec<u8>, OutOfMemory>
         requires { payload_len ≤ longest_payload }
         ensures { IfOk result (λ front. front.items ≡ to_be_bytes w32 payload_len) }

@@ -1,4 +1,4 @@
-// The payloads at the front of a journal, one after another.
+//! The payloads at the front of a journal, one after another.
 ghost use Rattle.std.specs.Prelude.{◌≡◌, ◌≤◌, ◌<◌, List, ℕ, [], IfErr, IfOk, MatchResult};
 ghost use Rattle.disk_model.specs.Disk.{InModel, Looks, SameDisk, Rises, bytes_on, greatest_room};
 ghost use Rattle.journal.specs.Area.{first_gate};
@@ -18,7 +18,7 @@ use std::marker::Model;
 /// gives their payloads one after another, also where an [`Opening`](crate::Opening) is refused as
 /// damaged, and has none of them in memory (docs/FORMAT.md, "Rescue"). It writes nothing.
 ///
-/// Contracts see its disk, the offset of the gate whose payload comes next, that of the gate behind
+/// Contracts see its disk, the offset of the gate whose payload comes next, that of the gate after
 /// all whole records, and whether that one is damaged. Which payloads it has given is said by
 /// `HasGivenFront`: `begin` gives it, `next` carries it on.
 #[derive(Drop)]
@@ -51,9 +51,9 @@ impl<D: Disk> Model for Front<D> {
 /// What comes next in a front.
 #[derive(Drop)]
 pub enum InFront<D: Disk> {
-    /// The next payload, and the front behind it.
+    /// The next payload, and the front after it.
     Payload(Front<D>, Payload),
-    /// All payloads were given. Here is the disk, and the offset of the gate behind them where that is
+    /// All payloads were given. Here is the disk, and the offset of the gate after them where that is
     /// damaged.
     End(D, Option<u64>),
 }
@@ -83,7 +83,7 @@ impl<D: Disk> Front<D> {
         ensures looks { InModel (D.view disk)
             (Looks (D.view disk).history (disk_of_front D.view result).history) }
 
-        // A failure of the disk is told as one, and nothing else is.
+        // A failure of the disk is reported as one, and nothing else is.
         ensures faulty { IfErr result
             (λ e. e.cause ≡ OpenCause.Disk → Rises (D.view disk).faults (D.view e.disk).faults) }
         ensures steady { MatchResult result
@@ -103,10 +103,10 @@ impl<D: Disk> Front<D> {
         }
     }
 
-    /// The next payload with the front behind it, or the disk where all were given. It writes nothing,
+    /// The next payload with the front after it, or the disk where all were given. It writes nothing,
     /// and only a failure of the disk or refused memory keeps a payload back.
     ///
-    /// A disk outside the model has what it gives now told as payloads, as in an
+    /// What a disk outside the model gives now is returned as payloads, as by an
     /// [`Opening`](crate::Opening).
     pub fn next(self) -> Result<InFront<D>, OpenFault<D>>
         ensures same { SameDisk self.disk (disk_in_front D.view result) }
@@ -121,7 +121,7 @@ impl<D: Disk> Front<D> {
         ensures looks { InModel self.disk
             (Looks self.disk.history (disk_in_front D.view result).history) }
 
-        // A failure of the disk is told as one, and nothing else is.
+        // A failure of the disk is reported as one, and nothing else is.
         ensures faulty { IfErr result
             (λ e. e.cause ≡ OpenCause.Disk → Rises self.disk.faults (D.view e.disk).faults) }
         ensures steady { MatchResult result

@@ -8,7 +8,7 @@ use crate::{Frame, OutOfMemory};
 use std::alloc::Global;
 use std::marker::Model;
 
-/// Payloads that are to become durable together, as the bytes that are written of them: record behind
+/// Payloads that are to become durable together, as the bytes that are written of them: record after
 /// record, and a closed gate. Contracts see the payloads, and for how many bytes more there is memory.
 #[derive(Drop)]
 pub struct Group {
@@ -50,8 +50,8 @@ impl Group {
         self.bytes.reserve(payload_len as usize + 5)
     }
 
-    /// Puts a payload behind the others. It takes memory only where there is none ready. At `Err` nothing
-    /// has changed.
+    /// Puts a payload after the others. It takes memory only where there is none ready. At `Err`
+    /// nothing has changed.
     pub fn push(&mut self, frame: &Frame) -> Result<(), OutOfMemory>
         ensures ok { OnOk result (self.new.payloads ≡ self.old.payloads ++ frame.now ∷ []) }
         ensures err { OnErr result (self.new.payloads ≡ self.old.payloads) }
@@ -88,7 +88,7 @@ impl Group {
         self.bytes.len() as u64 - 1
     }
 
-    // What is written behind the closed gate: the bytes without their first one.
+    // What is written after the closed gate: the bytes without their first one.
     pub(crate) fn behind_gate(&self) -> &[u8]
         requires { self.now.payloads ≢ [] }
         ensures bytes { open_gate ∷ result.now ≡ records self.now.payloads ++ closed_gate ∷ [] }

@@ -1,4 +1,4 @@
-// A journal on a disk that it owns.
+//! A journal on a disk that it owns.
 ghost use Rattle.std.specs.Prelude.{◌≡◌, ◌≢◌, ◌<◌, ◌≤◌, ◌+◌, ◌++◌, ◌∷◌, ◌↔◌, [], List, ℕ, length, IfOk, IfErr, IsTrue, MatchResult, vec_capacity};
 ghost use Rattle.disk_model.specs.Disk.{ChangesArea, InModel, IsImage, LeavesOnly, Looks, Reaches, SameDisk, Torn, Rises, bytes_on, greatest_room, other_area};
 ghost use Rattle.journal.specs.Payloads.{payloads_in, AreGates};
@@ -19,7 +19,7 @@ use disk_model::{Area, Disk, DiskFault};
 use std::alloc::Global;
 use std::marker::Model;
 
-/// Records behind gates on a disk (docs/FORMAT.md, "The journal").
+/// Records on a disk, each after a gate (docs/FORMAT.md, "The journal").
 ///
 /// Contracts see its disk and the offset of its closed gate. What it keeps there is said by
 /// `Keeps`: `create` and `open` give it, `append` carries it on.
@@ -88,7 +88,7 @@ impl<D: Disk> Journal<D> {
         ensures looks { InModel (D.view disk)
             (Looks (D.view disk).history (opened D.view result).history) }
 
-        // A failure of the disk is told as one, and nothing else is.
+        // A failure of the disk is reported as one, and nothing else is.
         ensures faulty { IfErr result
             (λ e. e.cause ≡ OpenCause.Disk → Rises (D.view disk).faults (D.view e.disk).faults) }
         ensures steady { MatchResult result
@@ -144,7 +144,7 @@ impl<D: Disk> Journal<D> {
 
         ensures ends { IfOk result (λ journal. journal.end ≡ first_gate) }
 
-        // A failure of the disk is told as one, and nothing else is.
+        // A failure of the disk is reported as one, and nothing else is.
         ensures faulty { IfErr result
             (λ e. e.cause ≡ CreateCause.Disk → Rises (D.view disk).faults (D.view e.disk).faults) }
         ensures steady { MatchResult result
@@ -178,9 +178,9 @@ impl<D: Disk> Journal<D> {
         self.disk.room()
     }
 
-    /// Whether a payload of so many bytes fits behind the end: it has at most 33,554,432 bytes, and
-    /// the end, 5 bytes, the payload and the next gate are together at most the disk's room. It
-    /// takes no memory.
+    /// Whether a payload of so many bytes fits after the end. Then it has at most 33,554,432 bytes, and
+    /// the end, 5 bytes, the payload and the next gate are together at most the disk's room. It takes
+    /// no memory.
     pub fn fits(&self, payload_len: u64) -> bool
         ensures { IsTrue result ↔ Fits self.now.disk.room self.now.end payload_len }
     {
@@ -241,7 +241,7 @@ impl<D: Disk> Journal<D> {
         })
     }
 
-    /// Whether the payloads of a group fit behind the end: the end, their records and the next gate are
+    /// Whether the payloads of a group fit after the end: the end, their records and the next gate are
     /// together at most the disk's room. It takes no memory.
     pub fn fits_all(&self, group: &Group) -> bool
         ensures { IsTrue result ↔ FitsAll self.now.disk.room self.now.end group.now.payloads }
@@ -250,7 +250,7 @@ impl<D: Disk> Journal<D> {
         self.end < room && group.records_len() < room - self.end
     }
 
-    /// Whether a payload of so many bytes fits behind those of a group, were they appended. It takes no
+    /// Whether a payload of so many bytes fits after those of a group, were they appended. It takes no
     /// memory.
     pub fn fits_behind(&self, group: &Group, payload_len: u64) -> bool
         ensures { IsTrue result ↔ Fits self.now.disk.room
@@ -264,12 +264,12 @@ impl<D: Disk> Journal<D> {
             && payload_len + 5 < room - self.end - owed
     }
 
-    /// Adds the payloads of a group behind one gate: they are durable at `Ok`, all of them, and a crash
-    /// leaves all or none. Of a group without a payload no call is made. It takes no memory
+    /// Adds the payloads of a group, which one gate commits: they are durable at `Ok`, all of them, and
+    /// a crash leaves all or none. Of a group without a payload no call is made. It takes no memory
     /// (docs/FORMAT.md, "Append").
     ///
-    /// Payloads that don't fit, as [`Journal::fits_all`] tells, are refused with `JournalFull`; a call on
-    /// the disk that fails, with `Disk`.
+    /// Payloads that don't fit, as [`Journal::fits_all`] says, are refused with `JournalFull`; a call
+    /// on the disk that fails, with `Disk`.
     pub fn append_all(self, group: &Group) -> Result<Journal<D>, AppendFault<D>>
         ensures same { SameDisk self.disk (disk_after D.view result) }
         ensures other { InModel self.disk

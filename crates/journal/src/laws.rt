@@ -17,7 +17,7 @@ pub fn no_damage()
     ensures { NoDamage }
 {}
 
-/// An area has one front at most: the payloads of its whole records, and whether the gate behind them
+/// An area has one front at most: the payloads of its whole records, and whether the gate after them
 /// is damaged.
 pub fn one_front()
     ensures { OneFront }
@@ -28,7 +28,7 @@ pub fn standing_opens()
     ensures { StandingOpens }
 {}
 
-/// The gate behind payloads stands behind their records.
+/// The gate after payloads follows their records.
 pub fn gate_behind()
     ensures { GateBehind }
 {}

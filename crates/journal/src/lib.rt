@@ -1,4 +1,4 @@
-//! A journal: payloads in records behind gates, each durable before it is acknowledged.
+//! A journal: payloads in records, each after a gate, and durable before it is acknowledged.
 //!
 //! A crash at any moment leaves a disk that opens to the payloads that were acknowledged, with the
 //! one in hand or without it.

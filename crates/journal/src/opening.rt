@@ -1,4 +1,4 @@
-// Making a journal's disk, and reading it.
+//! Making a journal's disk, and reading it.
 ghost use Rattle.std.specs.Prelude.{◌≡◌, ◌≤◌, ◌<◌, [], List, ℕ, get_or, IfOk, IfErr, OnErr, OnOk, IsErrOf, MatchResult};
 ghost use Rattle.disk_model.specs.Disk.{ChangesArea, InModel, Leaves, LeavesOnly, Looks, Reaches, SameDisk, Rises, Torn, area_of, bytes_on};
 ghost use Rattle.journal.specs.Area.{HasHeader, created, end_of, first_gate, selector_at};
@@ -46,7 +46,7 @@ pub struct CreateFault<D: Disk> {
 /// Why a disk couldn't be opened.
 #[derive(Clone, Copy, Debug, PartialEq, Eq)]
 pub enum OpenCause {
-    /// Behind the open gate at this offset stands no record, or a payload that the layer above
+    /// After the open gate at this offset there is no record, or a payload that the layer above
     /// can't take. The records before it are whole.
     Damaged(u64),
     /// Area First, or Second where the selector in First names it, has fewer than 11 bytes or no header
@@ -116,7 +116,7 @@ pub fn create<D: Disk>(disk: D) -> Result<D, CreateFault<D>>
         (λ e. LeavesOnly (Reaches (ChangesArea Area.First (Torn 0 11)) (D.view disk).history.now)
         (D.view disk).history (D.view e.disk).history)) }
 
-    // A failure of the disk is told as one, and nothing else is.
+    // A failure of the disk is reported as one, and nothing else is.
     ensures faulty { IfErr result
         (λ e. e.cause ≡ CreateCause.Disk → Rises (D.view disk).faults (D.view e.disk).faults) }
     ensures steady { MatchResult result

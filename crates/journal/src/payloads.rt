@@ -1,4 +1,4 @@
-// The payloads of a journal, one after another.
+//! The payloads of a journal, one after another.
 ghost use Rattle.std.specs.Prelude.{◌≡◌, ◌≤◌, ◌<◌, List, ℕ, [], IfErr, IfOk, MatchResult};
 ghost use Rattle.disk_model.specs.Disk.{InModel, Looks, SameDisk, Rises, bytes_on};
 ghost use Rattle.journal.specs.Area.{first_gate};
@@ -19,7 +19,7 @@ use std::marker::Model;
 /// memory (docs/FORMAT.md, "Opening"). No read that it asks of its disk is longer than 65,536 bytes.
 ///
 /// Contracts see its disk, the offset of the gate whose payload comes next, and that of the closed
-/// gate behind all of them. Which payloads it has given is said by `HasGiven`: `begin` gives it, `next`
+/// gate after all of them. Which payloads it has given is said by `HasGiven`: `begin` gives it, `next`
 /// carries it on.
 #[derive(Drop)]
 pub struct Opening<D: Disk> {
@@ -50,7 +50,7 @@ impl<D: Disk> Model for Opening<D> {
 /// What comes next in an opening.
 #[derive(Drop)]
 pub enum Next<D: Disk> {
-    /// The next payload, and the opening behind it.
+    /// The next payload, and the opening after it.
     Payload(Opening<D>, Payload),
     /// All payloads were given, and here is their journal.
     End(Journal<D>),
@@ -85,7 +85,7 @@ impl<D: Disk> Opening<D> {
         ensures looks { InModel (D.view disk)
             (Looks (D.view disk).history (disk_begun D.view result).history) }
 
-        // A failure of the disk is told as one, and nothing else is.
+        // A failure of the disk is reported as one, and nothing else is.
         ensures faulty { IfErr result
             (λ e. e.cause ≡ OpenCause.Disk → Rises (D.view disk).faults (D.view e.disk).faults) }
         ensures steady { MatchResult result
@@ -104,11 +104,11 @@ impl<D: Disk> Opening<D> {
         }
     }
 
-    /// The next payload with the opening behind it, or the journal where all were given. It writes
+    /// The next payload with the opening after it, or the journal where all were given. It writes
     /// nothing, and only a failure of the disk or refused memory keeps a payload back.
     ///
-    /// A disk outside the model, which may give other bytes than it gave to `begin`, has what it
-    /// gives now told as payloads, and no record of it reaches past the end.
+    /// A disk outside the model may give other bytes than it gave to `begin`. What it gives now is
+    /// returned as payloads, and no record of it reaches past the end.
     pub fn next(self) -> Result<Next<D>, OpenFault<D>>
         ensures same { SameDisk self.disk (disk_behind D.view result) }
 
@@ -122,7 +122,7 @@ impl<D: Disk> Opening<D> {
         ensures looks { InModel self.disk
             (Looks self.disk.history (disk_behind D.view result).history) }
 
-        // A failure of the disk is told as one, and nothing else is.
+        // A failure of the disk is reported as one, and nothing else is.
         ensures faulty { IfErr result
             (λ e. e.cause ≡ OpenCause.Disk → Rises self.disk.faults (D.view e.disk).faults) }
         ensures steady { MatchResult result

@@ -1,4 +1,4 @@
-// The calls on the disk that write a journal anew from a source.
+//! The calls on the disk that rewrite a journal from a source.
 ghost use Rattle.std.specs.Prelude.{◌≡◌, ◌<◌, ◌≤◌, ◌+◌, ◌++◌, ◌∷◌, [], List, ℕ, get_or, length, IfOk, OnOk, vec_capacity, vec_len};
 ghost use Rattle.disk_model.specs.Disk.{InModel, Called, Leaves, LeavesOnly, area_of, bytes_on, greatest_room, other_area};
 ghost use Rattle.journal.specs.Area.{ArePayloads, HasHeader, IsPayload, StandsFor, closed_gate, end_of, first_gate, record_of, records};
@@ -13,7 +13,7 @@ use crate::rewrite::{lay_none, turn};
 use crate::source::{BATCH_LEN, Source};
 use disk_model::{Area, Disk, DiskFault};
 
-// Puts a record behind those of a batch, which has memory for it.
+// Puts a record after those of a batch, which has memory for it.
 fn put_next<S: Source>(source: &S, index: usize, batch: &mut Vec<u8>)
     requires some { index < length (S.payloads source.now) }
     requires memory { vec_len batch.old + 5 + length (get_or (S.payloads source.now) index [])
@@ -29,7 +29,7 @@ fn put_next<S: Source>(source: &S, index: usize, batch: &mut Vec<u8>)
     }
 }
 
-// Puts a closed gate behind the records of a batch, which has memory for it.
+// Puts a closed gate after the records of a batch, which has memory for it.
 fn close(batch: &mut Vec<u8>)
     requires memory { vec_len batch.old + 1 ≤ vec_capacity batch.old }
     ensures closed { batch.new.items ≡ batch.old.items ++ closed_gate ∷ [] }
@@ -63,7 +63,7 @@ fn fill<S: Source>(source: &S, from: usize, batch: &mut Vec<u8>) -> usize
     next
 }
 
-// Lays records and a closed gate behind others, in place of their closed gate. Nothing is durable yet.
+// Lays records and a closed gate after others, in place of their closed gate. Nothing is durable yet.
 fn lay_batch<D: Disk>(disk: &mut D, area: Area, end: u64, bytes: &[u8]) -> Result<(), DiskFault>
     requires gate { first_gate ≤ end }
     requires inside { InModel (D.view disk.old)
@@ -88,8 +88,8 @@ fn lay_batch<D: Disk>(disk: &mut D, area: Area, end: u64, bytes: &[u8]) -> Resul
     disk.write_at(area, end, bytes)
 }
 
-// Lays the payloads of a source into an area that isn't active, which is durable then, and tells where
-// the closed gate behind them is.
+// Lays the payloads of a source into an area that isn't active, which is durable then, and returns
+// where the closed gate after them is.
 fn lay_from<D: Disk, S: Source>(
     disk: &mut D,
     area: Area,
@@ -136,8 +136,8 @@ fn lay_from<D: Disk, S: Source>(
     Ok(end)
 }
 
-/// Writes the payloads of a source into an area that isn't active, and makes it the active one. It tells
-/// where the closed gate behind them is.
+/// Writes the payloads of a source into an area that isn't active, and makes it the active one. It
+/// returns where the closed gate after them is.
 pub(crate) fn write_from<D: Disk, S: Source>(
     disk: &mut D,
     area: Area,

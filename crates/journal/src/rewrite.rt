@@ -1,4 +1,4 @@
-// The calls on the disk that write a journal anew.
+//! The calls on the disk that rewrite a journal.
 ghost use Rattle.std.specs.Prelude.{◌≡◌, ◌<◌, ◌≤◌, ◌+◌, ◌++◌, ◌∷◌, [], List, ℕ, length, IfNone, IfSome, OnOk};
 ghost use Rattle.disk_model.specs.Disk.{InModel, Called, Leaves, LeavesOnly, area_of, bytes_on, greatest_room, other_area};
 ghost use Rattle.journal.specs.Area.{HasHeader, IsPayload, StandsFor, body_of, closed_gate, end_of, first_gate};
@@ -21,7 +21,7 @@ pub(crate) fn other(area: Area) -> Area
     }
 }
 
-/// The offset of the closed gate behind the records of these frames, where an area has room for them.
+/// The offset of the closed gate after the records of these frames, where an area has room for them.
 pub(crate) fn end_of_frames(room: u64, frames: &[Frame]) -> Option<u64>
     requires { room ≤ greatest_room }
     ensures some { IfSome result (λ end. (end ≡ end_of frames.now) × (end + 1 ≤ room)) }
@@ -41,7 +41,7 @@ pub(crate) fn end_of_frames(room: u64, frames: &[Frame]) -> Option<u64>
     Some(end)
 }
 
-/// Lays no record into an area: a closed gate, behind the header of area First, or a header in area Second.
+/// Lays no record into an area: a closed gate, after the header of area First, or a header in area Second.
 pub(crate) fn lay_none<D: Disk>(disk: &mut D, area: Area) -> Result<(), DiskFault>
     requires room { InModel (D.view disk.old) (first_gate + 1 ≤ (D.view disk.old).room) }
     requires headed { InModel (D.view disk.old) (first_gate < length (bytes_on (D.view disk.old)).first) }
@@ -64,7 +64,7 @@ pub(crate) fn lay_none<D: Disk>(disk: &mut D, area: Area) -> Result<(), DiskFaul
     }
 }
 
-// Lays a record behind the closed gate at `end`, and opens that gate. Nothing is durable yet.
+// Lays a record after the closed gate at `end`, and opens that gate. Nothing is durable yet.
 fn lay_record<D: Disk>(disk: &mut D, area: Area, end: u64, bytes: &[u8]) -> Result<(), DiskFault>
     requires room { end + length bytes.now + 1 ≤ greatest_room }
     requires gate { first_gate ≤ end }

@@ -18,8 +18,8 @@ pub trait Source {
     fn count(&self) -> usize
         ensures { result ≡ length (payloads self.now) };
 
-    /// Puts the record of a payload behind other bytes: an open gate, the payload's length in four bytes,
-    /// and the payload. It takes memory only where they have no room for it.
+    /// Puts the record of a payload after other bytes: an open gate, the payload's length in four
+    /// bytes, and the payload. It takes memory only where they have no room for it.
     fn put_record(&self, index: usize, out: &mut Vec<u8>) -> Result<(), OutOfMemory>
         requires { index < length (payloads self.now) }
         ensures record { OnOk result

@@ -1,4 +1,4 @@
-// The walk over the gates of an area, by their length fields alone.
+//! The walk over the gates of an area, by their length fields alone.
 ghost use Rattle.std.specs.Prelude.{◌≡◌, ◌<◌, ◌≤◌, ◌+◌, ◌++◌, List, ℕ, get_or, length, min, drop, IfOk, IfErr, IfSome, IfNone, OnOk};
 ghost use Rattle.disk_model.specs.Disk.{InModel, area_of, bytes_on};
 ghost use Rattle.journal.specs.Limits.{longest_payload};
@@ -34,7 +34,7 @@ pub struct Payload {
 enum Step {
     // The gate is closed.
     End,
-    // What stands behind the gate is no record.
+    // What follows the gate is no record.
     Broken,
     // A record, whose payload has so many bytes.
     Record(u64),
@@ -67,7 +67,7 @@ fn step_at(front: &[u8], left: u64) -> Step
     Step::Record(len)
 }
 
-// The selector of a header, and what stands behind it.
+// The selector of a header, and what follows it.
 fn behind_header(bytes: &[u8]) -> Option<(u8, &[u8])>
     ensures some { IfSome result
         (λ found. (bytes.now ≡ header found.0 ++ found.1.now) × (0 < length found.1.now)) }
@@ -148,8 +148,8 @@ pub(crate) fn selector_of<D: Disk>(window: &mut Window, disk: &mut D) -> Result<
     }
 }
 
-// The length of the payload behind a gate, of at most so many bytes, from the bytes there and how
-// many there are up to the area's end. Only bytes that the walk didn't see tell no such length, and
+// The length of the payload after a gate, of at most so many bytes, from the bytes there and how
+// many there are up to the area's end. Only bytes that the walk didn't see give no such length, and
 // there it is 1.
 fn payload_len_at(front: &[u8], left: u64, most: u64) -> u64
     requires front { min left 5 ≤ length front.now }

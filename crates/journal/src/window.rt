@@ -1,4 +1,4 @@
-// Reads of an area through a window of at most 65,536 bytes.
+//! Reads of an area through a window of at most 65,536 bytes.
 ghost use Rattle.std.specs.Prelude.{◌≡◌, ◌+◌, ◌-◌, ◌≤◌, List, ℕ, length, take, drop, IfErr, IfOk, OnOk, vec_len};
 ghost use Rattle.disk_model.specs.Disk.{InModel, area_of, bytes_on, greatest_room};
 ghost use Rattle.journal.specs.Open.{IsPassing};
@@ -12,7 +12,7 @@ use std::mem;
 // The most bytes that are read at once.
 const LONGEST_READ: u64 = 65_536;
 
-/// Some bytes of an area, from `start` on. None at `limit` or behind it is read.
+/// Some bytes of an area, from `start` on. None at `limit` or after it is read.
 #[derive(Drop)]
 pub(crate) struct Window {
     alloc: Global,

@@ -42,7 +42,7 @@ lines_on (life seat) as1 ls rest old new split is takes =
 lines_on time_over as1 ls rest old new split is takes =
     (rest, split ∙ ap (λ (x : List InputLine). x ++ rest) (sym (lines-snoc as1 time_over [] refl ∙ append-nil (lines_in as1))), subst (λ (o : Option (List InputLine)). KeepsLines o new) is takes)
 
--- What a watch told, or the clock.
+-- What a watch returned, or the clock.
 
 abbrev ToldBy : {C : Type 0} → Clock C → Watch C → Hold → C → Bool → C → Woken → Type 0
 ToldBy K W held c is_there d told = WatchTells K W held c is_there (Some told) d ⊎ ((told ≡ woken.TimeOver) × ((now : ℕ) × K c now × IsOver held now × (d ≡ c)))
@@ -74,7 +74,7 @@ comes_by K W held c is_there d woken.TimeOver part turn by = absurd by
 comes_by K W held c is_there d woken.TimeOver (life seat) turn by = absurd by
 comes_by K W held c is_there d woken.TimeOver time_over turn by = time-told K W held c is_there d turn.1
 
--- a watch that told the input was asked by whether a line was there
+-- a watch that returned the input was asked by whether a line was there
 pub input_told : {C : Type 0} (K : Clock C) (W : Watch C) (held : Hold) (c : C) (is_there there : Bool) (d : C) (told : Woken) → TurnComes K W held c is_there d told → told ≡ woken.Input → is_there ≡ there
     → WatchTells K W held c there (Some woken.Input) d
 input_told K W held c is_there there d told turn input same =

@@ -247,6 +247,6 @@ live_failed_since V R K W disk now start c d h a b old f same p e =
     let goes = goes_same start now q.1 q.4.world q.4.disk (up-to-goes V R K W (begin_at start c now) q.0 q.1 q.2 q.3 q.4 q.5) in
     min_since greatest_count disk.faults q.4.disk.faults h.store.disk.faults (omega (arith, same.later, goes.later)) q.6.cause.0
 
--- it isn't told that the disk wasn't opened
+-- it isn't reported that the disk wasn't opened
 pub ended_open : {C : Type 0} (V : Voice) (R : Relation C) (K : Clock C) (W : Watch C) (p : LivePlace C) (h : HostView) (d : C) (a b : Option (List ℕ)) (old : Option (List InputLine)) (f : RunFault) (why : Rattle.journal.specs.declared.opening.OpenCause.OpenCause) → EndedBy V R K W p h d a b old f → f ≡ fault.Open why → ⊥
 ended_open V R K W p h d a b old f why t is = subst (EndedBy V R K W p h d a b old) is t

@@ -43,7 +43,7 @@ wants_command bytes wants = go (line_of bytes) wants
     go (Some line.Print) e = absurd (true≢false (sym e))
 
 module _ {C : Type 0} (V : Voice) (R : Relation C) (K : Clock C) where
-  -- what couldn't be told
+  -- what couldn't be printed
   pub said_untold : (number : ℕ) (l : Option LiveLine) (s : At C) (h : HostView) (c : C) (a b : Option (List ℕ)) (f : RunFault)
       → IsUntold V f → SaidUnwritten V R K l s h c → SayingFailed V R K number l s h c a b f
   said_untold number l s h c a b fault.Output why p = p
@@ -60,7 +60,7 @@ module _ {C : Type 0} (V : Voice) (R : Relation C) (K : Clock C) where
       → Said V R K number l (at w c h.store.disk) h c a b begun
   said_still number l w h c a b begun text done begins stands wrote = ([], text, w, done, begins, stands, wrote)
 
-  -- one that couldn't be told
+  -- one that couldn't be printed
   pub still_unwritten : (number : ℕ) (l : Option LiveLine) (w : World) (h : HostView) (c : C) (a b : Option (List ℕ)) (begun : Hold) (f : RunFault)
       → Begins K c l begun → ((line : ℕ) → (text : List ℕ) × SaidDone V R line l (at w c h.store.disk) [] text (at w c h.store.disk)) → IsHost h w → IsUntold V f
       → SayingFailed V R K number l (at w c h.store.disk) h c a b f
@@ -75,7 +75,7 @@ module _ {C : Type 0} (V : Voice) (R : Relation C) (K : Clock C) where
   said_interrupt number name came w h c d a b done stands wrote =
       ([], V.note (note.Interrupted number name came), w, (refl, (came, done, refl), refl), refl, stands, wrote)
 
-  -- one that couldn't be told
+  -- one that couldn't be printed
   pub interrupt_unwritten : (number : ℕ) (name : List ℕ) (came : Interrupted) (w : World) (h : HostView) (c d : C) (a b : Option (List ℕ)) (f : RunFault)
       → Interrupts R w name c came d → IsHost h w → IsUntold V f
       → SayingFailed V R K number (Some (live.Interrupt name)) (at w c h.store.disk) h d a b f

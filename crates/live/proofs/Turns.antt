@@ -45,7 +45,7 @@ module _ {C : Type 0} (V : Voice) (R : Relation C) (seat : Seat) (w : World) (h 
   as-before : g ≡ h → d ≡ c → at w d g.store.disk ≡ at w c h.store.disk
   as-before p q = subst (λ (x : C). at w x g.store.disk ≡ at w c h.store.disk) (sym q) (ap (λ (x : HostView). at w c x.store.disk) p)
 
-  -- what is written is told of the worksheet of this world
+  -- what is written is the text of the worksheet of this world
   told-of : (t : World) (bs : List Beat) → g.store.sheet.contents ≡ sheet_in t → replies ≡ told bs → Appends a b (came_text V g.store.sheet.contents replies) → Appends a b (came_text V (sheet_in t) (told bs))
   told-of t bs is are wrote =
       subst (λ (s : Contents). Appends a b (came_text V s (told bs))) is (subst (λ (l : List Reply). Appends a b (came_text V g.store.sheet.contents l)) are wrote)
@@ -85,7 +85,7 @@ goes_on_somehow held w = go (waits w) refl
     go (s ∷ ss) e = (held, inr (λ none. let wrong : s ∷ ss ≡ [] = sym e ∙ none in absurd cc, refl))
 
 module _ {C : Type 0} (V : Voice) (R : Relation C) (K : Clock C) (p : LivePlace C) (h : HostView) (c : C) (a b : Option (List ℕ)) where
-  -- what came of an arrival and couldn't be told
+  -- what came of an arrival and couldn't be printed
   pub took_untold : (x : Arrival) (f : RunFault) → IsUntold V f → TookUnwritten V R K p x h c → TakingFailed V R K p x h c a b f
   took_untold x fault.Output why q = q
   took_untold x fault.OutOfMemory why q = inr (why, q)
@@ -118,7 +118,7 @@ module _ {C : Type 0} (V : Voice) (R : Relation C) (K : Clock C) (p : LivePlace 
   life_failed seat (fault.Open why) q = absurd q
   life_failed seat fault.InUse q = absurd q
 
-  -- a life was taken, and that a wait is over couldn't be told
+  -- a life was taken, and that a wait is over couldn't be printed
   pub life_untold : (seat : Seat) (f : RunFault) (mid : Option (List ℕ)) → Heard V R seat p.run h c a mid → IsUntold V f → TakingFailed V R K p (life seat) h c a b f
   life_untold seat f mid q is = took_untold (life seat) f is (q.1, h.store.disk, life-all seat q.0 (at q.1 c h.store.disk) q.2, inl (q.3, refl))
 
@@ -148,7 +148,7 @@ module _ {C : Type 0} (V : Voice) (R : Relation C) (K : Clock C) (p : LivePlace 
   time_failed timed (fault.Open why) q = absurd q
   time_failed timed fault.InUse q = absurd q
 
-  -- each life that waits stalled, and that the wait is over couldn't be told
+  -- each life that waits stalled, and that the wait is over couldn't be printed
   pub time_untold : IsTimed p.held → (f : RunFault) (mid : Option (List ℕ)) → Stalled V R (waits p.run.world) p.run h c a mid → IsUntold V f → TakingFailed V R K p time_over h c a b f
   time_untold timed f mid q is = took_untold time_over f is (q.1, h.store.disk, time-all timed q.0 (at q.1 c h.store.disk) q.2, inl (q.3, refl))
 
@@ -157,9 +157,9 @@ module _ {C : Type 0} (V : Voice) (R : Relation C) (K : Clock C) (p : LivePlace 
   time_took timed mid q wrote =
       (q.0, came_text V (sheet_in q.1) (told q.0) ++ V.note (note.Waited p.number true), q.1, (timed, refl, q.2, refl, refl), q.3, Appends-trans a mid b (came_text V (sheet_in q.1) (told q.0)) (V.note (note.Waited p.number true)) q.4 wrote)
 
--- Lives that are told that they stalled, one after another.
+-- Lives that count as stalled, one after another.
 
--- the replies of both stand behind those before
+-- the replies of both come after those before
 told-both : (all old new : List Reply) (bs cs : List Beat) → old ≡ all ++ told bs → new ≡ old ++ told cs → new ≡ all ++ told (bs ++ cs)
 told-both all old new bs cs e f = f ∙ ap (λ (l : List Reply). l ++ told cs) e ∙ append_assoc all (told bs) (told cs) ∙ ap (λ (l : List Reply). all ++ l) (sym (told-append bs cs))
 
@@ -204,7 +204,7 @@ module _ {C : Type 0} (R : Relation C) (seats : List Seat) where
       replied = p.2 ∙ so.replied;
     }
 
--- What is told of them.
+-- The replies of them.
 abbrev pub StallingBroke : {C : Type 0} → Relation C → List Seat → At C → HostView → C → List Reply → EdgeCause → Type 0
 StallingBroke R seats s g d replies why = ByCause why (BrokeOff (TurnStopped R false seats s) [] g d replies) (Ran (TurnSoFar R false seats s) [] g d replies)
 
@@ -266,7 +266,7 @@ module _ {C : Type 0} (V : Voice) (R : Relation C) (K : Clock C) (s : At C) (bef
   line_failed l (fault.Open why) q = absurd q
   line_failed l fault.InUse q = absurd q
 
-  -- a line was done, and that its wait is over already couldn't be told
+  -- a line was done, and that its wait is over already couldn't be printed
   pub line_untold : (l : InputLine) (f : RunFault) (mid : Option (List ℕ)) (begun : Hold) → Said V R K (before + 1) (said_by l) s h c a mid begun → IsUntold V f
       → TakingFailed V R K (place s before hold.Free) (line l) h c a b f
   line_untold l f mid begun q is =

@@ -57,7 +57,7 @@ place run number held = record { run = run; number = number; held = held }
 abbrev pub woken_at : {C : Type 0} → LivePlace C → C → LivePlace C
 woken_at p c = place (at p.run.world c p.run.disk) p.number p.held
 
--- The relation of a watch: the sources before it, what it was asked, what it told, and the sources after it.
+-- The relation of a watch: the sources before it, what it was asked, what it returned, and the sources after it.
 abbrev pub Watch : Type 0 → Type 1
 Watch C = C → Asked → Option Woken → C → Type 0
 
@@ -80,14 +80,14 @@ IsOver hold.Free now = ⊥
 IsOver hold.Wait now = ⊥
 IsOver (hold.Until end) now = end ≤ now
 
--- A watch told this (none: a fault) while this wait held the lines back. The clock was read before it, and no time was over there;
+-- A watch returned this (none: a fault) while this wait held the lines back. The clock was read before it, and no time was over there;
 -- what the watch was asked follows from the wait, from that reading, and from whether a line was there already.
 abbrev pub WatchTells : {C : Type 0} → Clock C → Watch C → Hold → C → Bool → Option Woken → C → Type 0
 WatchTells K W held c is_there told d =
     (now : ℕ) × K c now × (IsOver held now → ⊥) × W c (asked (input_at held is_there) (patience_at held now)) told d
 
--- This came while this wait held the lines back, and these are the sources behind the watch that told it: a line where one was there, and
--- a part of one where none was. That a time is over is told by a watch, or by the clock, which is read before each of them.
+-- This came while this wait held the lines back, and these are the sources after the watch that returned it: a line where one was there,
+-- and a part of one where none was. That a time is over is known from a watch, or from the clock, which is read before each of them.
 abbrev pub Comes : {C : Type 0} → Clock C → Watch C → Hold → C → Arrival → C → Type 0
 Comes K W held c (line l) d = WatchTells K W held c true (Some woken.Input) d
 Comes K W held c part d = WatchTells K W held c false (Some woken.Input) d
@@ -95,7 +95,7 @@ Comes K W held c (life seat) d = (is_there : Bool) × WatchTells K W held c is_t
 Comes K W held c time_over d =
     ((is_there : Bool) × WatchTells K W held c is_there (Some woken.TimeOver) d) ⊎ ((now : ℕ) × K c now × IsOver held now × (d ≡ c))
 
--- What came of an arrival, by what it is: the beats, what is written of them, and the place behind it.
+-- What came of an arrival, by what it is: the entries, what is written of them, and the place after it.
 abbrev pub TakesArrival : {C : Type 0} → Voice → Relation C → Clock C → LivePlace C → Arrival → List Beat → List ℕ → LivePlace C → Type 0
 TakesArrival V R K p (line l) beats text q =
     (p.held ≡ hold.Free) × (q.number ≡ p.number + 1) × ((said : List ℕ) × SaidDone V R q.number (said_by l) p.run beats said q.run
@@ -108,8 +108,8 @@ TakesArrival V R K p time_over beats text q =
     IsTimed p.held × (q.number ≡ p.number) × OneTurn R false (waits p.run.world) p.run beats q.run
     × (text ≡ came_text V (sheet_in q.run.world) (told beats) ++ V.note (note.Waited q.number true)) × (q.held ≡ hold.Free)
 
--- What is told of those beats of an arrival that came before a fault, where so many lines were taken before it and this is the worksheet
--- after them.
+-- What is printed of those entries of an arrival that came before a fault, where so many lines were taken before it and this is the
+-- worksheet after them.
 abbrev pub front_text : Voice → ℕ → Arrival → Contents → List Beat → List ℕ
 front_text V number (line l) sheet beats = replied_text V (number + 1) sheet (told beats)
 front_text V number part sheet beats = []

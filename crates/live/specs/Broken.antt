@@ -9,15 +9,15 @@ use Rattle.tellings.specs.Voice.{Voice}
 use Rattle.live.specs.Saying.{Clock, IsCommand, SaidUpTo, IsTimed}
 use Rattle.live.specs.Arrivals.{Arrival, line, part, life, time_over, LivePlace, Watch, Comes, TakesArrival, Lived, said_by, woken_at, front_text}
 
--- An arrival came up to this event, at which the host had a fault: these beats of it came before.
+-- An arrival came up to this event, at which the host had a fault: these entries of it came before.
 abbrev pub TakesUpTo : {C : Type 0} → Relation C → LivePlace C → Arrival → List Beat → Event → At C → Type 0
 TakesUpTo R p (line l) beats e t = SaidUpTo R (said_by l) p.run beats e t
 TakesUpTo R p part beats e t = ⊥
 TakesUpTo R p (life seat) beats e t = TakenUpTo R true seat p.run beats e t
 TakesUpTo R p time_over beats e t = IsTimed p.held × TurnStopped R false (waits p.run.world) p.run beats e t
 
--- An arrival came so far when memory was refused: a command was not taken, of a life nothing was received, and of the lives that
--- were to be told that they stalled the first ones were.
+-- An arrival came so far when memory was refused: a command was not taken, of a life nothing was received, and of the lives
+-- that were to count as stalled the first ones did.
 abbrev pub TakesSoFar : {C : Type 0} → Relation C → LivePlace C → Arrival → List Beat → At C → Type 0
 TakesSoFar R p (line l) beats t = IsCommand (said_by l) × (beats ≡ []) × (t ≡ p.run)
 TakesSoFar R p part beats t = ⊥
@@ -30,7 +30,7 @@ pub data TakesLed {C : Type 0} (V : Voice) (R : Relation C) (K : Clock C) (p : L
   up_to : (beats : List Beat) (e : Event) → TakesUpTo R p a beats e t → TakesLed V R K p a t
   so_far : (beats : List Beat) → TakesSoFar R p a beats t → TakesLed V R K p a t
 
--- the beats of an arrival that led somewhere, or of that part of it
+-- the entries of an arrival that led somewhere, or of that part of it
 abbrev pub taken_beats : {C : Type 0} {V : Voice} {R : Relation C} {K : Clock C} {p : LivePlace C} {a : Arrival} {t : At C} → TakesLed V R K p a t → List Beat
 taken_beats (all beats text q taken there) = beats
 taken_beats (up_to beats e broke) = beats

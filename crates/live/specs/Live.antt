@@ -38,18 +38,18 @@ AreFirst stream came = IfSome stream (λ bytes. (rest : List InputLine) × (inpu
 abbrev pub AreTooMany : List Arrival → Type 0
 AreTooMany came = 2 ^ 64 ≤ length came + 1
 
--- The end of the input came: a watch told the input while no wait held it back and something was there, and that was its end.
+-- The end of the input came: a watch returned the input while no wait held it back and something was there, and that was its end.
 abbrev pub EndComes : {C : Type 0} → Clock C → Watch C → Hold → C → C → Type 0
 EndComes K W held c d = (held ≡ hold.Free) × WatchTells K W held c true (Some woken.Input) d
 
--- No more could come: a watch had no answer, or it told the input while no line was there, and the read that followed failed.
+-- No more could come: a watch had no answer, or it returned the input while no line was there, and the read that followed failed.
 abbrev pub NoMoreComes : {C : Type 0} → Clock C → Watch C → Hold → C → C → Type 0
 NoMoreComes K W held c d =
     ((is_there : Bool) × WatchTells K W held c is_there None d) ⊎ ((held ≡ hold.Free) × WatchTells K W held c false (Some woken.Input) d)
 
 -- Where the input came to its end, and no wait holds back that end: all of its lines were taken, this text was written, then each life
--- that goes on was stopped, and each image of the disk that is given back is one of the worksheet behind all events. At every moment since the opening each image
--- was one of the worksheet behind some of the first of them.
+-- that goes on was stopped. Each image of the disk that is given back is one of the worksheet after all events. At every moment since the
+-- opening each image was one of the worksheet after some of the first of them.
 pub record LiveDone {C : Type 0} (V : Voice) (R : Relation C) (K : Clock C) (W : Watch C) (stream : Option (List ℕ)) (disk : DiskView) (c d : C) (a b : Option (List ℕ)) (back : DiskView) : Type 0 where
   pub start : World
   pub now : DiskView
@@ -68,8 +68,8 @@ pub record LiveDone {C : Type 0} (V : Voice) (R : Relation C) (K : Clock C) (W :
   pub holds : HoldsSheet leads.run.world back
   pub moments : LeavesFronts start beats now back
 
--- At an event the host had this fault, and its disk was left as told. What was told before is written, and each life that goes on
--- was stopped.
+-- At an event the host had this fault, and its disk was left as the fault says. What was returned before is written, and each
+-- life that goes on was stopped.
 pub record LiveStopped {C : Type 0} (V : Voice) (R : Relation C) (K : Clock C) (W : Watch C) (stream : Option (List ℕ)) (disk : DiskView) (c d : C) (a b : Option (List ℕ)) (f : HostFault) : Type 0 where
   pub start : World
   pub now : DiskView
@@ -88,7 +88,7 @@ pub record LiveStopped {C : Type 0} (V : Voice) (R : Relation C) (K : Clock C) (
   pub stops : Stops R (running leads.world) leads.children d
   pub wrote : Appends a b text
 
--- Memory was refused. What was told before is written, and each life that goes on was stopped.
+-- Memory was refused. What was returned before is written, and each life that goes on was stopped.
 pub record LiveSoFar {C : Type 0} (V : Voice) (R : Relation C) (K : Clock C) (W : Watch C) (stream : Option (List ℕ)) (disk : DiskView) (c d : C) (a b : Option (List ℕ)) : Type 0 where
   pub start : World
   pub now : DiskView
@@ -103,7 +103,7 @@ pub record LiveSoFar {C : Type 0} (V : Voice) (R : Relation C) (K : Clock C) (W 
   pub stops : Stops R (running leads.world) leads.children d
   pub wrote : Appends a b text
 
--- The input couldn't be read any more, or as many came as are counted. All that came was taken, and what was told is written.
+-- The input couldn't be read any more, or as many came as are counted. All that came was taken, and what was returned is written.
 pub record LiveUnread {C : Type 0} (V : Voice) (R : Relation C) (K : Clock C) (W : Watch C) (stream : Option (List ℕ)) (disk : DiskView) (c d : C) (a b : Option (List ℕ)) : Type 0 where
   pub start : World
   pub now : DiskView

@@ -16,8 +16,8 @@ use Rattle.tellings.specs.declared.note.Note.TheVariants as note
 use Rattle.live.specs.declared.holding.Hold.{Hold}
 use Rattle.live.specs.declared.holding.Hold.TheVariants as hold
 
--- The line with this number was done: the beats that came of it, what is written of it, and where the run stands behind it. Of a
--- wait nothing comes at once: it holds back the lines behind it. No event comes of an interrupt, and all but the children stays.
+-- The line with this number was done: the entries that came of it, what is written of it, and where the run stands after it. Of a
+-- wait nothing comes at once: it holds back the lines after it. No event comes of an interrupt, and all but the children stays.
 abbrev pub SaidDone : {C : Type 0} → Voice → Relation C → ℕ → Option LiveLine → At C → List Beat → List ℕ → At C → Type 0
 SaidDone V R number None s beats text t = (beats ≡ []) × (text ≡ V.note (note.Bad number)) × (t ≡ s)
 SaidDone V R number (Some (live.Script line.Skip)) s beats text t = (beats ≡ []) × (text ≡ V.note (note.Nothing number)) × (t ≡ s)
@@ -30,7 +30,7 @@ SaidDone V R number (Some (live.Interrupt name)) s beats text t =
     (beats ≡ []) × ((came : Interrupted) × Interrupts R s.world name s.children came t.children × (text ≡ V.note (note.Interrupted number name came)))
     × (t ≡ at s.world t.children s.disk)
 
--- The line came up to this event, at which the host had a fault: these beats of it came before.
+-- The line came up to this event, at which the host had a fault: these entries of it came before.
 abbrev pub SaidUpTo : {C : Type 0} → Relation C → Option LiveLine → At C → List Beat → Event → At C → Type 0
 SaidUpTo R None s beats e t = ⊥
 SaidUpTo R (Some (live.Script line.Skip)) s beats e t = ⊥
@@ -62,11 +62,11 @@ IsTimed (hold.Until millis) = Unit {0}
 abbrev pub Clock : Type 0 → Type 1
 Clock C = C → ℕ → Type 0
 
--- the moment so many seconds behind this one, or the last one that a clock can read
+-- the moment so many seconds after this one, or the last one that a clock can read
 abbrev pub seconds_behind : ℕ → ℕ → ℕ
 seconds_behind now seconds = min (now + seconds * 1000) (2 ^ 64 - 1)
 
--- Which wait a line begins where the sources stand so: one with a time lasts until so many seconds behind what the clock reads there.
+-- Which wait a line begins where the sources stand so: one with a time lasts until so many seconds after what the clock reads there.
 abbrev pub Begins : {C : Type 0} → Clock C → C → Option LiveLine → Hold → Type 0
 Begins K c None held = held ≡ hold.Free
 Begins K c (Some (live.Script line.Skip)) held = held ≡ hold.Free
@@ -87,6 +87,6 @@ is_held hold.Free = false
 is_held hold.Wait = true
 is_held (hold.Until end) = true
 
--- what is told of a wait of this line that goes on or not, by how it stood before and how it stands
+-- what is printed of a wait of this line that goes on or not, by how it stood before and how it stands
 abbrev pub over_text : Voice → ℕ → Hold → Hold → List ℕ
 over_text V number before now = if is_held before && not (is_held now) then V.note (note.Waited number false) else []

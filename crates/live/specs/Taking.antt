@@ -82,7 +82,7 @@ SayingFailed V R K number l s h c a b fault.InputTooLong = ⊥
 SayingFailed V R K number l s h c a b (fault.Open why) = ⊥
 SayingFailed V R K number l s h c a b fault.InUse = ⊥
 
--- Each of these lives was told that it stalled, and what came of it is written.
+-- Each of these lives counted as stalled, and what came of it is written.
 abbrev pub Stalled : {C : Type 0} → Voice → Relation C → List Seat → At C → HostView → C → Option (List ℕ) → Option (List ℕ) → Type 0
 Stalled V R seats s h c a b =
     (beats : List Beat) × (t : World) × EachOf (Taken R false None) seats s beats (at t c h.store.disk) × IsHost h t × Appends a b (came_text V (sheet_in t) (told beats))
@@ -160,7 +160,7 @@ MayTurn held woken.Input = held ≡ hold.Free
 MayTurn held (woken.Life seat) = Unit {0}
 MayTurn held woken.TimeOver = IsTimed held
 
--- whose turn it is: a watch told it, or the clock that the time is over
+-- whose turn it is: a watch returned it, or by the clock the time is over
 abbrev pub TurnComes : {C : Type 0} → Clock C → Watch C → Hold → C → Bool → C → Woken → Type 0
 TurnComes K W held c is_there d told =
     MayTurn held told × (WatchTells K W held c is_there (Some told) d ⊎ ((told ≡ woken.TimeOver) × ((now : ℕ) × K c now × IsOver held now × (d ≡ c))))
@@ -241,7 +241,7 @@ LivingFailed V R K W p h c out now old fault.OutOfMemory =
     ⊎ ((V.takes_memory ≡ true) × LivedUnwritten V R K W p h c old)
 LivingFailed V R K W p h c out now old fault.Output = LivedUnwritten V R K W p h c old
 
--- The same, and each life that goes on was stopped behind it.
+-- The same, and each life that goes on was stopped after it.
 abbrev pub Ended : {C : Type 0} → Voice → Relation C → Clock C → Watch C → LivePlace C → HostView → C → Option (List ℕ) → Option (List ℕ) → Option (List InputLine) → Type 0
 Ended {C = C} V R K W p h d out now old =
     (came : List Arrival) × (beats : List Beat) × (text : List ℕ) × (q : LivePlace C) × (c : C) × Lived V R K W p came beats text q

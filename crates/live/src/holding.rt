@@ -1,4 +1,4 @@
-//! Waits that hold back the lines behind them.
+//! Waits that hold back the lines after them.
 ghost use Rattle.std.specs.Prelude.{◌≡◌, IfErr, IfOk, false, true};
 ghost use Rattle.std.specs.Io.KnownBytes.{Appends};
 ghost use Rattle.session_engine.specs.World.{World};
@@ -28,7 +28,7 @@ pub enum Hold {
     Until(u64),
 }
 
-/// The wait that goes on behind an event, if it does.
+/// The wait that goes on after an event, if it does.
 pub fn go_on<D: Disk>(held: Hold, host: &Host<D>) -> Hold
     ensures { (w : World) → IsHost host.now w → WaitGoesOn held w result }
 {
@@ -45,7 +45,7 @@ fn is_held(held: Hold) -> bool
     }
 }
 
-/// The wait of a line that goes on behind an event, if it does. That it is over is told.
+/// The wait of a line that goes on after an event, if it does. That it is over is printed.
 pub(crate) fn tell_over<D: Disk, T: Tells, W: Write>(
     held: Hold,
     number: u64,

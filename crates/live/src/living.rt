@@ -80,18 +80,18 @@ fn live_and_stop<R: Read, D: Disk, S: Sources, T: Tells, W: Write>(
 }
 
 /// Holds the worksheet on a disk open as long as an input lasts: its lines are taken while interpreters
-/// work, and what their children write is taken when it comes. What an event gives is told at once, in words
-/// (docs/SCRIPT.md, "Live", has the lines) or as JSON (docs/JSON.md). It gives the disk back.
+/// work, and what their children write is taken when it comes. What an event gives is printed at once, in
+/// words (docs/SCRIPT.md, "Live", has the lines) or as JSON (docs/JSON.md). It gives the disk back.
 ///
-/// A `wait` holds back the lines behind it until no item waits for an answer; `wait SECONDS` ends behind
-/// so many seconds too, and each session in which an item still waits is told that it stalled. At the end
-/// of the input each life that goes on is stopped, in the order in which their sessions were made.
+/// A `wait` holds back the lines after it until no item waits for an answer. `wait SECONDS` ends after so
+/// many seconds too, and each session in which an item still waits counts as stalled. At the end of the
+/// input each life that goes on is stopped, in the order of their sessions.
 ///
 /// All memory for lines is taken before the disk is opened. `Open` where the disk isn't opened: nothing
 /// was read or written. `Input` where the input can't be read or its sources can't be watched,
-/// `InputTooLong` behind 2^64 - 1 arrivals, `Host` where the host has a fault, `OutOfMemory`: what was told
-/// before is written. `Output` where the writer fails: a part of the text may have gone out. A voice that
-/// takes memory has `OutOfMemory` for that too.
+/// `InputTooLong` after 2^64 - 1 arrivals, `Host` where the host has a fault, `OutOfMemory`: what was
+/// returned before is written. `Output` where the writer fails: a part of the text may have gone out. A
+/// voice that takes memory has `OutOfMemory` for that too.
 pub fn live<R: Read, W: Write, D: Disk, S: Sources, T: Tells>(
     alloc: Global,
     reader: R,
@@ -109,7 +109,7 @@ where
         sources.old sources.new (W.contents writer.old) (W.contents writer.new)
         ((writer.new ≡ writer.old) × (sources.new ≡ sources.old))) }
 
-    // That the disk failed, at the opening or later, is told only where it did.
+    // That the disk failed, at the opening or later, is reported only where it did.
     ensures unopened { IsErrOf result (told.Open opens.Disk) → FailedSince D.view disk }
     ensures failed { IsErrOf result (told.Host hosts.Disk) → FailedSince D.view disk }
 {

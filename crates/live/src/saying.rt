@@ -50,18 +50,18 @@ fn say_interrupt<D: Disk, S: Sources, T: Tells, W: Write>(
     }
 }
 
-/// The wait until so many seconds behind this moment.
+/// The wait until so many seconds after this moment.
 pub fn wait_for(now: u64, seconds: u32) -> Hold
     ensures { result ≡ Hold.Until (seconds_behind now seconds) }
 {
     Hold::Until(now.saturating_add(u64::from(seconds) * 1_000))
 }
 
-/// Takes a command and all that comes of it, and tells what it gave: each reply is of an event that every
-/// image of the disk has from then on. No wait begins.
+/// Takes a command and all that comes of it, and prints what it gave: each reply is of an event that
+/// every image of the disk has from then on. No wait begins.
 ///
-/// `Host` and `OutOfMemory`: what was told before is written. `Output`, and `OutOfMemory` of a voice that
-/// takes memory: a part may have gone out.
+/// `Host` and `OutOfMemory`: what was returned before is written. `Output`, and `OutOfMemory` of a voice
+/// that takes memory: a part may have gone out.
 pub fn say_command<D: Disk, S: Sources, T: Tells, W: Write>(
     alloc: Global,
     host: &mut Host<D>,
@@ -184,7 +184,7 @@ fn say_line<D: Disk, S: Sources, T: Tells, W: Write>(
     }
 }
 
-/// Takes a line behind so many others, and gives the wait that goes on behind it.
+/// Takes a line after so many others, and gives the wait that goes on after it.
 pub(crate) fn take_line<D: Disk, S: Sources, T: Tells, W: Write>(
     alloc: Global,
     host: &mut Host<D>,
@@ -209,7 +209,7 @@ pub(crate) fn take_line<D: Disk, S: Sources, T: Tells, W: Write>(
     }
 }
 
-/// Takes a line that is too long behind so many others: it isn't known.
+/// Takes a line that is too long, after so many others: it isn't known.
 pub(crate) fn take_too_long<D: Disk, T: Tells, W: Write>(
     host: &Host<D>,
     before: u64,

@@ -78,7 +78,7 @@ pub(crate) fn take_life<D: Disk, S: Sources, T: Tells, W: Write>(
     }
 }
 
-/// Tells the host of each of these lives that it stalled. The replies are put behind those that are there.
+/// Takes that each of these lives stalled. The replies are put after those that are there.
 fn stall_each<D: Disk, S: Sources>(
     host: &mut Host<D>,
     sources: &mut S,

@@ -50,7 +50,7 @@ none_late most n b front h outer =
     let is = ap length outer.spelled.is in
     absurd (omega arith)
 
--- a stream that goes on in noise behind its limit
+-- a stream that goes on in noise after its limit
 late_reading : (most : Limits) (before noise more s : List ℕ) (blocks : List Outer) → s ≡ (before ++ noise) ++ more → Chain most blocks before → IsNoise noise → most.stream ≤ length (before ++ noise) → Reading most s
 late_reading most before noise more s blocks e chain silent late =
     let p = parted more in

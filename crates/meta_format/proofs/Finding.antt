@@ -169,7 +169,7 @@ behind_noise most s from start (seen.BadTag at) so fault = over_all most s from 
 behind_noise most s from start (seen.TooDeep at) so fault = over_all most s from start (outside_at start) so ∙ fault
 behind_noise most s from start (seen.TooLong at) so fault = over_all most s from start (outside_at start) so ∙ fault
 
--- the machine behind a front that is read
+-- the machine after a front that is read
 
 behind_front : (most : Limits) → IsRoomy most → (s : List ℕ) (from : ℕ) (blocks : List Outer) → IsReadTo most s from blocks → run most start_state (take from s) ≡ record { at = from; out = blocks; mode = outside }
 behind_front most fit s from blocks read =

@@ -41,7 +41,7 @@ text_run most out start d (c ∷ s) at acc t plain short early =
     ∙ ap (λ n. run most record { at = n; out = out; mode = body_of start ((acc ++ letter c ∷ []) ++ map letter s) d } t) (omega arith)
     ∙ ap (λ n. run most record { at = at + suc (length s); out = out; mode = body_of start n d } t) (append_assoc acc (letter c ∷ []) (map letter s))
 
--- the scanner behind the text is where the machine is
+-- the scanner after the text is where the machine is
 pub took_text : (most : Limits) (old new : Scanner) (t : List ℕ) → IsText t → old.place ≡ place.Body → new.place ≡ old.place → new.start ≡ old.start → new.at ≡ old.at + length t
     → stack_marks new.levels.items ≡ stack_marks old.levels.items ++ map letter t → length new.levels.items ≡ length old.levels.items
     → old.at + length t < most.block + old.start → old.at + length t ≤ most.stream
@@ -107,7 +107,7 @@ noise_run most out (c ∷ s) at t silent early =
     ∙ noise_run most out s (suc at) t (λ k h. silent (suc k) (omega arith)) (omega arith)
     ∙ ap (λ n. run most record { at = n; out = out; mode = outside } t) (omega arith)
 
--- the scanner behind so many bytes more
+-- the scanner after so many bytes more
 abbrev pub later : Scanner → ℕ → Scanner
 later s n = record { at = n; start = s.start; place = s.place; name = s.name; levels = s.levels }
 

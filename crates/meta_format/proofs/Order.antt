@@ -52,7 +52,7 @@ kept most k at (body_of start ms d) c h b =
 kept most k at (escape_of start ms d) c h b = unless_kept most k start at (body_of start (ms ++ cond (is_special c) (letter c ∷ []) (letter 27 ∷ letter c ∷ [])) d) b
 kept most k at (broken kind f) c h b = tt
 
--- a run behind a block that was found
+-- a run after a block that was found
 found_first : (most : Limits) (x : Outer) (at : ℕ) (s : List ℕ) → (run most record { at = at; out = x ∷ []; mode = outside } s).out ≡ x ∷ (run most record { at = at; out = []; mode = outside } s).out
 found_first most x at s = ap (λ q. q.out) (run-behind most (x ∷ []) record { at = at; out = []; mode = outside } s)
 

@@ -24,7 +24,7 @@ chain_stop most _ _ none = refl
 chain_stop most _ _ (chain_next {blocks} {before} noise spelling b chain silent outer) =
     sym (last_stop-push blocks record { start = length (before ++ noise); stop = length (before ++ noise ++ spelling); block = b } 0)
 
--- no chain ends behind the longest stream
+-- no chain ends after the longest stream
 chain_early : (most : Limits) (blocks : List Outer) (before : List ℕ) → Chain most blocks before → length before ≤ most.stream
 chain_early most _ _ none = omega arith
 chain_early most _ _ (chain_next {blocks} {before} noise spelling b chain silent outer) =

@@ -26,7 +26,7 @@ alive_early most fit s h = let r = reach most fit s in by_reach r.0 r.1
 broken_is_dead : (out : List Outer) (q : State) → IsBrokenWith out q → IsAlive q.mode → ⊥
 broken_is_dead out q (kind, f, e) h = subst (λ p. IsAlive p.mode) e h
 
--- behind noise
+-- after noise
 fault_outside : (most : Limits) → IsRoomy most → (n : ℕ) (blocks : List Outer) (byte : ℕ) (kind : Kind) → IsFault most n [] byte kind → IsAlive (next most record { at = n; out = blocks; mode = outside } byte).mode → ⊥
 fault_outside most fit n blocks byte bad_tag fault alive = right_outside most byte bad_tag fault
 fault_outside most fit n blocks byte too_deep fault alive = right_outside most byte too_deep fault
@@ -34,7 +34,7 @@ fault_outside most fit n blocks byte too_long fault alive = ⊎_elim
     (λ f. let a = f.0 in let b = fit.block in absurd (omega arith))
     (λ f. let g : most.stream ≤ n = omega arith in subst (λ w. IsAlive (apply record { at = n; out = blocks; mode = outside } w).mode) (cond-true (nat_le most.stream n) (halts too_long) _ (le-leb most.stream n g)) alive) fault.1
 
--- behind an open tail
+-- after an open tail
 fault_inside : (most : Limits) (a : ℕ) (blocks : List Outer) (tail : List ℕ) (byte : ℕ) (kind : Kind) (p : State) → IsFault most (a + length tail) tail byte kind → IsAlive p.mode
     → After most a blocks tail byte p → ⊥
 fault_inside most a blocks tail byte bad_tag p fault alive (goes_on h right) = right bad_tag fault

@@ -18,7 +18,7 @@ pub record IsReadTo (most : Limits) (s : List ℕ) (at : ℕ) (blocks : List Out
   pub stream : Stream most (take at s) blocks []
   pub sound : IsSound most (take at s)
 
--- This comes next in the stream, behind these outer blocks: one block more, a block that is open at the end, no block
+-- This comes next in the stream, after these outer blocks: one block more, a block that is open at the end, no block
 -- at all, or the first fault.
 abbrev pub ComesNext : Limits → List ℕ → List Outer → Seen → Type 0
 ComesNext most s blocks (seen.Outer start stop) = (b : Tree) × IsReadTo most s stop (blocks ++ record { start = start; stop = stop; block = b } ∷ []) × IsOuter most start b (part start stop s)

@@ -20,7 +20,7 @@ pub data Place : Type 0 where
   in_tag : List ℕ → Place
   -- in a body, in so many levels
   in_body : ℕ → Place
-  -- there, behind a 27 without its second byte
+  -- there, after a 27 without its second byte
   in_escape : ℕ → Place
 
 -- The open tail ends there.
@@ -36,11 +36,11 @@ pub data Kind : Type 0 where
   too_deep : Kind
   too_long : Kind
 
--- Behind this much of a tag's name the byte is no byte of a tag, ends an empty name, or makes one that is too long.
+-- After this much of a tag's name the byte is no byte of a tag, ends an empty name, or makes one that is too long.
 abbrev pub IsBadTag : Limits → List ℕ → ℕ → Type 0
 IsBadTag most name c = (c < 32) ⊎ ((is_separator c ≡ true) × (name ≡ [])) ⊎ ((is_separator c ≡ false) × (length name ≡ most.tag))
 
--- Behind this open tail the byte is wrong in a tag, or would open a level too many.
+-- After this open tail the byte is wrong in a tag, or would open a level too many.
 abbrev pub IsWrong : Limits → List ℕ → ℕ → Kind → Type 0
 IsWrong most tail c bad_tag = (name : List ℕ) × EndsIn most tail (in_tag name) × IsBadTag most name c
 IsWrong most tail c too_deep = EndsIn most tail (in_body most.levels) × (c ≡ 2)
@@ -50,15 +50,15 @@ IsWrong most tail c too_long = ⊥
 abbrev pub Closes : Limits → List ℕ → ℕ → Type 0
 Closes most tail c = EndsIn most tail (in_body 1) × (c ≡ 5)
 
--- Behind this open tail the byte at this offset is a fault. Too long is one that is neither of the other faults, and
--- is the last that a block may have, without closing it, or behind the last that a stream may have.
+-- After this open tail the byte at this offset is a fault. One that is too long is neither of the other faults. It is the last that a block
+-- may have, without closing it, or comes after the last that a stream may have.
 abbrev pub IsFault : Limits → ℕ → List ℕ → ℕ → Kind → Type 0
 IsFault most at tail c bad_tag = IsWrong most tail c bad_tag
 IsFault most at tail c too_deep = IsWrong most tail c too_deep
 IsFault most at tail c too_long = ((kind : Kind) → IsWrong most tail c kind → ⊥)
     × (((suc (length tail) ≡ most.block) × (Closes most tail c → ⊥)) ⊎ (at ≡ most.stream))
 
--- The byte at this offset of the stream is a fault behind the bytes before it.
+-- The byte at this offset of the stream is a fault after the bytes before it.
 pub record FaultAt (most : Limits) (s : List ℕ) (at : ℕ) (kind : Kind) : Type 0 where
   pub byte : ℕ
   pub more : List ℕ

@@ -37,7 +37,7 @@ abbrev pub StartBehind : ℕ → List Outer → Type 0
 StartBehind from [] = Unit {0}
 StartBehind from (o ∷ os) = from ≤ o.start
 
--- The blocks close behind the one offset and at the other or before, and each starts where the one before it has closed, or later.
+-- The blocks close after the one offset and at the other or before, and each starts where the one before it has closed, or later.
 abbrev pub CloseWithin : ℕ → ℕ → List Outer → Type 0
 CloseWithin from to [] = Unit {0}
 CloseWithin from to (o ∷ os) = (from < o.stop) × (o.stop ≤ to) × StartBehind o.stop os × CloseWithin from to os

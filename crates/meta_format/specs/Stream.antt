@@ -5,7 +5,7 @@ use Rattle.block_tree.specs.Tree.{Tree}
 use Rattle.meta_format.specs.Limits.{Limits}
 use Rattle.meta_format.specs.Spelling.{Spells}
 
--- An outer block of a stream: the offset of its 2, the offset behind its last 5, and the block.
+-- An outer block of a stream: the offset of its 2, the offset after its last 5, and the block.
 pub record Outer : Type 0 where
   pub start : ℕ
   pub stop : ℕ

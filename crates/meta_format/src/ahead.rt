@@ -16,7 +16,7 @@ use block_tree::MOST_LEVELS;
 /// What comes next in a stream from an offset on at which no block is open. All offsets are in bytes from 0.
 #[derive(Clone, Copy, Debug)]
 pub enum Seen {
-    /// The next outer block: the offset of its 2, and the offset behind its closing 5.
+    /// The next outer block: the offset of its 2, and the offset after its closing 5.
     Outer { start: usize, stop: usize },
     /// No whole block any more, but one that is open at the end: the offset of its 2.
     Open { start: usize },
@@ -83,7 +83,7 @@ fn end_in_body(stream: &[u8], start: usize, depth: u32, limit: usize) -> Seen
     Seen::TooLong { offset: limit }
 }
 
-/// What is seen of a block where the limit stands behind a 27.
+/// What is seen of a block where the limit is right after a 27.
 fn end_in_escape(stream: &[u8], start: usize, limit: usize) -> Seen
     requires limit { IsLimit limits stream.now start limit }
     requires there { (d : ℕ) × InEscape limits stream.now start limit d }
@@ -128,8 +128,9 @@ fn noise_end(stream: &[u8], from: usize) -> usize
     from + before_two(&stream[from..])
 }
 
-/// What comes next in a stream behind a front of it that is read: at `from` no block is open, as at 0, and
-/// as behind each block that this call gives. No memory is taken, and no byte before `from` is looked at.
+/// What comes next in a stream after a front of it that is read. At `from` no block is open, as at 0
+/// and as after each block that this call gives. No memory is taken, and no byte before `from` is
+/// looked at.
 pub fn next_outer(stream: &[u8], from: usize) -> Seen
     requires within { from ≤ length stream.now }
     requires early { length stream.now ≤ limits.stream }

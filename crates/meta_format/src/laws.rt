@@ -17,7 +17,7 @@ pub fn one_block()
         → b ≡ c }
 {}
 
-/// No spelling of a block begins another: nothing stands behind it there.
+/// No spelling of a block begins another: nothing follows it there.
 pub fn no_front()
     ensures { (most : Limits) (b c : Tree) (s t : List ℕ) → Spells most b s → Spells most c (s ++ t)
         → t ≡ [] }
@@ -68,7 +68,7 @@ pub fn a_fault_or_none()
         × Faults most s at kind blocks) }
 {}
 
-/// More bytes behind a stream without a fault leave its blocks as they are. The further ones close in
+/// More bytes after a stream without a fault leave its blocks as they are. The further ones close in
 /// these bytes, and then the stream has no fault either, or its first one lies in them.
 pub fn blocks_stay()
     ensures { (most : Limits) → IsRoomy most → (s p : List ℕ) (blocks : List Outer) (tail : List ℕ)

@@ -18,7 +18,7 @@ pub struct Level {
 }
 
 #[tactic(auto, using(crate::proofs::RightLevels::level_rules))]
-/// Puts the text that was read so far behind the items.
+/// Puts the text that was read so far after the items.
 fn flush(alloc: Global, level: &mut Level) -> Result<(), OutOfMemory>
     ensures ok { OnOk result (level_marks level.new ≡ level_marks level.old) }
     ensures no_text { OnOk result (level.new.text.items ≡ []) }

@@ -11,10 +11,10 @@ use crate::runs::text_run;
 use crate::scan::is_separator;
 use block_tree::{LONGEST_TAG, MOST_LEVELS};
 
-/// What comes of the bytes behind a 2.
+/// What comes of the bytes after a 2.
 #[derive(Clone, Copy, Debug)]
 pub enum Named {
-    /// The offset behind the separator.
+    /// The offset after the separator.
     Whole(usize),
     /// The offset of the byte that is wrong.
     Bad(usize),
@@ -22,7 +22,7 @@ pub enum Named {
     Cut,
 }
 
-/// Whether the byte is wrong behind so many bytes of a tag's name.
+/// Whether the byte is wrong after so many bytes of a tag's name.
 #[inline(always)]
 pub fn is_bad(size: usize, c: u8) -> bool
     ensures { (name : List ℕ) → length name ≡ size → result ≡ is_bad_tag longest_tag name c }
@@ -67,7 +67,7 @@ fn text_end(stream: &[u8], at: usize, limit: usize) -> usize
 /// What comes of a block up to a limit.
 #[derive(Clone, Copy, Debug)]
 pub enum Met {
-    /// The offset behind it.
+    /// The offset after it.
     Whole(usize),
     /// The offset of the byte that is wrong in a tag.
     BadTag(usize),
@@ -77,7 +77,7 @@ pub enum Met {
     InName(usize),
     /// The limit stands in a body, so many levels inside the outermost.
     InBody(u32),
-    /// The limit stands behind a 27.
+    /// The limit is right after a 27.
     InEscape,
 }
 

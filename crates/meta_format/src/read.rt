@@ -53,7 +53,7 @@ fn filling_block(mut found: Vec<Found>, size: u64) -> Option<Block>
     }
 }
 
-/// Reads the block that the bytes spell, with nothing before it and nothing behind it. Any spelling is
+/// Reads the block that the bytes spell, with nothing before it and nothing after it. Any spelling is
 /// read, and it may have any length.
 /// (docs/PROTOCOL.md, spelling of blocks.)
 #[tactic(auto, using(crate::proofs::Readings::read_rules))]

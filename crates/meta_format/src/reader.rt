@@ -19,7 +19,7 @@ use std::marker::Model;
 /// `found` has the blocks that the piece closes before it. (docs/PROTOCOL.md, faults of a stream.)
 #[derive(Drop)]
 pub enum FeedFault {
-    /// A byte below 32 in a tag, a separator behind no name, or a 65th byte of a name.
+    /// A byte below 32 in a tag, a separator without a name before it, or a 65th byte of a name.
     BadTag { offset: u64, found: Vec<Found> },
     /// A 2 that would open a block of depth 33.
     TooDeep { offset: u64, found: Vec<Found> },
@@ -45,7 +45,7 @@ pub struct Reader {
     scanner: Scanner,
 }
 
-/// What is told of the stream up to the last piece without a fault.
+/// What is reported of the stream up to the last piece without a fault.
 #[derive(Drop)]
 struct Told {
     offset: u64,
@@ -82,7 +82,7 @@ impl Reader {
         }
     }
 
-    /// How many bytes were taken: those of all pieces but the one with a fault, and those behind it.
+    /// How many bytes were taken: those of all pieces but the one with a fault, and those after it.
     pub fn offset(&self) -> u64
         ensures kept { result ≡ self.now.offset }
         ensures length { (s : List ℕ) (blocks : List Outer) → ReaderHasRead limits self.now s blocks
@@ -101,8 +101,8 @@ impl Reader {
 
     /// Takes the next piece of the stream, and gives the outer blocks that it closes, in order.
     ///
-    /// After an error, want of memory too, the reader has failed: each later call answers `Failed`, and
-    /// `offset` and `pending` stay as they were before the piece.
+    /// After an error, also lack of memory, the reader has failed: each later call returns `Failed`,
+    /// and `offset` and `pending` stay as they were before the piece.
     #[tactic(auto, using(crate::proofs::Held::reader_rules))]
     pub fn feed(&mut self, piece: &[u8]) -> Result<Vec<Found>, FeedFault>
         // The blocks found are those that the piece adds to the stream, whatever it was so far.
@@ -110,7 +110,7 @@ impl Reader {
             → ReaderHasRead limits self.old s blocks
             → ReaderHasRead limits self.new (s ++ piece.now) (blocks ++ outers found.items)) }
 
-        // Each closes in this piece, and starts behind the one before it.
+        // Each closes in this piece, and starts after the one before it.
         ensures closes { IfOk result (λ found. (s : List ℕ) (blocks : List Outer)
             → ReaderHasRead limits self.old s blocks
             → CloseWithin (length s) (length (s ++ piece.now)) (outers found.items)) }

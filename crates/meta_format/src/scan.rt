@@ -19,13 +19,13 @@ use std::alloc::{AllocFailed, Global};
 /// Where the last byte has led.
 #[derive(Clone, Copy, Debug, PartialEq, Eq)]
 pub enum Place {
-    /// Behind noise or an outer block.
+    /// After noise or an outer block.
     Outside,
-    /// Behind a 2, in the name of its tag.
+    /// After a 2, in the name of its tag.
     Tag,
     /// In a body.
     Body,
-    /// In a body, behind a 27 whose second byte is to come.
+    /// In a body, after a 27 whose second byte is to come.
     Escape,
 }
 
@@ -47,13 +47,13 @@ pub struct Scanner {
 pub struct Found {
     /// The offset of its 2 in the stream, in bytes from 0.
     pub start: u64,
-    /// The offset behind its closing 5.
+    /// The offset after its closing 5.
     pub stop: u64,
     /// The block.
     pub block: Block,
 }
 
-/// Why a scan stops: a fault at the byte that `at` counts to, or want of memory.
+/// Why a scan stops: a fault at the byte that `at` counts to, or lack of memory.
 #[derive(Clone, Copy, Debug, PartialEq)]
 pub enum Stop {
     BadTag,

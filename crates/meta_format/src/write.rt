@@ -47,7 +47,7 @@ fn write_node(node: &Node, out: &mut Vec<u8>) -> Result<(), OutOfMemory>
     Ok(())
 }
 
-/// Writes a block behind the other bytes, in its canonical spelling: 27 stands before each 2, 5 and 27
+/// Writes a block after the other bytes, in its canonical spelling: 27 stands before each 2, 5 and 27
 /// of a text, and nowhere else. Where memory is refused, the bytes are as before.
 /// (docs/PROTOCOL.md, spelling of blocks.)
 pub fn write_block(block: &Block, out: &mut Vec<u8>) -> Result<(), OutOfMemory>

@@ -16,7 +16,7 @@ host_fault_text host.Disk = codes "fault 21 Disk\n"
 host_fault_text host.OutOfMemory = codes "fault 22 OutOfMemory\n"
 host_fault_text host.JournalFull = codes "fault 23 JournalFull\n"
 
--- damage is told with the offset of its gate
+-- damage is printed with the offset of its gate
 abbrev pub open_fault_text : OpenCause → List ℕ
 open_fault_text (opens.Damaged gate) = codes "fault 30 Damaged " ++ decimal gate ++ 10 ∷ []
 open_fault_text opens.NotASheet = codes "fault 31 NotASheet\n"

@@ -30,14 +30,14 @@ bad_line number = codes "bad line " ++ decimal number ++ 10 ∷ []
 abbrev pub replies_text : List Reply → List ℕ
 replies_text replies = flat_map reply_text replies
 
--- An op on the worksheet of these ops, what is replied, and the ops behind it. Which refusal comes is
--- told by the worksheet; want of memory is told only of an op that it allows and that takes memory.
+-- An op on the worksheet of these ops, what is replied, and the ops after it. The worksheet says
+-- which refusal comes; lack of memory is reported only of an op that it allows and that takes memory.
 pub data OpRan (ops : List Op) (o : Op) : Reply → List Op → Type 0 where
   done : first_refusal (sheet_of ops) o ≡ None → OpRan ops o (reply_to (sheet_of ops) o) (ops ++ o ∷ [])
   refused : (why : Refusal) → first_refusal (sheet_of ops) o ≡ Some why → OpRan ops o (reply.Refused why) ops
   unkept : takes_memory o ≡ true → first_refusal (sheet_of ops) o ≡ None → OpRan ops o (reply.Refused refusal.OutOfMemory) ops
 
--- What the line with this number says, what is written of it, and the ops behind it.
+-- What the line with this number says, what is written of it, and the ops after it.
 pub data LineRan (number : ℕ) (ops : List Op) : Option ScriptLine → List ℕ → List Op → Type 0 where
   skipped : LineRan number ops (Some line.Skip) [] ops
   unknown : LineRan number ops None (bad_line number) ops

@@ -61,7 +61,7 @@ fn open_fault_text<W: Write>(cause: OpenCause, out: &mut W) -> Result<(), WriteF
     .map_err(|_| WriteFault)
 }
 
-/// Writes a fault on a line: `fault N NAME`, and behind a damage the offset of its gate.
+/// Writes a fault on a line: `fault N NAME`, and after a damage the offset of its gate.
 pub fn fault_text<W: Write>(fault: RunFault, out: &mut W) -> Result<(), WriteFault>
     ensures { OnOk result
         (Appends (W.contents out.old) (W.contents out.new) (printed.fault_text fault)) }

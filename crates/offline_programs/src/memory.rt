@@ -118,7 +118,7 @@ fn do_lines<W: Write>(
 /// worksheet at `print`, `bad line N` where a line isn't known. Lines are numbered from 1. Without
 /// interpreters `eval`, `stop` and `wait` are bad lines too. (docs/SCRIPT.md has the lines.)
 ///
-/// A command for which memory is refused is told so, changes nothing, and the script goes on.
+/// A command for which memory is refused gets that refusal and changes nothing, and the script goes on.
 ///
 /// The script is read whole before anything is written. `Input` where the reader fails, an
 /// interruption included, `InputTooLong` where it gives more than `LONGEST_STANDARD_INPUT` bytes, and `OutOfMemory`
@@ -132,7 +132,7 @@ pub fn run_memory<R: Read, W: Write>(
     ensures ran { OnOk result (IfSome (R.remaining reader.old) (λ script. (text : List ℕ)
         × ScriptRan script text × Appends (W.contents writer.old) (W.contents writer.new) text)) }
 
-    // A script that is too long is told as such, whatever else would go wrong with its text.
+    // A script that is too long is reported as such, whatever else would go wrong with its text.
     ensures short { OnOk result (IfSome (R.remaining reader.old)
         (λ script. length script ≤ longest_standard_input)) }
     ensures output_short { IsErrOf result RunFault.Output

@@ -29,7 +29,7 @@ pub fn show<D: Disk, W: Write>(alloc: Global, disk: D, writer: &mut W) -> Result
         × IsSheetImage sheet (bytes_on (D.view disk)))) }
     ensures fault { IfErr result (TellsShow (D.view disk) (writer.new ≡ writer.old)) }
 
-    // That the disk failed is told only where it did.
+    // That the disk failed is reported only where it did.
     ensures failed { IsErrOf result (told.Open opens.Disk) → FailedSince D.view disk }
 {
     let store = match Store::open(alloc, disk) {

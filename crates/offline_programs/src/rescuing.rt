@@ -17,7 +17,7 @@ use std::alloc::Global;
 use std::io::Write;
 use thiserror::Error;
 
-/// Why what was rescued wasn't written, or not told.
+/// Why what was rescued wasn't written, or not reported.
 #[derive(Clone, Copy, Debug, PartialEq, Eq, Error)]
 pub enum RescueFault {
     /// 34: something is where the new worksheet should be. Nothing was changed.

@@ -57,7 +57,7 @@ cut_inside = refl
 dropped_when_cut_inside : answers_of (both ++ received (bytes 17) ∷ received (bytes 7) ∷ []) (banner ∷ a ∷ b ∷ []) ≡ banner ∷ a ∷ []
 dropped_when_cut_inside = refl
 
--- a fault behind A in its piece: A is told, nothing is sent, y is lost
+-- a fault after A in its piece: A is returned, nothing is sent, y is lost
 fault_behind : step_of both (banner ∷ []) (bytes 14) (banner ∷ a ∷ []) (Some bad_tag)
     ≡ record { answered = Some (answered.Line 1 (codes "> ") (verbatim (codes "A"))); default_input = None; send = None; ended = Some (record { reason = reason.BadTag; lost = y ∷ [] }) }
 fault_behind = refl

@@ -7,7 +7,7 @@ use Rattle.meta_format.specs.Stream.{Outer, Chain, Stream}
 use Rattle.meta_format.specs.Stream.Chain.{none as chain_none, next as chain_next}
 use Rattle.meta_format.specs.Reader.{CloseWithin}
 
--- the blocks stop behind the one offset and at most at the other, and each has a byte
+-- the blocks stop after the one offset and at most at the other, and each has a byte
 abbrev pub LieWithin : ℕ → ℕ → List Outer → Type 0
 LieWithin from to [] = Unit {0}
 LieWithin from to (b ∷ bs) = (from < b.stop) × (b.stop ≤ to) × (b.start < b.stop) × LieWithin from to bs

@@ -13,7 +13,7 @@ use Rattle.plugin_core.specs.Items.{waiting_of, unanswered, is_line_of}
 use Rattle.plugin_core.specs.Waits.{HasUnanswered, WaitsWhatIsUnanswered}
 use Rattle.plugin_core.proofs.ByAskPoints.{answers_by_ask_points}
 
--- Lines in a list, behind so many items.
+-- Lines in a list, after so many items.
 
 pub record IsBehind (n id : ℕ) (is : List Item) : Type 0 where
   pub number : ℕ

@@ -1,4 +1,4 @@
--- What is told of an item is the whole answer to it.
+-- What is returned for an item is the whole answer to it.
 use Rattle.std.proofs.Common.{◌≡◌, ℕ, ◌+◌, ◌<◌, ◌≤◌, List, [], ◌∷◌, ◌++◌, length, refl, ap, sym, ◌∙◌, subst, arith, Bool, true, false, Option, Some, None, suc, length-append, append_assoc}
 use Rattle.std.specs.Prelude.{nat_le, slice_get, option_map, option_and_then, Result, option_to_list, if◌then◌else◌}
 use Rattle.std.proofs.Math.Seq.{take-append_seam}
@@ -98,7 +98,8 @@ before_last past e = ap (λ (ts : List Event). length (stream_of ts)) (take-appe
 after_last : (past : List Event) (e : Event) → length_after (past ++ e ∷ []) (suc (length past)) ≡ length (stream_of (past ++ e ∷ []))
 after_last past e = ap (λ (ts : List Event). length (stream_of ts)) (take_all (suc (length past)) (past ++ e ∷ []) (omega (arith, length-append past (e ∷ []))))
 
--- The item that is told of, or the banner: a whole block of the stream answers it, whose last byte came in this piece.
+-- The item that is answered, or the banner: a whole block of the stream answers it, whose last byte came in this
+-- piece.
 data IsOf (past : List Event) (piece : List ℕ) (after : List Outer) (prompt : List ℕ) : Answered → Type 0 where
   of_banner : (out : Tree) → IsOf past piece after prompt (answered.Banner out)
   of_item : (number : ℕ) (asked : Item) (answer : Outer) → slice_get (items_of past) number ≡ Some asked → IsAnswer (past ++ received piece ∷ []) after (suc number) answer
@@ -160,7 +161,7 @@ tells_of past before piece step life reads t told is_told =
                 (subst (λ (n : ℕ). n < b.stop) (sym (before_last past (received piece))) place.0.0, subst (λ (n : ℕ). b.stop ≤ n) (sym (after_last past (received piece))) place.0.1)
                 place.1)
 
--- A told answer of a line is of a line.
+-- A returned answer to a line is one to a line.
 line_told : (past : List Event) (piece : List ℕ) (after : List Outer) (q : List ℕ) (told : Answered) → IsOf past piece after q told
     → (id : ℕ) (prompt : List ℕ) (out : Tree) → told ≡ answered.Line id prompt out → IsItsAnswer past piece after id out × (prompt ≡ q)
 line_told past piece after q _ (of_banner b) id prompt out e = cc

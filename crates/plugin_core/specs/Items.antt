@@ -36,12 +36,14 @@ bytes_of (item.Complete id text cursor) = request text cursor
 abbrev pub prompt_of : List Event → List Outer → List ℕ
 prompt_of past blocks = prompt_behind (codes "> ") (answers_of past blocks)
 
--- what is told of an answer with this output to an item; of a request of completions what the output tells
+-- what is returned for an answer with this output to an item; for a request of completions, what the
+-- output says
 abbrev pub answer_to : Item → List ℕ → Tree → Answered
 answer_to (item.Line id text) prompt out = answered.Line id prompt out
 answer_to (item.Complete id text cursor) prompt out = answered.Complete id (told_by out)
 
--- What is told of an answer that comes after these: the first is the banner, and each other one answers an item.
+-- What is returned for an answer that comes after these: the first is the banner, and each other one answers an
+-- item.
 abbrev pub answer_behind : List Outer → List Item → List ℕ → Tree → Option Answered
 answer_behind [] items prompt b = Some (answered.Banner (output b))
 answer_behind (banner ∷ answers) items prompt b = option_map (λ i. answer_to i prompt (output b)) (slice_get items (length answers))

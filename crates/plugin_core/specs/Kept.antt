@@ -46,7 +46,7 @@ GoesOn life past blocks None = LifeHasPast life past blocks
 GoesOn life past blocks (Some kind) = life.over ≡ true
 
 -- What an item gives that is accepted after a past whose stream has these blocks: the bytes that are sent now, if any. No answer
--- closes, the item waits behind the others, and the life goes on.
+-- closes, the item waits after the others, and the life goes on.
 pub record Accepts (past : List Event) (blocks : List Outer) (item : Item) (sent : Option (List ℕ)) (life : InterpreterView) : Type 0 where
   pub answers : answers_of (past ++ accepted item ∷ []) blocks ≡ answers_of past blocks
   pub waiting : waiting_of (past ++ accepted item ∷ []) blocks ≡ waiting_of past blocks ++ item ∷ []
@@ -66,7 +66,7 @@ pub record Takes (past : List Event) (before : List Outer) (piece : List ℕ) (s
   -- the answers before stay, and at most one closes
   pub answers : answers_of (past ++ received piece ∷ []) after ≡ answers_of past before ++ option_to_list (closed_by past before (received piece) after)
   pub gives : step ≡ step_of past before piece after fault
-  -- an answer that closes is told, and where none closes there is no default input and nothing is sent
+  -- an answer that closes is returned, and where none closes there is no default input and nothing is sent
   pub told : is_some step.answered ≡ is_some (closed_by past before (received piece) after)
   pub silent : closed_by past before (received piece) after ≡ None → (step.default_input ≡ None) × (step.send ≡ None)
   pub then : GoesOn life (past ++ received piece ∷ []) after fault

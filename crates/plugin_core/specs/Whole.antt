@@ -1,4 +1,4 @@
--- What is told of an item is the whole answer to it, in the words of ask points.
+-- What is returned for an item is the whole answer to it, in the words of ask points.
 use Rattle.std.specs.Prelude.{◌≡◌, ℕ, suc, List, [], ◌∷◌, ◌++◌, length, Some, None, slice_get, Result}
 use Rattle.block_tree.specs.Tree.{Tree}
 use Rattle.block_tree.specs.Output.{output}

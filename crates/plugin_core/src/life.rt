@@ -17,9 +17,9 @@ use std::marker::Model;
 
 /// One life of an interpreter, from the item that it is begun for to its end.
 ///
-/// It is told the items that are accepted and the pieces of the interpreter's output, and tells which
-/// answers these pieces close. A life stands for its past, which is the list of these events: that is the
-/// relation `LifeHasPast`, which `begin` gives and `accept` and `piece` carry on.
+/// It takes the items that are accepted and the pieces of the interpreter's output, and returns the
+/// answers that these pieces close. A life stands for its past, which is the list of these events: that
+/// is the relation `LifeHasPast`, which `begin` gives and `accept` and `piece` carry on.
 #[derive(Drop)]
 pub struct Life {
     pub(crate) alloc: Global,
@@ -111,7 +111,7 @@ impl Life {
         self.join(item)
     }
 
-    /// Puts an item behind those that wait.
+    /// Puts an item after those that wait.
     fn join(&mut self, item: Item) -> Result<Option<Octets>, AcceptFault>
         requires goes_on { self.old.over ≡ false }
         requires askable { IsAskable item }
@@ -208,7 +208,7 @@ impl Life {
         self.number
     }
 
-    /// Whether a piece has ended the life: by a fault of its stream, or by want of memory.
+    /// Whether a piece has ended the life: by a fault of its stream, or by lack of memory.
     pub fn over(&self) -> bool
         ensures { result ≡ self.now.over }
     {

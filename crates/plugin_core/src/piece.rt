@@ -29,10 +29,11 @@ impl Life {
     ghost use Rattle.plugin_core.specs.Kept.{LifeHasPast, Takes};
     ghost use Rattle.plugin_core.specs.inside.Changes.{AnswerCloses, Passes, Breaks, EndsAt, closed_among, answer_first, ask_then, waiting_then};
 
-    /// Takes the next piece of the interpreter's output, which may be cut anywhere, and tells the answer
-    /// that it closes and what is to be sent now. A fault of the stream ends the life after that answer.
+    /// Takes the next piece of the interpreter's output, which may be cut anywhere, and returns the
+    /// answer that it closes and what is to be sent now. A fault of the stream ends the life after that
+    /// answer.
     ///
-    /// After want of memory the life is over. Blocks that answer nothing are dropped here.
+    /// After `OutOfMemory` the life is over. Blocks that answer nothing are dropped here.
     pub fn piece(&mut self, piece: &[u8]) -> Result<Step, OutOfMemory>
         requires { self.old.over ≡ false }
         ensures ok { (past : List Event) (before : List Outer) → LifeHasPast self.old past before
@@ -158,7 +159,7 @@ impl Life {
         }
     }
 
-    /// What is told of the answer to the first item, or of the banner.
+    /// What is returned for the answer to the first item, or for the banner.
     fn answer_first(
         &mut self,
         prompt: Octets,
@@ -222,7 +223,7 @@ fn prompt_of_block(alloc: Global, block: &Block) -> Result<Option<Octets>, OutOf
     }
 }
 
-/// What is told of an answer to an item.
+/// What is returned for an answer to an item.
 fn answer(alloc: Global, item: Item, prompt: Octets, output: Block) -> Result<Answered, OutOfMemory>
     ensures { IfOk result (λ told. told ≡ answer_to item prompt output) }
 {

@@ -27,7 +27,7 @@ pub enum Answered {
 /// The end of a life. (docs/PROTOCOL.md, how a life ends.)
 #[derive(Drop)]
 pub struct Ended {
-    /// The fault of its stream, or what `finish` was told.
+    /// The fault of its stream, or the reason that `finish` was given.
     pub reason: Reason,
     /// The items without an answer, in order.
     pub lost: Queue<Item>,

@@ -35,7 +35,7 @@ line_more blocks o a b c p q =
     subst (Appends a c) (ap (λ t. outer_lines blocks ++ t) (sym (append-nil (outer_line o))) ∙ sym (flat_map-append outer_line blocks (o ∷ [])))
     (Appends-trans a b c (outer_lines blocks) (outer_line o) p q)
 
--- the text of a stream, with or without a line behind those of its blocks
+-- the text of a stream, with or without a line after those of its blocks
 abbrev pub Prints : Limits → List ℕ → Option (List ℕ) → Option (List ℕ) → Bool → Type 0
 Prints most s a b is_whole = (text : List ℕ) × Printed most s text is_whole × Appends a b text
 

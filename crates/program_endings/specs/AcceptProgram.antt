@@ -30,7 +30,7 @@ pub record AcceptDone {D C W E : Type 0} (view : D → DiskView) (o : Way C) (ch
   pub later : D
   pub answer : Result Counts RunFault
   pub accepted : AcceptAnswer o chosen (view disk) (view later) c d (written a) (written b) ((b ≡ a) × (d ≡ c)) answer
-  -- that the disk failed at the opening is told only where it did
+  -- that the disk failed at the opening is reported only where it did
   pub failed : answer ≡ Err (fault.Open opens.Disk) → Rises (view disk).faults (view later).faults
   pub status : ending.status ≡ status_of (answer_of_acceptance chosen answer)
   pub told : TellsFault said old new ending.told (answer_of_acceptance chosen answer)

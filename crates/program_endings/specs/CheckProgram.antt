@@ -43,7 +43,7 @@ pub record CheckDone {D C W E : Type 0} (view : D → DiskView) (o : Way C) (cho
   pub answer : Result Counts RunFault
   pub checked : CheckAnswer o chosen F (view disk) c d (written a) (written b) ((b ≡ a) × (d ≡ c)) answer
   pub read : OnlyRead (view disk) (view later)
-  -- that the disk failed is told only where it did
+  -- that the disk failed is reported only where it did
   pub failed : answer ≡ Err (fault.Open opens.Disk) → Rises (view disk).faults (view later).faults
   pub status : ending.status ≡ status_of (answer_of_check chosen answer)
   pub told : TellsFault said old new ending.told (answer_of_check chosen answer)

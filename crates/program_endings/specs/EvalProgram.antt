@@ -59,21 +59,21 @@ whole_end (Err why) = Err why
 pub record EvaluatesTo {D C : Type 0} (o : Setting C) (view : D → DiskView) (disk : D) (c d : C) (a b : Option (List ℕ)) (nothing : Type 0) (answer : EvaluationAnswer) : Type 0 where
   -- the disk that it gives back is the same one, after the evaluation
   pub evaluated : IfOk answer (λ end. (back : D) × SameDisk (view disk) (view back) × EvaluationDone o (view disk) c d a b (view back) end.stopped_at end.counts)
-  -- that the disk failed, at the opening or later, is told only where it did
+  -- that the disk failed, at the opening or later, is reported only where it did
   pub unopened : IsErrOf answer (fault.Open opens.Disk) → FailedSince view disk
   pub failed : IsErrOf answer (fault.Host hosts.Disk) → FailedSince view disk
   pub fault : IfErr answer (TellsEvaluation o (view disk) c d a b nothing)
 
 -- What `eval` answers on a disk, and what it has written and done then.
 pub data EvalAnswer {D C O : Type 0} (o : Setting C) (view : D → DiskView) (disk : D) (c d : C) (contents : O → Option (List ℕ)) (old new : O) (answer : EvaluationAnswer) : Type 0 where
-  -- it greeted, and evaluated; where it came to its end that was told last
+  -- it greeted, and evaluated; where it came to its end, that was printed last
   evaluated : (first last : O) → Framed o.voice contents frame.Hello old first
       → EvaluatesTo o view disk c d (contents first) (contents last) ((last ≡ first) × (d ≡ c)) answer
       → IfOk answer (λ end. Framed o.voice contents frame.End last new) → IfErr answer (λ why. new ≡ last)
       → EvalAnswer o view disk c d contents old new answer
-  -- what stands first couldn't be told, and nothing was done
+  -- what stands first couldn't be printed, and nothing was done
   ungreeted : (why : RunFault) → answer ≡ Err why → o.voice.takes_memory ≡ true → IsUntold o.voice why → d ≡ c → EvalAnswer o view disk c d contents old new answer
-  -- what stands last couldn't be told
+  -- what stands last couldn't be printed
   unended : (why : RunFault) (first last : O) (end : EvalEnd) → answer ≡ Err why → o.voice.takes_memory ≡ true → IsUntold o.voice why → Framed o.voice contents frame.Hello old first
       → EvaluatesTo o view disk c d (contents first) (contents last) ((last ≡ first) × (d ≡ c)) (Ok end)
       → EvalAnswer o view disk c d contents old new answer

@@ -36,11 +36,11 @@ pub record ExportedFrom {D W : Type 0} (view : D → DiskView) (contents : W →
       → OnOk answer ((has_text format sheet ≡ true) × Appends (contents old) (contents new) (text_in format title sheet)))
   pub reads : InModel (view disk) ((sheet : Contents) → IsSheetImage sheet (bytes_on (view disk)) → OnOk answer (ReadsBack format sheet))
   pub found : InModel (view disk) (OnOk answer ((sheet : Contents) × IsSheetImage sheet (bytes_on (view disk))))
-  -- that there is no script is told only of a worksheet that has none
+  -- that there is no script is reported only of a worksheet that has none
   pub without : InModel (view disk) (IsErrOf answer exports.NoScript → (sheet : Contents) × IsSheetImage sheet (bytes_on (view disk)) × (has_text format sheet ≡ false))
   pub same : SameDisk (view disk) (view later)
   pub looks : InModel (view disk) (Looks (view disk).history (view later).history)
-  -- that the disk failed is told only where it did
+  -- that the disk failed is reported only where it did
   pub failed : IsErrOf answer (exports.Run (fault.Open opens.Disk)) → Rises (view disk).faults (view later).faults
   pub fault : IfErr answer (TellsExport format (view disk) (new ≡ old))
 

@@ -1,4 +1,4 @@
--- What is told where a program has no files of a worksheet, or no place of a closed stream.
+-- What is reported where a program has no files of a worksheet, or no place of a closed stream.
 use Rattle.std.specs.Prelude.{ℕ, List, codes}
 use Rattle.journal.specs.declared.opening.CreateCause.TheVariants as creates
 use Rattle.journal.specs.declared.opening.OpenCause.TheVariants as opens

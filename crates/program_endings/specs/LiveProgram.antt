@@ -29,7 +29,7 @@ pub record LivesOn {D C : Type 0} (V : Voice) (view : D → DiskView) (R : Relat
   -- the disk that it gives back is the same one, after all that came
   pub lived : IfOk answer (λ whole. (whole ≡ true) × ((back : D) × SameDisk (view disk) (view back)
       × LiveDone V R K W stream (view disk) c d a b (view back)))
-  -- that the disk failed, at the opening or later, is told only where it did
+  -- that the disk failed, at the opening or later, is reported only where it did
   pub unopened : IsErrOf answer (fault.Open opens.Disk) → FailedSince view disk
   pub failed : IsErrOf answer (fault.Host hosts.Disk) → FailedSince view disk
   pub fault : IfErr answer (TellsLive V R K W stream (view disk) c d a b nothing)
@@ -41,20 +41,20 @@ Framed V contents f old new = Appends (contents old) (contents new) (V.frame f) 
 -- What `live` answers on a disk, and what it has written and done then.
 pub data LiveAnswer {D C O : Type 0} (V : Voice) (view : D → DiskView) (R : Relation C) (K : Clock C) (W : Watch C)
     (stream : Option (List ℕ)) (disk : D) (c d : C) (contents : O → Option (List ℕ)) (old new : O) (answer : ProgramAnswer) : Type 0 where
-  -- it greeted, and lived; where it came to the end of its input that was told last
+  -- it greeted, and lived; where it came to the end of its input, that was printed last
   lived : (first last : O) → Framed V contents frame.Hello old first
       → LivesOn V view R K W stream disk c d (contents first) (contents last) ((last ≡ first) × (d ≡ c)) answer
       → IfOk answer (λ whole. Framed V contents frame.End last new) → IfErr answer (λ why. new ≡ last)
       → LiveAnswer V view R K W stream disk c d contents old new answer
-  -- what stands first couldn't be told, and nothing was done
+  -- what stands first couldn't be printed, and nothing was done
   ungreeted : (why : RunFault) → answer ≡ Err why → V.takes_memory ≡ true → IsUntold V why → d ≡ c
       → LiveAnswer V view R K W stream disk c d contents old new answer
-  -- what stands last couldn't be told
+  -- what stands last couldn't be printed
   unended : (why : RunFault) (first last : O) → answer ≡ Err why → V.takes_memory ≡ true → IsUntold V why → Framed V contents frame.Hello old first
       → LivesOn V view R K W stream disk c d (contents first) (contents last) ((last ≡ first) × (d ≡ c)) (Ok true)
       → LiveAnswer V view R K W stream disk c d contents old new answer
 
--- A fault is told last of all, where the voice tells it and the output takes it.
+-- A fault is printed last of all, where the voice has a text for it and the output takes it.
 abbrev pub LastTold : {O : Type 0} → Voice → (O → Option (List ℕ)) → O → O → Bool → ProgramAnswer → Type 0
 LastTold V contents old new told (Ok whole) = new ≡ old
 LastTold V contents old new told (Err why) = (V.takes_memory ≡ false → new ≡ old) × (told ≡ true → Appends (contents old) (contents new) (V.fault why))

@@ -65,7 +65,7 @@ pub record ShowAnswer {D W : Type 0} (view : D → DiskView) (contents : W → O
       → IfOk answer (λ whole. Appends (contents old) (contents new) (sheet_text sheet))))
   pub found : IfOk files (λ disk. InModel (view disk)
       (IfOk answer (λ whole. (sheet : Contents) × IsSheetImage sheet (bytes_on (view disk)))))
-  -- that the disk failed is told only where it did
+  -- that the disk failed is reported only where it did
   pub failed : IfOk files (λ disk. IsErrOf answer (fault.Open opens.Disk) → FailedSince view disk)
   pub fault : IfOk files (λ disk. IfErr answer (TellsShow (view disk) (new ≡ old)))
 
@@ -78,7 +78,7 @@ pub record RunAnswer {D C : Type 0} (view : D → DiskView) (R : Relation C)
   pub ran : IfOk answer (λ whole. (whole ≡ true) × ((back : D) × SameDisk (view disk) (view back)
       × IfSome stream (λ script. RunDone R script (view disk) c d a b (view back))))
   pub short : IfOk answer (λ whole. IfSome stream (λ script. length script ≤ longest_standard_input))
-  -- that the disk failed, at the opening or later, is told only where it did
+  -- that the disk failed, at the opening or later, is reported only where it did
   pub unopened : IsErrOf answer (fault.Open opens.Disk) → FailedSince view disk
   pub failed : IsErrOf answer (fault.Host hosts.Disk) → FailedSince view disk
   pub fault : IfErr answer (TellsRun R stream (view disk) c d a b nothing)

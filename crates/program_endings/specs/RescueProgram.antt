@@ -48,7 +48,7 @@ WritesKept contents old new kept damage (Ok u) =
 WritesKept contents old new kept damage (Err why) =
     (why ≡ rescues.Run fault.Output → ⊥) → new ≡ old
 
--- How `rescue` ends on a new disk: what becomes of the disk, what is written and told, and the status.
+-- How `rescue` ends on a new disk: what becomes of the disk, what is written to both streams, and the status.
 abbrev pub RescueDone : {D N W E : Type 0} → (N → DiskView) → N → Rescued D
     → (W → Option (List ℕ)) → W → W → (E → Option (List ℕ)) → E → E → Ending → Type 0
 RescueDone {N = N} view disk found written a b said old new ending =

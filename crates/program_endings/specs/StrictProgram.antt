@@ -14,7 +14,7 @@ use Rattle.offline_programs.specs.declared.fault.RunFault.TheVariants as fault
 use Rattle.sheet_programs.specs.declared.running.Ran.{Ran}
 use Rattle.program_endings.specs.declared.ending.Ending.{Ending}
 
--- what the program answers: the line behind which it stopped, if it did, or its fault
+-- what the program answers: the line after which it stopped, if it did, or its fault
 abbrev pub StrictAnswer : Type 0
 StrictAnswer = Result (Option ℕ) RunFault
 
@@ -46,7 +46,7 @@ pub record StrictEnded {D C E : Type 0} (view : D → DiskView) (R : Relation C)
   pub ran : IfOk answer (λ stopped. (back : D) × SameDisk (view disk) (view back)
       × IfSome stream (λ script. StrictDone R script (view disk) c d a b (view back) stopped))
   pub short : IfOk answer (λ stopped. IfSome stream (λ script. length script ≤ longest_standard_input))
-  -- that the disk failed, at the opening or later, is told only where it did
+  -- that the disk failed, at the opening or later, is reported only where it did
   pub unopened : IsErrOf answer (fault.Open opens.Disk) → FailedSince view disk
   pub failed : IsErrOf answer (fault.Host hosts.Disk) → FailedSince view disk
   pub fault : IfErr answer (TellsStrict R stream (view disk) c d a b nothing)

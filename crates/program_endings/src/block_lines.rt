@@ -90,12 +90,11 @@ fn write_stream<W: Write>(stream: &[u8], out: &mut W) -> Result<bool, RunFault>
 
 /// Writes the outer blocks of the stream that a reader gives, a line each: where it starts, where the
 /// next byte stands, and its tree. Then a line for the first fault of the stream, or for the block that
-/// is open at its end. Tells whether there is neither. (docs/PROTOCOL.md has the lines.)
+/// is open at its end. It returns whether there is neither. (docs/PROTOCOL.md has the lines.)
 ///
-/// The input is read whole before anything is written, and no memory is taken behind that. `Input` where
-/// the reader fails, an interruption included, `InputTooLong` where it gives more than `LONGEST_STANDARD_INPUT` bytes,
-/// and `OutOfMemory`: nothing was written then. `Output` where the writer fails: a part of the text may
-/// have gone out.
+/// The input is read whole before anything is written, and no memory is taken after that. `Input` where the reader
+/// fails, an interruption included, `InputTooLong` where it gives more than `LONGEST_STANDARD_INPUT` bytes, and
+/// `OutOfMemory`: nothing was written then. `Output` where the writer fails: a part of the text may have gone out.
 pub fn blocks<R: Read, W: Write>(
     alloc: Global,
     reader: &mut R,
@@ -106,7 +105,7 @@ pub fn blocks<R: Read, W: Write>(
         × Printed limits stream text whole
         × Appends (W.contents writer.old) (W.contents writer.new) text)) }
 
-    // An input that is too long is told as such, whatever else would go wrong with its text.
+    // An input that is too long is reported as such, whatever else would go wrong with its text.
     ensures short { IfOk result
         (λ whole. IfSome (R.remaining reader.old) (λ stream. length stream ≤ longest_standard_input)) }
     ensures output_short { IsErrOf result RunFault.Output

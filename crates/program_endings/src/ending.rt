@@ -10,9 +10,9 @@ use std::io::{Read, Write};
 /// How the program ended.
 #[derive(Clone, Copy, Debug, PartialEq, Eq)]
 pub struct Ending {
-    /// The exit status: 0 where all was done or help was shown; 1 where the stream has a fault or an
-    /// open block, or where the program met a fault; 2 where the words ask for nothing that there is; 3
-    /// where a strict run stopped.
+    /// The exit status: 0 where all was done or help was shown; 1 where the program met a fault, the
+    /// stream has one or an open block, a check isn't passed, or an evaluation left a field without an
+    /// answer; 2 where the words ask for nothing that there is; 3 where a strict run stopped.
     pub status: u8,
     /// Whether all that it had to say on standard error went out.
     pub told: bool,
@@ -24,7 +24,7 @@ pub(crate) fn ended(status: u8, told: bool) -> Ending
     Ending { status, told }
 }
 
-/// Ends a program by what it answered, whether all is well or its fault, which is told on a line.
+/// Ends a program by what it answered, whether all is well or its fault, which is printed on a line.
 pub fn end_program<E: Write>(answer: Result<bool, RunFault>, errors: &mut E) -> Ending
     ensures status { result.status ≡ status_of answer }
     ensures told { TellsFault E.contents errors.old errors.new result.told answer }

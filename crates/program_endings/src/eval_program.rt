@@ -23,7 +23,7 @@ use tellings::{Counts, Frame, Overs, Tells};
 /// Where an evaluation came to its end.
 #[derive(Clone, Copy, Debug, PartialEq, Eq)]
 pub struct EvalEnd {
-    /// The line behind which it stopped, where it did.
+    /// The line after which it stopped, where it did.
     pub stopped_at: Option<u64>,
     /// What it came to.
     pub counts: Counts,
@@ -103,7 +103,7 @@ fn evaluate_framed<W: Write, D: Disk, S: Sources, T: Tells>(
     }
 }
 
-/// Ends the program where an evaluation came to its end: where it stopped is told on a line.
+/// Ends the program where an evaluation came to its end: where it stopped is printed on a line.
 fn end_evaluated<E: Write>(end: EvalEnd, errors: &mut E) -> Ending
     ensures status { result.status ≡ evaluation_status (Ok end) }
     ensures told { TellsStop E.contents errors.old errors.new result.told (Ok end.stopped_at) }
@@ -114,7 +114,7 @@ fn end_evaluated<E: Write>(end: EvalEnd, errors: &mut E) -> Ending
     }
 }
 
-/// Ends the program by what it answered: a fault is told on both streams.
+/// Ends the program by what it answered: a fault is printed on both streams.
 fn end_evaluation<W: Write, E: Write, T: Tells>(
     answer: Result<EvalEnd, RunFault>,
     tells: &T,
@@ -149,7 +149,7 @@ fn end_on<W: Write, E: Write, D: Disk, S: Sources, T: Tells>(
 }
 
 /// The whole program `eval` on its files, or on why they weren't opened: what comes of each field goes to
-/// `output`, brought out at once, and the counts at the end. The line of a fault goes to `errors`, and so
+/// `output`, flushed at once, and the counts at the end. The line of a fault goes to `errors`, and so
 /// does that of the place where a strict evaluation stopped.
 pub fn run_evaluation<W: Write, E: Write, D: Disk, S: Sources, T: Tells>(
     alloc: Global,

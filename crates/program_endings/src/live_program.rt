@@ -75,7 +75,7 @@ fn tell_last<W: Write, T: Tells>(answer: Result<bool, RunFault>, tells: &T, outp
     }
 }
 
-/// Ends the program by what it answered: a fault is told on both streams.
+/// Ends the program by what it answered: a fault is printed on both streams.
 pub(crate) fn end_told<W: Write, E: Write, T: Tells>(
     answer: Result<bool, RunFault>,
     tells: &T,
@@ -117,7 +117,7 @@ fn end_live<R: Read, W: Write, E: Write, D: Disk, S: Sources, T: Tells>(
 
 /// The whole program `live` on its files, or on why they weren't opened: its lines come from `input`,
 /// which is read only where there are files, and what comes of them and of interpreters goes to `output`,
-/// brought out at once. The line of a fault goes to `errors`.
+/// flushed at once. The line of a fault goes to `errors`.
 pub fn run_live<R: Read, W: Write, E: Write, D: Disk, S: Sources, T: Tells>(
     alloc: Global,
     input: &mut R,
@@ -127,7 +127,7 @@ pub fn run_live<R: Read, W: Write, E: Write, D: Disk, S: Sources, T: Tells>(
     files: Result<D, FilesFault>,
     sources: &mut S,
 ) -> Ending
-    // It is told before a line is read.
+    // It is printed before a line is read.
     ensures unopened { IfErr files (λ why. (input.new ≡ input.old) × (sources.new ≡ sources.old)
         × LastTold T.voice W.contents output.old output.new result.told (Err (printed.no_files why))
         × (result.status ≡ 1)

@@ -141,7 +141,7 @@ pub fn run_script<R: Read, W: Write, E: Write, D: Disk, C: Children>(
     files: Result<D, FilesFault>,
     children: &mut C,
 ) -> Ending
-    // It is told before the script is read.
+    // It is printed before the script is read.
     ensures unopened { IfErr files (λ why. (input.new ≡ input.old) × (output.new ≡ output.old)
         × (children.new ≡ children.old) × (result.status ≡ 1)
         × TellsFault E.contents errors.old errors.new result.told (Err (printed.no_files why))) }

@@ -15,7 +15,7 @@ use sheet_programs::{Ran, run_strict};
 use std::alloc::Global;
 use std::io::{Read, Write};
 
-/// Ends the program by where a strict run stopped, which is told on a line, or by its fault.
+/// Ends the program by where a strict run stopped, which is printed on a line, or by its fault.
 fn end_strict<D: Disk, E: Write>(answer: Result<Ran<D>, RunFault>, errors: &mut E) -> Ending
     ensures status { result.status ≡ strict_status (answer_of_strict answer) }
     ensures told { TellsStop E.contents errors.old errors.new result.told (answer_of_strict answer) }
@@ -48,7 +48,7 @@ fn run_strict_on<R: Read, W: Write, E: Write, D: Disk, C: Children>(
 }
 
 /// The whole program `run --strict` on its files, or on why they weren't opened: as `run_script`, but it
-/// stops behind the first line that goes wrong, whose number is told on a line of `errors`.
+/// stops after the first line that goes wrong, whose number is printed on a line of `errors`.
 pub fn run_strictly<R: Read, W: Write, E: Write, D: Disk, C: Children>(
     alloc: Global,
     input: &mut R,
@@ -57,7 +57,7 @@ pub fn run_strictly<R: Read, W: Write, E: Write, D: Disk, C: Children>(
     files: Result<D, FilesFault>,
     children: &mut C,
 ) -> Ending
-    // It is told before the script is read.
+    // It is printed before the script is read.
     ensures unopened { IfErr files (λ why. (input.new ≡ input.old) × (output.new ≡ output.old)
         × (children.new ≡ children.old) × (result.status ≡ 1)
         × TellsFault E.contents errors.old errors.new result.told (Err (printed.no_files why))) }

@@ -31,7 +31,7 @@ fn no_place(why: HoldFault) -> RunFault
     }
 }
 
-/// Ends a program that can't hold the place of a closed stream: the fault is told on a line.
+/// Ends a program that can't hold the place of a closed stream: the fault is printed on a line.
 pub fn end_unheld<E: Write>(why: HoldFault, errors: &mut E) -> Ending
     ensures status { result.status ≡ 1 }
     ensures told { TellsFault E.contents errors.old errors.new result.told (Err (printed.no_place why)) }

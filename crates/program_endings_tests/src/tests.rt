@@ -1,5 +1,5 @@
-//! What stands in files, and readers and writers that fail or count. What is printed, told and refused where
-//! they work are cases of `programs`, `data/steps.sh`.
+//! What stands in files, and readers and writers that fail or count. What is printed, reported and refused
+//! where they work are cases of `programs`, `data/steps.sh`.
 mod crashes;
 mod disk_calls;
 mod file_calls;

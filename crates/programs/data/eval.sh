@@ -115,10 +115,13 @@ cat >wanted <<'END'
 {"life":1,"line":1,"type":"asked"}
 {"life":1,"output":{"items":[],"kind":"format","tag":"verbatim"},"session":"a","shown":"","type":"banner"}
 {"id":1,"life":1,"output":{"items":["x 1"],"kind":"format","tag":"verbatim"},"prompt":"> ","session":"a","shown":"x 1","type":"answered"}
+{"answered":1,"type":"counted","unanswered":0}
 {"type":"end"}
 status 0
 END
 compare 'as JSON' "$(answer eval --json sheet </dev/null)" "$(cat wanted)"
+sed 's/"answered":1,/"answered":1,"over":0,"passed":0,/' wanted >wanted.time
+compare 'as JSON, with a limit' "$(answer eval --json --timeout 60 sheet </dev/null)" "$(sed 's/x 1/x 2/g' wanted.time)"
 compare 'as JSON, no worksheet' "$(answer eval --json missing </dev/null)" "$(printf '{"name":"Disk","number":32,"type":"fault"}\nfault 32 Disk\nstatus 1')"
 
 # Many fields.

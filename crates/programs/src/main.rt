@@ -20,8 +20,8 @@ fn run_steps(rt: &HostRuntime, program: &str, script: &str) -> io::Result<u8> {
     }
 }
 
-/// Runs the script on the input over a worksheet in memory, and gives the status. A fault is told as
-/// `tmhost` tells its own.
+/// Runs the script on the input over a worksheet in memory, and gives the status. A fault is printed as
+/// `tmhost` prints its own.
 fn run_in_memory(rt: &HostRuntime) -> u8 {
     let ran = run_memory(rt.alloc(), &mut rt.stdin(), &mut rt.stdout());
     let answer = match ran {

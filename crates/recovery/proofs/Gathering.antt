@@ -1,4 +1,4 @@
--- Records that are gathered, one behind another.
+-- Records that are gathered, one after another.
 use Rattle.std.proofs.Common.{◌≡◌, ℕ, List, [], ◌∷◌, ◌++◌, Result, Ok, Err, ◌+◌, ◌-◌, ◌<◌, suc, refl, sym, ap, ◌∙◌, subst, arith, append_assoc, append-nil, map}
 use Rattle.std.specs.List.{AllByRecursion}
 use Rattle.worksheet.specs.declared.op.Op.{Op}
@@ -31,7 +31,7 @@ ops_append : (a b : List Record) → map op_in (a ++ b) ≡ map op_in a ++ map o
 ops_append [] b = refl
 ops_append (r ∷ a) b = ap (λ (l : List Op). op_in r ∷ l) (ops_append a b)
 
--- more behind those that were gathered
+-- more after those that were gathered
 pub gathered_on : (a b : List Op) (x y z : List Record) → Gathered a x y → Gathered b y z → Gathered (a ++ b) x z
 gathered_on a b x y z one two = (
   two.0 ∙ ap (λ (l : List Op). l ++ b) one.0 ∙ append_assoc (map op_in x) a b,

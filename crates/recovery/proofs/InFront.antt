@@ -28,7 +28,7 @@ is_below n id less = grind (arith, nat_tests, less)
 is_not_below : (n id : ℕ) → id ≤ n → nat_lt n id ≡ false
 is_not_below n id more = grind (arith, nat_tests, more)
 
--- those that are left tell of each number up to this one what they told before
+-- those that are left give for each number up to this one what they gave before
 abbrev pub TellsAlike : ℕ → List ℕ → List ℕ → Type 0
 TellsAlike id old new = (other : ℕ) → other ≤ id → last_below 0 other new ≡ last_below 0 other old
 
@@ -49,7 +49,7 @@ in_front_of id last old new left alike is less =
 pub none_in_front : (id : ℕ) (old : List ℕ) → TellsAlike id old [] → 0 ≡ last_below 0 id old
 none_in_front id old alike = alike id (omega arith)
 
--- behind those that are left it stands as it would behind them all
+-- after those that are left it stands as it would after them all
 pub put_behind : (id : ℕ) (old new : List ℕ) → TellsAlike id old new → (other : ℕ) → last_below 0 other (new ++ id ∷ []) ≡ last_below 0 other (old ++ id ∷ [])
 put_behind id old new alike other = rw (below_push 0 other id new, below_push 0 other id old) (go (nat_lt id other) refl)
   where
@@ -62,7 +62,7 @@ put_behind id old new alike other = rw (below_push 0 other id new, below_push 0 
 same_both : (n m : ℕ) → (n == m) ≡ false → (m == n) ≡ false
 same_both n m e = grind (arith, nat_tests, e)
 
--- where a number isn't among those in front, what is behind it doesn't matter
+-- where a number isn't among those in front, what is after it doesn't matter
 before_it : (found id : ℕ) (front rest : List ℕ) → Lacks id front → smaller_before found id (front ++ id ∷ rest) ≡ last_below found id front
 before_it found id [] rest lacks = let here : (id == id) ≡ true = grind (arith, nat_tests) in rw here refl
 before_it found id (n ∷ front) rest lacks = rw lacks.0 (go (nat_lt n id) (before_it n id front rest lacks.1) (before_it found id front rest lacks.1))

@@ -1,4 +1,4 @@
--- The room that the records of ops take, one behind another.
+-- The room that the records of ops take, one after another.
 use Rattle.std.proofs.Common.{◌≡◌, ℕ, List, [], ◌∷◌, ◌++◌, Option, Some, None, ◌+◌, ◌-◌, ◌<◌, ◌≤◌, ◌↔◌, true, false, min, length, refl, sym, ap, ◌∙◌, subst, arith, append_assoc, length-append, IsTrue}
 use Rattle.std.specs.Prelude.{is_some}
 use Rattle.std.specs.List.{AllByRecursion}
@@ -38,7 +38,7 @@ measures_wide o left len is short wide = λ room. omega (arith, is, short, wide,
 pub measures_one : (o : Op) (left len : ℕ) → len ≡ min (length (code_of o)) longest_told → len ≤ longest_payload → len + 5 ≤ left → Measures (o ∷ []) left (Some (left - 5 - len))
 measures_one o left len is short fits = omega (arith, is, short, fits, size_one o)
 
--- One behind another.
+-- One after another.
 
 pub measures_none : (x : ℕ) → Measures [] x (Some x)
 measures_none x = omega arith
@@ -86,7 +86,7 @@ has_room room sheet None wide one = ((λ no. absurd (let wrong : false ≡ true 
 
 -- A field.
 
--- the op that makes a field behind others
+-- the op that makes a field after others
 abbrev new_op : List Field → Field → Op
 new_op fields f = op.New (smaller_before 0 f.id (numbers fields)) f.session f.input
 

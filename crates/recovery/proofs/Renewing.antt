@@ -1,4 +1,4 @@
--- A store whose worksheet is written anew.
+-- A store whose worksheet is rewritten.
 use Rattle.std.proofs.Common.{◌≡◌, ⊎_elim, ℕ, true, false, List, Some, Result, Ok, Err, refl, sym, ap, ◌∙◌, subst, IsTrue, arith}
 use Rattle.std.specs.List.{AllByRecursion}
 use Rattle.disk_model.specs.Disk.{DiskView, InModel, LeavesOnly, SameDisk}
@@ -21,7 +21,7 @@ use Rattle.recovery.specs.inside.Base.{disk_of, is_closed, AnewAnswers, KeepsIn,
 use Rattle.recovery.proofs.Kept.{outside}
 use Rattle.recovery.proofs.Lengths.{rewrites_are_short}
 
--- the ops that make a worksheet anew make it
+-- the ops that make a worksheet again make it
 pub makes_anew : (ops : List Op) (sheet : Contents) → Makes ops sheet → AllByRecursion IsTyped (rewrite_of sheet) → Makes (rewrite_of sheet) sheet
 makes_anew ops sheet makes typed =
     let is : IsWorksheet sheet = subst IsWorksheet (sym makes.is) (ops_make_worksheets ops makes.allowed) in

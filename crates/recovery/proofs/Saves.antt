@@ -28,7 +28,7 @@ being_laid payloads h0 h1 h2 created laid =
     goes_on (IsBeingLaid h0.now payloads) h0 h1 h2 (being_created payloads h0 h1 created)
     (weakens (EitherStands [] payloads) (IsBeingLaid h0.now payloads) h1 h2 (λ i stands. inr stands) laid)
 
--- the payloads of the ops that make a worksheet anew
+-- the payloads of the ops that make a worksheet again
 module _ (ops : List Op) (sheet : Contents) (makes : Makes ops sheet) (typed : AllByRecursion IsTyped (rewrite_of sheet)) where
   sheet_stands : (i : Image) → ImageStandsFor i (codes_of (rewrite_of sheet)) → IsSheetImage sheet i
   sheet_stands i stands = record { ops = rewrite_of sheet; stands = stands; makes = makes_anew ops sheet makes typed }

@@ -1,4 +1,4 @@
--- Payloads taken one behind another.
+-- Payloads taken one after another.
 use Rattle.std.proofs.Common.{◌≡◌, ℕ, List, [], ◌∷◌, ◌++◌, refl, sym, ap, ◌∙◌, subst, append_assoc}
 use Rattle.std.proofs.lemmas.List.{map-append}
 use Rattle.disk_model.specs.Disk.{InModel}

@@ -9,7 +9,8 @@ use Rattle.recovery.specs.Sheets.{StoreView, SameStore, KeepsOps, codes_of}
 use Rattle.recovery.specs.declared.fault.CheckpointFault.{CheckpointFault}
 use Rattle.recovery.specs.declared.fault.CheckpointFault.TheVariants as faults
 
--- an area has room for the payloads of the ops that make a worksheet anew; none of them is too long (the law `RewritesAreShort`)
+-- an area has room for the payloads of the ops that make a worksheet again; none of them is too long (the law
+-- `RewritesAreShort`)
 abbrev pub HasRoomAnew : ℕ → Contents → Type 0
 HasRoomAnew room sheet = FitsAnew room (codes_of (rewrite_of sheet))
 

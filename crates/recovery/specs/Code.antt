@@ -24,11 +24,11 @@ kind_of (op.Ids next) = 9
 abbrev pub number : ℕ → List ℕ
 number n = to_be_bytes w32 n
 
--- bytes behind their length, which has one byte
+-- bytes after their length, which has one byte
 abbrev pub short : List ℕ → List ℕ
 short bytes = length bytes ∷ bytes
 
--- bytes behind their length, which has two bytes
+-- bytes after their length, which has two bytes
 abbrev pub long : List ℕ → List ℕ
 long bytes = to_be_bytes w16 (length bytes) ++ bytes
 
@@ -36,7 +36,7 @@ abbrev pub flag : Bool → ℕ
 flag false = 0
 flag true = 1
 
--- what stands behind the first byte
+-- what follows the first byte
 abbrev pub parts_of : Op → List ℕ
 parts_of (op.Session name tab words) = short name ++ flag tab ∷ length words ∷ flat_map long words
 parts_of (op.New after session input) = number after ++ (short session ++ long input)

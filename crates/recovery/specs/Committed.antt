@@ -23,8 +23,8 @@ LeftBy old new op faults.Disk = (new.sheet.contents ≡ old.sheet.contents) × (
     × Rises old.disk.faults new.disk.faults
 LeftBy old new op faults.Closed = SameStore old new
 
--- the op was added: it stands behind those of the worksheet, and its record, which is durable,
--- behind those on the disk
+-- the op was added: it comes after those of the worksheet, and its record, which is durable,
+-- after those on the disk
 pub record Adds (old new : StoreView) (op : Op) : Type 0 where
   pub still_open : new.closed ≡ false
   pub end : new.end ≡ old.end + 5 + length (code_of op)

@@ -70,8 +70,8 @@ abbrev pub RescueOfWhole : Type 0
 RescueOfWhole = (i : Image) (sheet : Contents) (ops : List Op) (damage : Option ℕ)
     → IsSheetImage sheet i → IsRescued i ops damage → (sheet_of ops ≡ sheet) × (damage ≡ None)
 
--- The ops that make a worksheet anew fit records, where ops that do have made it: each answer among them is that of one of those, and
--- every other op is short.
+-- The ops that make a worksheet again fit records, where the ops that made it do. Each answer among them is that of one of those, and every
+-- other op is short.
 abbrev pub RewritesAreShort : Type 0
 RewritesAreShort = (ops : List Op) (sheet : Contents) → Makes ops sheet
     → ArePayloads longest_payload (codes_of (rewrite_of sheet))

@@ -11,7 +11,7 @@ use Rattle.recovery.specs.Code.{IsPayloadOf}
 use Rattle.recovery.specs.Sheets.{codes_of, Makes}
 use Rattle.recovery.specs.declared.rescuing.Rescued.{Rescued}
 
--- Of the payloads that are left behind these ops none is taken: none is left, or the first one is of no
+-- Of the payloads that are left after these ops none is taken: none is left, or the first one is of no
 -- op that is allowed there.
 abbrev pub StopsBehind : List Op → List (List ℕ) → Type 0
 StopsBehind ops [] = Unit {0}
@@ -23,9 +23,9 @@ abbrev pub stops_at : List (List ℕ) → Bool → ℕ → Option ℕ
 stops_at [] damaged gate = damage_at damaged gate
 stops_at (payload ∷ left) damaged gate = Some gate
 
--- The whole records of an image, up to the first gate that is closed or damaged, are those of these
--- ops, each of which is allowed behind those before it, and of payloads that are left. It stops there:
--- at the gate of the first one that is left, else at the gate behind all whole records.
+-- The whole records of an image, up to the first gate that is closed or damaged, are those of these ops
+-- and then of payloads that are left. Each op is allowed after those before it. It stops there: at the
+-- gate of the first one that is left, else at the gate after all whole records.
 pub record IsRescued (i : Image) (ops : List Op) (damage : Option ℕ) : Type 0 where
   pub left : List (List ℕ)
   pub damaged : Bool

@@ -18,7 +18,7 @@ use Rattle.recovery.specs.Code.{code_of, IsTyped, IsPayloadOf}
 abbrev pub codes_of : List Op → List (List ℕ)
 codes_of ops = map code_of ops
 
--- the sheet is what these ops make of an empty worksheet, which allows each of them behind those
+-- the sheet is what these ops make of an empty worksheet, which allows each of them after those
 -- before it; each has a payload that a record may have
 pub record Makes (ops : List Op) (sheet : Contents) : Type 0 where
   pub typed : AllByRecursion IsTyped ops
@@ -41,7 +41,7 @@ StandsWithOrWithout ops o i =
 abbrev pub IsEither : List Op → Op → Image → Type 0
 IsEither ops o i = IsSheetImage (sheet_of ops) i ⊎ IsSheetImage (sheet_of (ops ++ o ∷ [])) i
 
--- The payloads before this gate are those of allowed ops; the payload behind it is of no op that is
+-- The payloads before this gate are those of allowed ops; the payload after it is of no op that is
 -- allowed next.
 pub record IsRefusedAt (payloads : List (List ℕ)) (gate : ℕ) : Type 0 where
   pub ops : List Op
@@ -61,7 +61,7 @@ TellsOfSheet i causes.NotASheet = Tells i causes.NotASheet
 TellsOfSheet i causes.Disk = Unit {0}
 TellsOfSheet i causes.OutOfMemory = Unit {0}
 
--- a store as contracts see it: its disk, while it is open the offset of the closed gate behind the
+-- a store as contracts see it: its disk, while it is open the offset of the closed gate after the
 -- disk's payloads, its worksheet, and whether it is closed
 pub record StoreView : Type 0 where
   pub disk : DiskView
@@ -70,7 +70,7 @@ pub record StoreView : Type 0 where
   pub closed : Bool
 
 -- The store isn't closed, and keeps these ops: its disk stands for their payloads, which are
--- durable, its end is the gate behind them, and they make its worksheet.
+-- durable, its end is the gate after them, and they make its worksheet.
 pub record KeepsOps (store : StoreView) (ops : List Op) : Type 0 where
   pub still_open : store.closed ≡ false
   pub keeps : Keeps store.disk.history store.end (codes_of ops)

@@ -1,4 +1,4 @@
-//! Behind which field each one is made anew, found in one pass over all of them.
+//! After which field each one is made again, found in one pass over all of them.
 ghost use Rattle.std.specs.Prelude.{◌≡◌, ◌∷◌, ◌++◌, [], ℕ, IfOk, OnOk};
 ghost use Rattle.worksheet.specs.Edits.{HasNumbersApart};
 ghost use Rattle.recovery.specs.inside.Afters.{AreAfters, last_below};
@@ -7,8 +7,8 @@ use block_tree::OutOfMemory;
 use std::alloc::Global;
 use worksheet::Sheet;
 
-// Puts a number behind those that are below it, and drops the others: of any number, the last below it
-// is the one that it were if none had been dropped. Gives the one in front of it, or 0.
+// Puts a number after those that are below it, and drops the others: of any number, the last below it
+// is what it would be if none had been dropped. Gives the one in front of it, or 0.
 fn put_number(smaller: &mut Vec<u32>, id: u32) -> Result<u32, OutOfMemory>
     ensures front { IfOk result (λ after. after ≡ last_below 0 id smaller.old.items) }
     ensures behind { OnOk result ((other : ℕ) → last_below 0 other smaller.new.items

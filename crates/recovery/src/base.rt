@@ -1,4 +1,4 @@
-// What a store stands on.
+//! What a store stands on.
 ghost use Rattle.std.specs.Prelude.{◌≡◌, ◌+◌, ◌++◌, ◌∷◌, ◌↔◌, [], List, ℕ, length, false, true, OnOk, OnErr, IsTrue, vec_capacity};
 ghost use Rattle.disk_model.specs.Disk.{InModel, LeavesOnly, SameDisk, Rises, bytes_on};
 ghost use Rattle.journal.specs.Kept.{BeforeOrAfter, EitherStands, Fits, FitsAnew, other_of};

@@ -41,7 +41,7 @@ pub enum CommitFault {
 /// Why a checkpoint wasn't made. But for `Disk` nothing has changed.
 #[derive(Clone, Copy, Debug, PartialEq, Eq)]
 pub enum CheckpointFault {
-    /// The records that make the worksheet anew don't fit in an area.
+    /// The records that make the worksheet again don't fit in an area.
     Full,
     /// A growth was refused.
     OutOfMemory,

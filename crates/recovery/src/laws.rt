@@ -64,7 +64,7 @@ pub fn rescue_of_whole()
     journal::laws::one_front();
 }
 
-/// The ops that make a worksheet anew fit records, so a checkpoint lacks nothing but room or memory.
+/// The ops that make a worksheet again fit records, so a checkpoint lacks nothing but room or memory.
 pub fn rewrites_are_short()
     ensures { RewritesAreShort }
 {}

@@ -1,4 +1,4 @@
-//! The room that the records which make a worksheet anew take, told without making them.
+//! The room that the records of a rewritten worksheet take, counted without making them.
 ghost use Rattle.std.specs.Prelude.{◌≡◌, ◌↔◌, ◌≤◌, ◌-◌, ◌∷◌, [], ℕ, List, map, min, length, is_some, IfSome, IsTrue};
 ghost use Rattle.std.specs.List.{AllByRecursion};
 ghost use Rattle.worksheet.specs.declared.op.Op.{Op};
@@ -122,7 +122,7 @@ fn behind_fields(left: u64, sheet: &Sheet) -> Option<u64>
     behind_ids(rest, next, last)
 }
 
-// The records that make a worksheet anew.
+// The records that make a worksheet again.
 fn behind_all(left: u64, sheet: &Sheet) -> Option<u64>
     requires some { 1 ≤ sheet.now.contents.next }
     requires records { AllByRecursion HasRecord (rewrite_of sheet.now.contents) }
@@ -134,7 +134,7 @@ fn behind_all(left: u64, sheet: &Sheet) -> Option<u64>
     }
 }
 
-/// The bytes of the records that make a worksheet anew, where an area of so many bytes has room for
+/// The bytes of the records that make a worksheet again, where an area of so many bytes has room for
 /// them. It takes no memory.
 pub(crate) fn len_anew(room: u64, sheet: &Sheet) -> Option<u64>
     requires some { 1 ≤ sheet.now.contents.next }
@@ -143,7 +143,7 @@ pub(crate) fn len_anew(room: u64, sheet: &Sheet) -> Option<u64>
     ensures len { IfSome result (λ len. len
         ≡ length (records (codes_of (rewrite_of sheet.now.contents)))) }
 {
-    // A header, and the gate behind the records.
+    // A header, and the gate after the records.
     if room < 11 {
         return None;
     }

@@ -1,4 +1,4 @@
-// The worksheet of payloads.
+//! The worksheet of payloads.
 ghost use Rattle.std.specs.Prelude.{◌≡◌, ◌≤◌, [], List, ℕ, IfOk, IfErr, OnErr, OnOk, IsErrOf, MatchResult};
 ghost use Rattle.disk_model.specs.Disk.{InModel, Looks, Rises, SameDisk};
 ghost use Rattle.worksheet.specs.declared.op.Op.{Op};
@@ -14,8 +14,8 @@ use journal::{Journal, Next, OpenCause, OpenFault, Opening, Payload};
 use std::alloc::Global;
 use worksheet::Sheet;
 
-/// Does what a payload says. A payload that is no op's, or whose op is refused, is told as `Damaged`
-/// with its gate, and changes nothing.
+/// Does what a payload says. A payload that is no op's, or whose op is refused, is reported as
+/// `Damaged` with its gate, and changes nothing.
 pub(crate) fn take(alloc: Global, sheet: &mut Sheet, payload: &Payload) -> Result<(), OpenCause>
     requires { IsPayload longest_payload payload.now.bytes }
     ensures taken { (ops : List Op) → Makes ops sheet.old.contents

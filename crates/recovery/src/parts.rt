@@ -1,4 +1,4 @@
-// The parts of a payload, read from left to right.
+//! The parts of a payload, read from left to right.
 ghost use Rattle.std.specs.Prelude.{◌≡◌, length, IfSome, IfOk};
 ghost use Rattle.std.specs.List.{AllByRecursion};
 ghost use Rattle.recovery.specs.Code.{IsShort, IsLong};
@@ -17,7 +17,7 @@ fn front_of(len: usize, bytes: &[u8]) -> Option<(&[u8], &[u8])>
     Some(bytes.split_at(len))
 }
 
-/// A number, and what stands behind it.
+/// A number, and what follows it.
 #[tactic(auto, unfolding(crate::specs::inside::Reading::number_at))]
 pub(crate) fn number_of(bytes: &[u8]) -> Option<(u32, &[u8])>
     ensures { ReadsPart (λ x. (x.0, x.1.now)) result (number_at bytes.now) }
@@ -27,7 +27,7 @@ pub(crate) fn number_of(bytes: &[u8]) -> Option<(u32, &[u8])>
     Some((number, rest))
 }
 
-/// Bytes behind a length of one byte, and what stands behind them.
+/// Bytes after a length of one byte, and what follows them.
 #[tactic(auto, unfolding(crate::specs::inside::Reading::short_at))]
 pub(crate) fn short_of(bytes: &[u8]) -> Option<(&[u8], &[u8])>
     ensures read { ReadsPart (λ x. (x.0.now, x.1.now)) result (short_at bytes.now) }
@@ -39,7 +39,7 @@ pub(crate) fn short_of(bytes: &[u8]) -> Option<(&[u8], &[u8])>
     front_of(usize::from(*len), rest)
 }
 
-/// Bytes behind a length of two bytes, and what stands behind them.
+/// Bytes after a length of two bytes, and what follows them.
 #[tactic(auto, unfolding(crate::specs::inside::Reading::long_at))]
 pub(crate) fn long_of(bytes: &[u8]) -> Option<(&[u8], &[u8])>
     ensures read { ReadsPart (λ x. (x.0.now, x.1.now)) result (long_at bytes.now) }
@@ -78,7 +78,7 @@ pub(crate) fn reason_of(bytes: &[u8]) -> Option<Reason>
     reason_with(*number)
 }
 
-/// So many words, each behind a length of two bytes.
+/// So many words, each after a length of two bytes.
 pub(crate) fn words_of(
     alloc: Global,
     count: u8,

@@ -1,4 +1,4 @@
-//! The records that make a worksheet anew, before they are written.
+//! The records that make a worksheet again, before they are written.
 ghost use Rattle.std.specs.Prelude.{◌≡◌, ◌<◌, ◌≤◌, ◌+◌, ◌++◌, map, min, length, OnErr, OnOk, vec_capacity, vec_len};
 ghost use Rattle.std.specs.List.{AllByRecursion};
 ghost use Rattle.journal.specs.Area.{record_of};
@@ -14,16 +14,16 @@ use journal::Source;
 use std::marker::Model;
 use worksheet::{Answer, Field, Session};
 
-// A gate behind which a record stands.
+// A gate that a record follows.
 const OPEN_GATE: u8 = 0x52;
 
-/// An op that makes a part of a worksheet anew, with the part where it stands in the worksheet.
+/// An op that makes a part of a worksheet again, with the part where it stands in the worksheet.
 #[derive(Clone, Copy)]
 pub(crate) enum Record<'a> {
     Session(&'a Session),
     // The next number.
     Ids(u32),
-    // The number that it is made behind, and the field.
+    // The number of the field that it is made after, and the field.
     New(u32, &'a Field),
     // A field's number, and its answer.
     Answer(u32, &'a Answer),
@@ -46,7 +46,7 @@ impl<'a> Record<'a> {
         }
     }
 
-    // Puts its payload behind other bytes.
+    // Puts its payload after other bytes.
     fn put(&self, out: &mut Vec<u8>) -> Result<(), OutOfMemory>
         requires { HasCode (op_in self.now) }
         ensures code { OnOk result (out.new.items ≡ out.old.items ++ code_of (op_in self.now)) }
@@ -75,7 +75,7 @@ impl<'a> Record<'a> {
         }
     }
 
-    // Puts an open gate, the payload's length and the payload behind other bytes.
+    // Puts an open gate, the payload's length and the payload after other bytes.
     #[tactic(auto, using(crate::proofs::Sizes::size_rules))]
     fn put_record(&self, out: &mut Vec<u8>) -> Result<(), OutOfMemory>
         requires { HasRecord (op_in self.now) }

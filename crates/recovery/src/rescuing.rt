@@ -25,7 +25,7 @@ pub struct Rescued<D: Disk> {
     pub sheet: Sheet,
     /// How many ops are kept.
     pub kept: u64,
-    /// The offset of the gate behind them where that, or the payload behind it, is damaged; none where
+    /// The offset of the gate after them where that, or the payload after it, is damaged; none where
     /// the journal is whole.
     pub damage: Option<u64>,
 }
@@ -96,10 +96,11 @@ fn stop<D: Disk>(
     }
 }
 
-/// The ops that stand on a disk before its first damage, as the worksheet that they make: all of a disk
-/// that opens, and of one that [`Store::open`](crate::Store::open) refuses as damaged those in front of
-/// the first gate that is damaged, or whose payload is no op's, or whose op the worksheet so far refuses.
-/// Nothing behind that gate is read as an op. It writes nothing (docs/FORMAT.md, "Rescue").
+/// The ops that stand on a disk before its first damage, as the worksheet that they make. Of a disk
+/// that opens they are all. Of one that [`Store::open`](crate::Store::open) refuses as damaged they are
+/// those in front of the first bad gate. That gate is damaged, or its payload is no op's, or its op is
+/// refused by the worksheet so far. Nothing after that gate is read as an op. It writes nothing
+/// (docs/FORMAT.md, "Rescue").
 ///
 /// A disk without a header is refused as `NotASheet`; damage is no refusal here.
 pub fn rescue<D: Disk>(alloc: Global, disk: D) -> Result<Rescued<D>, OpenFault<D>>
@@ -119,7 +120,7 @@ pub fn rescue<D: Disk>(alloc: Global, disk: D) -> Result<Rescued<D>, OpenFault<D
     ensures looks { InModel (D.view disk)
         (Looks (D.view disk).history (disk_rescued D.view result).history) }
 
-    // A failure of the disk is told as one, and nothing else is.
+    // A failure of the disk is reported as one, and nothing else is.
     ensures faulty { IfErr result
         (λ e. e.cause ≡ OpenCause.Disk → Rises (D.view disk).faults (D.view e.disk).faults) }
     ensures steady { MatchResult result

@@ -1,4 +1,4 @@
-// The records that make a worksheet anew.
+//! The records that make a worksheet again.
 ghost use Rattle.std.specs.Prelude.{◌≡◌, ◌≤◌, ◌-◌, ◌++◌, ◌∷◌, ◌+◌, [], List, map, min, IfOk, OnOk, vec_capacity};
 ghost use Rattle.std.specs.List.{AllByRecursion};
 ghost use Rattle.worksheet.specs.declared.field.Field.{Field};
@@ -19,7 +19,7 @@ use journal::{BATCH_LEN, LONGEST_PAYLOAD};
 use std::alloc::Global;
 use worksheet::{Answer, Field, Sheet};
 
-// Puts a record behind the others.
+// Puts a record after the others.
 fn put<'a>(records: &mut Vec<Record<'a>>, next: Record<'a>) -> Result<(), OutOfMemory>
     requires { IsTyped (op_in next) }
     ensures { Gathers (op_in next.entry ∷ []) result records.old.items records.new.items }
@@ -77,7 +77,7 @@ fn put_outcome<'a>(
     put(records, Record::Answer(id, answer))
 }
 
-// A field, where this is the next number and the field is made behind that one.
+// A field, where this is the next number and the field is made after that one.
 fn put_field<'a>(
     records: &mut Vec<Record<'a>>,
     next: u32,
@@ -120,7 +120,7 @@ fn put_fields<'a>(
     put_ids(records, next, last)
 }
 
-/// The records that make a worksheet anew.
+/// The records that make a worksheet again.
 pub(crate) fn records_of<'a>(
     alloc: Global,
     sheet: &'a Sheet,
@@ -136,7 +136,7 @@ pub(crate) fn records_of<'a>(
     Ok(records)
 }
 
-/// The payloads of the ops that make a worksheet anew.
+/// The payloads of the ops that make a worksheet again.
 pub(crate) fn anew_of<'a>(alloc: Global, sheet: &'a Sheet) -> Result<Anew<'a>, OutOfMemory>
     requires some { 1 ≤ sheet.now.contents.next }
     requires apart { HasNumbersApart sheet.now.contents }

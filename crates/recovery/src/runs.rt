@@ -25,7 +25,7 @@ fn plain_run(text: &[u8]) -> usize
     }
 }
 
-/// The front of a text that is spelled as it is, and what stands behind it: nothing, or a byte that has
+/// The front of a text that is spelled as it is, and what follows it: nothing, or a byte that has
 /// an escape before it.
 pub(crate) fn split_plain(text: &[u8]) -> (&[u8], &[u8])
     ensures split { text.now ≡ result.0.now ++ result.1.now }

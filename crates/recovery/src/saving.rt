@@ -90,10 +90,9 @@ fn lay_anew<D: Disk, S: Source>(disk: D, source: &S, batch: &mut Vec<u8>) -> Res
     }
 }
 
-/// Writes a worksheet to an empty disk of at least 11 bytes of room: lays an empty worksheet there,
-/// as [`journal::create`] does, and writes this one anew in its place, as a checkpoint does
-/// (docs/FORMAT.md, "Rescue"). It is durable at `Ok`. Before its first write it has all the memory that
-/// it takes.
+/// Writes a worksheet to an empty disk of at least 11 bytes of room. It lays an empty worksheet there,
+/// as [`journal::create`] does, and writes this one in its place, as a checkpoint does (docs/FORMAT.md,
+/// "Rescue"). It is durable at `Ok`. Before its first write it has all the memory that it takes.
 ///
 /// Allowed ops must have made the worksheet, as those of [`rescue`](crate::rescue) have.
 pub fn save<D: Disk>(alloc: Global, disk: D, sheet: &Sheet) -> Result<D, SaveFault<D>>
@@ -115,7 +114,8 @@ pub fn save<D: Disk>(alloc: Global, disk: D, sheet: &Sheet) -> Result<D, SaveFau
     ensures not_empty { InModel (D.view disk)
         (IfErr result (λ e. e.cause ≡ causes.NotEmpty → AreEmpty (bytes_on (D.view disk)) → ⊥)) }
 
-    // A disk that isn't empty is left as it was, whatever fails; so is each for want of room or memory.
+    // A disk that isn't empty is left as it was, whatever fails; so is each where room or memory is
+    // lacking.
     ensures untouched { InModel (D.view disk)
         (IfErr result (λ e. (AreEmpty (bytes_on (D.view disk)) → ⊥)
         → Looks (D.view disk).history (D.view e.disk).history)) }
@@ -123,7 +123,7 @@ pub fn save<D: Disk>(alloc: Global, disk: D, sheet: &Sheet) -> Result<D, SaveFau
         → (HasRoomAnew (D.view disk).room sheet.now.contents → ⊥) × (e.disk ≡ disk)) }
     ensures memory { IfErr result (λ e. e.cause ≡ causes.OutOfMemory → e.disk ≡ disk) }
 
-    // A failure of the disk is told as one, and nothing else is.
+    // A failure of the disk is reported as one, and nothing else is.
     ensures faulty { IfErr result
         (λ e. e.cause ≡ causes.Disk → Rises (D.view disk).faults (D.view e.disk).faults) }
     ensures steady { MatchResult result

@@ -1,4 +1,4 @@
-//! The length of a payload, told without making it.
+//! The length of a payload, counted without making it.
 ghost use Rattle.std.specs.Prelude.{◌≡◌, ◌+◌, ◌≤◌, min, length};
 ghost use Rattle.std.specs.List.{flat_map};
 ghost use Rattle.block_tree.specs.View.{tree_of};
@@ -20,7 +20,7 @@ pub(crate) const IDS_LEN: u64 = 5;
 /// The bytes of the payload of a Lost.
 pub(crate) const LOST_LEN: u64 = 6;
 
-// A length with so many bytes more, up to the greatest that is told.
+// A length with so many bytes more, up to the greatest that is returned.
 fn longer(len: u64, more: u64) -> u64
     requires { len ≤ longest_told }
     ensures { result ≡ min (len + more) longest_told }

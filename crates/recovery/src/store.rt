@@ -85,7 +85,7 @@ impl<D: Disk> Store<D> {
             (IfOk result (λ store. Leaves (IsSheetImage store.sheet.contents)
             store.disk.history.now)) }
 
-        // A failure of the disk is told as one, and nothing else is.
+        // A failure of the disk is reported as one, and nothing else is.
         ensures faulty { IfErr result
             (λ e. e.cause ≡ OpenCause.Disk → Rises (D.view disk).faults (D.view e.disk).faults) }
         ensures steady { MatchResult result
@@ -107,10 +107,10 @@ impl<D: Disk> Store<D> {
     }
 
     /// Whether the payload of an op fits on the disk: it has at most 33,554,432 bytes, and 6 more fit
-    /// with it behind the end. It takes no memory, and is false once the store is closed.
+    /// with it after the end. It takes no memory, and is false once the store is closed.
     ///
     /// Each length in the payload must fit its field, as `encode` asks. Of an op that `check` allows
-    /// the law `allowed_have_code` gives this, by the ops that `sheet` tells of.
+    /// the law `allowed_have_code` gives this, by the ops that `sheet` stands for.
     pub fn fits(&self, op: &Op) -> bool
         requires { HasCode op.now }
         ensures place { IsTrue result ↔ HasPlace self.now (length (code_of op.now)) }
@@ -180,7 +180,7 @@ impl<D: Disk> Store<D> {
         ensures acknowledged { OnOk result (InModel self.old.disk
             (Leaves (IsSheetImage self.new.sheet.contents) self.new.disk.history.now)) }
 
-        // So it does of the payloads that the disk stands for, and at `Ok` the op's stands behind them, once.
+        // So it does of the payloads that the disk stands for, and at `Ok` the op's follows them, once.
         ensures payloads { InModel self.old.disk
             ((ops : List Op) → KeepsOps self.old ops
             → LeavesOnly (StandsWithOrWithout ops op) self.old.disk.history self.new.disk.history) }
@@ -202,7 +202,7 @@ impl<D: Disk> Store<D> {
     pub fn commit(&mut self, op: Op) -> Result<(), CommitFault>
         requires { first_refusal self.old.sheet.contents op ≡ None }
 
-        // All that it does, by its answer. The clauses behind this one say the same part by part.
+        // All that it does, by its answer. The clauses after this one say the same part by part.
         ensures commits { Commits self.old self.new op result }
         ensures store { IsStore self.old }
 
@@ -233,7 +233,7 @@ impl<D: Disk> Store<D> {
         ensures acknowledged { OnOk result (InModel self.old.disk
             (Leaves (IsSheetImage self.new.sheet.contents) self.new.disk.history.now)) }
 
-        // So it does of the payloads that the disk stands for, and at `Ok` the op's stands behind them, once.
+        // So it does of the payloads that the disk stands for, and at `Ok` the op's follows them, once.
         ensures payloads { InModel self.old.disk
             ((ops : List Op) → KeepsOps self.old ops
             → LeavesOnly (StandsWithOrWithout ops op) self.old.disk.history self.new.disk.history) }
@@ -253,9 +253,10 @@ impl<D: Disk> Store<D> {
         }
     }
 
-    /// Writes the worksheet anew, in place of the ops that have made it: those of fields that are gone, of
-    /// answers that were taken away and of inputs that were changed take no room any more. It changes
-    /// neither the worksheet nor the number of its next new field. (docs/FORMAT.md, "Checkpoint".)
+    /// Writes the worksheet again, in place of the ops that have made it. Those of fields that are
+    /// gone, of answers that were removed and of inputs that were changed take no room any more. It
+    /// changes neither the worksheet nor the number of its next new field. (docs/FORMAT.md,
+    /// "Payloads".)
     ///
     /// `Full` and `OutOfMemory` change nothing and touch no disk. After `Disk` the store is closed.
     pub fn checkpoint(&mut self) -> Result<(), CheckpointFault>

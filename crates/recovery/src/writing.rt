@@ -119,7 +119,7 @@ fn number_of(reason: Reason) -> u8
     }
 }
 
-/// The payload of the op that makes a session, behind other bytes.
+/// The payload of the op that makes a session, after other bytes.
 #[tactic(auto, using(crate::proofs::Sizes::size_rules))]
 pub(crate) fn put_session(
     name: &[u8],

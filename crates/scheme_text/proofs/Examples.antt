@@ -12,7 +12,7 @@ use Rattle.scheme_text.specs.declared.answer.BadCompletion.{BadCompletion}
 request_of_a_letter : request (codes "h") 1 ≡ 16 ∷ 40 ∷ 99 ∷ 111 ∷ 109 ∷ 112 ∷ 108 ∷ 101 ∷ 116 ∷ 101 ∷ 32 ∷ 34 ∷ 104 ∷ 34 ∷ 32 ∷ 49 ∷ 41 ∷ 10 ∷ []
 request_of_a_letter = ap (λ (d : List ℕ). 16 ∷ (codes "(complete \"h\" " ++ (d ++ codes ")\n"))) (decimal_digit 1 (omega arith))
 
--- a quote and a backslash, each behind a backslash
+-- a quote and a backslash, each after a backslash
 request_with_escapes : request (34 ∷ 92 ∷ []) 0 ≡ 16 ∷ (codes "(complete " ++ (34 ∷ 92 ∷ 34 ∷ 92 ∷ 92 ∷ 34 ∷ codes " 0)\n"))
 request_with_escapes = ap (λ (d : List ℕ). 16 ∷ (codes "(complete " ++ (34 ∷ 92 ∷ 34 ∷ 92 ∷ 92 ∷ 34 ∷ 32 ∷ (d ++ codes ")\n")))) (decimal_digit 0 (omega arith))
 

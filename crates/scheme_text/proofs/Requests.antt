@@ -11,7 +11,7 @@ use Rattle.scheme_text.specs.Laws.{OneRequest}
 use Rattle.scheme_text.proofs.Read.{neither, other}
 use Rattle.scheme_text.proofs.Writing.{quoted_is_read}
 
--- a text, and what stands behind it
+-- a text, and what follows it
 abbrev Split : Type 0
 Split = Option (List ℕ × List ℕ)
 
@@ -19,7 +19,7 @@ abbrev before : List ℕ → Split → Split
 before u None = None
 before u (Some p) = Some (u ++ p.0, p.1)
 
--- the text of a string whose first quote stands before these bytes, or also a backslash, and the bytes behind its last quote
+-- the text of a string whose first quote stands before these bytes, or also a backslash, and the bytes after its last quote
 abbrev split : Bool → List ℕ → Split
 split slash [] = None
 split false (c ∷ s) = if c == 34 then Some ([], s) else if c == 92 then split true s else before (c ∷ []) (split false s)

@@ -16,7 +16,7 @@ use Rattle.scheme_text.proofs.Read.{same_strings}
 no_some : (ts : List (List ℕ)) → None ≡ Some ts → ⊥
 no_some ts h = false≢true (ap is_some h)
 
--- a row of strings, the bracket behind it, and white space
+-- a row of strings, the bracket after it, and white space
 record Ends (s : List ℕ) (ts : List (List ℕ)) : Type 0 where
   body : List ℕ
   behind : List ℕ

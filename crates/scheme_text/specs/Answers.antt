@@ -7,7 +7,7 @@ use Rattle.scheme_text.specs.Quoting.{Quotes}
 use Rattle.scheme_text.specs.Outputs.{is_white, answer_text}
 use Rattle.scheme_text.specs.declared.answer.Completions.{Completions}
 
--- The bytes are strings that stand for these texts, with white space in front of, between and behind them, or none. 34 is a quote.
+-- The bytes are strings that stand for these texts, with white space before, between and after them, or none. 34 is a quote.
 pub data Strings : List ℕ → List (List ℕ) → Type 0 where
   no_string : Strings [] []
   white_first : {c : ℕ} {s : List ℕ} {ts : List (List ℕ)} → is_white c ≡ true → Strings s ts → Strings (c ∷ s) ts

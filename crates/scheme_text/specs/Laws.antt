@@ -36,6 +36,6 @@ written_tuple ts = codes "(tuple" ++ (flat_map string_behind_space ts ++ 41 ∷ 
 abbrev pub WrittenTuplesAreRead : Type 0
 WrittenTuplesAreRead = (ts : List (List ℕ)) → Says (written_tuple ts) ts
 
--- What is told as a value is what the output tells.
+-- What is said as a value is what the output says.
 abbrev pub ToldAsAValue : Type 0
 ToldAsAValue = (b : Tree) (c : Completions) → (told_by b ≡ Ok c) ↔ IsToldBy b c

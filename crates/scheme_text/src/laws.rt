@@ -33,7 +33,7 @@ pub fn quoted_is_read()
     ensures { QuotedIsRead }
 {}
 
-/// A tuple of any strings, each written between quotes behind a space, says these strings.
+/// A tuple of any strings, each written between quotes after a space, says these strings.
 pub fn written_tuples_are_read()
     ensures { WrittenTuplesAreRead }
 {}

@@ -25,7 +25,7 @@ fn without_white(bytes: &[u8]) -> &[u8]
     rest
 }
 
-/// Adds what a backslash and this byte behind it stand for.
+/// Adds what a backslash and this byte after it stand for.
 fn push_slashed(byte: u8, text: &mut Vec<u8>) -> Result<(), OutOfMemory>
     ensures { OnOk result (text.new.items ≡ text.old.items ++ slashed byte) }
 {
@@ -36,7 +36,7 @@ fn push_slashed(byte: u8, text: &mut Vec<u8>) -> Result<(), OutOfMemory>
     Ok(())
 }
 
-/// The text of a string whose first quote stands before these bytes, and the bytes behind its last
+/// The text of a string whose first quote stands before these bytes, and the bytes after its last
 /// one.
 #[tactic(auto, using(crate::proofs::Reading::string_rules))]
 fn read_string<'a>(alloc: Global, bytes: &'a [u8]) -> Result<(Octets, &'a [u8]), AnswerFault>
@@ -96,7 +96,7 @@ fn read_tuple(alloc: Global, bytes: &[u8]) -> Result<Vec<Octets>, AnswerFault>
     Err(AnswerFault::BadCompletion)
 }
 
-/// The bytes behind the word `tuple`.
+/// The bytes after the word `tuple`.
 fn behind_word(bytes: &[u8]) -> Option<&[u8]>
     ensures { (if bytes_eq (take 5 bytes.now) (codes "tuple") then Some (drop 5 bytes.now)
         else None) ≡ option_copied result }

@@ -273,7 +273,7 @@ module _ (w : World) (id : ℕ) (f : Field) (e : field_in (sheet_in w).fields id
   pub eval_on_disk : (old new : DiskView) → OnDisk w.ops false (Some (op.Clear id)) old new → OnDisk w.ops (does w (command.Eval id)).anew (does w (command.Eval id)).op old new
   eval_on_disk old new disk = asked_on_disk w (line_of_field w id) (Some (op.Clear id)) (session_of_field w id) (life_of w (session_of_field w id)) old new disk
 
-  -- the disk's fault at an Eval, behind a preparation that changed nothing
+  -- the disk's fault at an Eval, after a preparation that changed nothing
   pub eval_fails : (old mid new : HostView) (r : Result Outcome HostFault) → EngineStandsFor old.store old.lives old.begun w → first_of (eval_refusals w id) ≡ None → SameStore old.store mid.store → mid.lives ≡ old.lives
       → OnErr r (new.store.sheet.contents ≡ mid.store.sheet.contents) → ((other : List ℕ) → OnErr r (number_in new.lives other ≡ number_in mid.lives other))
       → IfErr r (λ fault. (fault ≡ faults.Disk) × Rises mid.store.disk.faults new.store.disk.faults) → OnDisk w.ops false (Some (op.Clear id)) old.store.disk new.store.disk

@@ -43,7 +43,7 @@ use Rattle.session_engine.proofs.Fields.{waiting_still, allowed_step, spared, sp
 use Rattle.session_engine.proofs.Losing.{first_has, if_pieced, pieced_allowed}
 use Rattle.session_engine.proofs.Standing.{all_at, put, gone, committed, fit_in, unchanged}
 
--- the op of an answer goes behind the ops, whatever becomes of the life
+-- the op of an answer follows the ops, whatever becomes of the life
 ops_of : (l : Going) (e : Option Ended) (w : World) → (goes_on l e w).ops ≡ w.ops
 ops_of l None w = refl
 ops_of l (Some e) w = refl

@@ -64,7 +64,7 @@ behind_ops v d o is = go d.anew ∙ ap (λ (x : Option Op). (with_op_if x (recor
     go false = refl
     go true = refl
 
--- an image of the worksheet before an event, or of that behind it
+-- an image of the worksheet before an event, or after it
 abbrev pub EitherSheet : World → Does → Image → Type 0
 EitherSheet w d i = IsSheetImage (sheet_in w) i ⊎ IsSheetImage (sheet_in (behind w d)) i
 
@@ -86,7 +86,7 @@ module _ (w : World) (events rest : List Event) (e : Event) (told : List Outcome
   pub one_more : (new : HostView) (o : Outcome) → Took p.leads e host new o → HasPlayed w events rest (told ++ o ∷ []) new
   one_more new o took = record { done = p.done ++ e ∷ []; split = longer; leads = behind p.leads took.did; runs = run_on w p.done told p.leads e took.did o p.runs took.may took.told; stands = took.stands }
 
-  -- an image before an event, or behind it
+  -- an image before an event, or after it
   either_left : (d : Does) (o : Outcome) → MayDo p.leads e d → o ≡ d.told → (i : Image) → EitherSheet p.leads d i → LeftAmong w events (told ++ o ∷ []) i
   either_left d o may is i image = ⊎_elim
       (λ before. more_told w events told o i (left_here w events (e ∷ rest) told host p i before))

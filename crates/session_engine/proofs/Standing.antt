@@ -115,7 +115,7 @@ gone store rs begun w name r h f = record {
   fields = all_without (HaveFields (sheet_in w)) (λ (l : Going). l.name) name w.lives h.fields;
 }
 
--- what is told of an end, by the parts of a life
+-- what is returned for an end, by the parts of a life
 pub told_end : (l : Going) (name : List ℕ) (number : ℕ) (why : Reason) (killed : Bool) → name ≡ l.name → number ≡ l.number
     → ends (record { name = name; number = number; past = l.past; blocks = l.blocks }) why killed ≡ ends l why killed
 told_end l name number why killed e f = ap (λ (n : List ℕ). ends (record { name = n; number = number; past = l.past; blocks = l.blocks }) why killed) e
@@ -136,7 +136,7 @@ unchanged store new rs begun w h same = record {
   fields = h.fields;
 }
 
--- an op fits behind the world's end where it fits behind the store's
+-- an op fits after the world's end where it fits after the store's
 pub fit_in : (store : StoreView) (rs : List Running) (begun : ℕ) (w : World) (o : Op) → EngineStandsFor store rs begun w → fits w o ≡ fits_in store.disk.room store.end o
 fit_in store rs begun w o h = ap (λ (k : ℕ). fits_in k w.end o) (sym h.room) ∙ ap (λ (k : ℕ). fits_in store.disk.room k o) (sym h.end)
 

@@ -172,7 +172,7 @@ numbers_stay name other (x ∷ rs) r life h e = go (bytes_eq x.name name) refl h
         there true g rest = rw g refl
         there false g rest = rw g rest
 
--- the life at a place, and those behind it
+-- the life at a place, and those after it
 pub record AtPlace (rs : List Running) (ls : List Going) (i : ℕ) : Type 0 where
   pub life : Going
   pub runs : (d : Running) → RunsAs (get_or rs i d) life

@@ -14,7 +14,7 @@ use Rattle.session_engine.specs.Does.{Runs, behind}
 use Rattle.session_engine.specs.Host.{HostView, IsHost, Took}
 use Rattle.session_engine.specs.Faults.{Failed}
 
--- An image of the worksheet behind some of the first events, which told the first of these outcomes.
+-- An image of the worksheet after some of the first events, whose outcomes are the first of these.
 pub record LeftAmong (w : World) (events : List Event) (told : List Outcome) (i : Image) : Type 0 where
   pub done : List Event
   pub more : List Event
@@ -30,7 +30,7 @@ pub record LeftAmong (w : World) (events : List Event) (told : List Outcome) (i 
 abbrev pub Moments : World → List Event → List Outcome → DiskView → DiskView → Type 0
 Moments w events told old new = InModel old (LeavesOnly (LeftAmong w events told) old.history new.history)
 
--- The events but these last ones were taken, and told these outcomes; the host goes on where they lead.
+-- The events but these last ones were taken, with these outcomes; the host goes on where they lead.
 pub record HasPlayed (w : World) (events rest : List Event) (told : List Outcome) (host : HostView) : Type 0 where
   pub done : List Event
   pub split : events ≡ done ++ rest
@@ -38,7 +38,7 @@ pub record HasPlayed (w : World) (events rest : List Event) (told : List Outcome
   pub runs : Runs w done told leads
   pub stands : IsHost host leads
 
--- Each of these events was taken in turn, as a step takes it, and told one of these outcomes: from
+-- Each of these events was taken in turn, as a step takes it, with one of these outcomes: from
 -- this world and host to those, on the same disk. So what makes no call on the disk in a step makes
 -- none here.
 abbrev pub TookEach : World → List Event → HostView → List Outcome → World → HostView → Type 0
@@ -56,13 +56,13 @@ MomentsBefore w events told faults.Disk old new = (untold : Outcome) × Moments 
 MomentsBefore w events told faults.OutOfMemory old new = Moments w events told old new
 MomentsBefore w events told faults.JournalFull old new = Moments w events told old new
 
--- Events were taken that told these outcomes, and the one behind them had this fault, before which
--- the host went on as told here. The others are dropped.
+-- Events were taken with these outcomes, and the one after them had this fault. Before it the host went
+-- on as said here. The later events are dropped.
 pub record StoppedAt (w : World) (events : List Event) (old new : HostView) (told : List Outcome) (fault : HostFault) : Type 0 where
   pub at : Event
   pub dropped : List Event
   pub before : HostView
-  -- the same disk, as it was behind them
+  -- the same disk, as it was after them
   pub same : SameDisk old.store.disk before.store.disk
   pub played : HasPlayed w events (at ∷ dropped) told before
   pub each : TookEach w played.done old told played.leads before

@@ -36,8 +36,8 @@ use Rattle.host_events.specs.declared.reply.Reply.TheVariants as reply
 use Rattle.session_engine.specs.World.{World, Going, life_of, with_number, with_op_if, renewed_if, kept_in, kept_at_end, session_of_field, input_of, sheet_in, waiting_in}
 use Rattle.session_engine.specs.Refused.{command_refusals, command_takes_memory}
 
--- What an event does: what is told, the op that it gives if any, whether it writes the journal anew, how many lives have begun
--- behind it, and the lives that go on.
+-- What an event does: its outcome, its op if any, whether it rewrites the journal, how many lives have begun after it, and the lives that
+-- go on.
 pub record Does : Type 0 where
   pub told : Outcome
   pub op : Option Op
@@ -45,11 +45,11 @@ pub record Does : Type 0 where
   pub begun : ℕ
   pub lives : List Going
 
--- the world behind what an event does
+-- the world after what an event does
 abbrev pub behind : World → Does → World
 behind w d = renewed_if d.anew (with_op_if d.op (record w { begun = d.begun; lives = d.lives }))
 
--- What is told.
+-- What is returned.
 
 -- a reply without an effect
 abbrev pub replies : Reply → Outcome
@@ -65,7 +65,7 @@ ends l why killed = record {
   effect = if killed then Some (effect.Kill l.name l.number) else None;
 }
 
--- the answer that a piece closes, as it is told
+-- the answer that a piece closes, as it is returned
 abbrev pub closed_told : Option Answered → Option Closed
 closed_told None = None
 closed_told (Some (answered.Banner b)) = Some (closed.Banner b)
@@ -84,8 +84,8 @@ abbrev pub sends_or_kills : List ℕ → ℕ → Option (List ℕ) → Option En
 sends_or_kills name number send None = option_map (λ bytes. effect.Send name number bytes) send
 sends_or_kills name number send (Some e) = Some (effect.Kill name number)
 
--- What is told of a piece of a life, by its name and number: the answer that it closes, the default input of that, and the end that
--- it brings. Where it closes no answer and brings no end it is told as nothing.
+-- What is returned for a piece of a life, by its name and number: the answer that it closes, the default input of that, and the end that
+-- it brings. Where it closes no answer and brings no end, the reply is Nothing.
 abbrev pub told_with : List ℕ → ℕ → Option Closed → Option (List ℕ) → Option (List ℕ) → Option Ended → Outcome
 told_with name number None default_input send None = replies reply.Nothing
 told_with name number answer default_input send end = record {
@@ -93,16 +93,16 @@ told_with name number answer default_input send end = record {
   effect = sends_or_kills name number send end;
 }
 
--- The lives behind an event.
+-- The lives after an event.
 
--- the lives behind a piece of one of them, which is now this one: it stands in the place of what it was, and is taken out where it ended
+-- the lives after a piece of one of them, which is now this one: it stands in the place of what it was, and is taken out where it ended
 abbrev pub lives_behind : Going → Option Ended → List Going → List Going
 lives_behind l None lives = replace_named (λ g. g.name) l.name l lives
 lives_behind l (Some e) lives = without_named (λ g. g.name) l.name lives
 
 -- The rows.
 
--- an event does nothing but that this reply is told
+-- an event does nothing but return this reply
 abbrev pub tells : World → Reply → Does
 tells w r = record { told = replies r; op = None; anew = false; begun = w.begun; lives = w.lives }
 
@@ -127,7 +127,7 @@ asks_item w i given name (Some l) = record {
   lives = replace_named (λ g. g.name) l.name (record l { past = l.past ++ accepted i ∷ [] }) w.lives;
 }
 
--- a life ends from outside; where none goes on, only this is told
+-- a life ends from outside; where none goes on, only this is returned
 abbrev pub ends_life : World → Reason → Bool → Option Going → Reply → Does
 ends_life w why killed None else_told = tells w else_told
 ends_life w why killed (Some l) else_told = record { told = ends l why killed; op = kept_at_end w why (Some l); anew = false; begun = w.begun; lives = without_named (λ g. g.name) l.name w.lives }
@@ -155,7 +155,7 @@ does w (command.Eval id) = asks_item w (item.Line id (input_of w id)) (Some (op.
 -- its input is asked at the cursor, and the worksheet stays as it is
 does w (command.Complete id cursor) = asks_item w (item.Complete id (input_of w id) cursor) None (session_of_field w id) (life_of w (session_of_field w id))
 does w (command.Stop name) = ends_life w reason.Stopped true (life_of w name) reply.Done
--- the journal alone changes, which is written anew
+-- only the journal changes: it is rewritten
 does w command.Checkpoint = record { told = replies reply.Done; op = None; anew = true; begun = w.begun; lives = w.lives }
 
 -- What an event of a child does, where this is the life with its number, if that goes on. A piece does what the stream of the
@@ -172,7 +172,7 @@ ChildDoes w l child.SendFault d = d ≡ ends_life w reason.SendFault true l repl
 ChildDoes w l child.Stalled d = d ≡ ends_life w reason.Stalled true l reply.Nothing
 ChildDoes w l child.StopFault d = d ≡ tells w reply.Nothing
 
--- A command where this is the first refusal that applies: it is refused so; or it is accepted, or refused for want of memory.
+-- A command where this is the first refusal that applies: it is refused so; or it is accepted, or refused for lack of memory.
 abbrev pub CommandDoes : World → Command → Option Refusal → Does → Type 0
 CommandDoes w c (Some r) d = d ≡ tells w (reply.Refused r)
 CommandDoes w c None d = (d ≡ does w c) ⊎ ((command_takes_memory w c ≡ true) × (d ≡ tells w (reply.Refused refusal.OutOfMemory)))
@@ -186,7 +186,7 @@ MayDo w (event.Child name number e) d = ChildDoes w (with_number number (life_of
 abbrev pub Gives : World → Event → Outcome → World → Type 0
 Gives w e o v = (d : Does) × MayDo w e d × (o ≡ d.told) × (v ≡ behind w d)
 
--- events one behind another give these outcomes, and lead there
+-- events one after another give these outcomes, and lead there
 abbrev pub Runs : World → List Event → List Outcome → World → Type 0
 Runs w [] [] v = v ≡ w
 Runs w (e ∷ es) (o ∷ os) v = (mid : World) × Gives w e o mid × Runs mid es os v

@@ -33,7 +33,7 @@ pub record MayGive (w : World) (e : Event) (o : Op) : Type 0 where
   pub may : MayDo w e does
   pub gives : does.op ≡ Some o
 
--- the event may do this, which gives an op or writes the journal anew
+-- the event may do this, which gives an op or rewrites the journal
 pub record MayWrite (w : World) (e : Event) : Type 0 where
   pub does : Does
   pub may : MayDo w e does

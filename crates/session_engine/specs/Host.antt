@@ -1,4 +1,4 @@
--- Which host stands for a world, and what a step of it and its opening give. (docs/HOST.md, "What a host promises".)
+-- Which host stands for a world, and what a step of it and its opening give. (docs/HOST.md, "The calls".)
 use Rattle.std.specs.Prelude.{◌≡◌, ◌≤◌, ◌⊎◌, ℕ, List, [], ◌∷◌, ◌++◌, Bool, true, false, Option, Some, None, option_map, Result, Ok, Err}
 use Rattle.std.specs.List.{AllByRecursion}
 use Rattle.disk_model.specs.Disk.{DiskView, Image, InModel, Leaves, LeavesOnly}
@@ -82,15 +82,15 @@ pub record IsHost (h : HostView) (w : World) : Type 0 where
   pub works : h.closed ≡ false
   pub stands : EngineStandsFor h.store h.lives h.begun w
 
--- What an event does to a disk with the worksheet of these ops, by whether it writes the journal anew and by the op that it gives,
+-- What an event does to a disk with the worksheet of these ops, by whether it rewrites the journal and by the op that it gives,
 -- or none. Without both it makes no call on the disk. While one that gives an op goes on, each image at every moment is one of the
--- worksheet before it, or of that with the op. While the journal is written anew, each is one of the same worksheet.
+-- worksheet before it, or of that with the op. While the journal is rewritten, each is one of the same worksheet.
 abbrev pub OnDisk : List Op → Bool → Option Op → DiskView → DiskView → Type 0
 OnDisk ops false None old new = new ≡ old
 OnDisk ops false (Some o) old new = InModel old (LeavesOnly (λ i. IsSheetImage (sheet_of ops) i ⊎ IsSheetImage (sheet_of (ops ++ o ∷ [])) i) old.history new.history)
 OnDisk ops true given old new = InModel old (LeavesOnly (IsSheetImage (sheet_of ops)) old.history new.history)
 
--- The event did this, which was told, and the host goes on behind it.
+-- The event did this, its outcome was returned, and the host goes on after it.
 pub record Took (w : World) (e : Event) (old new : HostView) (o : Outcome) : Type 0 where
   pub did : Does
   pub may : MayDo w e did

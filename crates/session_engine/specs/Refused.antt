@@ -14,12 +14,12 @@ use Rattle.host_events.specs.declared.command.Command.{Command}
 use Rattle.host_events.specs.declared.command.Command.TheVariants as command
 use Rattle.session_engine.specs.World.{World, Going, sheet_in, in_flight, fits_in, end_anew, kept_at_end, life_of, session_of_field, input_of, waiting_in}
 
--- these refusals with one more, which stands directly behind the first
+-- these refusals with one more, which stands directly after the first
 abbrev pub second : Refusal × Bool → List (Refusal × Bool) → List (Refusal × Bool)
 second r [] = r ∷ []
 second r (first ∷ rs) = first ∷ r ∷ rs
 
--- The refusals of an op but want of room: those of the worksheet. Where no line of the field may wait, that is asked directly behind
+-- The refusals of an op but lack of room: those of the worksheet. Where no line of the field may wait, that is asked directly after
 -- whether there is such a field.
 abbrev pub refusals_but_room : World → Op → List (Refusal × Bool)
 refusals_but_room w (op.Set id input) = second (refusal.InFlight, in_flight w id) (refusals (sheet_in w) (op.Set id input))
@@ -27,7 +27,7 @@ refusals_but_room w (op.Remove id) = second (refusal.InFlight, in_flight w id) (
 refusals_but_room w (op.Clear id) = second (refusal.InFlight, in_flight w id) (refusals (sheet_in w) (op.Clear id))
 refusals_but_room w o = refusals (sheet_in w) o
 
--- the refusals of an op, its want of room the last: its payload doesn't fit
+-- the refusals of an op, lack of room the last: its payload doesn't fit
 abbrev pub op_refusals : World → Op → List (Refusal × Bool)
 op_refusals w o = refusals_but_room w o ++ (refusal.JournalFull, not (fits_in w.room w.end o)) ∷ []
 
@@ -67,10 +67,10 @@ command_refusals w (command.Complete id cursor) =
     ∷ (refusal.BadCursor, not (is_cursor (input_of w id) cursor))
     ∷ queue_refusals w (life_of w (session_of_field w id))
 command_refusals w (command.Stop name) = (refusal.NoSession, not (has_session (sheet_in w) name)) ∷ []
--- the ops that make the worksheet anew have no room: the gate behind their records isn't in the area
+-- the ops that make the worksheet again have no room: the gate after their records isn't in the area
 command_refusals w command.Checkpoint = (refusal.JournalFull, not (nat_le (end_anew (sheet_in w) + 1) w.room)) ∷ []
 
--- Which commands may be refused for want of memory, where no other refusal applies: all of them, a Stop where a line keeps its reason.
+-- Which commands may be refused for lack of memory, where no other refusal applies: all of them, a Stop where a line keeps its reason.
 abbrev pub command_takes_memory : World → Command → Bool
 command_takes_memory w (command.Stop name) = is_some (kept_at_end w reason.Stopped (life_of w name))
 command_takes_memory w _ = true

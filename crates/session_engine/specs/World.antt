@@ -67,11 +67,11 @@ session_of_field w id = option_map_or (λ f. f.session) (field_in (sheet_in w).f
 abbrev pub input_of : World → ℕ → List ℕ
 input_of w id = option_map_or (λ f. f.input) (field_in (sheet_in w).fields id) []
 
--- the payload of an op fits behind an end of the journal, with its record's 5 bytes and the next gate
+-- the payload of an op fits after an end of the journal, with its record's 5 bytes and the next gate
 abbrev pub fits_in : ℕ → ℕ → Op → Bool
 fits_in room end o = nat_le (length (code_of o)) longest_payload && nat_le (end + 5 + length (code_of o) + 1) room
 
--- where the payloads end of the ops that make a worksheet anew
+-- where the payloads of the ops that make a worksheet again end
 abbrev pub end_anew : Contents → ℕ
 end_anew sheet = end_of (map code_of (rewrite_of sheet))
 
@@ -84,12 +84,12 @@ kept_in room end why items = option_and_then (λ id. if fits_in room end (op.Los
 abbrev pub kept_at_end : World → Reason → Option Going → Option Op
 kept_at_end w why life = option_and_then (λ l. kept_in w.room w.end why (waiting_in l)) life
 
--- the world with an op more, if there is one: it is in the worksheet, and its payload behind the journal's end
+-- the world with an op more, if there is one: it is in the worksheet, and its payload after the journal's end
 abbrev pub with_op_if : Option Op → World → World
 with_op_if None w = w
 with_op_if (Some o) w = record w { ops = w.ops ++ o ∷ []; end = w.end + 5 + length (code_of o) }
 
--- the world with a journal that is written anew, if it is: the worksheet and its ops are what they were, and the payloads end elsewhere
+-- the world with its journal rewritten, if it is: the worksheet and its ops are what they were, and the payloads end elsewhere
 abbrev pub renewed_if : Bool → World → World
 renewed_if false w = w
 renewed_if true w = record w { end = end_anew (sheet_in w) }

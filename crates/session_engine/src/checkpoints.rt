@@ -14,7 +14,7 @@ impl<D: Disk> Engine<D> {
     ghost use Rattle.session_engine.specs.World.{World};
     ghost use Rattle.session_engine.specs.inside.Engines.{StandsAt, Works, TookAt, FailedAt};
 
-    /// The journal is written anew.
+    /// Rewrites the journal.
     pub(crate) fn checkpoint(&mut self) -> Result<Outcome, HostFault>
         requires { Works self.old }
         ensures same { SameDisk self.old.store.disk self.new.store.disk }

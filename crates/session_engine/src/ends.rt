@@ -70,7 +70,7 @@ impl<D: Disk> Engine<D> {
     }
 }
 
-/// What is told of the end of a life.
+/// What is returned for the end of a life.
 pub(crate) fn ended(running: Running, reason: Reason, killed: bool) -> Outcome
     requires { running.life.over ≡ false }
     ensures { (past : List LifeEvent) (blocks : List Outer) → LifeHasPast running.life past blocks

@@ -49,7 +49,7 @@ fn make_place(lives: &mut Vec<Running>) -> Result<(), OutOfMemory>
     lives.reserve(1)
 }
 
-/// Gives an item to the life of this session, or begins one with it. It is told which life has it, and what is to be sent now.
+/// Gives an item to the life of this session, or begins one with it. It returns which life has it, and what is to be sent now.
 fn ask(
     alloc: Global,
     lives: &mut Vec<Running>,
@@ -165,7 +165,7 @@ impl<D: Disk> Engine<D> {
         Ok(self.told(name, number, words, sent))
     }
 
-    /// What is told of an item that is asked.
+    /// What is returned for an item that is asked.
     fn told(
         &mut self,
         name: Name,

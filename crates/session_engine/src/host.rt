@@ -24,13 +24,13 @@ use worksheet::{Name, Sheet};
 
 /// A worksheet on a disk, and the interpreters of its sessions (docs/HOST.md).
 ///
-/// It is told commands and what comes of calls on child processes, one event at a time, and it tells what
-/// is to be done with those processes. It starts none itself. Each change of the worksheet is on the disk
-/// before it is told.
+/// It takes commands and what comes of calls on child processes, one event at a time, and returns what
+/// is to be done with those processes. It starts none itself. Each change of the worksheet is on the
+/// disk before it is reported.
 ///
-/// A host stands for a world, which is where its events have led since it was opened: that is the relation
-/// `IsHost`, which `open` gives and `step` and `play` carry on. After a fault it is closed, and its disk
-/// is to be opened again.
+/// A host stands for a world, which is where its events have led since it was opened. That is the
+/// relation `IsHost`, which `open` gives and `step` and `play` carry on. After a fault it is closed,
+/// and its disk is to be opened again.
 #[derive(Drop)]
 pub struct Host<D: Disk> {
     pub(crate) engine: Engine<D>,
@@ -83,7 +83,7 @@ impl<D: Disk> Host<D> {
         ensures faulty { IfErr result (λ e. e.cause ≡ OpenCause.Disk
             → Rises (D.view disk).faults (D.view e.disk).faults) }
 
-        // A failure of the disk is told as one, and nothing else is.
+        // A failure of the disk is reported as one, and nothing else is.
         ensures steady { MatchResult result
             (λ host. host.store.disk.faults ≡ (D.view disk).faults)
             (λ e. (e.cause ≡ OpenCause.Disk → ⊥) → (D.view e.disk).faults ≡ (D.view disk).faults) }
@@ -96,6 +96,7 @@ impl<D: Disk> Host<D> {
             Ok(store) => store,
             Err(fault) => return Err(fault),
         };
+        // Its clause says that the worksheet is one that ops make.
         let _sheet = store.sheet();
         Ok(Host {
             engine: Engine {
@@ -108,8 +109,8 @@ impl<D: Disk> Host<D> {
         })
     }
 
-    /// Takes one event. What it does is told by docs/HOST.md, "What an event does", and which fault it
-    /// can have by "Faults" there.
+    /// Takes one event. What it does is described in docs/HOST.md, "What an event does", and which
+    /// fault it can have in "Faults" there.
     ///
     /// A refused command changes nothing and writes nothing. At `Ok` what the event did is durable. At
     /// `Err` the host is closed: the worksheet, and the number of each life, are as before the event.
@@ -133,9 +134,9 @@ impl<D: Disk> Host<D> {
         outcome
     }
 
-    /// Writes the journal anew into the area that isn't active, with the ops that make the same worksheet
-    /// (docs/HOST.md, "A checkpoint"). It is the step of a `Command::Checkpoint`: the reply is `Done`, or
-    /// `Refused` with `JournalFull` where those ops have no room, or with `OutOfMemory`; there is no
+    /// Rewrites the journal into the area that isn't active, with the ops that make the same worksheet
+    /// (docs/HOST.md, "A checkpoint"). It is the step of a `Command::Checkpoint`: the reply is `Done`,
+    /// or `Refused` with `JournalFull` where those ops have no room, or with `OutOfMemory`. There is no
     /// effect, and lives go on. `HostFault::Closed` and `HostFault::Disk` are its faults.
     pub fn checkpoint(&mut self) -> Result<Outcome, HostFault>
         ensures same { SameDisk self.old.store.disk self.new.store.disk }
@@ -155,6 +156,7 @@ impl<D: Disk> Host<D> {
             → LeavesOnly (IsSheetImage self.old.store.sheet.contents) self.old.store.disk.history
             self.new.store.disk.history) }
     {
+        // Its clause says that the worksheet is one that ops make.
         let _sheet = self.sheet();
         self.step(Event::Command(Command::Checkpoint))
     }

@@ -34,6 +34,7 @@ impl<D: Disk> Engine<D> {
             → IfErr result
             (FailedAt w (event.Child name number (child.Piece piece.now)) self.old self.new) }
     {
+        // A law: prompts have at most 1,024 bytes.
         plugin_core::short_prompts();
         let Some(fed) = feed(&mut self.lives, name, number, piece) else {
             return Ok(nothing());
@@ -57,7 +58,7 @@ impl<D: Disk> Engine<D> {
     }
 }
 
-/// What is told of a piece.
+/// What is returned for a piece.
 fn told(
     name: Name,
     life: u32,

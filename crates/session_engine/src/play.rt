@@ -14,7 +14,7 @@ use host_events::{Event, HostFault, Outcome};
 pub enum PlayFault {
     /// There is no memory for the outcomes. No event was taken, and here they are.
     NoRoom(Vec<Event>),
-    /// A fault, after these outcomes of the first events. The events behind the fault are dropped.
+    /// A fault, after these outcomes of the first events. The events after the fault are dropped.
     Stopped {
         outcomes: Vec<Outcome>,
         fault: HostFault,
@@ -23,10 +23,11 @@ pub enum PlayFault {
 
 impl<D: Disk> Host<D> {
     /// Takes events in order, each as a `step` takes it, up to the first fault. So an event that gives no
-    /// op, and one that fails but for the disk, makes no call on the disk.
+    /// op, and one that fails but for the disk, makes no call on the disk; a checkpoint gives none, and
+    /// rewrites an area.
     ///
-    /// At every moment each image of the disk is one of the worksheet behind some of the first events,
-    /// those told of among them once the call has ended.
+    /// At every moment each image of the disk is one of the worksheet after some of the first events.
+    /// Those whose outcomes are returned are among them once the call has ended.
     pub fn play(&mut self, events: Vec<Event>) -> Result<Vec<Outcome>, PlayFault>
         ensures same { SameDisk self.old.store.disk self.new.store.disk }
         ensures played { (w : World) → IsHost self.old w

@@ -11,7 +11,7 @@ pub first_written : (field : Field) (fields others : List Field) (a b : Option (
 first_written field fields others a b e p =
     part_written a a b (fields_markdown fields) (field_markdown field) (fields_behind others) (fields_markdown fields) (rw e refl) (nothing_written a (fields_markdown fields)) p
 
--- a field is written behind others
+-- a field is written after others
 pub next_written : (field : Field) (fields others : List Field) (a b c : Option (List ℕ)) (all : List ℕ) → fields ≡ field ∷ others → Written a b (fields_behind fields) all → Appends b c (10 ∷ field_markdown field)
     → Written a c (fields_behind others) all
 next_written field fields others a b c all e w p = part_written a b c (fields_behind fields) (10 ∷ field_markdown field) (fields_behind others) all (rw e refl) w p

@@ -57,7 +57,7 @@ anew_is sheet is =
       belongs = belong sheet 1 sheet.fields is.belongs;
     }
 
--- They are made one behind the other.
+-- They are made one after another.
 
 abbrev with_number : ℕ → Field → Field
 with_number number f = record { id = number; session = f.session; input = f.input; answer = None; lost = None }

@@ -86,7 +86,7 @@ scan_is fence (b ∷ bytes) low high = go (λ f l h. scan_is f bytes l h) (b == 
 pub scanned : (bytes : List ℕ) → (with_bytes shortest bytes).length ≡ fence_length bytes
 scanned bytes = let short = short_start bytes in scan_is shortest bytes (omega arith) (omega arith) ∙ omega (arith, short)
 
--- A line feed behind a text changes nothing.
+-- A line feed after a text changes nothing.
 
 pub line_scan : (fence : Fence) (bytes : List ℕ) → (with_bytes fence (bytes ++ 10 ∷ [])).length ≡ (with_bytes fence bytes).length
 line_scan fence bytes = ap (λ f. f.length) (with_bytes-append fence bytes (10 ∷ []))
@@ -130,7 +130,7 @@ byte_more fence bytes i d h = ap (with_bytes fence) (take_more bytes i d h) ∙ 
 
 pub ruleset byte_steps = (byte_more)
 
--- A tag, and what stands behind it.
+-- A tag, and what comes after it.
 
 pub tag_scan : (before opened named signed : Fence) (name given : List ℕ) (mark of : ℕ) → opened ≡ with_byte before 123 → given ≡ name → named ≡ with_bytes opened given → mark ≡ of → signed ≡ with_byte named mark
     → signed ≡ with_bytes before (123 ∷ (on_line name ++ of ∷ []))

@@ -19,7 +19,7 @@ use Rattle.sheet_export.specs.Script.{script_of}
 abbrev no_memory : List ℕ
 no_memory = reply_text (reply.Refused refusal.OutOfMemory)
 
--- an op that the worksheet allows was done, or memory was wanted
+-- an op that the worksheet allows was done, or memory was refused
 abbrev DoneOrNot : List Op → Op → List ℕ → List Op → Type 0
 DoneOrNot before o text after = ((text ≡ reply_text (reply_to (sheet_of before) o)) × (after ≡ before ++ o ∷ [])) ⊎ (text ≡ no_memory)
 
@@ -52,11 +52,11 @@ by_print (no_op other none) is = absurd (let no : Some (line.Command other) ≡ 
 by_print (unread other keeps) is = absurd (let no : Some (line.Command other) ≡ Some line.Print = is in cc)
 by_print (replied other p answer after by ran) is = absurd (let no : Some (line.Command other) ≡ Some line.Print = is in cc)
 
--- the lines of these ops tell that they were done, and the last lines run behind them; or memory was wanted
+-- the lines of these ops reply that they were done, and the last lines run after them; or memory was refused
 abbrev Told : List Op → List Op → List (List ℕ) → List ℕ → Type 0
 Told before ops last text = ((n : ℕ) × (rest : List ℕ) × LinesRan n (before ++ ops) last rest × (text ≡ replies_of before ops ++ rest)) ⊎ WantsMemory before ops text
 
--- an op that was done in front of what is told
+-- an op that was done before these replies
 behind_done : (before : List Op) (o : Op) (ops : List Op) (last : List (List ℕ)) (text : List ℕ) → Told (before ++ o ∷ []) ops last text
     → Told before (o ∷ ops) last (reply_text (reply_to (sheet_of before) o) ++ text)
 behind_done before o ops last text (inl (n, rest, run, is)) =

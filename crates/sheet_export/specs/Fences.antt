@@ -19,7 +19,7 @@ fence_length lines = max 3 (longest_run lines + 1)
 abbrev pub fence_of : ℕ → List ℕ
 fence_of length = replicate length 96
 
--- lines between two fences of this length, behind the first of which these words stand
+-- lines between two fences of this length, the first of which these words follow
 abbrev pub fenced_by : ℕ → List ℕ → List ℕ → List ℕ
 fenced_by length words lines = fence_of length ++ words ++ 10 ∷ [] ++ lines ++ fence_of length ++ 10 ∷ []
 

@@ -57,7 +57,7 @@ format_named name = if bytes_eq name (codes "script") then Some format.Script
     else (if bytes_eq name (codes "notebook") then Some format.Notebook
     else (if bytes_eq name (codes "json") then Some format.Json else None))))
 
--- what stands behind the last slash of these bytes, and this part where they have none
+-- what comes after the last slash of these bytes, and this part where they have none
 abbrev pub behind_slash : List ℕ → List ℕ → List ℕ
 behind_slash part [] = part
 behind_slash part (byte ∷ rest) = if byte == 47 then behind_slash rest rest else behind_slash part rest

@@ -23,7 +23,7 @@ is_tex channel name = not channel && bytes_eq name (codes "latex")
 abbrev pub block_start : Bool → List ℕ → List ℕ
 block_start channel name = cond (is_tex channel name) part.tex_start (123 ∷ (html_text false name ++ sign channel ∷ []))
 
--- and behind it: the end of the span, or '}'
+-- and after it: the end of the span, or '}'
 abbrev pub block_end : Bool → List ℕ → List ℕ
 block_end channel name = cond (is_tex channel name) part.tex_end (125 ∷ [])
 

@@ -18,7 +18,7 @@ use Rattle.sheet_export.specs.Script.{field_line, has_no_space, session_line}
 abbrev pub is_mark : ℕ → Bool
 is_mark byte = byte == 60 || byte == 62 || byte == 34 || byte == 39
 
--- what stands behind the '&' of a reference
+-- what comes after the '&' of a reference
 abbrev pub reference_names : List (List ℕ)
 reference_names = codes "amp;" ∷ codes "lt;" ∷ codes "gt;" ∷ codes "quot;" ∷ codes "#39;" ∷ []
 
@@ -54,7 +54,7 @@ abbrev pub SessionLinesAreRead : Type 0
 SessionLinesAreRead = (session : Session) → IsSession session → list_all has_no_space session.words ≡ true
     → line_of (session_line session) ≡ Some (line.Command (command.Session session.name session.tab session.words))
 
--- The line of a field is read as the command that makes one of its session and input behind that number.
+-- The line of a field is read as the command that makes one of its session and input after that number.
 abbrev pub FieldLinesAreRead : Type 0
 FieldLinesAreRead = (place : ℕ) (field : Field) → place ≤ greatest_number → is_name field.session ≡ true
     → line_of (field_line place field) ≡ Some (line.Command (command.New place field.session field.input))

@@ -26,7 +26,7 @@ abbrev pub whole_markdown : Option (List ℕ) → Answer → List ℕ
 whole_markdown (Some formula) answer = formula ++ 10 ∷ []
 whole_markdown None answer = fenced [] (in_lines (block_text answer.output))
 
--- a text that was printed, and behind an empty line the formula behind it
+-- a text that was printed, an empty line, and the formula that follows the text
 abbrev pub printed_markdown : List ℕ → List ℕ → List ℕ
 printed_markdown printed formula = fenced [] (in_lines (on_lines printed)) ++ 10 ∷ [] ++ (formula ++ 10 ∷ [])
 
@@ -49,7 +49,7 @@ output_markdown (Some answer) lost = answer_markdown (formula_behind answer.outp
 unfoldable pub field_markdown : Field → List ℕ
 field_markdown field = input_markdown field ++ 10 ∷ [] ++ output_markdown field.answer field.lost
 
--- fields, each behind an empty line
+-- fields, each after an empty line
 abbrev pub fields_behind : List Field → List ℕ
 fields_behind fields = flat_map (λ field. 10 ∷ field_markdown field) fields
 

@@ -1,27 +1,27 @@
 -- The fixed parts of a page.
 use Rattle.std.specs.Prelude.{ℕ, List, codes}
 
--- what is the same in front of the title of each page
+-- what is the same before the title of each page
 abbrev pub meta : List ℕ
 meta = codes "<!doctype html>\n<html lang=\"en\">\n<head>\n<meta charset=\"utf-8\">\n<meta name=\"viewport\" content=\"width=device-width, initial-scale=1\">\n<meta name=\"color-scheme\" content=\"light dark\">\n<meta http-equiv=\"Content-Security-Policy\" content=\"default-src 'none'; style-src 'unsafe-inline'\">\n<title>"
 
--- behind the title
+-- after the title
 abbrev pub title_end : List ℕ
 title_end = codes "</title>\n<style>\n"
 
--- behind the style
+-- after the style
 abbrev pub style_end : List ℕ
 style_end = codes "</style>\n</head>\n<body>\n<h1 dir=\"ltr\">"
 
--- behind the heading
+-- after the heading
 abbrev pub heading_end : List ℕ
 heading_end = codes "</h1>\n<main>\n"
 
--- behind the last field
+-- after the last field
 abbrev pub page_end : List ℕ
 page_end = codes "</main>\n</body>\n</html>\n"
 
--- in front of a field's number in its anchor
+-- before a field's number in its anchor
 abbrev pub field_start : List ℕ
 field_start = codes "<section id=\"field-"
 
@@ -29,27 +29,27 @@ field_start = codes "<section id=\"field-"
 abbrev pub anchor_end : List ℕ
 anchor_end = codes "\">\n<header><a href=\"#field-"
 
--- behind the link's number
+-- after the link's number
 abbrev pub link_end : List ℕ
 link_end = codes "\">#"
 
--- behind the number that is shown
+-- after the number that is shown
 abbrev pub number_end : List ℕ
 number_end = codes "</a> <bdi>"
 
--- behind the session
+-- after the session
 abbrev pub session_end : List ℕ
 session_end = codes "</bdi></header>\n"
 
--- in front of the prompt
+-- before the prompt
 abbrev pub input_start : List ℕ
 input_start = codes "<pre class=\"in\" dir=\"ltr\"><bdi>"
 
--- behind the prompt
+-- after the prompt
 abbrev pub prompt_end : List ℕ
 prompt_end = codes "</bdi><code dir=\"ltr\">"
 
--- behind the input
+-- after the input
 abbrev pub input_end : List ℕ
 input_end = codes "</code></pre>\n"
 
@@ -57,31 +57,31 @@ input_end = codes "</code></pre>\n"
 abbrev pub no_answer : List ℕ
 no_answer = codes "<p class=\"none\">no answer</p>\n"
 
--- in front of the reason why a field lost its line
+-- before the reason why a field lost its line
 abbrev pub lost_start : List ℕ
 lost_start = codes "<p class=\"none\">no answer: "
 
--- behind that reason
+-- after that reason
 abbrev pub lost_end : List ℕ
 lost_end = codes "</p>\n"
 
--- in front of an output; HTML drops the line feed behind `<pre>`, and so none of the output's
+-- before an output; HTML drops the line feed after `<pre>`, and so none of the output's
 abbrev pub output_start : List ℕ
 output_start = codes "<pre class=\"out\" dir=\"ltr\">\n"
 
--- behind an output
+-- after an output
 abbrev pub output_end : List ℕ
 output_end = codes "</pre>\n"
 
--- in front of what stands in a block `latex`
+-- before what stands in a block `latex`
 abbrev pub tex_start : List ℕ
 tex_start = codes "<span class=\"tex\">"
 
--- behind that
+-- after that
 abbrev pub tex_end : List ℕ
 tex_end = codes "</span>"
 
--- behind a field
+-- after a field
 abbrev pub field_end : List ℕ
 field_end = codes "</section>\n"
 

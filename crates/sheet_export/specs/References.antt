@@ -26,7 +26,7 @@ character_length bytes = cond (is_some (decoded bytes).char) (decoded bytes).siz
 abbrev pub belonging : ℕ → List ℕ → ℕ
 belonging left bytes = cond (nat_lt 0 left) left (character_length bytes)
 
--- the bytes behind a character of which so many are left
+-- the bytes after a character of which so many are left
 unfoldable pub html_behind : Bool → ℕ → List ℕ → List ℕ
 html_behind keeps_lines left [] = []
 html_behind keeps_lines left (byte ∷ rest) =

@@ -55,23 +55,23 @@ SayOps (text ∷ lines) (o ∷ os) = SaysOp text o × SayOps lines os
 abbrev pub ScriptsSayTheirOps : Type 0
 ScriptsSayTheirOps = (sheet : Contents) → IsWorksheet sheet → has_script sheet ≡ true → SayOps (script_of sheet) (script_ops sheet)
 
--- There is a run of the lines of a worksheet's script over an empty worksheet, in which no memory is wanted, and `print` behind them
+-- There is a run of the lines of a worksheet's script over an empty worksheet in which memory is never refused. `print` after them
 -- prints what they make.
 abbrev pub ScriptsRun : Type 0
 ScriptsRun = (sheet : Contents) → IsWorksheet sheet → has_script sheet ≡ true
     → (told : List ℕ) × LinesRan 1 [] (script_of sheet ++ codes "print" ∷ []) (told ++ sheet_text (anew sheet))
 
--- what is replied to these ops behind those, where each is done
+-- what is replied to these ops after those, where each is done
 abbrev pub replies_of : List Op → List Op → List ℕ
 replies_of before [] = []
 replies_of before (o ∷ os) = reply_text (reply_to (sheet_of before) o) ++ replies_of (before ++ o ∷ []) os
 
--- The first of these ops were done behind those, and at the next one memory was wanted.
+-- The first of these ops were done after those, and at the next one memory was refused.
 abbrev pub WantsMemory : List Op → List Op → List ℕ → Type 0
 WantsMemory before ops text = (first : List Op) × (o : Op) × (later : List Op) × (behind : List ℕ) × (ops ≡ first ++ o ∷ later)
     × (text ≡ replies_of before first ++ (reply_text (reply.Refused refusal.OutOfMemory) ++ behind))
 
--- Each run of these lines tells that its ops were done, and prints what they make; or at one of them memory was wanted.
+-- Each run of these lines replies that its ops were done, and prints what they make; or at one of them memory was refused.
 abbrev pub ScriptsRunAlike : Type 0
 ScriptsRunAlike = (sheet : Contents) → IsWorksheet sheet → has_script sheet ≡ true
     → (text : List ℕ) → LinesRan 1 [] (script_of sheet ++ codes "print" ∷ []) text

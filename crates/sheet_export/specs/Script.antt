@@ -1,4 +1,4 @@
--- The lines that make a worksheet anew: its sessions, and then its fields, each behind the one before it.
+-- The lines that make a worksheet again: its sessions, and then its fields, each after the one before it.
 use Rattle.std.specs.Prelude.{ℕ, ◌+◌, ◌==◌, ◌&&◌, not, Bool, true, false, List, [], ◌∷◌, ◌++◌, length, map, nat_le, codes}
 use Rattle.std.specs.Fmt.{decimal}
 use Rattle.std.specs.List.{flat_map, list_all}
@@ -11,7 +11,7 @@ abbrev pub flag_text : Bool → List ℕ
 flag_text true = codes "tab"
 flag_text false = codes "plain"
 
--- each word behind a space
+-- each word after a space
 abbrev pub words_text : List (List ℕ) → List ℕ
 words_text words = flat_map (λ word. 32 ∷ word) words
 
@@ -51,6 +51,6 @@ has_few_fields sheet = nat_le (length sheet.fields) most_fields
 abbrev pub have_lines : List Session → Bool
 have_lines sessions = list_all (λ session. list_all has_no_space session.words) sessions
 
--- whether there are lines that make this worksheet anew
+-- whether there are lines that make this worksheet again
 abbrev pub has_script : Contents → Bool
 has_script sheet = have_lines sheet.sessions && has_few_fields sheet

@@ -22,7 +22,7 @@ pub enum ExportFault {
     Run(RunFault),
 }
 
-/// Writes a fault on a line: `fault N NAME`, and behind a damage the offset of its gate.
+/// Writes a fault on a line: `fault N NAME`, and after a damage the offset of its gate.
 pub fn export_fault_text<W: Write>(fault: ExportFault, out: &mut W) -> Result<(), WriteFault>
     ensures { OnOk result
         (Appends (W.contents out.old) (W.contents out.new) (printed.export_fault_text fault)) }

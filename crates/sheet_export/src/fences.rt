@@ -24,7 +24,7 @@ pub(crate) struct Fence {
     length: usize,
 }
 
-/// The fence with a byte more. More backquotes than can be counted, which no memory holds, are told
+/// The fence with a byte more. More backquotes than can be counted, which no memory holds, are reported
 /// as a writer that fails.
 fn with_byte(before: Fence, byte: u8) -> Result<Fence, WriteFault>
     ensures { IfOk result (λ fence. fence ≡ scan.with_byte before byte) }
@@ -54,14 +54,14 @@ fn with_text(before: Fence, bytes: &[u8]) -> Result<Fence, WriteFault>
     Ok(fence)
 }
 
-/// What stands behind the name of a tag.
+/// What comes after the name of a tag.
 fn sign_of(tag: &Tag) -> u8
     ensures { result ≡ sign tag.now.channel }
 {
     if tag.channel { b'#' } else { b':' }
 }
 
-/// The fence with a tag more, behind its brace.
+/// The fence with a tag more, after its brace.
 fn with_tag(before: Fence, tag: &Tag) -> Result<Fence, WriteFault>
     ensures { IfOk result (λ fence. fence ≡ scan.with_bytes before
         (123 ∷ (on_line tag.now.name ++ sign tag.now.channel ∷ []))) }

@@ -14,7 +14,7 @@ pub(crate) fn write_bytes<W: Write>(bytes: &[u8], out: &mut W) -> Result<(), Wri
     out.write_all(bytes).map_err(|_| WriteFault)
 }
 
-/// Writes what is the same in front of the title of each page.
+/// Writes what is the same before the title of each page.
 pub(crate) fn write_meta<W: Write>(out: &mut W) -> Result<(), WriteFault>
     ensures { OnOk result (Appends (W.contents out.old) (W.contents out.new) part.meta) }
 {
@@ -31,35 +31,35 @@ pub(crate) fn write_meta<W: Write>(out: &mut W) -> Result<(), WriteFault>
     )
 }
 
-/// Writes what stands behind the title.
+/// Writes what comes after the title.
 pub(crate) fn write_title_end<W: Write>(out: &mut W) -> Result<(), WriteFault>
     ensures { OnOk result (Appends (W.contents out.old) (W.contents out.new) part.title_end) }
 {
     write_bytes(b"</title>\n<style>\n", out)
 }
 
-/// Writes what stands behind the style.
+/// Writes what comes after the style.
 pub(crate) fn write_style_end<W: Write>(out: &mut W) -> Result<(), WriteFault>
     ensures { OnOk result (Appends (W.contents out.old) (W.contents out.new) part.style_end) }
 {
     write_bytes(b"</style>\n</head>\n<body>\n<h1 dir=\"ltr\">", out)
 }
 
-/// Writes what stands behind the heading.
+/// Writes what comes after the heading.
 pub(crate) fn write_heading_end<W: Write>(out: &mut W) -> Result<(), WriteFault>
     ensures { OnOk result (Appends (W.contents out.old) (W.contents out.new) part.heading_end) }
 {
     write_bytes(b"</h1>\n<main>\n", out)
 }
 
-/// Writes what stands behind the last field.
+/// Writes what comes after the last field.
 pub(crate) fn write_page_end<W: Write>(out: &mut W) -> Result<(), WriteFault>
     ensures { OnOk result (Appends (W.contents out.old) (W.contents out.new) part.page_end) }
 {
     write_bytes(b"</main>\n</body>\n</html>\n", out)
 }
 
-/// Writes what stands in front of a field's number in its anchor.
+/// Writes what comes before a field's number in its anchor.
 pub(crate) fn write_field_start<W: Write>(out: &mut W) -> Result<(), WriteFault>
     ensures { OnOk result (Appends (W.contents out.old) (W.contents out.new) part.field_start) }
 {
@@ -73,42 +73,42 @@ pub(crate) fn write_anchor_end<W: Write>(out: &mut W) -> Result<(), WriteFault>
     write_bytes(b"\">\n<header><a href=\"#field-", out)
 }
 
-/// Writes what stands behind the link's number.
+/// Writes what comes after the link's number.
 pub(crate) fn write_link_end<W: Write>(out: &mut W) -> Result<(), WriteFault>
     ensures { OnOk result (Appends (W.contents out.old) (W.contents out.new) part.link_end) }
 {
     write_bytes(b"\">#", out)
 }
 
-/// Writes what stands behind the number that is shown.
+/// Writes what comes after the number that is shown.
 pub(crate) fn write_number_end<W: Write>(out: &mut W) -> Result<(), WriteFault>
     ensures { OnOk result (Appends (W.contents out.old) (W.contents out.new) part.number_end) }
 {
     write_bytes(b"</a> <bdi>", out)
 }
 
-/// Writes what stands behind the session.
+/// Writes what comes after the session.
 pub(crate) fn write_session_end<W: Write>(out: &mut W) -> Result<(), WriteFault>
     ensures { OnOk result (Appends (W.contents out.old) (W.contents out.new) part.session_end) }
 {
     write_bytes(b"</bdi></header>\n", out)
 }
 
-/// Writes what stands in front of the prompt.
+/// Writes what comes before the prompt.
 pub(crate) fn write_input_start<W: Write>(out: &mut W) -> Result<(), WriteFault>
     ensures { OnOk result (Appends (W.contents out.old) (W.contents out.new) part.input_start) }
 {
     write_bytes(b"<pre class=\"in\" dir=\"ltr\"><bdi>", out)
 }
 
-/// Writes what stands behind the prompt.
+/// Writes what comes after the prompt.
 pub(crate) fn write_prompt_end<W: Write>(out: &mut W) -> Result<(), WriteFault>
     ensures { OnOk result (Appends (W.contents out.old) (W.contents out.new) part.prompt_end) }
 {
     write_bytes(b"</bdi><code dir=\"ltr\">", out)
 }
 
-/// Writes what stands behind the input.
+/// Writes what comes after the input.
 pub(crate) fn write_input_end<W: Write>(out: &mut W) -> Result<(), WriteFault>
     ensures { OnOk result (Appends (W.contents out.old) (W.contents out.new) part.input_end) }
 {
@@ -122,49 +122,49 @@ pub(crate) fn write_no_answer<W: Write>(out: &mut W) -> Result<(), WriteFault>
     write_bytes(b"<p class=\"none\">no answer</p>\n", out)
 }
 
-/// Writes what stands in front of the reason why a field lost its line.
+/// Writes what comes before the reason why a field lost its line.
 pub(crate) fn write_lost_start<W: Write>(out: &mut W) -> Result<(), WriteFault>
     ensures { OnOk result (Appends (W.contents out.old) (W.contents out.new) part.lost_start) }
 {
     write_bytes(b"<p class=\"none\">no answer: ", out)
 }
 
-/// Writes what stands behind that reason.
+/// Writes what comes after that reason.
 pub(crate) fn write_lost_end<W: Write>(out: &mut W) -> Result<(), WriteFault>
     ensures { OnOk result (Appends (W.contents out.old) (W.contents out.new) part.lost_end) }
 {
     write_bytes(b"</p>\n", out)
 }
 
-/// Writes what stands in front of an output; HTML drops the line feed behind `<pre>`, and so none of the output's.
+/// Writes what comes before an output; HTML drops the line feed after `<pre>`, and so none of the output's.
 pub(crate) fn write_output_start<W: Write>(out: &mut W) -> Result<(), WriteFault>
     ensures { OnOk result (Appends (W.contents out.old) (W.contents out.new) part.output_start) }
 {
     write_bytes(b"<pre class=\"out\" dir=\"ltr\">\n", out)
 }
 
-/// Writes what stands behind an output.
+/// Writes what comes after an output.
 pub(crate) fn write_output_end<W: Write>(out: &mut W) -> Result<(), WriteFault>
     ensures { OnOk result (Appends (W.contents out.old) (W.contents out.new) part.output_end) }
 {
     write_bytes(b"</pre>\n", out)
 }
 
-/// Writes what stands in front of a formula.
+/// Writes what comes before a formula.
 pub(crate) fn write_tex_start<W: Write>(out: &mut W) -> Result<(), WriteFault>
     ensures { OnOk result (Appends (W.contents out.old) (W.contents out.new) part.tex_start) }
 {
     write_bytes(b"<span class=\"tex\">", out)
 }
 
-/// Writes what stands behind a formula.
+/// Writes what comes after a formula.
 pub(crate) fn write_tex_end<W: Write>(out: &mut W) -> Result<(), WriteFault>
     ensures { OnOk result (Appends (W.contents out.old) (W.contents out.new) part.tex_end) }
 {
     write_bytes(b"</span>", out)
 }
 
-/// Writes what stands behind a field.
+/// Writes what comes after a field.
 pub(crate) fn write_field_end<W: Write>(out: &mut W) -> Result<(), WriteFault>
     ensures { OnOk result (Appends (W.contents out.old) (W.contents out.new) part.field_end) }
 {

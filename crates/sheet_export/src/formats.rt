@@ -28,7 +28,7 @@ use worksheet::Sheet;
 /// What a worksheet is written as.
 #[derive(Clone, Copy, Debug, PartialEq, Eq)]
 pub enum Format {
-    /// The lines that make it anew, without its answers.
+    /// The lines that make it again, without its answers.
     Script,
     /// Markdown, with its answers as code.
     Markdown,
@@ -69,8 +69,8 @@ pub fn last_part(path: &[u8]) -> &[u8]
     part
 }
 
-/// Writes the lines that make a worksheet anew: its sessions, then its fields in their order, each
-/// behind the one before it. Answers are no part of it.
+/// Writes the lines that make a worksheet again: its sessions, then its fields in their order, each
+/// after the one before it. Answers are no part of it.
 ///
 /// `NoScript` where a session has a word with a space, which a line can't have: nothing was written.
 /// `Output` where the writer fails: a part of the lines may have gone out.
@@ -249,7 +249,7 @@ pub fn export<D: Disk, W: Write>(
     ensures looks { InModel (D.view disk)
         (Looks (D.view disk).history (D.view result.disk).history) }
 
-    // That the disk failed is told only where it did.
+    // That the disk failed is reported only where it did.
     ensures failed { IsErrOf result.answer (fault.Run (run.Open opens.Disk))
         → Rises (D.view disk).faults (D.view result.disk).faults }
 {

@@ -17,7 +17,7 @@ use sheet_text::{WriteFault, next_line, reason_name};
 use std::io::Write;
 use worksheet::{Answer, Field, Sheet};
 
-/// Writes a tag behind its brace.
+/// Writes a tag, after its brace.
 #[tactic(auto, using(crate::proofs::Appending::steps))]
 fn open_tag<W: Write>(tag: &Tag, out: &mut W) -> Result<(), WriteFault>
     ensures { OnOk result
@@ -53,7 +53,7 @@ fn open_block<W: Write>(tag: &Tag, out: &mut W) -> Result<(), WriteFault>
     }
 }
 
-/// Writes what stands behind it: the end of the span, or a brace.
+/// Writes what comes after it: the end of the span, or a brace.
 fn close_block<W: Write>(tag: &Tag, out: &mut W) -> Result<(), WriteFault>
     ensures { OnOk result
         (Appends (W.contents out.old) (W.contents out.new)

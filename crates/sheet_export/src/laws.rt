@@ -46,8 +46,8 @@ pub fn scripts_say_their_ops()
     sheet_text::laws::numbers_are_decimals();
 }
 
-/// Each run of a script's lines over an empty worksheet replies that they were done, and `print` behind
-/// them prints what they make; or memory was wanted at one of them.
+/// Each run of a script's lines over an empty worksheet replies that they were done, and `print` after
+/// them prints what they make; or memory was refused at one of them.
 pub fn scripts_run_alike()
     ensures { ScriptsRunAlike }
 {
@@ -55,8 +55,8 @@ pub fn scripts_run_alike()
     scripts_say_their_ops();
 }
 
-/// A run of a script's lines over an empty worksheet, in which no memory is wanted, makes these, and
-/// `print` behind them prints them.
+/// A run of a script's lines over an empty worksheet, in which memory is never refused, makes these, and
+/// `print` after them prints them.
 pub fn scripts_run()
     ensures { ScriptsRun }
 {

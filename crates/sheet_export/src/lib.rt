@@ -1,4 +1,4 @@
-//! A worksheet as it leaves the host: as a page, as Markdown, as a notebook, and as the script that makes it anew.
+//! A worksheet as it leaves the host: as a page, as Markdown, as a notebook, or as the script that makes it again.
 #![tactic(auto)]
 
 mod fault;

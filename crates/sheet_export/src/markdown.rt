@@ -102,7 +102,7 @@ fn write_printed<W: Write>(length: usize, printed: &[u8], out: &mut W) -> Result
     Ok(())
 }
 
-/// Writes a text that was printed, and the formula behind it.
+/// Writes a text that was printed, and the formula after it.
 #[tactic(auto, using(crate::proofs::Appending::steps))]
 fn write_behind<W: Write>(printed: &[u8], formula: &[u8], out: &mut W) -> Result<(), WriteFault>
     ensures { OnOk result
@@ -173,7 +173,7 @@ fn write_field<W: Write>(field: &Field, out: &mut W) -> Result<(), WriteFault>
     Ok(())
 }
 
-/// Writes a field behind an empty line.
+/// Writes a field after an empty line.
 #[tactic(auto, using(crate::proofs::Appending::steps))]
 fn write_next<W: Write>(field: &Field, out: &mut W) -> Result<(), WriteFault>
     ensures { OnOk result

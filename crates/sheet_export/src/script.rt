@@ -1,4 +1,4 @@
-//! The script that makes a worksheet anew.
+//! The script that makes a worksheet again.
 ghost use Rattle.std.specs.Prelude.{◌≡◌, ◌∷◌, ◌++◌, [], OnOk, map, true};
 ghost use Rattle.std.specs.Io.KnownBytes.{Appends};
 ghost use Rattle.std.specs.List.{list_all};
@@ -53,7 +53,7 @@ fn has_few_fields(sheet: &Sheet) -> bool
     true
 }
 
-/// Whether there are lines that make this worksheet anew.
+/// Whether there are lines that make this worksheet again.
 pub(crate) fn has_script(sheet: &Sheet) -> bool
     ensures { result ≡ script.has_script sheet.now.contents }
 {
@@ -70,7 +70,7 @@ fn write_flag<W: Write>(tab: bool, out: &mut W) -> Result<(), WriteFault>
     }
 }
 
-/// Writes a word behind a space.
+/// Writes a word after a space.
 #[tactic(auto, using(crate::proofs::Appending::steps))]
 fn write_word<W: Write>(word: &Octets, out: &mut W) -> Result<(), WriteFault>
     ensures { OnOk result (Appends (W.contents out.old) (W.contents out.new) (32 ∷ word.now)) }
@@ -106,7 +106,7 @@ fn write_session<W: Write>(session: &Session, out: &mut W) -> Result<(), WriteFa
     Ok(())
 }
 
-/// Writes the line that makes a field behind so many others.
+/// Writes the line that makes a field after so many others.
 #[tactic(auto, using(crate::proofs::Appending::steps))]
 fn write_field<W: Write>(place: usize, field: &Field, out: &mut W) -> Result<(), WriteFault>
     ensures { OnOk result
@@ -150,7 +150,7 @@ fn write_fields<W: Write>(sheet: &Sheet, out: &mut W) -> Result<(), WriteFault>
     Ok(())
 }
 
-/// Writes the lines that make a worksheet anew.
+/// Writes the lines that make a worksheet again.
 #[tactic(auto, using(crate::proofs::Lines::script_steps))]
 pub(crate) fn write_script<W: Write>(sheet: &Sheet, out: &mut W) -> Result<(), WriteFault>
     requires { script.has_script sheet.now.contents ≡ true }

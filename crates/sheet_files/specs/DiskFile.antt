@@ -54,7 +54,7 @@ pub record FileWrites {T E : Type 0} (at : ℕ) (bytes : List ℕ) (result : Res
 abbrev pub IsDurable : AreaState → Type 0
 IsDurable a = (c : List ℕ) → FileImage a c → c ≡ a.content
 
--- the errors by which a file system that can only be read tells that it has nothing to bring out
+-- the errors by which a file system that can only be read says that it has nothing to flush
 abbrev pub tells_nothing_to_sync : ErrorKind → Bool
 tells_nothing_to_sync InvalidInput = true
 tells_nothing_to_sync ReadOnlyFilesystem = true
@@ -68,7 +68,7 @@ pub record FileSyncs {T : Type 0} (result : Result T Error) (old new : AreaState
   pub durable : MatchResult result (λ _. IsDurable new)
       (λ error. tells_nothing_to_sync (error_kind error) ≡ true → IsDurable new)
 
--- what a disk is told of a sync: at Ok what a read gives is durable
+-- what a sync returns to a disk: at Ok what a read gives is durable
 pub record FileSynced {T E : Type 0} (result : Result T E) (old new : AreaState) : Type 0 where
   pub content : new.content ≡ old.content
   pub images : (c : List ℕ) → FileImage new c → FileImage old c

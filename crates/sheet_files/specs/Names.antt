@@ -8,7 +8,7 @@ use Rattle.sheet_files.specs.declared.sheet_file.Lock.TheVariants.{Shared, Exclu
 -- neither path had anything. Then the first file was made, and locked before the other was made; and
 -- then both files and the names of their folder were brought onto the disk
 abbrev pub Created : {F N : Type 0} → (N → List ℕ → Result Bool Error → N → Type 0)
-    → (N → List ℕ → Result F Error → N → Type 0) → (N → F → Lock → Bool → N → Type 0)
+    → (N → List ℕ → Result F Error → N → Type 0) → (N → F → Lock → Result Bool Error → N → Type 0)
     → (N → F → Result (Unit {0}) Error → N → Type 0)
     → (N → List ℕ → Result (Unit {0}) Error → N → Type 0)
     → List ℕ → List ℕ → F → F → N → N → Type 0
@@ -16,7 +16,7 @@ Created {F} {N} looks makes locks syncs syncs_folder path alt first second old n
     (a : N) × looks old path (Ok false) a
     × ((b : N) × looks a alt (Ok false) b
     × ((c : N) × makes b path (Ok first) c
-    × ((d : N) × locks c first Exclusive false d
+    × ((d : N) × locks c first Exclusive (Ok false) d
     × ((e : N) × makes d alt (Ok second) e
     × ((f : N) × syncs e first (Ok tt) f
     × ((g : N) × syncs f second (Ok tt) g
@@ -24,11 +24,11 @@ Created {F} {N} looks makes locks syncs syncs_folder path alt first second old n
 
 -- a first file was opened, and then locked before anything was read of it, and it has one name
 abbrev pub FirstOpened : {F N : Type 0} → (N → List ℕ → Lock → Result F Error → N → Type 0)
-    → (N → F → Lock → Bool → N → Type 0) → (N → F → Result (Unit {0}) Error → N → Type 0)
+    → (N → F → Lock → Result Bool Error → N → Type 0) → (N → F → Result (Unit {0}) Error → N → Type 0)
     → List ℕ → Lock → F → N → N → Type 0
 FirstOpened {F} {N} opens locks is_single path lock first old new =
     (a : N) × opens old path lock (Ok first) a
-    × ((b : N) × locks a first lock false b
+    × ((b : N) × locks a first lock (Ok false) b
     × is_single b first (Ok tt) new)
 
 -- a second file was opened; or there was none, the first one doesn't say that the worksheet lies in
@@ -45,7 +45,7 @@ SecondOpened {F} {N} opens reads makes alt first second old new =
 -- both files were opened to be written, they are two, and then the names of their folder were brought
 -- onto the disk
 abbrev pub Opened : {F N : Type 0} → (N → List ℕ → Lock → Result F Error → N → Type 0)
-    → (N → F → Lock → Bool → N → Type 0) → (N → F → Result (Unit {0}) Error → N → Type 0)
+    → (N → F → Lock → Result Bool Error → N → Type 0) → (N → F → Result (Unit {0}) Error → N → Type 0)
     → (N → F → Result Bool Error → N → Type 0) → (N → List ℕ → Result F Error → N → Type 0)
     → (N → F → F → Result (Unit {0}) Error → N → Type 0)
     → (N → List ℕ → Result (Unit {0}) Error → N → Type 0)
@@ -67,7 +67,7 @@ SecondRead {F} {N} opens are_two alt first None old new =
 
 -- the files were opened to be read alone: none was made, written or synced
 abbrev pub OpenedToRead : {F N : Type 0} → (N → List ℕ → Lock → Result F Error → N → Type 0)
-    → (N → F → Lock → Bool → N → Type 0) → (N → F → Result (Unit {0}) Error → N → Type 0)
+    → (N → F → Lock → Result Bool Error → N → Type 0) → (N → F → Result (Unit {0}) Error → N → Type 0)
     → (N → F → F → Result (Unit {0}) Error → N → Type 0)
     → List ℕ → List ℕ → F → Option F → N → N → Type 0
 OpenedToRead {F} {N} opens locks is_single are_two path alt first second old new =

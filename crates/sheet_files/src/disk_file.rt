@@ -7,8 +7,8 @@ use std::fs::{File, OpenFile};
 use std::io;
 use std::os::unix::fs::FileExt;
 
-/// An open file, of which a disk asks four things. A call that may change something is told the
-/// moment at which it is made, which is the number of that call among all on the disk's files.
+/// An open file, of which a disk asks four things. A call that may change something is given
+/// the moment at which it is made: the number of that call among all on the disk's files.
 ///
 /// A file that keeps the model has a state at each moment: what a read gives, and what a crash may
 /// leave. A real file keeps none, and nothing is claimed of it.

@@ -12,12 +12,12 @@ use std::io::ErrorKind;
 use std::rt::Files;
 
 /// A worksheet's two files: area First is the file at a path, and area Second the one at that path
-/// with `.alt` behind it. Each can grow to 2,147,483,648 bytes. The first one is locked, as long as
-/// the disk isn't dropped.
+/// with `.alt` added. Each can grow to 2,147,483,648 bytes. The first one is locked, as long as the
+/// disk isn't dropped.
 ///
 /// It keeps the model where both files do: its view is made of theirs. Of what a real file holds nothing
 /// is claimed. It counts its failures, as each disk does. A file that is longer than the room is a failure
-/// of the disk, and so is each call behind a sync that failed.
+/// of the disk, and so is each call after a sync that failed.
 #[derive(Drop)]
 pub struct FileDisk<F: DiskFile + Drop> {
     first: F,
@@ -63,7 +63,7 @@ fn sync_file<F: DiskFile>(file: &mut F, moment: u64, lock: Lock) -> io::Result<(
     }
 }
 
-/// Behind a sync that failed nothing is believed.
+/// After a sync that failed nothing is believed.
 fn sync_failed() -> io::Error {
     io::Error::from(ErrorKind::Other)
 }
@@ -72,7 +72,7 @@ impl<F: SheetFile + Drop> FileDisk<F> {
     /// Makes both files, empty, first the one at `path`, which is locked before the other is made.
     /// They and their names are durable once it answers. `NotEmpty` where either exists, a folder and a
     /// link that leads nowhere included, and nothing was made. `InUse` where another program took the
-    /// new file before it was locked. `Disk` where a file can't be made, an empty path and want of
+    /// new file before it was locked. `Disk` where a file can't be made, an empty path and lack of
     /// memory for a path included; a file that was made stays.
     pub fn create<R: Files<File = F>>(
         rt: &R,
@@ -86,13 +86,12 @@ impl<F: SheetFile + Drop> FileDisk<F> {
 
     /// Opens both files, first the one that `path` leads to, which is locked before anything is read
     /// and before the other is opened; a missing second one is made, unless the worksheet lies in it.
-    /// Their names are durable once it answers, also of files that were copied, or that a program made
-    /// which was killed before it brought their names onto the disk.
-    /// `InUse` where another program has the worksheet. `Disk` where a file can't be opened or made: a
-    /// missing file at `path`, a missing second one in which the worksheet lies, a folder or what else is
-    /// no plain file, a file that has another name, a second file that is a link or the first one, one
-    /// that may not be read and written, a folder that can't be read or synced, and want of memory for
-    /// a path.
+    /// Their names are durable once it answers, also those of files that were copied, or whose program
+    /// was killed before it flushed their names to the disk. `InUse` where another program has the
+    /// worksheet. `Disk` where a file can't be opened or made: a missing file at `path`, a missing second
+    /// one in which the worksheet lies, a folder or what else is no plain file, a file that has another
+    /// name, a second file that is a link or the first one, one that may not be read and written, a
+    /// folder that can't be read or synced, and lack of memory for a path.
     pub fn open<R: Files<File = F>>(
         rt: &R,
         alloc: Global,
@@ -220,7 +219,7 @@ impl<F: DiskFile + Drop> FileDisk<F> {
         }
     }
 
-    /// Brings an area's file onto the disk. Behind a sync that failed no other is believed.
+    /// Flushes an area's file to the disk. After a sync that failed no other is believed.
     fn sync_area(&mut self, area: Area) -> io::Result<()>
         ensures kept { WithoutFailure (two_files self.old.failures self.old.moment (F.view self.old.first) (second_of F.view self.old.second)) (two_files self.new.failures self.new.moment (F.view self.new.first) (second_of F.view self.new.second)) }
         ensures syncs { InModel (two_files self.old.failures self.old.moment (F.view self.old.first) (second_of F.view self.old.second))

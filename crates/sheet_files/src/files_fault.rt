@@ -31,7 +31,7 @@ pub enum MakeFault {
     InUse,
 }
 
-/// A file that is there already is told as such, and each other error as a failure of the disk.
+/// A file that is there already is reported as such, and each other error as a failure of the disk.
 impl From<io::Error> for MakeFault {
     fn from(error: io::Error) -> MakeFault {
         match error.kind() {

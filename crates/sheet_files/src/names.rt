@@ -18,7 +18,7 @@ pub trait Names<F> {
 
     ghost opens: { Self → List ℕ → Lock → Result F Error → Self → Type 0 };
 
-    ghost locks: { Self → F → Lock → Bool → Self → Type 0 };
+    ghost locks: { Self → F → Lock → Result Bool Error → Self → Type 0 };
 
     ghost is_single: { Self → F → Result (Unit {0}) Error → Self → Type 0 };
 
@@ -43,7 +43,7 @@ pub trait Names<F> {
         ensures { opens self.old path.now lock result self.new };
 
     /// Takes a lock, and answers whether another has the file.
-    fn lock(&mut self, file: &F, lock: Lock) -> bool
+    fn lock(&mut self, file: &F, lock: Lock) -> io::Result<bool>
         ensures { locks self.old file.now lock result self.new };
 
     /// Sees to it that a file is a plain one that has one name.

@@ -8,7 +8,7 @@ use journal::CreateCause;
 use std::io;
 use std::io::ErrorKind;
 
-/// Looks for both files before one is made: one that is there is told first.
+/// Looks for both files before one is made: one that is there is reported first.
 fn look_for<F, N: Names<F>>(names: &mut N, path: &str, alt: &str) -> Result<(), MakeFault>
     ensures { IfOk result (λ _. (a : N) × N.looks names.old path.now (Ok false) a
         × N.looks a alt.now (Ok false) names.new) }
@@ -32,7 +32,7 @@ pub(crate) fn create<F: Drop, N: Names<F>>(
 {
     look_for(names, path, alt)?;
     let first = names.make(path)?;
-    if names.lock(&first, Lock::Exclusive) {
+    if names.lock(&first, Lock::Exclusive)? {
         return Err(MakeFault::InUse);
     }
     let second = names.make(alt)?;
@@ -49,7 +49,7 @@ fn open_first<F: Drop, N: Names<F>>(names: &mut N, path: &str, lock: Lock) -> Re
         path.now lock first names.old names.new) }
 {
     let first = names.open(path, lock)?;
-    if names.lock(&first, lock) {
+    if names.lock(&first, lock)? {
         return Err(FilesFault::InUse);
     }
     names.single(&first)?;

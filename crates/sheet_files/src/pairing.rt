@@ -43,10 +43,30 @@ fn is_there<R: Files>(rt: &R, path: &str) -> io::Result<bool> {
     }
 }
 
+/// Linux's number for "no locks available", as a network file system without its lock service says it.
+const ENOLCK: i32 = 37;
+
+/// Whether a file system says by this that it has no locks.
+fn has_no_locks(error: &io::Error) -> bool {
+    matches!(
+        error.kind(),
+        ErrorKind::Unsupported | ErrorKind::InvalidInput
+    ) || error.raw_os_error() == Some(ENOLCK)
+}
+
 /// Takes a lock, and answers whether another has the file. A file system without locks has none that
 /// could be held by another.
-fn is_in_use<F: SheetFile>(file: &F, lock: Lock) -> bool {
-    matches!(file.take_lock(lock), Err(TryLockError::WouldBlock))
+fn is_in_use<F: SheetFile>(file: &F, lock: Lock) -> io::Result<bool> {
+    match file.take_lock(lock) {
+        Ok(()) => Ok(false),
+        Err(TryLockError::WouldBlock) => Ok(true),
+        Err(TryLockError::Error(error)) => {
+            if has_no_locks(&error) {
+                return Ok(false);
+            }
+            Err(error)
+        }
+    }
 }
 
 /// Opens a plain file that is there: to read alone for a shared lock, else to write too. What is none
@@ -74,7 +94,7 @@ fn single<F: SheetFile>(file: &F) -> io::Result<Identity> {
 /// How the first file begins of a worksheet that lies in its second one.
 const NAMES_SECOND: &[u8] = b"TMWSHEET\x01B";
 
-/// Whether a first file says that its worksheet lies in the second one. It has a gate behind that, as each
+/// Whether a first file says that its worksheet lies in the second one. It has a gate after that, as each
 /// first file.
 fn names_second<F: FileExt>(first: &F) -> io::Result<bool> {
     let mut header = [0; 11];
@@ -126,7 +146,7 @@ impl<F: SheetFile, R: Files<File = F>> Names<F> for FileNames<'_, R> {
         open_plain(self.rt, path, lock)
     }
 
-    fn lock(&mut self, file: &F, lock: Lock) -> bool {
+    fn lock(&mut self, file: &F, lock: Lock) -> io::Result<bool> {
         is_in_use(file, lock)
     }
 

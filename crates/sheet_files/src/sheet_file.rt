@@ -30,7 +30,8 @@ pub struct Identity {
 pub trait SheetFile: OpenFile + FileExt + DiskFile {
     /// Takes a lock, without waiting for it. It is this open's own, so no other has it, and it goes
     /// when the file is closed, also by the end of a program that was killed. `WouldBlock` where
-    /// another open has one that forbids it; another error where the file system has no locks.
+    /// another open has one that forbids it; another error where it can't be had, or where the file
+    /// system has no locks.
     fn take_lock(&self, lock: Lock) -> Result<(), TryLockError>;
 
     /// Which file this is.

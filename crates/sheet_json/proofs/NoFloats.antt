@@ -1,4 +1,4 @@
--- Nothing that is told has a float.
+-- Nothing that is printed has a float.
 use Rattle.std.proofs.Common.{◌≡◌, ℕ, Bool, true, false, cond, ◌||◌, List, [], ◌∷◌, map, Option, Some, None, refl, ap, ap₂, sym, subst}
 use Rattle.std.specs.Str.{is_utf8}
 use Rattle.block_tree.specs.Tree.{Items, Tree, end, text, block}
@@ -99,9 +99,11 @@ none_told (told.sheet line ids next sessions) = whole_none ids sessions next
 none_told (told.whole ids next sessions) = whole_none ids sessions next
 none_told (told.fault n name None) = refl
 none_told (told.fault n name (Some offset)) = refl
+none_told (told.counted answered unanswered) = refl
+none_told (told.counted_in_time answered unanswered over passed) = refl
 none_told told.end = refl
 
--- a value that is told has none
+-- a value that is printed has none
 pub told_has_none : (t : Telling) (d : json.Data) → d ≡ telling_data t → has_float d ≡ false
 told_has_none t d e = subst (λ (x : json.Data). has_float x ≡ false) (sym e) (none_told t)
 

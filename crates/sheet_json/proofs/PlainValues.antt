@@ -1,4 +1,4 @@
--- What is told is plain.
+-- What is printed is plain.
 use Rattle.std.proofs.Common.{◌≡◌, ℕ, suc, max, ◌+◌, ◌*◌, ◌≤◌, ◌||◌, ◌&&◌, Bool, true, false, cond, List, [], ◌∷◌, map, Option, Some, None, arith, refl, ap₂, nat_le}
 use Rattle.std.specs.List.{AllByRecursion}
 use Rattle.std.specs.Str.{is_utf8}
@@ -197,4 +197,7 @@ tellings_are_plain (told.sheet line ids next sessions) s =
 tellings_are_plain (told.whole ids next sessions) s = an_object (a_member (ids_plain ids s.0) (a_member (a_count s.1) (a_member (sessions_plain sessions s.2) a_type)))
 tellings_are_plain (told.fault n name None) s = an_object (a_member a_text (a_member (a_count s) a_type))
 tellings_are_plain (told.fault n name (Some offset)) s = an_object (a_member a_text (a_member (a_count s.0) (a_member (a_count s.1) a_type)))
+tellings_are_plain (told.counted answered unanswered) s = an_object (a_member (a_count s.0) (a_member a_text (a_member (a_count s.1) no_more)))
+tellings_are_plain (told.counted_in_time answered unanswered over passed) s =
+    an_object (a_member (a_count s.0) (a_member (a_count s.2) (a_member (a_count s.3) (a_member a_text (a_member (a_count s.1) no_more)))))
 tellings_are_plain told.end s = an_object a_type

@@ -1,4 +1,4 @@
--- What is told reads back.
+-- What is printed reads back.
 use Rattle.std.proofs.Common.{◌≡◌, ℕ, true, false, List, [], ◌∷◌, map, Option, Some, None, option_map, refl, ap, ◌∙◌}
 use Rattle.std.specs.List.{AllByRecursion}
 use Rattle.base64.specs.GeneralPurpose.{IsBytes}
@@ -21,7 +21,7 @@ use Rattle.sheet_json.specs.Reading.{bytes_in, tree_in, HasBytes}
 use Rattle.sheet_json.specs.Tellings.{Telling, Reply, EventTold, FieldShown, SessionShown, State}
 use Rattle.sheet_json.specs.Tellings as told
 use Rattle.sheet_json.specs.Told.{completions_in, each_in, list_in, lost_in, of, option_in, reason_named, refusal_in, CompletionsHaveBytes, ItemHasBytes}
-use Rattle.sheet_json.specs.Laws.{EventsReadBack, RepliesReadBack}
+use Rattle.sheet_json.specs.Laws.{CountsReadBack, EventsReadBack, RepliesReadBack}
 use Rattle.sheet_json.proofs.Back.{bytes_back, blocks_read_back}
 
 refusal_back : (why : Refusal) → refusal_in (count (refusal_number why)) ≡ Some why
@@ -64,6 +64,9 @@ replies_read_back line told.nothing = refl
 replies_read_back line (told.waited true) = refl
 replies_read_back line (told.waited false) = refl
 replies_read_back line (told.interrupted outcome) = refl
+
+pub counts_read_back : CountsReadBack
+counts_read_back = ((λ a u. refl), (λ a u over passed. refl))
 
 tree_back : (b : Tree) → HasBytes b → tree_in (tree_data b) ≡ Some b
 tree_back = blocks_read_back

@@ -13,7 +13,7 @@ use Rattle.sheet_json.specs.Plain.{IsPlain, IsSoundTelling}
 use Rattle.sheet_json.specs.Reading.{bytes_in, tree_in, HasBytes}
 use Rattle.sheet_json.specs.Tellings.{EventTold, FieldShown, Reply, SessionShown, Telling}
 use Rattle.sheet_json.specs.Tellings as told
-use Rattle.sheet_json.specs.Told.{field_read, session_in, told_in, EventHasBytes, StateHasBytes}
+use Rattle.sheet_json.specs.Told.{counts_in, field_read, session_in, told_in, EventHasBytes, StateHasBytes}
 
 -- Bytes read back, whatever they are.
 abbrev pub BytesReadBack : Type 0
@@ -37,6 +37,11 @@ FieldsReadBack = (f : FieldShown) → IsBytes f.session → StateHasBytes f.stat
 
 abbrev pub SessionsReadBack : Type 0
 SessionsReadBack = (s : SessionShown) → IsBytes s.name → AllByRecursion IsBytes s.words → session_in (session_data s) ≡ Some s
+
+-- The counts of an evaluation read back.
+abbrev pub CountsReadBack : Type 0
+CountsReadBack = ((a u : ℕ) → counts_in (telling_data (told.counted a u)) ≡ Some (told.counted a u))
+    × ((a u over passed : ℕ) → counts_in (telling_data (told.counted_in_time a u over passed)) ≡ Some (told.counted_in_time a u over passed))
 
 -- What a program tells has no float, no number of more than 64 bits, and nests 67 deep at most. So of each telling `line_bytes` gives
 -- the line of the definition, which is one line and reads back.

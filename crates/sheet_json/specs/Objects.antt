@@ -1,4 +1,4 @@
--- What is told, as JSON: the members of each object in the order of their names. (DESIGN.md, "Objects".)
+-- What is printed, as JSON: the members of each object in the order of their names. (DESIGN.md, "Objects".)
 use Rattle.std.specs.Prelude.{ℕ, true, false, List, Option, Some, None, codes, map}
 use Rattle.block_tree.specs.Tree.{Tree}
 use Rattle.worksheet.specs.Refusals.{refusal_number, refusal_name}
@@ -17,7 +17,7 @@ use Rattle.sheet_json.specs.Tellings as told
 abbrev pub count : ℕ → Data
 count n = number (unsigned n)
 
--- the member `type`, and none behind it
+-- the member `type`, and none after it
 abbrev pub typed : List ℕ → Members
 typed name = member (codes "type") (string name) no_members
 
@@ -107,7 +107,7 @@ ids_data ids = array (items_of (map count ids))
 abbrev pub sessions_data : List SessionShown → Data
 sessions_data sessions = array (items_of (map session_data sessions))
 
--- All that is told.
+-- All that is printed.
 abbrev pub telling_data : Telling → Data
 telling_data told.hello = object (member (codes "format") (count 1) (member (codes "program") (string (codes "tmhost")) (member (codes "protocol") (count 2) (member (codes "type") (string (codes "hello")) (member (codes "version") (string (codes "0.1.0")) no_members)))))
 telling_data (told.reply line r) = reply_data line r
@@ -120,4 +120,7 @@ telling_data (told.sheet line ids next sessions) = object (member (codes "fields
 telling_data (told.whole ids next sessions) = object (member (codes "fields") (ids_data ids) (member (codes "next") (count next) (member (codes "sessions") (sessions_data sessions) (typed (codes "sheet")))))
 telling_data (told.fault n name None) = object (member (codes "name") (string name) (member (codes "number") (count n) (typed (codes "fault"))))
 telling_data (told.fault n name (Some offset)) = object (member (codes "name") (string name) (member (codes "number") (count n) (member (codes "offset") (count offset) (typed (codes "fault")))))
+telling_data (told.counted answered unanswered) = object (member (codes "answered") (count answered) (member (codes "type") (string (codes "counted")) (member (codes "unanswered") (count unanswered) no_members)))
+telling_data (told.counted_in_time answered unanswered over passed) =
+    object (member (codes "answered") (count answered) (member (codes "over") (count over) (member (codes "passed") (count passed) (member (codes "type") (string (codes "counted")) (member (codes "unanswered") (count unanswered) no_members)))))
 telling_data told.end = object (typed (codes "end"))

@@ -79,4 +79,6 @@ IsSoundTelling (told.sheet line ids next sessions) = Is64 line × AllByRecursion
 IsSoundTelling (told.whole ids next sessions) = AllByRecursion Is64 ids × Is64 next × AllByRecursion IsSoundSession sessions
 IsSoundTelling (told.fault n name None) = Is64 n
 IsSoundTelling (told.fault n name (Some offset)) = Is64 n × Is64 offset
+IsSoundTelling (told.counted answered unanswered) = Is64 answered × Is64 unanswered
+IsSoundTelling (told.counted_in_time answered unanswered over passed) = Is64 answered × Is64 unanswered × Is64 over × Is64 passed
 IsSoundTelling told.end = Unit {0}

@@ -32,7 +32,7 @@ abbrev pub answer_shown : ℕ → Option Field → Option EventTold
 answer_shown id None = None
 answer_shown id (Some field) = answer_event id field.answer
 
--- what closed, where this is the worksheet behind it
+-- what closed, where this is the worksheet after it
 abbrev pub closed_event : Contents → Closed → Option EventTold
 closed_event sheet (closed.Banner output) = Some (told.banner output)
 closed_event sheet (closed.Line id) = answer_shown id (field_in sheet.fields id)

@@ -1,4 +1,4 @@
--- What is told of a worksheet that no host has, as lines of JSON.
+-- What is printed of a worksheet that no host has, as lines of JSON.
 use Rattle.std.specs.Prelude.{ℕ, List, map}
 use Rattle.std.specs.List.{flat_map}
 use Rattle.worksheet.specs.Contents.{Contents}

@@ -41,6 +41,6 @@ still_field field = told.shown (field_told false field)
 abbrev pub whole_of : Contents → Telling
 whole_of sheet = told.whole (ids_of sheet) sheet.next (still_sessions sheet)
 
--- all that is told of it: its fields in order, and what they are together
+-- all that is printed of it: its fields in order, and what they are together
 abbrev pub sheet_tellings : Contents → List Telling
 sheet_tellings sheet = told.hello ∷ (map still_field sheet.fields ++ whole_of sheet ∷ told.end ∷ [])

@@ -1,4 +1,4 @@
--- What is told, apart from how it is written. (DESIGN.md, "Objects".)
+-- What is printed, apart from its format. (DESIGN.md, "Objects".)
 use Rattle.std.specs.Prelude.{ℕ, Bool, List, Option}
 use Rattle.block_tree.specs.Tree.{Tree}
 use Rattle.block_tree.specs.declared.reason.Reason.{Reason}
@@ -66,5 +66,9 @@ pub data Telling : Type 0 where
   whole : List ℕ → ℕ → List SessionShown → Telling
   -- the number of a fault and its name, and the offset of a damage
   fault : ℕ → List ℕ → Option ℕ → Telling
+  -- at the end of an evaluation, how many fields show an answer and how many don't
+  counted : ℕ → ℕ → Telling
+  -- the same, and for how many fields the limit of time was over, and how many were passed over
+  counted_in_time : ℕ → ℕ → ℕ → ℕ → Telling
   -- the input came to its end
   end : Telling

@@ -124,6 +124,16 @@ told_named name d = with_line (member_in count_in (codes "line") d) name d
 abbrev pub told_in : Data → Option Telling
 told_in d = option_and_then (λ name. told_named name d) (member_in as_str (codes "type") d)
 
+-- the counts of an evaluation, by the member `over` if it has one
+abbrev pub counts_with : Option Data → Data → Option Telling
+counts_with None d = of (option_map (λ answered unanswered. told.counted answered unanswered) (member_in count_in (codes "answered") d)) (member_in count_in (codes "unanswered") d)
+counts_with (Some over) d =
+    of (of (of (option_map (λ answered unanswered o passed. told.counted_in_time answered unanswered o passed) (member_in count_in (codes "answered") d)) (member_in count_in (codes "unanswered") d))
+    (count_in over)) (member_in count_in (codes "passed") d)
+
+abbrev pub counts_in : Data → Option Telling
+counts_in d = counts_with (get (codes "over") d) d
+
 -- what a program's bytes are
 
 abbrev pub ItemHasBytes : Item → Type 0

@@ -1,4 +1,4 @@
-//! The first and the last object.
+//! The first and the last objects.
 ghost use Rattle.std.specs.Prelude.{◌≡◌, IfOk};
 ghost use Rattle.serde_json.specs.View.{view};
 ghost use Rattle.sheet_json.specs.Objects.{telling_data};
@@ -19,6 +19,30 @@ pub fn end_value(alloc: Global) -> Result<Value, AllocError>
     ensures { IfOk result (λ value. view value ≡ telling_data told.end) }
 {
     json!(in alloc; {"type": "end"})
+}
+
+/// How many fields of a worksheet show an answer at the end of an evaluation, and how many don't.
+pub fn counted_value(alloc: Global, answered: u64, unanswered: u64) -> Result<Value, AllocError>
+    ensures { IfOk result (λ value. view value ≡ telling_data (told.counted answered unanswered)) }
+{
+    json!(in alloc; {"answered": answered, "type": "counted", "unanswered": unanswered})
+}
+
+/// The same of an evaluation with a limit of time: for how many fields it was over, and how many were
+/// passed over.
+pub fn counted_in_time_value(
+    alloc: Global,
+    answered: u64,
+    unanswered: u64,
+    over: u64,
+    passed: u64,
+) -> Result<Value, AllocError>
+    ensures { IfOk result (λ value. view value
+        ≡ telling_data (told.counted_in_time answered unanswered over passed)) }
+{
+    json!(in alloc; {
+        "answered": answered, "over": over, "passed": passed, "type": "counted", "unanswered": unanswered
+    })
 }
 
 /// A fault, and the offset of a damage.

@@ -37,6 +37,12 @@ pub fn sessions_read_back()
     ensures { laws.SessionsReadBack }
 {}
 
+/// The counts of an evaluation read back.
+#[tactic(auto, using(crate::proofs::Tellings::counts_read_back))]
+pub fn counts_read_back()
+    ensures { laws.CountsReadBack }
+{}
+
 /// What a program tells has no float, no number of more than 64 bits, and nests 67 deep at most.
 #[tactic(auto, using(crate::proofs::PlainValues::tellings_are_plain))]
 pub fn tellings_are_plain()

@@ -1,4 +1,4 @@
-//! Worksheets and what is told of them as JSON.
+//! Worksheets and what is printed of them, as JSON.
 #![tactic(auto)]
 
 mod blocks;
@@ -15,7 +15,7 @@ mod whole;
 
 pub use blocks::block_value;
 pub use bytes::bytes_value;
-pub use ends::{end_value, fault_value, hello_value};
+pub use ends::{counted_in_time_value, counted_value, end_value, fault_value, hello_value};
 pub use events::{
     answered_value, banner_value, completed_value, default_value, ended_value, stopped_value,
 };

@@ -82,7 +82,7 @@ fn ids_value(alloc: Global, sheet: &Sheet) -> Result<Value, AllocError>
     ids_row(alloc, sheet)
 }
 
-/// What stands behind the fields that a line asks for, where its sessions have these values.
+/// What follows the fields that a line asks for, where the sessions have these values.
 pub fn sheet_value(
     alloc: Global,
     line: u64,
@@ -99,7 +99,7 @@ pub fn sheet_value(
     json!(in alloc; {"fields": ids, "line": line, "next": next, "sessions": sessions, "type": "sheet"})
 }
 
-/// What stands behind the fields of a worksheet that no host has.
+/// What follows the fields of a worksheet that no host has.
 pub fn whole_value(alloc: Global, sheet: &Sheet) -> Result<Value, AllocError>
     ensures { IfOk result (λ value. view value ≡ telling_data (shown.whole_of sheet.now.contents)) }
 {

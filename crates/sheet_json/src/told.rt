@@ -65,7 +65,7 @@ fn shown_answer_value(
     }
 }
 
-/// What closed, where this is the worksheet behind it.
+/// What closed, where this is the worksheet after it.
 pub fn closed_value(
     alloc: Global,
     sheet: &Sheet,

@@ -1,4 +1,4 @@
--- Blocks added behind bytes of a text.
+-- Blocks added after bytes of a text.
 use Rattle.std.proofs.Common.{◌≡◌, ℕ, Bool, true, false, cond, List, [], ◌∷◌, ◌++◌, map, flat_map, refl, ap, sym, ◌∙◌, subst, append_assoc, append-nil, length, take, get_or, ◌<◌, ◌≤◌, ◌+◌}
 use Rattle.std.proofs.lemmas.List.{take_more, take_all}
 use Rattle.std.proofs.lemmas.Grind.{flat_map-append}

@@ -48,7 +48,7 @@ output_stays output = named_stays output.channel output.name output.items
 pub are_still : FormulasAreStill
 are_still output formula e = sym (ap stays e) ∙ output_stays output
 
--- a formula behind a text
+-- a formula after a text
 
 -- what is said of a formula that items are as one block
 record IsLast (items : Items) (formula : List ℕ) : Type 0 where

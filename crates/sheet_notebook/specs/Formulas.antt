@@ -15,7 +15,7 @@ abbrev pub opens_address : List ℕ → Bool
 opens_address [] = false
 opens_address (byte ∷ rest) = cond (byte == 32) (opens_address rest) (byte == 40)
 
--- whether a link or an image, which have "](", or an element, a remark or an address, which have a '<' with no space behind it, could begin
+-- whether a link or an image, which have "](", or an element, a remark or an address, which have a '<' with no space after it, could begin
 abbrev pub begins_markup : ℕ → List ℕ → Bool
 begins_markup byte rest = (byte == 93 && opens_address rest) || (byte == 60 && not (starts_with nat_eq rest (codes " ")))
 
@@ -45,7 +45,7 @@ is_still given = list_all is_formula_byte given && not (has_markup given)
 abbrev pub is_no_dollar : ℕ → Bool
 is_no_dollar byte = not (byte == 36)
 
--- whether these bytes have no dollar, and no backslash at their end, which would make the dollar behind it another one
+-- whether these bytes have no dollar, and no backslash at their end, which would make the dollar after it another one
 abbrev pub is_inside : List ℕ → Bool
 is_inside inside = list_all is_no_dollar inside && not (ends_with nat_eq inside (codes "\\"))
 
@@ -58,11 +58,11 @@ is_seen (Some byte) = nat_lt 32 byte && nat_lt byte 127
 abbrev pub is_tight : List ℕ → Bool
 is_tight inside = is_seen (slice_get inside 0) && is_seen (slice_get inside (length inside - 1))
 
--- how many braces are open behind a byte
+-- how many braces are open after a byte
 abbrev pub depth_with : ℕ → ℕ → ℕ
 depth_with depth byte = cond (byte == 123) (depth + 1) depth
 
--- whether each '}' closes a '{', of which so many are open, and none stays open; a byte behind a backslash is no brace
+-- whether each '}' closes a '{', of which so many are open, and none stays open; a byte after a backslash is no brace
 abbrev pub closes : Bool → ℕ → List ℕ → Bool
 closes escaped depth [] = depth == 0
 closes true depth (byte ∷ rest) = closes false depth rest
@@ -111,12 +111,12 @@ formula_last (block channel name inside end) = formula_named channel name inside
 formula_last (block channel name inside (text given rest)) = None
 formula_last (block channel name inside (block other another within rest)) = None
 
--- the text and the formula behind it that these items are, if they are those
+-- the text and the formula after it that these items are, if they are those
 abbrev pub text_and_formula : Items → Option (List ℕ × List ℕ)
 text_and_formula end = None
 text_and_formula (text given rest) = option_map (λ formula. (given, formula)) (formula_last rest)
 text_and_formula (block channel name inside rest) = None
 
--- the text that an output prints and the formula behind it, if it is those: an interpreter that prints before it gives its value
+-- the text that an output prints and the formula after it, if it is those: of an interpreter that prints before it gives its value
 abbrev pub formula_behind : Tree → Option (List ℕ × List ℕ)
 formula_behind b = cond (is_bare b.channel b.name) (text_and_formula b.items) None

@@ -9,7 +9,7 @@ use Rattle.sheet_notebook.specs.Formulas.{formula_behind, formula_of, is_still}
 abbrev pub FormulasAreStill : Type 0
 FormulasAreStill = (output : Tree) (formula : List ℕ) → formula_of output ≡ Some formula → is_still formula ≡ true
 
--- Neither has one behind a text that was printed; and the text and the formula are all that `print` shows of such an output.
+-- Neither has one after a text that was printed; and the text and the formula are all that `print` shows of such an output.
 abbrev pub FormulasBehindAreStill : Type 0
 FormulasBehindAreStill = (output : Tree) (printed formula : List ℕ) → formula_behind output ≡ Some (printed, formula)
     → (is_still formula ≡ true) × (block_text output ≡ on_lines printed ++ framed false (codes "latex") (on_lines formula))

@@ -32,7 +32,7 @@ abbrev pub stream_data : List ℕ → Data
 stream_data printed = object (member (codes "name") (string (codes "stdout")) (member (codes "output_type") (string (codes "stream"))
     (member (codes "text") (string (string_of true printed)) no_members)))
 
--- a text that was printed and the formula behind it, each as an output of its own, or the output as one
+-- a text that was printed and the formula after it, each as an output of its own, or the output as one
 abbrev pub outputs_with : Option (List ℕ × List ℕ) → Tree → Data
 outputs_with None output = array (item (result_of (bundle (formula_of output) output)) no_items)
 outputs_with (Some found) output = array (item (stream_data found.0) (item (result_of (formula_bundle found.1)) no_items))

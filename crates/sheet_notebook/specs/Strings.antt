@@ -10,7 +10,7 @@ abbrev pub first_string : Bool → ℕ → Option ℕ → List ℕ
 first_string keeps_lines byte None = escaped_byte byte
 first_string keeps_lines byte (Some character) = cond (is_plain keeps_lines character) (encode_utf8 character) (escaped_byte byte)
 
--- how many bytes of a character stand behind its first
+-- how many bytes of a character follow its first
 abbrev pub others_of : Decoded → ℕ
 others_of front = cond (is_some front.char) (front.size - 1) 0
 

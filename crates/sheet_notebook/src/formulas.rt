@@ -17,7 +17,7 @@ fn is_formula_byte(byte: u8) -> bool
     is_plain(byte, false) && byte != b'`'
 }
 
-/// Whether the address of a link could begin, behind spaces or at once.
+/// Whether the address of a link could begin, after spaces or at once.
 fn opens_address(bytes: &[u8]) -> bool
     ensures { result ≡ formula.opens_address bytes.now }
 {
@@ -31,7 +31,7 @@ fn opens_address(bytes: &[u8]) -> bool
     false
 }
 
-/// Whether a link, an image, an element, a remark or an address could begin with a byte and those behind it.
+/// Whether a link, an image, an element, a remark or an address could begin with a byte and those after it.
 fn begins_markup(byte: u8, rest: &[u8]) -> bool
     ensures { result ≡ formula.begins_markup byte rest.now }
 {
@@ -52,14 +52,14 @@ fn hides_brace(byte: u8, rest: &[u8]) -> bool
     byte == b'\\' && (rest.starts_with(b"\\{") || rest.starts_with(b"\\}"))
 }
 
-/// Whether a reader could take what stands beside a byte and those behind it for something else.
+/// Whether a reader could take what stands beside a byte and those after it for something else.
 fn changes_marks(byte: u8, rest: &[u8]) -> bool
     ensures { result ≡ formula.changes_marks byte rest.now }
 {
     begins_attributes(byte, rest) || hides_brace(byte, rest)
 }
 
-/// Whether markup could begin with a byte and those behind it, as some reader sees them.
+/// Whether markup could begin with a byte and those after it, as some reader sees them.
 fn may_begin_markup(byte: u8, rest: &[u8]) -> bool
     ensures { result ≡ formula.may_begin_markup byte rest.now }
 {
@@ -107,7 +107,7 @@ fn has_no_dollar(text: &[u8]) -> bool
     text.iter().all(|byte| is_no_dollar(*byte))
 }
 
-/// Whether bytes have no dollar, and no backslash at their end, which would make the dollar behind it another one.
+/// Whether bytes have no dollar, and no backslash at their end, which would make the dollar after it another one.
 fn is_inside(inside: &[u8]) -> bool
     ensures { result ≡ formula.is_inside inside.now }
 {
@@ -131,7 +131,7 @@ fn is_tight(inside: &[u8]) -> bool
     is_seen(inside.first().copied()) && is_seen(inside.last().copied())
 }
 
-/// How many braces are open behind a byte that closes none.
+/// How many braces are open after a byte that closes none.
 fn depth_with(depth: usize, byte: u8) -> usize
     requires { depth < 9223372036854775807 }
     ensures { result ≡ formula.depth_with depth byte }
@@ -263,7 +263,7 @@ fn formula_last(items: &[Item]) -> Option<&[u8]>
     }
 }
 
-/// The text and the formula behind it that these items are, if they are those.
+/// The text and the formula after it that these items are, if they are those.
 #[tactic(auto, using(crate::proofs::Pieces::item_rules))]
 fn text_and_formula(items: &[Item]) -> Option<(&[u8], &[u8])>
     ensures { option_map (λ found. (found.0.now, found.1.now)) result
@@ -292,7 +292,7 @@ fn is_bare_tag(tag: &Tag) -> bool
     }
 }
 
-/// The text and the formula behind it that a node is, if it is those.
+/// The text and the formula after it that a node is, if it is those.
 #[tactic(auto, using(crate::proofs::Pieces::item_rules))]
 fn formula_behind_node(node: &Node) -> Option<(&[u8], &[u8])>
     ensures { option_map (λ found. (found.0.now, found.1.now)) result
@@ -305,7 +305,7 @@ fn formula_behind_node(node: &Node) -> Option<(&[u8], &[u8])>
     }
 }
 
-/// The text that an output prints and the formula behind it, if it is these two, of an interpreter that prints before
+/// The text that an output prints and the formula after it, if it is these two, of an interpreter that prints before
 /// it gives its value: a block without a tag in braces that has a text, and then a block that is a formula.
 pub fn formula_behind(output: &Block) -> Option<(&[u8], &[u8])>
     ensures { option_map (λ found. (found.0.now, found.1.now)) result

@@ -7,7 +7,7 @@ pub fn formulas_are_still()
     ensures { FormulasAreStill }
 {}
 
-/// The same of one behind a text that was printed; and these two are all that `print` shows of such an output.
+/// The same of one after a text that was printed; and these two are all that `print` shows of such an output.
 pub fn formulas_behind_are_still()
     ensures { FormulasBehindAreStill }
 {}

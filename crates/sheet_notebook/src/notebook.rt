@@ -77,7 +77,7 @@ fn whole_output(alloc: Global, output: &Block) -> Result<Value, AllocError>
     json!(in alloc; [given])
 }
 
-/// A text that was printed, and the formula behind it.
+/// A text that was printed, and the formula after it.
 fn text_and_formula(alloc: Global, printed: &[u8], formula: &[u8]) -> Result<Value, AllocError>
     ensures { (output : Tree) → IfOk result
         (λ value. view value ≡ notebook.outputs_with (Some (printed.now, formula.now)) output) }

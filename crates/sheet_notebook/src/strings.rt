@@ -58,7 +58,7 @@ fn push_first(
     }
 }
 
-/// How many bytes of a character stand behind its first.
+/// How many bytes of a character follow its first.
 fn others_of(character: Option<char>, size: usize) -> usize
     ensures { result ≡ shown.others_of (record { char = character; size = size }) }
 {
@@ -103,7 +103,7 @@ pub(crate) fn string_of(
     Ok(text)
 }
 
-/// Adds a tag behind its brace.
+/// Adds a tag, after its brace.
 #[tactic(auto, using(crate::proofs::Adding::steps))]
 fn push_tag(tag: &Tag, text: &mut String) -> Result<(), AllocError>
     ensures { OnOk result (Adds (string_bytes text.old) (string_bytes text.new)
@@ -118,7 +118,7 @@ fn push_tag(tag: &Tag, text: &mut String) -> Result<(), AllocError>
     }
 }
 
-/// Adds what stands behind a block with a tag.
+/// Adds what comes after a block with a tag.
 fn close_tag(text: &mut String) -> Result<(), AllocError>
     ensures { OnOk result (Adds (string_bytes text.old) (string_bytes text.new) (125 ∷ [])) }
 {

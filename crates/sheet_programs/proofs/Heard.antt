@@ -1,4 +1,4 @@
--- A wait that is told step by step.
+-- A wait of which each step is written before the next.
 use Rattle.std.proofs.Common.{◌≡◌, true, false, inl, inr, ℕ, List, [], ◌∷◌, ◌++◌, Option, Some, refl, ap, sym, ◌∙◌, subst, append_assoc, append-nil}
 use Rattle.std.proofs.KnownBytes.{Appends-trans, Appends-nil}
 use Rattle.std.specs.Prelude.{Bool, ◌||◌, IfOk, IfErr, Result, Ok, Err}

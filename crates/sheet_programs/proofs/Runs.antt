@@ -195,7 +195,7 @@ lines_failed R strict all number left line others s h c a b g d e fault.InputToo
 lines_failed R strict all number left line others s h c a b g d e (fault.Open why) is so p = absurd p
 lines_failed R strict all number left line others s h c a b g d e fault.InUse is so p = absurd p
 
--- The stops behind it.
+-- The stops after it.
 
 abbrev pub StopsIn : {C : Type 0} → Relation C → HostView → C → C → Type 0
 StopsIn R h c d = ((w : World) → IsHost h w → Stops R (running w) c d)
@@ -331,7 +331,7 @@ opened_on disk h ops stands found ends looks = record {
   looks = looks;
 }
 
--- where a run stands that took its lines is known by its beats
+-- where a run stands that took its lines is known by its entries
 pub taken-goes : {C : Type 0} (R : Relation C) (strict : Bool) (lines : List (List ℕ)) (stopped : Option ℕ) (s : At C) (beats : List Beat) (text : List ℕ) (t : At C) → LinesTaken R strict lines stopped s beats text t
     → Goes s.world s.disk beats t.world t.disk
 taken-goes R false lines stopped s beats text t p = lines-goes R 1 lines s beats text t p

@@ -1,4 +1,4 @@
--- Lines that go right, one behind another.
+-- Lines that go right, one after another.
 use Rattle.std.proofs.Common.{◌≡◌, ℕ, true, false, List, [], ◌∷◌, ◌++◌, Option, Some, None, refl, ap, sym, ◌∙◌}
 use Rattle.std.proofs.lemmas.Bool.{false≢true}
 use Rattle.std.proofs.lemmas.List.Folds.{list_any-append}
@@ -15,7 +15,7 @@ use Rattle.sheet_programs.specs.Strict.{RightIf, goes_wrong, is_bad, is_wrong}
 neither : (x y : Bool) → x ≡ false → y ≡ false → (x || y) ≡ false
 neither x y e f = ap (λ b. b || y) e ∙ f
 
--- the replies of beats, and of more behind them
+-- the replies of entries, and of more after them
 pub wrong_on : (beats more : List Beat) → (list_any is_wrong (told beats) || list_any is_wrong (told more)) ≡ list_any is_wrong (told (beats ++ more))
 wrong_on beats more = sym (ap (λ (l : List Reply). list_any is_wrong l) (told-append beats more) ∙ list_any-append is_wrong (told beats) (told more))
 

@@ -13,11 +13,11 @@ use Rattle.sheet_text.specs.declared.script.ScriptLine.{ScriptLine}
 use Rattle.sheet_text.specs.declared.script.ScriptLine.TheVariants as line
 use Rattle.offline_programs.specs.Memory.{bad_line, replies_text}
 
--- what is written of the beats of a run: the texts of their replies
+-- what is written of the entries of a run: the texts of their replies
 abbrev pub beats_text : List Beat → List ℕ
 beats_text beats = replies_text (told beats)
 
--- The line with this number was done: the beats that came of it, what is written of it, and where the run stands behind it.
+-- The line with this number was done: the entries that came of it, what is written of it, and where the run stands after it.
 abbrev pub LineDone : {C : Type 0} → Relation C → ℕ → Option ScriptLine → At C → List Beat → List ℕ → At C → Type 0
 LineDone R number None s beats text t = (beats ≡ []) × (text ≡ bad_line number) × (t ≡ s)
 LineDone R number (Some line.Skip) s beats text t = (beats ≡ []) × (text ≡ []) × (t ≡ s)
@@ -32,7 +32,7 @@ LinesDone {C = C} R number (line ∷ lines) s beats text t =
     (mid : At C) × (before : List Beat) × (behind : List Beat) × (first : List ℕ) × (rest : List ℕ) × LineDone R number (line_of line) s before first mid
     × LinesDone R (number + 1) lines mid behind rest t × (beats ≡ before ++ behind) × (text ≡ first ++ rest)
 
--- The line came up to this event, at which the host had a fault: these beats of it came before.
+-- The line came up to this event, at which the host had a fault: these entries of it came before.
 abbrev pub LineUpTo : {C : Type 0} → Relation C → Option ScriptLine → At C → List Beat → Event → At C → Type 0
 LineUpTo R None s beats e t = ⊥
 LineUpTo R (Some line.Skip) s beats e t = ⊥
@@ -54,7 +54,7 @@ pub data LineLed {C : Type 0} (R : Relation C) (l : Option ScriptLine) (s t : At
   up_to : (beats : List Beat) (e : Event) → LineUpTo R l s beats e t → LineLed R l s t
   so_far : (beats : List Beat) → LineSoFar R l s beats t → LineLed R l s t
 
--- the beats of a line that led somewhere, or of that part of it
+-- the entries of a line that led somewhere, or of that part of it
 abbrev pub led_beats : {C : Type 0} {R : Relation C} {l : Option ScriptLine} {s t : At C} → LineLed R l s t → List Beat
 led_beats (whole number beats text done) = beats
 led_beats (up_to beats e broke) = beats

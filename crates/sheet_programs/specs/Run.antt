@@ -24,7 +24,7 @@ use Rattle.offline_programs.specs.declared.fault.RunFault.{RunFault}
 use Rattle.offline_programs.specs.declared.fault.RunFault.TheVariants as fault
 
 -- The world of a host that was opened on this disk: that of the ops of the worksheet found there. The opening changed no byte, and
--- no moment of it left an image that is new; this is the disk behind it.
+-- no moment of it left an image that is new; this is the disk after it.
 pub record OpenedOn (disk : DiskView) (w : World) (opened : DiskView) : Type 0 where
   pub ops : List Op
   pub end : ℕ
@@ -33,7 +33,7 @@ pub record OpenedOn (disk : DiskView) (w : World) (opened : DiskView) : Type 0 w
   pub ends : InModel disk (EndsAt (bytes_on disk) end)
   pub looks : InModel disk (Looks disk.history opened.history)
 
--- The lines in front of this one were done by these beats, and this was written of them.
+-- The lines before this one were done with these entries, and this was written of them.
 pub record LinesBefore {C : Type 0} (R : Relation C) (lines : List (List ℕ)) (line : List ℕ) (s : At C) (beats : List Beat) (text : List ℕ) (t : At C) : Type 0 where
   pub done : List (List ℕ)
   pub rest : List (List ℕ)
@@ -73,9 +73,9 @@ pub record LinesLed {C : Type 0} (R : Relation C) (lines : List (List ℕ)) (s t
   pub before : LinesBefore R lines line s earlier first mid
   pub led : LineLed R (line_of line) mid t
 
--- What a run leaves whose lines were done so, from where the worksheet was opened: it wrote this text, then it stopped each life
--- that goes on, and each image of the disk that it gives back is one of the worksheet behind all its events. At every moment since
--- the opening each image was one of the worksheet behind some of its first events.
+-- What a run leaves whose lines were done so, from where the worksheet was opened: it wrote this text, and then it stopped each
+-- life that goes on. Each image of the disk that it gives back is one of the worksheet after all its events. At every moment since
+-- the opening each image was one of the worksheet after some of its first events.
 pub record RunOf {C : Type 0} (R : Relation C) (Done : At C → List Beat → List ℕ → At C → Type 0) (disk : DiskView) (c d : C) (a b : Option (List ℕ)) (back : DiskView) : Type 0 where
   pub start : World
   pub now : DiskView
@@ -94,8 +94,8 @@ pub record RunOf {C : Type 0} (R : Relation C) (Done : At C → List Beat → Li
 abbrev pub RunDone : {C : Type 0} → Relation C → List ℕ → DiskView → C → C → Option (List ℕ) → Option (List ℕ) → DiskView → Type 0
 RunDone R script disk c d a b back = RunOf R (LinesDone R 1 (script_lines script)) disk c d a b back
 
--- At an event the host had this fault, and its disk was left as told. What was told before is written, and each life that goes on
--- was stopped.
+-- At an event the host had this fault, and its disk was left as the fault says. What was returned before is written, and each
+-- life that goes on was stopped.
 pub record RunStopped {C : Type 0} (R : Relation C) (script : List ℕ) (disk : DiskView) (c d : C) (a b : Option (List ℕ)) (f : HostFault) : Type 0 where
   pub start : World
   pub now : DiskView
@@ -112,7 +112,7 @@ pub record RunStopped {C : Type 0} (R : Relation C) (script : List ℕ) (disk : 
   pub stops : Stops R (running leads.world) leads.children d
   pub wrote : Appends a b text
 
--- Memory was refused. What was told before is written, and each life that goes on was stopped.
+-- Memory was refused. What was returned before is written, and each life that goes on was stopped.
 pub record RunSoFar {C : Type 0} (R : Relation C) (script : List ℕ) (disk : DiskView) (c d : C) (a b : Option (List ℕ)) : Type 0 where
   pub start : World
   pub now : DiskView

@@ -1,4 +1,4 @@
--- A strict run of a script: it stops behind the first line that goes wrong. (docs/SCRIPT.md, "Strict runs".)
+-- A strict run of a script: it stops after the first line that goes wrong. (docs/SCRIPT.md, "Strict runs".)
 use Rattle.std.specs.Prelude.{◌≡◌, ◌+◌, ◌==◌, ◌≤◌, ◌<◌, ◌⊎◌, ℕ, Bool, true, false, not, List, ◌++◌, Option, Some, None, IfSome, is_some, length}
 use Rattle.std.specs.List.{list_any}
 use Rattle.disk_model.specs.Disk.{DiskView, InModel, bytes_on}
@@ -22,7 +22,7 @@ abbrev pub has_lost : Option Ended → Bool
 has_lost None = false
 has_lost (Some ended) = not (length ended.lost == 0)
 
--- a refusal, or what is told of a life by whose end items were lost
+-- a refusal, or the reply of a life by whose end items were lost
 abbrev pub is_wrong : Reply → Bool
 is_wrong reply.Done = false
 is_wrong (reply.Field id) = false
@@ -31,7 +31,7 @@ is_wrong (reply.Refused why) = true
 is_wrong (reply.Child one) = has_lost one.ended
 is_wrong reply.Nothing = false
 
--- The line is bad, or one of the beats that came of it told such a reply.
+-- The line is bad, or one of the entries that came of it has such a reply.
 abbrev pub goes_wrong : Option ScriptLine → List Beat → Bool
 goes_wrong None beats = true
 goes_wrong (Some said) beats = list_any is_wrong (told beats)
@@ -39,7 +39,7 @@ goes_wrong (Some said) beats = list_any is_wrong (told beats)
 abbrev pub is_bad : List ℕ → Bool
 is_bad line = not (is_some (line_of line))
 
--- None of these lines is bad, and none of these beats, which came of them, told such a reply: none of the lines went wrong.
+-- None of these lines is bad, and none of these entries, which came of them, has such a reply: none of the lines went wrong.
 abbrev pub GoRight : List (List ℕ) → List Beat → Type 0
 GoRight lines beats = (list_any is_bad lines ≡ false) × (list_any is_wrong (told beats) ≡ false)
 
@@ -75,7 +75,7 @@ LinesTaken R false lines stopped s beats text t = LinesDone R 1 lines s beats te
 LinesTaken R true lines stopped s beats text t = StrictLines R lines stopped s beats text t
 
 -- What a strict run leaves that had no fault. But for the lines that were done it is what a run leaves: the worksheet has what was
--- told, and each life that goes on was stopped.
+-- returned, and each life that goes on was stopped.
 abbrev pub StrictDone : {C : Type 0} → Relation C → List ℕ → DiskView → C → C → Option (List ℕ) → Option (List ℕ) → DiskView → Option ℕ → Type 0
 StrictDone R script disk c d a b back stopped = RunOf R (StrictLines R (script_lines script) stopped) disk c d a b back
 

@@ -1,4 +1,4 @@
--- What a line gave that is taken and written, and what a fault of it leaves: what was told is on the disk.
+-- What a line gave that is taken and written, and what a fault of it leaves: what was returned is on the disk.
 use Rattle.std.specs.Prelude.{◌≡◌, ◌⊎◌, ℕ, List, Option}
 use Rattle.std.specs.Io.KnownBytes.{Appends}
 use Rattle.disk_model.specs.Disk.{DiskView}
@@ -24,19 +24,19 @@ fault_of_cause cause.OutOfMemory = fault.OutOfMemory
 abbrev pub LineWrote : {C : Type 0} → Relation C → ℕ → Option ScriptLine → At C → HostView → C → Option (List ℕ) → Option (List ℕ) → Type 0
 LineWrote R number l s h c a b = (beats : List Beat) × (text : List ℕ) × (t : World) × LineDone R number l s beats text (at t c h.store.disk) × IsHost h t × Appends a b text
 
--- the host goes on in this world and on this disk, or it has stopped behind them
+-- the host goes on in this world and on this disk, or it has stopped after them
 abbrev pub StandsOrStopped : HostView → World → DiskView → Type 0
 StandsOrStopped h t d = (IsHost h t × (d ≡ h.store.disk)) ⊎ ((e : Event) × (f : HostFault) × Stopped d h t e f)
 
--- From this disk to that of the host, at every moment each image is one of the worksheet behind some of the first of these beats, which
--- led to this world and disk. The host goes on there; or at an event behind them it had a fault, and where its disk failed an image may
+-- These entries led to this world and disk. From this disk to that of the host, at every moment each image is one of the worksheet after
+-- some of the first of them. The host goes on there; or at an event after them it had a fault, and where its disk failed an image may
 -- have the op of that event, too.
 abbrev pub LeavesFrontsAnyhow : World → List Beat → DiskView → HostView → World → DiskView → Type 0
 LeavesFrontsAnyhow w beats old h t d =
     (IsHost h t × (d ≡ h.store.disk) × LeavesFronts w beats old h.store.disk)
     ⊎ ((e : Event) × (f : HostFault) × Stopped d h t e f × LeavesFrontsUpTo w beats e f old h.store.disk)
 
--- What a line's fault leaves: what was told before is written, but where the writer failed.
+-- What a line's fault leaves: what was returned before is written, except where the writer failed.
 abbrev pub LineFailed : {C : Type 0} → Relation C → Option ScriptLine → At C → HostView → C → Option (List ℕ) → Option (List ℕ) → RunFault → Type 0
 LineFailed R l s h c a b (fault.Host f) =
     (beats : List Beat) × (e : Event) × (t : World) × (d : DiskView) × LineUpTo R l s beats e (at t c d) × Stopped d h t e f × Appends a b (beats_text beats)

@@ -29,9 +29,9 @@ use std::io::{Read, Write};
 /// A run that had no fault.
 #[derive(Drop)]
 pub struct Ran<D: Disk> {
-    /// The disk, with what was told.
+    /// The disk, with what was reported.
     pub disk: D,
-    /// The number of the line behind which it stopped, where it is strict and did.
+    /// The number of the line after which it stopped, where it is strict and did.
     pub stopped_at: Option<u64>,
 }
 
@@ -117,8 +117,8 @@ fn run_script<R: Read, W: Write, D: Disk, C: Children>(
 ///
 /// `Input` where the reader fails, an interruption included, `InputTooLong` where it gives more than
 /// `LONGEST_STANDARD_INPUT` bytes, `Open` where the disk isn't opened: nothing was written, and no child was called.
-/// `Host` where the host has a fault, and `OutOfMemory`: what was told before is written. `Output` where
-/// the writer fails, a flush included: a part of the text may have gone out.
+/// `Host` where the host has a fault, and `OutOfMemory`: what was returned before is written. `Output` where the
+/// writer fails, a flush included: a part of the text may have gone out.
 pub fn run<R: Read, W: Write, D: Disk, C: Children>(
     alloc: Global,
     reader: &mut R,
@@ -131,14 +131,14 @@ pub fn run<R: Read, W: Write, D: Disk, C: Children>(
         (W.contents writer.old) (W.contents writer.new) (D.view back))) }
     ensures same { IfOk result (λ back. SameDisk (D.view disk) (D.view back)) }
 
-    // A script that is too long is told as such, whatever else would go wrong with its text.
+    // A script that is too long is reported as such, whatever else would go wrong with its text.
     ensures short { OnOk result (IfSome (R.remaining reader.old)
         (λ script. length script ≤ longest_standard_input)) }
     ensures fault { IfErr result (TellsRun C.after (R.remaining reader.old) (D.view disk)
         children.old children.new (W.contents writer.old) (W.contents writer.new)
         ((writer.new ≡ writer.old) × (children.new ≡ children.old))) }
 
-    // That the disk failed, at the opening or later, is told only where it did.
+    // That the disk failed, at the opening or later, is reported only where it did.
     ensures unopened { IsErrOf result (told.Open opens.Disk) → FailedSince D.view disk }
     ensures failed { IsErrOf result (told.Host hosts.Disk) → FailedSince D.view disk }
 {
@@ -148,9 +148,9 @@ pub fn run<R: Read, W: Write, D: Disk, C: Children>(
     }
 }
 
-/// Runs a script as `run` does, and stops behind the first line that goes wrong: one that isn't known, one
+/// Runs a script as `run` does, and stops after the first line that goes wrong: one that isn't known, one
 /// that is refused, and one by which lines or requests were lost, since an interpreter ended. What that line
-/// gives is written, and what was told is on the disk.
+/// gives is written, and what was reported is on the disk.
 ///
 /// Faults are those of `run`.
 pub fn run_strict<R: Read, W: Write, D: Disk, C: Children>(

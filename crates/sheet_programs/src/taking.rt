@@ -102,7 +102,7 @@ fn take_command<D: Disk, C: Children, W: Write>(
 /// Takes a command and all that comes of it, and writes and flushes the replies: each is of an event that
 /// every image of the disk has from then on.
 ///
-/// `Host` and `OutOfMemory`: what was told before is written. `Output`: a part may have gone out.
+/// `Host` and `OutOfMemory`: what was returned before is written. `Output`: a part may have gone out.
 pub fn run_command<D: Disk, C: Children, W: Write>(
     alloc: Global,
     host: &mut Host<D>,
@@ -189,7 +189,7 @@ fn run_said<D: Disk, C: Children, W: Write>(
 /// the next one is received from. What it wrote is of events that every image of the disk has from then on.
 /// Whether the line went wrong: it is bad, it was refused, or items were lost by it.
 ///
-/// `Host` and `OutOfMemory`: what was told before is written. `Output`: a part may have gone out.
+/// `Host` and `OutOfMemory`: what was returned before is written. `Output`: a part may have gone out.
 pub fn run_line<D: Disk, C: Children, W: Write>(
     alloc: Global,
     host: &mut Host<D>,
@@ -216,14 +216,14 @@ pub fn run_line<D: Disk, C: Children, W: Write>(
     }
 }
 
-/// Whether a run stops behind a line.
+/// Whether a run stops after a line.
 fn is_last(strict: bool, wrong: bool) -> bool
     ensures { result ≡ (strict && wrong) }
 {
     strict && wrong
 }
 
-/// Does the lines of a script, one after another. A strict run stops behind the first one that goes wrong,
+/// Does the lines of a script, one after another. A strict run stops after the first one that goes wrong,
 /// and gives its number.
 pub(crate) fn run_lines<D: Disk, C: Children, W: Write>(
     alloc: Global,

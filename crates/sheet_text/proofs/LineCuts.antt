@@ -12,7 +12,7 @@ use Rattle.sheet_text.specs.InputLines.{further_line, lines_of_input, line_end, 
 abbrev pub Makes : (List ℕ → List ℕ) → List ℕ → List (List ℕ) → List ℕ → Type 0
 Makes f made lines all = made ++ flat_map f lines ≡ all
 
--- how far a loop over lines has to go: no byte is left where nothing stands behind a line
+-- how far a loop over lines has to go: no byte is left where nothing comes after a line
 abbrev pub left_behind : Option (List ℕ) → ℕ
 left_behind None = 0
 left_behind (Some rest) = length rest + 1

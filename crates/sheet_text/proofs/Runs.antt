@@ -1,4 +1,4 @@
--- Bytes that are written in runs: those behind start stand for themselves and are still to be written.
+-- Bytes that are written in runs: those after start stand for themselves and are still to be written.
 use Rattle.std.proofs.KnownBytes.{Appends-trans}
 use Rattle.std.proofs.Common.{◌≡◌, ◌≤◌, ◌<◌, ◌+◌, ◌-◌, ℕ, zero, suc, add-zero, Bool, cond, List, [], ◌∷◌, ◌++◌, Option, length, take, drop, get_or, flat_map, ap, sym, ◌∙◌, subst, append_assoc, append-nil, arith}
 use Rattle.std.proofs.lemmas.List.{take_more, take_all, drop-append-le, drop-take, drop_all, length-take, length-take-le}

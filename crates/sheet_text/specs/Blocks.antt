@@ -4,7 +4,7 @@ use Rattle.std.specs.Str.{bytes_eq}
 use Rattle.block_tree.specs.Tree.{Items, Tree, Piece, end, text, block, text_piece, block_piece}
 use Rattle.sheet_text.specs.Escape.{on_line, on_lines}
 
--- ':' behind a format, '#' behind a channel
+-- ':' after a format, '#' after a channel
 abbrev pub sign : Bool → ℕ
 sign false = 58
 sign true = 35

@@ -27,7 +27,7 @@ on_line = flat_map (printed_byte false)
 abbrev pub on_lines : List ℕ → List ℕ
 on_lines = flat_map (printed_byte true)
 
--- a byte between quotes: a quote and a backslash stand behind a backslash, and every other byte as on a line
+-- a byte between quotes: a backslash before a quote and a backslash; every other byte as on a line
 abbrev pub byte_in_quotes : ℕ → List ℕ
 byte_in_quotes b = cond (is_marked b) (92 ∷ b ∷ []) (printed_byte false b)
 

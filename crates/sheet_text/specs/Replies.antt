@@ -1,4 +1,4 @@
--- What is told of a life, in print. (docs/SCRIPT.md, "What is written".)
+-- What is printed of a life. (docs/SCRIPT.md, "What is written".)
 use Rattle.std.specs.Prelude.{ℕ, List, [], ◌∷◌, ◌++◌, length, Option, Some, None, Result, Ok, Err, codes}
 use Rattle.std.specs.List.{flat_map}
 use Rattle.std.specs.Fmt.{decimal}
@@ -27,7 +27,7 @@ reason_name reason.Stopped = codes "Stopped"
 abbrev pub banner_line : List ℕ → List ℕ
 banner_line name = codes "banner " ++ name ++ 10 ∷ []
 
--- each of these texts between quotes, behind a space
+-- each of these texts between quotes, after a space
 abbrev pub spaced_texts : List (List ℕ) → List ℕ
 spaced_texts texts = flat_map (λ text. 32 ∷ in_quotes text) texts
 

@@ -18,7 +18,7 @@ is_space byte = byte == 32
 abbrev pub before_space : List ℕ → List ℕ
 before_space bytes = before_first is_space bytes
 
--- the bytes behind that space, where there is one
+-- the bytes after that space, where there is one
 abbrev pub behind_space : List ℕ → Option (List ℕ)
 behind_space bytes = option_map (λ at. drop (at + 1) bytes) (position is_space bytes)
 
@@ -56,7 +56,7 @@ is_numeral bytes = nat_le 1 (length bytes) && nat_le (length bytes) most_digits 
 abbrev pub number_written : List ℕ → Option ℕ
 number_written bytes = if is_numeral bytes && nat_le (digits_value 10 bytes) greatest_number then Some (digits_value 10 bytes) else None
 
--- Commands: what stands behind the space after the name of one.
+-- Commands: what comes after the space that ends the name of one.
 
 -- the flag of a session, whether it is `tab`
 abbrev pub flag_of : List ℕ → Option Bool
@@ -89,7 +89,7 @@ new_of rest = new_behind (number_written (before_space rest)) (behind_space rest
 abbrev pub set_of : List ℕ → Option Command
 set_of rest = option_map (λ id. command.Set id (text_given (behind_space rest))) (number_written (before_space rest))
 
--- two numbers, the second behind the space after the first
+-- two numbers, the second after the space that ends the first
 abbrev pub numbers_behind : Option ℕ → Option (List ℕ) → Option (ℕ × ℕ)
 numbers_behind None rest = None
 numbers_behind (Some first) None = None
@@ -106,7 +106,7 @@ move_of rest = option_map (λ numbers. command.Move numbers.0 numbers.1) (two_nu
 abbrev pub complete_of : List ℕ → Option Command
 complete_of rest = option_map (λ numbers. command.Complete numbers.0 numbers.1) (two_numbers rest)
 
--- the command of this name, with what stands behind the space after the name
+-- the command of this name, with what comes after the space that ends the name
 abbrev pub command_of : List ℕ → List ℕ → Option Command
 command_of name rest =
     if bytes_eq name (codes "session") then session_of rest

@@ -37,7 +37,7 @@ abbrev pub prompt_shown : Option Answer → List ℕ
 prompt_shown None = codes "> "
 prompt_shown (Some answer) = answer.prompt
 
--- what stands between two lines of an input: the second begins behind '. '
+-- what stands between two lines of an input: the second begins after '. '
 abbrev pub line_between : List ℕ
 line_between = codes "\n. "
 
@@ -53,11 +53,11 @@ is_line_feed (Some byte) = byte == 10
 abbrev pub ends_line : List ℕ → Bool
 ends_line text = is_line_feed (last_or None text)
 
--- whole lines: a line feed behind a text that is empty or doesn't end in one
+-- whole lines: a line feed after a text that is empty or doesn't end in one
 abbrev pub in_lines : List ℕ → List ℕ
 in_lines text = if ends_line text then text else text ++ 10 ∷ []
 
--- where there is no answer, `?`, and behind it the reason if there is one
+-- where there is no answer, `?`, and after it the reason if there is one
 abbrev pub no_answer_line : Option Reason → List ℕ
 no_answer_line None = codes "?\n"
 no_answer_line (Some reason) = codes "? " ++ reason_name reason ++ 10 ∷ []

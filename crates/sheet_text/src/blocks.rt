@@ -11,7 +11,7 @@ use crate::escape::{write_line, write_lines};
 use block_tree::{Block, Item, Node, Tag};
 use std::io::Write;
 
-/// Writes a tag behind its brace.
+/// Writes a tag, after its brace.
 #[tactic(auto, using(crate::proofs::Appending::steps))]
 fn open_tag<W: Write>(tag: &Tag, out: &mut W) -> Result<(), WriteFault>
     ensures { OnOk result

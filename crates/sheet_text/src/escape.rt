@@ -71,7 +71,7 @@ pub(crate) fn write_byte<W: Write>(
     out.write_all(&escaped(byte)).map_err(|_| WriteFault)
 }
 
-/// Puts what is printed for a byte behind the bytes that a room holds, and tells how many it holds then.
+/// Puts what is printed for a byte after the bytes that a room holds, and returns how many it holds then.
 #[inline(always)]
 pub(crate) fn put_byte(byte: u8, room: &mut [u8; ROOM], used: usize) -> usize
     requires { used + MOST_PRINTED ≤ ROOM }
@@ -155,7 +155,7 @@ fn write_in_quotes<W: Write>(bytes: &[u8], out: &mut W) -> Result<(), WriteFault
     Ok(())
 }
 
-/// Writes bytes between quotes like `write_line`, but a quote and a backslash behind a backslash.
+/// Writes bytes between quotes like `write_line`, but a backslash before a quote and a backslash.
 #[tactic(auto, using(crate::proofs::Appending::steps))]
 pub(crate) fn write_quoted<W: Write>(bytes: &[u8], out: &mut W) -> Result<(), WriteFault>
     ensures { OnOk result (Appends (W.contents out.old) (W.contents out.new) (in_quotes bytes.now)) }

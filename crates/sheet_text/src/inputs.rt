@@ -10,7 +10,7 @@ use crate::fault::WriteFault;
 use std::alloc::{AllocError, Global};
 use std::io::Write;
 
-/// The first line of an input, and what stands behind the U+2028 that ends it, if one does.
+/// The first line of an input, and what comes after the U+2028 that ends it, if one does.
 pub fn next_line(input: &str) -> (&str, Option<&str>)
     ensures lines { inputs.lines_of_input input.now
         ≡ result.0.now ∷ inputs.further_lines (option_copied result.1) }

@@ -62,7 +62,7 @@ fn read_interrupt(rest: &[u8]) -> Option<LiveLine>
     }
 }
 
-/// The form of this name, with what stands behind the space after the name.
+/// The form of this name, with what comes after the space that ends the name.
 fn read_form(name: &[u8], rest: &[u8]) -> Option<LiveLine>
     ensures { result ≡ live.form_named name.now rest.now }
 {

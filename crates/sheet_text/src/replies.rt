@@ -43,7 +43,7 @@ fn write_banner<W: Write>(name: Name, out: &mut W) -> Result<(), WriteFault>
     Ok(())
 }
 
-/// Writes texts between quotes, each behind a space.
+/// Writes texts between quotes, each after a space.
 fn write_texts<W: Write>(texts: &[Octets], out: &mut W) -> Result<(), WriteFault>
     ensures { OnOk result
         (Appends (W.contents out.old) (W.contents out.new) (child.spaced_texts texts.now)) }
@@ -65,7 +65,7 @@ fn write_spaced<W: Write>(text: &[u8], out: &mut W) -> Result<(), WriteFault>
     Ok(())
 }
 
-/// Writes what an answer to a request of completions told.
+/// Writes what an answer to a request for completions gave.
 #[tactic(auto, using(crate::proofs::Appending::steps))]
 fn write_completed<W: Write>(
     id: u32,
@@ -146,7 +146,7 @@ fn write_ended<W: Write>(name: Name, ended: &Option<Ended>, out: &mut W) -> Resu
     Ok(())
 }
 
-/// Writes what is told of a life.
+/// Writes what is printed of a life.
 #[tactic(auto, using(crate::proofs::Appending::steps))]
 fn write_child<W: Write>(told: &ChildReply, out: &mut W) -> Result<(), WriteFault>
     ensures { OnOk result
@@ -159,7 +159,7 @@ fn write_child<W: Write>(told: &ChildReply, out: &mut W) -> Result<(), WriteFaul
 }
 
 /// Writes the lines of a reply: `ok`, `field ID`, `asked`, `refused N NAME` with the number and the
-/// name of the refusal, or what is told of a life, of which each line is written that there is:
+/// name of the refusal, or what came of a life, of which each line is written that there is:
 /// `banner NAME` or `answered ID` or `completed ID TEXTS`, `default NAME TEXT`, `ended NAME REASON
 /// lost N`. A reply that nothing came of has no line.
 ///

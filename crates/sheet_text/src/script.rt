@@ -16,7 +16,7 @@ use std::alloc::Global;
 pub enum ScriptLine {
     /// Nothing: the line is empty or a remark.
     Skip,
-    /// The host is told to do this.
+    /// The host is to do this.
     Command(Command),
     /// The host waits for its interpreters' answers.
     Wait,
@@ -40,7 +40,7 @@ fn copied(alloc: Global, bytes: &[u8]) -> Result<Octets, LineFault>
     Octets::from_slice(alloc, bytes).map_err(|_| LineFault::OutOfMemory)
 }
 
-/// A copy of the text behind a space, which may be missing.
+/// A copy of the text after a space, which may be missing.
 fn text(alloc: Global, rest: Option<&[u8]>) -> Result<Octets, LineFault>
     ensures ok { IfOk result (λ copy. copy ≡ said.text_given (option_copied rest.entry)) }
     ensures good { IsErrOf result fault.BadLine → ⊥ }
@@ -51,7 +51,7 @@ fn text(alloc: Global, rest: Option<&[u8]>) -> Result<Octets, LineFault>
     }
 }
 
-/// Copies of the words behind a space, which may be missing.
+/// Copies of the words after a space, which may be missing.
 fn words(alloc: Global, rest: Option<&[u8]>) -> Result<Sequence<Octets>, LineFault>
     ensures ok { IfOk result (λ words. words ≡ said.words_of (option_copied rest.entry)) }
     ensures good { IsErrOf result fault.BadLine → ⊥ }
@@ -140,7 +140,7 @@ fn read_set(alloc: Global, rest: &[u8]) -> Result<Command, LineFault>
     Ok(Command::Set { id, input })
 }
 
-/// Two numbers, the second behind the space after the first.
+/// Two numbers, the second after the space that ends the first.
 fn two_numbers(rest: &[u8]) -> Result<(u32, u32), LineFault>
     ensures ok { IfOk result (λ numbers. said.two_numbers rest.now ≡ Some numbers) }
     ensures bad { IsErrOf result fault.BadLine → said.two_numbers rest.now ≡ None }
@@ -175,7 +175,7 @@ fn read_complete(rest: &[u8]) -> Result<Command, LineFault>
     Ok(Command::Complete { id, cursor })
 }
 
-/// The command of this name, with what stands behind the space after the name.
+/// The command of this name, with what comes after the space that ends the name.
 fn read_command(alloc: Global, name: &[u8], rest: &[u8]) -> Result<Command, LineFault>
     ensures ok { IfOk result (λ told. said.command_of name.now rest.now ≡ Some told) }
     ensures bad { IsErrOf result fault.BadLine → said.command_of name.now rest.now ≡ None }

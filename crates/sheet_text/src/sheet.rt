@@ -42,7 +42,7 @@ fn write_prompt<W: Write>(answer: &Option<Answer>, out: &mut W) -> Result<(), Wr
     }
 }
 
-/// Writes the prompt and the input of a field, each further line of it behind `. `.
+/// Writes the prompt and the input of a field, each further line of it after `. `.
 #[tactic(auto, using(crate::proofs::Appending::steps))]
 pub fn write_input<W: Write>(field: &Field, out: &mut W) -> Result<(), WriteFault>
     ensures { OnOk result
@@ -66,7 +66,7 @@ fn write_no_answer<W: Write>(lost: Option<Reason>, out: &mut W) -> Result<(), Wr
     }
 }
 
-/// Writes an output in whole lines, or `?` where there is none, with the reason behind it if it has one.
+/// Writes an output in whole lines, or `?` where there is none, with the reason after it if it has one.
 #[tactic(auto, using(crate::proofs::Appending::steps))]
 pub fn write_output<W: Write>(
     answer: &Option<Answer>,
@@ -115,8 +115,8 @@ pub fn field_text<W: Write>(field: &Field, out: &mut W) -> Result<(), WriteFault
 }
 
 /// Writes a worksheet: for each field in order `#`, its number and its session; its prompt and its
-/// input; and its output, or `?` where it has none, with the reason behind it if it has one. An output
-/// that is `?`, or `? ` and a reason's name, looks the same; `Sheet::field` tells them apart. An empty worksheet has no line.
+/// input; and its output, or `?` where it has none, with the reason after it if it has one. An output that is `?`, or `? `
+/// and a reason's name, looks the same; `Sheet::field` tells them apart. An empty worksheet has no line.
 ///
 /// After a `WriteFault` a part of the text may have gone out.
 #[tactic(auto, using(crate::proofs::Fields::field_steps))]

@@ -24,7 +24,7 @@ fn write_spelled<W: Write>(byte: u8, out: &mut W) -> Result<(), WriteFault>
     }
 }
 
-/// Puts what a 27 and the byte behind it stand for behind the bytes that a room holds, and tells how many it holds then.
+/// Puts what a 27 and the byte after it stand for at the end of the bytes of a room, and returns how many it holds then.
 #[inline(always)]
 fn put_escaped(byte: u8, room: &mut [u8; ROOM], used: usize) -> usize
     requires { used + 2 * MOST_PRINTED ≤ ROOM }

@@ -1,5 +1,5 @@
-//! What stands between the words that the program was started with, with the system's streams, files and
-//! children, and `host_cli`, which decides what is done. `tmhost` and `programs` both begin with it.
+//! Gives `host_cli`, which decides what is done, the program's words and the system's streams, files and
+//! children. `tmhost` and `programs` both begin with it.
 #![tactic(auto)]
 
 use arrivals::Polled;

@@ -44,7 +44,7 @@ came_on f replies i r a b c h is before more =
     ∙ ap (flat_map f) (ap (λ x. take i replies ++ x ∷ []) is ∙ sym (take_more replies i r h)))
     (Appends-trans a b c (flat_map f (take i replies)) (f r) before more)
 
--- the reply, and what came of lives behind it
+-- the reply, and what came of lives after it
 pub replied_of : (line : ℕ) (sheet : Contents) (replies : List Reply) (first : Reply) → 1 ≤ length replies → first ≡ get_or replies 0 first
     → reply_json line first ++ came_text in_json sheet (take (length replies - 1) (drop 1 replies)) ≡ replied_text in_json line sheet replies
 replied_of line sheet [] first few is = absurd (omega (arith, few))

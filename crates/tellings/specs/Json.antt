@@ -1,4 +1,4 @@
--- What is told, as lines of JSON. (docs/JSON.md.)
+-- What is printed, as lines of JSON. (docs/JSON.md.)
 use Rattle.std.specs.Prelude.{ℕ, true, Bool, List, [], ◌++◌, Option, Some, None, map, option_map, option_and_then, length, codes}
 use Rattle.std.specs.List.{flat_map}
 use Rattle.worksheet.specs.Checks.{field_in}
@@ -24,6 +24,7 @@ use Rattle.tellings.specs.Faults.{fault_name, fault_number, fault_offset}
 use Rattle.tellings.specs.declared.note.Frame.{Frame}
 use Rattle.tellings.specs.declared.note.Frame.TheVariants as frame
 use Rattle.tellings.specs.declared.note.Note.{Note}
+use Rattle.tellings.specs.declared.note.Overs.{Overs}
 use Rattle.tellings.specs.declared.note.Note.TheVariants as note
 
 abbrev pub frame_json : Frame → List ℕ
@@ -37,15 +38,20 @@ interrupt_json line interrupted.Idle = telling_line (told.reply line (told.inter
 interrupt_json line interrupted.Sent = telling_line (told.reply line (told.interrupted (codes "sent")))
 interrupt_json line interrupted.Failed = telling_line (told.reply line (told.interrupted (codes "failed")))
 
+-- what an evaluation came to, with what its limit of time came to where it had one
+abbrev pub counted_json : ℕ → ℕ → Option Overs → List ℕ
+counted_json answered unanswered None = telling_line (told.counted answered unanswered)
+counted_json answered unanswered (Some overs) = telling_line (told.counted_in_time answered unanswered overs.over overs.passed)
+
 abbrev pub note_json : Note → List ℕ
 note_json (note.Bad line) = telling_line (told.reply line told.bad)
 note_json (note.Nothing line) = telling_line (told.reply line told.nothing)
 note_json (note.Waited line timed) = telling_line (told.reply line (told.waited timed))
 note_json (note.Interrupted line name told_of) = interrupt_json line told_of
 note_json (note.Over line id told_of) = interrupt_json line told_of
-note_json (note.Counted counts) = []
+note_json (note.Counted counts) = counted_json counts.answered counts.unanswered counts.overs
 
--- what is told of a life, if anything
+-- what is printed of a life, if anything
 abbrev pub event_line : List ℕ → ℕ → Option EventTold → List ℕ
 event_line session life None = []
 event_line session life (Some e) = telling_line (told.event session life e)

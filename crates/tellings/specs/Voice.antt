@@ -1,4 +1,4 @@
--- A way of writing what is told of a live worksheet: in words, or as JSON.
+-- A format of what is printed of a live worksheet: in words, or as JSON.
 use Rattle.std.specs.Prelude.{◌≡◌, ℕ, Bool, true, List, [], ◌∷◌, ◌++◌}
 use Rattle.std.specs.List.{flat_map}
 use Rattle.worksheet.specs.Contents.{Contents}
@@ -9,11 +9,11 @@ use Rattle.offline_programs.specs.declared.fault.RunFault.TheVariants as fault
 use Rattle.tellings.specs.declared.note.Frame.{Frame}
 use Rattle.tellings.specs.declared.note.Note.{Note}
 
--- The texts of a voice. Of what is told of a line, the number of the line comes first.
+-- The texts of a voice. In what is printed of a line, the number of the line comes first.
 pub record Voice : Type 0 where
   -- what stands first and last
   pub frame : Frame → List ℕ
-  -- what is told of a line, or of a wait that it began, apart from replies
+  -- what is printed of a line, or of a wait that it began, apart from replies
   pub note : Note → List ℕ
   -- the reply to a line, where this is the worksheet after it
   pub reply : ℕ → Contents → Reply → List ℕ
@@ -22,7 +22,7 @@ pub record Voice : Type 0 where
   -- a worksheet, and the field with this number
   pub sheet : ℕ → World → List ℕ
   pub field : ℕ → ℕ → World → List ℕ
-  -- a fault, which is told last
+  -- a fault, which is printed last
   pub fault : RunFault → List ℕ
   -- whether memory is taken for what is written
   pub takes_memory : Bool
@@ -31,12 +31,12 @@ pub record Voice : Type 0 where
 abbrev pub came_text : Voice → Contents → List Reply → List ℕ
 came_text V sheet replies = flat_map (V.event sheet) replies
 
--- what a command gave: its reply, and behind it what came of lives
+-- what a command gave: its reply, and after it what came of lives
 abbrev pub replied_text : Voice → ℕ → Contents → List Reply → List ℕ
 replied_text V line sheet [] = []
 replied_text V line sheet (r ∷ replies) = V.reply line sheet r ++ came_text V sheet replies
 
--- Why something isn't told: the writer failed, or there was no memory for it.
+-- Why something isn't printed: the writer failed, or there was no memory for it.
 abbrev pub IsUntold : Voice → RunFault → Type 0
 IsUntold V fault.Output = Unit {0}
 IsUntold V fault.OutOfMemory = V.takes_memory ≡ true

@@ -1,4 +1,4 @@
--- What is told, in words. (docs/SCRIPT.md, "Live".)
+-- What is printed, in words. (docs/SCRIPT.md, "Live".)
 use Rattle.std.specs.Fmt.{decimal}
 use Rattle.std.specs.Prelude.{ℕ, false, List, [], ◌∷◌, ◌++◌, Option, Some, None, codes}
 use Rattle.worksheet.specs.Checks.{field_in}
@@ -43,7 +43,7 @@ evaluation_text counts = answers_text counts ++ overs_text counts.overs
 abbrev pub over_line : ℕ → List ℕ
 over_line id = codes "over " ++ decimal id ++ 10 ∷ []
 
--- of a remark and of the end of a wait nothing is told
+-- of a remark and of the end of a wait nothing is printed
 abbrev pub note_words : Note → List ℕ
 note_words (note.Bad line) = bad_line line
 note_words (note.Nothing line) = []
@@ -52,7 +52,7 @@ note_words (note.Interrupted line name told) = interrupt_text name told
 note_words (note.Over line id told) = over_line id
 note_words (note.Counted counts) = evaluation_text counts
 
--- Words that people read: the number of a line is told of a bad line alone, and a fault is told elsewhere.
+-- Words that people read: the number of a line is printed for a bad line alone, and a fault is printed elsewhere.
 abbrev pub in_words : Voice
 in_words = record {
   frame = λ f. [];

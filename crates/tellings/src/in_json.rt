@@ -6,7 +6,7 @@ ghost use Rattle.tellings.specs.Voice.{IsUntold, came_text, replied_text};
 
 use crate::sheets_json::{write_field, write_sheet};
 use crate::writing::{write_if, write_made};
-use crate::{Frame, Note, Tells, faults};
+use crate::{Counts, Frame, Note, Overs, Tells, faults};
 use block_tree::Octets;
 use child_edge::Interrupted;
 use disk_model::Disk;
@@ -16,9 +16,9 @@ use plugin_core::Ended;
 use serde_json::Value;
 use session_engine::Host;
 use sheet_json::{
-    asked_value, bad_value, closed_value, default_value, done_value, end_value, ended_value,
-    fault_value, hello_value, interrupted_value, made_value, nothing_value, refused_value,
-    stopped_value, waited_value,
+    asked_value, bad_value, closed_value, counted_in_time_value, counted_value, default_value,
+    done_value, end_value, ended_value, fault_value, hello_value, interrupted_value, made_value,
+    nothing_value, refused_value, stopped_value, waited_value,
 };
 use std::alloc::{AllocError, Global};
 use std::io::Write;
@@ -234,7 +234,23 @@ fn write_interrupt<W: Write>(
     }
 }
 
-/// What is told of a line, or of a wait that it began.
+/// Writes what an evaluation came to.
+fn write_counts<W: Write>(alloc: Global, counts: Counts, writer: &mut W) -> Result<(), RunFault>
+    ensures ok { OnOk result (Appends (W.contents writer.old) (W.contents writer.new)
+        (texts.counted_json counts.answered counts.unanswered counts.overs)) }
+    ensures err { IfErr result (IsUntold texts.in_json) }
+{
+    let (answered, unanswered) = (counts.answered as u64, counts.unanswered as u64);
+    match counts.overs {
+        None => write_made(alloc, counted_value(alloc, answered, unanswered), writer),
+        Some(Overs { over, passed }) => {
+            let value = counted_in_time_value(alloc, answered, unanswered, over, passed);
+            write_made(alloc, value, writer)
+        }
+    }
+}
+
+/// Writes what is printed of a line, or of a wait that it began.
 fn write_note<W: Write>(alloc: Global, note: Note, writer: &mut W) -> Result<(), RunFault>
     ensures ok { OnOk result (Appends (W.contents writer.old) (W.contents writer.new) (texts.note_json note)) }
     ensures err { IfErr result (IsUntold texts.in_json) }
@@ -245,7 +261,7 @@ fn write_note<W: Write>(alloc: Global, note: Note, writer: &mut W) -> Result<(),
         Note::Waited(line, timed) => write_made(alloc, waited_value(alloc, line, timed), writer),
         Note::Interrupted(line, _, told) => write_interrupt(alloc, line, told, writer),
         Note::Over(line, _, told) => write_interrupt(alloc, line, told, writer),
-        Note::Counted(_) => Ok(()),
+        Note::Counted(counts) => write_counts(alloc, counts, writer),
     }
 }
 

@@ -42,7 +42,7 @@ fn tell_field<W: Write>(sheet: &Sheet, id: u32, writer: &mut W) -> Result<(), Ru
     Ok(())
 }
 
-/// Writes a line of a word, with the space behind it, and a session's name.
+/// Writes a line of a word, with the space after it, and a session's name.
 fn write_named<W: Write>(word: &[u8], name: Name, writer: &mut W) -> Result<(), RunFault>
     ensures ok { OnOk result (Appends (W.contents writer.old) (W.contents writer.new)
         (word.now ++ name ++ 10 ∷ [])) }

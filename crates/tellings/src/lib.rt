@@ -1,4 +1,4 @@
-//! What is told of a live worksheet, apart from how it is written: in words that people read, or as lines of
+//! What is printed of a live worksheet, apart from its format: in words that people read, or as lines of
 //! JSON that programs read.
 #![tactic(auto)]
 

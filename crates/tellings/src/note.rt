@@ -1,4 +1,4 @@
-//! What is told once.
+//! What is printed once.
 use child_edge::Interrupted;
 use worksheet::Name;
 
@@ -31,7 +31,7 @@ pub struct Counts {
     pub overs: Option<Overs>,
 }
 
-/// What is told of a line, or of a wait that it began, apart from replies. The number of the line, from 1, is first.
+/// What is printed of a line, or of a wait that it began, apart from replies. First comes the line's number, from 1.
 #[derive(Clone, Copy, Debug, PartialEq, Eq)]
 pub enum Note {
     /// The line has no known form, or is too long.

@@ -1,4 +1,4 @@
-//! How what is told is written.
+//! The formats of what is printed.
 use crate::{Frame, Note};
 use disk_model::Disk;
 use host_events::Reply;
@@ -7,7 +7,7 @@ use session_engine::Host;
 use std::io::Write;
 use worksheet::Sheet;
 
-/// A way of writing what is told. Each call brings out what it writes.
+/// A format of what is printed. Each call flushes what it writes.
 ///
 /// `Output` where the writer fails: a part may have gone out. `OutOfMemory` where a voice that takes memory
 /// has none for a line: what was written before it is whole.

@@ -32,7 +32,7 @@ allowed_front os more allowed = front_from [] os more allowed
 
 -- Names.
 
--- what is not found is not the first, and not behind it
+-- what is not found is not the first, and not after it
 pub not_first : (s : Session) (ss : List Session) (name : List ℕ) → session_named (s ∷ ss) name ≡ None → (bytes_eq s.name name ≡ false) × (session_named ss name ≡ None)
 not_first s ss name h = go (bytes_eq s.name name) refl h
   where

@@ -25,7 +25,7 @@ other_at n [] i d a h = absurd (omega arith)
 other_at n (f ∷ fs) zero d a h = a.0
 other_at n (f ∷ fs) (suc i) d a h = other_at n fs i d a.1 (omega arith)
 
--- a field behind the first isn't the first
+-- a field after the first isn't the first
 pub not_first : (id : ℕ) (f : Field) (fs : List Field) (i : ℕ) (d : Field) → Lacks f.id (numbers fs) → i < length fs → (get_or fs i d).id ≡ id → (f.id == id) ≡ false
 not_first id f fs i d a h e = let o = other_at f.id fs i d a h in grind (arith, nat_tests)
 

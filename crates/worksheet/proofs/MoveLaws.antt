@@ -15,7 +15,7 @@ length-remove [] i h = absurd (omega arith)
 length-remove (x ∷ xs) zero h = refl
 length-remove (x ∷ xs) (suc i) h = ap suc (length-remove xs i (omega arith))
 
--- A field comes directly behind another, that stood at b, where it is taken out of its place.
+-- A field comes directly after another, that stood at b, where it is taken out of its place.
 module _ (id after : ℕ) (x : Field) (fs : List Field) (from : ℕ) (d : Field) (a : AreApart (numbers fs)) (h : from < length fs) (e : (get_or fs from d).id ≡ id) where
   put_at : (j : ℕ) → j < length (remove fs from) → (get_or (remove fs from) j d).id ≡ after
       → insert (remove fs from) (suc j) x ≡ put_behind (λ other. other.id == after) x (fields_without id fs)
@@ -24,7 +24,7 @@ module _ (id after : ℕ) (x : Field) (fs : List Field) (from : ℕ) (d : Field)
       let apart : AreApart (numbers (remove fs from)) = subst (λ (gs : List Field). AreApart (numbers gs)) (sym same) (AreApart-without id fs a) in
       insert-put_behind after x (remove fs from) j d apart l g ∙ ap (λ (gs : List Field). put_behind (λ other. other.id == after) x gs) same
 
-  -- it stood behind it
+  -- it stood after it
   put_down : (b : ℕ) → b < from → (get_or fs b d).id ≡ after → insert (remove fs from) (suc b) x ≡ put_behind (λ other. other.id == after) x (fields_without id fs)
   put_down b l g =
       let n = length-remove fs from h in

@@ -46,7 +46,7 @@ sessions_of-push (op.Answer id prompt output ∷ os) o = sessions_of-push os o
 sessions_of-push (op.Lost id reason ∷ os) o = sessions_of-push os o
 sessions_of-push (op.Ids number ∷ os) o = sessions_of-push os o
 
--- the last of a kind is the op behind, where that is of the kind
+-- the last of a kind is the added op, where that is of the kind
 last_or-push : (test : Op → Bool) (first : Option Op) (os : List Op) (o : Op)
     → last_or first (filter test (os ++ o ∷ [])) ≡ (if test o then Some o else last_or first (filter test os))
 last_or-push test first [] o = go (test o)

@@ -1,4 +1,4 @@
--- The ops that make a worksheet anew make it.
+-- The ops that make a worksheet again make it.
 use Rattle.std.proofs.Common.{◌≡◌, ℕ, ◌+◌, ◌-◌, ◌<◌, ◌≤◌, ◌==◌, ◌||◌, zero, suc, Bool, true, false, List, [], ◌∷◌, ◌++◌, map, length, Option, Some, None, refl, sym, ap, ◌∙◌, subst, append_assoc, append-nil, arith, length-append}
 use Rattle.std.specs.Prelude.{not, filter, is_some, nat_le, nat_lt, if◌then◌else◌}
 use Rattle.std.specs.List.{AllByRecursion}
@@ -146,7 +146,7 @@ fewer id (g ∷ gs) f h = go (g.id == id) refl h (fewer id gs f)
 
 -- The place of a field among those below it.
 
--- directly behind a number, and first where that is the one in front
+-- directly after a number, and first where that is the one in front
 abbrev placed_from : ℕ → ℕ → Field → List Field → List Field
 placed_from found after x fs = if after == found then x ∷ fs else put_behind (λ other. other.id == after) x fs
 
@@ -206,7 +206,7 @@ module _ (id : ℕ) (f : Field) where
           let out : nat_lt g.id (id + 1) ≡ false = grind (arith, nat_tests) in
           rw out (far h apart.1 lacks.1)
 
-  -- the field behind which it goes is there
+  -- the field after which it goes is there
   abbrev HasItsPlace : ℕ → List Field → Type 0
   HasItsPlace found fs = field_in fs id ≡ Some f
       → ((smaller_before found id (numbers fs) == found) || is_some (field_in (below id fs) (smaller_before found id (numbers fs)))) ≡ true

@@ -70,7 +70,7 @@ gone fs id at a t h found = go (field_in fs id) t
     go None t = cc
     go (Some d) t = remove-fields_without id fs at d a h (found d)
 
--- and comes behind another, or first
+-- and comes after another, or first
 pub moves : (fs : List Field) (id after from to : ℕ) → AreApart (numbers fs) → IsSome (field_in fs id) → from < length fs → ((d : Field) → (get_or fs from d).id ≡ id) → (after == id) ≡ false
     → (behind : ℕ) → (after ≡ 0 → behind ≡ 0) → (after ≢ 0 → (d : Field) → IsBehind after behind d fs) → (from < behind → suc to ≡ behind) → (behind ≤ from → to ≡ behind)
     → (d : Field) → insert (remove fs from) to (get_or fs from d) ≡ moved id after fs (field_in fs id)

@@ -1,4 +1,4 @@
--- The ops that make a worksheet anew: its sessions in their order, its fields by ascending number, and the number of the next new
+-- The ops that make a worksheet again: its sessions in their order, its fields by ascending number, and the number of the next new
 -- field. The law `RewriteMakesTheSame` says that they make it.
 use Rattle.std.specs.Prelude.{ℕ, ◌+◌, ◌-◌, ◌==◌, zero, suc, List, [], ◌∷◌, ◌++◌, map, nat_lt, Option, Some, None, if◌then◌else◌}
 use Rattle.block_tree.specs.declared.reason.Reason.{Reason}
@@ -34,26 +34,26 @@ abbrev pub outcome_ops : ℕ → Option Answer → Option Reason → List Op
 outcome_ops id None lost = lost_ops id lost
 outcome_ops id (Some answer) lost = op.Answer id answer.prompt answer.output ∷ []
 
--- One of these fields, where this is the next number. It goes behind the nearest field in front of it that was made before, which
--- has a smaller number, and else to the front.
+-- One of these fields, where this is the next number. It goes after the nearest field in front of it with a smaller number, which was made
+-- before it; without one, to the front.
 abbrev pub field_ops : List Field → ℕ → Field → List Op
 field_ops fields next field = ids_to next field.id
     ++ (op.New (smaller_before 0 field.id (numbers fields)) field.session field.input
     ∷ outcome_ops field.id field.answer field.lost)
 
--- the field under a number, if there is one, and then what is behind it; else what is without it
+-- the field under a number, if there is one, and then the ops `behind`; else the ops `without`
 abbrev pub found_ops : List Field → ℕ → Option Field → List Op → List Op → List Op
 found_ops fields next None behind without = without
 found_ops fields next (Some field) behind without = field_ops fields next field ++ behind
 
--- Those of the fields that have one of so many numbers from this one on, where this is the next number. Then the next number is that
--- behind them all.
+-- Those of the fields that have one of so many numbers from this one on, where this is the next number. At the end the next number is the
+-- one after them all.
 abbrev pub fields_ops : List Field → ℕ → ℕ → ℕ → List Op
 fields_ops fields zero number next = ids_to next number
 fields_ops fields (suc count) number next =
     found_ops fields next (field_in fields number)
     (fields_ops fields count (number + 1) (number + 1)) (fields_ops fields count (number + 1) next)
 
--- the ops that make this worksheet anew
+-- the ops that make this worksheet again
 abbrev pub rewrite_of : Contents → List Op
 rewrite_of sheet = map session_op sheet.sessions ++ fields_ops sheet.fields (sheet.next - 1) 1 1

@@ -61,7 +61,7 @@ pub(crate) fn carry_out(
     }
 }
 
-/// Puts a session behind the others, under its name, which is held ready for it.
+/// Puts a session after the others, under its name, which is held ready for it.
 fn add_session(
     sessions: &mut IndexMap<Name, Option<Session>>,
     name: Octets,

@@ -12,7 +12,7 @@ use crate::slot::Slot;
 use block_tree::{OutOfMemory, Reason, Text};
 use indexmap::IndexMap;
 
-/// Puts a number that has no entry behind the others, without a field.
+/// Puts a number that has no entry after the others, without a field.
 fn add_number(fields: &mut IndexMap<u32, Slot>, number: u32) -> Result<(), OutOfMemory>
     requires { get nat_eq fields.old number ≡ None }
     ensures ok { OnOk result (fields.new.entries ≡ fields.old.entries ++ (number, None) ∷ []) }
@@ -25,7 +25,7 @@ fn add_number(fields: &mut IndexMap<u32, Slot>, number: u32) -> Result<(), OutOf
     }
 }
 
-/// Holds the next number ready for a field, behind the fields, and no other number any more. It isn't
+/// Holds the next number ready for a field, after the fields, and no other number any more. It isn't
 /// ready yet.
 pub(crate) fn reserve_number(fields: &mut IndexMap<u32, Slot>, next: u32) -> Result<(), OutOfMemory>
     requires fields { AreFields fields.old.entries }
@@ -45,7 +45,7 @@ pub(crate) fn reserve_number(fields: &mut IndexMap<u32, Slot>, next: u32) -> Res
     Ok(())
 }
 
-/// Puts a field under its number, which is held ready for it, directly behind the field with this
+/// Puts a field under its number, which is held ready for it, directly after the field with this
 /// number, or first for 0.
 pub(crate) fn put_field(fields: &mut IndexMap<u32, Slot>, after: u32, field: Field)
     requires ready { reserved fields.old.entries ≡ Some field.id }
@@ -73,7 +73,7 @@ pub(crate) fn remove_field(fields: &mut IndexMap<u32, Slot>, id: u32)
     fields.shift_remove_index(at);
 }
 
-/// Moves a field directly behind another, or first for 0.
+/// Moves a field directly after another, or first for 0.
 pub(crate) fn move_field(fields: &mut IndexMap<u32, Slot>, id: u32, after: u32)
     requires fields { AreFields fields.old.entries }
     requires apart { AreApart (numbers (shown fields.old.entries)) }

@@ -69,7 +69,7 @@ pub(crate) fn place_of(fields: &IndexMap<u32, Slot>, id: u32) -> usize
     }
 }
 
-/// The place directly behind the field with this number, or the first for 0.
+/// The place directly after the field with this number, or the first for 0.
 pub(crate) fn place_behind(fields: &IndexMap<u32, Slot>, after: u32) -> usize
     requires fields { AreFields fields.now.entries }
     requires place { ((after == 0) || is_some (field_in (shown fields.now.entries) after)) ≡ true }
@@ -77,7 +77,7 @@ pub(crate) fn place_behind(fields: &IndexMap<u32, Slot>, after: u32) -> usize
     ensures behind { after ≢ 0 → (d : Field) → IsBehind after result d (shown fields.now.entries) }
     ensures within { result ≤ length (shown fields.now.entries) }
 {
-    // A map is no longer than `usize` counts: the place behind its last is one more at most.
+    // A map is no longer than `usize` counts: the place after its last is one more at most.
     let _count = fields.len();
     if after == 0 {
         0
@@ -86,7 +86,7 @@ pub(crate) fn place_behind(fields: &IndexMap<u32, Slot>, after: u32) -> usize
     }
 }
 
-/// Whether a field stands directly behind another, first for 0.
+/// Whether a field stands directly after another, first for 0.
 pub(crate) fn stands_behind(fields: &IndexMap<u32, Slot>, after: u32, id: u32) -> bool
     requires fields { AreFields fields.now.entries }
     requires apart { AreApart (numbers (shown fields.now.entries)) }

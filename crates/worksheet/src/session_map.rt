@@ -63,7 +63,7 @@ pub(crate) fn count_sessions(sessions: &IndexMap<Name, Option<Session>>) -> usiz
     }
 }
 
-/// Puts a name that has no entry behind the others, without a session.
+/// Puts a name that has no entry after the others, without a session.
 fn add_name(sessions: &mut IndexMap<Name, Option<Session>>, name: Name) -> Result<(), OutOfMemory>
     requires { get bytes_eq sessions.old name ≡ None }
     ensures ok { OnOk result (sessions.new.entries ≡ sessions.old.entries ++ (name, None) ∷ []) }
@@ -75,7 +75,7 @@ fn add_name(sessions: &mut IndexMap<Name, Option<Session>>, name: Name) -> Resul
     }
 }
 
-/// Holds a name ready for a session, behind the sessions, and no other name any more. It isn't ready
+/// Holds a name ready for a session, after the sessions, and no other name any more. It isn't ready
 /// yet, and a session with it can be made.
 pub(crate) fn reserve_name(
     sessions: &mut IndexMap<Name, Option<Session>>,
@@ -101,7 +101,7 @@ pub(crate) fn reserve_name(
     Ok(())
 }
 
-/// Puts a session under its name, which is held ready for it, behind the others.
+/// Puts a session under its name, which is held ready for it, after the others.
 pub(crate) fn put_session(sessions: &mut IndexMap<Name, Option<Session>>, session: Session)
     requires sessions { AreSessions sessions.old.entries }
     requires ready { reserved sessions.old.entries ≡ Some session.name }

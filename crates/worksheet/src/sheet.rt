@@ -22,7 +22,7 @@ use std::marker::Model;
 /// A worksheet: fields in their order, and the sessions that they belong to. It stands for a list of
 /// ops, those that it has taken, and contains what they say.
 ///
-/// Its fields stand in a map by number whose order is theirs, its sessions in one by name. Behind them
+/// Its fields stand in a map by number whose order is theirs, its sessions in one by name. After them
 /// each map may have one entry without a value, for the next field or session: memory is ready for
 /// that one. No call shows such an entry, and no limit counts it.
 #[derive(Drop)]
@@ -121,7 +121,7 @@ impl Sheet {
     pub fn apply(&mut self, op: Op) -> Result<(), (Op, OutOfMemory)>
         requires { first_refusal self.old.contents op ≡ None }
 
-        // The worksheet stands for the ops before, and for this one behind them.
+        // The worksheet stands for the ops before, and for this one after them.
         ensures ok { (ops : List Op) → self.old.contents ≡ sheet_of ops
             → OnOk result (self.new.contents ≡ sheet_of (ops ++ op ∷ [])) }
         ensures returned { IfErr result (λ refused. refused.0 ≡ op) }

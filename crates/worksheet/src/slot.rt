@@ -8,7 +8,7 @@ use block_tree::{OutOfMemory, Reason, Text};
 use std::alloc::Global;
 use std::marker::Model;
 
-/// A field, or nothing where its number is held ready for one. It stands behind a box, so that an entry
+/// A field, or nothing where its number is held ready for one. It is in a box, so that an entry
 /// of the map is small where entries move.
 #[derive(Drop)]
 pub(crate) struct Slot {

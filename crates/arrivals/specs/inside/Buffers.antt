@@ -29,7 +29,7 @@ abbrev pub first_line : Bool → List ℕ → InputLine
 first_line false bytes = bounded_line bytes
 first_line true bytes = too_long
 
--- this is told of that line
+-- this is returned of that line
 abbrev pub Tells : NextLine → Held → InputLine → Type 0
 Tells next.Line k line = line ≡ whole k.line
 Tells next.TooLong k line = line ≡ too_long

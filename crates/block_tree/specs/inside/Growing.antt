@@ -2,7 +2,7 @@
 use Rattle.std.specs.Prelude.{ℕ, List, ◌++◌}
 use Rattle.block_tree.specs.Tree.{Items, Tree, end, text, block}
 
--- a text behind all others, one with the last of them where that is a text
+-- a text after all others, one with the last of them where that is a text
 abbrev pub text_behind : Items → List ℕ → Items
 text_behind end t = text t end
 text_behind (text s end) t = text (s ++ t) end
@@ -10,7 +10,7 @@ text_behind (text s (text u rest)) t = text s (text_behind (text u rest) t)
 text_behind (text s (block channel name inside rest)) t = text s (text_behind (block channel name inside rest) t)
 text_behind (block channel name inside rest) t = block channel name inside (text_behind rest t)
 
--- a block behind all others
+-- a block after all others
 abbrev pub block_behind : Items → Tree → Items
 block_behind end b = block b.channel b.name b.items end
 block_behind (text s rest) b = text s (block_behind rest b)

@@ -16,7 +16,7 @@ marks_of (block channel name inside rest) = open_mark channel name ∷ (marks_of
 abbrev pub marks : Tree → List Mark
 marks b = open_mark b.channel b.name ∷ (marks_of b.items ++ close_mark ∷ [])
 
--- The tree that has these marks, read from the right: the items of each level that is closed behind them.
+-- The tree that has these marks, read from the right: the items of each level that is closed after them.
 abbrev pub letter_before : ℕ → List Items → List Items
 letter_before c [] = []
 letter_before c (end ∷ st) = text (c ∷ []) end ∷ st

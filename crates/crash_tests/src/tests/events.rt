@@ -15,7 +15,7 @@ pub enum Step<'a> {
     Session(&'a str),
     /// The same with an interpreter that answers requests of completions.
     Tab(&'a str),
-    /// A field of it is made behind this one, with this input.
+    /// A field of it is made after this one, with this input.
     New(u32, &'a str),
     Set(u32, &'a str),
     Remove(u32),

@@ -9,7 +9,7 @@ use std::alloc::Global;
 use tests_desk::exhausted;
 use worksheet::Refusal;
 
-// What is missing behind so many events is taken, and then all is there.
+// What is missing after so many events is taken, and then all is there.
 fn is_completed(alloc: Global, host: &mut Host<MemoryDisk>, story: Story, count: u32) -> bool {
     let taken = takes(alloc, host, story, (story.missing(count), story.len()));
     taken && shows(alloc, host, story.behind(story.len()))
@@ -22,8 +22,8 @@ fn is_complete_on(alloc: Global, disk: MemoryDisk, story: Story) -> bool {
     }
 }
 
-// A host that is opened again shows the worksheet before the event that failed, or behind it, and what is
-// missing is taken and kept. A worksheet that is there before and behind the event is one before it.
+// A host that is opened again shows the worksheet before the event that failed, or after it, and what
+// is missing is taken and kept. A worksheet that is there before and after the event is one before it.
 fn is_mended(alloc: Global, disk: MemoryDisk, story: Story, (number, end): (u32, u32)) -> bool {
     let Some(mut host) = open(alloc, disk) else {
         return false;
@@ -67,7 +67,7 @@ fn came_of(alloc: Global, host: &mut Host<FuseDisk<MemoryDisk>>, story: Story) -
     }
 }
 
-// Which worksheets may be there then: that behind so many events, or behind so many.
+// Which worksheets may be there then: that after so many events, or after so many.
 fn may_be(came: Came, story: Story) -> (u32, u32) {
     match came {
         Came::Closed(count) => (count, count.saturating_add(1)),
@@ -155,7 +155,7 @@ fn failing(alloc: Global, story: Story, mode: FuseMode) -> u32 {
     count
 }
 
-// Whether each call of the opening fails there, and a call behind the last one nowhere.
+// Whether each call of the opening fails there, and a call after the last one nowhere.
 fn ends_fail(alloc: Global, story: Story, mode: FuseMode) -> Option<bool> {
     let opening = calls_of(alloc, story, 0)?;
     let all = calls_of(alloc, story, story.len())?;

@@ -10,7 +10,7 @@ use session_engine::Host;
 use std::alloc::Global;
 use worksheet::Refusal;
 
-// What is told of a request at the end of field 1.
+// What is reported of a request at the end of field 1.
 #[derive(Clone, Copy, Debug, PartialEq, Eq)]
 enum Told {
     Accepted,
@@ -68,7 +68,7 @@ fn so_many_lives_begin_and_no_more(rt: HostRuntime) {
     assert!(rt; spends_all);
 }
 
-// The events of the worked area. What there is no memory for is left out, and then less is told.
+// The events of the worked area. What there is no memory for is left out, and then less is reported.
 fn events(alloc: Global) -> Vec<Event> {
     let mut events = Vec::new(alloc);
     for number in 0..5u32 {

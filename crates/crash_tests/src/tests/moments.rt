@@ -15,7 +15,7 @@ fn shows_either(
     shows(alloc, host, story.behind(start)) || shows(alloc, host, story.behind(stop))
 }
 
-// Whether this crash leaves the worksheet behind one of two counts of events.
+// Whether this crash leaves the worksheet after one of two counts of events.
 fn is_left(
     alloc: Global,
     disk: &MemoryDisk,
@@ -63,7 +63,7 @@ fn moments_leave(
     true
 }
 
-// A crash within this event leaves the worksheet before it, or with it; behind its `Ok` with it alone.
+// A crash within this event leaves the worksheet before it, or with it; after its `Ok` with it alone.
 fn is_whole_or_absent(alloc: Global, story: Story, number: u32) -> Option<bool> {
     let end = number.saturating_add(1);
     let first = calls_behind(alloc, story, number)?;
@@ -90,7 +90,7 @@ fn a_crash_within_each_event(rt: HostRuntime) {
     }
 }
 
-// How many calls so many events make behind the opening.
+// How many calls so many events make after the opening.
 fn calls_of(alloc: Global, story: Story, count: u32) -> Option<u64> {
     let start = calls_behind(alloc, story, 0)?;
     calls_behind(alloc, story, count)?.checked_sub(start)
@@ -115,8 +115,8 @@ fn each_change_is_four_calls(rt: HostRuntime) {
     }
 }
 
-// Whether an opening of the worksheet behind so many events makes calls, and a crash at each of their
-// moments takes nothing away.
+// Whether an opening of the worksheet after so many events makes calls, and a crash at each of their
+// moments loses nothing.
 fn is_kept_in_the_opening(alloc: Global, disk: MemoryDisk, count: u32) -> Option<bool> {
     let first = disk.calls();
     let disk = disk_of(alloc, disk, Story::Example, (0, 0))?;

@@ -1,11 +1,11 @@
-//! Scripts of events, what is told of each, and what is left behind them.
+//! Scripts of events, what is reported of each, and what is left after them.
 use super::events::{BANNER, Step};
 use super::hosts::{keeps, opened, shows, tells_one};
 use disk_model::{Area, MemoryDisk};
 use session_engine::Host;
 use std::alloc::Global;
 
-/// Events one after another, each with what is told of it.
+/// Events one after another, each with what is reported of it.
 #[derive(Clone, Copy)]
 pub enum Script {
     /// The five events of the worked area.
@@ -81,7 +81,7 @@ fn request(number: u32) -> (Step<'static>, &'static str) {
 }
 
 impl Script {
-    /// An event of it, numbered from 0, and what is told of it.
+    /// An event of it, numbered from 0, and what is reported of it.
     pub fn step(self, number: u32) -> (Step<'static>, &'static str) {
         match self {
             Script::Example => example(number),

@@ -1,4 +1,4 @@
-//! Which events hosts take, and what their worksheets have behind each.
+//! Which events hosts take, and what their worksheets have after each.
 use super::desk::{answer, child, created, line, open, piece};
 use disk_model::{Disk, MemoryDisk};
 use host_events::{ChildEvent, Closed, Event, HostFault, Reply};
@@ -16,7 +16,7 @@ pub enum Story {
     /// Fields and checkpoints. The second and the fourth checkpoint are shorter than what stands in their
     /// area, the third one is longer.
     Fields,
-    /// The worked example, and its line evaluated again, with a checkpoint behind each event.
+    /// The worked example, and its line evaluated again, with a checkpoint after each event.
     Line,
 }
 
@@ -195,7 +195,7 @@ impl Story {
         }
     }
 
-    /// What a worksheet has behind so many events.
+    /// What a worksheet has after so many events.
     pub fn behind(self, count: u32) -> Has {
         match self {
             Story::Example => example_behind(count),
@@ -205,8 +205,8 @@ impl Story {
         }
     }
 
-    /// From which event on a host that finds what stands behind so many takes what is missing: no life goes
-    /// on for it, so a line without an answer or a reason is evaluated again.
+    /// The event from which on a host takes what is missing, where it finds what is there after so
+    /// many. No life goes on for it, so a line without an answer or a reason is evaluated again.
     pub fn missing(self, count: u32) -> u32 {
         match self {
             Story::Example | Story::Lost if count > 2 && count < self.len() => 2,
@@ -236,7 +236,7 @@ fn told_by(reply: &Reply) -> Told {
 pub enum Step {
     Taken,
     Failed(HostFault),
-    /// Something else was told.
+    /// Something else was reported.
     Wrong,
 }
 

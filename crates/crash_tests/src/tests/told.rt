@@ -118,7 +118,7 @@ fn add_step<D: Disk>(
     }
 }
 
-// The same of a play of events, one behind another.
+// The same of a play of events, one after another.
 fn add_play<D: Disk>(
     text: &mut String,
     host: &mut Host<D>,
@@ -145,7 +145,7 @@ pub fn told<D: Disk>(
     Ok(text)
 }
 
-/// The same of a play of events, one behind another.
+/// The same of a play of events, one after another.
 pub fn played<D: Disk>(
     alloc: Global,
     host: &mut Host<D>,

@@ -5,7 +5,7 @@ use disk_model::{Choice, MemoryDisk};
 use session_engine::Host;
 use std::alloc::Global;
 
-// An answer that the earlier interpreter gave counts for nothing, and the line can be evaluated anew, by the
+// An answer that the earlier interpreter gave counts for nothing, and the line can be evaluated again, by the
 // first life of this host.
 fn begins_anew(alloc: Global, host: &mut Host<MemoryDisk>) -> bool {
     let is_stale = tells(host, answer(alloc), Told::Nothing);

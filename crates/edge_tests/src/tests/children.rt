@@ -1,5 +1,5 @@
-//! Children of which each byte counts, with what is told typed in. Whole examples and real interpreters are
-//! cases of `programs`, `data/children.sh`.
+//! Children of which each byte counts, with what is reported typed in. Whole examples and real interpreters
+//! are cases of `programs`, `data/children.sh`.
 use crate::tests::desk::{Asked, tells, told};
 use crate::tests::talkers::{Silent, Turned};
 use block_tree::{OutOfMemory, Queue};
@@ -77,7 +77,7 @@ fn single_bytes<'a>(alloc: Global, all: &[&'a [u8]]) -> Result<Vec<&'a [u8]>, Ou
     Ok(pieces)
 }
 
-// Whether what is told of a banner and an answer that come byte by byte is what is told of whole ones.
+// Whether the same is reported of a banner and an answer that come byte by byte as of whole ones.
 fn is_told_by_bytes(alloc: Global) -> Option<bool> {
     let pieces = single_bytes(alloc, &[BANNER, ANSWER]).ok()?;
     let mut children = scripted(alloc, pieces.as_slice())?;
@@ -94,7 +94,7 @@ fn prompts_in_pieces_of_one_byte(rt: HostRuntime) {
     assert!(rt; is_told_by_bytes(rt.alloc()) == Some(true));
 }
 
-// How often is received from a child that never answers, and how often it is stopped, where this is told.
+// How often a child that never answers is received from, and how often it is stopped, if this is reported.
 fn stalled(alloc: Global) -> Option<(u32, u32)> {
     let mut children = Silent::new(alloc);
     let is_told = tells(

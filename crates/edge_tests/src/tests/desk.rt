@@ -90,7 +90,7 @@ fn add_replies(text: &mut String, replies: &[Reply]) -> Result<(), OutOfMemory> 
     Ok(())
 }
 
-// Serves a command, and adds what is told.
+// Serves a command, and adds what is reported.
 fn serve_one<C: Children>(
     alloc: Global,
     host: &mut Host<MemoryDisk>,
@@ -104,7 +104,7 @@ fn serve_one<C: Children>(
     }
 }
 
-// Waits, and adds what is told.
+// Waits, and adds what is reported.
 fn wait_all<C: Children>(
     alloc: Global,
     host: &mut Host<MemoryDisk>,
@@ -118,7 +118,7 @@ fn wait_all<C: Children>(
     }
 }
 
-// Makes a session with a field of this number, and evaluates it; adds what is told.
+// Makes a session with a field of this number, and evaluates it; adds what is reported.
 fn evaluate<C: Children>(
     alloc: Global,
     host: &mut Host<MemoryDisk>,
@@ -147,7 +147,7 @@ fn evaluate_each<C: Children>(
     Ok(())
 }
 
-// Stops each session, and adds what is told.
+// Stops each session, and adds what is reported.
 fn stop_each<C: Children>(
     alloc: Global,
     host: &mut Host<MemoryDisk>,

@@ -49,7 +49,7 @@ fn given(alloc: Global, input: &[u8], size: usize) -> Option<Counts> {
     None
 }
 
-// A line of so many bytes with this end, and `b` behind it.
+// A line of so many bytes with this end, and `b` after it.
 fn long_line(alloc: Global, len: usize, end: &[u8]) -> Result<Vec<u8>, AllocError> {
     let mut input = vec![in alloc; b'a'; len]?;
     input.extend_from_slice(end)?;
@@ -125,7 +125,7 @@ impl Read for Interrupted {
     }
 }
 
-// Whether a read is told to be at its end that is interrupted so many times first, or its fault.
+// Whether the input is at its end after a read that was interrupted so many times; none if it fails.
 fn fills(alloc: Global, times: u32) -> Option<bool> {
     let mut lines = InputLines::new(alloc, Interrupted { times }).ok()?;
     match lines.fill() {

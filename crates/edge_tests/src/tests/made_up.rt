@@ -10,7 +10,7 @@ use tests_desk::exhausted;
 #[derive(Drop)]
 pub struct Calls {
     pub starts: Cell<u32>,
-    /// How many words the last start had behind its program.
+    /// How many words the last start had after its program.
     pub words: Cell<usize>,
     /// Whether it asked for pipes on input and output, and for none on the stream of errors.
     pub pipes: Cell<bool>,

@@ -73,7 +73,7 @@ fn two_children(rt: &HostRuntime) -> Option<[u8; 5]> {
     turns_of_two(rt.alloc(), &mut real)
 }
 
-// The quick one is told first, its end at once though nothing was asked of it, and the slow one behind that.
+// The quick one is returned first, its end at once though nothing was asked of it, and then the slow one.
 #[test]
 fn each_child_is_told_when_it_has_something(rt: HostRuntime) {
     assert!(rt; two_children(&rt) == Some(*b"qQ-sS"));
@@ -183,7 +183,7 @@ fn piped(rt: &HostRuntime) -> Option<[u8; 3]> {
     lines_of(&mut real, &mut lines, writer)
 }
 
-// The line is there before the next is written, and the end of the input is told.
+// The line is there before the next is written, and the end of the input is reported.
 #[test]
 fn an_input_is_told_and_read_to_its_end(rt: HostRuntime) {
     assert!(rt; piped(&rt) == Some(*b"ot-"));
@@ -195,7 +195,7 @@ const HANDLER: &str =
 
 const NO_HANDLER: &str = "exec env --default-signal=INT sh -c 'echo; while :; do :; done'";
 
-// The turns of a child that goes on behind an interrupt, of one that ends of it, and of one beside them.
+// The turns of a child that goes on after an interrupt, of one that ends of it, and of one beside them.
 fn turns_of_interrupted(alloc: Global, real: &mut Real<'_>) -> Option<[u8; 6]> {
     let handler = Name::new(b"h")?;
     let none = Name::new(b"n")?;

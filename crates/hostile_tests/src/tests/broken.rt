@@ -93,7 +93,7 @@ impl Children for Broken {
 const SCRIPT: &str =
     "session a plain p\nsession b plain p\nnew 0 a x\nnew 1 b y\neval 1\neval 2\nwait\neval 1\nwait\nstop a\neval 1\neval 2\nwait\nstop b";
 
-// Whether the end that is told is that of the call that failed.
+// Whether the end that is reported is that of the call that failed.
 fn tells_of(text: &str, failed: Option<Kind>) -> bool {
     let refused = text.contains("StartRefused lost 1\n") == (failed == Some(Kind::Start));
     let sent = text.contains("SendFault lost 1\n") == (failed == Some(Kind::Send));
@@ -164,7 +164,7 @@ fn is_kept(alloc: Global, host: Host<MemoryDisk>) -> bool {
 enum Came {
     NoneFailed,
     Failed(Kind),
-    /// What was told, or what is kept, is not as it has to be.
+    /// What was reported, or what is kept, is not as it has to be.
     Wrong,
 }
 

@@ -1,6 +1,6 @@
-//! Hosts on disks in memory, and what they tell of scripts. A line of a script is served over children. One
-//! behind `!` is served while no memory is left; one behind `.` is a step of the host alone, so that no
-//! block is left behind that replies had, and one behind `-` such a step while no memory is left.
+//! Hosts on disks in memory, and what they report of scripts. A line of a script is served over children.
+//! One after `!` is served while no memory is left. One after `.` is a step of the host alone, so that no
+//! block stays that replies had, and one after `-` such a step while no memory is left.
 use child_calls::Children;
 use child_edge::{EdgeCause, EdgeFault, serve, wait};
 use disk_model::MemoryDisk;
@@ -218,7 +218,7 @@ fn add_line<C: Children>(
     }
 }
 
-/// Does the lines of a script, one after another, and adds what is told.
+/// Does the lines of a script, one after another, and adds what is reported.
 pub fn add_lines<C: Children>(
     alloc: Global,
     host: &mut Host<MemoryDisk>,
@@ -231,7 +231,7 @@ pub fn add_lines<C: Children>(
     }
 }
 
-/// Whether this is told of a script.
+/// Whether this is reported of a script.
 pub fn tells<C: Children>(
     alloc: Global,
     host: &mut Host<MemoryDisk>,

@@ -32,7 +32,7 @@ fn a_read_that_fails(rt: HostRuntime) {
     assert!(rt; is_lost(rt.alloc(), script, want));
 }
 
-// The command is not done, and nothing is told of it. It is done once there is memory.
+// The command is not done, and nothing is reported of it. It is done once there is memory.
 #[test]
 fn a_command_that_is_served_without_memory(rt: HostRuntime) {
     let script = ".session a plain p\n.new 0 a x\n!eval 1\neval 1\nwait";

@@ -82,7 +82,7 @@ fn event(alloc: Global, number: u32) -> Option<Event> {
     }
 }
 
-// Whether this is told of an event while no memory is left.
+// Whether this is reported of an event while no memory is left.
 fn tells_without(alloc: Global, host: &mut Host<MemoryDisk>, event: Event, want: &str) -> bool {
     match empty_text(alloc) {
         Some(mut text) => {
@@ -107,7 +107,7 @@ fn ends_so(alloc: Global, waiting: Waiting, number: u32, want: &str) -> bool {
     }
 }
 
-// What is told of the first nine events where a request waits first: an end gives no op.
+// What is reported of the first nine events where a request waits first: an end gives no op.
 fn told(number: u32) -> &'static str {
     match number {
         0 => "ended a Stopped lost 2\n",
@@ -216,7 +216,7 @@ fn is_closed_and_whole(alloc: Global, host: Host<MemoryDisk>) -> bool {
     is_closed && keeps(alloc, host.close(), THREE)
 }
 
-// A piece of a life that goes on is a fault then: the host is closed, and its disk has what was told.
+// A piece of a life that goes on is a fault then: the host is closed, and its disk has what it reported.
 #[test]
 fn a_piece_without_memory_closes_the_host(rt: HostRuntime) {
     let is_whole = match ready(rt.alloc(), Waiting::Lines) {

@@ -11,7 +11,7 @@ use worksheet::Name;
 // The longest input, in bytes.
 const LONGEST: u32 = 4_095;
 
-// How many replies of each kind were told.
+// How many replies of each kind were returned.
 #[derive(Clone, Copy, Debug, PartialEq, Eq)]
 struct Tally {
     done: u32,
@@ -143,7 +143,7 @@ fn add_answer(alloc: Global, events: &mut Vec<Event>, len: u32) {
 }
 
 // What is done with a field once it is answered: its completions are asked for, with the cursor at the
-// end of its input, and there are none; then an empty input, its place behind field 1, no output, and no
+// end of its input, and there are none; then an empty input, its place after field 1, no output, and no
 // field.
 fn add_end(alloc: Global, events: &mut Vec<Event>, id: u32, len: u32) {
     add_command(events, Command::Complete { id, cursor: len });

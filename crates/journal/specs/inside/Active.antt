@@ -5,7 +5,7 @@ use Rattle.disk_model.specs.declared.disk.Area.{Area}
 use Rattle.journal.specs.Area.{first_gate}
 use Rattle.journal.specs.Kept.{active_area}
 
--- the selector in area First names this one, and there is a byte behind that header
+-- the selector in area First names this one, and there is a byte after that header
 pub record IsActive (active : Area) (i : Image) : Type 0 where
   pub named : active_area i ≡ active
   pub headed : first_gate < length i.first

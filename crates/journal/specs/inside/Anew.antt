@@ -1,4 +1,4 @@
--- Writing a journal anew into the area that isn't active. No public clause speaks of it.
+-- Rewriting a journal into the area that isn't active. No public clause speaks of it.
 use Rattle.std.specs.Prelude.{◌≡◌, ℕ, ◌≤◌, List, length, take}
 use Rattle.disk_model.specs.Disk.{Image, DiskState, DiskView, History, IsImage, Leaves, area_of, content_of, other_area}
 use Rattle.disk_model.specs.declared.disk.Area.{Area}
@@ -20,7 +20,7 @@ SparedBy Second old new = new.first ≡ old.first
 abbrev pub Spares : Area → DiskState → Image → Type 0
 Spares area s i = (j : Image) × IsImage s j × SparedBy area j i
 
--- Each image stands for the payloads from before, in the other area; this area is written anew, for these payloads, and durable.
+-- Each image stands for the payloads from before, in the other area; this area is rewritten for these payloads, and durable.
 pub record IsReadyToTurn (area : Area) (before payloads : List (List ℕ)) (h : History) : Type 0 where
   pub stands : Leaves (λ i. ImageStandsFor i before) h.now
   pub named : Leaves (λ i. active_area i ≡ other_area area) h.now

@@ -1,4 +1,4 @@
--- The bytes that an append writes behind a gate. No public clause speaks of them.
+-- The bytes that an append writes after a gate. No public clause speaks of them.
 use Rattle.std.specs.Prelude.{◌≡◌, ℕ, ◌-◌, List, [], ◌∷◌, ◌++◌, length, take, drop}
 use Rattle.journal.specs.Area.{body_of, closed_gate, IsPayload}
 

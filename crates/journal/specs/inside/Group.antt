@@ -1,4 +1,4 @@
--- The payloads of records that are read one behind another. No public clause speaks of them.
+-- The payloads of records that are read one after another. No public clause speaks of them.
 use Rattle.std.specs.Prelude.{ℕ, zero, suc, List, [], ◌∷◌, length, take, drop}
 use Rattle.std.specs.Int.{from_be_bytes, w32}
 

@@ -10,7 +10,7 @@ use Rattle.journal.specs.declared.walk.Step.{Step}
 use Rattle.journal.specs.declared.walk.Step.TheVariants.{End, Broken, Record}
 
 -- what stands at the gate that these bytes begin with; of a record the length of its payload, which
--- the bytes behind it exceed
+-- the bytes after it exceed
 abbrev pub IsStep : ℕ → List ℕ → Step → Type 0
 IsStep limit rest End = (gate : ℕ) × (more : List ℕ) × (rest ≡ gate ∷ more) × (gate ≢ open_gate)
 IsStep limit rest Broken = (more : List ℕ) × (rest ≡ open_gate ∷ more) × IsBroken limit more

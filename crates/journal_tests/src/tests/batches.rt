@@ -1,4 +1,4 @@
-//! Payloads one behind another, and what is proved of them by the contract of an append alone.
+//! Payloads one after another, and what is proved of them by the contract of an append alone.
 ghost use Rattle.std.specs.Prelude.{◌≡◌, ◌≤◌, ◌++◌, List, ℕ, IfOk};
 ghost use Rattle.disk_model.specs.Disk.{InModel, LeavesOnly, SameDisk};
 ghost use Rattle.journal.specs.Kept.{Keeps};
@@ -11,7 +11,7 @@ use journal::{AppendFault, Frame, Journal};
 use std::alloc::Global;
 
 // How a layer above carries the journal's promises on, by its contract alone. It appends payloads in
-// order. A crash at any moment leaves the payloads from before the call, and behind them the first
+// order. A crash at any moment leaves the payloads from before the call, and after them the first
 // ones of these.
 fn append_all<D: Disk>(journal: Journal<D>, frames: &[Frame]) -> Result<Journal<D>, AppendFault<D>>
     ensures same { SameDisk journal.disk (disk_after D.view result) }

@@ -130,7 +130,7 @@ pub fn has_session_alone(disk: &MemoryDisk) -> bool {
     disk.content(Area::First) == area && disk.content(Area::Second).is_empty()
 }
 
-// Whether these payloads stand behind these gates.
+// Whether these payloads follow these gates.
 fn are(payloads: &[Payload], want: &[(u64, &[u8])]) -> bool {
     if payloads.len() != want.len() {
         return false;
@@ -143,7 +143,7 @@ fn are(payloads: &[Payload], want: &[(u64, &[u8])]) -> bool {
     true
 }
 
-/// Whether the disk opens to these payloads, behind these gates.
+/// Whether the disk opens to these payloads, after these gates.
 pub fn has<D: Disk>(alloc: Global, disk: D, want: &[(u64, &[u8])]) -> bool {
     match opened(alloc, disk) {
         Some((_, payloads)) => are(payloads.as_slice(), want),

@@ -126,7 +126,7 @@ fn fuse_fails_the_kth_call_alone(rt: HostRuntime) {
     assert!(rt; spent(alloc, 3, FuseMode::Only) == ([true, true, false], 2));
 }
 
-// A disk with a write that no sync follows, behind a fuse that never blows.
+// A disk with a write that no sync follows, under a fuse that never blows.
 fn behind_a_fuse(alloc: Global) -> Option<FuseDisk<MemoryDisk>> {
     Some(FuseDisk::new(half_written(alloc)?, 0, FuseMode::Only))
 }
@@ -281,7 +281,7 @@ impl Disk for Unclaimed {
     }
 }
 
-// Which of four calls answer Ok behind a fuse that fails the third one alone.
+// Which of four calls answer Ok under a fuse that fails the third one alone.
 fn anywhere() -> [bool; 4] {
     let mut disk = FuseDisk::new(Unclaimed { faults: 0 }, 3, FuseMode::Only);
     let mut buffer = [0u8; 4];
@@ -298,8 +298,8 @@ fn a_disk_that_keeps_no_model_is_called_anywhere(rt: HostRuntime) {
     assert!(rt; anywhere() == [true, false, false, true]);
 }
 
-// Whether three reads of 4, 2 and 8 bytes answer Ok behind a fuse that fails from the third on, and the longest
-// read that is told before them and behind each.
+// Whether three reads of 4, 2 and 8 bytes answer Ok under a fuse that fails from the third on. With it, the longest read that is reported
+// before them and after each.
 fn longest_reads() -> ([bool; 3], [u64; 4]) {
     let mut disk = FuseDisk::new(Unclaimed { faults: 0 }, 3, FuseMode::From);
     let none = disk.longest_read();
@@ -319,7 +319,7 @@ fn the_longest_read_is_told(rt: HostRuntime) {
     assert!(rt; longest_reads() == ([true, true, false], [0, 4, 4, 8]));
 }
 
-// Whether a write fails, and the longest read behind it.
+// Whether a write fails, and the longest read after it.
 fn longest_read_of_a_write() -> (bool, u64) {
     let mut disk = FuseDisk::new(Unclaimed { faults: 0 }, 1, FuseMode::From);
     let fails = disk.write_at(Area::First, 0, b"0123456789").is_err();

@@ -1,4 +1,4 @@
-//! Records that become durable behind one gate.
+//! Records that one gate commits.
 use super::desk::{AREA, SESSION, empty, empty_in, frame, opened};
 use disk_model::{Area, Choice, Disk, Fill, FuseDisk, FuseMode, MemoryDisk};
 use journal::{AppendFault, Group, Journal};

@@ -204,8 +204,8 @@ fn empty_without_memory(alloc: Global) -> Option<Journal<ArrayDisk>> {
     empty(alloc, created_without_memory(alloc)?)
 }
 
-// The session behind the closed gate of a journal on a disk of an array, which took it while no memory was
-// left.
+// The session after the closed gate of a journal on a disk of an array, which took it while no memory
+// was left.
 fn with_session_on_array(alloc: Global) -> Option<ArrayDisk> {
     let frame = frame(alloc, &SESSION)?;
     let journal = empty_without_memory(alloc)?;

@@ -14,7 +14,7 @@ fn is_kept(alloc: Global, disk: MemoryDisk) -> bool {
     has_session_alone(&disk) && has(alloc, disk, &[(10, &SESSION)])
 }
 
-// Whether a payload more doesn't fit behind the session, which stays alone.
+// Whether a payload more doesn't fit after the session, which stays alone.
 fn is_filled(alloc: Global, journal: Journal<MemoryDisk>) -> bool {
     let has_room = journal.fits(1);
     match full(alloc, journal, &[7]) {

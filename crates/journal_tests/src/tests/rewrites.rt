@@ -66,7 +66,7 @@ fn ends_at_the_gate(alloc: Global) -> Option<bool> {
     Some(has_one(alloc, journal.into_disk()))
 }
 
-// The second area has the older and longer journal behind the last gate of the newer one.
+// The second area has the older and longer journal after the last gate of the newer one.
 #[test]
 fn what_is_behind_the_last_gate_is_no_record(rt: HostRuntime) {
     assert!(rt; ends_at_the_gate(rt.alloc()) == Some(true));

@@ -15,7 +15,7 @@ fn is(payload: &Payload, gate: u64, bytes: &[u8]) -> bool {
     payload.gate == gate && payload.bytes.as_slice() == bytes
 }
 
-// The opening behind its next payload, which stands behind this gate and has these bytes.
+// The opening after its next payload, which follows this gate and has these bytes.
 fn behind<D: Disk>(opening: Opening<D>, gate: u64, bytes: &[u8]) -> Option<Opening<D>> {
     match opening.next() {
         Ok(Next::Payload(behind, payload)) => {
@@ -71,8 +71,9 @@ fn an_opening_gives_its_disk_back(rt: HostRuntime) {
     assert!(rt; gives_back(rt.alloc()) == Some(true));
 }
 
-// Puts a record behind the closed gate that the area ends with: a payload of so many bytes of this
-// value, and the next gate. Where there is no memory the area lacks them, and isn't told as wanted.
+// Puts a record after the closed gate that the area ends with: a payload of so many bytes of this
+// value, and the next gate. Where there is no memory the area lacks them, and the report isn't as
+// wanted.
 fn push_record(alloc: Global, area: &mut Vec<u8>, len: u32, byte: u8) {
     let _closed = area.pop();
     let _ = area.push(b'R');

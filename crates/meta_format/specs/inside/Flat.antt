@@ -19,7 +19,7 @@ pub record Takes (most : Limits) (s : List ℕ) (from at : ℕ) (q : State) : Ty
   pub split : drop from s ≡ piece ++ drop at s
   pub ran : run most (outside_at from) piece ≡ q
 
--- the machine behind the one block that it has found
+-- the machine after the one block that it has found
 abbrev pub closed_at : ℕ → ℕ → Tree → State
 closed_at start stop b = record { at = stop; out = record { start = start; stop = stop; block = b } ∷ []; mode = outside }
 
@@ -31,7 +31,7 @@ ComesTo most s from at mode = Takes most s from at record { at = at; out = []; m
 abbrev pub Breaks : Limits → List ℕ → ℕ → ℕ → Kind → Type 0
 Breaks most s from at kind = run most (outside_at from) (drop from s) ≡ record { at = at; out = []; mode = broken kind at }
 
--- Behind a 2, with so many levels open.
+-- After a 2, with so many levels open.
 abbrev pub AtTag : Limits → List ℕ → ℕ → ℕ → ℕ → Type 0
 AtTag most s start at levels = (marks : List Mark) × ComesTo most s start at (tag_of start marks levels [])
 
@@ -39,7 +39,7 @@ AtTag most s start at levels = (marks : List Mark) × ComesTo most s start at (t
 abbrev pub InBody : Limits → List ℕ → ℕ → ℕ → ℕ → Type 0
 InBody most s start at d = (marks : List Mark) × ComesTo most s start at (body_of start marks d)
 
--- Behind a 27 in a body.
+-- After a 27 in a body.
 abbrev pub InEscape : Limits → List ℕ → ℕ → ℕ → ℕ → Type 0
 InEscape most s start at d = (marks : List Mark) × ComesTo most s start at (escape_of start marks d)
 

@@ -31,7 +31,7 @@ pub record IsLevel (l : Level) : Type 0 where
   pub right : IsRight l
   pub no_text : ends_in_text false (tests_of l) ≡ false
 
--- so many levels are open behind these marks
+-- so many levels are open after these marks
 pub record AreOpen (most : ℕ) (ms : List Mark) (levels : ℕ) : Type 0 where
   pub open_marks : IsOpen most ms levels
   pub few : levels ≤ most

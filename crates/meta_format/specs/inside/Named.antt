@@ -1,4 +1,4 @@
--- What stands behind a 2. Private contracts cite this.
+-- What follows a 2. Private contracts cite this.
 use Rattle.std.specs.Prelude.{◌≡◌, ◌≤◌, ◌<◌, ℕ, true, List, slice_index}
 use Rattle.block_tree.specs.Tree.{Tree}
 use Rattle.meta_format.specs.Limits.{Limits}

@@ -18,7 +18,7 @@ use Rattle.plugin_core.specs.inside.Words.{prompt_in, default_in}
 use Rattle.plugin_core.specs.Items.{answer_to, bytes_of}
 use Rattle.plugin_core.specs.Kept.{InterpreterView}
 
--- what is told of an output that answers the first item, or is the banner's
+-- what is returned for an output that answers the first item, or is the banner's
 abbrev pub answer_first : Bool → List Item → List ℕ → Tree → Option Answered
 answer_first false waiting prompt out = Some (answered.Banner out)
 answer_first true [] prompt out = None

@@ -28,7 +28,7 @@ first_prompt = codes "> "
 abbrev pub next_behind : {T : Type 0} → List T → List T → Option T
 next_behind before after = slice_get after (length before)
 
--- what is told of a block that is the next answer after this past
+-- what is returned for a block that is the next answer after this past
 abbrev pub answered_with : List Event → List Outer → Outer → Option Answered
 answered_with past before b = answer_behind (answers_of past before) (items_of past) (prompt_of past before) b.block
 

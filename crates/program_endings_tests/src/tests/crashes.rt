@@ -1,5 +1,5 @@
 //! The program's own file code, with its programs above it, over files that crash at each moment: what is there opens to the worksheet
-//! behind what was told, or behind the one line more that was being done.
+//! after what was acknowledged, or after the one line more that was being done.
 use super::machine::{Folder, Machine};
 use child_calls::Scripted;
 use disk_model::{Choice, Fill};
@@ -51,7 +51,7 @@ fn runs(alloc: Global, folder: &Folder, script: &[u8], told: &[u8]) -> bool {
     ended.status == 0 && text.as_slice() == told
 }
 
-// Whether what is rescued of one folder is written to another one, and this is told.
+// Whether what is rescued of one folder is written to another one, and this is printed.
 fn rescues(alloc: Global, from: &Folder, to: &Folder, told: &[u8]) -> bool {
     let mut text: Vec<u8> = Vec::new(alloc);
     let mut errors: Vec<u8> = Vec::new(alloc);
@@ -78,7 +78,7 @@ fn shown_now(alloc: Global, folder: &Folder) -> Option<Vec<u8>> {
     shown(alloc, &copied(folder)?)
 }
 
-/// What a folder may show: before a program, while it is at it, and from the moment on when it told that it
+/// What a folder may show: before a program, while it is at it, and from the moment on when it reported that it
 /// was done.
 #[derive(Drop)]
 struct Kept<'a> {
@@ -135,7 +135,7 @@ fn making_keeps(alloc: Global, folder: &Folder) -> bool {
     made && kept.is_left_from(alloc, folder, 0)
 }
 
-// Whether a run ends well, and a crash leaves the worksheet before it or behind it, when it was told the latter.
+// Whether a run ends well, and a crash leaves the worksheet before it or after it: the latter once the run was acknowledged.
 fn run_keeps(alloc: Global, folder: &Folder, script: &[u8], told: &[u8]) -> bool {
     let from = folder.moment();
     let before = shown_now(alloc, folder);
@@ -151,7 +151,7 @@ fn run_keeps(alloc: Global, folder: &Folder, script: &[u8], told: &[u8]) -> bool
     kept.is_left_from(alloc, folder, from)
 }
 
-/// Lines of a script, and what is told of them.
+/// Lines of a script, and what is printed of them.
 type Step = (&'static [u8], &'static [u8]);
 
 const BEGINNING: [Step; 3] = [
@@ -227,8 +227,8 @@ fn a_crash_at_each_moment_of_runs_and_checkpoints(rt: HostRuntime) {
     assert!(rt; lasts(rt.alloc(), 11, 500));
 }
 
-// Whether a rescue ends well, and a crash leaves no worksheet, an empty one or all that was kept, when it was told
-// the last. The old worksheet stays as it is.
+// Whether a rescue ends well, and a crash leaves no worksheet, an empty one or all that was kept: the last once
+// the rescue was acknowledged. The old worksheet stays as it is.
 fn rescue_keeps(alloc: Global, from: &Folder, to: &Folder, told: &[u8]) -> bool {
     let whole = shown_now(alloc, from);
     let rescued = rescues(alloc, from, to, told);

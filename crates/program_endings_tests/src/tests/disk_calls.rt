@@ -6,7 +6,7 @@ use sheet_files::FileDisk;
 use std::alloc::Global;
 use std::io::ErrorKind;
 
-// Whether the calls of this area are these, behind those of an opening, and each works.
+// Whether the calls of this area are these, after those of an opening, and each works.
 fn area_calls(alloc: Global, area: Area, lines: &str) -> bool {
     let calls = over(alloc, There::All);
     let Ok(mut disk) = FileDisk::open(
@@ -37,7 +37,7 @@ fn calls_come_to_the_file_of_their_area_whole(rt: HostRuntime) {
     assert!(rt; area_calls(rt.alloc(), Area::Second, second));
 }
 
-// Whether a disk that is only read makes these calls behind those of its opening, and writes nothing.
+// Whether a disk that is only read makes these calls after those of its opening, and writes nothing.
 fn read_calls(alloc: Global, area: Area, lines: &str) -> bool {
     let calls = over(alloc, There::All);
     let Ok(mut disk) = FileDisk::open_to_read(
@@ -117,7 +117,7 @@ fn a_sync_that_fails_is_a_fault(rt: HostRuntime) {
     assert!(rt; syncs(alloc, Area::Second, ErrorKind::ReadOnlyFilesystem) == nothing);
 }
 
-// Whether nothing comes to a file behind a sync of this area that failed: a later sync that works would say
+// Whether nothing comes to a file after a sync of this area that failed: a later sync that works would say
 // nothing of what the first one left out.
 fn ends_by_a_failed_sync(alloc: Global, area: Area, lines: &str) -> bool {
     let calls = over(alloc, There::All);

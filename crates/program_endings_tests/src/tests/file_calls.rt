@@ -124,7 +124,7 @@ fn a_link_is_followed_to_both_files(rt: HostRuntime) {
     assert!(rt; opens_by(rt.alloc(), There::Linked, "link", far, read));
 }
 
-// Where it can't be told where a path leads, one that is no link stands as it is.
+// Where it can't be found where a path leads, one that is no link stands as it is.
 #[test]
 fn a_path_that_can_not_be_followed(rt: HostRuntime) {
     let here = "follow s\nlook for s\nopen s\nlock s\nidentify s\n\

@@ -52,7 +52,7 @@ pub enum There {
     SecondLink,
     /// Each file, and the path `link` leads to the path `far/sheet`.
     Linked,
-    /// The same, but where it leads can't be told.
+    /// The same, but where it leads can't be found.
     Lost,
 }
 

@@ -14,7 +14,7 @@ fn fault<R: Read, W: Write>(alloc: Global, reader: &mut R, writer: &mut W) -> Op
     run(alloc, reader, writer, disk, &mut children).err()
 }
 
-// That of a reader that fails behind a line, where nothing was written.
+// That of a reader that fails after a line, where nothing was written.
 fn reader_fault(alloc: Global) -> Option<RunFault> {
     let mut text: Vec<u8> = Vec::new(alloc);
     let mut reader = Parts {
@@ -46,7 +46,7 @@ fn a_flush_that_fails(rt: HostRuntime) {
     assert!(rt; writer_fault(rt.alloc(), &mut Unflushed) == Some(RunFault::Output));
 }
 
-// The line behind which a strict run of a script over an empty worksheet stops, if it does.
+// The line after which a strict run of a script over an empty worksheet stops, if it does.
 fn stopped(alloc: Global, script: &[u8]) -> Option<Option<u64>> {
     let disk = journal::create(MemoryDisk::new(alloc, 1_000)).ok()?;
     let mut children = Scripted::new(alloc, Vec::new(alloc));

@@ -51,7 +51,7 @@ fn writer_fault<W: io::Write>(alloc: Global, writer: &mut W) -> Option<RunFault>
     run_memory(alloc, &mut reader, writer).err()
 }
 
-// That of one that fails behind a line.
+// That of one that fails after a line.
 fn fault_of_parts(alloc: Global) -> Option<RunFault> {
     let mut parts = Parts {
         rest: b"remove 1\n",

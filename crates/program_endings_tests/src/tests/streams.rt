@@ -36,7 +36,7 @@ fn writer_fault<W: Write>(alloc: Global, stream: &[u8], writer: &mut W) -> Optio
     blocks(alloc, &mut reader, writer).err()
 }
 
-// That of one that fails behind a block.
+// That of one that fails after a block.
 fn fault_of_parts(alloc: Global) -> Option<RunFault> {
     let mut parts = Parts {
         rest: b"\x02a:\x05",

@@ -32,7 +32,7 @@ fn leaf(alloc: Global, channel: bool, name: &[u8], bytes: &[u8]) -> Option<Node>
     }
 }
 
-// The node with this one behind it, and a text behind that.
+// The node with this one after it, and a text after that.
 fn with(alloc: Global, outer: Node, inner: Node, bytes: &[u8]) -> Option<Node> {
     let mut outer = outer;
     let block = is_added(&mut outer, Some(Item::Block(inner)));

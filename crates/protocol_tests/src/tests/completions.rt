@@ -1,12 +1,12 @@
 //! What no clause says: that these calls succeed where memory is to be had, what they give in
-//! worked examples, and that want of memory is told.
+//! worked examples, and that lack of memory is reported.
 use block_tree::{Block, Octets, Sequence, output_of};
 use meta_format::read_block;
 use scheme_text::{AnswerFault, Completions, read_answer, write_request};
 use std::alloc::Global;
 use tests_desk::exhausted;
 
-// Whether the request is this one. The cursor stands neither inside a character nor behind the end.
+// Whether the request is this one. The cursor stands neither inside a character nor after the end.
 fn asks(alloc: Global, input: &str, cursor: usize, want: &[u8]) -> bool {
     if !input.is_char_boundary(cursor) {
         return false;
@@ -149,7 +149,7 @@ fn completions(alloc: Global, root: &[u8], rest: &[u8]) -> Option<Completions> {
     })
 }
 
-// Whether completions with this root and this one behind it equal `h` with `ello`.
+// Whether completions with this root and this one after it equal `h` with `ello`.
 fn is_equal(alloc: Global, root: &[u8], rest: &[u8]) -> Option<bool> {
     let value = completions(alloc, b"h", b"ello")?;
     Some(value == completions(alloc, root, rest)?)

@@ -22,7 +22,7 @@ enum End {
 /// Where a block starts and stops, and its canonical spelling.
 type Wanted<'a> = (u64, u64, &'a [u8]);
 
-/// Puts what was found behind what there is.
+/// Puts what was found after what there is.
 fn append(all: &mut Vec<Found>, found: Vec<Found>, end: Option<End>) -> Option<End> {
     let mut found = found;
     match all.append(&mut found) {
@@ -46,7 +46,7 @@ fn feed(reader: &mut Reader, all: &mut Vec<Found>, piece: &[u8]) -> Option<End> 
     }
 }
 
-/// How a stream ends that goes on behind each of its pieces.
+/// How a stream ends that goes on after each of its pieces.
 fn end_behind(reader: &Reader) -> End {
     match reader.pending() {
         None => End::Whole,
@@ -129,7 +129,7 @@ fn seen(stream: &[u8], from: usize) -> Option<Seen> {
     Some(next_outer(stream, from))
 }
 
-/// How the stream ends by what is seen behind its last block.
+/// How the stream ends by what is seen after its last block.
 fn end_of(seen: Option<Seen>) -> End {
     match seen {
         Some(Seen::End) => End::Whole,
@@ -181,7 +181,7 @@ fn is_read_back(alloc: Global, spelling: &[u8]) -> bool {
     }
 }
 
-// The fault of a spelling with a byte behind it.
+// The fault of a spelling with a byte after it.
 fn fault_of_longer(alloc: Global, spelling: &[u8]) -> Option<ReadFault> {
     let mut longer = spelling.to_vec(alloc).ok()?;
     longer.push(b'x').ok()?;
@@ -198,7 +198,7 @@ fn escapes_of_a_text(rt: HostRuntime) {
     assert!(rt; fault_of_longer(rt.alloc(), canonical) == Some(ReadFault::NotABlock));
 }
 
-// A block's begin, so many bytes of this kind, and these behind them.
+// A block's begin, so many bytes of this kind, and these after them.
 fn joined(alloc: Global, front: &[u8], (byte, count): (u8, usize), back: &[u8]) -> Option<Vec<u8>> {
     let middle = Vec::from_elem(alloc, byte, count).ok()?;
     let mut all = front.to_vec(alloc).ok()?;
@@ -326,7 +326,7 @@ fn feed_bytes(alloc: Global, reader: &mut Reader, tally: &mut Tally, bytes: &[u8
     true
 }
 
-// What is found where a block of 12 bytes is fed so many times, byte by byte, and the offset behind them.
+// What is found where a block of 12 bytes is fed so many times, byte by byte, and the offset after them.
 fn found_in(alloc: Global, times: u32) -> Option<(Tally, u64)> {
     let mut reader = Reader::new(alloc);
     let mut tally = Tally {

@@ -1,4 +1,4 @@
--- Behind which field each is made anew. No public clause speaks of it.
+-- After which field each is made again. No public clause speaks of it.
 use Rattle.std.specs.Prelude.{◌≡◌, ℕ, List, [], ◌∷◌, length, get_or, nat_lt, if◌then◌else◌}
 use Rattle.std.specs.List.{AllByRecursion}
 use Rattle.worksheet.specs.Checks.{numbers}

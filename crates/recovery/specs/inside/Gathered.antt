@@ -6,7 +6,7 @@ use Rattle.recovery.specs.Code.{IsTyped}
 use Rattle.recovery.specs.declared.records.Record.{Record}
 use Rattle.recovery.specs.inside.Records.{op_in}
 
--- the records of these ops were put behind others
+-- the records of these ops were put after others
 abbrev pub Gathered : List Op → List Record → List Record → Type 0
 Gathered ops before after = (map op_in after ≡ map op_in before ++ ops) × AllByRecursion IsTyped ops
 

@@ -10,7 +10,7 @@ use Rattle.recovery.specs.Sheets.{codes_of}
 abbrev pub HasRecord : Op → Type 0
 HasRecord o = HasCode o × (length (code_of o) ≤ longest_payload)
 
--- of so much room this is left behind the records of these ops, or there is no room for them
+-- of so much room this is left after the records of these ops, or there is no room for them
 abbrev pub Measures : List Op → ℕ → Option ℕ → Type 0
 Measures ops left (Some rest) = left ≡ length (records (codes_of ops)) + rest
 Measures ops left None = length (records (codes_of ops)) ≤ left → ⊥

@@ -27,7 +27,7 @@ abbrev pub ReadsOrFails : {X Y : Type 0} → (X → Y) → Result X DecodeFault 
 ReadsOrFails view (Ok x) read = read ≡ Some (view x)
 ReadsOrFails view (Err e) read = Fails e read
 
--- so many bytes, and what stands behind them
+-- so many bytes, and what follows them
 abbrev pub front_at : ℕ → List ℕ → Option (List ℕ × List ℕ)
 front_at n bytes = if nat_lt (length bytes) n then None else Some (take n bytes, drop n bytes)
 

@@ -1,4 +1,4 @@
--- Records that make a worksheet anew, before they are written. No public clause speaks of them.
+-- Records that make a worksheet again, before they are written. No public clause speaks of them.
 use Rattle.worksheet.specs.declared.op.Op.{Op}
 use Rattle.worksheet.specs.declared.op.Op.TheVariants as op
 use Rattle.worksheet.specs.Rewrite.{session_op}

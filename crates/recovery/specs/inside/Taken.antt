@@ -1,4 +1,4 @@
--- Payloads taken one behind another. No public clause speaks of it.
+-- Payloads taken one after another. No public clause speaks of it.
 use Rattle.std.specs.Prelude.{◌≡◌, ℕ, List, [], ◌∷◌, ◌++◌, None, Result, Ok, Err}
 use Rattle.disk_model.specs.Disk.{DiskView}
 use Rattle.worksheet.specs.declared.op.Op.{Op}
@@ -13,13 +13,13 @@ use Rattle.journal.specs.declared.opening.OpenCause.TheVariants as causes
 use Rattle.recovery.specs.Code.{code_of, IsPayloadOf}
 use Rattle.recovery.specs.Sheets.{codes_of, Makes, IsRefusedAt}
 
--- the payload is that of an op, and the sheet has it behind these
+-- the payload is that of an op, and the sheet has it after these
 pub record TakesOps (ops : List Op) (payload : List ℕ) (sheet : Contents) : Type 0 where
   pub next : Op
   pub is : payload ≡ code_of next
   pub makes : Makes (ops ++ next ∷ []) sheet
 
--- the payload is of no op that is allowed behind these, and its gate is named
+-- the payload is of no op that is allowed after these, and its gate is named
 abbrev pub Refuses : List Op → Payload → OpenCause → Type 0
 Refuses ops p (causes.Damaged gate) =
     (gate ≡ p.gate) × ((o : Op) → IsPayloadOf o p.bytes → first_refusal (sheet_of ops) o ≡ None → ⊥)

@@ -30,7 +30,7 @@ fn is_answered_at(alloc: Global, disk: &MemoryDisk, moment: u64, fill: Fill) -> 
     is_answered_on(alloc, disk.crash(&choice).ok()?)
 }
 
-// Whether it is so where a crash comes before the last sync, and answered behind it.
+// Whether it is so where a crash comes before the last sync, and answered after it.
 fn is_answered_by(alloc: Global, disk: &MemoryDisk, fill: Fill, before: bool) -> bool {
     let calls = disk.calls();
     if calls == 0 {
@@ -112,7 +112,7 @@ fn put_prepared(store: &mut Store<MemoryDisk>, op: Op) -> Option<u64> {
     }
 }
 
-// Whether the session is put so, has 9 bytes, and no field fits behind it.
+// Whether the session is put so, has 9 bytes, and no field fits after it.
 fn is_put_prepared(store: &mut Store<MemoryDisk>, session: Op, new: &Op) -> bool {
     let len = put_prepared(store, session);
     let has_session = has_session(store);

@@ -141,7 +141,7 @@ fn fits<D: Disk>(store: &Store<D>) -> bool {
     store.fits(&Op::Clear { id: 1 })
 }
 
-// Whether what fits, and the length of a payload, is told while no memory is left.
+// Whether what fits, and the length of a payload, is reported while no memory is left.
 fn fits_without<D: Disk>(alloc: Global, store: &Store<D>) -> bool {
     match exhausted(alloc) {
         Ok(_held) => fits(store) && code_len(&Op::Clear { id: 1 }) == 5,
@@ -190,7 +190,7 @@ fn without_memory_a_disk_in_memory_fails(rt: HostRuntime) {
     assert!(rt; is_closed);
 }
 
-// Whether an op is neither prepared nor committed for want of memory.
+// Whether an op is neither prepared nor committed for lack of memory.
 fn is_refused(store: &mut Store<MemoryDisk>, op: &Op, other: Op) -> bool {
     let no_frame = prepared(store, op);
     let refused = put(store, other);

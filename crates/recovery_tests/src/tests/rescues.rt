@@ -23,7 +23,7 @@ fn told_over(alloc: Global, disk: FuseDisk<MemoryDisk>) -> Told {
     }
 }
 
-// What is told of the worked example where its disk fails at this call.
+// What is reported of the worked example where its disk fails at this call.
 fn told_at(alloc: Global, k: u64) -> Told {
     match holding(alloc, &AREA) {
         Some(disk) => told_over(alloc, FuseDisk::new(disk, k, FuseMode::Only)),

@@ -1,4 +1,4 @@
--- What is read behind a block that was found. Public contracts cite none of this.
+-- What is read after a block that was found. Public contracts cite none of this.
 use Rattle.std.specs.Prelude.{ℕ, List, Option, Some, None, option_map, if◌then◌else◌}
 use Rattle.std.specs.Borrow.{Bor}
 use Rattle.block_tree.specs.Tree.{Items}

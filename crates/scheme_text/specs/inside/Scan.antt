@@ -5,7 +5,7 @@ use Rattle.std.specs.Str.{bytes_eq}
 use Rattle.scheme_text.specs.inside.Words.{slashed}
 use Rattle.scheme_text.specs.Outputs.{is_white}
 
--- outside a string, in one, and behind a backslash in one
+-- outside a string, in one, and after a backslash in one
 pub data Place : Type 0 where
   outside : Place
   inside : Place
@@ -27,7 +27,7 @@ abbrev pub add_before : List (List ℕ) → Option (List (List ℕ)) → Option 
 add_before us None = None
 add_before us (Some ts) = Some (us ++ ts)
 
--- nothing but white space behind a form
+-- nothing but white space after a form
 abbrev pub closed : List ℕ → Option (List (List ℕ))
 closed s = if list_all is_white s then Some [] else None
 
@@ -46,11 +46,11 @@ abbrev pub without_white : List ℕ → List ℕ
 without_white [] = []
 without_white (c ∷ s) = if is_white c then without_white s else c ∷ s
 
--- behind the first bracket and white space
+-- after the first bracket and white space
 abbrev pub read_tuple : List ℕ → Option (List (List ℕ))
 read_tuple s = if bytes_eq (take 5 s) (codes "tuple") then read_from outside (drop 5 s) else None
 
--- behind the first quote
+-- after the first quote
 abbrev pub read_empty_string : List ℕ → Option (List (List ℕ))
 read_empty_string [] = None
 read_empty_string (c ∷ s) = if c == 34 then closed s else None

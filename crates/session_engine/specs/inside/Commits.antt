@@ -38,7 +38,7 @@ use Rattle.session_engine.specs.declared.commits.LoseFault.{LoseFault}
 use Rattle.session_engine.specs.declared.commits.LoseFault.TheVariants as loses
 use Rattle.session_engine.specs.Host.{OnDisk}
 
--- the op is on the disk and in the worksheet, behind these
+-- the op is on the disk and in the worksheet, after these
 pub record Committed (old : StoreView) (ops : List Op) (o : Op) (new : StoreView) : Type 0 where
   pub fits : fits_in old.disk.room old.end o ≡ true
   pub contents : new.sheet.contents ≡ sheet_of (ops ++ o ∷ [])
@@ -142,7 +142,7 @@ Spares id (op.Answer other prompt output) = Unit {0}
 Spares id (op.Lost other reason) = Unit {0}
 Spares id (op.Ids number) = Unit {0}
 
--- no waiting line is that of a field that the op takes away
+-- no waiting line is that of a field that the op removes
 abbrev pub SparesItem : Op → Item → Type 0
 SparesItem o (item.Line id text) = Spares id o
 SparesItem o (item.Complete id text cursor) = Unit {0}
@@ -150,18 +150,19 @@ SparesItem o (item.Complete id text cursor) = Unit {0}
 abbrev pub SparesLife : Op → Going → Type 0
 SparesLife o l = AllByRecursion (SparesItem o) (waiting_in l)
 
--- an op that the worksheet allows is done, or refused where it doesn't fit or for want of memory, and then no disk is touched
+-- an op that the worksheet allows is done, or refused where it doesn't fit or for lack of memory, and then no disk is touched
 abbrev pub Changes : {D : Type 0} → World → Op → Reply → Engine D → Engine D → Outcome → Type 0
 Changes w o r old new out =
     ((fits w o ≡ true) × (out ≡ replies r) × StandsAt new (with_op o w))
     ⊎ (((fits w o ≡ false) × (out ≡ refused refusal.JournalFull) × StandsAt new w × (new.store.disk ≡ old.store.disk))
     ⊎ ((fits w o ≡ true) × (out ≡ refused refusal.OutOfMemory) × StandsAt new w × (new.store.disk ≡ old.store.disk)))
 
--- why an Eval is refused behind its field and its line
+-- why an Eval is refused after the checks of its field and its line
 abbrev pub RefusesEval : World → ℕ → Refusal → Type 0
 RefusesEval w id r = (first_of (eval_refusals w id) ≡ Some r) ⊎ ((first_of (eval_refusals w id) ≡ None) × (r ≡ refusal.OutOfMemory))
 
--- what is told of an item that is asked: it begins a life that is started with these words, or these bytes are sent
+-- what is returned for an item that is asked: it begins a life that is started with these words, or these bytes are
+-- sent
 abbrev pub told_asked : List ℕ → ℕ → Option (List (List ℕ)) → Option (List ℕ) → Outcome
 told_asked name life (Some words) sent = record { reply = reply.Asked life; effect = Some (effect.Start name life words) }
 told_asked name life None sent = record { reply = reply.Asked life; effect = option_map (λ bytes. effect.Send name life bytes) sent }
@@ -170,7 +171,7 @@ abbrev pub begun_with_words : ℕ → Option (List (List ℕ)) → ℕ
 begun_with_words begun (Some words) = begun + 1
 begun_with_words begun None = begun
 
--- the line of a field is asked and its Clear is given, or neither for want of memory
+-- the line of a field is asked and its Clear is given, or neither for lack of memory
 abbrev pub Evaluated : {D : Type 0} → World → List ℕ → ℕ → Item → Engine D → Engine D → Outcome → Type 0
 Evaluated w name id line old new o =
     ((o ≡ asks w name line (life_of w name)) × StandsAt new (with_op (op.Clear id) (with_item w name line (life_of w name))))

@@ -20,7 +20,7 @@ use Rattle.session_engine.specs.World.{World, Going, sheet_in, life_of, session_
 use Rattle.session_engine.specs.Refused.{queue_refusals}
 use Rattle.session_engine.specs.inside.Words.{full, put_back, taken_out, starting_words, begun_with, joined_by}
 
--- those of an Eval behind its field and its line
+-- the refusals of an Eval after those of its field and its line
 abbrev pub eval_refusals : World → ℕ → List (Refusal × Bool)
 eval_refusals w id = queue_refusals w (life_of w (session_of_field w id)) ++ full w (op.Clear id) ∷ []
 
@@ -35,7 +35,7 @@ abbrev pub start_words : World → List ℕ → Option Going → Option (List (L
 start_words w name None = Some (starting_words (session_named (sheet_in w).sessions name))
 start_words w name (Some l) = None
 
--- a session is asked an item, where this life of it goes on: what is told, and the world with it
+-- a session is asked an item, where this life of it goes on: what is returned, and the world with it
 abbrev pub asks : World → List ℕ → Item → Option Going → Outcome
 asks w name i None = record { reply = reply.Asked (w.begun + 1); effect = Some (effect.Start name (w.begun + 1) (starting_words (session_named (sheet_in w).sessions name))) }
 asks w name i (Some l) = record { reply = reply.Asked l.number; effect = option_map (λ bytes. effect.Send name l.number bytes) (sent_by l.past l.blocks (accepted i) l.blocks) }
@@ -44,7 +44,7 @@ abbrev pub with_item : World → List ℕ → Item → Option Going → World
 with_item w name i None = record w { begun = w.begun + 1; lives = w.lives ++ begun_with w name i ∷ [] }
 with_item w name i (Some l) = with_life (joined_by l i) w
 
--- the world behind a life's piece, which ended it or not
+-- the world after a life's piece, which ended it or not
 abbrev pub goes_on : Going → Option Ended → World → World
 goes_on l None w = with_life l w
 goes_on l (Some e) w = without_life l.name w

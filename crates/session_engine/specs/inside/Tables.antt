@@ -1,4 +1,4 @@
--- The lives that a host runs, before and behind a call on one of them.
+-- The lives that a host runs, before and after a call on one of them.
 use Rattle.std.specs.Prelude.{◌≡◌, ◌⊎◌, ℕ, ◌==◌, List, [], ◌∷◌, ◌++◌, Bool, false, Option, Some, None, Result, IfOk, ◌+◌}
 use Rattle.meta_format.specs.Stream.{Outer}
 use Rattle.plugin_core.specs.declared.step.Step.{Step}
@@ -26,7 +26,7 @@ abbrev pub TakesOut : List ℕ → List Running → List Running → Option Runn
 TakesOut name old new None = (life_in old name ≡ None) × (new ≡ old)
 TakesOut name old new (Some r) = (life_in old name ≡ Some r) × (new ≡ without_named name_of name old)
 
--- a running life with something more behind it
+-- this running life, under the same name, in this later state
 abbrev pub with_life : Running → InterpreterView → Running
 with_life r life = record { name = r.name; life = life }
 

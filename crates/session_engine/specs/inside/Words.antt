@@ -40,7 +40,7 @@ line_of_field w id = item.Line id (input_of w id)
 abbrev pub request_of_field : World → ℕ → ℕ → Item
 request_of_field w id cursor = item.Complete id (input_of w id) cursor
 
--- the payload of an op fits behind the world's end
+-- the payload of an op fits after the world's end
 abbrev pub fits : World → Op → Bool
 fits w o = fits_in w.room w.end o
 
@@ -48,22 +48,22 @@ fits w o = fits_in w.room w.end o
 abbrev pub if_fits : ℕ → ℕ → Op → Option Op
 if_fits room end o = if fits_in room end o then Some o else None
 
--- the payloads of the ops that make a worksheet anew
+-- the payloads of the ops that make a worksheet again
 abbrev pub codes_anew : Contents → List (List ℕ)
 codes_anew sheet = map code_of (rewrite_of sheet)
 
--- an area of so many bytes has room for a journal that makes the worksheet anew
+-- an area of so many bytes has room for a journal that makes the worksheet again
 abbrev pub fits_anew_in : ℕ → Contents → Bool
 fits_anew_in room sheet = nat_le (end_anew sheet + 1) room
 
 abbrev pub fits_anew : World → Bool
 fits_anew w = fits_anew_in w.room (sheet_in w)
 
--- an op more: it is in the worksheet, and its payload behind the journal's end
+-- an op more: it is in the worksheet, and its payload after the journal's end
 abbrev pub with_op : Op → World → World
 with_op o w = record w { ops = w.ops ++ o ∷ []; end = w.end + 5 + length (code_of o) }
 
--- the journal is written anew
+-- the journal is rewritten
 abbrev pub renewed : World → World
 renewed w = record w { end = end_anew (sheet_in w) }
 
@@ -93,7 +93,7 @@ joined_by l i = record l { past = l.past ++ accepted i ∷ [] }
 abbrev pub with_piece : Going → List ℕ → List Outer → Going
 with_piece l piece blocks = record l { past = l.past ++ received piece ∷ []; blocks = blocks }
 
--- the journal alone changes, which is written anew
+-- only the journal changes: it is rewritten
 abbrev pub renews : World → Does
 renews w = record { told = replies reply.Done; op = None; anew = true; begun = w.begun; lives = w.lives }
 

@@ -41,7 +41,7 @@ LinesFailed R strict lines s h c a b fault.InputTooLong = ⊥
 LinesFailed R strict lines s h c a b (fault.Open why) = ⊥
 LinesFailed R strict lines s h c a b fault.InUse = ⊥
 
--- The same, and each life that goes on was stopped behind it.
+-- The same, and each life that goes on was stopped after it.
 abbrev pub LinesStopped : {C : Type 0} → Relation C → Bool → List (List ℕ) → At C → HostView → C → Option (List ℕ) → Option (List ℕ) → RunFault → Type 0
 LinesStopped {C = C} R strict lines s h d a b (fault.Host f) =
     (beats : List Beat) × (text : List ℕ) × (e : Event) × (t : At C) × (p : LinesUpTo R lines s beats text e t) × Stopped t.disk h t.world e f × Stops R (running t.world) t.children d × Appends a b text

@@ -27,7 +27,7 @@ abbrev pub FitsOne : {K V : Type 0} → (V → K) → K → Option V → List (K
 FitsOne key k None es rest = es ≡ []
 FitsOne key k (Some v) es rest = (key v ≡ k) × rest
 
--- each value stands under its key, and behind them at most one key has none
+-- each value stands under its key, and after them at most one key has none
 abbrev pub Fits : {K V : Type 0} → (V → K) → List (K × Option V) → Type 0
 Fits key [] = Unit {0}
 Fits key (e ∷ es) = FitsOne key e.0 e.1 es (Fits key es)
@@ -46,6 +46,6 @@ pub record AreSessions (entries : List (List ℕ × Option Session)) : Type 0 wh
   pub fits : Fits (λ session. session.name) entries
   pub named : AreNamed (shown entries)
 
--- directly behind the field with a number
+-- directly after the field with a number
 abbrev pub IsBehind : ℕ → ℕ → Field → List Field → Type 0
 IsBehind after to d fs = (b : ℕ) × (to ≡ suc b) × (b < length fs) × ((get_or fs b d).id ≡ after)

@@ -57,7 +57,7 @@ fn short_words(alloc: Global) -> Option<Vec<Octets>> {
     Some(words)
 }
 
-/// A field behind another one.
+/// A field after another one.
 pub fn new(alloc: Global, after: u32, session: &[u8], input: &[u8]) -> Option<Event> {
     let session = octets(alloc, session)?;
     Some(Event::Command(Command::New {
@@ -78,7 +78,7 @@ pub fn piece(alloc: Global, name: &[u8], life: u32, bytes: &[u8]) -> Option<Even
     })
 }
 
-/// What is told of an event, in short.
+/// What is reported of an event, in short.
 #[derive(Clone, Copy, Debug, PartialEq, Eq)]
 enum Told {
     /// A command isn't refused.
@@ -118,8 +118,8 @@ pub fn is_done(host: &mut Host<MemoryDisk>, event: Option<Event>) -> bool {
     give_if(host, event) == Told::Done
 }
 
-/// Whether something is told of these bytes, which come in pieces of at most 65,536 bytes: of the last one,
-/// where nothing comes of the others.
+/// Whether something is reported of these bytes, which come in pieces of at most 65,536 bytes: of the
+/// last one, where nothing comes of the others.
 pub fn is_told(
     alloc: Global,
     host: &mut Host<MemoryDisk>,

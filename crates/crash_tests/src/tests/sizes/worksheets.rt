@@ -37,7 +37,7 @@ fn words(alloc: Global) -> Option<Vec<Octets>> {
     Some(words)
 }
 
-// The input of a field: its number behind zeros, 4,095 bytes in all.
+// The input of a field: its number after zeros, 4,095 bytes in all.
 fn input_of(alloc: Global, id: u32) -> Option<String> {
     let mut input = String::new(alloc);
     write!(input, "{id:04095}").ok()?;
@@ -101,7 +101,7 @@ fn evaluates(host: &mut Host<MemoryDisk>, id: u32) -> bool {
     is_done(host, Some(Event::Command(Command::Eval { id })))
 }
 
-// Whether something is told of these bytes of the first session's first life.
+// Whether something is reported of these bytes of the first session's first life.
 fn is_given(alloc: Global, host: &mut Host<MemoryDisk>, bytes: Option<Vec<u8>>) -> bool {
     match (name_of(alloc, 0), bytes) {
         (Some(name), Some(bytes)) => {

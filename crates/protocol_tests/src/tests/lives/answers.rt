@@ -1,7 +1,7 @@
-//! Which blocks answer, and what is told of them.
+//! Which blocks answer, and what is reported of them.
 use super::desk::{is_told, is_told_behind_a_request};
 
-// A life's first line, a script, and what is told.
+// A life's first line, a script, and what is reported.
 fn of_one_line(number: u32) -> (&'static str, &'static str, &'static str) {
     match number {
         // Prompts in the blocks.
@@ -28,7 +28,7 @@ fn of_one_line(number: u32) -> (&'static str, &'static str, &'static str) {
             "\x02verbatim:\x05\n\x02input#y\x05",
             "banner \x02verbatim:\x05\nsend x\nline 1 [> ] \x02verbatim:\x05\ndefault y\nlife 7 [> ] waits 0:\n",
         ),
-        // A default input in the banner is told once, and neither the line nor its answer has it.
+        // A default input in the banner is reported once, and neither the line nor its answer has it.
         4 => (
             "x",
             "\x02verbatim:Hi\x02input#y\x05\x05\n\x02verbatim:A\x05",
@@ -51,7 +51,7 @@ fn answers_to_one_line(rt: HostRuntime) {
     }
 }
 
-// The lines x and y wait, and x was sent. The pieces that follow, and what is told.
+// The lines x and y wait, and x was sent. The pieces that follow, and what is reported.
 fn of_two_lines(number: u32) -> (&'static str, &'static str) {
     match number {
         // Two answers in one piece.
@@ -69,7 +69,7 @@ fn of_two_lines(number: u32) -> (&'static str, &'static str) {
             ">y\n\x02verbatim:\x05\n\x02verbatim:A\x05\x02verb\natim:B\x05\n\x02verbatim:C\x05",
             "banner \x02verbatim:\x05\nsend x\nline 1 [> ] \x02verbatim:A\x05\nsend y\nline 2 [> ] \x02verbatim:C\x05\nlife 7 [> ] waits 0:\n",
         ),
-        // A fault behind an answer.
+        // A fault after an answer.
         _ => (
             ">y\n\x02verbatim:\x05\n\x02verbatim:A\x05\x02:",
             "banner \x02verbatim:\x05\nsend x\nline 1 [> ] \x02verbatim:A\x05\nended BadTag lost 1\nlife 7 is over\n",
@@ -85,10 +85,10 @@ fn answers_to_two_lines(rt: HostRuntime) {
     }
 }
 
-// A request of completions waits first. What follows, and what is told.
+// A request of completions waits first. What follows, and what is reported.
 fn of_a_request(number: u32) -> (&'static str, &'static str) {
     match number {
-        // A line behind the request.
+        // A line after the request.
         0 => (
             ">y\n\x02verbatim:\x05\n\x02scheme:(tuple \"\" \"h\")\x02prompt#: \x05\x05\n\x02verbatim:A\x05",
             "banner \x02verbatim:\x05\nsend \x10(complete \"h\" 0)\ncompleted 1 [] [h]\nsend y\nline 2 [: ] \x02verbatim:A\x05\nlife 7 [: ] waits 0:\n",

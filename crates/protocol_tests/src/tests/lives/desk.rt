@@ -1,7 +1,7 @@
 //! Scripts of a life, and what it tells of them, in lines.
 //!
-//! Each line of a script is an item or a piece of the stream: a line of input stands behind `>`, and has the
-//! number of its line in the script, counted from 2. What stands behind `!` is done while no memory is left.
+//! Each line of a script is an item or a piece of the stream. A line of input follows `>`, and has the number of its line in the script,
+//! counted from 2. What follows `!` is done while no memory is left.
 ghost use Rattle.std.specs.Prelude.{IfSome};
 ghost use Rattle.plugin_core.specs.Items.{IsAskable};
 
@@ -210,7 +210,7 @@ fn add_line(alloc: Global, text: &mut String, life: &mut Life, number: u32, line
     }
 }
 
-/// Does the lines of a script, one after another, and adds what is told.
+/// Does the lines of a script, one after another, and adds what is reported.
 pub fn add_lines(alloc: Global, text: &mut String, life: &mut Life, script: &str) {
     let mut number = 1u32;
     for line in script.lines() {
@@ -271,7 +271,7 @@ fn tells(alloc: Global, life: &mut Life, script: &str, want: &str) -> bool {
     }
 }
 
-/// Whether this is told of a script, and then of the life, which begins with this line.
+/// Whether this is reported of a script, and then of the life, which begins with this line.
 pub fn is_told(alloc: Global, first: &str, script: &str, want: &str) -> bool {
     match begun(alloc, first) {
         Some(mut life) => tells(alloc, &mut life, script, want),

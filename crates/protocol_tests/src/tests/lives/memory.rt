@@ -4,7 +4,7 @@ use plugin_core::{Life, Reason};
 use std::alloc::Global;
 use tests_desk::exhausted;
 
-// What follows line x, and what is told.
+// What follows line x, and what is reported.
 fn case(number: u32) -> (&'static str, &'static str) {
     match number {
         // A line is sent at once where nothing waits, and the next one isn't.

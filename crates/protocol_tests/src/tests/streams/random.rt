@@ -53,7 +53,7 @@ impl Dice {
     }
 }
 
-/// The end of the last of these blocks, where each is seen behind the one before it.
+/// The end of the last of these blocks, where each is seen after the one before it.
 fn seen_behind(stream: &[u8], found: &[Found]) -> Option<usize> {
     let mut from = 0;
     for found in found {

@@ -142,7 +142,7 @@ fn adds_all(alloc: Global, sheet: &mut Sheet, what: &str, count: u32) -> bool {
     true
 }
 
-// So many sessions, fields at the front, fields each behind the one before, or numbers that are given out.
+// So many sessions, fields at the front, fields each after the one before, or numbers that are given out.
 fn add_many(alloc: Global, text: &mut String, sheet: &mut Sheet, what: &str, count: &str) {
     match count.parse::<u32>() {
         Ok(count) if adds_all(alloc, sheet, what, count) => add(text, "all\n"),

@@ -1,7 +1,7 @@
 //! The limits, each met one op at a time. The fields of a worksheet are 10,000 at most, and its numbers 1,000,000.
 use super::desk::is_told;
 
-// A script, and what is told of it.
+// A script, and what is reported of it.
 fn case(number: u32) -> (&'static str, &'static str) {
     match number {
         // Prompts have 1,024 bytes at most.

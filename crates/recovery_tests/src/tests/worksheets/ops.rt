@@ -37,7 +37,7 @@ pub fn session(alloc: Global, name: &str, words: &str) -> Option<Op> {
     })
 }
 
-/// A field of session a behind this one, with this input.
+/// A field of session a after this one, with this input.
 pub fn new(alloc: Global, after: u32, input: &str) -> Option<Op> {
     let session = octets(alloc, "a")?;
     Some(Op::New {

@@ -1,7 +1,7 @@
 //! Room for an op, and ops while no memory is left.
 use super::desk::is_told;
 
-// A script, and what is told of it.
+// A script, and what is reported of it.
 fn without_memory(number: u32) -> (&'static str, &'static str) {
     match number {
         // An op comes back, or has its room.

@@ -1,7 +1,7 @@
 //! Worked examples.
 use super::desk::is_told;
 
-// A script, and what is told of it.
+// A script, and what is reported of it.
 fn case(number: u32) -> (&'static str, &'static str) {
     match number {
         // A removed number is not given out again.
