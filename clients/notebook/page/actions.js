@@ -2,6 +2,7 @@
 
 import { ask } from "./talk.js";
 import { byId } from "./dom.js";
+import { Held } from "./held.js";
 
 /** @typedef {import("./cell").CellView} CellView */
 /** @typedef {import("./cells").Cells} Cells */
@@ -19,6 +20,7 @@ export class Actions {
   constructor(cells, note) {
     this.cells = cells;
     this.note = note;
+    this.held = new Held();
   }
 
   /**
@@ -136,13 +138,16 @@ export class Actions {
 
   /**
    * A new cell, which is selected when it is there. No session makes it prose.
-   * @type {(after: number, session: string | null, isEdited?: boolean) => Promise<void>}
+   * @type {(after: number, session: string | null, isEdited?: boolean) => Promise<boolean>}
    */
-  async make(after, session, isEdited = false) {
-    const told = await this.ask("new", { after, session, text: "" });
-    const view = await this.cells.whenThere(told.id);
-    if (isEdited || session === null) this.cells.edit(view);
-    else this.cells.select(view);
+  make(after, session, isEdited = false) {
+    return this.held.during(async () => {
+      const told = await this.ask("new", { after, session, text: "" });
+      const view = await this.cells.whenThere(told.id);
+      if (isEdited || session === null) this.cells.edit(view);
+      else this.cells.select(view);
+      return view !== undefined;
+    });
   }
 
   /** @type {(view: CellView) => string | null} */
@@ -163,7 +168,7 @@ export class Actions {
     return this.make(this.cells.beside(view, -1)?.id ?? 0, this.sessionFor(view));
   }
 
-  /** @type {(view: CellView, isEdited?: boolean) => Promise<void>} */
+  /** @type {(view: CellView, isEdited?: boolean) => Promise<boolean>} */
   insertBelow(view, isEdited = false) {
     return this.make(view.id, this.sessionFor(view), isEdited);
   }
@@ -192,9 +197,13 @@ export class Actions {
   }
 
   /** @param {number | null} number */
-  async restore(number) {
-    const told = await this.ask("restore", { number });
-    this.cells.select(await this.cells.whenThere(told.id));
+  restore(number) {
+    return this.held.during(async () => {
+      const told = await this.ask("restore", { number });
+      const made = await this.cells.whenThere(told.id);
+      this.cells.select(made);
+      return made !== undefined;
+    });
   }
 
   /**
@@ -203,11 +212,14 @@ export class Actions {
    */
   async change(view, session) {
     if ((session === null && view.isProse) || session === view.cell.session) return;
-    if (!(await this.isSaved(view))) return;
-    const told = await this.ask("change", { id: view.id, session });
-    const made = await this.cells.whenThere(told.id ?? view.id);
-    this.cells.select(made);
-    if (made) this.cells.toolbar.show(made);
+    await this.held.during(async () => {
+      if (!(await this.isSaved(view))) return false;
+      const told = await this.ask("change", { id: view.id, session });
+      const made = await this.cells.whenThere(told.id ?? view.id);
+      if (made !== this.cells.selected) this.cells.select(made); // who is in its text already stays there
+      if (made) this.cells.toolbar.show(made);
+      return !told.refused;
+    });
   }
 
   /** @param {CellView} view */

@@ -43,6 +43,7 @@ export function showSessions(sessions, isThere) {
   const names = code.map((session) => session.name);
   which.replaceChildren(...names.map((one) => new Option(one, one)));
   which.value = names.includes(kept) ? kept : names[0] ?? "";
+  which.parentElement?.toggleAttribute("hidden", names.length === 0); // its label: there is nothing to choose
 }
 
 /** @param {string} path */

@@ -56,7 +56,8 @@ export class CellView {
     this.output = new OutputView(cell.id);
     /** @type {HTMLElement | undefined} */
     this.reading = undefined; // of prose: what it says
-    this.read = "";
+    /** @type {string | null} */
+    this.read = null; // the text that it says, null where that is to be set again
     /** @type {HTMLElement | undefined} */
     this.conflict = undefined;
     this.build();
@@ -171,19 +172,21 @@ export class CellView {
     if (this.text.rows !== rows) this.text.rows = rows;
   }
 
-  showProse() {
+  async showProse() {
     if (!this.isProse) {
       this.reading?.remove();
       this.reading = undefined;
+      this.read = null;
       return;
     }
     this.reading ??= this.box.appendChild(make("div", "reading"));
     const text = this.text.value;
-    if (this.read === text && this.reading.hasChildNodes()) return;
+    if (this.read === text) return;
     this.read = text;
     this.reading.classList.remove("set");
     this.reading.textContent = visible(text).trim() || "empty prose";
-    setInto(this.reading, "markdown", text, () => this.read === text && text.trim() !== "");
+    const isOver = await setInto(this.reading, "markdown", text, () => this.read === text && text.trim() !== "");
+    if (!isOver && this.read === text) this.read = null;
   }
 
   offerBoth() {

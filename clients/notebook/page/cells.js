@@ -157,5 +157,5 @@ export class Cells {
 
 /** The line that stands where there are no cells. */
 export function emptyLine() {
-  return make("p", "empty", "There are no cells yet. Make one, whose interpreter is asked for then; or write prose.");
+  return make("p", "empty", "There are no cells yet. A new cell asks for its interpreter first; prose needs none.");
 }

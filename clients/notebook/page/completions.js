@@ -25,16 +25,21 @@ export class Completions {
   }
 
   /**
-   * Asks for completions at the cursor of a cell.
+   * Asks for completions at the cursor of a cell. Its text is saved first, so that a save on its way isn't taken for another page's.
    * @type {(view: CellView) => Promise<void>}
    */
   async open(view) {
     const { selectionStart: cursor, value: text } = view.text;
+    const isThere = () => view.text.value === text && view.text.selectionStart === cursor;
     view.page.note("asking for completions");
-    const told = await ask("complete", { id: view.id, text, base: view.base, cursor });
-    if (!told.refused) view.isSavedNow(text, told.at ?? 0);
+    const isSaved = await view.save();
+    if (!isSaved || !isThere()) {
+      view.page.note(isSaved ? "" : "no completions: the cell is not saved");
+      return;
+    }
+    const told = await ask("complete", { id: view.id, text, base: text, cursor });
     view.page.note(told.refused ? `no completions: ${told.says}` : "");
-    if (told.refused || view.text.value !== text || view.text.selectionStart !== cursor) return;
+    if (told.refused || !isThere()) return;
     const rest = (told.rest ?? []).filter((one) => one !== "");
     if (rest.length === 0) view.page.note("no completions");
     else if (rest.length === 1) insert(view, rest[0]);

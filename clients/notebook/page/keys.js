@@ -11,7 +11,7 @@ const STEPS = ["ArrowUp", "ArrowDown", "k", "j"]; // keys that do it again while
 
 /** What the keys do, for people. */
 export const TABLE = [
-  ["Enter", "edit the cell"],
+  ["Enter", "edit the cell; prose also by a double click"],
   ["Escape", "leave the text, to give commands; Tab goes on to the buttons then"],
   ["Shift-Enter", "evaluate, and go to the next cell"],
   ["Control-Enter", "evaluate"],
@@ -26,7 +26,7 @@ export const TABLE = [
   ["I I", "interrupt its interpreter"],
   ["0 0", "restart its interpreter, and evaluate its cells"],
   ["T", "show the answer as text, or with its formulas"],
-  ["Tab (in the text)", "completions behind a word, where the session has them; else four blanks"],
+  ["Tab (in the text)", "completions after a word, where the session has them; else four blanks"],
   ["Control-S", "save now"],
   ["H", "these keys"],
 ];
@@ -121,9 +121,9 @@ export class Keys {
     this.completions.close();
     const next = then === "next" ? this.cells.beside(view, 1) : undefined;
     const evaluated = this.actions.evaluate(view);
-    if (next) this.cells.select(next);
-    else this.cells.select(view);
-    if ((await evaluated) && !next && then !== "stay") await this.actions.insertBelow(view, true);
+    this.cells.select(next ?? view);
+    if (next || then === "stay") return;
+    await this.actions.held.during(async () => (await evaluated) && this.actions.insertBelow(view, true));
   }
 
   /** @type {(event: KeyboardEvent, view: CellView) => boolean} */

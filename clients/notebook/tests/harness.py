@@ -170,6 +170,19 @@ class Case(unittest.TestCase):
 
 READY = "document.documentElement.dataset.ready"
 
+# The next request waits for a call of `go`.
+HOLDS = """
+(() => {
+  const kept = fetch;
+  window.fetch = (...words) => new Promise((done) => {
+    window.go = () => {
+      window.fetch = kept;
+      done(kept(...words));
+    };
+  });
+})()
+"""
+
 # The worksheet as the page shows it, in the words of `tmhost show`.
 AS_SHOWN = """
 [...document.querySelectorAll(".cell")].map((cell) => {

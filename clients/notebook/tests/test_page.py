@@ -10,7 +10,7 @@ import threading
 import unittest
 from typing import Any, List
 
-from harness import READY, REPOSITORY, SPOKEN, Case, Page, needs_chromium, needs_program, opened
+from harness import HOLDS, READY, REPOSITORY, SPOKEN, Case, Page, needs_chromium, needs_program, opened
 
 # Each text that is seen, with its contrast to what lies behind it. Formulas and texts of disabled buttons don't count.
 CONTRAST = """
@@ -53,6 +53,7 @@ USABLE = f"""
 [...document.querySelectorAll("button, select, a[href]")].filter((node) => node.getBoundingClientRect().height && !node.disabled)
   .map((node) => {NAME_OF % "node"})
 """
+SELECTED = "document.querySelector('.cell.selected').id"
 IN_TEXT = "document.activeElement.localName === 'textarea' && document.activeElement.closest('.cell').id"
 PROSE = """# Head
 
@@ -96,6 +97,48 @@ import(location.href + "setter.js").then(async ({ setInto }) => {
     if (!place.querySelector(".katex-html") || !place.querySelector("math") || place.querySelector(".katex-error")) left.push(tex);
   }
   return left;
+})
+"""
+# A machine that is too busy to set a text, so many times: it doesn't come to the worker.
+IS_BUSY = """
+(() => {
+  let times = %d;
+  const post = Worker.prototype.postMessage;
+  Worker.prototype.postMessage = function (job) {
+    if (job.text === %s && times > 0) times -= 1;
+    else post.call(this, job);
+  };
+})()
+"""
+# The reply to the next request comes when `go` is called.
+IS_SLOW = """
+(() => {
+  const kept = fetch;
+  window.fetch = (...words) => {
+    window.fetch = kept;
+    const reply = kept(...words);
+    return new Promise((done) => {
+      window.go = () => done(reply);
+    });
+  };
+})()
+"""
+# The next request fails when `go` is called.
+FAILS = """
+(() => {
+  const kept = fetch;
+  window.fetch = () => new Promise((_, fail) => {
+    window.go = () => {
+      window.fetch = kept;
+      fail(new TypeError());
+    };
+  });
+})()
+"""
+SETS = """
+import(location.href + "setter.js").then(async ({ setInto }) => {
+  const place = document.createElement("span");
+  return [await setInto(place, "markdown", %s), place.classList.contains("set")];
 })
 """
 SUGGESTED = "[...document.querySelectorAll('#session-known button')].map((one) => one.textContent)"
@@ -220,6 +263,46 @@ class ThePage(Case):
             seen.append(tab.value(NAME_OF % "document.activeElement"))
         self.assertEqual(set(wanted) - set(seen), set())
 
+    def test_keys_before_their_cell(self) -> None:
+        """What is typed while a new cell is on its way is for that cell, and no command to the one that was there. Where none comes it is dropped."""
+        self.begin()
+        self.page.call("new", session="s", text="say 1", after=0)
+        tab = opened(self.browser, self.server)
+        tab.click("#cell-1 .number")
+        self.press(tab, HOLDS, "b", "Enter", *"say map")
+        tab.until(f"[{IN_TEXT}, document.activeElement.value]", ["cell-2", "say map"])
+        self.press(tab, HOLDS, "Alt+Enter", *"mdd")
+        tab.until(f"[{IN_TEXT}, document.activeElement.value]", ["cell-3", "mdd"])
+        tab.until("document.querySelector('#cell-2 .output pre').textContent", "map")
+        tab.until("document.querySelector('#cell-3 .text-state').textContent", "saved")
+        tab.key("Escape")
+        self.press(tab, FAILS, "b", *"dd")
+        tab.until("document.querySelector('#note').textContent", "the server can't be reached")
+        self.press(tab, "window.go = () => 0", "Enter", "x")
+        tab.until("document.querySelector('#cell-3 textarea').value", "mddx")
+        self.assertEqual(self.page.snapshot()["order"], [1, 2, 3])
+
+    def test_completions_beside_a_save(self) -> None:
+        """They are asked for when a save that is on its way is over: its text isn't another page's."""
+        self.begin()
+        self.page.call("new", session="s", text="", after=0)
+        tab = opened(self.browser, self.server)
+        tab.click("#cell-1 .number")
+        tab.key("Enter")
+        tab.type("say c")
+        self.press(tab, IS_SLOW, "Control+s", "a", "Tab")
+        tab.until("[...document.querySelectorAll('.completions li')].map((one) => one.textContent)", ["cat", "cave", "call"])
+        tab.until("document.querySelector('#cell-1 .text-state').textContent", "saved")
+        self.assertEqual((tab.value("document.querySelector('#note').textContent"), self.page.cells()[1]["input"]), ("", "say ca"))
+
+    def press(self, tab: Any, before: str, *keys: str) -> None:
+        """Presses keys, the first of which asks the server for something; that goes on when all are pressed."""
+        tab.value(before)
+        for key in keys:
+            *modifiers, name = key.split("+")
+            tab.key(name, *modifiers)
+        tab.value("window.go(), 0")
+
     def tab_to(self, tab: Any, wanted: str) -> List[str]:
         seen: List[str] = []
         while wanted not in seen:
@@ -262,6 +345,31 @@ class ThePage(Case):
         self.assertEqual(tab.value(f"document.querySelector('#cell-{prose} .reading').textContent"), "# A *head*")
         self.assertEqual(tab.value(f"document.querySelector('#cell-{code} .output pre').textContent"), "$\\sqrt{x}$")
         self.assertEqual(self.browser.trouble, [])
+
+    def test_a_busy_machine(self) -> None:
+        """A text that isn't set in time is tried again by itself, and once more when its cell is left."""
+        self.begin()
+        tab = opened(self.browser, self.server)
+        reading = self.write_prose(tab, 1, "# A *title*")
+        tab.until(f"{reading}.querySelector('h3 em')?.textContent", "title")
+        reading = self.write_prose(tab, 2, "# Another *one*")
+        self.assertEqual(tab.value(SETS % json.dumps("# Another *one*")), [False, False])
+        self.assertEqual(tab.value(f"{reading}.textContent"), "# Another *one*")
+        tab.key("Enter")
+        tab.until(IN_TEXT, lambda found: bool(found))
+        tab.key("Escape")
+        tab.until(f"{reading}.querySelector('h3 em')?.textContent", "one")
+        self.assertEqual(tab.value(SETS % json.dumps("# Another *one*")), [True, True])
+        self.assertEqual(self.browser.trouble, [])
+
+    def write_prose(self, tab: Any, busy: int, text: str) -> str:
+        """Makes a cell of prose with a text, which the machine is too busy to set so many times. Gives the place of what is read."""
+        tab.click("[data-do=addProse]")
+        tab.until("document.activeElement.matches('.cell.prose textarea') && document.activeElement.value", "")
+        tab.value(IS_BUSY % (busy, json.dumps(text)))
+        tab.type(text)
+        tab.key("Enter", "Control")
+        return f"document.querySelector('#{tab.value(SELECTED)} .reading')"
 
     def test_a_draft_waits(self) -> None:
         """What is typed while a cell is evaluated is saved behind its answer; what is too long isn't saved, and stays."""

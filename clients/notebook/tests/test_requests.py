@@ -1,5 +1,6 @@
 """Who gets nothing from the server: requests without the token, of other hosts and other pages; and calls that make no sense."""
 
+import http.client
 import json
 import os
 import re
@@ -141,6 +142,19 @@ class Requests(Case):
         with open("/proc/net/tcp", encoding="ascii") as file:
             found = [line.split()[1] for line in file if line.split()[3] == "0A" and line.split()[1].endswith(f":{port:04X}")]
         self.assertEqual(found, [f"0100007F:{port:04X}"])
+
+    def test_a_reply_comes_at_once(self) -> None:
+        """Of a connection that is kept, as browsers keep theirs. Where the network holds a reply's body back until its head is acknowledged,
+        none comes before 40 ms are over; where it doesn't some come at once on a busy machine too."""
+        connection = http.client.HTTPConnection(self.server.host, timeout=60)
+        self.addCleanup(connection.close)
+        took = []
+        for _ in range(40):
+            start = time.monotonic()
+            connection.request("POST", self.page.path + "call", b'{"call":"reopen"}', self.page.headers())
+            self.assertEqual(connection.getresponse().read(), b"{}")
+            took.append(time.monotonic() - start)
+        self.assertLess(min(took[1:]), 0.03)
 
     def test_a_silent_connection_holds_up_no_other(self) -> None:
         name, _, port = self.server.host.partition(":")

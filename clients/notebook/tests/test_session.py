@@ -7,7 +7,7 @@ from typing import Any, Callable, List
 
 import chromium
 import harness
-from harness import AS_SHOWN, SPOKEN, Case, needs_chromium, needs_program, opened
+from harness import AS_SHOWN, HOLDS, SPOKEN, Case, needs_chromium, needs_program, opened
 
 STATE = "document.querySelector('#cell-%d').dataset.state"
 OUTPUT = "document.querySelector('#cell-%d .output pre').textContent"
@@ -24,20 +24,9 @@ CHOOSES = """
   which.dispatchEvent(new Event("change", { bubbles: true }));
 })()
 """
-# The next request waits for a call of `go`.
-HOLDS = """
-(() => {
-  const kept = fetch;
-  window.fetch = (...words) => new Promise((done) => {
-    window.go = () => {
-      window.fetch = kept;
-      done(kept(...words));
-    };
-  });
-})()
-"""
 PAGE = "document.body.innerText + [...document.querySelectorAll('textarea')].map((text) => text.value).join('\\n')"
 NOTE = "document.querySelector('#note').textContent"
+IS_IN_PROSE = "document.activeElement.matches('.cell.prose textarea')"
 IS_EDITING = "document.activeElement.tagName === 'TEXTAREA' && document.activeElement.closest('.cell').id"
 
 
@@ -111,7 +100,9 @@ class Session(Case):
 
     def replace(self, text: str, *keys: str) -> None:
         """Edits the selected cell by keys, from command mode."""
-        self.keys("Enter", "Control+a")
+        self.keys("Enter")
+        self.tab.until(IS_EDITING, is_there)
+        self.keys("Control+a")
         self.tab.ask("Input.dispatchKeyEvent", {"type": "keyDown", "commands": ["selectAll"]})
         self.typed(text, *keys)
 
@@ -172,13 +163,14 @@ class Session(Case):
         self.do("evaluate from here on", lambda: self.tab.click("[data-do=evaluateFrom]"), OUTPUT % 2, "kept", OUTPUT % 3, "8", SAYS % 3, "")
         self.do("a long line", lambda: self.replace("sleep 60", "Control+Enter"), SAYS % 2, begins("running since "))
         self.do("one behind it", lambda: self.at(3, "Control+Enter"), SAYS % 3, "waits for its turn")
-        self.do("interrupt", lambda: self.at(2, "i", "i"), OUTPUT % 2, "interrupted", OUTPUT % 3, "8")
+        self.do("interrupt", lambda: self.interrupt(lambda: self.at(2, "i", "i")), OUTPUT % 2, "interrupted", OUTPUT % 3, "8")
         self.do("a loop again", lambda: self.keys("Control+Enter"), STATE % 2, "running")
         self.do("stop it", lambda: self.tab.click("[data-do=stop]"), SAYS % 2, "lost: Stopped (its interpreter was stopped)",
                 SAYS % 3, "its interpreter has ended: variables are gone")
         self.do("a line without an end", lambda: self.replace("slowly 60", "Control+Enter"), STATE % 2, "running")
-        self.do("interrupt one that ends by it", lambda: self.tab.click("[data-session=a] [data-do=interruptSession]"), SAYS % 2,
-            "lost: Ended (its interpreter ended)")
+        self.do("interrupt one that ends by it",
+                lambda: self.interrupt(lambda: self.tab.click("[data-session=a] [data-do=interruptSession]")), SAYS % 2,
+                "lost: Ended (its interpreter ended)")
         self.do("write a line that ends it", lambda: self.replace("exit", "Control+s"), SAVED % 2, "saved", STATE % 2, "empty")
         self.do("evaluate that", lambda: self.keys("Control+Enter"), SAYS % 2, "lost: Ended (its interpreter ended)")
         self.do("mend it", lambda: self.replace("set 9", "Control+Enter"), OUTPUT % 2, "kept")
@@ -190,6 +182,16 @@ class Session(Case):
         self.do("complete of three", self.complete_of_three, TEXT % 3, "say cave")
         self.do("evaluate what was completed", lambda: self.keys("Control+Enter"), OUTPUT % 3, "cave")
         self.do("a formula, and its text", self.set_formula, OUTPUT % 3, "{latex:$\\sqrt{x}$}")
+
+    def interrupt(self, press: Callable[[], Any]) -> None:
+        """A signal may come before the interpreter has begun with the line. As a user does, it is sent again where nothing comes of it."""
+        for _ in range(10):
+            press()
+            try:
+                self.tab.until(STATE % 2, lambda state: bool(state != "running"), chromium.SLOW / 24)
+                return
+            except chromium.Failed:
+                pass
 
     def set_formula(self) -> None:
         self.replace("block latex JFxzcXJ0e3h9JA==", "Control+Enter")
@@ -207,7 +209,8 @@ class Session(Case):
         self.keys("ArrowDown", "Enter")
 
     def write_prose(self) -> None:
-        self.do("new prose", lambda: self.tab.click("[data-do=addProse]"), "document.querySelectorAll('.cell.prose').length", 1)
+        self.do("new prose", lambda: self.tab.click("[data-do=addProse]"), "document.querySelectorAll('.cell.prose').length", 1,
+                IS_IN_PROSE, True)
         prose = self.tab.value("document.querySelector('.cell.prose').id")
         reading = f"document.querySelector('#{prose} .reading')"
         self.do("write it", lambda: self.typed("# A *title*\n\n- one\n- <b>two</b>\n", "Control+Enter"),

@@ -75,6 +75,7 @@ class Handler(http.server.BaseHTTPRequestHandler):
     server_version = "tmhost-notebook"
     sys_version = ""
     timeout = IDLE
+    disable_nagle_algorithm = True  # else a browser gets a reply's body, and each event that follows another at once, 40 ms late
     server: Server
 
     def log_message(self, *words: Any) -> None:

@@ -1,5 +1,5 @@
 -- What is printed, as lines of JSON. (docs/JSON.md.)
-use Rattle.std.specs.Prelude.{ℕ, true, Bool, List, [], ◌++◌, Option, Some, None, map, option_map, option_and_then, length, codes}
+use Rattle.std.specs.Prelude.{ℕ, true, List, [], ◌++◌, Option, Some, None, map, option_map, option_and_then, length, codes}
 use Rattle.std.specs.List.{flat_map}
 use Rattle.worksheet.specs.Checks.{field_in}
 use Rattle.worksheet.specs.Contents.{Contents}

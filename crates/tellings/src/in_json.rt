@@ -6,7 +6,7 @@ ghost use Rattle.tellings.specs.Voice.{IsUntold, came_text, replied_text};
 
 use crate::sheets_json::{write_field, write_sheet};
 use crate::writing::{write_if, write_made};
-use crate::{Counts, Frame, Note, Overs, Tells, faults};
+use crate::{Counts, Frame, Note, Tells, faults};
 use block_tree::Octets;
 use child_edge::Interrupted;
 use disk_model::Disk;
@@ -243,7 +243,8 @@ fn write_counts<W: Write>(alloc: Global, counts: Counts, writer: &mut W) -> Resu
     let (answered, unanswered) = (counts.answered as u64, counts.unanswered as u64);
     match counts.overs {
         None => write_made(alloc, counted_value(alloc, answered, unanswered), writer),
-        Some(Overs { over, passed }) => {
+        Some(overs) => {
+            let (over, passed) = (overs.over, overs.passed);
             let value = counted_in_time_value(alloc, answered, unanswered, over, passed);
             write_made(alloc, value, writer)
         }
