@@ -70,25 +70,11 @@ REWORDED: dict[Key, tuple[str, str]] = {
     ("block_tree.Shape", "is_tag_byte"): ("no control character", "none below 32"),
 }
 
-# The words of these sentences that docs/GLOSSARY.md retires, and what the page says for them, in this order: `told` is what a host
-# returned, but of a worksheet and of completions what is said.
+# What an output tells, as the page says it.
 SPOKEN: list[tuple[str, str]] = [
-    (r"all those of which it told", "all those whose outcome it returned"),
-    (r"the outcomes that it was told, of", "the outcomes that were returned to it, of"),
-    (r"it is told as nothing", "the reply is Nothing"),
-    (r"is told by the last Answer", "is said by the last Answer"),
     (r"the completions that an output tells, or that it tells none", "the completions that an output names, or that it names none"),
     (r"The output tells these", "The output has these"),
-    (r"told as a value", "said as a value"),
-    (r"\btold\b", "returned"),
     (r"\btells\b", "says"),
-    (r"\bwrites the journal anew", "rewrites the journal"),
-    (r"\bwritten anew", "rewritten"),
-    (r"\banew\b", "again"),
-    (r"\bwant of (memory|room)", r"lack of \1"),
-    (r"\bto bring out", "to flush"),
-    (r"\bbehind\b", "after"),
-    (r"\bBehind\b", "After"),
 ]
 
 # What follows the sentence of a definition.
