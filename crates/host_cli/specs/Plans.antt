@@ -65,9 +65,13 @@ pub record AsksPlan (words : EvalView) (plan : Plan) : Type 0 where
   pub limit : limit_asked words.timeout ≡ Some plan.limit
   pub keep_going : plan.keep_going ≡ words.keep_going
 
--- They ask for nothing that there is, for this reason, or there was no memory.
+-- they name a time that a field may take, or none
+abbrev pub NamesTime : EvalView → Type 0
+NamesTime words = (limit : Option ℕ) × (limit_asked words.timeout ≡ Some limit)
+
+-- They ask for nothing that there is, for this reason, of which the time is the first; or there was no memory.
 abbrev pub AsksNoPlan : EvalView → PlanFault → Type 0
 AsksNoPlan words plans.Seconds = limit_asked words.timeout ≡ None
-AsksNoPlan words plans.Id = which_asked words.from words.ids ≡ Err plans.Id
-AsksNoPlan words plans.Both = which_asked words.from words.ids ≡ Err plans.Both
+AsksNoPlan words plans.Id = NamesTime words × (which_asked words.from words.ids ≡ Err plans.Id)
+AsksNoPlan words plans.Both = NamesTime words × (which_asked words.from words.ids ≡ Err plans.Both)
 AsksNoPlan words plans.OutOfMemory = Unit {0}
