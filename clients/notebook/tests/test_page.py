@@ -40,12 +40,11 @@ FORMULAS = os.path.join(REPOSITORY, "clients", "typeset", "test", "formulas.js")
 ADAPTER = os.path.join(REPOSITORY, "adapters", "python")
 IN_PICTURE = [
     (None, "# Partial sums\n\nThe series $\\sum_{k=1}^\\infty \\frac{1}{k^2}$ converges to $\\frac{\\pi^2}{6}$. *How fast?*"),
+    ("gp", "partial(n) = sum(k = 1, n, 1/k^2);\nvector(6, n, partial(n))"),
+    ("gp", "factor(numerator(partial(20)))"),
     ("python",
     "from fractions import Fraction\ndef partial(n):\n    return sum(Fraction(1, k * k) for k in range(1, n + 1))\n[float(partial(10**k)) for k in range(4)]"),
-    ("python",
-    "class Tex(Fraction):\n    def _repr_latex_(self):\n        return r'$\\sum_{k=1}^9 \\frac{1}{k^2} = \\frac{%d}{%d}$' % self.as_integer_ratio()\nTex(partial(9))"),
     ("python", "import time; time.sleep(600)"),
-    ("sh", "echo an interpreter for each session: this one answers beside the others\nseq -s ' ' 20"),
 ]
 FOCUSED = "document.activeElement.dataset?.do || document.activeElement.id || document.activeElement.className || document.activeElement.localName"
 NAME_OF = "((node) => node.dataset?.do || node.id || node.href || node.localName)(%s)"
@@ -483,22 +482,23 @@ class ThePage(Case):
         unset = tab.value(UNSET.replace("FORMULAS", formulas))
         self.assertEqual(unset, [])
 
+    @unittest.skipUnless(shutil.which("gp"), "gp isn't installed")
     def test_a_picture(self) -> None:
         """The picture of README.md; PICTURE names the file that it is written to."""
         self.server = self.serve()
         self.page, self.browser = Page(self.server), self.browse()
         self.page.call("session", name="python", words=f"{sys.executable} {ADAPTER}", tab=False)
-        self.page.call("session", name="sh", words=f"{sys.executable} {os.path.join(os.path.dirname(ADAPTER), 'prompted.py')} sh", tab=False)
+        self.page.call("session", name="gp", words=f"{sys.executable} {os.path.join(os.path.dirname(ADAPTER), 'gp')}", tab=False)
         last = 0
         for session, text in IN_PICTURE:
             last = self.page.call("new", session=session, text=text, after=last)["id"]
             if session and "sleep" not in text:
                 self.page.call("eval", id=last)
                 self.page.until_idle()
-        self.page.call("eval", id=last - 1)
+        self.page.call("eval", id=last)
         tab = opened(self.browser, self.server)
         tab.size(900, 880)
-        tab.until("document.querySelectorAll('.set').length >= 2 && document.querySelectorAll('[data-state=running]').length >= 1")
+        tab.until("document.querySelectorAll('.set').length >= 3 && document.querySelectorAll('[data-state=running]').length >= 1")
         tab.click("#cell-3 .number")
         tab.value("document.fonts.ready.then(() => new Promise((done) => setTimeout(done, 300)))")
         picture = tab.picture(900, 880)

@@ -6,7 +6,7 @@ ghost use Rattle.journal.specs.Kept.{Keeps, BeforeOrAfter, BeforeOrAll};
 ghost use Rattle.journal.specs.inside.Active.{HasEnd, IsActive};
 ghost use Rattle.journal.specs.Limits.{longest_payload};
 
-use crate::walk::OPEN_GATE;
+use crate::layout::OPEN_GATE;
 use disk_model::{Area, Disk, DiskFault};
 
 /// Writes the bytes of records after the closed gate at `end` of the active area, all but their first
@@ -56,7 +56,8 @@ pub(crate) fn add<D: Disk>(
     Ok(())
 }
 
-/// The same of the bytes of a frame.
+/// Writes the bytes of a frame, one record, as [`add`] does those of many: a crash leaves the payloads
+/// before it, or those with this one.
 pub(crate) fn add_one<D: Disk>(
     disk: &mut D,
     active: Area,

@@ -5,6 +5,7 @@ ghost use Rattle.journal.specs.Area.{first_gate};
 ghost use Rattle.journal.specs.Front.{HasGivenFront, ImageHasFront, TellsHeader};
 ghost use Rattle.journal.specs.Open.{IsPassing};
 
+use crate::layout::FIRST_GATE;
 use crate::opening::survey_front;
 use crate::walk::payload_at;
 use crate::window::Window;
@@ -95,7 +96,7 @@ impl<D: Disk> Front<D> {
             Ok((window, stop)) => Ok(Front {
                 disk,
                 window,
-                gate: 10,
+                gate: FIRST_GATE,
                 end: stop.gate,
                 damaged: stop.damaged,
             }),

@@ -3,7 +3,7 @@ ghost use Rattle.std.specs.Prelude.{◌≡◌, ◌≢◌, ◌<◌, ◌≤◌, �
 ghost use Rattle.journal.specs.Area.{ArePayloads, closed_gate, open_gate, records};
 ghost use Rattle.journal.specs.Limits.{longest_payload};
 
-use crate::walk::OPEN_GATE;
+use crate::layout::OPEN_GATE;
 use crate::{Frame, OutOfMemory};
 use std::alloc::Global;
 use std::marker::Model;

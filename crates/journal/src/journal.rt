@@ -9,6 +9,7 @@ ghost use Rattle.journal.specs.Sources.{HoldsEach};
 ghost use Rattle.journal.specs.inside.Active.{HasEnd};
 
 use crate::append::{add, add_one};
+use crate::layout::FIRST_GATE;
 use crate::renewal::write_from;
 use crate::rewrite::{end_of_frames, other, write_anew};
 use crate::{
@@ -152,7 +153,7 @@ impl<D: Disk> Journal<D> {
             (λ e. (e.cause ≡ CreateCause.Disk → ⊥) → (D.view e.disk).faults ≡ (D.view disk).faults) }
     {
         match create(disk) {
-            Ok(disk) => Ok(Journal::ending_at(disk, Area::First, 10)),
+            Ok(disk) => Ok(Journal::ending_at(disk, Area::First, FIRST_GATE)),
             Err(fault) => Err(fault),
         }
     }

@@ -12,7 +12,8 @@ ghost use Rattle.journal.specs.Open.{AreEmpty, Tells};
 ghost use Rattle.journal.specs.declared.opening.CreateCause.TheVariants.{Disk as CreateDisk};
 ghost use Rattle.journal.specs.declared.opening.OpenCause.TheVariants.{Disk as OpenDisk, OutOfMemory};
 
-use crate::walk::{NAMES_SECOND, Stop, selector_of, walk_gates};
+use crate::layout::NAMES_SECOND;
+use crate::walk::{Stop, selector_of, walk_gates};
 use crate::window::Window;
 use disk_model::{Area, Disk, DiskFault};
 use std::alloc::{AllocError, AllocFailed, Global};

@@ -6,6 +6,7 @@ ghost use Rattle.journal.specs.Kept.{ImageStandsFor};
 ghost use Rattle.journal.specs.Open.{IsPassing, Tells};
 ghost use Rattle.journal.specs.Opening.{HasGiven};
 
+use crate::layout::FIRST_GATE;
 use crate::opening::survey;
 use crate::walk::payload_at;
 use crate::window::Window;
@@ -97,7 +98,7 @@ impl<D: Disk> Opening<D> {
             Ok((window, end)) => Ok(Opening {
                 disk,
                 window,
-                gate: 10,
+                gate: FIRST_GATE,
                 end,
             }),
             Err(cause) => Err(OpenFault { cause, disk }),

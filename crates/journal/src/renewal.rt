@@ -9,6 +9,7 @@ ghost use Rattle.journal.specs.inside.Active.{HasEnd, IsActive};
 ghost use Rattle.journal.specs.inside.Anew.{SparedBy, Spares};
 ghost use Rattle.journal.specs.inside.Batches.{IsBatch};
 
+use crate::layout::FIRST_GATE;
 use crate::rewrite::{lay_none, turn};
 use crate::source::{BATCH_LEN, Source};
 use disk_model::{Area, Disk, DiskFault};
@@ -123,7 +124,7 @@ fn lay_from<D: Disk, S: Source>(
 {
     lay_none(disk, area)?;
     let count = source.count();
-    let mut end = 10;
+    let mut end = FIRST_GATE;
     let mut next = 0;
     while next < count {
         let behind = fill(source, next, batch);

@@ -8,7 +8,7 @@ ghost use Rattle.journal.specs.inside.Active.{HasEnd, IsActive};
 ghost use Rattle.journal.specs.inside.Anew.{IsReadyToTurn, SparedBy, Spares, naming};
 
 use crate::Frame;
-use crate::walk::{NAMES_SECOND, OPEN_GATE};
+use crate::layout::{EMPTY_LEN, FIRST_GATE, NAMES_SECOND, OPEN_GATE, SELECTOR};
 use disk_model::{Area, Disk, DiskFault};
 
 /// The area that this one isn't.
@@ -27,10 +27,10 @@ pub(crate) fn end_of_frames(room: u64, frames: &[Frame]) -> Option<u64>
     ensures some { IfSome result (λ end. (end ≡ end_of frames.now) × (end + 1 ≤ room)) }
     ensures none { IfNone result (FitsAnew room frames.now → ⊥) }
 {
-    if room < 11 {
+    if room < EMPTY_LEN {
         return None;
     }
-    let mut end = 10;
+    let mut end = FIRST_GATE;
     for frame in frames {
         let len = 5 + frame.payload_len();
         if room - 1 - end < len {
@@ -59,7 +59,7 @@ pub(crate) fn lay_none<D: Disk>(disk: &mut D, area: Area) -> Result<(), DiskFaul
         → StandsFor longest_payload (area_of area (bytes_on (D.view disk.new))) [])) }
 {
     match area {
-        Area::First => disk.write_at(Area::First, 10, &[0]),
+        Area::First => disk.write_at(Area::First, FIRST_GATE, &[0]),
         Area::Second => disk.write_at(Area::Second, 0, b"TMWSHEET\x01\x00\x00"),
     }
 }
@@ -117,7 +117,7 @@ fn lay_all<D: Disk>(disk: &mut D, area: Area, frames: &[Frame]) -> Result<(), Di
         (D.view disk.new).history.now)) }
 {
     lay_none(disk, area)?;
-    let mut end = 10;
+    let mut end = FIRST_GATE;
     for frame in frames {
         let bytes = frame.bytes();
         lay_record(disk, area, end, bytes)?;
@@ -157,7 +157,7 @@ pub(crate) fn turn<D: Disk>(disk: &mut D, area: Area) -> Result<(), DiskFault>
         → IsReadyToTurn area before payloads (D.view disk.old).history
         → Keeps (D.view disk.new).history (end_of payloads) payloads)) }
 {
-    disk.write_at(Area::First, 9, &[selector_naming(area)])?;
+    disk.write_at(Area::First, SELECTOR, &[selector_naming(area)])?;
     disk.sync(Area::First)?;
     Ok(())
 }

@@ -9,16 +9,11 @@ ghost use Rattle.journal.specs.inside.Reads.{Begins, Fails, Reads};
 ghost use Rattle.journal.specs.inside.Walk.{IsLength, IsStep, LacksHeader};
 ghost use Rattle.journal.specs.inside.Window.{Shows};
 
+use crate::layout::{EMPTY_LEN, FIRST_GATE, OPEN_GATE, SELECTOR};
 use crate::window::Window;
 use crate::{LONGEST_PAYLOAD, OpenCause};
 use block_tree::Octets;
 use disk_model::Disk;
-
-/// A gate that is open; at any other byte it is closed.
-pub(crate) const OPEN_GATE: u8 = b'R';
-
-/// The selector that names area Second as the active one; at any other byte First is.
-pub(crate) const NAMES_SECOND: u8 = b'B';
 
 /// A payload that an opening found.
 #[derive(Drop, Debug)]
@@ -73,11 +68,11 @@ fn behind_header(bytes: &[u8]) -> Option<(u8, &[u8])>
         (λ found. (bytes.now ≡ header found.0 ++ found.1.now) × (0 < length found.1.now)) }
     ensures none { IfNone result (HasHeader bytes.now → ⊥) }
 {
-    if bytes.len() < 11 {
+    if bytes.len() < EMPTY_LEN as usize {
         return None;
     }
-    let (front, rest) = bytes.split_at(10);
-    let (magic, selector) = front.split_at(9);
+    let (front, rest) = bytes.split_at(FIRST_GATE as usize);
+    let (magic, selector) = front.split_at(SELECTOR as usize);
     if magic != b"TMWSHEET\x01".as_slice() {
         return None;
     }
@@ -102,7 +97,7 @@ pub(crate) fn walk_gates<D: Disk>(window: &mut Window, disk: &mut D) -> Result<S
     ensures inside { IfOk result (λ stop. (first_gate ≤ stop.gate) × (stop.gate < window.new.limit)) }
     ensures cause { IfErr result IsPassing }
 {
-    let mut gate = 10;
+    let mut gate = FIRST_GATE;
     loop {
         let left = window.limit - gate;
         if let Err(cause) = window.fill(disk, gate, left.min(5)) {
@@ -139,7 +134,7 @@ pub(crate) fn selector_of<D: Disk>(window: &mut Window, disk: &mut D) -> Result<
     ensures fault { InModel (D.view disk.old)
         (IfErr result (LacksHeader (area_of window.old.area (bytes_on (D.view disk.old))))) }
 {
-    if let Err(cause) = window.fill(disk, 0, window.limit.min(11)) {
+    if let Err(cause) = window.fill(disk, 0, window.limit.min(EMPTY_LEN)) {
         return Err(cause);
     }
     match behind_header(window.behind(0)) {

@@ -13,10 +13,11 @@ ghost use Rattle.recovery.specs.inside.Measured.{HasRecord, Measures};
 
 use crate::size::{IDS_LEN, LOST_LEN, answer_len, new_len, session_len};
 use block_tree::Reason;
+use journal::EMPTY_LEN;
 use worksheet::{Answer, Field, Session, Sheet};
 
 // What a record of a payload of so many bytes leaves of so much room, where the record fits.
-fn behind(left: u64, len: u64) -> Option<u64>
+fn left_after(left: u64, len: u64) -> Option<u64>
     requires { len ≤ longest_payload }
     ensures { (o : Op) → len ≡ min (length (code_of o)) longest_told
         → Measures (o ∷ []) left result }
@@ -27,21 +28,23 @@ fn behind(left: u64, len: u64) -> Option<u64>
     Some(left - 5 - len)
 }
 
-fn behind_session(left: u64, session: &Session) -> Option<u64>
+// The same of a session's record.
+fn left_after_session(left: u64, session: &Session) -> Option<u64>
     requires { HasRecord (session_op session.now) }
     ensures { Measures (session_op session.now ∷ []) left result }
 {
-    behind(left, session_len(session))
+    left_after(left, session_len(session))
 }
 
-fn behind_sessions(left: u64, sheet: &Sheet) -> Option<u64>
+// The same of all sessions.
+fn left_after_sessions(left: u64, sheet: &Sheet) -> Option<u64>
     requires { AllByRecursion HasRecord (map session_op sheet.now.contents.sessions) }
     ensures { Measures (map session_op sheet.now.contents.sessions) left result }
 {
     let mut rest = left;
     let mut sessions = sheet.sessions();
     while let Some(session) = sessions.next() {
-        match behind_session(rest, session) {
+        match left_after_session(rest, session) {
             Some(less) => rest = less,
             None => return None,
         }
@@ -50,52 +53,57 @@ fn behind_sessions(left: u64, sheet: &Sheet) -> Option<u64>
 }
 
 // The next number, where it isn't this already.
-fn behind_ids(left: u64, next: u32, number: u32) -> Option<u64>
+fn left_after_ids(left: u64, next: u32, number: u32) -> Option<u64>
     ensures { Measures (ids_to next number) left result }
 {
     if next == number {
         return Some(left);
     }
-    behind(left, IDS_LEN)
+    left_after(left, IDS_LEN)
 }
 
 // The reason why nothing was answered, if that is known.
-fn behind_lost(left: u64, id: u32, lost: Option<Reason>) -> Option<u64>
+fn left_after_lost(left: u64, id: u32, lost: Option<Reason>) -> Option<u64>
     ensures { Measures (lost_ops id lost) left result }
 {
     match lost {
-        Some(_) => behind(left, LOST_LEN),
+        Some(_) => left_after(left, LOST_LEN),
         None => Some(left),
     }
 }
 
 // An answer, or the reason why there is none, if there is one of them.
-fn behind_outcome(left: u64, id: u32, answer: &Option<Answer>, lost: Option<Reason>) -> Option<u64>
+fn left_after_outcome(
+    left: u64,
+    id: u32,
+    answer: &Option<Answer>,
+    lost: Option<Reason>,
+) -> Option<u64>
     requires { AllByRecursion HasRecord (outcome_ops id answer.now lost) }
     ensures { Measures (outcome_ops id answer.now lost) left result }
 {
     match answer {
-        Some(answer) => behind(left, answer_len(id, answer)),
-        None => behind_lost(left, id, lost),
+        Some(answer) => left_after(left, answer_len(id, answer)),
+        None => left_after_lost(left, id, lost),
     }
 }
 
 // A field, where this is the next number. Its place takes the same room whatever it is.
-fn behind_field(left: u64, next: u32, field: &Field) -> Option<u64>
+fn left_after_field(left: u64, next: u32, field: &Field) -> Option<u64>
     requires { (fields : List Field) × AllByRecursion HasRecord (field_ops fields next field.now) }
     ensures { (fields : List Field) → Measures (field_ops fields next field.now) left result }
 {
-    let Some(left) = behind_ids(left, next, field.id) else {
+    let Some(left) = left_after_ids(left, next, field.id) else {
         return None;
     };
-    let Some(left) = behind(left, new_len(0, field)) else {
+    let Some(left) = left_after(left, new_len(0, field)) else {
         return None;
     };
-    behind_outcome(left, field.id, &field.answer, field.lost)
+    left_after_outcome(left, field.id, &field.answer, field.lost)
 }
 
 // The fields by ascending number, and the next number.
-fn behind_fields(left: u64, sheet: &Sheet) -> Option<u64>
+fn left_after_fields(left: u64, sheet: &Sheet) -> Option<u64>
     requires some { 1 ≤ sheet.now.contents.next }
     requires records { AllByRecursion HasRecord
         (fields_ops sheet.now.contents.fields (sheet.now.contents.next - 1) 1 1) }
@@ -109,7 +117,7 @@ fn behind_fields(left: u64, sheet: &Sheet) -> Option<u64>
     while id < last {
         match sheet.field(id) {
             Some(field) => {
-                match behind_field(rest, next, field) {
+                match left_after_field(rest, next, field) {
                     Some(less) => rest = less,
                     None => return None,
                 }
@@ -119,17 +127,17 @@ fn behind_fields(left: u64, sheet: &Sheet) -> Option<u64>
         }
         id += 1;
     }
-    behind_ids(rest, next, last)
+    left_after_ids(rest, next, last)
 }
 
 // The records that make a worksheet again.
-fn behind_all(left: u64, sheet: &Sheet) -> Option<u64>
+fn left_after_all(left: u64, sheet: &Sheet) -> Option<u64>
     requires some { 1 ≤ sheet.now.contents.next }
     requires records { AllByRecursion HasRecord (rewrite_of sheet.now.contents) }
     ensures { Measures (rewrite_of sheet.now.contents) left result }
 {
-    match behind_sessions(left, sheet) {
-        Some(rest) => behind_fields(rest, sheet),
+    match left_after_sessions(left, sheet) {
+        Some(rest) => left_after_fields(rest, sheet),
         None => None,
     }
 }
@@ -143,12 +151,12 @@ pub(crate) fn len_anew(room: u64, sheet: &Sheet) -> Option<u64>
     ensures len { IfSome result (λ len. len
         ≡ length (records (codes_of (rewrite_of sheet.now.contents)))) }
 {
-    // A header, and the gate after the records.
-    if room < 11 {
+    // The header, and the gate after the records, are there without any.
+    if room < EMPTY_LEN {
         return None;
     }
-    match behind_all(room - 11, sheet) {
-        Some(rest) => Some(room - 11 - rest),
+    match left_after_all(room - EMPTY_LEN, sheet) {
+        Some(rest) => Some(room - EMPTY_LEN - rest),
         None => None,
     }
 }

@@ -10,12 +10,9 @@ ghost use Rattle.recovery.specs.inside.Records.{op_in};
 use crate::size::{IDS_LEN, LOST_LEN, answer_len, new_len, session_len};
 use crate::writing::{put_answer, put_ids, put_lost, put_new, put_session};
 use block_tree::{OutOfMemory, Reason};
-use journal::Source;
+use journal::{OPEN_GATE, Source};
 use std::marker::Model;
 use worksheet::{Answer, Field, Session};
-
-// A gate that a record follows.
-const OPEN_GATE: u8 = 0x52;
 
 /// An op that makes a part of a worksheet again, with the part where it stands in the worksheet.
 #[derive(Clone, Copy)]

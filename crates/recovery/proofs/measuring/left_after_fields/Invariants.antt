@@ -1,7 +1,7 @@
 use Rattle.std.proofs.Common.{◌≤◌, ◌-◌}
 use Rattle.worksheet.specs.Rewrite.{fields_ops}
 use Rattle.recovery.proofs.Measures.{MeasuredSoFar}
-use Rattle.recovery.proofs.measuring.behind_fields.Given as goal
+use Rattle.recovery.proofs.measuring.left_after_fields.Given as goal
 
 abbrev pub invariant-loop-id : goal.invariant-loop-id
 invariant-loop-id l =
