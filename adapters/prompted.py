@@ -7,7 +7,7 @@ It starts the interpreter of the profile, sends it each line of its own input, a
 a marker, which is made anew at each start from random bytes and stands in no command as a whole, so that neither
 an answer nor an echo of a command has it. What comes before the marker is the answer, on as many lines as it has,
 messages of errors among it. With `--latex` values are formulas, blocks of the format `latex`, where the profile
-has a way to write them. `prompted.py` alone prints the names of the profiles.
+has a way to write them. `--help` prints the names of the profiles.
 """
 import argparse
 import os

@@ -30,7 +30,7 @@ def seconds(word: str) -> float:
 def arguments(words: List[str]) -> argparse.Namespace:
     parser = argparse.ArgumentParser("tmhost-weave", None, ABOUT, NOTES, formatter_class=argparse.RawDescriptionHelpFormatter)
     parser.add_argument("text", metavar="TEXT")
-    parser.add_argument("--check", action="store_true", help="evaluate and write nothing, and say what would change")
+    parser.add_argument("--check", action="store_true", help="evaluate nothing, write nothing, and say what would change")
     parser.add_argument("--output", metavar="FILE", help="where the woven text goes, in place of TEXT (-: standard output)")
     parser.add_argument("--seconds", type=seconds, metavar="N", help="how long a field may take (no limit)")
     return parser.parse_args(words)
