@@ -48,7 +48,6 @@ NOT_EXPANDED: set[Key] = {
 # Sentences above definitions that lean on what their file has before them, or say more than the definition: words as they are, and those that
 # the page has for them. A sentence without such words stands as it is.
 REWORDED: dict[Key, tuple[str, str]] = {
-    ("host_laws.Turns", "StepsAreTurns"): ("So are single steps. ", ""),
     ("host_laws.Turns", "EvaluatedAnew"): (
         ": not where it was Stopped, nor where its interpreter ended before",
         ", also where it was Stopped or its interpreter ended first",

@@ -15,6 +15,7 @@ pub mod Showing
 pub mod Same
 pub mod Going
 pub mod Stepwise
+pub mod Stepping
 pub mod Examples
 pub mod OneThing
 pub mod Totals

@@ -1,4 +1,5 @@
 pub mod Apart
 pub mod Turns
+pub mod Stepped
 pub mod Laws
 pub mod inside

@@ -3,6 +3,7 @@
 #![tactic(auto)]
 
 ghost use Rattle.host_laws.specs.Apart.{OthersAreSilent, SessionsAreIndependent, SessionsSeeTheirOwn};
+ghost use Rattle.host_laws.specs.Stepped.{StepsLeavePrefixes};
 ghost use Rattle.host_laws.specs.Turns.{EvaluatedAnew, HostsInTurn, PlaysAreTurns, StepsAreTurns};
 ghost use Rattle.host_laws.specs.Laws.{AnEventDoesOneThing, EachCommandHasAReply, EachEventHasAnOutcome, NothingIsShownInFlight, NothingOfAnEndedLife, NumbersAreGivenOnce, OutcomesLeadToOneWorld};
 
@@ -48,6 +49,12 @@ pub fn plays_are_turns()
 /// outcome too.
 pub fn steps_are_turns()
     ensures { StepsAreTurns }
+{}
+
+/// One host from its opening to a crash, whose caller gives it one event after another: all that the contracts of
+/// its calls say of that, in one statement.
+pub fn steps_leave_prefixes()
+    ensures { StepsLeavePrefixes }
 {}
 
 /// What a field shows after an accepted evaluation of it is what a whole block answered after it, or
