@@ -24,7 +24,7 @@ pub use frame::{Frame, LONGEST_PAYLOAD};
 pub use front::{Front, InFront};
 pub use group::Group;
 pub use journal::{AppendFault, Journal, OpenFault};
-pub use layout::{EMPTY_LEN, OPEN_GATE};
+pub use layout::{EMPTY_LEN, FIRST_OF_SECOND, OPEN_GATE};
 pub use opening::{CreateCause, CreateFault, OpenCause, create};
 pub use payloads::{Next, Opening};
 pub use source::{BATCH_LEN, Source};

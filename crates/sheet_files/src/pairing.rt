@@ -1,6 +1,7 @@
 //! The two files of a worksheet: their paths, and the real place in which they are made and opened.
 use crate::names::Names;
 use crate::{Identity, Lock, SheetFile};
+use journal::FIRST_OF_SECOND;
 use std::alloc::Global;
 use std::fs::{OpenFile, OpenOptions, TryLockError};
 use std::io::ErrorKind;
@@ -91,15 +92,12 @@ fn single<F: SheetFile>(file: &F) -> io::Result<Identity> {
     }
 }
 
-/// How the first file begins of a worksheet that lies in its second one.
-const NAMES_SECOND: &[u8] = b"TMWSHEET\x01B";
-
 /// Whether a first file says that its worksheet lies in the second one. It has a gate after that, as each
 /// first file.
 fn names_second<F: FileExt>(first: &F) -> io::Result<bool> {
     let mut header = [0; 11];
     match first.read_exact_at(&mut header, 0) {
-        Ok(()) => Ok(header.starts_with(NAMES_SECOND)),
+        Ok(()) => Ok(header.starts_with(FIRST_OF_SECOND)),
         Err(error) if error.kind() == ErrorKind::UnexpectedEof => Ok(false),
         Err(error) => Err(error),
     }
