@@ -287,10 +287,30 @@ reports 'one session within its time' 1 '#3 a\na] differs\n- differs\n+ another\
 made "$a"'new 0 a x\nnew 1 a kills\neval 1\neval 2\nwait\n'
 (exec "$tmhost" check --format tap sheet >text 2>errors) 2>/dev/null
 compare 'a report that is cut off' "$? $(cat text errors)" "$(printf '137 TAP version 13\nok 1 - field 1 of a')"
+(exec "$tmhost" check --format junit sheet >text 2>errors) 2>/dev/null
+compare 'cases that are cut off' "$? $(cat text errors)" "$(printf '137 %b<testcase classname="a" name="field 1"></testcase>' "$head")"
 made "$a"'new 0 a x\neval 1\nwait\n'
 "$tmhost" check --format tap sheet >/dev/full 2>errors
 compare 'a report on a full output' "$? $(cat errors)" '1 fault 42 Output'
 sent 'a report on a full output' ''
+
+# An output of 2,000,000 bytes where there was one of one byte, in each format.
+cat >grows.sh <<'END_OF_CHILD'
+printf '\002verbatim:\005'
+while IFS= read -r line; do
+    printf '\002verbatim:'
+    if [ -e again ]; then head -c 2000000 /dev/zero | tr '\0' a; else printf '%s' "$line"; fi
+    printf '\005'
+done
+END_OF_CHILD
+grown() {
+    compare "an output that grew, $1" "$({ "$tmhost" check --format "$1" sheet 2>&1; echo "status $?"; } </dev/null | cksum)" \
+        "$({ printf "$2"; head -c 2000000 /dev/zero | tr '\0' a; printf "$3"; echo 'status 1'; } | cksum)"
+}
+made 'session g plain sh grows.sh\nnew 0 g x\neval 1\nwait\n'
+grown text '#1 g\n> x\n- x\n+ ' '\nsame 0 differ 1 unanswered 0\n'
+grown tap 'TAP version 13\nnot ok 1 - field 1 of g\n# #1 g\n# > x\n# - x\n# + ' '\n1..1\n'
+grown junit "$head"'<testcase classname="g" name="field 1"><failure message="differs">#1 g\n&gt; x\n- x\n+ ' '\n</failure></testcase>\n'"$tail"
 
 # A thousand fields, of which the last but one differs.
 {

@@ -143,6 +143,21 @@ evaluates 'they go to another interpreter' 1 \
     '#1 a\n> x\nx\n#5 a\n> deaf\n? Stalled\n#3 a\n> y\ny\n#4 b\n> z\nz 1\n' --timeout 2 --keep-going
 evaluates 'strictly' 3 'asked\nbanner a\nanswered 1\nasked\nover 5\nended a Stalled lost 1\nanswered 3 unanswered 1\nover 1 passed 2\nstopped at line 4\n' \
     '#1 a\n> x\nx\n#5 a\n> deaf\n? Stalled\n#3 a\n> y\ny\n#4 b\n> z\nz 1\n' --timeout 2 --strict
+
+# That a time is over is there at once: this interpreter answers when it has read it, and stalls else.
+cat >tells.sh <<'END'
+trap 'over=1' INT
+printf '\002verbatim:\005'
+read -r l
+while [ -z "$over" ]; do sleep 0.05; done
+until grep -q '^over 1$' text; do sleep 0.05; done
+printf '\002verbatim:%s\005' "$l"
+read -r l
+END
+made 'session a plain env --default-signal=INT sh tells.sh\nnew 0 a x\n'
+: >text
+"$tmhost" eval --timeout 2 sheet >text 2>errors </dev/null
+compare 'a time that is over is told at once' "$? $(cat text errors)" "$(printf '1 asked\nbanner a\nover 1\nanswered 1\nanswered 1 unanswered 0\nover 1 passed 0')"
 for seconds in 0 1000001 x '' 1.5; do
     words "no time: $seconds" 2 "error: this is no time: SECONDS is a number from 1 to 1000000\n\nFor more information, try 'tmhost eval --help'.\n" eval --timeout "$seconds" sheet
 done
