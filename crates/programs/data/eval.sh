@@ -156,7 +156,7 @@ read -r l
 END
 made 'session a plain env --default-signal=INT sh tells.sh\nnew 0 a x\n'
 : >text
-"$tmhost" eval --timeout 2 sheet >text 2>errors </dev/null
+"$tmhost" eval --timeout 1 sheet >text 2>errors </dev/null
 compare 'a time that is over is told at once' "$? $(cat text errors)" "$(printf '1 asked\nbanner a\nover 1\nanswered 1\nanswered 1 unanswered 0\nover 1 passed 0')"
 for seconds in 0 1000001 x '' 1.5; do
     words "no time: $seconds" 2 "error: this is no time: SECONDS is a number from 1 to 1000000\n\nFor more information, try 'tmhost eval --help'.\n" eval --timeout "$seconds" sheet

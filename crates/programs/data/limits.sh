@@ -168,10 +168,16 @@ compare 'many fields as JSON' "$("$tmhost" export json big </dev/null | cksum)" 
         printf '],"next":30001,"sessions":[{"life":null,"name":"a","tab":false,"waiting":0,"words":["sh"]}],"type":"sheet"}\n{"type":"end"}\n'
     } | cksum)"
 
-# The most memory, in units of 1,024 bytes, with which it can't be made a notebook: that is reported.
+# The same answer alone. With a little less memory, in units of 1,024 bytes, than its notebook takes, that is reported.
+{
+    printf 'TMWSHEET\001AR\000\000\000\011\001\001a\000\001\000\002shR\000\000\000\012\002\000\000\000\000\001a\000\001y'
+    printf 'R\000\036\204\224\007\000\000\000\001\000\002> \002verbatim:'
+    answer_of_many
+    printf '\005\000'
+} >big
 low=0
-high=1048576
-while [ $((high - low)) -gt 64 ]; do
+high=262144
+while [ $((high - low)) -gt 256 ]; do
     middle=$(((low + high) / 2))
     if (ulimit -v $middle && exec "$tmhost" export notebook big) </dev/null >text 2>errors; then high=$middle; else low=$middle; fi
 done
