@@ -275,8 +275,11 @@ l='session l plain env --default-signal=INT sh loops.sh\n'
 made "$l"'new 0 l x\nnew 1 l loop\nnew 2 l y\neval 1\neval 2\neval 3\nwait\n'
 reports 'an answer after its time is none' 1 '#2 l\n> loop\n- loop\n+ ?\nsame 2 differ 0 unanswered 1\n' --timeout 2
 sent 'an answer after its time is none' 'start\nsend x\nsend loop\nsend y'
-reports 'the same as TAP' 1 'TAP version 13\nok 1 - field 1 of l\nnot ok 2 - field 2 of l\n# #2 l\n# > loop\n# - loop\n# + ?\nok 3 - field 3 of l\n1..3\n' --timeout 2 --format tap
+{ "$tmhost" check --timeout 2 --format tap sheet </dev/null 2>&1; echo "status $?"; } >beside.told &
 reports 'the same left out' 0 'same 2 differ 0 unanswered 0 left out 1\n' --timeout 2 --leave-out 2
+wait
+compare 'the same as TAP' "$(cat beside.told)" "$(ending 'TAP version 13\nok 1 - field 1 of l\nnot ok 2 - field 2 of l\n# #2 l\n# > loop\n# - loop\n# + ?\nok 3 - field 3 of l\n1..3\n' 1)"
+compare 'the same as TAP, kept' "$(bytes sheet) $(bytes sheet.alt 2>/dev/null)" "$before"
 made "$l"'session a plain sh suite.sh a\nnew 0 l deaf\nnew 1 l y\nnew 2 a differs\neval 1\neval 2\neval 3\nwait\n'
 reports 'one that hears no interrupt' 1 '#1 l\n> deaf\n- deaf\n+ ?\n#3 a\na] differs\n- differs\n+ another\nsame 1 differ 1 unanswered 1\n' --timeout 2
 sent 'one that hears no interrupt' 'start\nsend deaf\nstart\nsend y\nstart a\nsend a differs'
