@@ -73,6 +73,14 @@ made "$a"'new 0 a differs\nnew 1 a differs\neval 1\neval 2\nwait\n'
 compare 'a full output' "$? $(cat errors)" '1 fault 42 Output'
 compare 'a full output, shown' "$(answer show sheet)" "$(printf '#1 a\na] differs\nanother\n#2 a\na] differs\ndiffers\nstatus 0')"
 
+# An answer of 2,000,000 bytes: on a disk that takes no more it isn't there, and nothing of it is told.
+made 'session g plain sh grows.sh\nnew 0 g x\neval 1\nwait\n'
+compare 'a full disk' "$(limited 1 check --accept sheet </dev/null)" "$(ending 'fault 21 Disk\n' 1)"
+compare 'a full disk, shown' "$(answer show sheet </dev/null)" "$(ending '#1 g\n> x\nx\n' 0)"
+compare 'a large answer' "$("$tmhost" check --accept sheet </dev/null 2>&1 | cksum)" \
+    "$({ printf '#1 g\n> x\n- x\n+ '; head -c 2000000 /dev/zero | tr '\0' a; printf '\naccepted 1\nsame 0 accepted 1 unanswered 0\n'; } | cksum)"
+compare 'a large answer, shown' "$("$tmhost" show sheet </dev/null | cksum)" "$({ printf '#1 g\n> x\n'; head -c 2000000 /dev/zero | tr '\0' a; echo; } | cksum)"
+
 # Files: a worksheet in use, one that is used beside, and none.
 made "$a"'new 0 a differs\neval 1\nwait\n'
 talk_over live sheet

@@ -275,8 +275,11 @@ l='session l plain env --default-signal=INT sh loops.sh\n'
 made "$l"'new 0 l x\nnew 1 l loop\nnew 2 l y\neval 1\neval 2\neval 3\nwait\n'
 reports 'an answer after its time is none' 1 '#2 l\n> loop\n- loop\n+ ?\nsame 2 differ 0 unanswered 1\n' --timeout 2
 sent 'an answer after its time is none' 'start\nsend x\nsend loop\nsend y'
-reports 'the same as TAP' 1 'TAP version 13\nok 1 - field 1 of l\nnot ok 2 - field 2 of l\n# #2 l\n# > loop\n# - loop\n# + ?\nok 3 - field 3 of l\n1..3\n' --timeout 2 --format tap
+{ "$tmhost" check --timeout 2 --format tap sheet </dev/null 2>&1; echo "status $?"; } >beside.told &
 reports 'the same left out' 0 'same 2 differ 0 unanswered 0 left out 1\n' --timeout 2 --leave-out 2
+wait
+compare 'the same as TAP' "$(cat beside.told)" "$(ending 'TAP version 13\nok 1 - field 1 of l\nnot ok 2 - field 2 of l\n# #2 l\n# > loop\n# - loop\n# + ?\nok 3 - field 3 of l\n1..3\n' 1)"
+compare 'the same as TAP, kept' "$(bytes sheet) $(bytes sheet.alt 2>/dev/null)" "$before"
 made "$l"'session a plain sh suite.sh a\nnew 0 l deaf\nnew 1 l y\nnew 2 a differs\neval 1\neval 2\neval 3\nwait\n'
 reports 'one that hears no interrupt' 1 '#1 l\n> deaf\n- deaf\n+ ?\n#3 a\na] differs\n- differs\n+ another\nsame 1 differ 1 unanswered 1\n' --timeout 2
 sent 'one that hears no interrupt' 'start\nsend deaf\nstart\nsend y\nstart a\nsend a differs'
@@ -287,10 +290,30 @@ reports 'one session within its time' 1 '#3 a\na] differs\n- differs\n+ another\
 made "$a"'new 0 a x\nnew 1 a kills\neval 1\neval 2\nwait\n'
 (exec "$tmhost" check --format tap sheet >text 2>errors) 2>/dev/null
 compare 'a report that is cut off' "$? $(cat text errors)" "$(printf '137 TAP version 13\nok 1 - field 1 of a')"
+(exec "$tmhost" check --format junit sheet >text 2>errors) 2>/dev/null
+compare 'cases that are cut off' "$? $(cat text errors)" "$(printf '137 %b<testcase classname="a" name="field 1"></testcase>' "$head")"
 made "$a"'new 0 a x\neval 1\nwait\n'
 "$tmhost" check --format tap sheet >/dev/full 2>errors
 compare 'a report on a full output' "$? $(cat errors)" '1 fault 42 Output'
 sent 'a report on a full output' ''
+
+# An output of 2,000,000 bytes where there was one of one byte, in each format.
+cat >grows.sh <<'END_OF_CHILD'
+printf '\002verbatim:\005'
+while IFS= read -r line; do
+    printf '\002verbatim:'
+    if [ -e again ]; then head -c 2000000 /dev/zero | tr '\0' a; else printf '%s' "$line"; fi
+    printf '\005'
+done
+END_OF_CHILD
+grown() {
+    compare "an output that grew, $1" "$({ "$tmhost" check --format "$1" sheet 2>&1; echo "status $?"; } </dev/null | cksum)" \
+        "$({ printf "$2"; head -c 2000000 /dev/zero | tr '\0' a; printf "$3"; echo 'status 1'; } | cksum)"
+}
+made 'session g plain sh grows.sh\nnew 0 g x\neval 1\nwait\n'
+grown text '#1 g\n> x\n- x\n+ ' '\nsame 0 differ 1 unanswered 0\n'
+grown tap 'TAP version 13\nnot ok 1 - field 1 of g\n# #1 g\n# > x\n# - x\n# + ' '\n1..1\n'
+grown junit "$head"'<testcase classname="g" name="field 1"><failure message="differs">#1 g\n&gt; x\n- x\n+ ' '\n</failure></testcase>\n'"$tail"
 
 # A thousand fields, of which the last but one differs.
 {

@@ -74,6 +74,18 @@ helps rescue 'Write what stands before a damage to a new worksheet' "Usage: ${tm
 
 helps export 'Write a worksheet as a script, Markdown, a page, a notebook or JSON' "Usage: ${tmhost##*/} export <FORMAT> <PATH>" 'Example: tmhost export html sheet.tm >sheet.html' 1
 
+# Each help whole, as the file `help_texts` has it: NAME WORDS.
+whole_help() {
+    name=$1
+    shift
+    compare "the whole help of $name" "$("$tmhost" "$@" --help 2>&1 | sed "s/^Usage: ${tmhost##*/}/Usage: tmhost/")" \
+        "$(sed -n "/^== $name\$/,/^== /p" help_texts | sed '/^== /d')"
+}
+whole_help 'the program'
+for task in blocks create run live eval show check rescue export faults; do
+    whole_help "$task" "$task"
+done
+
 # The version: the name of the program and a number.
 "$tmhost" --version >text 2>errors
 compare 'the version' "$? $(wc -c <errors) $(bytes text)" "0 0 $(printf 'tmhost 0.1.0\n' >wanted; bytes wanted)"

@@ -37,6 +37,16 @@ answer() {
     echo "status $status"
 }
 
+# The same where no file may be longer than so many blocks of 512 bytes: BLOCKS WORDS.
+limited() (
+    blocks=$1
+    shift
+    trap '' XFSZ
+    ulimit -f "$blocks"
+    "$tmhost" "$@" 2>&1
+    echo "status $?"
+)
+
 # A case of words alone: NAME STATUS TEXT WORDS.
 words() {
     name=$1 want=$(ending "$3" "$2")
@@ -104,13 +114,13 @@ live() {
     lives "$1" "$3" "$4" <given
 }
 
-# Begins a talk with `live` over a new worksheet, which ten seconds cut off: bytes are written by `say TEXT`, and what they give is read
-# before more are written by `hears NAME TEXT`.
+# Begins a talk with `live` and these words over a new worksheet, which ten seconds cut off: bytes are written by `say TEXT`, and what they
+# give is read before more are written by `hears NAME TEXT`.
 talk() {
     rm -f sheet sheet.alt talk.in talk.out
     mkfifo talk.in talk.out
     "$tmhost" create sheet
-    timeout 10 "$tmhost" live sheet <talk.in >talk.out 2>talk.errors &
+    timeout 10 "$tmhost" live "$@" sheet <talk.in >talk.out 2>talk.errors &
     host=$!
     exec 3>talk.in 4<talk.out
 }

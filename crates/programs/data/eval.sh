@@ -135,14 +135,46 @@ evaluates 'none is over' 0 'asked\nbanner a\nanswered 1\nasked\nanswered 3\naske
     '#1 a\n> x\nx\n#3 a\n> y\ny\n#4 b\n> z\nz 1\n' --timeout 60
 printf 'new 1 a deaf\n' >given
 "$tmhost" run sheet <given >text
-evaluates 'one that hears no interrupt stalls, and the fields after it keep what they show' 1 \
+
+# Side by side, each over a copy of the worksheet: `beside COPY WORDS` begins one, and `ended_so COPY NAME STATUS TEXT SHEET` looks at it.
+beside() {
+    copy=$1
+    shift
+    cp sheet "$copy"
+    cp sheet.alt "$copy.alt"
+    { "$tmhost" eval "$@" "$copy" </dev/null 2>&1; echo "status $?"; } >"$copy.told" &
+}
+ended_so() {
+    compare "$2" "$(cat "$1.told")" "$(ending "$4" "$3")"
+    compare "$2, shown" "$(answer show "$1" </dev/null)" "$(ending "$5" 0)"
+}
+beside deaf --timeout 2
+beside going --timeout 2 --keep-going
+beside strictly --timeout 2 --strict
+wait
+ended_so deaf 'one that hears no interrupt stalls, and the fields after it keep what they show' 1 \
     'asked\nbanner a\nanswered 1\nasked\nover 5\nended a Stalled lost 1\nasked\nbanner b\nanswered 4\nanswered 3 unanswered 1\nover 1 passed 1\n' \
-    '#1 a\n> x\nx\n#5 a\n> deaf\n? Stalled\n#3 a\n> y\ny\n#4 b\n> z\nz 1\n' --timeout 2
-evaluates 'they go to another interpreter' 1 \
+    '#1 a\n> x\nx\n#5 a\n> deaf\n? Stalled\n#3 a\n> y\ny\n#4 b\n> z\nz 1\n'
+ended_so going 'they go to another interpreter' 1 \
     'asked\nbanner a\nanswered 1\nasked\nover 5\nended a Stalled lost 1\nasked\nbanner a\nanswered 3\nasked\nbanner b\nanswered 4\nanswered 3 unanswered 1\nover 1 passed 0\n' \
-    '#1 a\n> x\nx\n#5 a\n> deaf\n? Stalled\n#3 a\n> y\ny\n#4 b\n> z\nz 1\n' --timeout 2 --keep-going
-evaluates 'strictly' 3 'asked\nbanner a\nanswered 1\nasked\nover 5\nended a Stalled lost 1\nanswered 3 unanswered 1\nover 1 passed 2\nstopped at line 4\n' \
-    '#1 a\n> x\nx\n#5 a\n> deaf\n? Stalled\n#3 a\n> y\ny\n#4 b\n> z\nz 1\n' --timeout 2 --strict
+    '#1 a\n> x\nx\n#5 a\n> deaf\n? Stalled\n#3 a\n> y\ny\n#4 b\n> z\nz 1\n'
+ended_so strictly 'strictly' 3 'asked\nbanner a\nanswered 1\nasked\nover 5\nended a Stalled lost 1\nanswered 3 unanswered 1\nover 1 passed 2\nstopped at line 4\n' \
+    '#1 a\n> x\nx\n#5 a\n> deaf\n? Stalled\n#3 a\n> y\ny\n#4 b\n> z\nz 1\n'
+
+# That a time is over is there at once: this interpreter answers when it has read it, and stalls else.
+cat >tells.sh <<'END'
+trap 'over=1' INT
+printf '\002verbatim:\005'
+read -r l
+while [ -z "$over" ]; do sleep 0.05; done
+until grep -q '^over 1$' text; do sleep 0.05; done
+printf '\002verbatim:%s\005' "$l"
+read -r l
+END
+made 'session a plain env --default-signal=INT sh tells.sh\nnew 0 a x\n'
+: >text
+"$tmhost" eval --timeout 1 sheet >text 2>errors </dev/null
+compare 'a time that is over is told at once' "$? $(cat text errors)" "$(printf '1 asked\nbanner a\nover 1\nanswered 1\nanswered 1 unanswered 0\nover 1 passed 0')"
 for seconds in 0 1000001 x '' 1.5; do
     words "no time: $seconds" 2 "error: this is no time: SECONDS is a number from 1 to 1000000\n\nFor more information, try 'tmhost eval --help'.\n" eval --timeout "$seconds" sheet
 done

@@ -217,6 +217,7 @@ coded 'a run that a brace cuts' 'verbatim:``\002latex:``\005``' '```' '``{latex:
 coded 'a run behind a tag' 'verbatim:\002html:```\005' '````' '{html:```}'
 coded 'a run in a tag' '```:x' '````' '{```:x}'
 coded 'a run that a control byte cuts' 'verbatim:``\001``' '```' '``\\x01``'
+coded 'a hundred backquotes' "verbatim:$(repeated 100 '`')" "$(repeated 101 '`')" "$(repeated 100 '`')"
 coded 'tildes' 'verbatim:~~~\n~~~' '```' '~~~\n~~~'
 coded 'a channel in Markdown' 'output#x' '```' 'x'
 coded 'no output in Markdown' 'verbatim:' '```' ''

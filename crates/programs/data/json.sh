@@ -127,6 +127,29 @@ json 'lines that are lost' 0 'session a plain sh silent.sh\nsession b plain /non
 {"type":"end"}
 END_OF_JSON
 
+# Each object is there before the next line is written.
+interpreter p "$banner" '\002verbatim:A\005'
+block='{"items":["A"],"kind":"format","tag":"verbatim"}'
+talk --json
+hears 'the first object' '{"format":1,"program":"tmhost","protocol":2,"type":"hello","version":"0.1.0"}\n'
+say 'session a plain sh p.sh\n'
+hears 'an object of a reply' '{"line":1,"type":"done"}\n'
+say 'new 0 a x\n'
+hears 'an object of a number' '{"id":1,"line":2,"type":"made"}\n'
+say 'eval 1\n'
+hears 'objects of an answer without a wait' '{"life":1,"line":3,"type":"asked"}\n{"life":1,"output":{"items":[],"kind":"format","tag":"verbatim"},"session":"a","shown":"","type":"banner"}\n{"id":1,"life":1,"output":'"$block"',"prompt":"> ","session":"a","shown":"A","type":"answered"}\n'
+say 'print 1\n'
+hears 'an object of a field' '{"field":{"id":1,"input":"x","output":'"$block"',"prompt":"> ","session":"a","shown":"A","state":"answered"},"line":4,"type":"field"}\n'
+say 'foo\n'
+hears 'an object of a bad line' '{"line":5,"type":"bad"}\n'
+say 'wait\n'
+hears 'an object of a wait' '{"line":6,"over":"idle","type":"waited"}\n'
+say 'print\n'
+hears 'objects of a worksheet' '{"field":{"id":1,"input":"x","output":'"$block"',"prompt":"> ","session":"a","shown":"A","state":"answered"},"line":7,"more":true,"type":"field"}\n{"fields":[1],"line":7,"next":2,"sessions":[{"life":1,"name":"a","tab":false,"waiting":0,"words":["sh","p.sh"]}],"type":"sheet"}\n'
+say 'interrupt a\n'
+hears 'an object of an interrupt' '{"line":8,"outcome":"idle","type":"interrupted"}\n'
+hang_up 'a talk in JSON' '{"type":"end"}\n' '#1 a\n> x\nA\n'
+
 # Faults: before the worksheet is open it is the only object, and then the last one.
 faulty() {
     cat >wanted

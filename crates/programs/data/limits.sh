@@ -67,6 +67,123 @@ printf 'print\n' >given
 compare 'a file without a byte' "$(answer run empty <given)" "$(ending 'fault 31 NotASheet\n' 1)"
 compare 'it is left so' "$(wc -c <empty)" 0
 
+# What can't be opened, and why, by each program: damage, what is no worksheet, and a disk that fails, since a file is longer than it may be.
+printf 'TMWSHEET\001AR\000\000\000\011abc' >damaged
+truncate -s 2147483649 too_long
+for program in run 'run --strict' live eval show check 'check --accept' 'export html'; do
+    words "$program, damage" 1 'fault 30 Damaged 10\n' $program damaged
+    words "$program, no worksheet" 1 'fault 31 NotASheet\n' $program hello.txt
+    words "$program, a disk that fails" 1 'fault 32 Disk\n' $program too_long
+done
+words 'rescue, a disk that fails' 1 'fault 32 Disk\n' rescue too_long saved
+rm -f damaged damaged.alt too_long too_long.alt
+
+# A disk that takes no more while a worksheet is changed: what was reported is there, and the change in hand isn't. FORM TEXT, of a
+# worksheet whose files may have 512 bytes.
+filled() {
+    rm -f sheet sheet.alt
+    "$tmhost" create sheet
+    printf 'session a plain sh p.sh\nnew 0 a x\n' >given
+    "$tmhost" run sheet <given >text
+    printf "set 1 y\nset 1 $(long 1000)\nset 1 z\n" >given
+    compare "$1 on a full disk" "$(limited 1 $1 sheet <given)" "$(ending "$2" 1)"
+    compare "$1 on a full disk, shown" "$(answer show sheet </dev/null)" "$(ending '#1 a\n> y\n?\n' 0)"
+}
+filled run 'ok\nfault 21 Disk\n'
+filled 'run --strict' 'ok\nfault 21 Disk\n'
+filled live 'ok\nfault 21 Disk\n'
+filled 'live --json' '{"format":1,"program":"tmhost","protocol":2,"type":"hello","version":"0.1.0"}\n{"line":1,"type":"done"}\n{"name":"Disk","number":21,"type":"fault"}\nfault 21 Disk\n'
+interpreter p "$banner" "\\002verbatim:$(long 1000)\\005"
+compare 'eval on a full disk' "$(limited 1 eval sheet </dev/null)" "$(ending 'asked\nbanner a\nfault 21 Disk\n' 1)"
+compare 'eval on a full disk, shown' "$(answer show sheet </dev/null)" "$(ending '#1 a\n> y\n?\n' 0)"
+printf "set 1 $(long 1000)\n" >given
+compare 'a disk that is full no more' "$(answer run sheet <given)" "$(ending 'ok\n' 0)"
+echo checkpoint >given
+compare 'a checkpoint on a full disk' "$(limited 1 run sheet <given)" "$(ending 'fault 21 Disk\n' 1)"
+compare 'a checkpoint on a full disk, shown' "$(answer show sheet </dev/null)" "$(ending "#1 a\n> $(long 1000)\n?\n" 0)"
+compare 'create on a full disk' "$(limited 0 create full)" "$(ending 'fault 32 Disk\n' 1)"
+rm -f full full.alt
+
+# A worksheet of 8,193 fields, made of its bytes: each field stands in front of those before it, the last one has another number and an
+# answer of 2,000,000 bytes.
+answer_of_many() {
+    head -c 2000000 /dev/zero | tr '\0' a
+}
+printf 'R\000\000\000\012\002\000\000\000\000\001a\000\001x' >many
+for count in $(seq 13); do
+    cat many many >more
+    mv more many
+done
+{
+    printf 'TMWSHEET\001AR\000\000\000\011\001\001a\000\001\000\002sh'
+    cat many
+    printf 'R\000\000\000\005\011\000\000\165\060R\000\000\000\012\002\000\000\000\000\001a\000\001y'
+    printf 'R\000\036\204\224\007\000\000\165\060\000\002> \002verbatim:'
+    answer_of_many
+    printf '\005\000'
+} >big
+rm -f big.alt saved saved.alt
+compare 'many fields are shown' "$("$tmhost" show big </dev/null | cksum)" \
+    "$({ printf '#30000 a\n> y\n'; answer_of_many; echo; seq 8192 -1 1 | awk '{ print "#" $1 " a\n> x\n?" }'; } | cksum)"
+compare 'many fields are rescued' "$(answer rescue big saved </dev/null)" "$(ending 'kept 8196, whole\n' 0)"
+compare 'many fields that were rescued' "$("$tmhost" show saved </dev/null | cksum)" "$("$tmhost" show big </dev/null | cksum)"
+compare 'many fields as a script' "$("$tmhost" export script big </dev/null | cksum)" \
+    "$({ printf 'session a plain sh\nnew 0 a y\n'; seq 8192 | sed 's/.*/new & a x/'; } | cksum)"
+compare 'many fields as Markdown' "$("$tmhost" export markdown big </dev/null | cksum)" \
+    "$({ printf '```a\ny\n```\n\n```\n'; answer_of_many; printf '\n```\n'; seq 8192 | awk '{ print "\n```a\nx\n```\n\n*no answer*" }'; } | cksum)"
+cat >page.awk <<'END_OF_PAGE'
+{
+    print "<section id=\"field-" $1 "\">\n<header><a href=\"#field-" $1 "\">#" $1 "</a> <bdi>a</bdi></header>"
+    print "<pre class=\"in\" dir=\"ltr\"><bdi>&gt; </bdi><code dir=\"ltr\">" $2 "</code></pre>"
+    if ($2 == "x") print "<p class=\"none\">no answer</p>\n</section>"
+}
+END_OF_PAGE
+compare 'many fields as a page' "$("$tmhost" export html big </dev/null | sed '1,/^<main>$/d' | cksum)" \
+    "$({
+        echo 30000 y | awk -f page.awk
+        printf '<pre class="out" dir="ltr">\n'
+        answer_of_many
+        printf '</pre>\n</section>\n'
+        seq 8192 -1 1 | sed 's/$/ x/' | awk -f page.awk
+        printf '</main>\n</body>\n</html>\n'
+    } | cksum)"
+compare 'many fields as a notebook' "$("$tmhost" export notebook big </dev/null | cksum)" \
+    "$({
+        printf '{"cells":[{"cell_type":"code","execution_count":null,"id":"field-30000","metadata":{"tmhost":{"session":"a"}},"outputs":[{"data":{"text/plain":"'
+        answer_of_many
+        printf '"},"execution_count":null,"metadata":{},"output_type":"execute_result"}],"source":"y"}'
+        seq 8192 -1 1 | sed 's/.*/,{"cell_type":"code","execution_count":null,"id":"field-&","metadata":{"tmhost":{"session":"a"}},"outputs":[],"source":"x"}/' | tr -d '\n'
+        printf '],"metadata":{},"nbformat":4,"nbformat_minor":5}'
+    } | cksum)"
+compare 'many fields as JSON' "$("$tmhost" export json big </dev/null | cksum)" \
+    "$({
+        printf '{"format":1,"program":"tmhost","protocol":2,"type":"hello","version":"0.1.0"}\n{"field":{"id":30000,"input":"y","output":{"items":["'
+        answer_of_many
+        printf '"],"kind":"format","tag":"verbatim"},"prompt":"> ","session":"a","shown":"'
+        answer_of_many
+        printf '","state":"answered"},"type":"field"}\n'
+        seq 8192 -1 1 | sed 's/.*/{"field":{"id":&,"input":"x","session":"a","state":"empty"},"type":"field"}/'
+        printf '{"fields":[30000'
+        seq 8192 -1 1 | sed 's/^/,/' | tr -d '\n'
+        printf '],"next":30001,"sessions":[{"life":null,"name":"a","tab":false,"waiting":0,"words":["sh"]}],"type":"sheet"}\n{"type":"end"}\n'
+    } | cksum)"
+
+# The same answer alone. With a little less memory, in units of 1,024 bytes, than its notebook takes, that is reported.
+{
+    printf 'TMWSHEET\001AR\000\000\000\011\001\001a\000\001\000\002shR\000\000\000\012\002\000\000\000\000\001a\000\001y'
+    printf 'R\000\036\204\224\007\000\000\000\001\000\002> \002verbatim:'
+    answer_of_many
+    printf '\005\000'
+} >big
+low=0
+high=262144
+while [ $((high - low)) -gt 256 ]; do
+    middle=$(((low + high) / 2))
+    if (ulimit -v $middle && exec "$tmhost" export notebook big) </dev/null >text 2>errors; then high=$middle; else low=$middle; fi
+done
+compare 'a notebook without memory' "$(ulimit -v $low && answer export notebook big </dev/null)" "$(ending 'fault 43 OutOfMemory\n' 1)"
+rm -f big big.alt saved saved.alt many page.awk
+
 # Inputs and outputs that fail.
 compare 'a script that is a folder' "$(answer run sheet </)" "$(ending 'fault 40 Input\n' 1)"
 compare 'a script that is a folder, in memory' "$(answer in memory </)" "$(ending 'fault 40 Input\n' 1)"

@@ -283,6 +283,20 @@ hears 'two lines that stall' 'ended a Stalled lost 2\n'
 hang_up 'two lines that stall' '' '#1 a\n> x\n? Stalled\n#2 a\n> y\n?\n'
 sent 'two lines that stall' 'start \nsend x'
 
+# 64 sessions that stall at the end of one wait.
+{
+    seq 64 | sed 's/.*/session s& plain sh silent.sh/'
+    seq 64 | sed 's/.*/new 0 s& x/'
+    seq 64 | sed 's/.*/eval &/'
+    echo 'wait 1'
+} >given
+rm -f sheet sheet.alt lives
+"$tmhost" create sheet
+compare '64 sessions that stall' "$("$tmhost" live sheet <given 2>&1 | sort)" \
+    "$({ seq 64 | sed 's/.*/ok/'; seq 64 | sed 's/.*/field &/'; seq 64 | sed 's/.*/asked/'; seq 64 | sed 's/.*/ended s& Stalled lost 1/'; } | sort)"
+compare '64 sessions that stall, shown' "$(answer show sheet </dev/null)" "$(ending "$(seq 64 -1 1 | sed 's/.*/#& s&\\n> x\\n? Stalled\\n/' | tr -d '\n')" 0)"
+ended '64 sessions that stall' 64
+
 # An interrupt goes to the interpreter of its session where a line waits in it, and to no other. One that is made for it answers and
 # keeps what it has; another ends.
 cat >loops.py <<'END_OF_CHILD'

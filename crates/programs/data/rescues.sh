@@ -114,6 +114,8 @@ words 'a new one in a folder that is missing' 1 'fault 32 Disk\n' rescue area mi
 "$tmhost" rescue area saved >/dev/full 2>errors
 compare 'a full output' "$? $(cat errors)" '1 fault 42 Output'
 compare 'what is written all the same' "$(answer show saved </dev/null)" "$(ending '' 0)"
+rm -f saved saved.alt
+compare 'a new one on a full disk' "$(limited 0 rescue area saved </dev/null)" "$(ending 'fault 32 Disk\n' 1)"
 chmod 400 area
 rm -f saved saved.alt
 words 'a worksheet that may not be written' 0 'kept 1, whole\n' rescue area saved

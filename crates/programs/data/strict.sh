@@ -41,6 +41,12 @@ strict 'a bad line at the end' 'session a plain p\nnew 0 a x\nremove 1 ' 3 'ok\n
 strict 'a bad line behind remarks' '#\n\n#\nwait 3\nprint\n' 3 'bad line 4\nstopped at line 4\n' ''
 script 'the same, not strict' '#\n\n#\nwait 3\nprint\n' 'bad line 4\n' ''
 
+{
+    yes '#' | head -n 100000
+    printf 'foo\nsession a plain p\n'
+} >given
+strictly 'a bad line behind 100,000 lines' 3 'bad line 100001\nstopped at line 100001\n' '' <given
+
 # A command that is refused.
 strict 'a refusal' 'session a plain p\nnew 0 a x\nremove 7\nremove 1\n' 3 'ok\nfield 1\nrefused 2 NoField\nstopped at line 3\n' '#1 a\n> x\n?\n'
 script 'the same refusal, not strict' 'session a plain p\nnew 0 a x\nremove 7\nremove 1\n' 'ok\nfield 1\nrefused 2 NoField\nok\n' ''

@@ -257,6 +257,28 @@ fn a_file_system_without_locks(rt: HostRuntime) {
     assert!(rt; goes_on_without_locks(rt.alloc()));
 }
 
+// Whether no worksheet is made or opened where its lock fails.
+fn is_refused_without_its_lock(alloc: Global) -> bool {
+    let empty = Calls::new(alloc);
+    empty.locks.set(Locks::Failed);
+    let calls = over(alloc, There::All);
+    calls.locks.set(Locks::Failed);
+    creates(&empty, alloc, "s") == Err(MakeFault::Create(CreateCause::Disk))
+        && empty.are("look for s\nlook for s.alt\nmake s\nlock s\n")
+        && is_refused(
+            &calls,
+            alloc,
+            "s",
+            "follow s\nlook for s\nopen s\nlock s\n\
+             follow s\nlook for s\nopen to read s\nlock to read s\n",
+        )
+}
+
+#[test]
+fn a_lock_that_fails(rt: HostRuntime) {
+    assert!(rt; is_refused_without_its_lock(rt.alloc()));
+}
+
 // What comes of a worksheet that is made, and of one that is opened, where each sync fails.
 fn stuck(alloc: Global) -> (Result<(), MakeFault>, Result<(), FilesFault>) {
     let calls = Calls::new(alloc);

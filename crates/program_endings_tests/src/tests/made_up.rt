@@ -63,6 +63,8 @@ pub enum Locks {
     Taken,
     /// The file system has none.
     None,
+    /// It can't be had, for another reason.
+    Failed,
 }
 
 impl Calls {
@@ -277,6 +279,7 @@ impl SheetFile for MadeUpFile<'_> {
             Locks::Free => Ok(()),
             Locks::Taken => Err(TryLockError::WouldBlock),
             Locks::None => Err(TryLockError::Error(io::Error::from(ErrorKind::Unsupported))),
+            Locks::Failed => Err(TryLockError::Error(io::Error::from(ErrorKind::Other))),
         }
     }
 

@@ -1,7 +1,7 @@
-//! How `create` and `show` end, over disks in memory and over files.
+//! How `create`, `show` and `rescue` end, over disks in memory and over files.
 use disk_model::{FuseDisk, FuseMode, MemoryDisk};
 use journal::CreateCause;
-use program_endings::{Ending, run_create, run_show};
+use program_endings::{Ending, read_rescued, run_create, run_rescue, run_show};
 use sheet_files::{FileDisk, FilesFault, MakeFault};
 use std::alloc::Global;
 use std::io::Write;
@@ -113,6 +113,42 @@ fn shows_on_a_bad<W: Write>(alloc: Global, output: &mut W) -> Option<bool> {
 fn show_tells_an_output_that_fails(rt: HostRuntime) {
     assert!(rt; shows_on_a_bad(rt.alloc(), &mut Full) == Some(true));
     assert!(rt; shows_on_a_bad(rt.alloc(), &mut Unflushed) == Some(true));
+}
+
+// Whether a rescue to an empty disk without room for what was kept ends so, and writes this on its errors alone.
+fn rescues_without_room(alloc: Global, status: u8, said: &[u8]) -> Option<bool> {
+    let mut output: Vec<u8> = Vec::new(alloc);
+    let mut errors: Vec<u8> = Vec::new(alloc);
+    let files: Result<MemoryDisk, FilesFault> = Ok(holding(alloc, SHEET)?);
+    let Ok(found) = read_rescued(alloc, files) else {
+        return None;
+    };
+    let new: Result<MemoryDisk, MakeFault> = Ok(MemoryDisk::new(alloc, 40));
+    let ended = run_rescue(alloc, &found, new, &mut output, &mut errors);
+    Some(ended == ending(status, true) && output.is_empty() && errors.as_slice() == said)
+}
+
+#[test]
+fn a_rescue_that_does_not_fit(rt: HostRuntime) {
+    assert!(rt; rescues_without_room(rt.alloc(), 1, b"fault 23 JournalFull\n") == Some(true));
+}
+
+// The same to a disk that fails.
+fn rescues_to_a_broken_disk(alloc: Global, status: u8, said: &[u8]) -> Option<bool> {
+    let mut output: Vec<u8> = Vec::new(alloc);
+    let mut errors: Vec<u8> = Vec::new(alloc);
+    let files: Result<MemoryDisk, FilesFault> = Ok(holding(alloc, SHEET)?);
+    let Ok(found) = read_rescued(alloc, files) else {
+        return None;
+    };
+    let broken = FuseDisk::new(MemoryDisk::new(alloc, 1_000), 1, FuseMode::From);
+    let ended = run_rescue(alloc, &found, Ok(broken), &mut output, &mut errors);
+    Some(ended == ending(status, true) && output.is_empty() && errors.as_slice() == said)
+}
+
+#[test]
+fn a_rescue_to_a_disk_that_fails(rt: HostRuntime) {
+    assert!(rt; rescues_to_a_broken_disk(rt.alloc(), 1, b"fault 32 Disk\n") == Some(true));
 }
 
 /// Whether `show` of the worksheet in these files ends so, and writes this on its output and its errors.
