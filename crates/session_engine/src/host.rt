@@ -1,5 +1,5 @@
 //! The host.
-ghost use Rattle.std.specs.Prelude.{◌≡◌, ◌↔◌, List, true, false, IfOk, IfErr, OnErr, IsErrOf, MatchResult, length, option_map};
+ghost use Rattle.std.specs.Prelude.{◌≡◌, ◌⊎◌, ◌↔◌, List, [], true, false, IfOk, IfErr, OnErr, OnOk, IsErrOf, MatchResult, length, option_map};
 ghost use Rattle.std.specs.Option.{option_copied};
 ghost use Rattle.disk_model.specs.Disk.{InModel, LeavesOnly, Looks, Rises, SameDisk, bytes_on};
 ghost use Rattle.worksheet.specs.declared.op.Op.{Op};
@@ -11,12 +11,13 @@ ghost use Rattle.plugin_core.specs.Items.{prompt_of};
 ghost use Rattle.session_engine.specs.World.{World, in_flight, life_of, world_at_opening, sheet_in, waiting_in};
 ghost use Rattle.session_engine.specs.Host.{EndsAt, HostGivesSheet, IsHost, Took, disk_of_opening, number_in};
 ghost use Rattle.session_engine.specs.Faults.{Failed};
+ghost use Rattle.session_engine.specs.Gathers.{GathersUnlessCheckpoint, IsFlushed, FlushesTo, is_checkpoint};
 
 use crate::engine::Engine;
 use crate::table::{place_of, waits};
 use disk_model::Disk;
 use host_events::{Command, Event, HostFault, Outcome};
-use journal::{OpenCause, OpenFault};
+use journal::{Group, OpenCause, OpenFault};
 use recovery::Store;
 use std::alloc::Global;
 use std::marker::Model;
@@ -71,6 +72,10 @@ impl<D: Disk> Host<D> {
             → host.store.sheet.contents ≡ sheet_of ops
             → IsHost host (world_at_opening ops (D.view disk).room host.store.end)) }
 
+        // Nothing is owed, and records are written at once.
+        ensures flushed { IfOk result (λ host. (host.store.owed ≡ []) × (host.store.gathers ≡ false)
+            × (host.store.real ≡ host.store.disk)) }
+
         // The worksheet is the one that the disk stands for, and one that stands for a worksheet is opened.
         ensures found { InModel (D.view disk) (IfOk result
             (λ host. IsSheetImage host.store.sheet.contents (bytes_on (D.view disk)))) }
@@ -123,6 +128,12 @@ impl<D: Disk> Host<D> {
         ensures closed { IsErrOf result HostFault.Closed ↔ (self.old.closed ≡ true) }
         ensures closes { OnErr result (self.new.closed ≡ true) }
         ensures still { self.old.closed ≡ true → self.new ≡ self.old }
+
+        // While records are owed an event leaves the disk as it stands alone, unless it is a checkpoint; and
+        // the disk can't fail then.
+        ensures gathers { GathersUnlessCheckpoint event self.old.store self.new.store }
+        ensures at_once { IsErrOf result HostFault.Disk → is_checkpoint event ≡ false
+            → self.old.store.gathers ≡ false }
     {
         if self.closed {
             return Err(HostFault::Closed);
@@ -216,9 +227,59 @@ impl<D: Disk> Host<D> {
         }
     }
 
-    /// Gives the disk back as it stands. Lives that go on are dropped.
+    /// From now on records are owed, in this group, which has none yet, until a checkpoint: an event that
+    /// gives an op makes no call on the disk. What is claimed of the disk is claimed of it as it is owed
+    /// (`store.disk`); as it stands it is `store.real`. Nothing may be told of an event, nor its effect be
+    /// carried out, before a `flush` behind it.
+    pub fn gather(&mut self, group: Group)
+        requires { group.payloads ≡ [] }
+        ensures goes_on { (w : World) → IsHost self.old w → IsHost self.new w }
+        ensures disk { self.new.store.disk ≡ self.old.store.disk }
+        ensures real { self.new.store.real ≡ self.old.store.real }
+        ensures closed { self.new.closed ≡ self.old.closed }
+        ensures gathers { self.old.store.closed ≡ false → self.new.store.gathers ≡ true }
+    {
+        self.engine.store.gather(group);
+    }
+
+    /// Makes durable what is owed, all of it behind one gate. It takes no memory. After `HostFault::Disk` the
+    /// host is closed, and its worksheet may be ahead of the disk: nothing may be told of what was owed.
+    ///
+    /// A host that was closed by another fault than the disk's still owes what came before it, and pays it.
+    pub fn flush(&mut self) -> Result<(), HostFault>
+        ensures same { SameDisk self.old.store.real self.new.store.real }
+        ensures goes_on { (w : World) → IsHost self.old w → OnOk result (IsHost self.new w) }
+        ensures flushed { OnOk result (IsFlushed self.new) }
+        ensures stays { OnOk result ((self.new.closed ≡ self.old.closed)
+            × (self.new.store.gathers ≡ self.old.store.gathers)) }
+        ensures sheet { self.new.store.sheet ≡ self.old.store.sheet }
+        ensures lives { self.new.lives ≡ self.old.lives }
+        ensures closed { IsErrOf result HostFault.Closed ↔ (self.old.store.closed ≡ true) }
+        ensures closes { OnErr result (self.new.closed ≡ true) }
+        ensures faulty { IsErrOf result HostFault.Disk
+            → Rises self.old.store.real.faults self.new.store.real.faults }
+        ensures other { IfErr result (λ fault. (fault ≡ HostFault.Closed) ⊎ (fault ≡ HostFault.Disk)) }
+        ensures still { self.old.store.closed ≡ true → self.new.store ≡ self.old.store }
+
+        // A crash at any moment of the call leaves the worksheet that the disk had before it, or this one.
+        ensures any_moment { FlushesTo self.old.store.sheet.contents self.old.store self.new.store }
+    {
+        if self.engine.store.is_closed() {
+            self.closed = true;
+            return Err(HostFault::Closed);
+        }
+        match self.engine.store.flush() {
+            Ok(()) => Ok(()),
+            Err(_) => {
+                self.closed = true;
+                Err(HostFault::Disk)
+            }
+        }
+    }
+
+    /// Gives the disk back as it stands: what is owed to it is not there. Lives that go on are dropped.
     pub fn close(self) -> D
-        ensures { D.view result ≡ self.store.disk }
+        ensures { D.view result ≡ self.store.real }
     {
         let Host { engine, closed: _ } = self;
         engine.store.into_disk()

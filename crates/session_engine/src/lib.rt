@@ -16,4 +16,4 @@ mod table;
 mod take;
 
 pub use host::{Host, LifeView};
-pub use play::PlayFault;
+pub use play::{PlayFault, GroupFault};

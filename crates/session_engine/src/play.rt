@@ -3,11 +3,15 @@ ghost use Rattle.std.specs.Prelude.{◌≡◌, ◌≤◌, ◌<◌, ◌+◌, ◌+
 ghost use Rattle.disk_model.specs.Disk.{SameDisk};
 ghost use Rattle.session_engine.specs.World.{World};
 ghost use Rattle.session_engine.specs.Host.{IsHost};
+ghost use Rattle.recovery.specs.Sheets.{GathersOn};
+ghost use Rattle.session_engine.specs.Gathers.{NoCheckpoints, OnlyAtOnce};
+ghost use Rattle.session_engine.specs.Groups.{HaltsGroup, IsClosedAnswer, TookGroup};
 ghost use Rattle.session_engine.specs.Crash.{Halts, HasPlayed, Moments, PlaysClosed, TookEach};
 
 use crate::Host;
 use disk_model::Disk;
 use host_events::{Event, HostFault, Outcome};
+use journal::Group;
 
 /// Why not all events were taken.
 #[derive(Drop)]
@@ -19,6 +23,21 @@ pub enum PlayFault {
         outcomes: Vec<Outcome>,
         fault: HostFault,
     },
+}
+
+/// Why not all events of a group were taken, or none is told.
+#[derive(Drop)]
+pub enum GroupFault {
+    /// There is no memory for the outcomes. No event was taken, and here they are.
+    NoRoom(Vec<Event>),
+    /// A fault that isn't the disk's, after these outcomes of the first events, which are durable. The
+    /// events behind the fault are dropped.
+    Stopped {
+        outcomes: Vec<Outcome>,
+        fault: HostFault,
+    },
+    /// The disk failed: nothing may be told of any of the events.
+    FailedGroup,
 }
 
 impl<D: Disk> Host<D> {
@@ -42,6 +61,11 @@ impl<D: Disk> Host<D> {
             → IfErr result (Halts w events.items self.old self.new) }
         ensures closed { self.old.closed ≡ true → PlaysClosed events.items result }
         ensures still { self.old.closed ≡ true → self.new ≡ self.old }
+
+        // While records are owed, events that ask for no checkpoint leave the disk as it stands alone, and the
+        // disk can't fail.
+        ensures gathers { NoCheckpoints events.items → GathersOn self.old.store self.new.store }
+        ensures at_once { NoCheckpoints events.items → IfErr result (OnlyAtOnce self.old.store) }
     {
         let mut outcomes = Vec::new(self.engine.alloc);
         if outcomes.reserve_exact(events.len()).is_err() {
@@ -54,6 +78,45 @@ impl<D: Disk> Host<D> {
             }
         }
         Ok(outcomes)
+    }
+
+    /// Takes events in order as `play` does, none of which is a checkpoint, and makes all that they give
+    /// durable behind one gate, with what was owed before. From then on the host gathers.
+    ///
+    /// At every moment each image of the disk as it stands is one of the worksheet that it had before the
+    /// call, or of that behind all events that were taken.
+    pub fn play_group(&mut self, events: Vec<Event>) -> Result<Vec<Outcome>, GroupFault>
+        requires { NoCheckpoints events.items }
+        ensures same { SameDisk self.old.store.real self.new.store.real }
+        ensures took { (w : World) → IsHost self.old w
+            → IfOk result (λ outcomes. TookGroup w events.items outcomes.items self.old self.new) }
+        ensures halts { (w : World) → IsHost self.old w
+            → IfErr result (HaltsGroup w events.items self.old self.new) }
+        ensures closed { self.old.closed ≡ true → IsClosedAnswer result }
+        ensures still { self.old.closed ≡ true → self.new ≡ self.old }
+    {
+        if self.closed {
+            return Err(GroupFault::Stopped {
+                outcomes: Vec::new(self.engine.alloc),
+                fault: HostFault::Closed,
+            });
+        }
+        let group = match Group::new(self.engine.alloc) {
+            Ok(group) => group,
+            Err(_) => return Err(GroupFault::NoRoom(events)),
+        };
+        self.gather(group);
+        match self.play(events) {
+            Ok(outcomes) => match self.flush() {
+                Ok(()) => Ok(outcomes),
+                Err(_) => Err(GroupFault::Disk),
+            },
+            Err(PlayFault::NoRoom(events)) => Err(GroupFault::NoRoom(events)),
+            Err(PlayFault::Stopped { outcomes, fault }) => match self.flush() {
+                Ok(()) => Err(GroupFault::Stopped { outcomes, fault }),
+                Err(_) => Err(GroupFault::Disk),
+            },
+        }
     }
 }
 

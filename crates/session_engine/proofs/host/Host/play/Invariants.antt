@@ -4,6 +4,8 @@ use Rattle.disk_model.specs.Disk.{SameDisk}
 use Rattle.session_engine.specs.World.{World}
 use Rattle.session_engine.specs.Host.{IsHost}
 use Rattle.session_engine.specs.Crash.{Moments}
+use Rattle.session_engine.specs.Gathers.{NoCheckpoints}
+use Rattle.recovery.specs.Sheets.{GathersOn}
 use Rattle.session_engine.proofs.Playing.{PlayedEach}
 use Rattle.session_engine.proofs.host.Host.play.Given as goal
 
@@ -16,5 +18,6 @@ invariant-loop-event g l = record {
   moments : (w : World) → IsHost l.fn.self w → Moments w l.fn.events.items l.outcomes.items l.fn.self.store.disk l.self.store.disk;
   -- a closed host takes no event
   still : l.fn.self.closed ≡ true → l.self ≡ l.fn.self;
+  gathers : NoCheckpoints l.fn.events.items → GathersOn l.fn.self.store l.self.store × NoCheckpoints (into_iter_items l.event-iterator);
   none : l.fn.self.closed ≡ true → (into_iter_items l.event-iterator ≡ l.fn.events.items) × (l.outcomes.items ≡ []);
 }
