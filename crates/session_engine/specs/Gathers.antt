@@ -1,4 +1,4 @@
--- What an event leaves of the disk as it stands while records are owed. (docs/HOST.md, "Many events behind one gate".)
+-- What an event leaves of the disk as it stands while records are owed. (docs/HOST.md, "Many events, one gate".)
 use Rattle.std.specs.Prelude.{◌≡◌, Bool, List, [], true, false}
 use Rattle.std.specs.List.{AllByRecursion}
 use Rattle.disk_model.specs.Disk.{InModel, Leaves, LeavesOnly}
@@ -12,7 +12,7 @@ use Rattle.host_events.specs.declared.command.Command.TheVariants as command
 use Rattle.host_events.specs.declared.event.Event.{Event}
 use Rattle.host_events.specs.declared.event.Event.TheVariants as event
 
--- the event asks for the journal to be written anew
+-- the event asks for a checkpoint
 abbrev pub is_checkpoint : Event → Bool
 is_checkpoint (event.Command command.Checkpoint) = true
 is_checkpoint _ = false
@@ -21,7 +21,7 @@ is_checkpoint _ = false
 abbrev pub GathersUnlessCheckpoint : Event → StoreView → StoreView → Type 0
 GathersUnlessCheckpoint e old new = is_checkpoint e ≡ false → GathersOn old new
 
--- none of them asks for it
+-- none of them asks for one
 abbrev pub NoCheckpoints : List Event → Type 0
 NoCheckpoints events = AllByRecursion (λ e. is_checkpoint e ≡ false) events
 

@@ -1,4 +1,4 @@
--- What a play of events together promises: all that they give is durable at once, or nothing of it is. (docs/HOST.md, "Many events behind one gate".)
+-- What a play of a group promises: all that its events give is durable at once, or nothing of it is. (docs/HOST.md, "Many events, one gate".)
 use Rattle.std.specs.Prelude.{◌≡◌, ℕ, List, [], ◌∷◌, true, option_map, Result, Ok, Err}
 use Rattle.std.specs.declared.vec.Vec.{Vec}
 use Rattle.disk_model.specs.Disk.{Rises}
@@ -12,22 +12,21 @@ use Rattle.session_engine.specs.World.{World, life_of, sheet_in}
 use Rattle.session_engine.specs.Host.{HostView, IsHost, number_in}
 use Rattle.session_engine.specs.Faults.{Failed}
 use Rattle.session_engine.specs.Crash.{HasPlayed}
-use Rattle.session_engine.specs.Gathers.{IsFlushed, FlushesTo}
+use Rattle.session_engine.specs.Gathers.{FlushesTo, IsFlushed}
 
--- All events were taken, and what they give is durable: each image at every moment is one of the worksheet from before, or of that
--- behind all of them.
+-- All events were taken, and what they give is durable: each image at every moment is one of the worksheet from before, or of
+-- that after all of them.
 pub record TookGroup (w : World) (events : List Event) (told : List Outcome) (old new : HostView) : Type 0 where
   pub played : HasPlayed w events [] told new
   pub flushed : IsFlushed new
-  pub gathers : new.store.gathers ≡ true
   pub moments : FlushesTo (sheet_in played.leads) old.store new.store
 
--- Events were taken that told these outcomes, which are durable, and the one behind them had this fault, which isn't the disk's.
--- The others are dropped, and the host is closed.
+-- Events were taken with these outcomes, which are durable, and the one after them had this fault, which isn't the disk's. The
+-- later events are dropped, and the host is closed.
 pub record StoppedGroup (w : World) (events : List Event) (old new : HostView) (told : List Outcome) (fault : HostFault) : Type 0 where
   pub at : Event
   pub dropped : List Event
-  -- the host before that event and behind it
+  -- the host before that event, and after it
   pub before : HostView
   pub after : HostView
   pub played : HasPlayed w events (at ∷ dropped) told before
@@ -39,7 +38,7 @@ pub record StoppedGroup (w : World) (events : List Event) (old new : HostView) (
   pub flushed : IsFlushed new
   pub moments : FlushesTo (sheet_in played.leads) old.store new.store
 
--- The disk failed: the worksheet of the disk is the one from before, or that behind these events, of which nothing is told.
+-- The disk failed: its worksheet is the one from before, or that after these events, of which nothing is reported.
 pub record FailedGroup (w : World) (events : List Event) (old new : HostView) : Type 0 where
   pub rest : List Event
   pub untold : List Outcome
@@ -49,15 +48,22 @@ pub record FailedGroup (w : World) (events : List Event) (old new : HostView) : 
   pub broke : Rises old.store.real.faults new.store.real.faults
   pub moments : FlushesTo (sheet_in played.leads) old.store new.store
 
--- Why not all events were taken, or none is told.
+-- There was no memory. No event was taken; what was owed before the call may have been flushed.
+pub record NoGroup (w : World) (events back : List Event) (old new : HostView) : Type 0 where
+  pub same : back ≡ events
+  pub stands : IsHost new w
+  pub untouched : old.store.owed ≡ [] → new.store.real ≡ old.store.real
+  pub moments : FlushesTo (sheet_in w) old.store new.store
+
+-- Why not all events were taken, or none is reported.
 abbrev pub HaltsGroup : World → List Event → HostView → HostView → GroupFault → Type 0
-HaltsGroup w events old new (halt.NoRoom back) = (back.items ≡ events) × IsHost new w × (new.store.real ≡ old.store.real)
+HaltsGroup w events old new (halt.NoRoom back) = NoGroup w events back.items old new
 HaltsGroup w events old new (halt.Stopped outcomes fault) = StoppedGroup w events old new outcomes.items fault
 HaltsGroup w events old new halt.Disk = FailedGroup w events old new
 
--- a closed host takes no event
-abbrev pub IsClosedAnswer : {E : Type 0} → Result (Vec Outcome E) GroupFault → Type 0
-IsClosedAnswer (Ok outcomes) = ⊥
-IsClosedAnswer (Err (halt.NoRoom back)) = ⊥
-IsClosedAnswer (Err (halt.Stopped outcomes fault)) = (outcomes.items ≡ []) × (fault ≡ faults.Closed)
-IsClosedAnswer (Err halt.Disk) = ⊥
+-- On a closed host no event is taken.
+abbrev pub PlaysGroupClosed : {E : Type 0} → Result (Vec Outcome E) GroupFault → Type 0
+PlaysGroupClosed (Ok outcomes) = ⊥
+PlaysGroupClosed (Err (halt.NoRoom back)) = ⊥
+PlaysGroupClosed (Err (halt.Stopped outcomes fault)) = (outcomes.items ≡ []) × (fault ≡ faults.Closed)
+PlaysGroupClosed (Err halt.Disk) = ⊥

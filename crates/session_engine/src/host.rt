@@ -1,5 +1,5 @@
 //! The host.
-ghost use Rattle.std.specs.Prelude.{◌≡◌, ◌⊎◌, ◌↔◌, List, [], true, false, IfOk, IfErr, OnErr, OnOk, IsErrOf, MatchResult, length, option_map};
+ghost use Rattle.std.specs.Prelude.{◌≡◌, ◌↔◌, List, true, false, IfOk, IfErr, OnErr, IsErrOf, MatchResult, length, option_map};
 ghost use Rattle.std.specs.Option.{option_copied};
 ghost use Rattle.disk_model.specs.Disk.{InModel, LeavesOnly, Looks, Rises, SameDisk, bytes_on};
 ghost use Rattle.worksheet.specs.declared.op.Op.{Op};
@@ -11,14 +11,11 @@ ghost use Rattle.plugin_core.specs.Items.{prompt_of};
 ghost use Rattle.session_engine.specs.World.{World, in_flight, life_of, world_at_opening, sheet_in, waiting_in};
 ghost use Rattle.session_engine.specs.Host.{EndsAt, HostGivesSheet, IsHost, Took, disk_of_opening, number_in};
 ghost use Rattle.session_engine.specs.Faults.{Failed};
-ghost use Rattle.session_engine.specs.Gathers.{GathersUnlessCheckpoint, IsFlushed, FlushesTo, is_checkpoint};
 
-use crate::engine::Engine;
-use crate::table::{place_of, waits};
+use crate::buffered::BufferedHost;
 use disk_model::Disk;
 use host_events::{Command, Event, HostFault, Outcome};
-use journal::{Group, OpenCause, OpenFault};
-use recovery::Store;
+use journal::{OpenCause, OpenFault};
 use std::alloc::Global;
 use std::marker::Model;
 use worksheet::{Name, Sheet};
@@ -34,8 +31,8 @@ use worksheet::{Name, Sheet};
 /// and its disk is to be opened again.
 #[derive(Drop)]
 pub struct Host<D: Disk> {
-    pub(crate) engine: Engine<D>,
-    pub(crate) closed: bool,
+    // Between two calls it gathers no records.
+    pub(crate) inner: BufferedHost<D>,
 }
 
 impl<D: Disk> Model for Host<D> {
@@ -48,11 +45,10 @@ impl<D: Disk> Model for Host<D> {
     ghost coded = { Prim.hlevel (codes, coded_store) };
 
     ghost use Rattle.std.specs.Prelude.{◌≡◌, false};
-    ghost use Rattle.session_engine.specs.inside.Engines.{view_of, Works};
 
-    ghost view = { λ h. view_of h.engine h.closed };
+    ghost view = { λ h. h.inner };
 
-    ghost invariant = { λ h. h.closed ≡ false → Works h.engine };
+    ghost invariant = { λ h. h.inner.store.gathers ≡ false };
 }
 
 impl<D: Disk> Host<D> {
@@ -71,10 +67,6 @@ impl<D: Disk> Host<D> {
         ensures stands { IfOk result (λ host. (ops : List Op) → Allowed ops
             → host.store.sheet.contents ≡ sheet_of ops
             → IsHost host (world_at_opening ops (D.view disk).room host.store.end)) }
-
-        // Nothing is owed, and records are written at once.
-        ensures flushed { IfOk result (λ host. (host.store.owed ≡ []) × (host.store.gathers ≡ false)
-            × (host.store.real ≡ host.store.disk)) }
 
         // The worksheet is the one that the disk stands for, and one that stands for a worksheet is opened.
         ensures found { InModel (D.view disk) (IfOk result
@@ -97,21 +89,10 @@ impl<D: Disk> Host<D> {
         ensures looks { InModel (D.view disk)
             (Looks (D.view disk).history (disk_of_opening D.view result).history) }
     {
-        let store = match Store::open(alloc, disk) {
-            Ok(store) => store,
-            Err(fault) => return Err(fault),
-        };
-        // Its clause says that the worksheet is one that ops make.
-        let _sheet = store.sheet();
-        Ok(Host {
-            engine: Engine {
-                alloc,
-                store,
-                lives: Vec::new(alloc),
-                begun: 0,
-            },
-            closed: false,
-        })
+        match BufferedHost::open(alloc, disk) {
+            Ok(inner) => Ok(Host { inner }),
+            Err(fault) => Err(fault),
+        }
     }
 
     /// Takes one event. What it does is described in docs/HOST.md, "What an event does", and which
@@ -128,21 +109,8 @@ impl<D: Disk> Host<D> {
         ensures closed { IsErrOf result HostFault.Closed ↔ (self.old.closed ≡ true) }
         ensures closes { OnErr result (self.new.closed ≡ true) }
         ensures still { self.old.closed ≡ true → self.new ≡ self.old }
-
-        // While records are owed an event leaves the disk as it stands alone, unless it is a checkpoint; and
-        // the disk can't fail then.
-        ensures gathers { GathersUnlessCheckpoint event self.old.store self.new.store }
-        ensures at_once { IsErrOf result HostFault.Disk → is_checkpoint event ≡ false
-            → self.old.store.gathers ≡ false }
     {
-        if self.closed {
-            return Err(HostFault::Closed);
-        }
-        let outcome = self.engine.take(event);
-        if outcome.is_err() {
-            self.closed = true;
-        }
-        outcome
+        self.inner.step(event)
     }
 
     /// Rewrites the journal into the area that isn't active, with the ops that make the same worksheet
@@ -179,8 +147,11 @@ impl<D: Disk> Host<D> {
 
         // A host that isn't closed stands for some world.
         ensures works { self.now.closed ≡ false → (w : World) × IsHost self.now w }
+
+        // Nothing is owed to its disk: what is said of that is said of the disk as it stands.
+        ensures written { (self.now.store.owed ≡ []) × (self.now.store.real ≡ self.now.store.disk) }
     {
-        self.engine.store.sheet()
+        self.inner.sheet()
     }
 
     /// The life of a session, where one goes on. After a fault its number is that from before the event,
@@ -191,16 +162,7 @@ impl<D: Disk> Host<D> {
             → result ≡ option_map
             (λ l. record { number = l.number; waiting = length (waiting_in l) }) (life_of w name) }
     {
-        match place_of(&self.engine.lives, name) {
-            Some(place) => {
-                let running = &self.engine.lives[place];
-                Some(LifeView {
-                    number: running.life.number(),
-                    waiting: running.life.waiting(),
-                })
-            }
-            None => None,
-        }
+        self.inner.life(name)
     }
 
     /// Whether the line of the field with this number waits for an answer, be it sent or not. After a
@@ -208,7 +170,7 @@ impl<D: Disk> Host<D> {
     pub fn is_waiting(&self, id: u32) -> bool
         ensures { (w : World) → IsHost self.now w → result ≡ in_flight w id }
     {
-        waits(&self.engine.lives, id)
+        self.inner.is_waiting(id)
     }
 
     /// The prompt that a line of this session would have if it were asked now, where a life of it goes
@@ -218,71 +180,24 @@ impl<D: Disk> Host<D> {
         ensures prompt { (w : World) → IsHost self.now w
             → option_copied result ≡ option_map (λ l. prompt_of l.past l.blocks) (life_of w name) }
     {
-        match place_of(&self.engine.lives, name) {
-            Some(place) => {
-                let running = &self.engine.lives[place];
-                Some(running.life.prompt())
-            }
-            None => None,
-        }
+        self.inner.prompt(name)
     }
 
-    /// From now on records are owed, in this group, which has none yet, until a checkpoint: an event that
-    /// gives an op makes no call on the disk. What is claimed of the disk is claimed of it as it is owed
-    /// (`store.disk`); as it stands it is `store.real`. Nothing may be told of an event, nor its effect be
-    /// carried out, before a `flush` behind it.
-    pub fn gather(&mut self, group: Group)
-        requires { group.payloads ≡ [] }
-        ensures goes_on { (w : World) → IsHost self.old w → IsHost self.new w }
-        ensures disk { self.new.store.disk ≡ self.old.store.disk }
-        ensures real { self.new.store.real ≡ self.old.store.real }
-        ensures closed { self.new.closed ≡ self.old.closed }
-        ensures gathers { self.old.store.closed ≡ false → self.new.store.gathers ≡ true }
+    /// The same host, as one that may hold records back.
+    pub fn buffered(self) -> BufferedHost<D>
+        ensures host { result ≡ self }
+        ensures written { result.store.gathers ≡ false }
     {
-        self.engine.store.gather(group);
+        let Host { inner } = self;
+        inner
     }
 
-    /// Makes durable what is owed, all of it behind one gate. It takes no memory. After `HostFault::Disk` the
-    /// host is closed, and its worksheet may be ahead of the disk: nothing may be told of what was owed.
-    ///
-    /// A host that was closed by another fault than the disk's still owes what came before it, and pays it.
-    pub fn flush(&mut self) -> Result<(), HostFault>
-        ensures same { SameDisk self.old.store.real self.new.store.real }
-        ensures goes_on { (w : World) → IsHost self.old w → OnOk result (IsHost self.new w) }
-        ensures flushed { OnOk result (IsFlushed self.new) }
-        ensures stays { OnOk result ((self.new.closed ≡ self.old.closed)
-            × (self.new.store.gathers ≡ self.old.store.gathers)) }
-        ensures sheet { self.new.store.sheet ≡ self.old.store.sheet }
-        ensures lives { self.new.lives ≡ self.old.lives }
-        ensures closed { IsErrOf result HostFault.Closed ↔ (self.old.store.closed ≡ true) }
-        ensures closes { OnErr result (self.new.closed ≡ true) }
-        ensures faulty { IsErrOf result HostFault.Disk
-            → Rises self.old.store.real.faults self.new.store.real.faults }
-        ensures other { IfErr result (λ fault. (fault ≡ HostFault.Closed) ⊎ (fault ≡ HostFault.Disk)) }
-        ensures still { self.old.store.closed ≡ true → self.new.store ≡ self.old.store }
-
-        // A crash at any moment of the call leaves the worksheet that the disk had before it, or this one.
-        ensures any_moment { FlushesTo self.old.store.sheet.contents self.old.store self.new.store }
-    {
-        if self.engine.store.is_closed() {
-            self.closed = true;
-            return Err(HostFault::Closed);
-        }
-        match self.engine.store.flush() {
-            Ok(()) => Ok(()),
-            Err(_) => {
-                self.closed = true;
-                Err(HostFault::Disk)
-            }
-        }
-    }
-
-    /// Gives the disk back as it stands: what is owed to it is not there. Lives that go on are dropped.
+    /// Gives the disk back as it stands. Lives that go on are dropped.
     pub fn close(self) -> D
-        ensures { D.view result ≡ self.store.real }
+        ensures { D.view result ≡ self.store.disk }
     {
-        let Host { engine, closed: _ } = self;
-        engine.store.into_disk()
+        let Host { inner } = self;
+        inner.close()
     }
 }
 

@@ -28,6 +28,7 @@ impl<D: Disk> Engine<D> {
         ensures gathers { GathersUnlessCheckpoint event self.old.store self.new.store }
         ensures at_once { IsErrOf result HostFault.Disk → is_checkpoint event ≡ false
             → self.old.store.gathers ≡ false }
+        ensures written { self.old.store.gathers ≡ false → self.new.store.gathers ≡ false }
         ensures took { (w : World) → StandsAt self.old w
             → IfOk result (TookAt w event self.old self.new) }
         ensures failed { (w : World) → StandsAt self.old w
@@ -45,6 +46,7 @@ impl<D: Disk> Engine<D> {
         ensures gathers { GathersUnlessCheckpoint (event_of.Command command) self.old.store self.new.store }
         ensures at_once { IsErrOf result HostFault.Disk → is_checkpoint (event_of.Command command) ≡ false
             → self.old.store.gathers ≡ false }
+        ensures written { self.old.store.gathers ≡ false → self.new.store.gathers ≡ false }
         ensures took { (w : World) → StandsAt self.old w
             → IfOk result (TookAt w (event_of.Command command) self.old self.new) }
         ensures failed { (w : World) → StandsAt self.old w

@@ -5,7 +5,7 @@ use Rattle.session_engine.specs.declared.play.PlayFault.{PlayFault}
 use Rattle.session_engine.specs.Crash.{Halts}
 use Rattle.session_engine.specs.Gathers.{OnlyAtOnce}
 use Rattle.session_engine.proofs.Gathering.{broke_by, stopped_group, took_group, failed_group}
-use Rattle.session_engine.proofs.host.Host.play_group.Goals as goal
+use Rattle.session_engine.proofs.buffered.BufferedHost.play_group.Goals as goal
 
 pub returns-in-Ok-flush-clause-took : goal.returns-in-Ok-flush-clause-took
 returns-in-Ok-flush-clause-took g c = λ w h.
