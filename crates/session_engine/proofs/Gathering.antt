@@ -1,5 +1,6 @@
 -- What is reported and written of events while records are owed.
-use Rattle.std.proofs.Common.{◌≡◌, ◌⊎◌, inl, ⊎_elim, Bool, true, false, refl, sym, ap, ◌∙◌, subst, IsTrue, List, [], Result, Err}
+use Rattle.std.proofs.Common.{◌≡◌, ◌⊎◌, inl, ⊎_elim, Bool, true, false, refl, sym, ap, ◌∙◌, subst, IsTrue, List, [], ◌∷◌, ◌||◌, Result, Err}
+use Rattle.std.specs.List.{list_any}
 use Rattle.disk_model.specs.Disk.{DiskView, Leaves, LeavesOnly, Rises, SameDisk}
 use Rattle.disk_model.specs.inside.Moments.{started}
 use Rattle.worksheet.specs.Contents.{Contents, SheetView}
@@ -13,8 +14,16 @@ use Rattle.session_engine.specs.World.{World, sheet_in}
 use Rattle.session_engine.specs.Host.{HostView, IsHost, number_in}
 use Rattle.session_engine.specs.Crash.{HasPlayed, StoppedAt}
 use Rattle.session_engine.specs.Does.{Runs}
-use Rattle.session_engine.specs.Gathers.{IsFlushed, FlushesTo}
+use Rattle.session_engine.specs.Gathers.{FlushesTo, IsFlushed, NoCheckpoints, is_checkpoint}
 use Rattle.session_engine.specs.Groups.{FailedGroup, NoGroup, StoppedGroup, TookGroup}
+
+neither : (a b : Bool) → (a || b) ≡ false → (a ≡ false) × (b ≡ false)
+neither true b is = absurd (let no : true ≡ false = is in cc)
+neither false b is = (refl, is)
+
+pub none_of : (events : List Event) → list_any is_checkpoint events ≡ false → NoCheckpoints events
+none_of [] is = tt
+none_of (e ∷ events) is = let parts = neither (is_checkpoint e) (list_any is_checkpoint events) is in (parts.0, none_of events parts.1)
 
 pub gathers_self : (s : StoreView) → GathersOn s s
 gathers_self s = record { gathers = refl; real = λ owed. refl; closed = λ owed. refl }

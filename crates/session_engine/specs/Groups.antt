@@ -1,5 +1,6 @@
 -- What a play of a group promises: all that its events give is durable at once, or nothing of it is. (docs/HOST.md, "Many events, one gate".)
 use Rattle.std.specs.Prelude.{◌≡◌, ℕ, List, [], ◌∷◌, true, option_map, Result, Ok, Err}
+use Rattle.std.specs.List.{list_any}
 use Rattle.std.specs.declared.vec.Vec.{Vec}
 use Rattle.disk_model.specs.Disk.{Rises}
 use Rattle.host_events.specs.declared.event.Event.{Event}
@@ -12,7 +13,7 @@ use Rattle.session_engine.specs.World.{World, life_of, sheet_in}
 use Rattle.session_engine.specs.Host.{HostView, IsHost, number_in}
 use Rattle.session_engine.specs.Faults.{Failed}
 use Rattle.session_engine.specs.Crash.{HasPlayed}
-use Rattle.session_engine.specs.Gathers.{FlushesTo, IsFlushed}
+use Rattle.session_engine.specs.Gathers.{FlushesTo, IsFlushed, is_checkpoint}
 
 -- All events were taken, and what they give is durable: each image at every moment is one of the worksheet from before, or of
 -- that after all of them.
@@ -57,6 +58,7 @@ pub record NoGroup (w : World) (events back : List Event) (old new : HostView) :
 
 -- Why not all events were taken, or none is reported.
 abbrev pub HaltsGroup : World → List Event → HostView → HostView → GroupFault → Type 0
+HaltsGroup w events old new (halt.Checkpoint back) = (list_any is_checkpoint events ≡ true) × (back.items ≡ events) × (new ≡ old)
 HaltsGroup w events old new (halt.NoRoom back) = NoGroup w events back.items old new
 HaltsGroup w events old new (halt.Stopped outcomes fault) = StoppedGroup w events old new outcomes.items fault
 HaltsGroup w events old new halt.Disk = FailedGroup w events old new
@@ -64,6 +66,7 @@ HaltsGroup w events old new halt.Disk = FailedGroup w events old new
 -- On a closed host no event is taken.
 abbrev pub PlaysGroupClosed : {E : Type 0} → Result (Vec Outcome E) GroupFault → Type 0
 PlaysGroupClosed (Ok outcomes) = ⊥
+PlaysGroupClosed (Err (halt.Checkpoint back)) = ⊥
 PlaysGroupClosed (Err (halt.NoRoom back)) = ⊥
 PlaysGroupClosed (Err (halt.Stopped outcomes fault)) = (outcomes.items ≡ []) × (fault ≡ faults.Closed)
 PlaysGroupClosed (Err halt.Disk) = ⊥

@@ -1,5 +1,5 @@
 //! The host.
-ghost use Rattle.std.specs.Prelude.{◌≡◌, ◌↔◌, List, true, false, IfOk, IfErr, OnErr, IsErrOf, MatchResult, length, option_map};
+ghost use Rattle.std.specs.Prelude.{◌≡◌, ◌↔◌, List, [], true, false, IfOk, IfErr, OnErr, IsErrOf, MatchResult, length, option_map};
 ghost use Rattle.std.specs.Option.{option_copied};
 ghost use Rattle.disk_model.specs.Disk.{InModel, LeavesOnly, Looks, Rises, SameDisk, bytes_on};
 ghost use Rattle.worksheet.specs.declared.op.Op.{Op};

@@ -1,16 +1,17 @@
 //! Events in order.
 ghost use Rattle.std.specs.Prelude.{◌≡◌, ◌≤◌, ◌<◌, ◌+◌, ◌++◌, ◌∷◌, [], false, true, List, IfOk, IfErr, vec_len, vec_capacity};
+ghost use Rattle.std.specs.List.{list_any};
 ghost use Rattle.disk_model.specs.Disk.{SameDisk};
 ghost use Rattle.session_engine.specs.World.{World};
 ghost use Rattle.session_engine.specs.Host.{IsHost};
 ghost use Rattle.session_engine.specs.Crash.{Halts, HasPlayed, Moments, PlaysClosed, TookEach};
 ghost use Rattle.recovery.specs.Sheets.{GathersOn};
-ghost use Rattle.session_engine.specs.Gathers.{NoCheckpoints, OnlyAtOnce};
+ghost use Rattle.session_engine.specs.Gathers.{NoCheckpoints, OnlyAtOnce, is_checkpoint};
 ghost use Rattle.session_engine.specs.Groups.{HaltsGroup, PlaysGroupClosed, TookGroup};
 
 use crate::{BufferedHost, Host};
 use disk_model::Disk;
-use host_events::{Event, HostFault, Outcome};
+use host_events::{Command, Event, HostFault, Outcome};
 use journal::Group;
 
 /// Why not all events were taken.
@@ -28,6 +29,8 @@ pub enum PlayFault {
 /// Why not all events of a group were taken, or none is reported.
 #[derive(Drop)]
 pub enum GroupFault {
+    /// One of the events is a checkpoint. None was taken, and here they are.
+    Checkpoint(Vec<Event>),
     /// There is no memory for the outcomes. No event was taken, and here they are.
     NoRoom(Vec<Event>),
     /// A fault that isn't the disk's, after these outcomes of the first events, which are durable. The
@@ -65,13 +68,12 @@ impl<D: Disk> Host<D> {
         self.inner.play(events)
     }
 
-    /// Takes events in order as `play` does, none of which is a checkpoint, and makes all that they give
-    /// durable at once: one gate commits it, so the disk is written once and synced twice.
+    /// Takes events in order as `play` does, none of which may be a checkpoint, and makes all that they give
+    /// durable at once: one gate commits it, by the calls of one record.
     ///
     /// At every moment each image of the disk is one of the worksheet before the call, or of the one after all
     /// events that were taken.
     pub fn play_group(&mut self, events: Vec<Event>) -> Result<Vec<Outcome>, GroupFault>
-        requires { NoCheckpoints events.items }
         ensures same { SameDisk self.old.store.real self.new.store.real }
         ensures took { (w : World) → IsHost self.old w
             → IfOk result (λ outcomes. TookGroup w events.items outcomes.items self.old self.new) }
@@ -120,10 +122,9 @@ impl<D: Disk> BufferedHost<D> {
         Ok(outcomes)
     }
 
-    /// Takes events in order, none of which is a checkpoint, and makes all that they give durable at once, with
-    /// what was owed before: one gate commits it. From then on records are written at once.
+    /// Takes events in order, none of which may be a checkpoint, and makes all that they give durable at once,
+    /// with what was owed before: one gate commits it. From then on records are written at once.
     pub fn play_group(&mut self, events: Vec<Event>) -> Result<Vec<Outcome>, GroupFault>
-        requires { NoCheckpoints events.items }
         ensures same { SameDisk self.old.store.real self.new.store.real }
         ensures took { (w : World) → IsHost self.old w
             → IfOk result (λ outcomes. TookGroup w events.items outcomes.items self.old self.new) }
@@ -138,6 +139,9 @@ impl<D: Disk> BufferedHost<D> {
                 outcomes: Vec::new(self.engine.alloc),
                 fault: HostFault::Closed,
             });
+        }
+        if has_checkpoint(&events) {
+            return Err(GroupFault::Checkpoint(events));
         }
         // Its clause says that the store isn't closed.
         let _sheet = self.sheet();
@@ -161,6 +165,18 @@ impl<D: Disk> BufferedHost<D> {
             },
         }
     }
+}
+
+fn asks_for_checkpoint(event: &Event) -> bool
+    ensures { result ≡ is_checkpoint event.now }
+{
+    matches!(event, Event::Command(Command::Checkpoint))
+}
+
+fn has_checkpoint(events: &[Event]) -> bool
+    ensures { result ≡ list_any is_checkpoint events.now }
+{
+    events.iter().any(asks_for_checkpoint)
 }
 
 fn add(outcomes: &mut Vec<Outcome>, outcome: Outcome)
