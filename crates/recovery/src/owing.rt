@@ -51,7 +51,10 @@ pub(crate) fn owe<D: Disk>(journal: Journal<D>, group: Group, frame: &Frame) -> 
 }
 
 /// Makes durable what is owed to a journal, and drops the group.
-pub(crate) fn write_group<D: Disk>(journal: Journal<D>, group: Group) -> (Base<D>, Result<(), DiskFault>)
+pub(crate) fn write_group<D: Disk>(
+    journal: Journal<D>,
+    group: Group,
+) -> (Base<D>, Result<(), DiskFault>)
     requires { MayOwe journal group.payloads }
 
     ensures same { SameDisk journal.disk (real_of D.view result.0) }

@@ -145,10 +145,24 @@ impl<D: Disk> BufferedHost<D> {
         }
         // Its clause says that the store isn't closed.
         let _sheet = self.sheet();
-        let group = match Group::new(self.engine.alloc) {
-            Ok(group) => group,
-            Err(_) => return Err(GroupFault::NoRoom(events)),
-        };
+        match Group::new(self.engine.alloc) {
+            Ok(group) => self.play_owed(group, events),
+            Err(_) => Err(GroupFault::NoRoom(events)),
+        }
+    }
+
+    // Takes events, in this group, and flushes it.
+    fn play_owed(&mut self, group: Group, events: Vec<Event>) -> Result<Vec<Outcome>, GroupFault>
+        requires group { group.payloads ≡ [] }
+        requires none { NoCheckpoints events.items }
+        requires open { self.old.store.closed ≡ false }
+        ensures same { SameDisk self.old.store.real self.new.store.real }
+        ensures took { (w : World) → IsHost self.old w
+            → IfOk result (λ outcomes. TookGroup w events.items outcomes.items self.old self.new) }
+        ensures halts { (w : World) → IsHost self.old w
+            → IfErr result (HaltsGroup w events.items self.old self.new) }
+        ensures written { self.new.store.gathers ≡ false }
+    {
         self.gather(group);
         match self.play(events) {
             Ok(outcomes) => match self.flush() {

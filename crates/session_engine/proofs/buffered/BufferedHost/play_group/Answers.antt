@@ -1,67 +1,9 @@
-use Rattle.std.proofs.Common.{◌≡◌, [], ◌∷◌, true, false, sym, subst, ◌∙◌}
-use Rattle.disk_model.specs.Disk.{DiskView, Rises, SameDisk}
-use Rattle.recovery.specs.Sheets.{GathersOn}
-use Rattle.session_engine.specs.declared.play.PlayFault.{PlayFault}
-use Rattle.session_engine.specs.Crash.{Halts}
-use Rattle.session_engine.specs.Gathers.{OnlyAtOnce}
-use Rattle.session_engine.proofs.Gathering.{broke_by, stopped_group, took_group, failed_group}
+use Rattle.std.proofs.Common.{rules}
+use Rattle.session_engine.proofs.Gathering.{none_of, no_group}
 use Rattle.session_engine.proofs.buffered.BufferedHost.play_group.Goals as goal
 
-pub returns-in-Ok-flush-clause-took : goal.returns-in-Ok-flush-clause-took
-returns-in-Ok-flush-clause-took g c = λ w h.
-    let old = c.args.self.now in
-    let first = c.gather.new.self in
-    let mid = c.play.new.self in
-    let host = c.gather.ensures.goes_on w h in
-    let gathers : first.store.gathers ≡ true = c.gather.ensures.gathers h.stands.still_open in
-    let on : GathersOn first.store mid.store = c.play.ensures.gathers c.requires in
-    let real : mid.store.real ≡ old.store.real = on.real gathers ∙ c.gather.ensures.real in
-    let same = subst (λ (d : DiskView). SameDisk d mid.store.disk) c.gather.ensures.disk c.play.ensures.same in
-    let p = c.in-Ok-play.ensures.played w host in
-    took_group w c.args.events.items old mid c.flush.new.self real same c.flush.ensures.any_moment c.in-Ok-play.outcomes.items p (c.in-Ok-flush.ensures.goes_on p.leads p.stands) c.in-Ok-flush.ensures.flushed
-    (c.in-Ok-flush.ensures.stays.1 ∙ on.gathers ∙ gathers)
+pub play_owed-requires-clause-none : goal.play_owed-requires-clause-none
+play_owed-requires-clause-none g c = none_of c.args.events.items (search rules)
 
-pub returns-in-Err-flush-clause-halts : goal.returns-in-Err-flush-clause-halts
-returns-in-Err-flush-clause-halts g c = λ w h.
-    let old = c.args.self.now in
-    let first = c.gather.new.self in
-    let mid = c.play.new.self in
-    let host = c.gather.ensures.goes_on w h in
-    let gathers : first.store.gathers ≡ true = c.gather.ensures.gathers h.stands.still_open in
-    let on : GathersOn first.store mid.store = c.play.ensures.gathers c.requires in
-    let real : mid.store.real ≡ old.store.real = on.real gathers ∙ c.gather.ensures.real in
-    let same = subst (λ (d : DiskView). SameDisk d mid.store.disk) c.gather.ensures.disk c.play.ensures.same in
-    let p = c.in-Ok-play.ensures.played w host in
-    failed_group w c.args.events.items old mid c.flush.new.self real same c.flush.ensures.any_moment [] c.in-Ok-play.outcomes.items mid p p.stands.stands.contents c.in-Err-flush.ensures.closes
-    (broke_by c.flush.result c.in-Err-flush.field-0 mid.store.closed (Rises mid.store.real.faults c.flush.new.self.store.real.faults) c.in-Err-flush.is c.in-Err-flush.ensures.other p.stands.stands.still_open c.flush.ensures.closed.0 c.flush.ensures.faulty)
-
-pub returns-in-Ok-flush-2-clause-halts : goal.returns-in-Ok-flush-2-clause-halts
-returns-in-Ok-flush-2-clause-halts g c = λ w h.
-    let old = c.args.self.now in
-    let first = c.gather.new.self in
-    let mid = c.play.new.self in
-    let host = c.gather.ensures.goes_on w h in
-    let gathers : first.store.gathers ≡ true = c.gather.ensures.gathers h.stands.still_open in
-    let on : GathersOn first.store mid.store = c.play.ensures.gathers c.requires in
-    let real : mid.store.real ≡ old.store.real = on.real gathers ∙ c.gather.ensures.real in
-    let same = subst (λ (d : DiskView). SameDisk d mid.store.disk) c.gather.ensures.disk c.play.ensures.same in
-    let s = subst (λ (x : PlayFault). Halts w c.args.events.items first mid x) c.in-Err-Stopped.field-0-is (c.in-Err-Stopped.ensures.halts w host) in
-    let at_once = subst (λ (x : PlayFault). OnlyAtOnce first.store x) c.in-Err-Stopped.field-0-is (c.in-Err-Stopped.ensures.at_once c.requires) in
-    let done = c.in-Ok-flush-2.ensures in
-    stopped_group w c.args.events.items old mid c.flush-in-Err-Stopped.new.self real same c.flush-in-Err-Stopped.ensures.any_moment c.in-Err-Stopped.outcomes.items c.in-Err-Stopped.fault first s
-    (λ disk. let bad : true ≡ false = sym gathers ∙ at_once disk in cc) done.sheet done.lives done.stays.0 done.flushed
-
-pub returns-in-Err-flush-2-clause-halts : goal.returns-in-Err-flush-2-clause-halts
-returns-in-Err-flush-2-clause-halts g c = λ w h.
-    let old = c.args.self.now in
-    let first = c.gather.new.self in
-    let mid = c.play.new.self in
-    let host = c.gather.ensures.goes_on w h in
-    let gathers : first.store.gathers ≡ true = c.gather.ensures.gathers h.stands.still_open in
-    let on : GathersOn first.store mid.store = c.play.ensures.gathers c.requires in
-    let real : mid.store.real ≡ old.store.real = on.real gathers ∙ c.gather.ensures.real in
-    let same = subst (λ (d : DiskView). SameDisk d mid.store.disk) c.gather.ensures.disk c.play.ensures.same in
-    let s = subst (λ (x : PlayFault). Halts w c.args.events.items first mid x) c.in-Err-Stopped.field-0-is (c.in-Err-Stopped.ensures.halts w host) in
-    let flush = c.flush-in-Err-Stopped in
-    failed_group w c.args.events.items old mid flush.new.self real same flush.ensures.any_moment (s.at ∷ s.dropped) c.in-Err-Stopped.outcomes.items s.before s.played s.failed.contents c.in-Err-flush-2.ensures.closes
-    (broke_by flush.result c.in-Err-flush-2.field-0 mid.store.closed (Rises mid.store.real.faults flush.new.self.store.real.faults) c.in-Err-flush-2.is c.in-Err-flush-2.ensures.other (on.closed gathers ∙ host.stands.still_open) flush.ensures.closed.0 flush.ensures.faulty)
+pub returns-in-Err-clause-halts : goal.returns-in-Err-clause-halts
+returns-in-Err-clause-halts g c = λ w h. no_group w c.args.events.items c.args.self.now h
