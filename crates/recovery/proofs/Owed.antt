@@ -1,24 +1,23 @@
 -- What is owed to a journal, and written as a group.
 use Rattle.std.specs.Prelude.{OnErr, OnOk}
-use Rattle.std.proofs.Common.{◌≡◌, ◌⊎◌, true, false, Some, Result, Ok, Err, inl, inr, ⊎_elim, ℕ, ◌+◌, ◌≤◌, List, [], ◌∷◌, ◌++◌, length, refl, sym, ◌∙◌, ap, subst, arith, IsTrue, length-append, append-nil}
-use Rattle.disk_model.specs.Disk.{DiskView, History, Image, InModel, IsImage, Leaves, LeavesOnly, Rises, SameDisk, bytes_on}
+use Rattle.std.proofs.Common.{◌≡◌, ◌⊎◌, true, false, Some, Result, Ok, Err, inl, inr, ⊎_elim, ℕ, ◌+◌, List, [], ◌∷◌, ◌++◌, length, refl, sym, ◌∙◌, ap, subst, arith, IsTrue, length-append}
+use Rattle.disk_model.specs.Disk.{DiskView, History, InModel, IsImage, Leaves, LeavesOnly, Rises, SameDisk, bytes_on}
 use Rattle.disk_model.specs.declared.disk.DiskFault.{DiskFault}
-use Rattle.disk_model.specs.inside.Moments.{started, weakens}
+use Rattle.disk_model.specs.inside.Moments.{weakens}
 use Rattle.worksheet.specs.declared.op.Op.{Op}
 use Rattle.worksheet.specs.Contents.{Contents, SheetView}
 use Rattle.worksheet.specs.Ops.{sheet_of}
 use Rattle.journal.specs.Area.{ArePayloads, IsPayload, end_of, record_of, records}
-use Rattle.journal.specs.Kept.{BeforeOrAfter, BeforeOrAll, EitherStands, Fits, FitsAll, ImageStandsFor, JournalView, Keeps, active_of, other_of}
+use Rattle.journal.specs.Kept.{BeforeOrAfter, BeforeOrAll, EitherStands, Fits, ImageStandsFor, JournalView, Keeps, active_of, other_of}
 use Rattle.journal.specs.Limits.{longest_payload}
 use Rattle.journal.specs.Owed.{GroupView, owed_disk}
-use Rattle.journal.specs.inside.Standing.{keeps_images}
 use Rattle.journal.proofs.Bytes.{ArePayloads-push, records-push}
-use Rattle.journal.proofs.Owing.{owed_are, owed_keeps, owes_more, owes_moments, owes_other}
+use Rattle.journal.proofs.Owing.{owed_are, owes_more, owes_moments, owes_other}
 use Rattle.journal.proofs.Unique.{laid_out_once}
 use Rattle.recovery.specs.Sheets.{IsSheetImage, IsSheetOf, KeepsOps, Makes, codes_of}
 use Rattle.recovery.specs.declared.base.Base.{Base}
 use Rattle.recovery.specs.declared.base.Base.TheVariants.{Open, Gathering, Closed}
-use Rattle.recovery.specs.inside.Base.{AnewAnswers, IsBaseOf, MayOweIn, KeepsIn, KeepsSome, MayOwe, RealKeeps, disk_of, end_in, gathers, is_closed, owed_to, real_of, store_on}
+use Rattle.recovery.specs.inside.Base.{AnewAnswers, IsBaseOf, MayOweIn, KeepsIn, KeepsSome, MayOwe, RealKeeps, disk_of, end_in, is_closed, owed_to, real_of, store_on}
 use Rattle.recovery.proofs.Images.{all_images, same_sheet}
 use Rattle.recovery.proofs.Kept.{inside, outside}
 

@@ -3,7 +3,6 @@ ghost use Rattle.std.specs.Prelude.{◌≡◌, ◌+◌, ◌++◌, ◌∷◌, ◌
 ghost use Rattle.disk_model.specs.Disk.{InModel, LeavesOnly, SameDisk, Rises, bytes_on};
 ghost use Rattle.journal.specs.Area.{records};
 ghost use Rattle.journal.specs.Kept.{BeforeOrAfter, EitherStands, Fits, Keeps, other_of};
-ghost use Rattle.journal.specs.Limits.{longest_payload};
 ghost use Rattle.journal.specs.Owed.{owed_disk};
 ghost use Rattle.recovery.specs.inside.Base.{disk_of, end_in, gathers, is_closed, owed_to, real_of, MayOweIn, KeepsIn, MayOwe};
 

@@ -13,7 +13,6 @@ use Rattle.session_engine.specs.declared.table.Running.{Running}
 use Rattle.session_engine.specs.World.{World, sheet_in}
 use Rattle.session_engine.specs.Host.{HostView, IsHost, number_in}
 use Rattle.session_engine.specs.Crash.{HasPlayed, StoppedAt}
-use Rattle.session_engine.specs.Does.{Runs}
 use Rattle.session_engine.specs.Gathers.{FlushesTo, IsFlushed, NoCheckpoints, is_checkpoint}
 use Rattle.session_engine.specs.Groups.{FailedGroup, NoGroup, StoppedGroup, TookGroup}
 

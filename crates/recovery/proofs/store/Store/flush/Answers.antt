@@ -1,11 +1,11 @@
-use Rattle.std.proofs.Common.{◌≡◌, List, ℕ, Some, Option, false, true, sym, ap, subst, ◌∙◌, IsTrue, Result, Ok, Err}
-use Rattle.std.specs.Prelude.{OnOk, OnErr}
-use Rattle.disk_model.specs.Disk.{InModel, IsImage, Leaves, LeavesOnly, SameDisk, bytes_on}
+use Rattle.std.proofs.Common.{◌≡◌, List, Some, Option, false, sym, subst, ◌∙◌}
+use Rattle.std.specs.Prelude.{OnOk}
+use Rattle.disk_model.specs.Disk.{InModel, Leaves, LeavesOnly, SameDisk}
 use Rattle.worksheet.specs.Contents.{Contents}
 use Rattle.worksheet.specs.declared.op.Op.{Op}
-use Rattle.recovery.specs.Sheets.{IsSheetImage, IsSheetOf, IsStore, KeepsOps, StoreView, codes_of}
+use Rattle.recovery.specs.Sheets.{IsSheetImage, IsSheetOf, IsStore, KeepsOps, StoreView}
 use Rattle.recovery.specs.declared.base.Base.{Base}
-use Rattle.recovery.specs.inside.Base.{IsStoreOf, disk_in, disk_of, is_closed, is_closed_store, real_in, real_of, store_on}
+use Rattle.recovery.specs.inside.Base.{IsStoreOf, disk_in, disk_of, is_closed_store, real_in, real_of, store_on}
 use Rattle.recovery.proofs.Kept.{is_store}
 use Rattle.recovery.proofs.Owed.{flushed_base, flushed_disk, flushed_images, flushed_keeps, flushed_moments}
 use Rattle.recovery.proofs.store.Store.flush.Goals as goal

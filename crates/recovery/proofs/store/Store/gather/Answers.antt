@@ -1,7 +1,7 @@
-use Rattle.std.proofs.Common.{◌≡◌, List, ℕ, Some, Option, false, sym, ap, subst, ◌∙◌}
+use Rattle.std.proofs.Common.{◌≡◌, Some, Option, false, sym, ap, subst, ◌∙◌}
 use Rattle.recovery.specs.Sheets.{StoreView}
 use Rattle.recovery.specs.declared.base.Base.{Base}
-use Rattle.recovery.specs.inside.Base.{IsStoreOf, is_closed_store, owed_in, owed_to}
+use Rattle.recovery.specs.inside.Base.{IsStoreOf, is_closed_store, owed_in}
 use Rattle.recovery.proofs.Owed.{some_of, still_of}
 use Rattle.recovery.proofs.store.Store.gather.Goals as goal
 

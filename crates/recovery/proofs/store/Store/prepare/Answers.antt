@@ -1,12 +1,11 @@
 use Rattle.disk_model.specs.Disk.{DiskView}
-use Rattle.std.proofs.Common.{◌≡◌, ◌∙◌, ℕ, ◌+◌, ◌≤◌, arith, length, sym, subst, false, None, Option}
+use Rattle.std.proofs.Common.{◌≡◌, ◌∙◌, ℕ, arith, length, sym, subst, false, None}
 use Rattle.worksheet.specs.Contents.{Contents}
 use Rattle.worksheet.specs.Checks.{first_refusal}
 use Rattle.journal.specs.Kept.{Fits}
 use Rattle.recovery.specs.Code.{code_of}
 use Rattle.recovery.specs.Sheets.{IsStore, StoreView}
-use Rattle.recovery.specs.declared.base.Base.{Base}
-use Rattle.recovery.specs.inside.Base.{disk_in, disk_of, end_in, end_of_base, is_closed_store}
+use Rattle.recovery.specs.inside.Base.{disk_of, end_in}
 use Rattle.recovery.proofs.Allowed.{code_on}
 use Rattle.recovery.proofs.Images.{made_in, fits_uncapped}
 use Rattle.recovery.proofs.Kept.{is_store}

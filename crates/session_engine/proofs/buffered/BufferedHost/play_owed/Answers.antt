@@ -1,4 +1,4 @@
-use Rattle.std.proofs.Common.{◌≡◌, [], ◌∷◌, true, false, sym, subst, ◌∙◌, ap, refl, List, ℕ}
+use Rattle.std.proofs.Common.{◌≡◌, [], ◌∷◌, true, false, sym, subst, ◌∙◌, ap, refl}
 use Rattle.disk_model.specs.Disk.{DiskView, Rises, SameDisk}
 use Rattle.recovery.specs.Sheets.{GathersOn}
 use Rattle.session_engine.specs.declared.play.PlayFault.{PlayFault}
