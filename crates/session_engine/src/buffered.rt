@@ -245,13 +245,6 @@ impl<D: Disk> BufferedHost<D> {
         }
     }
 
-    /// Whether it is closed.
-    pub fn is_closed(&self) -> bool
-        ensures { result ≡ self.now.closed }
-    {
-        self.closed
-    }
-
     /// Gives the disk back as it stands: what is owed to it isn't there. Lives that go on are dropped.
     pub fn close(self) -> D
         ensures real { D.view result ≡ self.store.real }

@@ -188,8 +188,8 @@ impl<D: Disk> Host<D> {
         ensures host { result ≡ self }
         ensures written { result.store.gathers ≡ false }
     {
-        let Host { inner } = self;
-        inner
+        let Host { inner: host } = self;
+        host
     }
 
     /// Gives the disk back as it stands. Lives that go on are dropped.
