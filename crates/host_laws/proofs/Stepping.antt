@@ -11,15 +11,15 @@ use Rattle.session_engine.specs.World.{World, world_at_opening}
 use Rattle.session_engine.specs.Does.{Runs}
 use Rattle.session_engine.specs.Host.{HostView, IsHost}
 use Rattle.host_laws.specs.Turns.{CrashesAreTurns, Turned}
-use Rattle.host_laws.specs.Stepped.{Opened, StepMeets, Stepped, StepsLeavePrefixes, no_event, one_more}
+use Rattle.host_laws.specs.OneHost.{JustOpened, StepMeets, TookOneByOne, StepsLeavePrefixes, no_event, one_more}
 use Rattle.host_laws.proofs.Stepwise.{steps_are_turns}
 
-module _ (room : ℕ) (before : Image) (found : List Op) (opened : HostView) (begun : Opened room before found opened) where
+module _ (room : ℕ) (before : Image) (found : List Op) (opened : HostView) (begun : JustOpened room before found opened) where
   abbrev first : World
   first = world_at_opening found room opened.store.end
 
   -- the host stands for the world that the events lead to
-  stands_at : (events : List Event) (told : List Outcome) (old : HostView) → Stepped opened events told old → (w : World) × Runs first events told w × IsHost old w
+  stands_at : (events : List Event) (told : List Outcome) (old : HostView) → TookOneByOne opened events told old → (w : World) × Runs first events told w × IsHost old w
   stands_at events told old no_event = (first, refl, begun.stands)
   stands_at events told old (one_more {mid = mid} {e = e} {o = o} {events = es} {told = os} steps meets) =
       let at = stands_at es os mid steps in

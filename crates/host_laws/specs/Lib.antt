@@ -1,5 +1,5 @@
 pub mod Apart
 pub mod Turns
-pub mod Stepped
+pub mod OneHost
 pub mod Laws
 pub mod inside

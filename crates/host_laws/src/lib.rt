@@ -3,7 +3,7 @@
 #![tactic(auto)]
 
 ghost use Rattle.host_laws.specs.Apart.{OthersAreSilent, SessionsAreIndependent, SessionsSeeTheirOwn};
-ghost use Rattle.host_laws.specs.Stepped.{StepsLeavePrefixes};
+ghost use Rattle.host_laws.specs.OneHost.{StepsLeavePrefixes};
 ghost use Rattle.host_laws.specs.Turns.{EvaluatedAnew, HostsInTurn, PlaysAreTurns, StepsAreTurns};
 ghost use Rattle.host_laws.specs.Laws.{AnEventDoesOneThing, EachCommandHasAReply, EachEventHasAnOutcome, NothingIsShownInFlight, NothingOfAnEndedLife, NumbersAreGivenOnce, OutcomesLeadToOneWorld};
 
