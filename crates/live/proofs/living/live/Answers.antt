@@ -1,4 +1,4 @@
-use Rattle.std.proofs.Common.{refl, sym, subst}
+use Rattle.std.proofs.Common.{inl, refl, sym, subst}
 use Rattle.std.proofs.lemmas.Result.{on_ok_weaker}
 use Rattle.session_engine.specs.World.{world_at_opening}
 use Rattle.host_events.specs.declared.outcome.HostFault.TheVariants as hosts
@@ -13,8 +13,11 @@ use Rattle.live.specs.Live.{begin_at}
 use Rattle.live.proofs.Ends.{live_done, live_failed, live_failed_since, ended_open}
 use Rattle.live.proofs.living.live.Goals as goal
 
-pub returns-in-default-clause-same : goal.returns-in-default-clause-same
-returns-in-default-clause-same g c = same-at (g.D.Disk.view c.args.disk)
+pub returns-in_default-clause-same : goal.returns-in_default-clause-same
+returns-in_default-clause-same g c = same-at (g.D.Disk.view c.args.disk)
+
+pub returns-in_default-clause-fault : goal.returns-in_default-clause-fault
+returns-in_default-clause-fault g c = inl ((refl, refl), untouched (g.D.Disk.view c.args.disk))
 
 pub returns-clause-lived : goal.returns-clause-lived
 returns-clause-lived g c =
