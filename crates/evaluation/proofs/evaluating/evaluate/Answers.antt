@@ -50,9 +50,9 @@ returns-in-Err-ids_in-clause-fault g c =
     let o = c.in-Ok.ensures.opens in
     let disk = g.D.Disk.view c.args.disk in
     let start = world_at_opening o.0 disk.room c.in-Ok.host.store.end in
-    in_vain (setting g.T.Tells.voice g.S.Children.after g.S.Sources.clock g.S.Sources.wakes c.args.plan.now []) disk (g.D.Disk.view c.close-in-Err-ids_in.result) c.in-Ok.host.store.disk c.args.sources.now c.args.sources.now (g.W.Write.contents c.args.writer.now) (g.W.Write.contents c.args.writer.now) start
-    (((c.args.writer.now ≡ c.args.writer.now) × (c.args.sources.now ≡ c.args.sources.now)) × Untouched disk (g.D.Disk.view c.close-in-Err-ids_in.result)) c.in-Err-ids_in.why
-    ((refl, refl), subst (Untouched disk) (sym c.close-in-Err-ids_in.ensures) c.in-Ok.ensures.looks)
+    in_vain (setting g.T.Tells.voice g.S.Children.after g.S.Sources.clock g.S.Sources.wakes c.args.plan.now []) disk (g.D.Disk.view c.close.result) c.in-Ok.host.store.disk c.args.sources.now c.args.sources.now (g.W.Write.contents c.args.writer.now) (g.W.Write.contents c.args.writer.now) start
+    (((c.args.writer.now ≡ c.args.writer.now) × (c.args.sources.now ≡ c.args.sources.now)) × Untouched disk (g.D.Disk.view c.close.result)) c.in-Err-ids_in.why
+    ((refl, refl), subst (Untouched disk) (sym c.close.ensures) c.in-Ok.ensures.looks)
     (opened_on disk c.in-Ok.host o.0 o.1 c.in-Ok.ensures.found c.in-Ok.ensures.ends c.in-Ok.ensures.looks) (c.in-Err-ids_in.ensures.fault start o.1)
 
 pub returns-in-Err-ids_in-clause-unopened : goal.returns-in-Err-ids_in-clause-unopened
@@ -107,7 +107,7 @@ returns-in-Ok-done-clause-same g c =
     subst (SameDisk disk) (sym c.close-disk.ensures) (same-on disk c.in-Ok.host.store.disk c.evaluate_and_stop-done.new.host.store.disk c.in-Ok.ensures.same c.evaluate_and_stop-done.ensures.same)
 
 pub returns-in-Err-ids_in-clause-same : goal.returns-in-Err-ids_in-clause-same
-returns-in-Err-ids_in-clause-same g c = subst (SameDisk (g.D.Disk.view c.args.disk)) (sym c.close-in-Err-ids_in.ensures) c.in-Ok.ensures.same
+returns-in-Err-ids_in-clause-same g c = subst (SameDisk (g.D.Disk.view c.args.disk)) (sym c.close.ensures) c.in-Ok.ensures.same
 
 pub returns-clause-same : goal.returns-clause-same
 returns-clause-same g c =
