@@ -1,9 +1,8 @@
 //! Which program runs for which words, over all that is outside.
 ghost use Rattle.std.specs.Prelude.{◌≡◌, ◌≢◌, [], List, Err, false, map, option_map, string_bytes, true};
-ghost use Rattle.command_words.specs.Asked.{check_view, eval_view, task_view};
+ghost use Rattle.command_words.specs.Asked.{eval_view, task_view};
 ghost use Rattle.command_words.specs.Asked as asked;
-ghost use Rattle.host_cli.specs.Tasks.{AcceptsAs, BringsOut, ChecksAs, ChecksBy, ChecksWithin, DoesAsked, DoesBlocks, DoesCheck, DoesCreate, DoesEval, DoesExport, DoesLive, DoesRescue, DoesRun, DoesShow, DoesTask, EndsBy, EvaluatesAs, ExportsAs, LeavesAlone, Performs, RescuesFrom, RescuesTo, outer, voice_by};
-ghost use Rattle.host_cli.specs.Plans.{limit_asked};
+ghost use Rattle.host_cli.specs.Tasks.{BringsOut, DoesAsked, DoesBlocks, DoesCreate, DoesEval, DoesExport, DoesLive, DoesRescue, DoesRun, DoesShow, DoesTask, EndsBy, EvaluatesAs, ExportsAs, LeavesAlone, Performs, RescuesFrom, RescuesTo, outer, voice_by};
 ghost use Rattle.program_endings.specs.Ending.{TellsFault};
 ghost use Rattle.offline_programs.specs.declared.fault.RunFault.TheVariants as fault;
 ghost use Rattle.recovery.specs.Sheets.{Makes};
@@ -11,18 +10,18 @@ ghost use Rattle.tellings.specs.Json.{in_json};
 ghost use Rattle.tellings.specs.Words.{in_words};
 ghost use Rattle.worksheet.specs.declared.op.Op.{Op};
 
+use crate::checks::check_at;
 use crate::outlet::Outlet;
 use crate::outside::{Outside, System};
-use crate::plans::{read_limit, read_plan};
-use crate::refusing::{refuse_check_limit, refuse_format, refuse_plan, refuse_request};
+use crate::plans::read_plan;
+use crate::refusing::{refuse_format, refuse_plan};
 use crate::{refuse_unread_words, refuse_words};
-use check_report::{Format as Report, Request, read_request};
-use command_words::{CheckWords, EvalWords, Task, read_words};
+use command_words::{EvalWords, Task, read_words};
 use evaluation::Plan;
 use offline_programs::RunFault;
 use program_endings::{
-    Ending, end_program, end_unheld, read_rescued, run_accept, run_blocks, run_check, run_create,
-    run_evaluation, run_export, run_live, run_rescue, run_script, run_show, run_strictly,
+    Ending, end_program, end_unheld, read_rescued, run_blocks, run_create, run_evaluation,
+    run_export, run_live, run_rescue, run_script, run_show, run_strictly,
 };
 use recovery::Rescued;
 use sheet_export::{Format, format_named, last_part};
@@ -72,119 +71,6 @@ fn show_at<Y: System>(alloc: Global, outside: &mut Outside<Y>, path: &str) -> En
             &mut outside.errors,
         ),
         Err(why) => end_unheld(why, &mut outside.errors),
-    }
-}
-
-/// `check` of the worksheet at a path.
-fn check_as<Y: System>(
-    alloc: Global,
-    outside: &mut Outside<Y>,
-    request: &Request,
-    path: &str,
-) -> Ending
-    ensures does { ChecksAs (outer Y.Places.Places Y.Disk.Disk Y.Disk.closed Y.Sources.after
-        Y.Sources.clock Y.Sources.wakes Y.Input.Read Y.Output.Write Y.Output.brought Y.Errors.Write) outside.old outside.new result path.now request.now }
-    ensures leaves { outside.new.input ≡ outside.old.input }
-{
-    match outside.places.hold() {
-        Ok(()) => run_check(
-            alloc,
-            request,
-            outside.places.open_to_read(path),
-            &mut outside.sources,
-            &mut outside.progress,
-            &mut outside.output,
-            &mut outside.errors,
-        ),
-        Err(why) => end_unheld(why, &mut outside.errors),
-    }
-}
-
-/// `check --accept` of the worksheet at a path.
-fn accept_as<Y: System>(
-    alloc: Global,
-    outside: &mut Outside<Y>,
-    request: &Request,
-    path: &str,
-) -> Ending
-    ensures does { AcceptsAs (outer Y.Places.Places Y.Disk.Disk Y.Disk.closed Y.Sources.after
-        Y.Sources.clock Y.Sources.wakes Y.Input.Read Y.Output.Write Y.Output.brought Y.Errors.Write) outside.old outside.new result path.now request.now }
-    ensures leaves { outside.new.input ≡ outside.old.input }
-{
-    match outside.places.hold() {
-        Ok(()) => {
-            let files = outside.places.open(path);
-            run_accept(
-                alloc,
-                request,
-                files,
-                &mut outside.sources,
-                &mut outside.progress,
-                &mut outside.output,
-                &mut outside.errors,
-            )
-        }
-        Err(why) => end_unheld(why, &mut outside.errors),
-    }
-}
-
-/// `check` of the worksheet at a path, with answers that are accepted or without.
-fn check_by<Y: System>(
-    alloc: Global,
-    outside: &mut Outside<Y>,
-    request: &Request,
-    path: &str,
-) -> Ending
-    ensures does { ChecksBy (outer Y.Places.Places Y.Disk.Disk Y.Disk.closed Y.Sources.after
-        Y.Sources.clock Y.Sources.wakes Y.Input.Read Y.Output.Write Y.Output.brought Y.Errors.Write) outside.old outside.new result path.now request.now }
-    ensures leaves { outside.new.input ≡ outside.old.input }
-{
-    match request.format {
-        Report::Accepting => accept_as(alloc, outside, request, path),
-        Report::Text | Report::Tap | Report::Junit => check_as(alloc, outside, request, path),
-    }
-}
-
-/// `check` of the worksheet at a path, as these words ask for it, within this limit of time, where there is
-/// one.
-fn check_within<Y: System>(
-    alloc: Global,
-    outside: &mut Outside<Y>,
-    path: &str,
-    words: CheckWords<'_>,
-    limit: Option<u32>,
-) -> Ending
-    ensures does { ChecksWithin (outer Y.Places.Places Y.Disk.Disk Y.Disk.closed Y.Sources.after
-        Y.Sources.clock Y.Sources.wakes Y.Input.Read Y.Output.Write Y.Output.brought Y.Errors.Write) outside.old outside.new result path.now (check_view words.entry) limit }
-    ensures leaves { outside.new.input ≡ outside.old.input }
-{
-    let CheckWords {
-        format,
-        only,
-        leave_out,
-        timeout: _,
-        accept,
-    } = words;
-    match read_request(alloc, format, only, leave_out, accept, limit) {
-        Ok(request) => check_by(alloc, outside, &request, path),
-        Err(why) => refuse_request(why, &mut outside.errors),
-    }
-}
-
-/// `check` of the worksheet at a path, as its words ask for it.
-fn check_at<Y: System>(
-    alloc: Global,
-    outside: &mut Outside<Y>,
-    path: &str,
-    words: CheckWords<'_>,
-) -> Ending
-    ensures does { DoesCheck (outer Y.Places.Places Y.Disk.Disk Y.Disk.closed Y.Sources.after
-        Y.Sources.clock Y.Sources.wakes Y.Input.Read Y.Output.Write Y.Output.brought Y.Errors.Write) outside.old outside.new result path.now (check_view words.entry) }
-    ensures leaves { outside.new.input ≡ outside.old.input }
-{
-    match read_limit(words.timeout) {
-        None => refuse_check_limit(&mut outside.errors),
-        Some(limit) => check_within(alloc, outside, path, words, limit),
     }
 }
 

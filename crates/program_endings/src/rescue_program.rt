@@ -1,5 +1,6 @@
 //! The program `rescue` over a worksheet's files, from its files on.
 ghost use Rattle.std.specs.Prelude.{◌≡◌, ◌≤◌, List, IfErr, IfOk, Result};
+ghost use Rattle.program_endings.specs.Programs.{TellsMake};
 ghost use Rattle.program_endings.specs.RescueProgram.{DiskIsRead, FilesAreRead, RescueDone, RescueEnds, TellsRescueFault, TellsRescued, rescue_status};
 ghost use Rattle.sheet_files.specs.Closing.{closable};
 ghost use Rattle.recovery.specs.Sheets.{Makes};
@@ -85,6 +86,30 @@ fn rescue_on<D: Disk, N: Close, W: Write, E: Write>(
     end_rescue(answer, errors)
 }
 
+/// Writes what was rescued to the files of its new worksheet, where they were made, and ends the program.
+fn rescue_to<D: Disk, N: Close, W: Write, E: Write>(
+    alloc: Global,
+    found: &Rescued<D>,
+    files: Result<N, MakeFault>,
+    output: &mut W,
+    errors: &mut E,
+) -> Ending
+    requires room { IfOk files (λ disk. 11 ≤ (N.view disk).room) }
+    requires made { (ops : List Op) × Makes ops found.now.sheet.contents }
+
+    ensures no_files { IfErr files (λ why. (output.new ≡ output.old) × (result.status ≡ 1)
+        × TellsMake E.contents errors.old errors.new result.told why) }
+
+    // What becomes of the disk, and what is said of it.
+    ensures files { IfOk files (λ disk. RescueDone (closable N.view N.closed) disk found.now
+        W.contents output.old output.new E.contents errors.old errors.new result) }
+{
+    match files {
+        Ok(disk) => rescue_on(alloc, found, disk, output, errors),
+        Err(why) => end_create(why, errors),
+    }
+}
+
 /// The end of the program `rescue` on the files of its new worksheet, or on why they weren't made: what
 /// was rescued is written there, how much it is goes to `output`, and the line of a fault to `errors`. Last of
 /// all the disk that it was rescued from is closed.
@@ -100,10 +125,7 @@ pub fn run_rescue<D: Close, N: Close, W: Write, E: Write>(
     ensures { RescueEnds D.closed (closable N.view N.closed) files found
         W.contents output.old output.new E.contents errors.old errors.new result }
 {
-    let ending = match files {
-        Ok(disk) => rescue_on(alloc, &found, disk, output, errors),
-        Err(why) => end_create(why, errors),
-    };
+    let ending = rescue_to(alloc, &found, files, output, errors);
     found.disk.close();
     ending
 }

@@ -18,4 +18,4 @@ returns g c =
       untouched = c.in-Err.ensures.untouched;
       faulty = λ is. c.in-Err.ensures.faulty (one_cause cause _ is);
     } in
-    (c.in-Err.disk, c.close.ensures, Some cause, made, c.end_create.ensures.0, c.end_create.ensures.1)
+    (c.in-Err.disk, c.close-in-Err.ensures, (Some cause, made, c.end_create.ensures.0, c.end_create.ensures.1))
