@@ -108,9 +108,9 @@ short-goes o p beats text t q = cut-goes o p (StepSoFar o) beats text t (λ r s 
 -- What is left.
 
 module _ {C : Type 0} (o : Setting C) (disk now : DiskView) (c d : C) (a b : Option (List ℕ)) (start : World) (h : HostView) (opened : OpenedFor o disk start now) (held : HoldsSheet start now) where
-  so-far-of : (Came : Setting C → EvalPlace C → List Beat → List ℕ → At C → Type 0) → ((beats : List Beat) (text : List ℕ) (t : At C) → Came (meaning o start) (stands (at start c now) not_begun) beats text t → Goes start now beats t.world t.disk)
-      → CameSoFar (Came (meaning o start) (stands (at start c now) not_begun)) (StoppedBehind o.after d) h a b → SoFarOf o disk c d a b Came
-  so-far-of Came goes t = record {
+  so-far-of : (back : DiskView) → back ≡ h.store.disk → (Came : Setting C → EvalPlace C → List Beat → List ℕ → At C → Type 0) → ((beats : List Beat) (text : List ℕ) (t : At C) → Came (meaning o start) (stands (at start c now) not_begun) beats text t → Goes start now beats t.world t.disk)
+      → CameSoFar (Came (meaning o start) (stands (at start c now) not_begun)) (StoppedBehind o.after d) h a b → SoFarOf o disk back c d a b Came
+  so-far-of back same Came goes t = record {
     start = start;
     now = now;
     opened = opened;
@@ -118,13 +118,14 @@ module _ {C : Type 0} (o : Setting C) (disk now : DiskView) (c d : C) (a b : Opt
     text = t.1;
     leads = t.2;
     came = t.3;
-    moments = goes_leaves start now t.0 t.2.world t.2.disk held (goes t.0 t.1 t.2 t.3);
+    back_is = same ∙ sym t.5;
+    moments = subst (LeavesFronts start t.0 now) (t.5 ∙ sym same) (goes_leaves start now t.0 t.2.world t.2.disk held (goes t.0 t.1 t.2 t.3));
     stops = t.6;
     wrote = t.7;
   }
 
-  led-of : SameDisk disk h.store.disk → CameUnwritten (meaning o start) (stands (at start c now) not_begun) (StoppedBehind o.after d) h → LedOf o disk c d
-  led-of same t = record {
+  led-of : (back : DiskView) → back ≡ h.store.disk → CameUnwritten (meaning o start) (stands (at start c now) not_begun) (StoppedBehind o.after d) h → LedOf o disk back c d
+  led-of back same t = record {
     start = start;
     now = now;
     opened = opened;
@@ -133,17 +134,17 @@ module _ {C : Type 0} (o : Setting C) (disk now : DiskView) (c d : C) (a b : Opt
     leads = t.2;
     led = t.3;
     host = h;
-    same = same;
+    back_is = same;
     moments = goes_anyhow start now t.0 t.2.world t.2.disk h held (cut-goes (meaning o start) (stands (at start c now) not_begun) (StepLed (meaning o start)) t.0 t.1 t.2 (λ r s l x. step-led-goes (meaning o start) r s l t.2 x) t.3) t.4;
     stops = t.5;
   }
 
-  pub evaluation_failed : (nothing : Type 0) (f : RunFault) → SameDisk disk h.store.disk → BrokeOff (meaning o start) (stands (at start c now) not_begun) (StoppedBehind o.after d) h a b f → TellsEvaluation o disk c d a b nothing f
-  evaluation_failed nothing fault.Input same t = so-far-of Unwatched (λ beats text x q. unwatched-goes (meaning o start) (stands (at start c now) not_begun) beats text x q) t
-  evaluation_failed nothing fault.InputTooLong same t = so-far-of TooMany (λ beats text x q. too-many-goes (meaning o start) (stands (at start c now) not_begun) beats text x q) t
-  evaluation_failed nothing (fault.Open why) same t = absurd t
-  evaluation_failed nothing fault.InUse same t = absurd t
-  evaluation_failed nothing (fault.Host f) same t = record {
+  pub evaluation_failed : (back : DiskView) → back ≡ h.store.disk → (nothing : Type 0) (f : RunFault) → BrokeOff (meaning o start) (stands (at start c now) not_begun) (StoppedBehind o.after d) h a b f → TellsEvaluation o disk back c d a b nothing f
+  evaluation_failed back same nothing fault.Input t = so-far-of back same Unwatched (λ beats text x q. unwatched-goes (meaning o start) (stands (at start c now) not_begun) beats text x q) t
+  evaluation_failed back same nothing fault.InputTooLong t = so-far-of back same TooMany (λ beats text x q. too-many-goes (meaning o start) (stands (at start c now) not_begun) beats text x q) t
+  evaluation_failed back same nothing (fault.Open why) t = absurd t
+  evaluation_failed back same nothing fault.InUse t = absurd t
+  evaluation_failed back same nothing (fault.Host f) t = record {
     start = start;
     now = now;
     opened = opened;
@@ -153,15 +154,15 @@ module _ {C : Type 0} (o : Setting C) (disk now : DiskView) (c d : C) (a b : Opt
     leads = t.3;
     cut = t.4;
     host = h;
-    same = same;
+    back_is = same;
     stopped = t.5;
     moments = goes_up_to start now t.0 t.3.world t.3.disk t.2 f h held (cut-goes (meaning o start) (stands (at start c now) not_begun) (StepUpTo (meaning o start) t.2) t.0 t.1 t.3 (λ r s l x. step-up-to-goes (meaning o start) t.2 r s l t.3 x) t.4) t.5;
     stops = t.6;
     wrote = t.7;
   }
-  evaluation_failed nothing fault.OutOfMemory same (inl t) = inr (inl (so-far-of Short (λ beats text x q. short-goes (meaning o start) (stands (at start c now) not_begun) beats text x q) t))
-  evaluation_failed nothing fault.OutOfMemory same (inr t) = inr (inr (t.0, inl (led-of same t.1)))
-  evaluation_failed nothing fault.Output same t = inl (led-of same t)
+  evaluation_failed back same nothing fault.OutOfMemory (inl t) = inr (inl (so-far-of back same Short (λ beats text x q. short-goes (meaning o start) (stands (at start c now) not_begun) beats text x q) t))
+  evaluation_failed back same nothing fault.OutOfMemory (inr t) = inr (inr (t.0, inl (led-of back same t.1)))
+  evaluation_failed back same nothing fault.Output t = inl (led-of back same t)
 
   module _ (stand : Stand) (t : ThroughAnd (meaning o start) (stands (at start c now) not_begun) (StoppedBehind o.after d) h a b stand) where
     pub evaluation_done : (e : Option (List ℕ)) (back : DiskView) (stopped : Option ℕ) (counts : Counts) → back ≡ h.store.disk → stopped ≡ stop_line o.plan.strict (sheet_in t.3.world).fields stand
@@ -190,8 +191,8 @@ module _ {C : Type 0} (o : Setting C) (disk now : DiskView) (c d : C) (a b : Opt
       moments = subst (LeavesFronts start t.1 now) (t.6 ∙ sym same) (goes_leaves start now t.1 t.3.world t.3.disk held (evaluated-goes (meaning o start) (stands (at start c now) not_begun) t.0 t.1 t.2 (stands t.3 stand) t.4));
     }
 
-    uncounted : Uncounted o disk c d
-    uncounted = record {
+    uncounted : (back : DiskView) → back ≡ h.store.disk → Uncounted o disk back c d
+    uncounted back same = record {
       start = start;
       now = now;
       opened = opened;
@@ -202,18 +203,19 @@ module _ {C : Type 0} (o : Setting C) (disk now : DiskView) (c d : C) (a b : Opt
       stopped = t.8.0;
       evaluated = t.4;
       ends = t.8.1;
-      moments = goes_leaves start now t.1 t.3.world t.3.disk held (evaluated-goes (meaning o start) (stands (at start c now) not_begun) t.0 t.1 t.2 (stands t.3 stand) t.4);
+      back_is = same ∙ sym t.6;
+      moments = subst (LeavesFronts start t.1 now) (t.6 ∙ sym same) (goes_leaves start now t.1 t.3.world t.3.disk held (evaluated-goes (meaning o start) (stands (at start c now) not_begun) t.0 t.1 t.2 (stands t.3 stand) t.4));
       stops = t.9;
     }
 
-    pub counts_untold : (e : Option (List ℕ)) (nothing : Type 0) (f : RunFault) → IsUntold o.voice f → TellsEvaluation o disk c d a e nothing f
-    counts_untold e nothing fault.Output why = inr uncounted
-    counts_untold e nothing fault.OutOfMemory why = inr (inr (why, inr uncounted))
-    counts_untold e nothing fault.Input why = absurd why
-    counts_untold e nothing fault.InputTooLong why = absurd why
-    counts_untold e nothing (fault.Open y) why = absurd why
-    counts_untold e nothing fault.InUse why = absurd why
-    counts_untold e nothing (fault.Host y) why = absurd why
+    pub counts_untold : (back : DiskView) → back ≡ h.store.disk → (e : Option (List ℕ)) (nothing : Type 0) (f : RunFault) → IsUntold o.voice f → TellsEvaluation o disk back c d a e nothing f
+    counts_untold back same e nothing fault.Output why = inr (uncounted back same)
+    counts_untold back same e nothing fault.OutOfMemory why = inr (inr (why, inr (uncounted back same)))
+    counts_untold back same e nothing fault.Input why = absurd why
+    counts_untold back same e nothing fault.InputTooLong why = absurd why
+    counts_untold back same e nothing (fault.Open y) why = absurd why
+    counts_untold back same e nothing fault.InUse why = absurd why
+    counts_untold back same e nothing (fault.Host y) why = absurd why
 
 -- A disk that failed at the end has failed since the beginning.
 pub evaluation_failed_since : {C : Type 0} (o : Setting C) (disk now : DiskView) (start : World) (c d : C) (h : HostView) (a b : Option (List ℕ)) (f : RunFault)

@@ -15,10 +15,10 @@ use Rattle.evaluation.specs.Steps.{Setting}
 use Rattle.evaluation.specs.Evaluation.{TellsEvalFault, TellsEvaluation}
 use Rattle.evaluation.specs.inside.Choosing.{AsksInVain}
 
-pub in_vain : {C : Type 0} (o : Setting C) (disk now : DiskView) (c d : C) (a b : Option (List ℕ)) (start : World) (nothing : Type 0) (why : EvalFault)
-    → nothing → OpenedOn disk start now → AsksInVain o.plan.which (sheet_in start).fields why → TellsEvalFault o disk c d a b nothing why
-in_vain o disk now c d a b start nothing (evals.NoField id) none opened is = (none, (start, now, opened, is))
-in_vain o disk now c d a b start nothing (evals.Run why) none opened is = subst (TellsEvaluation o disk c d a b nothing) (sym is) (inl none)
+pub in_vain : {C : Type 0} (o : Setting C) (disk back now : DiskView) (c d : C) (a b : Option (List ℕ)) (start : World) (nothing : Type 0) (why : EvalFault)
+    → nothing → OpenedOn disk start now → AsksInVain o.plan.which (sheet_in start).fields why → TellsEvalFault o disk back c d a b nothing why
+in_vain o disk back now c d a b start nothing (evals.NoField id) none opened is = (none, (start, now, opened, is))
+in_vain o disk back now c d a b start nothing (evals.Run why) none opened is = subst (TellsEvaluation o disk back c d a b nothing) (sym is) (inl none)
 
 abbrev run_or : RunFault → EvalFault → RunFault
 run_or other (evals.NoField id) = other

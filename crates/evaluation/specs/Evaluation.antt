@@ -1,7 +1,7 @@
 -- The evaluation of a worksheet's fields: what it leaves at its end, and what a fault of it leaves. (docs/SCRIPT.md, "Evaluating a worksheet".)
 use Rattle.std.specs.Prelude.{◌≡◌, ◌⊎◌, ℕ, false, true, List, ◌++◌, Option, Some, None, length}
 use Rattle.std.specs.Io.KnownBytes.{Appends}
-use Rattle.disk_model.specs.Disk.{DiskView, InModel, SameDisk, bytes_on}
+use Rattle.disk_model.specs.Disk.{DiskView, InModel, bytes_on}
 use Rattle.recovery.specs.Sheets.{TellsOfSheet}
 use Rattle.host_events.specs.declared.event.Event.{Event}
 use Rattle.host_events.specs.declared.outcome.HostFault.{HostFault}
@@ -61,9 +61,9 @@ pub record Counted {C : Type 0} (o : Setting C) (stopped : Option ℕ) (counts :
 abbrev pub EvaluationDone : {C : Type 0} → Setting C → DiskView → C → C → Option (List ℕ) → Option (List ℕ) → DiskView → Option ℕ → Counts → Type 0
 EvaluationDone o disk c d a b back stopped counts = RunOf o.after (Counted o stopped counts) disk c d a b back
 
--- At an event the host had this fault, which says how its disk was left. What was reported before is written, and each life that goes on
--- was stopped.
-pub record StoppedOf {C : Type 0} (o : Setting C) (disk : DiskView) (c d : C) (a b : Option (List ℕ)) (f : HostFault) : Type 0 where
+-- At an event the host had this fault, which says how its disk, which is given back, was left. What was reported before is written, and
+-- each life that goes on was stopped.
+pub record StoppedOf {C : Type 0} (o : Setting C) (disk back : DiskView) (c d : C) (a b : Option (List ℕ)) (f : HostFault) : Type 0 where
   pub start : World
   pub now : DiskView
   pub opened : OpenedFor o disk start now
@@ -73,14 +73,14 @@ pub record StoppedOf {C : Type 0} (o : Setting C) (disk : DiskView) (c d : C) (a
   pub leads : At C
   pub cut : Cut (meaning o start) (stands (at start c now) not_begun) (StepUpTo (meaning o start) failed) beats text leads
   pub host : HostView
-  pub same : SameDisk disk host.store.disk
+  pub back_is : back ≡ host.store.disk
   pub stopped : Stopped leads.disk host leads.world failed f
   pub moments : LeavesFrontsUpTo start beats failed f now host.store.disk
   pub stops : Stops o.after (running leads.world) leads.children d
   pub wrote : Appends a b text
 
 -- So far it came. What was reported is written, and each life that goes on was stopped.
-pub record SoFarOf {C : Type 0} (o : Setting C) (disk : DiskView) (c d : C) (a b : Option (List ℕ)) (Came : Setting C → EvalPlace C → List Beat → List ℕ → At C → Type 0) : Type 0 where
+pub record SoFarOf {C : Type 0} (o : Setting C) (disk back : DiskView) (c d : C) (a b : Option (List ℕ)) (Came : Setting C → EvalPlace C → List Beat → List ℕ → At C → Type 0) : Type 0 where
   pub start : World
   pub now : DiskView
   pub opened : OpenedFor o disk start now
@@ -88,12 +88,13 @@ pub record SoFarOf {C : Type 0} (o : Setting C) (disk : DiskView) (c d : C) (a b
   pub text : List ℕ
   pub leads : At C
   pub came : Came (meaning o start) (stands (at start c now) not_begun) beats text leads
-  pub moments : LeavesFronts start beats now leads.disk
+  pub back_is : back ≡ leads.disk
+  pub moments : LeavesFronts start beats now back
   pub stops : Stops o.after (running leads.world) leads.children d
   pub wrote : Appends a b text
 
 -- The writer failed. What came until then is on the disk as ever, and each life that goes on was stopped.
-pub record LedOf {C : Type 0} (o : Setting C) (disk : DiskView) (c d : C) : Type 0 where
+pub record LedOf {C : Type 0} (o : Setting C) (disk back : DiskView) (c d : C) : Type 0 where
   pub start : World
   pub now : DiskView
   pub opened : OpenedFor o disk start now
@@ -102,12 +103,12 @@ pub record LedOf {C : Type 0} (o : Setting C) (disk : DiskView) (c d : C) : Type
   pub leads : At C
   pub led : Cut (meaning o start) (stands (at start c now) not_begun) (StepLed (meaning o start)) beats text leads
   pub host : HostView
-  pub same : SameDisk disk host.store.disk
+  pub back_is : back ≡ host.store.disk
   pub moments : LeavesFrontsAnyhow start beats now host leads.world leads.disk
   pub stops : Stops o.after (running leads.world) leads.children d
 
 -- It came to its end, each life that goes on was stopped, and the counts couldn't be written.
-pub record Uncounted {C : Type 0} (o : Setting C) (disk : DiskView) (c d : C) : Type 0 where
+pub record Uncounted {C : Type 0} (o : Setting C) (disk back : DiskView) (c d : C) : Type 0 where
   pub start : World
   pub now : DiskView
   pub opened : OpenedFor o disk start now
@@ -118,29 +119,30 @@ pub record Uncounted {C : Type 0} (o : Setting C) (disk : DiskView) (c d : C) : 
   pub stopped : Option ℕ
   pub evaluated : StepsTaken (meaning o start) (stands (at start c now) not_begun) steps beats text leads
   pub ends : Ends (meaning o start) leads stopped
-  pub moments : LeavesFronts start beats now leads.run.disk
+  pub back_is : back ≡ leads.run.disk
+  pub moments : LeavesFronts start beats now back
   pub stops : Stops o.after (running leads.run.world) leads.run.children d
 
 -- memory was refused in a step
 abbrev pub Short : {C : Type 0} → Setting C → EvalPlace C → List Beat → List ℕ → At C → Type 0
 Short o p beats text t = Cut o p (StepSoFar o) beats text t
 
-abbrev pub Untold : {C : Type 0} → Setting C → DiskView → C → C → Type 0
-Untold o disk c d = LedOf o disk c d ⊎ Uncounted o disk c d
+abbrev pub Untold : {C : Type 0} → Setting C → DiskView → DiskView → C → C → Type 0
+Untold o disk back c d = LedOf o disk back c d ⊎ Uncounted o disk back c d
 
--- What a fault tells: where the disk wasn't opened nothing was done. A voice that takes memory may have none for a line: then it is as where
--- the writer failed.
-abbrev pub TellsEvaluation : {C : Type 0} → Setting C → DiskView → C → C → Option (List ℕ) → Option (List ℕ) → Type 0 → RunFault → Type 0
-TellsEvaluation o disk c d a b nothing fault.Input = SoFarOf o disk c d a b Unwatched
-TellsEvaluation o disk c d a b nothing fault.InputTooLong = SoFarOf o disk c d a b TooMany
-TellsEvaluation o disk c d a b nothing (fault.Open why) = nothing × InModel disk (TellsOfSheet (bytes_on disk) why)
-TellsEvaluation o disk c d a b nothing fault.InUse = ⊥
-TellsEvaluation o disk c d a b nothing (fault.Host f) = StoppedOf o disk c d a b f
-TellsEvaluation o disk c d a b nothing fault.OutOfMemory = nothing ⊎ (SoFarOf o disk c d a b Short ⊎ ((o.voice.takes_memory ≡ true) × Untold o disk c d))
-TellsEvaluation o disk c d a b nothing fault.Output = Untold o disk c d
+-- What a fault tells, with the disk that is given back: where the disk wasn't opened nothing was done. A voice that takes memory may have none
+-- for a line: then it is as where the writer failed.
+abbrev pub TellsEvaluation : {C : Type 0} → Setting C → DiskView → DiskView → C → C → Option (List ℕ) → Option (List ℕ) → Type 0 → RunFault → Type 0
+TellsEvaluation o disk back c d a b nothing fault.Input = SoFarOf o disk back c d a b Unwatched
+TellsEvaluation o disk back c d a b nothing fault.InputTooLong = SoFarOf o disk back c d a b TooMany
+TellsEvaluation o disk back c d a b nothing (fault.Open why) = nothing × InModel disk (TellsOfSheet (bytes_on disk) why)
+TellsEvaluation o disk back c d a b nothing fault.InUse = ⊥
+TellsEvaluation o disk back c d a b nothing (fault.Host f) = StoppedOf o disk back c d a b f
+TellsEvaluation o disk back c d a b nothing fault.OutOfMemory = nothing ⊎ (SoFarOf o disk back c d a b Short ⊎ ((o.voice.takes_memory ≡ true) × Untold o disk back c d))
+TellsEvaluation o disk back c d a b nothing fault.Output = Untold o disk back c d
 
 -- What a fault of it says where that may be a field that isn't there: then this is the first number that no field of the worksheet found
 -- on the disk has, and nothing was done.
-abbrev pub TellsEvalFault : {C : Type 0} → Setting C → DiskView → C → C → Option (List ℕ) → Option (List ℕ) → Type 0 → EvalFault → Type 0
-TellsEvalFault o disk c d a b nothing (evals.NoField id) = nothing × ((start : World) × (now : DiskView) × OpenedOn disk start now × (missing_in o.plan.which (sheet_in start).fields ≡ Some id))
-TellsEvalFault o disk c d a b nothing (evals.Run why) = TellsEvaluation o disk c d a b nothing why
+abbrev pub TellsEvalFault : {C : Type 0} → Setting C → DiskView → DiskView → C → C → Option (List ℕ) → Option (List ℕ) → Type 0 → EvalFault → Type 0
+TellsEvalFault o disk back c d a b nothing (evals.NoField id) = nothing × ((start : World) × (now : DiskView) × OpenedOn disk start now × (missing_in o.plan.which (sheet_in start).fields ≡ Some id))
+TellsEvalFault o disk back c d a b nothing (evals.Run why) = TellsEvaluation o disk back c d a b nothing why

@@ -1,12 +1,12 @@
 //! The evaluation of a worksheet's fields.
 ghost use Rattle.std.specs.Prelude.{◌≡◌, ◌<◌, ◌≤◌, ◌^◌, [], IfErr, IfOk, IsErrOf, length};
-ghost use Rattle.disk_model.specs.Disk.{SameDisk};
+ghost use Rattle.disk_model.specs.Disk.{Rises, SameDisk};
 ghost use Rattle.session_engine.specs.World.{World, sheet_in};
 ghost use Rattle.session_engine.specs.Host.{IsHost};
 ghost use Rattle.child_edge.specs.Faithful.{at};
 ghost use Rattle.child_edge.specs.Seats.{running};
 ghost use Rattle.child_edge.specs.Stops.{Stops};
-ghost use Rattle.offline_programs.specs.Faults.{FailedSince};
+ghost use Rattle.offline_programs.specs.Faults.{Untouched};
 ghost use Rattle.evaluation.specs.Meant as meant;
 ghost use Rattle.evaluation.specs.Steps.{setting, stands};
 ghost use Rattle.evaluation.specs.Evaluation.{EvaluationDone, TellsEvalFault, not_begun as begins};
@@ -25,6 +25,7 @@ use crate::stepping::step;
 use arrivals::Sources;
 use child_edge::stop_all;
 use disk_model::Disk;
+use journal::OpenFault;
 use live::Hold;
 use offline_programs::RunFault;
 use session_engine::Host;
@@ -33,16 +34,23 @@ use std::io::Write;
 use tellings::{Counts, Note, Tells};
 use worksheet::Sheet;
 
-/// An evaluation that had no fault.
-#[derive(Drop)]
-pub struct Evaluated<D: Disk> {
-    /// The disk, with what was reported.
-    pub disk: D,
+/// Where an evaluation came to its end.
+#[derive(Clone, Copy, Debug, PartialEq, Eq)]
+pub struct EvalEnd {
     /// The number of the line after which it stopped, where it did: 2N - 1 and 2N are those of the field
     /// that is the Nth of those to be evaluated.
     pub stopped_at: Option<u64>,
     /// What it came to.
     pub counts: Counts,
+}
+
+/// What an evaluation answers, and the disk that it was given.
+#[derive(Drop)]
+pub struct Evaluated<D: Disk> {
+    /// The disk, with what was reported.
+    pub disk: D,
+    /// Where it came to its end, or why it ended early.
+    pub answer: Result<EvalEnd, EvalFault>,
 }
 
 /// The place where nothing was asked yet.
@@ -190,26 +198,40 @@ pub fn evaluate<W: Write, D: Disk, S: Sources, T: Tells>(
     writer: &mut W,
     disk: D,
     sources: &mut S,
-) -> Result<Evaluated<D>, EvalFault>
-    ensures evaluated { IfOk result (λ done. EvaluationDone (setting T.voice S.after S.clock S.wakes plan.now [])
+) -> Evaluated<D>
+    ensures evaluated { IfOk result.answer (λ end. EvaluationDone (setting T.voice S.after S.clock S.wakes plan.now [])
         (D.view disk) sources.old sources.new (W.contents writer.old) (W.contents writer.new)
-        (D.view done.disk) done.stopped_at done.counts) }
-    ensures same { IfOk result (λ done. SameDisk (D.view disk) (D.view done.disk)) }
-    ensures fault { IfErr result (TellsEvalFault (setting T.voice S.after S.clock S.wakes plan.now [])
-        (D.view disk) sources.old sources.new (W.contents writer.old) (W.contents writer.new)
-        ((writer.new ≡ writer.old) × (sources.new ≡ sources.old))) }
+        (D.view result.disk) end.stopped_at end.counts) }
+    ensures same { SameDisk (D.view disk) (D.view result.disk) }
+    ensures fault { IfErr result.answer (TellsEvalFault (setting T.voice S.after S.clock S.wakes plan.now [])
+        (D.view disk) (D.view result.disk) sources.old sources.new
+        (W.contents writer.old) (W.contents writer.new)
+        (((writer.new ≡ writer.old) × (sources.new ≡ sources.old))
+        × Untouched (D.view disk) (D.view result.disk))) }
 
     // That the disk failed, at the opening or later, is reported only where it did.
-    ensures unopened { IsErrOf result (evals.Run (told.Open opens.Disk)) → FailedSince D.view disk }
-    ensures failed { IsErrOf result (evals.Run (told.Host hosts.Disk)) → FailedSince D.view disk }
+    ensures unopened { IsErrOf result.answer (evals.Run (told.Open opens.Disk))
+        → Rises (D.view disk).faults (D.view result.disk).faults }
+    ensures failed { IsErrOf result.answer (evals.Run (told.Host hosts.Disk))
+        → Rises (D.view disk).faults (D.view result.disk).faults }
 {
     let mut host = match Host::open(alloc, disk) {
         Ok(host) => host,
-        Err(fault) => return Err(EvalFault::Run(RunFault::Open(fault.cause))),
+        Err(OpenFault { cause, disk }) => {
+            return Evaluated {
+                disk,
+                answer: Err(EvalFault::Run(RunFault::Open(cause))),
+            };
+        }
     };
     let ids = match ids_in(alloc, plan, &host) {
         Ok(ids) => ids,
-        Err(why) => return Err(why),
+        Err(why) => {
+            return Evaluated {
+                disk: host.close(),
+                answer: Err(why),
+            };
+        }
     };
     let done = evaluate_and_stop(
         alloc,
@@ -226,17 +248,19 @@ pub fn evaluate<W: Write, D: Disk, S: Sources, T: Tells>(
             let counts = counts_in(plan, ids.len() as u64, &host, stand);
             let disk = host.close();
             match tells.note(Note::Counted(counts), writer) {
-                Ok(()) => Ok(Evaluated {
+                Ok(()) => Evaluated {
                     disk,
-                    stopped_at,
-                    counts,
-                }),
-                Err(fault) => Err(EvalFault::Run(fault)),
+                    answer: Ok(EvalEnd { stopped_at, counts }),
+                },
+                Err(fault) => Evaluated {
+                    disk,
+                    answer: Err(EvalFault::Run(fault)),
+                },
             }
         }
-        Err(fault) => {
-            host.close();
-            Err(EvalFault::Run(fault))
-        }
+        Err(fault) => Evaluated {
+            disk: host.close(),
+            answer: Err(EvalFault::Run(fault)),
+        },
     }
 }

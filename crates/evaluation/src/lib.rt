@@ -11,7 +11,7 @@ mod stepping;
 mod timing;
 mod within;
 
-pub use evaluating::{Evaluated, evaluate};
+pub use evaluating::{EvalEnd, Evaluated, evaluate};
 pub use fault::{EvalFault, eval_fault_text};
 pub use plan::{Plan, Which};
 pub use within::wait_within;

@@ -9,7 +9,6 @@ use Rattle.clap.specs.Words.{FailsBy, Text, fault_of, kind_of}
 use Rattle.clap.specs.declared.error.Error.{Error}
 use Rattle.clap.specs.declared.error.kind.ErrorKind.{ErrorKind}
 use Rattle.clap.specs.declared.error.kind.ErrorKind.TheVariants as kind
-use Rattle.disk_model.specs.Disk.{DiskView}
 use Rattle.disk_model.specs.declared.disk.Disk as disks
 use Rattle.child_edge.specs.Faithful.{Relation}
 use Rattle.check_report.specs.Requests.{Asks, AsksFor}
@@ -34,8 +33,7 @@ use Rattle.program_endings.specs.Ending.{BlocksAnswer, ProgramAnswer, TellsFault
 use Rattle.program_endings.specs.EvalProgram.{EvaluationEnded}
 use Rattle.program_endings.specs.ExportProgram.{ExportEnds}
 use Rattle.program_endings.specs.Faults.{no_files, no_place}
-use Rattle.program_endings.specs.Programs.{CreateAnswer, RunAnswer, ShowAnswer, TellsCreate, TellsMake, create_status}
-use Rattle.program_endings.specs.Programs as programs
+use Rattle.program_endings.specs.Programs.{CreateEnds, RunAnswer, ShowAnswer, TellsMake}
 use Rattle.program_endings.specs.LiveProgram.{LastTold, LiveAnswer}
 use Rattle.tellings.specs.Json.{in_json}
 use Rattle.tellings.specs.Voice.{Voice}
@@ -47,6 +45,7 @@ use Rattle.recovery.specs.declared.rescuing.Rescued.{Rescued}
 use Rattle.sheet_export.specs.Formats.{format_named, last_part}
 use Rattle.sheet_export.specs.declared.formats.Format.{Format}
 use Rattle.sheet_export.specs.declared.formats.Format.TheVariants as formats
+use Rattle.sheet_files.specs.Closing.{Closable, closable}
 use Rattle.sheet_files.specs.declared.files_fault.FilesFault.{FilesFault}
 use Rattle.sheet_files.specs.declared.files_fault.HoldFault.{HoldFault}
 use Rattle.sheet_files.specs.declared.files_fault.MakeFault.{MakeFault}
@@ -58,7 +57,7 @@ use Rattle.evaluation.specs.declared.plan.Plan.{Plan}
 -- How what is outside is seen, and what calls on it may lead to.
 pub record OutsideView (D P S I W E : Type 0) : Type 1 where
   pub places : places.Ghosts P D
-  pub view : D → DiskView
+  pub disks : Closable D
   pub after : Relation S
   pub clock : Clock S
   pub wakes : Watch S
@@ -67,8 +66,8 @@ pub record OutsideView (D P S I W E : Type 0) : Type 1 where
   pub brought : W → Bool → W → Type 0
   pub said : E → Option (List ℕ)
 
-abbrev pub outer : {D P S I W E : Type 0} → places.Ghosts P D → disks.Ghosts D → Relation S → Clock S → Watch S → read.Ghosts I → write.Ghosts W → (W → Bool → W → Type 0) → write.Ghosts E → OutsideView D P S I W E
-outer p d after clock wakes i w b e = record { places = p; view = d.view; after = after; clock = clock; wakes = wakes; stream = i.remaining; written = w.contents; brought = b; said = e.contents }
+abbrev pub outer : {D P S I W E : Type 0} → places.Ghosts P D → disks.Ghosts D → (D → Type 0) → Relation S → Clock S → Watch S → read.Ghosts I → write.Ghosts W → (W → Bool → W → Type 0) → write.Ghosts E → OutsideView D P S I W E
+outer p d closed after clock wakes i w b e = record { places = p; disks = closable d.view closed; after = after; clock = clock; wakes = wakes; stream = i.remaining; written = w.contents; brought = b; said = e.contents }
 
 abbrev pub voice_by : Bool → Voice
 voice_by true = in_json
@@ -117,26 +116,25 @@ module _ {Y D P S I W E Q : Type 0} (o : OutsideView D P S I W E) where
   DoesCreate old new ending path =
       HeldFirst old new (λ why. EndsWith old new ending (Err why)) (λ held. (files : Result D MakeFault) × o.places.creates held path files new.places
       × IfErr files (λ why. (ending.status ≡ 1) × TellsMake o.said old.errors new.errors ending.told why)
-      × IfOk files (λ disk. (later : D) × (answer : CreateAnswer) × programs.Creates (o.view disk) (o.view later) answer
-      × (ending.status ≡ create_status answer) × TellsCreate o.said old.errors new.errors ending.told answer))
+      × IfOk files (λ disk. CreateEnds o.disks disk o.said old.errors new.errors ending))
 
   -- `show` of what they open to read at a path
   abbrev pub DoesShow : Outside Y D P S I W E Q → Outside Y D P S I W E Q → Ending → Text → Type 0
   DoesShow old new ending path =
       HeldFirst old new (λ why. EndsWith old new ending (Err why)) (λ held. (files : Result D FilesFault) × o.places.reads held path files new.places
-      × ((answer : ProgramAnswer) × ShowAnswer o.view o.written files old.output new.output answer × EndsWith old new ending answer))
+      × ((answer : ProgramAnswer) × ShowAnswer o.disks o.written files old.output new.output answer × EndsWith old new ending answer))
 
   -- `check` of the same, as it is asked for
   abbrev pub ChecksAs : Outside Y D P S I W E Q → Outside Y D P S I W E Q → Ending → Text → Request → Type 0
   ChecksAs old new ending path request =
       HeldFirst old new (λ why. (new.sources ≡ old.sources) × EndsWith old new ending (Err why)) (λ held. (files : Result D FilesFault) × o.places.reads held path files new.places
-      × CheckEnds o.view (way o.after o.clock o.wakes request.limit) request.chosen request.format files old.sources new.sources o.written old.output new.output o.said old.errors new.errors ending)
+      × CheckEnds o.disks (way o.after o.clock o.wakes request.limit) request.chosen request.format files old.sources new.sources o.written old.output new.output o.said old.errors new.errors ending)
 
   -- `check --accept` of what they open to write
   abbrev pub AcceptsAs : Outside Y D P S I W E Q → Outside Y D P S I W E Q → Ending → Text → Request → Type 0
   AcceptsAs old new ending path request =
       HeldFirst old new (λ why. (new.sources ≡ old.sources) × EndsWith old new ending (Err why)) (λ held. (files : Result D FilesFault) × o.places.opens held path files new.places
-      × AcceptEnds o.view (way o.after o.clock o.wakes request.limit) request.chosen files old.sources new.sources o.written old.output new.output o.said old.errors new.errors ending)
+      × AcceptEnds o.disks (way o.after o.clock o.wakes request.limit) request.chosen files old.sources new.sources o.written old.output new.output o.said old.errors new.errors ending)
 
   -- the one or the other
   abbrev pub ChecksIn : Report → Outside Y D P S I W E Q → Outside Y D P S I W E Q → Ending → Text → Request → Type 0
@@ -180,10 +178,10 @@ module _ {Y D P S I W E Q : Type 0} (o : OutsideView D P S I W E) where
   -- `run` on a disk, strict or not
   abbrev pub RunsOn : Bool → Outside Y D P S I W E Q → Outside Y D P S I W E Q → Ending → D → Type 0
   RunsOn false old new ending disk = (answer : ProgramAnswer)
-      × RunAnswer o.view o.after (o.stream old.input) disk old.sources new.sources (o.written old.output) (o.written new.output) (Nothing old new) answer
+      × RunAnswer o.disks o.after (o.stream old.input) disk old.sources new.sources (o.written old.output) (o.written new.output) (Nothing old new) answer
       × (ending.status ≡ status_of answer) × TellsFault o.said old.errors new.errors ending.told answer
   RunsOn true old new ending disk =
-      StrictEnded o.view o.after (o.stream old.input) disk old.sources new.sources (o.written old.output) (o.written new.output) (Nothing old new) o.said old.errors new.errors ending
+      StrictEnded o.disks o.after (o.stream old.input) disk old.sources new.sources (o.written old.output) (o.written new.output) (Nothing old new) o.said old.errors new.errors ending
 
   -- `run` over what the places open at a path
   abbrev pub DoesRun : Bool → Outside Y D P S I W E Q → Outside Y D P S I W E Q → Ending → Text → Type 0
@@ -194,7 +192,7 @@ module _ {Y D P S I W E Q : Type 0} (o : OutsideView D P S I W E) where
   -- `eval` on a disk, printed in a voice
   abbrev pub EvaluatesOn : Voice → Plan → Outside Y D P S I W E Q → Outside Y D P S I W E Q → Ending → D → Type 0
   EvaluatesOn V plan old new ending disk =
-      EvaluationEnded (setting V o.after o.clock o.wakes plan []) o.view disk old.sources new.sources o.written old.output new.output o.said old.errors new.errors ending
+      EvaluationEnded (setting V o.after o.clock o.wakes plan []) o.disks disk old.sources new.sources o.written old.output new.output o.said old.errors new.errors ending
 
   -- `eval` of files that weren't opened: why is printed last
   abbrev pub EvaluatesNone : Voice → Outside Y D P S I W E Q → Outside Y D P S I W E Q → Ending → FilesFault → Type 0
@@ -223,18 +221,18 @@ module _ {Y D P S I W E Q : Type 0} (o : OutsideView D P S I W E) where
       × IfErr files (λ why. (new.input ≡ old.input) × (new.sources ≡ old.sources) × LastTold V o.written old.output new.output ending.told (Err (no_files why))
       × (ending.status ≡ 1) × TellsFault o.said old.errors new.errors ending.told (Err (no_files why)))
       × IfOk files (λ disk. (answer : ProgramAnswer) × (mid : W)
-      × LiveAnswer V o.view o.after o.clock o.wakes (o.stream old.input) disk old.sources new.sources o.written old.output mid answer
+      × LiveAnswer V o.disks o.after o.clock o.wakes (o.stream old.input) disk old.sources new.sources o.written old.output mid answer
       × LastTold V o.written mid new.output ending.told answer
       × (ending.status ≡ status_of answer) × TellsFault o.said old.errors new.errors ending.told answer))
 
   -- `rescue` of what was found, to what the places make at a new path
   abbrev pub RescuesTo : Rescued D → Outside Y D P S I W E Q → Outside Y D P S I W E Q → Ending → Text → Type 0
   RescuesTo found old new ending to = (made : Result D MakeFault) × o.places.creates old.places to made new.places
-      × RescueEnds o.view made found o.written old.output new.output o.said old.errors new.errors ending
+      × RescueEnds o.disks.closed o.disks made found o.written old.output new.output o.said old.errors new.errors ending
 
   -- `rescue` of files, or of why they weren't opened; nothing is made where nothing was found
   abbrev pub RescuesFrom : Result D FilesFault → Outside Y D P S I W E Q → Outside Y D P S I W E Q → Ending → Text → Type 0
-  RescuesFrom files old new ending to = (answer : Result (Rescued D) RunFault) × FilesAreRead o.view files answer × MatchResult answer
+  RescuesFrom files old new ending to = (answer : Result (Rescued D) RunFault) × FilesAreRead o.disks files answer × MatchResult answer
       (λ found. RescuesTo found old new ending to) (λ why. (new.places ≡ old.places) × EndsWith old new ending (Err why))
 
   -- `rescue` of what the places open to read at a path, to a new one
@@ -247,7 +245,7 @@ module _ {Y D P S I W E Q : Type 0} (o : OutsideView D P S I W E) where
   abbrev pub ExportsAs : Outside Y D P S I W E Q → Outside Y D P S I W E Q → Ending → Text → Format → Type 0
   ExportsAs old new ending path format =
       HeldFirst old new (λ why. EndsWith old new ending (Err why)) (λ held. (files : Result D FilesFault) × o.places.reads held path files new.places
-      × ExportEnds o.view files format (last_part path) o.written old.output new.output o.said old.errors new.errors ending)
+      × ExportEnds o.disks files format (last_part path) o.written old.output new.output o.said old.errors new.errors ending)
 
   -- where there is no format of that name the words are refused, and nothing is done
   abbrev pub RefusesFormat : Outside Y D P S I W E Q → Outside Y D P S I W E Q → Ending → Type 0

@@ -3,6 +3,7 @@
 //! `program_endings`, and a worksheet's files in `sheet_files`.
 #![tactic(auto)]
 
+mod checks;
 mod outlet;
 mod outside;
 mod plans;

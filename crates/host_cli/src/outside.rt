@@ -1,15 +1,14 @@
 //! All that is outside of the program, as one value.
 use crate::Outlet;
 use arrivals::Sources;
-use disk_model::Disk;
 use sheet_check::Progress;
-use sheet_files::Places;
+use sheet_files::{Close, Places};
 use std::io::{Read, Write};
 
 /// Of what kinds all that is outside of the program is.
 pub trait System {
     /// Where a worksheet lies.
-    type Disk: Disk + Drop;
+    type Disk: Close + Drop;
     /// Where disks are, each at a path.
     type Places: Places<Self::Disk> + Drop;
     /// Interpreters, whose turn it is of these and the input, and a clock.

@@ -1,9 +1,8 @@
 //! Which program runs for which words, over all that is outside.
 ghost use Rattle.std.specs.Prelude.{◌≡◌, ◌≢◌, [], List, Err, false, map, option_map, string_bytes, true};
-ghost use Rattle.command_words.specs.Asked.{check_view, eval_view, task_view};
+ghost use Rattle.command_words.specs.Asked.{eval_view, task_view};
 ghost use Rattle.command_words.specs.Asked as asked;
-ghost use Rattle.host_cli.specs.Tasks.{AcceptsAs, BringsOut, ChecksAs, ChecksBy, ChecksWithin, DoesAsked, DoesBlocks, DoesCheck, DoesCreate, DoesEval, DoesExport, DoesLive, DoesRescue, DoesRun, DoesShow, DoesTask, EndsBy, EvaluatesAs, ExportsAs, LeavesAlone, Performs, RescuesFrom, RescuesTo, outer, voice_by};
-ghost use Rattle.host_cli.specs.Plans.{limit_asked};
+ghost use Rattle.host_cli.specs.Tasks.{BringsOut, DoesAsked, DoesBlocks, DoesCreate, DoesEval, DoesExport, DoesLive, DoesRescue, DoesRun, DoesShow, DoesTask, EndsBy, EvaluatesAs, ExportsAs, LeavesAlone, Performs, RescuesFrom, RescuesTo, outer, voice_by};
 ghost use Rattle.program_endings.specs.Ending.{TellsFault};
 ghost use Rattle.offline_programs.specs.declared.fault.RunFault.TheVariants as fault;
 ghost use Rattle.recovery.specs.Sheets.{Makes};
@@ -11,18 +10,18 @@ ghost use Rattle.tellings.specs.Json.{in_json};
 ghost use Rattle.tellings.specs.Words.{in_words};
 ghost use Rattle.worksheet.specs.declared.op.Op.{Op};
 
+use crate::checks::check_at;
 use crate::outlet::Outlet;
 use crate::outside::{Outside, System};
-use crate::plans::{read_limit, read_plan};
-use crate::refusing::{refuse_check_limit, refuse_format, refuse_plan, refuse_request};
+use crate::plans::read_plan;
+use crate::refusing::{refuse_format, refuse_plan};
 use crate::{refuse_unread_words, refuse_words};
-use check_report::{Format as Report, Request, read_request};
-use command_words::{CheckWords, EvalWords, Task, read_words};
+use command_words::{EvalWords, Task, read_words};
 use evaluation::Plan;
 use offline_programs::RunFault;
 use program_endings::{
-    Ending, end_program, end_unheld, read_rescued, run_accept, run_blocks, run_check, run_create,
-    run_evaluation, run_export, run_live, run_rescue, run_script, run_show, run_strictly,
+    Ending, end_program, end_unheld, read_rescued, run_blocks, run_create, run_evaluation,
+    run_export, run_live, run_rescue, run_script, run_show, run_strictly,
 };
 use recovery::Rescued;
 use sheet_export::{Format, format_named, last_part};
@@ -34,7 +33,7 @@ use tellings::{InJson, InWords, Tells};
 
 /// `blocks`.
 fn blocks<Y: System>(alloc: Global, outside: &mut Outside<Y>) -> Ending
-    ensures does { DoesBlocks (outer Y.Places.Places Y.Disk.Disk Y.Sources.after
+    ensures does { DoesBlocks (outer Y.Places.Places Y.Disk.Disk Y.Disk.closed Y.Sources.after
         Y.Sources.clock Y.Sources.wakes Y.Input.Read Y.Output.Write Y.Output.brought Y.Errors.Write) outside.old outside.new result }
     ensures leaves { LeavesAlone outside.old outside.new asked.blocks }
 {
@@ -48,7 +47,7 @@ fn blocks<Y: System>(alloc: Global, outside: &mut Outside<Y>) -> Ending
 
 /// `create` at a path.
 fn create_at<Y: System>(outside: &mut Outside<Y>, path: &str) -> Ending
-    ensures does { DoesCreate (outer Y.Places.Places Y.Disk.Disk Y.Sources.after
+    ensures does { DoesCreate (outer Y.Places.Places Y.Disk.Disk Y.Disk.closed Y.Sources.after
         Y.Sources.clock Y.Sources.wakes Y.Input.Read Y.Output.Write Y.Output.brought Y.Errors.Write) outside.old outside.new result path.now }
     ensures leaves { LeavesAlone outside.old outside.new (asked.create path.now) }
 {
@@ -60,7 +59,7 @@ fn create_at<Y: System>(outside: &mut Outside<Y>, path: &str) -> Ending
 
 /// `show` of the worksheet at a path.
 fn show_at<Y: System>(alloc: Global, outside: &mut Outside<Y>, path: &str) -> Ending
-    ensures does { DoesShow (outer Y.Places.Places Y.Disk.Disk Y.Sources.after
+    ensures does { DoesShow (outer Y.Places.Places Y.Disk.Disk Y.Disk.closed Y.Sources.after
         Y.Sources.clock Y.Sources.wakes Y.Input.Read Y.Output.Write Y.Output.brought Y.Errors.Write) outside.old outside.new result path.now }
     ensures leaves { LeavesAlone outside.old outside.new (asked.show path.now) }
 {
@@ -75,122 +74,9 @@ fn show_at<Y: System>(alloc: Global, outside: &mut Outside<Y>, path: &str) -> En
     }
 }
 
-/// `check` of the worksheet at a path.
-fn check_as<Y: System>(
-    alloc: Global,
-    outside: &mut Outside<Y>,
-    request: &Request,
-    path: &str,
-) -> Ending
-    ensures does { ChecksAs (outer Y.Places.Places Y.Disk.Disk Y.Sources.after
-        Y.Sources.clock Y.Sources.wakes Y.Input.Read Y.Output.Write Y.Output.brought Y.Errors.Write) outside.old outside.new result path.now request.now }
-    ensures leaves { outside.new.input ≡ outside.old.input }
-{
-    match outside.places.hold() {
-        Ok(()) => run_check(
-            alloc,
-            request,
-            outside.places.open_to_read(path),
-            &mut outside.sources,
-            &mut outside.progress,
-            &mut outside.output,
-            &mut outside.errors,
-        ),
-        Err(why) => end_unheld(why, &mut outside.errors),
-    }
-}
-
-/// `check --accept` of the worksheet at a path.
-fn accept_as<Y: System>(
-    alloc: Global,
-    outside: &mut Outside<Y>,
-    request: &Request,
-    path: &str,
-) -> Ending
-    ensures does { AcceptsAs (outer Y.Places.Places Y.Disk.Disk Y.Sources.after
-        Y.Sources.clock Y.Sources.wakes Y.Input.Read Y.Output.Write Y.Output.brought Y.Errors.Write) outside.old outside.new result path.now request.now }
-    ensures leaves { outside.new.input ≡ outside.old.input }
-{
-    match outside.places.hold() {
-        Ok(()) => {
-            let files = outside.places.open(path);
-            run_accept(
-                alloc,
-                request,
-                files,
-                &mut outside.sources,
-                &mut outside.progress,
-                &mut outside.output,
-                &mut outside.errors,
-            )
-        }
-        Err(why) => end_unheld(why, &mut outside.errors),
-    }
-}
-
-/// `check` of the worksheet at a path, with answers that are accepted or without.
-fn check_by<Y: System>(
-    alloc: Global,
-    outside: &mut Outside<Y>,
-    request: &Request,
-    path: &str,
-) -> Ending
-    ensures does { ChecksBy (outer Y.Places.Places Y.Disk.Disk Y.Sources.after
-        Y.Sources.clock Y.Sources.wakes Y.Input.Read Y.Output.Write Y.Output.brought Y.Errors.Write) outside.old outside.new result path.now request.now }
-    ensures leaves { outside.new.input ≡ outside.old.input }
-{
-    match request.format {
-        Report::Accepting => accept_as(alloc, outside, request, path),
-        Report::Text | Report::Tap | Report::Junit => check_as(alloc, outside, request, path),
-    }
-}
-
-/// `check` of the worksheet at a path, as these words ask for it, within this limit of time, where there is
-/// one.
-fn check_within<Y: System>(
-    alloc: Global,
-    outside: &mut Outside<Y>,
-    path: &str,
-    words: CheckWords<'_>,
-    limit: Option<u32>,
-) -> Ending
-    ensures does { ChecksWithin (outer Y.Places.Places Y.Disk.Disk Y.Sources.after
-        Y.Sources.clock Y.Sources.wakes Y.Input.Read Y.Output.Write Y.Output.brought Y.Errors.Write) outside.old outside.new result path.now (check_view words.entry) limit }
-    ensures leaves { outside.new.input ≡ outside.old.input }
-{
-    let CheckWords {
-        format,
-        only,
-        leave_out,
-        timeout: _,
-        accept,
-    } = words;
-    match read_request(alloc, format, only, leave_out, accept, limit) {
-        Ok(request) => check_by(alloc, outside, &request, path),
-        Err(why) => refuse_request(why, &mut outside.errors),
-    }
-}
-
-/// `check` of the worksheet at a path, as its words ask for it.
-fn check_at<Y: System>(
-    alloc: Global,
-    outside: &mut Outside<Y>,
-    path: &str,
-    words: CheckWords<'_>,
-) -> Ending
-    ensures does { DoesCheck (outer Y.Places.Places Y.Disk.Disk Y.Sources.after
-        Y.Sources.clock Y.Sources.wakes Y.Input.Read Y.Output.Write Y.Output.brought Y.Errors.Write) outside.old outside.new result path.now (check_view words.entry) }
-    ensures leaves { outside.new.input ≡ outside.old.input }
-{
-    match read_limit(words.timeout) {
-        None => refuse_check_limit(&mut outside.errors),
-        Some(limit) => check_within(alloc, outside, path, words, limit),
-    }
-}
-
 /// `run` of the script on the input over the worksheet at a path.
 fn run_at<Y: System>(alloc: Global, outside: &mut Outside<Y>, path: &str) -> Ending
-    ensures does { DoesRun (outer Y.Places.Places Y.Disk.Disk Y.Sources.after
+    ensures does { DoesRun (outer Y.Places.Places Y.Disk.Disk Y.Disk.closed Y.Sources.after
         Y.Sources.clock Y.Sources.wakes Y.Input.Read Y.Output.Write Y.Output.brought Y.Errors.Write) false outside.old outside.new result path.now }
     ensures leaves { LeavesAlone outside.old outside.new (asked.run path.now) }
 {
@@ -209,7 +95,7 @@ fn run_at<Y: System>(alloc: Global, outside: &mut Outside<Y>, path: &str) -> End
 
 /// `run --strict` of the same.
 fn run_strictly_at<Y: System>(alloc: Global, outside: &mut Outside<Y>, path: &str) -> Ending
-    ensures does { DoesRun (outer Y.Places.Places Y.Disk.Disk Y.Sources.after
+    ensures does { DoesRun (outer Y.Places.Places Y.Disk.Disk Y.Disk.closed Y.Sources.after
         Y.Sources.clock Y.Sources.wakes Y.Input.Read Y.Output.Write Y.Output.brought Y.Errors.Write) true outside.old outside.new result path.now }
     ensures leaves { LeavesAlone outside.old outside.new (asked.run_strictly path.now) }
 {
@@ -234,7 +120,7 @@ fn eval_as<Y: System, T: Tells>(
     tells: &T,
     path: &str,
 ) -> Ending
-    ensures does { EvaluatesAs (outer Y.Places.Places Y.Disk.Disk Y.Sources.after
+    ensures does { EvaluatesAs (outer Y.Places.Places Y.Disk.Disk Y.Disk.closed Y.Sources.after
         Y.Sources.clock Y.Sources.wakes Y.Input.Read Y.Output.Write Y.Output.brought Y.Errors.Write) T.voice plan.now outside.old outside.new result path.now }
     ensures leaves { (outside.new.input ≡ outside.old.input)
         × (outside.new.progress ≡ outside.old.progress) }
@@ -261,7 +147,7 @@ fn eval_told<Y: System>(
     json: bool,
     path: &str,
 ) -> Ending
-    ensures does { EvaluatesAs (outer Y.Places.Places Y.Disk.Disk Y.Sources.after
+    ensures does { EvaluatesAs (outer Y.Places.Places Y.Disk.Disk Y.Disk.closed Y.Sources.after
         Y.Sources.clock Y.Sources.wakes Y.Input.Read Y.Output.Write Y.Output.brought Y.Errors.Write) (voice_by json) plan.now outside.old outside.new result path.now }
     ensures leaves { (outside.new.input ≡ outside.old.input)
         × (outside.new.progress ≡ outside.old.progress) }
@@ -280,7 +166,7 @@ fn eval_at<Y: System>(
     path: &str,
     words: EvalWords<'_>,
 ) -> Ending
-    ensures does { DoesEval (outer Y.Places.Places Y.Disk.Disk Y.Sources.after
+    ensures does { DoesEval (outer Y.Places.Places Y.Disk.Disk Y.Disk.closed Y.Sources.after
         Y.Sources.clock Y.Sources.wakes Y.Input.Read Y.Output.Write Y.Output.brought Y.Errors.Write) outside.old outside.new result path.now (eval_view words.entry) }
     ensures leaves { LeavesAlone outside.old outside.new (asked.eval path.now (eval_view words.entry)) }
 {
@@ -297,7 +183,7 @@ fn live_told<Y: System, T: Tells>(
     tells: &T,
     path: &str,
 ) -> Ending
-    ensures does { DoesLive (outer Y.Places.Places Y.Disk.Disk Y.Sources.after
+    ensures does { DoesLive (outer Y.Places.Places Y.Disk.Disk Y.Disk.closed Y.Sources.after
         Y.Sources.clock Y.Sources.wakes Y.Input.Read Y.Output.Write Y.Output.brought Y.Errors.Write) T.voice outside.old outside.new result path.now }
     ensures leaves { LeavesAlone outside.old outside.new (asked.live path.now) }
 {
@@ -317,7 +203,7 @@ fn live_told<Y: System, T: Tells>(
 
 /// `live` in words.
 fn live_at<Y: System>(alloc: Global, outside: &mut Outside<Y>, path: &str) -> Ending
-    ensures does { DoesLive (outer Y.Places.Places Y.Disk.Disk Y.Sources.after
+    ensures does { DoesLive (outer Y.Places.Places Y.Disk.Disk Y.Disk.closed Y.Sources.after
         Y.Sources.clock Y.Sources.wakes Y.Input.Read Y.Output.Write Y.Output.brought Y.Errors.Write) in_words outside.old outside.new result path.now }
     ensures leaves { LeavesAlone outside.old outside.new (asked.live path.now) }
 {
@@ -326,7 +212,7 @@ fn live_at<Y: System>(alloc: Global, outside: &mut Outside<Y>, path: &str) -> En
 
 /// `live` in lines of JSON.
 fn live_json_at<Y: System>(alloc: Global, outside: &mut Outside<Y>, path: &str) -> Ending
-    ensures does { DoesLive (outer Y.Places.Places Y.Disk.Disk Y.Sources.after
+    ensures does { DoesLive (outer Y.Places.Places Y.Disk.Disk Y.Disk.closed Y.Sources.after
         Y.Sources.clock Y.Sources.wakes Y.Input.Read Y.Output.Write Y.Output.brought Y.Errors.Write) in_json outside.old outside.new result path.now }
     ensures leaves { LeavesAlone outside.old outside.new (asked.live_json path.now) }
 {
@@ -337,12 +223,12 @@ fn live_json_at<Y: System>(alloc: Global, outside: &mut Outside<Y>, path: &str) 
 fn rescue_to<Y: System>(
     alloc: Global,
     outside: &mut Outside<Y>,
-    found: &Rescued<Y::Disk>,
+    found: Rescued<Y::Disk>,
     new: &str,
 ) -> Ending
-    requires { (ops : List Op) × Makes ops found.now.sheet.contents }
-    ensures does { RescuesTo (outer Y.Places.Places Y.Disk.Disk Y.Sources.after
-        Y.Sources.clock Y.Sources.wakes Y.Input.Read Y.Output.Write Y.Output.brought Y.Errors.Write) found.now outside.old outside.new result new.now }
+    requires { (ops : List Op) × Makes ops found.sheet.contents }
+    ensures does { RescuesTo (outer Y.Places.Places Y.Disk.Disk Y.Disk.closed Y.Sources.after
+        Y.Sources.clock Y.Sources.wakes Y.Input.Read Y.Output.Write Y.Output.brought Y.Errors.Write) found outside.old outside.new result new.now }
     ensures leaves { LeavesAlone outside.old outside.new (asked.rescue [] new.now) }
 {
     run_rescue(
@@ -361,19 +247,19 @@ fn rescue_from<Y: System>(
     files: Result<Y::Disk, FilesFault>,
     new: &str,
 ) -> Ending
-    ensures does { RescuesFrom (outer Y.Places.Places Y.Disk.Disk Y.Sources.after
+    ensures does { RescuesFrom (outer Y.Places.Places Y.Disk.Disk Y.Disk.closed Y.Sources.after
         Y.Sources.clock Y.Sources.wakes Y.Input.Read Y.Output.Write Y.Output.brought Y.Errors.Write) files outside.old outside.new result new.now }
     ensures leaves { LeavesAlone outside.old outside.new (asked.rescue [] new.now) }
 {
     match read_rescued(alloc, files) {
-        Ok(found) => rescue_to(alloc, outside, &found, new),
+        Ok(found) => rescue_to(alloc, outside, found, new),
         Err(fault) => end_program(Err(fault), &mut outside.errors),
     }
 }
 
 /// `rescue` from a path to a new one.
 fn rescue_at<Y: System>(alloc: Global, outside: &mut Outside<Y>, path: &str, new: &str) -> Ending
-    ensures does { DoesRescue (outer Y.Places.Places Y.Disk.Disk Y.Sources.after
+    ensures does { DoesRescue (outer Y.Places.Places Y.Disk.Disk Y.Disk.closed Y.Sources.after
         Y.Sources.clock Y.Sources.wakes Y.Input.Read Y.Output.Write Y.Output.brought Y.Errors.Write) outside.old outside.new result path.now new.now }
     ensures leaves { LeavesAlone outside.old outside.new (asked.rescue path.now new.now) }
 {
@@ -393,7 +279,7 @@ fn export_as<Y: System>(
     format: Format,
     path: &str,
 ) -> Ending
-    ensures does { ExportsAs (outer Y.Places.Places Y.Disk.Disk Y.Sources.after
+    ensures does { ExportsAs (outer Y.Places.Places Y.Disk.Disk Y.Disk.closed Y.Sources.after
         Y.Sources.clock Y.Sources.wakes Y.Input.Read Y.Output.Write Y.Output.brought Y.Errors.Write) outside.old outside.new result path.now format }
     ensures leaves { LeavesAlone outside.old outside.new (asked.export [] path.now) }
 {
@@ -412,7 +298,7 @@ fn export_as<Y: System>(
 
 /// `export` in the format of this name.
 fn export_at<Y: System>(alloc: Global, outside: &mut Outside<Y>, name: &str, path: &str) -> Ending
-    ensures does { DoesExport (outer Y.Places.Places Y.Disk.Disk Y.Sources.after
+    ensures does { DoesExport (outer Y.Places.Places Y.Disk.Disk Y.Disk.closed Y.Sources.after
         Y.Sources.clock Y.Sources.wakes Y.Input.Read Y.Output.Write Y.Output.brought Y.Errors.Write) outside.old outside.new result name.now path.now }
     ensures leaves { LeavesAlone outside.old outside.new (asked.export name.now path.now) }
 {
@@ -427,7 +313,7 @@ fn export_at<Y: System>(alloc: Global, outside: &mut Outside<Y>, name: &str, pat
 /// places of closed streams are held. What they give goes to the output, and the line of a fault to the
 /// errors. `check` alone has `progress` show something.
 pub fn do_task<Y: System>(alloc: Global, task: Task<'_>, outside: &mut Outside<Y>) -> Ending
-    ensures does { DoesTask (outer Y.Places.Places Y.Disk.Disk Y.Sources.after
+    ensures does { DoesTask (outer Y.Places.Places Y.Disk.Disk Y.Disk.closed Y.Sources.after
         Y.Sources.clock Y.Sources.wakes Y.Input.Read Y.Output.Write Y.Output.brought Y.Errors.Write) outside.old outside.new result (task_view task.entry) }
     ensures leaves { LeavesAlone outside.old outside.new (task_view task.entry) }
 {
@@ -449,7 +335,7 @@ pub fn do_task<Y: System>(alloc: Global, task: Task<'_>, outside: &mut Outside<Y
 
 /// Does the task that these words ask for, or tells why there is none.
 fn do_words<Y: System>(alloc: Global, words: Vec<String>, outside: &mut Outside<Y>) -> Ending
-    ensures { DoesAsked (outer Y.Places.Places Y.Disk.Disk Y.Sources.after
+    ensures { DoesAsked (outer Y.Places.Places Y.Disk.Disk Y.Disk.closed Y.Sources.after
         Y.Sources.clock Y.Sources.wakes Y.Input.Read Y.Output.Write Y.Output.brought Y.Errors.Write) (map string_bytes words.items) outside.old outside.new result }
 {
     match read_words(alloc, words.as_slice()) {
@@ -464,7 +350,7 @@ fn end_by_words<Y: System>(
     words: Result<Vec<String>, io::ErrorKind>,
     outside: &mut Outside<Y>,
 ) -> Ending
-    ensures { EndsBy (outer Y.Places.Places Y.Disk.Disk Y.Sources.after
+    ensures { EndsBy (outer Y.Places.Places Y.Disk.Disk Y.Disk.closed Y.Sources.after
         Y.Sources.clock Y.Sources.wakes Y.Input.Read Y.Output.Write Y.Output.brought Y.Errors.Write) (λ all. map string_bytes all.items) words outside.old outside.new result }
 {
     match words {
@@ -488,7 +374,7 @@ fn end_unsent<E: Write>(alone: Ending, errors: &mut E) -> Ending
 
 /// Flushes what the output keeps back, at the end of the program.
 fn bring_out<Y: System>(outside: &mut Outside<Y>, alone: Ending) -> Ending
-    ensures { BringsOut (outer Y.Places.Places Y.Disk.Disk Y.Sources.after
+    ensures { BringsOut (outer Y.Places.Places Y.Disk.Disk Y.Disk.closed Y.Sources.after
         Y.Sources.clock Y.Sources.wakes Y.Input.Read Y.Output.Write Y.Output.brought Y.Errors.Write) outside.old outside.new alone result }
 {
     match outside.output.bring_out() {
@@ -504,7 +390,7 @@ pub fn perform<Y: System>(
     words: Result<Vec<String>, io::ErrorKind>,
     outside: &mut Outside<Y>,
 ) -> Ending
-    ensures { Performs (outer Y.Places.Places Y.Disk.Disk Y.Sources.after
+    ensures { Performs (outer Y.Places.Places Y.Disk.Disk Y.Disk.closed Y.Sources.after
         Y.Sources.clock Y.Sources.wakes Y.Input.Read Y.Output.Write Y.Output.brought Y.Errors.Write) (λ all. map string_bytes all.items) words outside.old outside.new result }
 {
     let ending = end_by_words(alloc, words, outside);

@@ -164,10 +164,10 @@ module _ {C : Type 0} (V : Voice) (R : Relation C) (K : Clock C) (W : Watch C) (
     moments = subst (LeavesFronts start t.1 now) (t.7 ∙ sym same) (goes_leaves start now t.1 t.3.run.world t.3.run.disk held (lived-goes V R K W (begin_at start c now) t.0 t.1 t.2 t.3 t.5));
   }
 
-  unread : (t : (all : List Arrival) × (beats : List Beat) × (text : List ℕ) × (q : LivePlace C) × (e : C) × Lived V R K W (begin_at start c now) all beats text q
+  unread : (back : DiskView) → back ≡ h.store.disk → (t : (all : List Arrival) × (beats : List Beat) × (text : List ℕ) × (q : LivePlace C) × (e : C) × Lived V R K W (begin_at start c now) all beats text q
       × IsHost h q.run.world × (q.run.disk ≡ h.store.disk) × Appends a b text × IsFront old all × Rattle.child_edge.specs.Stops.Stops R (Rattle.child_edge.specs.Seats.running q.run.world) e d)
-      → Rattle.live.specs.Live.LiveUnread V R K W stream disk c d a b
-  unread t = record {
+      → Rattle.live.specs.Live.LiveUnread V R K W stream disk back c d a b
+  unread back same t = record {
     start = start;
     now = now;
     opened = opened;
@@ -178,13 +178,14 @@ module _ {C : Type 0} (V : Voice) (R : Relation C) (K : Clock C) (W : Watch C) (
     sources = t.4;
     lived = t.5;
     lines = first-lines stream old t.0 is t.9;
-    moments = goes_leaves start now t.1 t.3.run.world t.3.run.disk held (lived-goes V R K W (begin_at start c now) t.0 t.1 t.2 t.3 t.5);
+    back_is = same ∙ sym t.7;
+    moments = subst (LeavesFronts start t.1 now) (t.7 ∙ sym same) (goes_leaves start now t.1 t.3.run.world t.3.run.disk held (lived-goes V R K W (begin_at start c now) t.0 t.1 t.2 t.3 t.5));
     stops = t.10;
     wrote = t.8;
   }
 
-  led : SameDisk disk h.store.disk → EndedUnwritten V R K W (begin_at start c now) h d old → Rattle.live.specs.Live.LiveLed V R K W stream disk c d
-  led same t = record {
+  led : (back : DiskView) → back ≡ h.store.disk → EndedUnwritten V R K W (begin_at start c now) h d old → Rattle.live.specs.Live.LiveLed V R K W stream disk back c d
+  led back same t = record {
     start = start;
     now = now;
     opened = opened;
@@ -193,18 +194,18 @@ module _ {C : Type 0} (V : Voice) (R : Relation C) (K : Clock C) (W : Watch C) (
     lived = t.2;
     lines = first-lines stream old t.0 is t.4;
     host = h;
-    same = same;
+    back_is = same;
     moments = goes_anyhow start now (t.2.earlier ++ taken_beats t.2.led) t.1.world t.1.disk h held (led-goes V R K W (begin_at start c now) t.0 t.1 t.2) t.3;
     stops = t.5;
   }
 
-  pub live_failed : (nothing : Type 0) (f : RunFault) → SameDisk disk h.store.disk → EndedBy V R K W (begin_at start c now) h d a b old f → TellsLive V R K W stream disk c d a b nothing f
+  pub live_failed : (back : DiskView) → back ≡ h.store.disk → (nothing : Type 0) (f : RunFault) → EndedBy V R K W (begin_at start c now) h d a b old f → TellsLive V R K W stream disk back c d a b nothing f
   unfolding unread
-  live_failed nothing fault.Input same t = (unread (t.0, t.1, t.2, t.3, t.4, t.5, t.6, t.7, t.9, t.10, t.11), t.8)
-  live_failed nothing fault.InputTooLong same t = (unread (t.0, t.1, t.2, t.3, t.4, t.5, t.6, t.7, t.9, t.10, t.11), t.12, t.8)
-  live_failed nothing (fault.Open why) same t = absurd t
-  live_failed nothing fault.InUse same t = absurd t
-  live_failed nothing (fault.Host f) same t = record {
+  live_failed back same nothing fault.Input t = (unread back same (t.0, t.1, t.2, t.3, t.4, t.5, t.6, t.7, t.9, t.10, t.11), t.8)
+  live_failed back same nothing fault.InputTooLong t = (unread back same (t.0, t.1, t.2, t.3, t.4, t.5, t.6, t.7, t.9, t.10, t.11), t.12, t.8)
+  live_failed back same nothing (fault.Open why) t = absurd t
+  live_failed back same nothing fault.InUse t = absurd t
+  live_failed back same nothing (fault.Host f) t = record {
     start = start;
     now = now;
     opened = opened;
@@ -216,13 +217,13 @@ module _ {C : Type 0} (V : Voice) (R : Relation C) (K : Clock C) (W : Watch C) (
     lived = t.5;
     lines = first-lines stream old t.0 is t.8;
     host = h;
-    same = same;
+    back_is = same;
     stopped = t.6;
     moments = goes_up_to start now t.1 t.4.world t.4.disk t.3 f h held (up-to-goes V R K W (begin_at start c now) t.0 t.1 t.2 t.3 t.4 t.5) t.6;
     stops = t.9;
     wrote = t.7;
   }
-  live_failed nothing fault.OutOfMemory same (inl t) = inr (inl (record {
+  live_failed back same nothing fault.OutOfMemory (inl t) = inr (inl (record {
     start = start;
     now = now;
     opened = opened;
@@ -232,12 +233,13 @@ module _ {C : Type 0} (V : Voice) (R : Relation C) (K : Clock C) (W : Watch C) (
     leads = t.3;
     lived = t.4;
     lines = first-lines stream old t.0 is t.8;
-    moments = goes_leaves start now t.1 t.3.world t.3.disk held (so-far-goes V R K W (begin_at start c now) t.0 t.1 t.2 t.3 t.4);
+    back_is = same ∙ sym t.6;
+    moments = subst (LeavesFronts start t.1 now) (t.6 ∙ sym same) (goes_leaves start now t.1 t.3.world t.3.disk held (so-far-goes V R K W (begin_at start c now) t.0 t.1 t.2 t.3 t.4));
     stops = t.9;
     wrote = t.7;
   }))
-  live_failed nothing fault.OutOfMemory same (inr t) = inr (inr (t.0, led same t.1))
-  live_failed nothing fault.Output same t = led same t
+  live_failed back same nothing fault.OutOfMemory (inr t) = inr (inr (t.0, led back same t.1))
+  live_failed back same nothing fault.Output t = led back same t
 
 -- A disk that failed at the end has failed since the beginning.
 pub live_failed_since : {C : Type 0} (V : Voice) (R : Relation C) (K : Clock C) (W : Watch C) (disk now : DiskView) (start : World) (c d : C) (h : HostView) (a b : Option (List ℕ)) (old : Option (List InputLine)) (f : RunFault)

@@ -1,7 +1,7 @@
 -- A live worksheet: what it leaves at the end of its input, and what a fault of it leaves.
 use Rattle.std.specs.Prelude.{◌≡◌, ◌+◌, ◌^◌, ◌≤◌, ◌⊎◌, ℕ, Bool, false, true, List, ◌++◌, Option, Some, None, IfSome, length}
 use Rattle.std.specs.Io.KnownBytes.{Appends}
-use Rattle.disk_model.specs.Disk.{DiskView, InModel, SameDisk, bytes_on}
+use Rattle.disk_model.specs.Disk.{DiskView, InModel, bytes_on}
 use Rattle.recovery.specs.Sheets.{TellsOfSheet}
 use Rattle.host_events.specs.declared.event.Event.{Event}
 use Rattle.host_events.specs.declared.outcome.HostFault.{HostFault}
@@ -68,9 +68,9 @@ pub record LiveDone {C : Type 0} (V : Voice) (R : Relation C) (K : Clock C) (W :
   pub holds : HoldsSheet leads.run.world back
   pub moments : LeavesFronts start beats now back
 
--- At an event the host had this fault, and its disk was left as the fault says. What was returned before is written, and each
--- life that goes on was stopped.
-pub record LiveStopped {C : Type 0} (V : Voice) (R : Relation C) (K : Clock C) (W : Watch C) (stream : Option (List ℕ)) (disk : DiskView) (c d : C) (a b : Option (List ℕ)) (f : HostFault) : Type 0 where
+-- At an event the host had this fault, and its disk, which is given back, was left as the fault says. What was returned before is
+-- written, and each life that goes on was stopped.
+pub record LiveStopped {C : Type 0} (V : Voice) (R : Relation C) (K : Clock C) (W : Watch C) (stream : Option (List ℕ)) (disk back : DiskView) (c d : C) (a b : Option (List ℕ)) (f : HostFault) : Type 0 where
   pub start : World
   pub now : DiskView
   pub opened : OpenedOn disk start now
@@ -82,14 +82,14 @@ pub record LiveStopped {C : Type 0} (V : Voice) (R : Relation C) (K : Clock C) (
   pub lived : LivedUpTo V R K W (begin_at start c now) arrivals beats text failed leads
   pub lines : AreFirst stream arrivals
   pub host : HostView
-  pub same : SameDisk disk host.store.disk
+  pub back_is : back ≡ host.store.disk
   pub stopped : Stopped leads.disk host leads.world failed f
   pub moments : LeavesFrontsUpTo start beats failed f now host.store.disk
   pub stops : Stops R (running leads.world) leads.children d
   pub wrote : Appends a b text
 
 -- Memory was refused. What was returned before is written, and each life that goes on was stopped.
-pub record LiveSoFar {C : Type 0} (V : Voice) (R : Relation C) (K : Clock C) (W : Watch C) (stream : Option (List ℕ)) (disk : DiskView) (c d : C) (a b : Option (List ℕ)) : Type 0 where
+pub record LiveSoFar {C : Type 0} (V : Voice) (R : Relation C) (K : Clock C) (W : Watch C) (stream : Option (List ℕ)) (disk back : DiskView) (c d : C) (a b : Option (List ℕ)) : Type 0 where
   pub start : World
   pub now : DiskView
   pub opened : OpenedOn disk start now
@@ -99,12 +99,13 @@ pub record LiveSoFar {C : Type 0} (V : Voice) (R : Relation C) (K : Clock C) (W 
   pub leads : At C
   pub lived : LivedSoFar V R K W (begin_at start c now) arrivals beats text leads
   pub lines : AreFirst stream arrivals
-  pub moments : LeavesFronts start beats now leads.disk
+  pub back_is : back ≡ leads.disk
+  pub moments : LeavesFronts start beats now back
   pub stops : Stops R (running leads.world) leads.children d
   pub wrote : Appends a b text
 
 -- The input couldn't be read any more, or as many came as are counted. All that came was taken, and what was returned is written.
-pub record LiveUnread {C : Type 0} (V : Voice) (R : Relation C) (K : Clock C) (W : Watch C) (stream : Option (List ℕ)) (disk : DiskView) (c d : C) (a b : Option (List ℕ)) : Type 0 where
+pub record LiveUnread {C : Type 0} (V : Voice) (R : Relation C) (K : Clock C) (W : Watch C) (stream : Option (List ℕ)) (disk back : DiskView) (c d : C) (a b : Option (List ℕ)) : Type 0 where
   pub start : World
   pub now : DiskView
   pub opened : OpenedOn disk start now
@@ -115,12 +116,13 @@ pub record LiveUnread {C : Type 0} (V : Voice) (R : Relation C) (K : Clock C) (W
   pub sources : C
   pub lived : Lived V R K W (begin_at start c now) arrivals beats text leads
   pub lines : AreFirst stream arrivals
-  pub moments : LeavesFronts start beats now leads.run.disk
+  pub back_is : back ≡ leads.run.disk
+  pub moments : LeavesFronts start beats now back
   pub stops : Stops R (running leads.run.world) sources d
   pub wrote : Appends a b text
 
 -- The writer failed. What came until then is on the disk as ever, and each life that goes on was stopped.
-pub record LiveLed {C : Type 0} (V : Voice) (R : Relation C) (K : Clock C) (W : Watch C) (stream : Option (List ℕ)) (disk : DiskView) (c d : C) : Type 0 where
+pub record LiveLed {C : Type 0} (V : Voice) (R : Relation C) (K : Clock C) (W : Watch C) (stream : Option (List ℕ)) (disk back : DiskView) (c d : C) : Type 0 where
   pub start : World
   pub now : DiskView
   pub opened : OpenedOn disk start now
@@ -129,19 +131,19 @@ pub record LiveLed {C : Type 0} (V : Voice) (R : Relation C) (K : Clock C) (W : 
   pub lived : LivedLed V R K W (begin_at start c now) arrivals leads
   pub lines : AreFirst stream arrivals
   pub host : HostView
-  pub same : SameDisk disk host.store.disk
+  pub back_is : back ≡ host.store.disk
   pub moments : LeavesFrontsAnyhow start (lived.earlier ++ taken_beats lived.led) now host leads.world leads.disk
   pub stops : Stops R (running leads.world) leads.children d
 
--- What a fault tells, where the reader gives this stream: where the disk wasn't opened, nothing was done. A voice that takes memory may have
--- none for a line: then it is as where the writer failed.
-abbrev pub TellsLive : {C : Type 0} → Voice → Relation C → Clock C → Watch C → Option (List ℕ) → DiskView → C → C → Option (List ℕ) → Option (List ℕ) → Type 0 → RunFault → Type 0
-TellsLive V R K W stream disk c d a b nothing fault.Input =
-    (unread : LiveUnread V R K W stream disk c d a b) × NoMoreComes K W unread.leads.held unread.leads.run.children unread.sources
-TellsLive V R K W stream disk c d a b nothing fault.InputTooLong =
-    (unread : LiveUnread V R K W stream disk c d a b) × AreTooMany unread.arrivals × (unread.sources ≡ unread.leads.run.children)
-TellsLive V R K W stream disk c d a b nothing (fault.Open why) = nothing × InModel disk (TellsOfSheet (bytes_on disk) why)
-TellsLive V R K W stream disk c d a b nothing fault.InUse = ⊥
-TellsLive V R K W stream disk c d a b nothing (fault.Host f) = LiveStopped V R K W stream disk c d a b f
-TellsLive V R K W stream disk c d a b nothing fault.OutOfMemory = nothing ⊎ (LiveSoFar V R K W stream disk c d a b ⊎ ((V.takes_memory ≡ true) × LiveLed V R K W stream disk c d))
-TellsLive V R K W stream disk c d a b nothing fault.Output = LiveLed V R K W stream disk c d
+-- What a fault tells, where the reader gives this stream, with the disk that is given back: where the disk wasn't opened, nothing was done.
+-- A voice that takes memory may have none for a line: then it is as where the writer failed.
+abbrev pub TellsLive : {C : Type 0} → Voice → Relation C → Clock C → Watch C → Option (List ℕ) → DiskView → DiskView → C → C → Option (List ℕ) → Option (List ℕ) → Type 0 → RunFault → Type 0
+TellsLive V R K W stream disk back c d a b nothing fault.Input =
+    (unread : LiveUnread V R K W stream disk back c d a b) × NoMoreComes K W unread.leads.held unread.leads.run.children unread.sources
+TellsLive V R K W stream disk back c d a b nothing fault.InputTooLong =
+    (unread : LiveUnread V R K W stream disk back c d a b) × AreTooMany unread.arrivals × (unread.sources ≡ unread.leads.run.children)
+TellsLive V R K W stream disk back c d a b nothing (fault.Open why) = nothing × InModel disk (TellsOfSheet (bytes_on disk) why)
+TellsLive V R K W stream disk back c d a b nothing fault.InUse = ⊥
+TellsLive V R K W stream disk back c d a b nothing (fault.Host f) = LiveStopped V R K W stream disk back c d a b f
+TellsLive V R K W stream disk back c d a b nothing fault.OutOfMemory = nothing ⊎ (LiveSoFar V R K W stream disk back c d a b ⊎ ((V.takes_memory ≡ true) × LiveLed V R K W stream disk back c d))
+TellsLive V R K W stream disk back c d a b nothing fault.Output = LiveLed V R K W stream disk back c d

@@ -9,7 +9,7 @@ mod stepping;
 mod taking;
 
 pub use holding::{Hold, go_on};
-pub use living::live;
+pub use living::{LiveEnd, live};
 pub use saying::{say_command, wait_for};
 pub use stepping::next_turn;
 pub use taking::{hear, tell_stalled};

@@ -1,10 +1,10 @@
 //! A worksheet that lives as long as its input.
-ghost use Rattle.std.specs.Prelude.{◌≡◌, IfErr, IfOk, IsErrOf, OnOk};
-ghost use Rattle.disk_model.specs.Disk.{SameDisk};
+ghost use Rattle.std.specs.Prelude.{◌≡◌, IfErr, IsErrOf, OnOk};
+ghost use Rattle.disk_model.specs.Disk.{Rises, SameDisk};
 ghost use Rattle.session_engine.specs.World.{World};
 ghost use Rattle.session_engine.specs.Host.{IsHost};
 ghost use Rattle.arrivals.specs.Held.{to_come};
-ghost use Rattle.offline_programs.specs.Faults.{FailedSince};
+ghost use Rattle.offline_programs.specs.Faults.{Untouched};
 ghost use Rattle.offline_programs.specs.declared.fault.RunFault.TheVariants as told;
 ghost use Rattle.journal.specs.declared.opening.OpenCause.TheVariants as opens;
 ghost use Rattle.host_events.specs.declared.outcome.HostFault.TheVariants as hosts;
@@ -16,6 +16,7 @@ use crate::stepping::{Stand, step};
 use arrivals::{InputLines, Sources};
 use child_edge::stop_all;
 use disk_model::Disk;
+use journal::OpenFault;
 use offline_programs::RunFault;
 use session_engine::Host;
 use std::alloc::Global;
@@ -79,6 +80,15 @@ fn live_and_stop<R: Read, D: Disk, S: Sources, T: Tells, W: Write>(
     done
 }
 
+/// What a live worksheet answers at its end, and the disk that it was given.
+#[derive(Drop)]
+pub struct LiveEnd<D: Disk> {
+    /// The disk, with what was reported.
+    pub disk: D,
+    /// Nothing, or why it ended early.
+    pub answer: Result<(), RunFault>,
+}
+
 /// Holds the worksheet on a disk open as long as an input lasts: its lines are taken while interpreters
 /// work, and what their children write is taken when it comes. What an event gives is printed at once, in
 /// words (docs/SCRIPT.md, "Live", has the lines) or as JSON (docs/JSON.md). It gives the disk back.
@@ -99,31 +109,42 @@ pub fn live<R: Read, W: Write, D: Disk, S: Sources, T: Tells>(
     writer: &mut W,
     disk: D,
     sources: &mut S,
-) -> Result<D, RunFault>
+) -> LiveEnd<D>
 where
     R: Drop,
-    ensures lived { IfOk result (λ back. LiveDone T.voice S.after S.clock S.wakes (R.remaining reader) (D.view disk)
-        sources.old sources.new (W.contents writer.old) (W.contents writer.new) (D.view back)) }
-    ensures same { IfOk result (λ back. SameDisk (D.view disk) (D.view back)) }
-    ensures fault { IfErr result (TellsLive T.voice S.after S.clock S.wakes (R.remaining reader) (D.view disk)
-        sources.old sources.new (W.contents writer.old) (W.contents writer.new)
-        ((writer.new ≡ writer.old) × (sources.new ≡ sources.old))) }
+    ensures lived { OnOk result.answer (LiveDone T.voice S.after S.clock S.wakes (R.remaining reader) (D.view disk)
+        sources.old sources.new (W.contents writer.old) (W.contents writer.new) (D.view result.disk)) }
+    ensures same { SameDisk (D.view disk) (D.view result.disk) }
+    ensures fault { IfErr result.answer (TellsLive T.voice S.after S.clock S.wakes (R.remaining reader)
+        (D.view disk) (D.view result.disk) sources.old sources.new
+        (W.contents writer.old) (W.contents writer.new)
+        (((writer.new ≡ writer.old) × (sources.new ≡ sources.old))
+        × Untouched (D.view disk) (D.view result.disk))) }
 
     // That the disk failed, at the opening or later, is reported only where it did.
-    ensures unopened { IsErrOf result (told.Open opens.Disk) → FailedSince D.view disk }
-    ensures failed { IsErrOf result (told.Host hosts.Disk) → FailedSince D.view disk }
+    ensures unopened { IsErrOf result.answer (told.Open opens.Disk)
+        → Rises (D.view disk).faults (D.view result.disk).faults }
+    ensures failed { IsErrOf result.answer (told.Host hosts.Disk)
+        → Rises (D.view disk).faults (D.view result.disk).faults }
 {
     let Ok(mut lines) = InputLines::new(alloc, reader) else {
-        return Err(RunFault::OutOfMemory);
+        return LiveEnd {
+            disk,
+            answer: Err(RunFault::OutOfMemory),
+        };
     };
     let mut host = match Host::open(alloc, disk) {
         Ok(host) => host,
-        Err(fault) => return Err(RunFault::Open(fault.cause)),
+        Err(OpenFault { cause, disk }) => {
+            return LiveEnd {
+                disk,
+                answer: Err(RunFault::Open(cause)),
+            };
+        }
     };
-    let done = live_and_stop(alloc, &mut host, sources, &mut lines, tells, writer);
-    let disk = host.close();
-    match done {
-        Ok(()) => Ok(disk),
-        Err(fault) => Err(fault),
+    let answer = live_and_stop(alloc, &mut host, sources, &mut lines, tells, writer);
+    LiveEnd {
+        disk: host.close(),
+        answer,
     }
 }

@@ -1,1 +1,2 @@
 pub mod Scripting
+pub mod Shows

@@ -1,7 +1,7 @@
 -- The line that tells a fault, and what a fault tells of a disk.
 use Rattle.std.specs.Prelude.{ℕ, List, [], ◌∷◌, ◌++◌, codes}
 use Rattle.std.specs.Fmt.{decimal}
-use Rattle.disk_model.specs.Disk.{DiskView, InModel, Rises, SameDisk, bytes_on}
+use Rattle.disk_model.specs.Disk.{DiskView, InModel, Looks, bytes_on}
 use Rattle.journal.specs.declared.opening.OpenCause.{OpenCause}
 use Rattle.journal.specs.declared.opening.OpenCause.TheVariants as opens
 use Rattle.recovery.specs.Sheets.{TellsOfSheet}
@@ -42,6 +42,6 @@ TellsShow disk nothing fault.InputTooLong = ⊥
 TellsShow disk nothing (fault.Host why) = ⊥
 TellsShow disk nothing fault.InUse = ⊥
 
--- The disk later, with a failure of a call counted since, or with a count at its greatest.
-abbrev pub FailedSince : {D : Type 0} → (D → DiskView) → D → Type 0
-FailedSince {D = D} view disk = (later : D) × SameDisk (view disk) (view later) × Rises (view disk).faults (view later).faults
+-- no byte of the disk was changed, and at every moment each image was one that a crash could leave before
+abbrev pub Untouched : DiskView → DiskView → Type 0
+Untouched disk later = InModel disk (Looks disk.history later.history)

@@ -17,6 +17,7 @@ use Rattle.worksheet.specs.Contents.{Contents}
 use Rattle.worksheet.specs.Ops.{sheet_of}
 use Rattle.offline_programs.specs.declared.fault.RunFault.{RunFault}
 use Rattle.offline_programs.specs.declared.fault.RunFault.TheVariants as fault
+use Rattle.offline_programs.specs.declared.rescuing.FrontFault.{FrontFault}
 use Rattle.offline_programs.specs.declared.rescuing.RescueFault.{RescueFault}
 use Rattle.offline_programs.specs.declared.rescuing.RescueFault.TheVariants as rescues
 
@@ -34,6 +35,16 @@ TellsRescue disk fault.Input = ⊥
 TellsRescue disk fault.InputTooLong = ⊥
 TellsRescue disk (fault.Host why) = ⊥
 TellsRescue disk fault.InUse = ⊥
+
+-- the disk whose front was read, after that
+abbrev pub front_disk : {D : Type 0} → Result (Rescued D) (FrontFault D) → D
+front_disk (Ok found) = found.disk
+front_disk (Err unread) = unread.disk
+
+-- what was found there, or why nothing was
+abbrev pub front_answer : {D : Type 0} → Result (Rescued D) (FrontFault D) → Result (Rescued D) RunFault
+front_answer (Ok found) = Ok found
+front_answer (Err unread) = Err unread.fault
 
 -- The front of a disk was read: what was found are the ops there, up to the first damage, and no byte
 -- of the disk was changed, whatever is answered.

@@ -12,6 +12,6 @@ mod writing;
 pub use fault::{RunFault, fault_text};
 pub use input::{LONGEST_STANDARD_INPUT, read_input};
 pub use memory::run_memory;
-pub use printing::show;
-pub use rescuing::{RescueFault, read_front, save_rescued};
+pub use printing::{Shown, show};
+pub use rescuing::{FrontFault, RescueFault, Saved, read_front, save_rescued};
 pub use writing::{tell_bad_line, tell_replies, tell_sheet};

@@ -3,7 +3,7 @@ ghost use Rattle.std.specs.Prelude.{◌≡◌, ◌≤◌, Err, List, IfErr, OnOk
 ghost use Rattle.std.specs.Io.KnownBytes.{Appends};
 ghost use Rattle.recovery.specs.Sheets.{Makes};
 ghost use Rattle.offline_programs.specs.Rescue as printed;
-ghost use Rattle.offline_programs.specs.Rescue.{FrontIsRead, RescueIsSaved};
+ghost use Rattle.offline_programs.specs.Rescue.{FrontIsRead, RescueIsSaved, front_answer, front_disk};
 ghost use Rattle.offline_programs.specs.declared.fault.RunFault.TheVariants as fault;
 ghost use Rattle.offline_programs.specs.declared.rescuing.RescueFault.TheVariants as rescues;
 ghost use Rattle.worksheet.specs.declared.op.Op.{Op};
@@ -11,8 +11,8 @@ ghost use Rattle.worksheet.specs.declared.op.Op.{Op};
 use crate::RunFault;
 use disk_model::Disk;
 use host_events::HostFault;
-use journal::OpenCause;
-use recovery::{Rescued, SaveCause, rescue, save};
+use journal::{OpenCause, OpenFault};
+use recovery::{Rescued, SaveCause, SaveFault, rescue, save};
 use std::alloc::Global;
 use std::io::Write;
 use thiserror::Error;
@@ -29,15 +29,27 @@ pub enum RescueFault {
     Run(RunFault),
 }
 
+/// Why nothing was read that could be rescued, and the disk.
+#[derive(Drop)]
+pub struct FrontFault<D: Disk> {
+    /// Why nothing was read.
+    pub fault: RunFault,
+    /// The disk, on which reads alone were made.
+    pub disk: D,
+}
+
 /// What stands on a worksheet's disk before its first damage. It changes no byte of it.
 ///
 /// `Open` where the disk has no header, where it fails, or memory is refused. Damage is no fault here.
-pub fn read_front<D: Disk>(alloc: Global, disk: D) -> Result<Rescued<D>, RunFault>
-    ensures { (after : D) × FrontIsRead D.view disk after result }
+pub fn read_front<D: Disk>(alloc: Global, disk: D) -> Result<Rescued<D>, FrontFault<D>>
+    ensures { FrontIsRead D.view disk (front_disk result) (front_answer result) }
 {
     match rescue(alloc, disk) {
         Ok(found) => Ok(found),
-        Err(fault) => Err(RunFault::Open(fault.cause)),
+        Err(OpenFault { cause, disk }) => Err(FrontFault {
+            fault: RunFault::Open(cause),
+            disk,
+        }),
     }
 }
 
@@ -67,6 +79,15 @@ fn write_kept<W: Write>(kept: u64, damage: Option<u64>, writer: &mut W) -> Resul
     Ok(())
 }
 
+/// What the writing of a new worksheet answers, and the disk that it was given.
+#[derive(Drop)]
+pub struct Saved<D: Disk> {
+    /// The disk, as it stands.
+    pub disk: D,
+    /// Nothing, or why the worksheet wasn't written, or not reported.
+    pub answer: Result<(), RescueFault>,
+}
+
 /// Writes what was rescued to an empty disk of at least 11 bytes of room, and then tells on a line of
 /// `writer` how much it is: `kept N, whole`, or `kept N, damaged at OFFSET`.
 pub fn save_rescued<D: Disk, N: Disk, W: Write>(
@@ -74,22 +95,31 @@ pub fn save_rescued<D: Disk, N: Disk, W: Write>(
     found: &Rescued<D>,
     disk: N,
     writer: &mut W,
-) -> Result<(), RescueFault>
+) -> Saved<N>
     requires room { 11 ≤ (N.view disk).room }
     requires made { (ops : List Op) × Makes ops found.now.sheet.contents }
-    ensures saved { (new : N)
-        × RescueIsSaved (N.view disk) (N.view new) found.now.sheet.contents result }
-    ensures told { OnOk result
+    ensures saved { RescueIsSaved (N.view disk) (N.view result.disk)
+        found.now.sheet.contents result.answer }
+    ensures told { OnOk result.answer
         (Appends (W.contents writer.old) (W.contents writer.new)
         (printed.kept_text found.now.kept found.now.damage)) }
-    ensures untold { IfErr result
+    ensures untold { IfErr result.answer
         (λ e. (e ≡ rescues.Run fault.Output → ⊥) → writer.new ≡ writer.old) }
 {
     match save(alloc, disk, &found.sheet) {
-        Ok(_) => match write_kept(found.kept, found.damage, writer) {
-            Ok(()) => Ok(()),
-            Err(fault) => Err(RescueFault::Run(fault)),
+        Ok(disk) => match write_kept(found.kept, found.damage, writer) {
+            Ok(()) => Saved {
+                disk,
+                answer: Ok(()),
+            },
+            Err(fault) => Saved {
+                disk,
+                answer: Err(RescueFault::Run(fault)),
+            },
         },
-        Err(fault) => Err(save_fault(fault.cause)),
+        Err(SaveFault { cause, disk }) => Saved {
+            disk,
+            answer: Err(save_fault(cause)),
+        },
     }
 }

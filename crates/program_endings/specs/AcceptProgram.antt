@@ -1,6 +1,6 @@
 -- How the program `check --accept` ends: what it evaluates, writes and accepts, what it tells on which stream, and the exit status.
 use Rattle.std.specs.Prelude.{◌≡◌, ◌==◌, ◌&&◌, ℕ, Bool, List, Option, Result, Ok, Err, IfErr, IfOk}
-use Rattle.disk_model.specs.Disk.{DiskView, Rises}
+use Rattle.disk_model.specs.Disk.{Rises}
 use Rattle.journal.specs.declared.opening.OpenCause.TheVariants as opens
 use Rattle.sheet_check.specs.Accept.{AcceptAnswer}
 use Rattle.sheet_check.specs.Evaluated.{Way}
@@ -12,6 +12,7 @@ use Rattle.program_endings.specs.CheckProgram.{finds_any}
 use Rattle.program_endings.specs.Ending.{ProgramAnswer, TellsFault, status_of}
 use Rattle.program_endings.specs.Faults.{no_files}
 use Rattle.program_endings.specs.declared.ending.Ending.{Ending}
+use Rattle.sheet_files.specs.Closing.{Closable}
 use Rattle.sheet_files.specs.declared.files_fault.FilesFault.{FilesFault}
 
 -- no field was left unanswered, and where those of one session are asked for, any was checked
@@ -25,18 +26,20 @@ answer_of_acceptance chosen (Err why) = Err why
 
 -- The check of the worksheet on a disk, from children c to d, what it wrote and accepted, and how the program ends: the status follows
 -- from the counts.
-pub record AcceptDone {D C W E : Type 0} (view : D → DiskView) (o : Way C) (chosen : Chosen) (disk : D) (c d : C) (written : W → Option (List ℕ)) (a b : W)
+pub record AcceptDone {D C W E : Type 0} (k : Closable D) (o : Way C) (chosen : Chosen) (disk : D) (c d : C) (written : W → Option (List ℕ)) (a b : W)
     (said : E → Option (List ℕ)) (old new : E) (ending : Ending) : Type 0 where
+  -- the disk, as it was closed
   pub later : D
+  pub closed : k.closed later
   pub answer : Result Counts RunFault
-  pub accepted : AcceptAnswer o chosen (view disk) (view later) c d (written a) (written b) ((b ≡ a) × (d ≡ c)) answer
+  pub accepted : AcceptAnswer o chosen (k.view disk) (k.view later) c d (written a) (written b) ((b ≡ a) × (d ≡ c)) answer
   -- that the disk failed at the opening is reported only where it did
-  pub failed : answer ≡ Err (fault.Open opens.Disk) → Rises (view disk).faults (view later).faults
+  pub failed : answer ≡ Err (fault.Open opens.Disk) → Rises (k.view disk).faults (k.view later).faults
   pub status : ending.status ≡ status_of (answer_of_acceptance chosen answer)
   pub told : TellsFault said old new ending.told (answer_of_acceptance chosen answer)
 
 -- how `check --accept` ends on its files, or on why they weren't opened
-abbrev pub AcceptEnds : {D C W E : Type 0} → (D → DiskView) → Way C → Chosen → Result D FilesFault → C → C → (W → Option (List ℕ)) → W → W → (E → Option (List ℕ)) → E → E → Ending → Type 0
-AcceptEnds view o chosen files c d written a b said old new ending =
+abbrev pub AcceptEnds : {D C W E : Type 0} → Closable D → Way C → Chosen → Result D FilesFault → C → C → (W → Option (List ℕ)) → W → W → (E → Option (List ℕ)) → E → E → Ending → Type 0
+AcceptEnds k o chosen files c d written a b said old new ending =
     IfErr files (λ why. (b ≡ a) × (d ≡ c) × (ending.status ≡ 1) × TellsFault said old new ending.told (Err (no_files why)))
-    × IfOk files (λ disk. AcceptDone view o chosen disk c d written a b said old new ending)
+    × IfOk files (λ disk. AcceptDone k o chosen disk c d written a b said old new ending)

@@ -1,6 +1,6 @@
 -- How the program `check` ends: what it evaluates and writes, what it tells on which stream, and the exit status.
 use Rattle.std.specs.Prelude.{◌≡◌, ◌==◌, ◌&&◌, ℕ, Bool, true, nat_lt, List, Option, Some, None, Result, Ok, Err, IfErr, IfOk}
-use Rattle.disk_model.specs.Disk.{DiskView, Rises}
+use Rattle.disk_model.specs.Disk.{Rises}
 use Rattle.journal.specs.declared.opening.OpenCause.TheVariants as opens
 use Rattle.sheet_check.specs.Check.{CheckAnswer, OnlyRead}
 use Rattle.sheet_check.specs.Evaluated.{Way}
@@ -13,6 +13,7 @@ use Rattle.offline_programs.specs.declared.fault.RunFault.TheVariants as fault
 use Rattle.program_endings.specs.Ending.{ProgramAnswer, TellsFault, status_of}
 use Rattle.program_endings.specs.Faults.{no_files}
 use Rattle.program_endings.specs.declared.ending.Ending.{Ending}
+use Rattle.sheet_files.specs.Closing.{Closable}
 use Rattle.sheet_files.specs.declared.files_fault.FilesFault.{FilesFault}
 
 -- no output differs, and no field was left unanswered
@@ -37,19 +38,21 @@ answer_of_check chosen (Err why) = Err why
 
 -- The check of the worksheet on a disk, from children c to d, what it wrote, and how the program ends: the status follows from the
 -- counts.
-pub record CheckDone {D C W E : Type 0} (view : D → DiskView) (o : Way C) (chosen : Chosen) (F : Format) (disk : D) (c d : C) (written : W → Option (List ℕ)) (a b : W)
+pub record CheckDone {D C W E : Type 0} (k : Closable D) (o : Way C) (chosen : Chosen) (F : Format) (disk : D) (c d : C) (written : W → Option (List ℕ)) (a b : W)
     (said : E → Option (List ℕ)) (old new : E) (ending : Ending) : Type 0 where
+  -- the disk, as it was closed
   pub later : D
+  pub closed : k.closed later
   pub answer : Result Counts RunFault
-  pub checked : CheckAnswer o chosen F (view disk) c d (written a) (written b) ((b ≡ a) × (d ≡ c)) answer
-  pub read : OnlyRead (view disk) (view later)
+  pub checked : CheckAnswer o chosen F (k.view disk) c d (written a) (written b) ((b ≡ a) × (d ≡ c)) answer
+  pub read : OnlyRead (k.view disk) (k.view later)
   -- that the disk failed is reported only where it did
-  pub failed : answer ≡ Err (fault.Open opens.Disk) → Rises (view disk).faults (view later).faults
+  pub failed : answer ≡ Err (fault.Open opens.Disk) → Rises (k.view disk).faults (k.view later).faults
   pub status : ending.status ≡ status_of (answer_of_check chosen answer)
   pub told : TellsFault said old new ending.told (answer_of_check chosen answer)
 
 -- how `check` ends on its files, or on why they weren't opened
-abbrev pub CheckEnds : {D C W E : Type 0} → (D → DiskView) → Way C → Chosen → Format → Result D FilesFault → C → C → (W → Option (List ℕ)) → W → W → (E → Option (List ℕ)) → E → E → Ending → Type 0
-CheckEnds view o chosen F files c d written a b said old new ending =
+abbrev pub CheckEnds : {D C W E : Type 0} → Closable D → Way C → Chosen → Format → Result D FilesFault → C → C → (W → Option (List ℕ)) → W → W → (E → Option (List ℕ)) → E → E → Ending → Type 0
+CheckEnds k o chosen F files c d written a b said old new ending =
     IfErr files (λ why. (b ≡ a) × (d ≡ c) × (ending.status ≡ 1) × TellsFault said old new ending.told (Err (no_files why)))
-    × IfOk files (λ disk. CheckDone view o chosen F disk c d written a b said old new ending)
+    × IfOk files (λ disk. CheckDone k o chosen F disk c d written a b said old new ending)

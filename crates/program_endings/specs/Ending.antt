@@ -12,6 +12,11 @@ use Rattle.offline_programs.specs.declared.fault.RunFault.TheVariants as fault
 abbrev pub ProgramAnswer : Type 0
 ProgramAnswer = Result Bool RunFault
 
+-- what a program answers that came to its end, or had a fault
+abbrev pub answer_of : {T : Type 0} → Result T RunFault → ProgramAnswer
+answer_of (Ok done) = Ok true
+answer_of (Err why) = Err why
+
 -- 0 where all is well, and 1 where the stream has a fault or an open block, or the program met a fault
 abbrev pub status_of : ProgramAnswer → ℕ
 status_of (Ok true) = 0

@@ -1,10 +1,10 @@
 -- How the program `eval` ends: what it evaluates and writes, what it says on which stream, and the exit status.
 use Rattle.std.specs.Io.KnownBytes.{Appends}
 use Rattle.std.specs.Prelude.{◌≡◌, ◌==◌, ◌&&◌, ℕ, Bool, true, false, List, Option, Some, None, Result, Ok, Err, IfOk, IfErr, IsErrOf, if◌then◌else◌}
-use Rattle.disk_model.specs.Disk.{DiskView, SameDisk}
+use Rattle.disk_model.specs.Disk.{Rises, SameDisk}
 use Rattle.journal.specs.declared.opening.OpenCause.TheVariants as opens
 use Rattle.host_events.specs.declared.outcome.HostFault.TheVariants as hosts
-use Rattle.offline_programs.specs.Faults.{FailedSince}
+use Rattle.offline_programs.specs.Faults.{Untouched}
 use Rattle.offline_programs.specs.declared.fault.RunFault.{RunFault}
 use Rattle.offline_programs.specs.declared.fault.RunFault.TheVariants as fault
 use Rattle.tellings.specs.Voice.{IsUntold, Voice}
@@ -14,21 +14,17 @@ use Rattle.tellings.specs.declared.note.Overs.{Overs}
 use Rattle.evaluation.specs.Steps.{Setting}
 use Rattle.evaluation.specs.Evaluation.{EvaluationDone, TellsEvalFault}
 use Rattle.evaluation.specs.Faults.{eval_fault_text}
-use Rattle.evaluation.specs.declared.evaluating.Evaluated.{Evaluated}
+use Rattle.evaluation.specs.declared.evaluating.EvalEnd.{EvalEnd}
 use Rattle.evaluation.specs.declared.fault.EvalFault.{EvalFault}
 use Rattle.evaluation.specs.declared.fault.EvalFault.TheVariants as evals
 use Rattle.program_endings.specs.LiveProgram.{Framed, LastTold}
 use Rattle.program_endings.specs.StrictProgram.{TellsStop}
 use Rattle.program_endings.specs.declared.ending.Ending.{Ending}
-use Rattle.program_endings.specs.declared.eval_program.EvalEnd.{EvalEnd}
+use Rattle.sheet_files.specs.Closing.{Closable}
 
 -- what the program answers: where the evaluation stopped, if it did, and what it came to; or its fault
 abbrev pub EvaluationAnswer : Type 0
 EvaluationAnswer = Result EvalEnd EvalFault
-
-abbrev pub answer_of_evaluation : {D : Type 0} → Result (Evaluated D) EvalFault → EvaluationAnswer
-answer_of_evaluation (Ok done) = Ok (record { stopped_at = done.stopped_at; counts = done.counts })
-answer_of_evaluation (Err why) = Err why
 
 -- no field's time was over, and none was passed over
 abbrev pub are_none_over : Option Overs → Bool
@@ -61,34 +57,37 @@ LastOfEval V contents old new told (Err (evals.Run why)) = LastTold V contents o
 
 -- What `eval` answers on a disk between what stands first and last, and what it has written and done then; `nothing` says that it wrote
 -- nothing and called no child.
-pub record EvaluatesTo {D C : Type 0} (o : Setting C) (view : D → DiskView) (disk : D) (c d : C) (a b : Option (List ℕ)) (nothing : Type 0) (answer : EvaluationAnswer) : Type 0 where
-  -- the disk that it gives back is the same one, after the evaluation
-  pub evaluated : IfOk answer (λ end. (back : D) × SameDisk (view disk) (view back) × EvaluationDone o (view disk) c d a b (view back) end.stopped_at end.counts)
+pub record EvaluatesTo {D C : Type 0} (o : Setting C) (k : Closable D) (disk : D) (c d : C) (a b : Option (List ℕ)) (nothing : Type 0) (answer : EvaluationAnswer) : Type 0 where
+  -- the disk after the evaluation, as it was closed
+  pub later : D
+  pub closed : k.closed later
+  pub same : SameDisk (k.view disk) (k.view later)
+  pub evaluated : IfOk answer (λ end. EvaluationDone o (k.view disk) c d a b (k.view later) end.stopped_at end.counts)
   -- that the disk failed, at the opening or later, is reported only where it did
-  pub unopened : IsErrOf answer (evals.Run (fault.Open opens.Disk)) → FailedSince view disk
-  pub failed : IsErrOf answer (evals.Run (fault.Host hosts.Disk)) → FailedSince view disk
-  pub fault : IfErr answer (TellsEvalFault o (view disk) c d a b nothing)
+  pub unopened : IsErrOf answer (evals.Run (fault.Open opens.Disk)) → Rises (k.view disk).faults (k.view later).faults
+  pub failed : IsErrOf answer (evals.Run (fault.Host hosts.Disk)) → Rises (k.view disk).faults (k.view later).faults
+  pub fault : IfErr answer (TellsEvalFault o (k.view disk) (k.view later) c d a b (nothing × Untouched (k.view disk) (k.view later)))
 
 -- What `eval` answers on a disk, and what it has written and done then.
-pub data EvalAnswer {D C O : Type 0} (o : Setting C) (view : D → DiskView) (disk : D) (c d : C) (contents : O → Option (List ℕ)) (old new : O) (answer : EvaluationAnswer) : Type 0 where
+pub data EvalAnswer {D C O : Type 0} (o : Setting C) (k : Closable D) (disk : D) (c d : C) (contents : O → Option (List ℕ)) (old new : O) (answer : EvaluationAnswer) : Type 0 where
   -- it greeted, and evaluated; where it came to its end that was reported last
   evaluated : (first last : O) → Framed o.voice contents frame.Hello old first
-      → EvaluatesTo o view disk c d (contents first) (contents last) ((last ≡ first) × (d ≡ c)) answer
+      → EvaluatesTo o k disk c d (contents first) (contents last) ((last ≡ first) × (d ≡ c)) answer
       → IfOk answer (λ end. Framed o.voice contents frame.End last new) → IfErr answer (λ why. new ≡ last)
-      → EvalAnswer o view disk c d contents old new answer
-  -- what stands first couldn't be written, and nothing was done
-  ungreeted : (why : RunFault) → answer ≡ Err (evals.Run why) → o.voice.takes_memory ≡ true → IsUntold o.voice why → d ≡ c → EvalAnswer o view disk c d contents old new answer
+      → EvalAnswer o k disk c d contents old new answer
+  -- what stands first couldn't be written, and nothing was done but to close the disk
+  ungreeted : (why : RunFault) → answer ≡ Err (evals.Run why) → o.voice.takes_memory ≡ true → IsUntold o.voice why → d ≡ c → k.closed disk → EvalAnswer o k disk c d contents old new answer
   -- what stands last couldn't be written
   unended : (why : RunFault) (first last : O) (end : EvalEnd) → answer ≡ Err (evals.Run why) → o.voice.takes_memory ≡ true → IsUntold o.voice why → Framed o.voice contents frame.Hello old first
-      → EvaluatesTo o view disk c d (contents first) (contents last) ((last ≡ first) × (d ≡ c)) (Ok end)
-      → EvalAnswer o view disk c d contents old new answer
+      → EvaluatesTo o k disk c d (contents first) (contents last) ((last ≡ first) × (d ≡ c)) (Ok end)
+      → EvalAnswer o k disk c d contents old new answer
 
 -- What `eval` comes to on a disk, from children c to d, and how it ends.
-pub record EvaluationEnded {D C O E : Type 0} (o : Setting C) (view : D → DiskView) (disk : D) (c d : C) (contents : O → Option (List ℕ)) (first last : O)
+pub record EvaluationEnded {D C O E : Type 0} (o : Setting C) (k : Closable D) (disk : D) (c d : C) (contents : O → Option (List ℕ)) (first last : O)
     (said : E → Option (List ℕ)) (old new : E) (ending : Ending) : Type 0 where
   pub answer : EvaluationAnswer
   pub mid : O
-  pub answered : EvalAnswer o view disk c d contents first mid answer
+  pub answered : EvalAnswer o k disk c d contents first mid answer
   pub last_told : LastOfEval o.voice contents mid last ending.told answer
   pub status : ending.status ≡ evaluation_status answer
   pub told : TellsEval said old new ending.told answer

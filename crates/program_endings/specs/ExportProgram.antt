@@ -1,7 +1,7 @@
 -- How the program `export` ends: what it writes of its files, what it tells on which stream, and the exit status.
 use Rattle.std.specs.Prelude.{◌≡◌, ℕ, Bool, true, false, List, Option, Result, Ok, Err, IfOk, IfErr, IsErrOf, OnOk}
 use Rattle.std.specs.Io.KnownBytes.{Appends}
-use Rattle.disk_model.specs.Disk.{DiskView, InModel, Looks, Rises, SameDisk, bytes_on}
+use Rattle.disk_model.specs.Disk.{InModel, Looks, Rises, SameDisk, bytes_on}
 use Rattle.journal.specs.declared.opening.OpenCause.TheVariants as opens
 use Rattle.recovery.specs.Sheets.{IsSheetImage}
 use Rattle.sheet_export.specs.Formats.{ReadsBack, TellsExport, export_fault_text, has_text, text_in}
@@ -12,6 +12,7 @@ use Rattle.offline_programs.specs.declared.fault.RunFault.TheVariants as fault
 use Rattle.worksheet.specs.Contents.{Contents}
 use Rattle.program_endings.specs.Faults.{no_files}
 use Rattle.program_endings.specs.declared.ending.Ending.{Ending}
+use Rattle.sheet_files.specs.Closing.{Closable}
 use Rattle.sheet_files.specs.declared.files_fault.FilesFault.{FilesFault}
 
 -- what `export` answers: nothing, or why the worksheet wasn't written
@@ -28,29 +29,30 @@ TellsExported contents old new told (Ok u) = new ≡ old
 TellsExported contents old new told (Err why) = told ≡ true → Appends (contents old) (contents new) (export_fault_text why)
 
 -- What `export` answers on a disk, and what it has written then: its clauses. `contents` are the bytes that the writer holds.
-pub record ExportedFrom {D W : Type 0} (view : D → DiskView) (contents : W → Option (List ℕ)) (format : Format) (title : List ℕ)
+pub record ExportedFrom {D W : Type 0} (k : Closable D) (contents : W → Option (List ℕ)) (format : Format) (title : List ℕ)
     (disk : D) (old new : W) (answer : ExportAnswer) : Type 0 where
-  -- the disk, on which reads alone were made
+  -- the disk, on which reads alone were made, as it was closed
   pub later : D
-  pub written : InModel (view disk) ((sheet : Contents) → IsSheetImage sheet (bytes_on (view disk))
+  pub closed : k.closed later
+  pub written : InModel (k.view disk) ((sheet : Contents) → IsSheetImage sheet (bytes_on (k.view disk))
       → OnOk answer ((has_text format sheet ≡ true) × Appends (contents old) (contents new) (text_in format title sheet)))
-  pub reads : InModel (view disk) ((sheet : Contents) → IsSheetImage sheet (bytes_on (view disk)) → OnOk answer (ReadsBack format sheet))
-  pub found : InModel (view disk) (OnOk answer ((sheet : Contents) × IsSheetImage sheet (bytes_on (view disk))))
+  pub reads : InModel (k.view disk) ((sheet : Contents) → IsSheetImage sheet (bytes_on (k.view disk)) → OnOk answer (ReadsBack format sheet))
+  pub found : InModel (k.view disk) (OnOk answer ((sheet : Contents) × IsSheetImage sheet (bytes_on (k.view disk))))
   -- that there is no script is reported only of a worksheet that has none
-  pub without : InModel (view disk) (IsErrOf answer exports.NoScript → (sheet : Contents) × IsSheetImage sheet (bytes_on (view disk)) × (has_text format sheet ≡ false))
-  pub same : SameDisk (view disk) (view later)
-  pub looks : InModel (view disk) (Looks (view disk).history (view later).history)
+  pub without : InModel (k.view disk) (IsErrOf answer exports.NoScript → (sheet : Contents) × IsSheetImage sheet (bytes_on (k.view disk)) × (has_text format sheet ≡ false))
+  pub same : SameDisk (k.view disk) (k.view later)
+  pub looks : InModel (k.view disk) (Looks (k.view disk).history (k.view later).history)
   -- that the disk failed is reported only where it did
-  pub failed : IsErrOf answer (exports.Run (fault.Open opens.Disk)) → Rises (view disk).faults (view later).faults
-  pub fault : IfErr answer (TellsExport format (view disk) (new ≡ old))
+  pub failed : IsErrOf answer (exports.Run (fault.Open opens.Disk)) → Rises (k.view disk).faults (k.view later).faults
+  pub fault : IfErr answer (TellsExport format (k.view disk) (new ≡ old))
 
 -- what `export` answers on its files, or on why they weren't opened
-abbrev pub Exports : {D W : Type 0} → (D → DiskView) → (W → Option (List ℕ)) → Format → List ℕ → Result D FilesFault → W → W → ExportAnswer → Type 0
-Exports view contents format title files old new answer =
+abbrev pub Exports : {D W : Type 0} → Closable D → (W → Option (List ℕ)) → Format → List ℕ → Result D FilesFault → W → W → ExportAnswer → Type 0
+Exports k contents format title files old new answer =
     IfErr files (λ why. (answer ≡ Err (exports.Run (no_files why))) × (new ≡ old))
-    × IfOk files (λ disk. ExportedFrom view contents format title disk old new answer)
+    × IfOk files (λ disk. ExportedFrom k contents format title disk old new answer)
 
 -- how `export` ends on its files, or on why they weren't opened
-abbrev pub ExportEnds : {D W E : Type 0} → (D → DiskView) → Result D FilesFault → Format → List ℕ → (W → Option (List ℕ)) → W → W → (E → Option (List ℕ)) → E → E → Ending → Type 0
-ExportEnds view files format title written a b said old new ending =
-    (answer : ExportAnswer) × Exports view written format title files a b answer × (ending.status ≡ export_status answer) × TellsExported said old new ending.told answer
+abbrev pub ExportEnds : {D W E : Type 0} → Closable D → Result D FilesFault → Format → List ℕ → (W → Option (List ℕ)) → W → W → (E → Option (List ℕ)) → E → E → Ending → Type 0
+ExportEnds k files format title written a b said old new ending =
+    (answer : ExportAnswer) × Exports k written format title files a b answer × (ending.status ≡ export_status answer) × TellsExported said old new ending.told answer

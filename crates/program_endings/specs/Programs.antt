@@ -14,10 +14,12 @@ use Rattle.host_events.specs.declared.outcome.HostFault.TheVariants as hosts
 use Rattle.sheet_text.specs.Texts.{sheet_text}
 use Rattle.child_edge.specs.Faithful.{Relation}
 use Rattle.program_endings.specs.Ending.{ProgramAnswer}
-use Rattle.offline_programs.specs.Faults.{FailedSince, TellsShow}
+use Rattle.program_endings.specs.declared.ending.Ending.{Ending}
+use Rattle.offline_programs.specs.Faults.{TellsShow, Untouched}
 use Rattle.program_endings.specs.Faults.{create_fault_text, no_files}
 use Rattle.offline_programs.specs.Input.{longest_standard_input}
 use Rattle.sheet_programs.specs.Run.{RunDone, TellsRun}
+use Rattle.sheet_files.specs.Closing.{Closable}
 use Rattle.sheet_files.specs.declared.files_fault.FilesFault.{FilesFault}
 use Rattle.sheet_files.specs.declared.files_fault.MakeFault.{MakeFault}
 use Rattle.sheet_files.specs.declared.files_fault.MakeFault.TheVariants as makes
@@ -54,31 +56,50 @@ pub record Creates (old new : DiskView) (answer : CreateAnswer) : Type 0 where
   pub untouched : InModel old ((AreEmpty (bytes_on old) → ⊥) → Looks old.history new.history)
   pub faulty : answer ≡ Some creates.Disk → Rises old.faults new.faults
 
--- What `show` answers on its files, or on why they weren't opened, and what it has written then:
--- its clauses. `contents` are the bytes that the writer holds.
-pub record ShowAnswer {D W : Type 0} (view : D → DiskView) (contents : W → Option (List ℕ))
-    (files : Result D FilesFault) (old new : W) (answer : ProgramAnswer) : Type 0 where
-  pub unopened : IfErr files (λ why. (answer ≡ Err (no_files why)) × (new ≡ old))
+-- how `create` ends on a disk, as which the disk was closed, and what is said of it
+abbrev pub CreateEnds : {D E : Type 0} → Closable D → D → (E → Option (List ℕ)) → E → E → Ending → Type 0
+CreateEnds {D = D} k disk said old new ending =
+    (later : D) × k.closed later × ((answer : CreateAnswer) × Creates (k.view disk) (k.view later) answer
+    × (ending.status ≡ create_status answer) × TellsCreate said old new ending.told answer)
+
+-- What `show` answers on a disk, and what it has written then. `contents` are the bytes that the writer holds.
+pub record ShownOf {D W : Type 0} (k : Closable D) (contents : W → Option (List ℕ))
+    (disk : D) (old new : W) (answer : ProgramAnswer) : Type 0 where
+  -- the disk, on which reads alone were made, as it was closed
+  pub later : D
+  pub closed : k.closed later
   pub whole : IfOk answer (λ whole. whole ≡ true)
-  pub shown : IfOk files (λ disk. InModel (view disk)
-      ((sheet : Contents) → IsSheetImage sheet (bytes_on (view disk))
-      → IfOk answer (λ whole. Appends (contents old) (contents new) (sheet_text sheet))))
-  pub found : IfOk files (λ disk. InModel (view disk)
-      (IfOk answer (λ whole. (sheet : Contents) × IsSheetImage sheet (bytes_on (view disk)))))
+  pub shown : InModel (k.view disk)
+      ((sheet : Contents) → IsSheetImage sheet (bytes_on (k.view disk))
+      → IfOk answer (λ whole. Appends (contents old) (contents new) (sheet_text sheet)))
+  pub found : InModel (k.view disk)
+      (IfOk answer (λ whole. (sheet : Contents) × IsSheetImage sheet (bytes_on (k.view disk))))
+  pub same : SameDisk (k.view disk) (k.view later)
+  pub looks : InModel (k.view disk) (Looks (k.view disk).history (k.view later).history)
   -- that the disk failed is reported only where it did
-  pub failed : IfOk files (λ disk. IsErrOf answer (fault.Open opens.Disk) → FailedSince view disk)
-  pub fault : IfOk files (λ disk. IfErr answer (TellsShow (view disk) (new ≡ old)))
+  pub failed : IsErrOf answer (fault.Open opens.Disk) → Rises (k.view disk).faults (k.view later).faults
+  pub fault : IfErr answer (TellsShow (k.view disk) (new ≡ old))
+
+-- What `show` answers on its files, or on why they weren't opened.
+abbrev pub ShowAnswer : {D W : Type 0} → Closable D → (W → Option (List ℕ)) → Result D FilesFault → W → W → ProgramAnswer → Type 0
+ShowAnswer k contents files old new answer =
+    IfErr files (λ why. (answer ≡ Err (no_files why)) × (new ≡ old))
+    × IfOk files (λ disk. ShownOf k contents disk old new answer)
 
 -- What `run` answers on a disk, and what it has written and done then: its clauses. The script is the
 -- stream of its reader, where that is known; `nothing` says that it wrote nothing and called no child.
-pub record RunAnswer {D C : Type 0} (view : D → DiskView) (R : Relation C)
+pub record RunAnswer {D C : Type 0} (k : Closable D) (R : Relation C)
     (stream : Option (List ℕ)) (disk : D) (c d : C) (a b : Option (List ℕ)) (nothing : Type 0)
     (answer : ProgramAnswer) : Type 0 where
-  -- the disk that it gives back is the same one, after the run
-  pub ran : IfOk answer (λ whole. (whole ≡ true) × ((back : D) × SameDisk (view disk) (view back)
-      × IfSome stream (λ script. RunDone R script (view disk) c d a b (view back))))
+  -- the disk after the run, as it was closed
+  pub later : D
+  pub closed : k.closed later
+  pub same : SameDisk (k.view disk) (k.view later)
+  pub ran : IfOk answer (λ whole. (whole ≡ true)
+      × IfSome stream (λ script. RunDone R script (k.view disk) c d a b (k.view later)))
   pub short : IfOk answer (λ whole. IfSome stream (λ script. length script ≤ longest_standard_input))
   -- that the disk failed, at the opening or later, is reported only where it did
-  pub unopened : IsErrOf answer (fault.Open opens.Disk) → FailedSince view disk
-  pub failed : IsErrOf answer (fault.Host hosts.Disk) → FailedSince view disk
-  pub fault : IfErr answer (TellsRun R stream (view disk) c d a b nothing)
+  pub unopened : IsErrOf answer (fault.Open opens.Disk) → Rises (k.view disk).faults (k.view later).faults
+  pub failed : IsErrOf answer (fault.Host hosts.Disk) → Rises (k.view disk).faults (k.view later).faults
+  pub fault : IfErr answer (TellsRun R stream (k.view disk) (k.view later) c d a b
+      (nothing × Untouched (k.view disk) (k.view later)))

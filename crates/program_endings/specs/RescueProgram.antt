@@ -2,7 +2,6 @@
 -- status.
 use Rattle.std.specs.Prelude.{◌≡◌, ℕ, Bool, List, Option, Result, Ok, Err, IfOk, IfErr}
 use Rattle.std.specs.Io.KnownBytes.{Appends}
-use Rattle.disk_model.specs.Disk.{DiskView}
 use Rattle.journal.specs.declared.opening.CreateCause.TheVariants as creates
 use Rattle.recovery.specs.declared.rescuing.Rescued.{Rescued}
 use Rattle.offline_programs.specs.Rescue.{FrontIsRead, RescueIsSaved, kept_text}
@@ -14,15 +13,21 @@ use Rattle.program_endings.specs.Ending.{TellsFault}
 use Rattle.program_endings.specs.Faults.{no_files}
 use Rattle.program_endings.specs.Programs.{TellsMake}
 use Rattle.program_endings.specs.declared.ending.Ending.{Ending}
+use Rattle.sheet_files.specs.Closing.{Closable}
 use Rattle.sheet_files.specs.declared.files_fault.FilesFault.{FilesFault}
 use Rattle.sheet_files.specs.declared.files_fault.MakeFault.{MakeFault}
 use Rattle.sheet_files.specs.declared.files_fault.MakeFault.TheVariants as makes
 
+-- What `rescue` reads of a disk, which is closed where nothing is found.
+abbrev pub DiskIsRead : {D : Type 0} → Closable D → D → Result (Rescued D) RunFault → Type 0
+DiskIsRead {D = D} k disk answer =
+    (after : D) × FrontIsRead k.view disk after answer × IfErr answer (λ why. k.closed after)
+
 -- What `rescue` reads of its files, or answers where they weren't opened.
-abbrev pub FilesAreRead : {D : Type 0} → (D → DiskView) → Result D FilesFault
+abbrev pub FilesAreRead : {D : Type 0} → Closable D → Result D FilesFault
     → Result (Rescued D) RunFault → Type 0
-FilesAreRead {D = D} view files answer = IfErr files (λ why. answer ≡ Err (no_files why))
-    × IfOk files (λ disk. (after : D) × FrontIsRead view disk after answer)
+FilesAreRead k files answer = IfErr files (λ why. answer ≡ Err (no_files why))
+    × IfOk files (λ disk. DiskIsRead k disk answer)
 
 abbrev pub rescue_status : Result Unit RescueFault → ℕ
 rescue_status (Ok u) = 0
@@ -48,18 +53,18 @@ WritesKept contents old new kept damage (Ok u) =
 WritesKept contents old new kept damage (Err why) =
     (why ≡ rescues.Run fault.Output → ⊥) → new ≡ old
 
--- How `rescue` ends on a new disk: what becomes of the disk, what is written to both streams, and the status.
-abbrev pub RescueDone : {D N W E : Type 0} → (N → DiskView) → N → Rescued D
+-- How `rescue` ends on a new disk: as which the disk was closed, what is written to both streams, and the status.
+abbrev pub RescueDone : {D N W E : Type 0} → Closable N → N → Rescued D
     → (W → Option (List ℕ)) → W → W → (E → Option (List ℕ)) → E → E → Ending → Type 0
-RescueDone {N = N} view disk found written a b said old new ending =
-    (later : N) × (answer : Result Unit RescueFault)
-    × RescueIsSaved (view disk) (view later) found.sheet.contents answer
+RescueDone {N = N} k disk found written a b said old new ending =
+    (later : N) × k.closed later × ((answer : Result Unit RescueFault)
+    × RescueIsSaved (k.view disk) (k.view later) found.sheet.contents answer
     × WritesKept written a b found.kept found.damage answer
-    × (ending.status ≡ rescue_status answer) × TellsRescued said old new ending.told answer
+    × (ending.status ≡ rescue_status answer) × TellsRescued said old new ending.told answer)
 
--- So on the files of the new worksheet, or on why they weren't made.
-abbrev pub RescueEnds : {D N W E : Type 0} → (N → DiskView) → Result N MakeFault → Rescued D
+-- So on the files of the new worksheet, or on why they weren't made. The disk that was rescued from is closed as it was found.
+abbrev pub RescueEnds : {D N W E : Type 0} → (D → Type 0) → Closable N → Result N MakeFault → Rescued D
     → (W → Option (List ℕ)) → W → W → (E → Option (List ℕ)) → E → E → Ending → Type 0
-RescueEnds view files found written a b said old new ending =
-    IfErr files (λ why. (b ≡ a) × (ending.status ≡ 1) × TellsMake said old new ending.told why)
-    × IfOk files (λ disk. RescueDone view disk found written a b said old new ending)
+RescueEnds closed k files found written a b said old new ending = closed found.disk
+    × IfErr files (λ why. (b ≡ a) × (ending.status ≡ 1) × TellsMake said old new ending.told why)
+    × IfOk files (λ disk. RescueDone k disk found written a b said old new ending)

@@ -3,6 +3,7 @@ ghost use Rattle.std.specs.Prelude.{◌≡◌, Result};
 ghost use Rattle.check_report.specs.declared.verdict.Counts.{Counts};
 ghost use Rattle.offline_programs.specs.declared.fault.RunFault.{RunFault};
 ghost use Rattle.sheet_check.specs.Evaluated.{way};
+ghost use Rattle.sheet_files.specs.Closing.{closable};
 ghost use Rattle.program_endings.specs.Ending.{TellsFault, status_of};
 ghost use Rattle.program_endings.specs.AcceptProgram.{AcceptDone, AcceptEnds, accepts_all, answer_of_acceptance};
 
@@ -11,10 +12,9 @@ use crate::telling::no_files;
 use crate::{Ending, end_program};
 use arrivals::Sources;
 use check_report::{Chosen, Counts, Request};
-use disk_model::Disk;
 use offline_programs::RunFault;
 use sheet_check::{Checked, Progress, check_accepting};
-use sheet_files::FilesFault;
+use sheet_files::{Close, FilesFault};
 use std::alloc::Global;
 use std::io::Write;
 
@@ -41,8 +41,8 @@ fn end_acceptance<E: Write>(
     }
 }
 
-/// Checks the worksheet on a disk and accepts what differs, and drops the disk at the end.
-fn accept_on<D: Disk, C: Sources, P: Progress, W: Write, E: Write>(
+/// Checks the worksheet on a disk and accepts what differs, and closes the disk at the end.
+fn accept_on<D: Close, C: Sources, P: Progress, W: Write, E: Write>(
     alloc: Global,
     request: &Request,
     disk: D,
@@ -51,20 +51,19 @@ fn accept_on<D: Disk, C: Sources, P: Progress, W: Write, E: Write>(
     output: &mut W,
     errors: &mut E,
 ) -> Ending
-    ensures { AcceptDone D.view (way C.after C.clock C.wakes request.now.limit)
+    ensures { AcceptDone (closable D.view D.closed) (way C.after C.clock C.wakes request.now.limit)
         request.now.chosen disk sources.old sources.new W.contents output.old output.new
         E.contents errors.old errors.new result }
 {
-    let Checked { disk: _, answer } = check_accepting(
-        alloc, request, disk, sources, progress, output,
-    );
+    let Checked { disk, answer } = check_accepting(alloc, request, disk, sources, progress, output);
+    disk.close();
     end_acceptance(&request.chosen, answer, errors)
 }
 
 /// The whole program `check --accept` on its files, which are opened to write, or on why they weren't
 /// opened: the report goes to `output`, each part flushed once what it tells is on the disk, and the
 /// line of a fault to `errors`. `progress` shows how far it is, and nothing at its end.
-pub fn run_accept<D: Disk, C: Sources, P: Progress, W: Write, E: Write>(
+pub fn run_accept<D: Close, C: Sources, P: Progress, W: Write, E: Write>(
     alloc: Global,
     request: &Request,
     files: Result<D, FilesFault>,
@@ -73,7 +72,7 @@ pub fn run_accept<D: Disk, C: Sources, P: Progress, W: Write, E: Write>(
     output: &mut W,
     errors: &mut E,
 ) -> Ending
-    ensures { AcceptEnds D.view (way C.after C.clock C.wakes request.now.limit)
+    ensures { AcceptEnds (closable D.view D.closed) (way C.after C.clock C.wakes request.now.limit)
         request.now.chosen files sources.old sources.new W.contents output.old output.new
         E.contents errors.old errors.new result }
 {

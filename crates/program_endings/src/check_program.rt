@@ -3,6 +3,7 @@ ghost use Rattle.std.specs.Prelude.{◌≡◌, Result};
 ghost use Rattle.check_report.specs.declared.verdict.Counts.{Counts};
 ghost use Rattle.offline_programs.specs.declared.fault.RunFault.{RunFault};
 ghost use Rattle.sheet_check.specs.Evaluated.{way};
+ghost use Rattle.sheet_files.specs.Closing.{closable};
 ghost use Rattle.program_endings.specs.Ending.{TellsFault, status_of};
 ghost use Rattle.program_endings.specs.CheckProgram.{CheckDone, CheckEnds, all_same, answer_of_check, finds_any, passes};
 
@@ -10,10 +11,9 @@ use crate::telling::no_files;
 use crate::{Ending, end_program};
 use arrivals::Sources;
 use check_report::{Chosen, Counts, Request};
-use disk_model::Disk;
 use offline_programs::RunFault;
 use sheet_check::{Checked, Progress, check};
-use sheet_files::FilesFault;
+use sheet_files::{Close, FilesFault};
 use std::alloc::Global;
 use std::io::Write;
 
@@ -53,8 +53,8 @@ fn end_check<E: Write>(chosen: &Chosen, answer: Result<Counts, RunFault>, errors
     }
 }
 
-/// Checks the worksheet on a disk, and drops the disk at the end.
-fn check_on<D: Disk, C: Sources, P: Progress, W: Write, E: Write>(
+/// Checks the worksheet on a disk, and closes the disk at the end.
+fn check_on<D: Close, C: Sources, P: Progress, W: Write, E: Write>(
     alloc: Global,
     request: &Request,
     disk: D,
@@ -63,18 +63,19 @@ fn check_on<D: Disk, C: Sources, P: Progress, W: Write, E: Write>(
     output: &mut W,
     errors: &mut E,
 ) -> Ending
-    ensures { CheckDone D.view (way C.after C.clock C.wakes request.now.limit)
+    ensures { CheckDone (closable D.view D.closed) (way C.after C.clock C.wakes request.now.limit)
         request.now.chosen request.now.format disk sources.old sources.new W.contents output.old output.new
         E.contents errors.old errors.new result }
 {
-    let Checked { disk: _, answer } = check(alloc, request, disk, sources, progress, output);
+    let Checked { disk, answer } = check(alloc, request, disk, sources, progress, output);
+    disk.close();
     end_check(&request.chosen, answer, errors)
 }
 
 /// The whole program `check` on its files, or on why they weren't opened: the report goes to `output`,
 /// each part flushed when it is known, and the line of a fault to `errors`. `progress` shows how far
 /// it is, and nothing at its end.
-pub fn run_check<D: Disk, C: Sources, P: Progress, W: Write, E: Write>(
+pub fn run_check<D: Close, C: Sources, P: Progress, W: Write, E: Write>(
     alloc: Global,
     request: &Request,
     files: Result<D, FilesFault>,
@@ -83,7 +84,7 @@ pub fn run_check<D: Disk, C: Sources, P: Progress, W: Write, E: Write>(
     output: &mut W,
     errors: &mut E,
 ) -> Ending
-    ensures { CheckEnds D.view (way C.after C.clock C.wakes request.now.limit)
+    ensures { CheckEnds (closable D.view D.closed) (way C.after C.clock C.wakes request.now.limit)
         request.now.chosen request.now.format files sources.old sources.new W.contents output.old output.new
         E.contents errors.old errors.new result }
 {

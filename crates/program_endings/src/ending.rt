@@ -1,6 +1,6 @@
 //! How the program ends: its exit status, and what it says on which stream.
 ghost use Rattle.std.specs.Prelude.{◌≡◌};
-ghost use Rattle.program_endings.specs.Ending.{BlocksAnswer, ProgramAnswer, TellsFault, status_of};
+ghost use Rattle.program_endings.specs.Ending.{BlocksAnswer, ProgramAnswer, TellsFault, answer_of, status_of};
 
 use crate::blocks;
 use offline_programs::{RunFault, fault_text};
@@ -22,6 +22,16 @@ pub(crate) fn ended(status: u8, told: bool) -> Ending
     ensures { result ≡ record { status = status; told = told } }
 {
     Ending { status, told }
+}
+
+/// The answer of a program that came to its end, or had a fault.
+pub(crate) fn answered<T: Copy>(done: Result<T, RunFault>) -> Result<bool, RunFault>
+    ensures { result ≡ answer_of done }
+{
+    match done {
+        Ok(_) => Ok(true),
+        Err(fault) => Err(fault),
+    }
 }
 
 /// Ends a program by what it answered, whether all is well or its fault, which is printed on a line.

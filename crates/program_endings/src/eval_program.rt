@@ -2,30 +2,21 @@
 ghost use Rattle.std.specs.Prelude.{◌≡◌, Err, IfErr, IfOk, []};
 ghost use Rattle.evaluation.specs.Steps.{setting};
 ghost use Rattle.program_endings.specs.Ending.{TellsFault};
-ghost use Rattle.program_endings.specs.EvalProgram.{EvalAnswer, EvaluatesTo, EvaluationEnded, LastOfEval, TellsEval, answer_of_evaluation, are_none_over, counts_status, evaluation_status};
+ghost use Rattle.program_endings.specs.EvalProgram.{EvalAnswer, EvaluatesTo, EvaluationEnded, LastOfEval, TellsEval, are_none_over, counts_status, evaluation_status};
 ghost use Rattle.program_endings.specs.Faults as printed;
 ghost use Rattle.program_endings.specs.LiveProgram.{LastTold};
+ghost use Rattle.sheet_files.specs.Closing.{closable};
 
 use crate::Ending;
 use crate::ending::ended;
 use crate::live_program::end_told;
 use crate::telling::no_files;
 use arrivals::Sources;
-use disk_model::Disk;
-use evaluation::{EvalFault, Evaluated, Plan, eval_fault_text, evaluate};
-use sheet_files::FilesFault;
+use evaluation::{EvalEnd, EvalFault, Evaluated, Plan, eval_fault_text, evaluate};
+use sheet_files::{Close, FilesFault};
 use std::alloc::Global;
 use std::io::Write;
 use tellings::{Counts, Frame, Overs, Tells};
-
-/// Where an evaluation came to its end.
-#[derive(Clone, Copy, Debug, PartialEq, Eq)]
-pub struct EvalEnd {
-    /// The line after which it stopped, where it did.
-    pub stopped_at: Option<u64>,
-    /// What it came to.
-    pub counts: Counts,
-}
 
 /// Whether no field's time was over, and none was passed over.
 fn are_none(overs: Option<Overs>) -> bool
@@ -48,21 +39,8 @@ fn status_by(counts: Counts) -> u8
     }
 }
 
-/// The answer of an evaluation that gave its disk back, which is dropped, or had a fault.
-fn answered<D: Disk>(done: Result<Evaluated<D>, EvalFault>) -> Result<EvalEnd, EvalFault>
-    ensures { result ≡ answer_of_evaluation done }
-{
-    match done {
-        Ok(done) => Ok(EvalEnd {
-            stopped_at: done.stopped_at,
-            counts: done.counts,
-        }),
-        Err(fault) => Err(fault),
-    }
-}
-
-/// Evaluates the fields of the worksheet on a disk, and drops the disk at the end.
-fn evaluate_on<W: Write, D: Disk, S: Sources, T: Tells>(
+/// Evaluates the fields of the worksheet on a disk, and closes the disk at the end.
+fn evaluate_on<W: Write, D: Close, S: Sources, T: Tells>(
     alloc: Global,
     plan: &Plan,
     tells: &T,
@@ -70,15 +48,17 @@ fn evaluate_on<W: Write, D: Disk, S: Sources, T: Tells>(
     disk: D,
     sources: &mut S,
 ) -> Result<EvalEnd, EvalFault>
-    ensures { EvaluatesTo (setting T.voice S.after S.clock S.wakes plan.now []) D.view disk sources.old sources.new
+    ensures { EvaluatesTo (setting T.voice S.after S.clock S.wakes plan.now []) (closable D.view D.closed) disk sources.old sources.new
         (W.contents output.old) (W.contents output.new)
         ((output.new ≡ output.old) × (sources.new ≡ sources.old)) result }
 {
-    answered(evaluate(alloc, plan, tells, output, disk, sources))
+    let Evaluated { disk, answer } = evaluate(alloc, plan, tells, output, disk, sources);
+    disk.close();
+    answer
 }
 
 /// The same, between what stands first and what stands last.
-fn evaluate_framed<W: Write, D: Disk, S: Sources, T: Tells>(
+fn evaluate_framed<W: Write, D: Close, S: Sources, T: Tells>(
     alloc: Global,
     plan: &Plan,
     tells: &T,
@@ -86,10 +66,11 @@ fn evaluate_framed<W: Write, D: Disk, S: Sources, T: Tells>(
     disk: D,
     sources: &mut S,
 ) -> Result<EvalEnd, EvalFault>
-    ensures { EvalAnswer (setting T.voice S.after S.clock S.wakes plan.now []) D.view disk sources.old sources.new
+    ensures { EvalAnswer (setting T.voice S.after S.clock S.wakes plan.now []) (closable D.view D.closed) disk sources.old sources.new
         W.contents output.old output.new result }
 {
     if let Err(fault) = tells.frame(Frame::Hello, output) {
+        disk.close();
         return Err(EvalFault::Run(fault));
     }
     match evaluate_on(alloc, plan, tells, output, disk, sources) {
@@ -147,7 +128,7 @@ fn end_evaluation<W: Write, E: Write, T: Tells>(
 }
 
 /// Evaluates the fields of the worksheet on a disk, and reports how that ended.
-fn end_on<W: Write, E: Write, D: Disk, S: Sources, T: Tells>(
+fn end_on<W: Write, E: Write, D: Close, S: Sources, T: Tells>(
     alloc: Global,
     plan: &Plan,
     tells: &T,
@@ -156,7 +137,7 @@ fn end_on<W: Write, E: Write, D: Disk, S: Sources, T: Tells>(
     disk: D,
     sources: &mut S,
 ) -> Ending
-    ensures { EvaluationEnded (setting T.voice S.after S.clock S.wakes plan.now []) D.view disk sources.old sources.new
+    ensures { EvaluationEnded (setting T.voice S.after S.clock S.wakes plan.now []) (closable D.view D.closed) disk sources.old sources.new
         W.contents output.old output.new E.contents errors.old errors.new result }
 {
     let answer = evaluate_framed(alloc, plan, tells, output, disk, sources);
@@ -166,7 +147,7 @@ fn end_on<W: Write, E: Write, D: Disk, S: Sources, T: Tells>(
 /// The whole program `eval` on its files, or on why they weren't opened: what comes of each field goes to
 /// `output`, flushed at once, and the counts at the end. The line of a fault goes to `errors`, and so does
 /// that of the place where a strict evaluation stopped.
-pub fn run_evaluation<W: Write, E: Write, D: Disk, S: Sources, T: Tells>(
+pub fn run_evaluation<W: Write, E: Write, D: Close, S: Sources, T: Tells>(
     alloc: Global,
     plan: &Plan,
     tells: &T,
@@ -180,7 +161,7 @@ pub fn run_evaluation<W: Write, E: Write, D: Disk, S: Sources, T: Tells>(
         × (result.status ≡ 1)
         × TellsFault E.contents errors.old errors.new result.told (Err (printed.no_files why))) }
 
-    ensures files { IfOk files (λ disk. EvaluationEnded (setting T.voice S.after S.clock S.wakes plan.now []) D.view disk
+    ensures files { IfOk files (λ disk. EvaluationEnded (setting T.voice S.after S.clock S.wakes plan.now []) (closable D.view D.closed) disk
         sources.old sources.new W.contents output.old output.new E.contents errors.old errors.new result) }
 {
     match files {

@@ -1,39 +1,40 @@
 //! The program `export` over a worksheet's files, from its files on.
 ghost use Rattle.std.specs.Prelude.{◌≡◌};
 ghost use Rattle.program_endings.specs.ExportProgram.{ExportEnds, ExportedFrom, Exports, TellsExported, export_status};
+ghost use Rattle.sheet_files.specs.Closing.{closable};
 
 use crate::Ending;
 use crate::ending::ended;
 use crate::telling::no_files;
-use disk_model::Disk;
 use sheet_export::{ExportFault, Exported, Format, export, export_fault_text};
-use sheet_files::FilesFault;
+use sheet_files::{Close, FilesFault};
 use std::alloc::Global;
 use std::io::Write;
 
-/// Writes the worksheet of a disk in a format, and drops the disk at the end.
-fn export_disk<D: Disk, W: Write>(
+/// Writes the worksheet of a disk in a format, and closes the disk at the end.
+fn export_disk<D: Close, W: Write>(
     alloc: Global,
     format: Format,
     disk: D,
     title: &[u8],
     output: &mut W,
 ) -> Result<(), ExportFault>
-    ensures { ExportedFrom D.view W.contents format title.now disk output.old output.new result }
+    ensures { ExportedFrom (closable D.view D.closed) W.contents format title.now disk output.old output.new result }
 {
-    let Exported { disk: _, answer } = export(alloc, format, disk, title, output);
+    let Exported { disk, answer } = export(alloc, format, disk, title, output);
+    disk.close();
     answer
 }
 
 /// Writes the worksheet of a disk in a format, where there is one.
-fn export_files<D: Disk, W: Write>(
+fn export_files<D: Close, W: Write>(
     alloc: Global,
     format: Format,
     files: Result<D, FilesFault>,
     title: &[u8],
     output: &mut W,
 ) -> Result<(), ExportFault>
-    ensures { Exports D.view W.contents format title.now files output.old output.new result }
+    ensures { Exports (closable D.view D.closed) W.contents format title.now files output.old output.new result }
 {
     match files {
         Err(why) => Err(ExportFault::Run(no_files(why))),
@@ -55,7 +56,7 @@ fn end_export<E: Write>(answer: Result<(), ExportFault>, errors: &mut E) -> Endi
 /// The whole program `export` on its files, or on why they weren't opened: the worksheet goes to
 /// `output` in this format, with this title where the format has one, and the line of a fault to
 /// `errors`.
-pub fn run_export<D: Disk, W: Write, E: Write>(
+pub fn run_export<D: Close, W: Write, E: Write>(
     alloc: Global,
     format: Format,
     files: Result<D, FilesFault>,
@@ -63,7 +64,7 @@ pub fn run_export<D: Disk, W: Write, E: Write>(
     output: &mut W,
     errors: &mut E,
 ) -> Ending
-    ensures { ExportEnds D.view files format title.now W.contents output.old output.new
+    ensures { ExportEnds (closable D.view D.closed) files format title.now W.contents output.old output.new
         E.contents errors.old errors.new result }
 {
     let answer = export_files(alloc, format, files, title, output);

@@ -7,7 +7,7 @@ mod accept_program;
 mod block_lines;
 mod check_program;
 mod ending;
-pub mod eval_program;
+mod eval_program;
 mod export_program;
 mod live_program;
 mod programs;

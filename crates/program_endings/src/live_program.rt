@@ -2,31 +2,22 @@
 ghost use Rattle.std.specs.Prelude.{◌≡◌, Err, IfErr, IfOk};
 ghost use Rattle.program_endings.specs.Ending.{ProgramAnswer, TellsFault, status_of};
 ghost use Rattle.program_endings.specs.Faults as printed;
-ghost use Rattle.program_endings.specs.LiveProgram.{LastTold, LiveAnswer, LivesOn, answer_of};
+ghost use Rattle.program_endings.specs.LiveProgram.{LastTold, LiveAnswer, LivesOn};
+ghost use Rattle.sheet_files.specs.Closing.{closable};
 
+use crate::ending::answered;
 use crate::telling::no_files;
 use crate::{Ending, end_program};
 use arrivals::Sources;
-use disk_model::Disk;
-use live::live;
+use live::{LiveEnd, live};
 use offline_programs::RunFault;
-use sheet_files::FilesFault;
+use sheet_files::{Close, FilesFault};
 use std::alloc::Global;
 use std::io::{Read, Write};
 use tellings::{Frame, Tells};
 
-/// The answer of a program that gave its disk back, which is dropped, or had a fault.
-fn answered<D: Drop>(done: Result<D, RunFault>) -> Result<bool, RunFault>
-    ensures { result ≡ answer_of done }
-{
-    match done {
-        Ok(_) => Ok(true),
-        Err(fault) => Err(fault),
-    }
-}
-
-/// Holds the worksheet on a disk open, and drops the disk at the end.
-fn live_on<R: Read, W: Write, D: Disk, S: Sources, T: Tells>(
+/// Holds the worksheet on a disk open, and closes the disk at the end.
+fn live_on<R: Read, W: Write, D: Close, S: Sources, T: Tells>(
     alloc: Global,
     input: &mut R,
     tells: &T,
@@ -34,15 +25,17 @@ fn live_on<R: Read, W: Write, D: Disk, S: Sources, T: Tells>(
     disk: D,
     sources: &mut S,
 ) -> Result<bool, RunFault>
-    ensures { LivesOn T.voice D.view S.after S.clock S.wakes (R.remaining input.old) disk sources.old sources.new
+    ensures { LivesOn T.voice (closable D.view D.closed) S.after S.clock S.wakes (R.remaining input.old) disk sources.old sources.new
         (W.contents output.old) (W.contents output.new)
         ((output.new ≡ output.old) × (sources.new ≡ sources.old)) result }
 {
-    answered(live(alloc, input, tells, output, disk, sources))
+    let LiveEnd { disk, answer } = live(alloc, input, tells, output, disk, sources);
+    disk.close();
+    answered(answer)
 }
 
 /// The same, between what stands first and what stands last.
-fn live_framed<R: Read, W: Write, D: Disk, S: Sources, T: Tells>(
+fn live_framed<R: Read, W: Write, D: Close, S: Sources, T: Tells>(
     alloc: Global,
     input: &mut R,
     tells: &T,
@@ -50,10 +43,11 @@ fn live_framed<R: Read, W: Write, D: Disk, S: Sources, T: Tells>(
     disk: D,
     sources: &mut S,
 ) -> Result<bool, RunFault>
-    ensures { LiveAnswer T.voice D.view S.after S.clock S.wakes (R.remaining input.old) disk sources.old sources.new
+    ensures { LiveAnswer T.voice (closable D.view D.closed) S.after S.clock S.wakes (R.remaining input.old) disk sources.old sources.new
         W.contents output.old output.new result }
 {
     if let Err(fault) = tells.frame(Frame::Hello, output) {
+        disk.close();
         return Err(fault);
     }
     match live_on(alloc, input, tells, output, disk, sources) {
@@ -95,7 +89,7 @@ pub(crate) fn end_told<W: Write, E: Write, T: Tells>(
 }
 
 /// Holds the worksheet on a disk open, and tells the fault.
-fn end_live<R: Read, W: Write, E: Write, D: Disk, S: Sources, T: Tells>(
+fn end_live<R: Read, W: Write, E: Write, D: Close, S: Sources, T: Tells>(
     alloc: Global,
     input: &mut R,
     tells: &T,
@@ -105,7 +99,7 @@ fn end_live<R: Read, W: Write, E: Write, D: Disk, S: Sources, T: Tells>(
     sources: &mut S,
 ) -> Ending
     ensures { (answer : ProgramAnswer) × (mid : W)
-        × LiveAnswer T.voice D.view S.after S.clock S.wakes (R.remaining input.old) disk sources.old sources.new
+        × LiveAnswer T.voice (closable D.view D.closed) S.after S.clock S.wakes (R.remaining input.old) disk sources.old sources.new
         W.contents output.old mid answer
         × LastTold T.voice W.contents mid output.new result.told answer
         × (result.status ≡ status_of answer)
@@ -118,7 +112,7 @@ fn end_live<R: Read, W: Write, E: Write, D: Disk, S: Sources, T: Tells>(
 /// The whole program `live` on its files, or on why they weren't opened: its lines come from `input`,
 /// which is read only where there are files, and what comes of them and of interpreters goes to `output`,
 /// flushed at once. The line of a fault goes to `errors`.
-pub fn run_live<R: Read, W: Write, E: Write, D: Disk, S: Sources, T: Tells>(
+pub fn run_live<R: Read, W: Write, E: Write, D: Close, S: Sources, T: Tells>(
     alloc: Global,
     input: &mut R,
     tells: &T,
@@ -134,7 +128,7 @@ pub fn run_live<R: Read, W: Write, E: Write, D: Disk, S: Sources, T: Tells>(
         × TellsFault E.contents errors.old errors.new result.told (Err (printed.no_files why))) }
 
     ensures files { IfOk files (λ disk. (answer : ProgramAnswer) × (mid : W)
-        × LiveAnswer T.voice D.view S.after S.clock S.wakes (R.remaining input.old) disk sources.old sources.new
+        × LiveAnswer T.voice (closable D.view D.closed) S.after S.clock S.wakes (R.remaining input.old) disk sources.old sources.new
         W.contents output.old mid answer
         × LastTold T.voice W.contents mid output.new result.told answer
         × (result.status ≡ status_of answer)

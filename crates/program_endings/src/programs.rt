@@ -3,16 +3,17 @@
 ghost use Rattle.std.specs.Prelude.{◌≡◌, ◌≤◌, Err, IfErr, IfOk};
 ghost use Rattle.program_endings.specs.Ending.{ProgramAnswer, TellsFault, status_of};
 ghost use Rattle.program_endings.specs.Faults as printed;
-ghost use Rattle.program_endings.specs.Programs.{CreateAnswer, Creates, RunAnswer, ShowAnswer, TellsCreate, TellsMake, create_status};
+ghost use Rattle.program_endings.specs.Programs.{CreateEnds, RunAnswer, ShowAnswer, ShownOf, TellsMake};
+ghost use Rattle.sheet_files.specs.Closing.{closable};
 
-use crate::ending::ended;
+use crate::ending::{answered, ended};
 use crate::telling::no_files;
 use crate::{Ending, create_fault_text, end_program};
 use child_calls::Children;
-use disk_model::Disk;
-use offline_programs::{RunFault, show};
-use sheet_files::{FilesFault, MakeFault};
-use sheet_programs::run;
+use journal::CreateFault;
+use offline_programs::{RunFault, Shown, show};
+use sheet_files::{Close, FilesFault, MakeFault};
+use sheet_programs::{Ran, run};
 use std::alloc::Global;
 use std::io::{Read, Write};
 
@@ -24,33 +25,34 @@ pub(crate) fn end_create<E: Write>(why: MakeFault, errors: &mut E) -> Ending
     ended(1, create_fault_text(why, errors).is_ok())
 }
 
-/// Lays an empty worksheet on a disk, and tells where that failed why.
-fn create_on<D: Disk, E: Write>(disk: D, errors: &mut E) -> Ending
+/// Lays an empty worksheet on a disk, closes the disk, and tells where that failed why.
+fn create_on<D: Close, E: Write>(disk: D, errors: &mut E) -> Ending
     requires { 11 ≤ (D.view disk).room }
-    ensures { (new : D) × (answer : CreateAnswer)
-        × Creates (D.view disk) (D.view new) answer
-        × (result.status ≡ create_status answer)
-        × TellsCreate E.contents errors.old errors.new result.told answer }
+    ensures { CreateEnds (closable D.view D.closed) disk E.contents errors.old errors.new result }
 {
     match journal::create(disk) {
-        Ok(_) => ended(0, true),
-        Err(fault) => end_create(MakeFault::Create(fault.cause), errors),
+        Ok(made) => {
+            made.close();
+            ended(0, true)
+        }
+        Err(CreateFault { cause, disk }) => {
+            disk.close();
+            end_create(MakeFault::Create(cause), errors)
+        }
     }
 }
 
 /// The whole program `create` on its files, or on why they weren't made: lays an empty worksheet,
 /// and tells on a line of `errors` why there is none.
-pub fn run_create<D: Disk, E: Write>(files: Result<D, MakeFault>, errors: &mut E) -> Ending
+pub fn run_create<D: Close, E: Write>(files: Result<D, MakeFault>, errors: &mut E) -> Ending
     requires { IfOk files (λ disk. 11 ≤ (D.view disk).room) }
 
     ensures no_files { IfErr files (λ why. (result.status ≡ 1)
         × TellsMake E.contents errors.old errors.new result.told why) }
 
     // What becomes of the disk, and what is said of it.
-    ensures files { IfOk files (λ disk. (new : D) × (answer : CreateAnswer)
-        × Creates (D.view disk) (D.view new) answer
-        × (result.status ≡ create_status answer)
-        × TellsCreate E.contents errors.old errors.new result.told answer) }
+    ensures files { IfOk files (λ disk. CreateEnds (closable D.view D.closed) disk
+        E.contents errors.old errors.new result) }
 {
     match files {
         Ok(disk) => create_on(disk, errors),
@@ -58,33 +60,39 @@ pub fn run_create<D: Disk, E: Write>(files: Result<D, MakeFault>, errors: &mut E
     }
 }
 
+/// Writes the worksheet of a disk, and closes the disk at the end.
+fn show_disk<D: Close, W: Write>(alloc: Global, disk: D, output: &mut W) -> Result<bool, RunFault>
+    ensures { ShownOf (closable D.view D.closed) W.contents disk output.old output.new result }
+{
+    let Shown { disk, answer } = show(alloc, disk, output);
+    disk.close();
+    answered(answer)
+}
+
 /// Writes the worksheet of a disk, where there is one.
-fn show_files<D: Disk, W: Write>(
+fn show_files<D: Close, W: Write>(
     alloc: Global,
     files: Result<D, FilesFault>,
     output: &mut W,
 ) -> Result<bool, RunFault>
-    ensures { ShowAnswer D.view W.contents files output.old output.new result }
+    ensures { ShowAnswer (closable D.view D.closed) W.contents files output.old output.new result }
 {
     match files {
         Err(why) => Err(no_files(why)),
-        Ok(disk) => match show(alloc, disk, output) {
-            Ok(()) => Ok(true),
-            Err(fault) => Err(fault),
-        },
+        Ok(disk) => show_disk(alloc, disk, output),
     }
 }
 
 /// The whole program `show` on its files, or on why they weren't opened: the worksheet goes to
 /// `output`, and the line of a fault to `errors`.
-pub fn run_show<D: Disk, W: Write, E: Write>(
+pub fn run_show<D: Close, W: Write, E: Write>(
     alloc: Global,
     files: Result<D, FilesFault>,
     output: &mut W,
     errors: &mut E,
 ) -> Ending
     ensures { (answer : ProgramAnswer)
-        × ShowAnswer D.view W.contents files output.old output.new answer
+        × ShowAnswer (closable D.view D.closed) W.contents files output.old output.new answer
         × (result.status ≡ status_of answer)
         × TellsFault E.contents errors.old errors.new result.told answer }
 {
@@ -92,26 +100,25 @@ pub fn run_show<D: Disk, W: Write, E: Write>(
     end_program(answer, errors)
 }
 
-/// Runs a script over a disk, and drops the disk at its end.
-fn run_on<R: Read, W: Write, D: Disk, C: Children>(
+/// Runs a script over a disk, and closes the disk at its end.
+fn run_on<R: Read, W: Write, D: Close, C: Children>(
     alloc: Global,
     input: &mut R,
     output: &mut W,
     disk: D,
     children: &mut C,
 ) -> Result<bool, RunFault>
-    ensures { RunAnswer D.view C.after (R.remaining input.old) disk children.old children.new
+    ensures { RunAnswer (closable D.view D.closed) C.after (R.remaining input.old) disk children.old children.new
         (W.contents output.old) (W.contents output.new)
         ((output.new ≡ output.old) × (children.new ≡ children.old)) result }
 {
-    match run(alloc, input, output, disk, children) {
-        Ok(_) => Ok(true),
-        Err(fault) => Err(fault),
-    }
+    let Ran { disk, answer } = run(alloc, input, output, disk, children);
+    disk.close();
+    answered(answer)
 }
 
 /// Runs a script over a disk, and tells its fault.
-fn end_run<R: Read, W: Write, E: Write, D: Disk, C: Children>(
+fn end_run<R: Read, W: Write, E: Write, D: Close, C: Children>(
     alloc: Global,
     input: &mut R,
     output: &mut W,
@@ -120,7 +127,7 @@ fn end_run<R: Read, W: Write, E: Write, D: Disk, C: Children>(
     children: &mut C,
 ) -> Ending
     ensures { (answer : ProgramAnswer)
-        × RunAnswer D.view C.after (R.remaining input.old) disk children.old children.new
+        × RunAnswer (closable D.view D.closed) C.after (R.remaining input.old) disk children.old children.new
         (W.contents output.old) (W.contents output.new)
         ((output.new ≡ output.old) × (children.new ≡ children.old)) answer
         × (result.status ≡ status_of answer)
@@ -133,7 +140,7 @@ fn end_run<R: Read, W: Write, E: Write, D: Disk, C: Children>(
 /// The whole program `run` on its files, or on why they weren't opened: the script comes from `input`,
 /// which is read only where there are files, and what its lines give goes to `output`, each line flushed.
 /// The line of a fault goes to `errors`.
-pub fn run_script<R: Read, W: Write, E: Write, D: Disk, C: Children>(
+pub fn run_script<R: Read, W: Write, E: Write, D: Close, C: Children>(
     alloc: Global,
     input: &mut R,
     output: &mut W,
@@ -147,7 +154,7 @@ pub fn run_script<R: Read, W: Write, E: Write, D: Disk, C: Children>(
         × TellsFault E.contents errors.old errors.new result.told (Err (printed.no_files why))) }
 
     ensures files { IfOk files (λ disk. (answer : ProgramAnswer)
-        × RunAnswer D.view C.after (R.remaining input.old) disk children.old children.new
+        × RunAnswer (closable D.view D.closed) C.after (R.remaining input.old) disk children.old children.new
         (W.contents output.old) (W.contents output.new)
         ((output.new ≡ output.old) × (children.new ≡ children.old)) answer
         × (result.status ≡ status_of answer)

@@ -1,7 +1,8 @@
 //! The program `rescue` over a worksheet's files, from its files on.
 ghost use Rattle.std.specs.Prelude.{◌≡◌, ◌≤◌, List, IfErr, IfOk, Result};
 ghost use Rattle.program_endings.specs.Programs.{TellsMake};
-ghost use Rattle.program_endings.specs.RescueProgram.{FilesAreRead, RescueDone, TellsRescueFault, TellsRescued, rescue_status};
+ghost use Rattle.program_endings.specs.RescueProgram.{DiskIsRead, FilesAreRead, RescueDone, RescueEnds, TellsRescueFault, TellsRescued, rescue_status};
+ghost use Rattle.sheet_files.specs.Closing.{closable};
 ghost use Rattle.recovery.specs.Sheets.{Makes};
 ghost use Rattle.worksheet.specs.declared.op.Op.{Op};
 
@@ -11,22 +12,36 @@ use crate::telling::no_files;
 use crate::{Ending, end_program};
 use disk_model::Disk;
 use journal::CreateCause;
-use offline_programs::{RescueFault, RunFault, read_front, save_rescued};
+use offline_programs::{FrontFault, RescueFault, RunFault, Saved, read_front, save_rescued};
 use recovery::Rescued;
-use sheet_files::{FilesFault, MakeFault};
+use sheet_files::{Close, FilesFault, MakeFault};
 use std::alloc::Global;
 use std::io::Write;
 
+/// What stands on a worksheet's disk before the first damage. Where that can't be had the disk is closed.
+fn read_disk<D: Close>(alloc: Global, disk: D) -> Result<Rescued<D>, RunFault>
+    ensures read { DiskIsRead (closable D.view D.closed) disk result }
+    ensures made { IfOk result (λ found. (ops : List Op) × Makes ops found.sheet.contents) }
+{
+    match read_front(alloc, disk) {
+        Ok(found) => Ok(found),
+        Err(FrontFault { fault, disk }) => {
+            disk.close();
+            Err(fault)
+        }
+    }
+}
+
 /// What stands in a worksheet's files before the first damage, or why that can't be had.
-pub fn read_rescued<D: Disk>(
+pub fn read_rescued<D: Close>(
     alloc: Global,
     files: Result<D, FilesFault>,
 ) -> Result<Rescued<D>, RunFault>
-    ensures read { FilesAreRead D.view files result }
+    ensures read { FilesAreRead (closable D.view D.closed) files result }
     ensures made { IfOk result (λ found. (ops : List Op) × Makes ops found.sheet.contents) }
 {
     match files {
-        Ok(disk) => read_front(alloc, disk),
+        Ok(disk) => read_disk(alloc, disk),
         Err(why) => Err(no_files(why)),
     }
 }
@@ -53,8 +68,8 @@ fn end_rescue<E: Write>(answer: Result<(), RescueFault>, errors: &mut E) -> Endi
     }
 }
 
-/// Writes what was rescued to a new disk, and ends the program.
-fn rescue_on<D: Disk, N: Disk, W: Write, E: Write>(
+/// Writes what was rescued to a new disk, closes the disk, and ends the program.
+fn rescue_on<D: Disk, N: Close, W: Write, E: Write>(
     alloc: Global,
     found: &Rescued<D>,
     disk: N,
@@ -63,16 +78,16 @@ fn rescue_on<D: Disk, N: Disk, W: Write, E: Write>(
 ) -> Ending
     requires room { 11 ≤ (N.view disk).room }
     requires made { (ops : List Op) × Makes ops found.now.sheet.contents }
-    ensures { RescueDone N.view disk found.now W.contents output.old output.new
+    ensures { RescueDone (closable N.view N.closed) disk found.now W.contents output.old output.new
         E.contents errors.old errors.new result }
 {
-    let answer = save_rescued(alloc, found, disk, output);
+    let Saved { disk, answer } = save_rescued(alloc, found, disk, output);
+    disk.close();
     end_rescue(answer, errors)
 }
 
-/// The end of the program `rescue` on the files of its new worksheet, or on why they weren't made: what
-/// was rescued is written there, how much it is goes to `output`, and the line of a fault to `errors`.
-pub fn run_rescue<D: Disk, N: Disk, W: Write, E: Write>(
+/// Writes what was rescued to the files of its new worksheet, where they were made, and ends the program.
+fn rescue_to<D: Disk, N: Close, W: Write, E: Write>(
     alloc: Global,
     found: &Rescued<D>,
     files: Result<N, MakeFault>,
@@ -86,11 +101,31 @@ pub fn run_rescue<D: Disk, N: Disk, W: Write, E: Write>(
         × TellsMake E.contents errors.old errors.new result.told why) }
 
     // What becomes of the disk, and what is said of it.
-    ensures files { IfOk files (λ disk. RescueDone N.view disk found.now
+    ensures files { IfOk files (λ disk. RescueDone (closable N.view N.closed) disk found.now
         W.contents output.old output.new E.contents errors.old errors.new result) }
 {
     match files {
         Ok(disk) => rescue_on(alloc, found, disk, output, errors),
         Err(why) => end_create(why, errors),
     }
+}
+
+/// The end of the program `rescue` on the files of its new worksheet, or on why they weren't made: what
+/// was rescued is written there, how much it is goes to `output`, and the line of a fault to `errors`. Last of
+/// all the disk that it was rescued from is closed.
+pub fn run_rescue<D: Close, N: Close, W: Write, E: Write>(
+    alloc: Global,
+    found: Rescued<D>,
+    files: Result<N, MakeFault>,
+    output: &mut W,
+    errors: &mut E,
+) -> Ending
+    requires room { IfOk files (λ disk. 11 ≤ (N.view disk).room) }
+    requires made { (ops : List Op) × Makes ops found.sheet.contents }
+    ensures { RescueEnds D.closed (closable N.view N.closed) files found
+        W.contents output.old output.new E.contents errors.old errors.new result }
+{
+    let ending = rescue_to(alloc, &found, files, output, errors);
+    found.disk.close();
+    ending
 }

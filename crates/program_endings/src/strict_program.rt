@@ -2,35 +2,33 @@
 ghost use Rattle.std.specs.Prelude.{◌≡◌, Err, IfErr, IfOk};
 ghost use Rattle.program_endings.specs.Ending.{TellsFault};
 ghost use Rattle.program_endings.specs.Faults as printed;
-ghost use Rattle.program_endings.specs.StrictProgram.{StrictEnded, TellsStop, answer_of_strict, strict_status};
+ghost use Rattle.program_endings.specs.StrictProgram.{StrictEnded, TellsStop, strict_status};
+ghost use Rattle.sheet_files.specs.Closing.{closable};
 
 use crate::ending::ended;
 use crate::telling::no_files;
 use crate::{Ending, end_program};
 use child_calls::Children;
-use disk_model::Disk;
 use offline_programs::RunFault;
-use sheet_files::FilesFault;
+use sheet_files::{Close, FilesFault};
 use sheet_programs::{Ran, run_strict};
 use std::alloc::Global;
 use std::io::{Read, Write};
 
 /// Ends the program by where a strict run stopped, which is printed on a line, or by its fault.
-fn end_strict<D: Disk, E: Write>(answer: Result<Ran<D>, RunFault>, errors: &mut E) -> Ending
-    ensures status { result.status ≡ strict_status (answer_of_strict answer) }
-    ensures told { TellsStop E.contents errors.old errors.new result.told (answer_of_strict answer) }
+fn end_strict<E: Write>(answer: Result<Option<u64>, RunFault>, errors: &mut E) -> Ending
+    ensures status { result.status ≡ strict_status answer }
+    ensures told { TellsStop E.contents errors.old errors.new result.told answer }
 {
     match answer {
-        Ok(ran) => match ran.stopped_at {
-            None => ended(0, true),
-            Some(number) => ended(3, writeln!(errors, "stopped at line {number}").is_ok()),
-        },
+        Ok(None) => ended(0, true),
+        Ok(Some(number)) => ended(3, writeln!(errors, "stopped at line {number}").is_ok()),
         Err(fault) => end_program(Err(fault), errors),
     }
 }
 
-/// Runs a script strictly over a disk, and drops the disk at its end.
-fn run_strict_on<R: Read, W: Write, E: Write, D: Disk, C: Children>(
+/// Runs a script strictly over a disk, and closes the disk at its end.
+fn run_strict_on<R: Read, W: Write, E: Write, D: Close, C: Children>(
     alloc: Global,
     input: &mut R,
     output: &mut W,
@@ -38,18 +36,19 @@ fn run_strict_on<R: Read, W: Write, E: Write, D: Disk, C: Children>(
     disk: D,
     children: &mut C,
 ) -> Ending
-    ensures { StrictEnded D.view C.after (R.remaining input.old) disk children.old children.new
+    ensures { StrictEnded (closable D.view D.closed) C.after (R.remaining input.old) disk children.old children.new
         (W.contents output.old) (W.contents output.new)
         ((output.new ≡ output.old) × (children.new ≡ children.old))
         E.contents errors.old errors.new result }
 {
-    let answer = run_strict(alloc, input, output, disk, children);
+    let Ran { disk, answer } = run_strict(alloc, input, output, disk, children);
+    disk.close();
     end_strict(answer, errors)
 }
 
 /// The whole program `run --strict` on its files, or on why they weren't opened: as `run_script`, but it
 /// stops after the first line that goes wrong, whose number is printed on a line of `errors`.
-pub fn run_strictly<R: Read, W: Write, E: Write, D: Disk, C: Children>(
+pub fn run_strictly<R: Read, W: Write, E: Write, D: Close, C: Children>(
     alloc: Global,
     input: &mut R,
     output: &mut W,
@@ -62,7 +61,7 @@ pub fn run_strictly<R: Read, W: Write, E: Write, D: Disk, C: Children>(
         × (children.new ≡ children.old) × (result.status ≡ 1)
         × TellsFault E.contents errors.old errors.new result.told (Err (printed.no_files why))) }
 
-    ensures files { IfOk files (λ disk. StrictEnded D.view C.after (R.remaining input.old) disk
+    ensures files { IfOk files (λ disk. StrictEnded (closable D.view D.closed) C.after (R.remaining input.old) disk
         children.old children.new (W.contents output.old) (W.contents output.new)
         ((output.new ≡ output.old) × (children.new ≡ children.old))
         E.contents errors.old errors.new result) }

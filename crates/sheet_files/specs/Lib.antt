@@ -1,4 +1,5 @@
 pub mod DiskFile
 pub mod MemoryFile
 pub mod Names
+pub mod Closing
 pub mod inside

@@ -2,6 +2,7 @@
 //! in `program_endings`.
 #![tactic(auto)]
 
+mod closing;
 mod disk_file;
 mod file_disk;
 mod files_fault;
@@ -13,6 +14,7 @@ mod pairing;
 mod places;
 mod sheet_file;
 
+pub use closing::Close;
 pub use disk_file::DiskFile;
 pub use file_disk::FileDisk;
 pub use files_fault::{FilesFault, HoldFault, MakeFault};

@@ -309,6 +309,10 @@ error_or other (Err e) = e
 pub err_same : {T E : Type 0} (r : Result T E) (e d : E) → r ≡ Err e → r ≡ Err d → e ≡ d
 err_same r e d is also = ap (error_or e) (sym is ∙ also)
 
+pub on_ok_always : {T E P : Type 0} (r : Result T E) → P → OnOk r P
+on_ok_always (Ok x) p = p
+on_ok_always (Err e) p = tt
+
 -- The run.
 
 pub if_ok_then : {T E : Type 0} (r : Result T E) (P Q : T → Type 0) → ((x : T) → P x → Q x) → IfOk r P → IfOk r Q
@@ -362,25 +366,25 @@ done_run R strict stopped stream disk now c d a b back script start beats text t
       moments = subst (LeavesFronts start beats now) (there ∙ sym same) whole;
     }))
 
-pub unread_script : {C : Type 0} (strict : Bool) (R : Relation C) (stream : Option (List ℕ)) (disk : DiskView) (c d : C) (a b : Option (List ℕ)) (nothing : Type 0) (f : RunFault)
-    → IsInputFault f → (f ≡ fault.InputTooLong → IfSome stream (λ script. longest_standard_input < length script)) → nothing → TellsBy strict R stream disk c d a b nothing f
-unread_script false R stream disk c d a b nothing fault.Input is long none = none
-unread_script false R stream disk c d a b nothing fault.InputTooLong is long none = (none, long refl)
-unread_script false R stream disk c d a b nothing fault.OutOfMemory is long none = inl none
-unread_script false R stream disk c d a b nothing fault.Output is long none = absurd is
-unread_script false R stream disk c d a b nothing (fault.Host why) is long none = absurd is
-unread_script false R stream disk c d a b nothing (fault.Open why) is long none = absurd is
-unread_script false R stream disk c d a b nothing fault.InUse is long none = absurd is
-unread_script true R stream disk c d a b nothing fault.Input is long none = none
-unread_script true R stream disk c d a b nothing fault.InputTooLong is long none = (none, long refl)
-unread_script true R stream disk c d a b nothing fault.OutOfMemory is long none = inl none
-unread_script true R stream disk c d a b nothing fault.Output is long none = absurd is
-unread_script true R stream disk c d a b nothing (fault.Host why) is long none = absurd is
-unread_script true R stream disk c d a b nothing (fault.Open why) is long none = absurd is
-unread_script true R stream disk c d a b nothing fault.InUse is long none = absurd is
+pub unread_script : {C : Type 0} (strict : Bool) (R : Relation C) (stream : Option (List ℕ)) (disk back : DiskView) (c d : C) (a b : Option (List ℕ)) (nothing : Type 0) (f : RunFault)
+    → IsInputFault f → (f ≡ fault.InputTooLong → IfSome stream (λ script. longest_standard_input < length script)) → nothing → TellsBy strict R stream disk back c d a b nothing f
+unread_script false R stream disk back c d a b nothing fault.Input is long none = none
+unread_script false R stream disk back c d a b nothing fault.InputTooLong is long none = (none, long refl)
+unread_script false R stream disk back c d a b nothing fault.OutOfMemory is long none = inl none
+unread_script false R stream disk back c d a b nothing fault.Output is long none = absurd is
+unread_script false R stream disk back c d a b nothing (fault.Host why) is long none = absurd is
+unread_script false R stream disk back c d a b nothing (fault.Open why) is long none = absurd is
+unread_script false R stream disk back c d a b nothing fault.InUse is long none = absurd is
+unread_script true R stream disk back c d a b nothing fault.Input is long none = none
+unread_script true R stream disk back c d a b nothing fault.InputTooLong is long none = (none, long refl)
+unread_script true R stream disk back c d a b nothing fault.OutOfMemory is long none = inl none
+unread_script true R stream disk back c d a b nothing fault.Output is long none = absurd is
+unread_script true R stream disk back c d a b nothing (fault.Host why) is long none = absurd is
+unread_script true R stream disk back c d a b nothing (fault.Open why) is long none = absurd is
+unread_script true R stream disk back c d a b nothing fault.InUse is long none = absurd is
 
-module _ {C : Type 0} (R : Relation C) (disk now : DiskView) (c d : C) (a b : Option (List ℕ)) (script : List ℕ) (start : World) (h : HostView) (opened : OpenedOn disk start now) (held : HoldsSheet start now) (same : SameDisk disk h.store.disk) (strict : Bool) where
-  abbrev pub run-stopped : (f : HostFault) → LinesStopped R strict (script_lines script) (at start c now) h d a b (fault.Host f) → RunStopped R script disk c d a b f
+module _ {C : Type 0} (R : Relation C) (disk now : DiskView) (c d : C) (a b : Option (List ℕ)) (script : List ℕ) (start : World) (h : HostView) (opened : OpenedOn disk start now) (held : HoldsSheet start now) (back : DiskView) (same : back ≡ h.store.disk) (strict : Bool) where
+  abbrev pub run-stopped : (f : HostFault) → LinesStopped R strict (script_lines script) (at start c now) h d a b (fault.Host f) → RunStopped R script disk back c d a b f
   run-stopped f p = record {
     start = start;
     now = now;
@@ -391,14 +395,14 @@ module _ {C : Type 0} (R : Relation C) (disk now : DiskView) (c d : C) (a b : Op
     leads = p.3;
     lines = p.4;
     host = h;
-    same = same;
+    back_is = same;
     stopped = p.5;
     moments = goes_up_to start now p.0 p.3.world p.3.disk p.2 f h held (lines-up-to-goes R (script_lines script) (at start c now) p.0 p.1 p.2 p.3 p.4) p.5;
     stops = p.6;
     wrote = p.7;
   }
 
-  abbrev pub run-so-far : LinesStopped R strict (script_lines script) (at start c now) h d a b fault.OutOfMemory → RunSoFar R script disk c d a b
+  abbrev pub run-so-far : LinesStopped R strict (script_lines script) (at start c now) h d a b fault.OutOfMemory → RunSoFar R script disk back c d a b
   run-so-far p = record {
     start = start;
     now = now;
@@ -407,12 +411,13 @@ module _ {C : Type 0} (R : Relation C) (disk now : DiskView) (c d : C) (a b : Op
     text = p.1;
     leads = p.2;
     lines = p.3;
-    moments = goes_leaves start now p.0 p.2.world p.2.disk held (lines-so-far-goes R (script_lines script) (at start c now) p.0 p.1 p.2 p.3);
+    back_is = same ∙ sym p.5;
+    moments = subst (LeavesFronts start p.0 now) (p.5 ∙ sym same) (goes_leaves start now p.0 p.2.world p.2.disk held (lines-so-far-goes R (script_lines script) (at start c now) p.0 p.1 p.2 p.3));
     stops = p.6;
     wrote = p.7;
   }
 
-  abbrev pub run-led : LinesStopped R strict (script_lines script) (at start c now) h d a b fault.Output → RunLed R script disk c d
+  abbrev pub run-led : LinesStopped R strict (script_lines script) (at start c now) h d a b fault.Output → RunLed R script disk back c d
   run-led p = record {
     start = start;
     now = now;
@@ -420,7 +425,7 @@ module _ {C : Type 0} (R : Relation C) (disk now : DiskView) (c d : C) (a b : Op
     leads = p.0;
     lines = p.1;
     host = h;
-    same = same;
+    back_is = same;
     moments = goes_anyhow start now (p.1.earlier ++ led_beats p.1.led) p.0.world p.0.disk h held (lines-led-goes R (script_lines script) (at start c now) p.0 p.1) p.2;
     stops = p.3;
   }
@@ -430,17 +435,17 @@ told-of : (stream : Option (List ℕ)) (script : List ℕ) (P : List ℕ → Typ
 told-of stream script P is p = IfSome_then stream is (λ bytes e. subst P e p)
 
 module _ {C : Type 0} (R : Relation C) (stream : Option (List ℕ)) (disk now : DiskView) (c d : C) (a b : Option (List ℕ)) (nothing : Type 0) (script : List ℕ) (start : World) (h : HostView)
-    (is : IfSome stream (λ bytes. script ≡ bytes)) (short : length script ≤ longest_standard_input) (opened : OpenedOn disk start now) (held : HoldsSheet start now) (same : SameDisk disk h.store.disk) where
-  pub broken_run : (strict : Bool) (f : RunFault) → LinesStopped R strict (script_lines script) (at start c now) h d a b f → TellsBy strict R stream disk c d a b nothing f
-  broken_run false (fault.Host f) p = told-of stream script (λ s. RunStopped R s disk c d a b f) is (run-stopped R disk now c d a b script start h opened held same false f p)
-  broken_run false fault.OutOfMemory p = inr (told-of stream script (λ s. RunSoFar R s disk c d a b) is (run-so-far R disk now c d a b script start h opened held same false p))
-  broken_run false fault.Output p = told-of stream script (λ s. (length s ≤ longest_standard_input) × RunLed R s disk c d) is (short, run-led R disk now c d a b script start h opened held same false p)
+    (is : IfSome stream (λ bytes. script ≡ bytes)) (short : length script ≤ longest_standard_input) (opened : OpenedOn disk start now) (held : HoldsSheet start now) (back : DiskView) (same : back ≡ h.store.disk) where
+  pub broken_run : (strict : Bool) (f : RunFault) → LinesStopped R strict (script_lines script) (at start c now) h d a b f → TellsBy strict R stream disk back c d a b nothing f
+  broken_run false (fault.Host f) p = told-of stream script (λ s. RunStopped R s disk back c d a b f) is (run-stopped R disk now c d a b script start h opened held back same false f p)
+  broken_run false fault.OutOfMemory p = inr (told-of stream script (λ s. RunSoFar R s disk back c d a b) is (run-so-far R disk now c d a b script start h opened held back same false p))
+  broken_run false fault.Output p = told-of stream script (λ s. (length s ≤ longest_standard_input) × RunLed R s disk back c d) is (short, run-led R disk now c d a b script start h opened held back same false p)
   broken_run true (fault.Host f) p =
-      told-of stream script (λ s. (q : RunStopped R s disk c d a b f) × GoRight q.lines.before.done q.lines.earlier) is (run-stopped R disk now c d a b script start h opened held same true f p, p.8)
+      told-of stream script (λ s. (q : RunStopped R s disk back c d a b f) × GoRight q.lines.before.done q.lines.earlier) is (run-stopped R disk now c d a b script start h opened held back same true f p, p.8)
   broken_run true fault.OutOfMemory p =
-      inr (told-of stream script (λ s. (q : RunSoFar R s disk c d a b) × GoRight q.lines.before.done q.lines.earlier) is (run-so-far R disk now c d a b script start h opened held same true p, p.8))
+      inr (told-of stream script (λ s. (q : RunSoFar R s disk back c d a b) × GoRight q.lines.before.done q.lines.earlier) is (run-so-far R disk now c d a b script start h opened held back same true p, p.8))
   broken_run true fault.Output p =
-      told-of stream script (λ s. (length s ≤ longest_standard_input) × ((q : RunLed R s disk c d) × GoRight q.lines.before.done q.lines.earlier)) is (short, (run-led R disk now c d a b script start h opened held same true p, p.4))
+      told-of stream script (λ s. (length s ≤ longest_standard_input) × ((q : RunLed R s disk back c d) × GoRight q.lines.before.done q.lines.earlier)) is (short, (run-led R disk now c d a b script start h opened held back same true p, p.4))
   broken_run false fault.Input p = absurd p
   broken_run false fault.InputTooLong p = absurd p
   broken_run false (fault.Open why) p = absurd p

@@ -1,7 +1,7 @@
 -- The run of a script over a worksheet on a disk and its interpreters, and what a fault of it leaves.
 use Rattle.std.specs.Prelude.{◌≡◌, ◌<◌, ◌≤◌, ◌⊎◌, ℕ, List, ◌∷◌, ◌++◌, Option, IfSome, length}
 use Rattle.std.specs.Io.KnownBytes.{Appends}
-use Rattle.disk_model.specs.Disk.{DiskView, InModel, Looks, SameDisk, bytes_on}
+use Rattle.disk_model.specs.Disk.{DiskView, InModel, Looks, bytes_on}
 use Rattle.worksheet.specs.declared.op.Op.{Op}
 use Rattle.worksheet.specs.Ops.{sheet_of}
 use Rattle.recovery.specs.Sheets.{IsSheetImage, TellsOfSheet}
@@ -94,9 +94,9 @@ pub record RunOf {C : Type 0} (R : Relation C) (Done : At C → List Beat → Li
 abbrev pub RunDone : {C : Type 0} → Relation C → List ℕ → DiskView → C → C → Option (List ℕ) → Option (List ℕ) → DiskView → Type 0
 RunDone R script disk c d a b back = RunOf R (LinesDone R 1 (script_lines script)) disk c d a b back
 
--- At an event the host had this fault, and its disk was left as the fault says. What was returned before is written, and each
--- life that goes on was stopped.
-pub record RunStopped {C : Type 0} (R : Relation C) (script : List ℕ) (disk : DiskView) (c d : C) (a b : Option (List ℕ)) (f : HostFault) : Type 0 where
+-- At an event the host had this fault, and its disk, which is given back, was left as the fault says. What was returned before is
+-- written, and each life that goes on was stopped.
+pub record RunStopped {C : Type 0} (R : Relation C) (script : List ℕ) (disk back : DiskView) (c d : C) (a b : Option (List ℕ)) (f : HostFault) : Type 0 where
   pub start : World
   pub now : DiskView
   pub opened : OpenedOn disk start now
@@ -106,14 +106,14 @@ pub record RunStopped {C : Type 0} (R : Relation C) (script : List ℕ) (disk : 
   pub leads : At C
   pub lines : LinesUpTo R (script_lines script) (at start c now) beats text failed leads
   pub host : HostView
-  pub same : SameDisk disk host.store.disk
+  pub back_is : back ≡ host.store.disk
   pub stopped : Stopped leads.disk host leads.world failed f
   pub moments : LeavesFrontsUpTo start beats failed f now host.store.disk
   pub stops : Stops R (running leads.world) leads.children d
   pub wrote : Appends a b text
 
 -- Memory was refused. What was returned before is written, and each life that goes on was stopped.
-pub record RunSoFar {C : Type 0} (R : Relation C) (script : List ℕ) (disk : DiskView) (c d : C) (a b : Option (List ℕ)) : Type 0 where
+pub record RunSoFar {C : Type 0} (R : Relation C) (script : List ℕ) (disk back : DiskView) (c d : C) (a b : Option (List ℕ)) : Type 0 where
   pub start : World
   pub now : DiskView
   pub opened : OpenedOn disk start now
@@ -121,29 +121,30 @@ pub record RunSoFar {C : Type 0} (R : Relation C) (script : List ℕ) (disk : Di
   pub text : List ℕ
   pub leads : At C
   pub lines : LinesSoFar R (script_lines script) (at start c now) beats text leads
-  pub moments : LeavesFronts start beats now leads.disk
+  pub back_is : back ≡ leads.disk
+  pub moments : LeavesFronts start beats now back
   pub stops : Stops R (running leads.world) leads.children d
   pub wrote : Appends a b text
 
 -- The writer failed. What was taken until then is on the disk as ever, and each life that goes on was stopped.
-pub record RunLed {C : Type 0} (R : Relation C) (script : List ℕ) (disk : DiskView) (c d : C) : Type 0 where
+pub record RunLed {C : Type 0} (R : Relation C) (script : List ℕ) (disk back : DiskView) (c d : C) : Type 0 where
   pub start : World
   pub now : DiskView
   pub opened : OpenedOn disk start now
   pub leads : At C
   pub lines : LinesLed R (script_lines script) (at start c now) leads
   pub host : HostView
-  pub same : SameDisk disk host.store.disk
+  pub back_is : back ≡ host.store.disk
   pub moments : LeavesFrontsAnyhow start (lines.earlier ++ led_beats lines.led) now host leads.world leads.disk
   pub stops : Stops R (running leads.world) leads.children d
 
--- What a fault of a run tells, where the reader gives this stream: where the script wasn't read, or the disk not opened, nothing
--- was done.
-abbrev pub TellsRun : {C : Type 0} → Relation C → Option (List ℕ) → DiskView → C → C → Option (List ℕ) → Option (List ℕ) → Type 0 → RunFault → Type 0
-TellsRun R stream disk c d a b nothing fault.Input = nothing
-TellsRun R stream disk c d a b nothing fault.InputTooLong = nothing × IfSome stream (λ script. longest_standard_input < length script)
-TellsRun R stream disk c d a b nothing (fault.Open why) = nothing × InModel disk (TellsOfSheet (bytes_on disk) why)
-TellsRun R stream disk c d a b nothing fault.InUse = ⊥
-TellsRun R stream disk c d a b nothing (fault.Host f) = IfSome stream (λ script. RunStopped R script disk c d a b f)
-TellsRun R stream disk c d a b nothing fault.OutOfMemory = nothing ⊎ IfSome stream (λ script. RunSoFar R script disk c d a b)
-TellsRun R stream disk c d a b nothing fault.Output = IfSome stream (λ script. (length script ≤ longest_standard_input) × RunLed R script disk c d)
+-- What a fault of a run tells, where the reader gives this stream, with the disk that is given back: where the script wasn't read, or the
+-- disk not opened, nothing was done.
+abbrev pub TellsRun : {C : Type 0} → Relation C → Option (List ℕ) → DiskView → DiskView → C → C → Option (List ℕ) → Option (List ℕ) → Type 0 → RunFault → Type 0
+TellsRun R stream disk back c d a b nothing fault.Input = nothing
+TellsRun R stream disk back c d a b nothing fault.InputTooLong = nothing × IfSome stream (λ script. longest_standard_input < length script)
+TellsRun R stream disk back c d a b nothing (fault.Open why) = nothing × InModel disk (TellsOfSheet (bytes_on disk) why)
+TellsRun R stream disk back c d a b nothing fault.InUse = ⊥
+TellsRun R stream disk back c d a b nothing (fault.Host f) = IfSome stream (λ script. RunStopped R script disk back c d a b f)
+TellsRun R stream disk back c d a b nothing fault.OutOfMemory = nothing ⊎ IfSome stream (λ script. RunSoFar R script disk back c d a b)
+TellsRun R stream disk back c d a b nothing fault.Output = IfSome stream (λ script. (length script ≤ longest_standard_input) × RunLed R script disk back c d)

@@ -80,14 +80,14 @@ abbrev pub StrictDone : {C : Type 0} → Relation C → List ℕ → DiskView �
 StrictDone R script disk c d a b back stopped = RunOf R (StrictLines R (script_lines script) stopped) disk c d a b back
 
 -- What a fault of a strict run tells: what that of a run does, and no line went wrong before the one at which it came.
-abbrev pub TellsStrict : {C : Type 0} → Relation C → Option (List ℕ) → DiskView → C → C → Option (List ℕ) → Option (List ℕ) → Type 0 → RunFault → Type 0
-TellsStrict R stream disk c d a b nothing fault.Input = nothing
-TellsStrict R stream disk c d a b nothing fault.InputTooLong = nothing × IfSome stream (λ script. longest_standard_input < length script)
-TellsStrict R stream disk c d a b nothing (fault.Open why) = nothing × InModel disk (TellsOfSheet (bytes_on disk) why)
-TellsStrict R stream disk c d a b nothing fault.InUse = ⊥
-TellsStrict R stream disk c d a b nothing (fault.Host f) =
-    IfSome stream (λ script. (p : RunStopped R script disk c d a b f) × GoRight p.lines.before.done p.lines.earlier)
-TellsStrict R stream disk c d a b nothing fault.OutOfMemory =
-    nothing ⊎ IfSome stream (λ script. (p : RunSoFar R script disk c d a b) × GoRight p.lines.before.done p.lines.earlier)
-TellsStrict R stream disk c d a b nothing fault.Output =
-    IfSome stream (λ script. (length script ≤ longest_standard_input) × ((p : RunLed R script disk c d) × GoRight p.lines.before.done p.lines.earlier))
+abbrev pub TellsStrict : {C : Type 0} → Relation C → Option (List ℕ) → DiskView → DiskView → C → C → Option (List ℕ) → Option (List ℕ) → Type 0 → RunFault → Type 0
+TellsStrict R stream disk back c d a b nothing fault.Input = nothing
+TellsStrict R stream disk back c d a b nothing fault.InputTooLong = nothing × IfSome stream (λ script. longest_standard_input < length script)
+TellsStrict R stream disk back c d a b nothing (fault.Open why) = nothing × InModel disk (TellsOfSheet (bytes_on disk) why)
+TellsStrict R stream disk back c d a b nothing fault.InUse = ⊥
+TellsStrict R stream disk back c d a b nothing (fault.Host f) =
+    IfSome stream (λ script. (p : RunStopped R script disk back c d a b f) × GoRight p.lines.before.done p.lines.earlier)
+TellsStrict R stream disk back c d a b nothing fault.OutOfMemory =
+    nothing ⊎ IfSome stream (λ script. (p : RunSoFar R script disk back c d a b) × GoRight p.lines.before.done p.lines.earlier)
+TellsStrict R stream disk back c d a b nothing fault.Output =
+    IfSome stream (λ script. (length script ≤ longest_standard_input) × ((p : RunLed R script disk back c d) × GoRight p.lines.before.done p.lines.earlier))

@@ -1,13 +1,13 @@
 //! A script over a worksheet on a disk, with interpreters.
 ghost use Rattle.std.specs.Prelude.{◌≡◌, ◌<◌, ◌≤◌, ◌^◌, ℕ, List, IfErr, IfOk, IfSome, IsErrOf, OnOk, false, length, true};
 ghost use Rattle.std.specs.Io.KnownBytes.{Appends};
-ghost use Rattle.disk_model.specs.Disk.{SameDisk};
+ghost use Rattle.disk_model.specs.Disk.{Rises, SameDisk};
 ghost use Rattle.session_engine.specs.World.{World};
 ghost use Rattle.session_engine.specs.Host.{IsHost};
 ghost use Rattle.child_edge.specs.Faithful.{At, at, Beat};
 ghost use Rattle.child_edge.specs.Seats.{running};
 ghost use Rattle.child_edge.specs.Stops.{Stops};
-ghost use Rattle.offline_programs.specs.Faults.{FailedSince};
+ghost use Rattle.offline_programs.specs.Faults.{Untouched};
 ghost use Rattle.offline_programs.specs.Input.{longest_standard_input};
 ghost use Rattle.offline_programs.specs.Memory.{script_lines};
 ghost use Rattle.sheet_programs.specs.Run.{RunDone, RunOf, TellsRun};
@@ -21,18 +21,19 @@ use crate::taking::run_lines;
 use child_calls::Children;
 use child_edge::stop_all;
 use disk_model::Disk;
+use journal::OpenFault;
 use offline_programs::{RunFault, read_input};
 use session_engine::Host;
 use std::alloc::Global;
 use std::io::{Read, Write};
 
-/// A run that had no fault.
+/// What a run answers, and the disk that it was given.
 #[derive(Drop)]
 pub struct Ran<D: Disk> {
     /// The disk, with what was reported.
     pub disk: D,
-    /// The number of the line after which it stopped, where it is strict and did.
-    pub stopped_at: Option<u64>,
+    /// The number of the line after which it stopped, where it is strict and did; or why it ended early.
+    pub answer: Result<Option<u64>, RunFault>,
 }
 
 /// Does the lines of a script, and stops each life that goes on then.
@@ -69,28 +70,42 @@ fn run_script<R: Read, W: Write, D: Disk, C: Children>(
     disk: D,
     children: &mut C,
     strict: bool,
-) -> Result<Ran<D>, RunFault>
-    ensures ran { IfOk result (λ ran. IfSome (R.remaining reader.old) (λ script.
-        RunOf C.after (LinesTaken C.after strict (script_lines script) ran.stopped_at) (D.view disk)
-        children.old children.new (W.contents writer.old) (W.contents writer.new) (D.view ran.disk))) }
-    ensures same { IfOk result (λ ran. SameDisk (D.view disk) (D.view ran.disk)) }
-    ensures short { OnOk result (IfSome (R.remaining reader.old)
+) -> Ran<D>
+    ensures ran { IfOk result.answer (λ stopped. IfSome (R.remaining reader.old) (λ script.
+        RunOf C.after (LinesTaken C.after strict (script_lines script) stopped) (D.view disk)
+        children.old children.new (W.contents writer.old) (W.contents writer.new) (D.view result.disk))) }
+    ensures same { SameDisk (D.view disk) (D.view result.disk) }
+    ensures short { OnOk result.answer (IfSome (R.remaining reader.old)
         (λ script. length script ≤ longest_standard_input)) }
-    ensures fault { IfErr result (TellsBy strict C.after (R.remaining reader.old) (D.view disk)
-        children.old children.new (W.contents writer.old) (W.contents writer.new)
-        ((writer.new ≡ writer.old) × (children.new ≡ children.old))) }
-    ensures unopened { IsErrOf result (told.Open opens.Disk) → FailedSince D.view disk }
-    ensures failed { IsErrOf result (told.Host hosts.Disk) → FailedSince D.view disk }
+    ensures fault { IfErr result.answer (TellsBy strict C.after (R.remaining reader.old)
+        (D.view disk) (D.view result.disk) children.old children.new
+        (W.contents writer.old) (W.contents writer.new)
+        (((writer.new ≡ writer.old) × (children.new ≡ children.old))
+        × Untouched (D.view disk) (D.view result.disk))) }
+    ensures unopened { IsErrOf result.answer (told.Open opens.Disk)
+        → Rises (D.view disk).faults (D.view result.disk).faults }
+    ensures failed { IsErrOf result.answer (told.Host hosts.Disk)
+        → Rises (D.view disk).faults (D.view result.disk).faults }
 {
     let script = match read_input(alloc, reader) {
         Ok(script) => script,
-        Err(fault) => return Err(fault),
+        Err(fault) => {
+            return Ran {
+                disk,
+                answer: Err(fault),
+            };
+        }
     };
     let mut host = match Host::open(alloc, disk) {
         Ok(host) => host,
-        Err(fault) => return Err(RunFault::Open(fault.cause)),
+        Err(OpenFault { cause, disk }) => {
+            return Ran {
+                disk,
+                answer: Err(RunFault::Open(cause)),
+            };
+        }
     };
-    let done = run_on_host(
+    let answer = run_on_host(
         alloc,
         &mut host,
         children,
@@ -98,10 +113,9 @@ fn run_script<R: Read, W: Write, D: Disk, C: Children>(
         strict,
         writer,
     );
-    let disk = host.close();
-    match done {
-        Ok(stopped_at) => Ok(Ran { disk, stopped_at }),
-        Err(fault) => Err(fault),
+    Ran {
+        disk: host.close(),
+        answer,
     }
 }
 
@@ -125,27 +139,28 @@ pub fn run<R: Read, W: Write, D: Disk, C: Children>(
     writer: &mut W,
     disk: D,
     children: &mut C,
-) -> Result<D, RunFault>
-    ensures ran { IfOk result (λ back. IfSome (R.remaining reader.old) (λ script.
+) -> Ran<D>
+    ensures ran { IfOk result.answer (λ stopped. IfSome (R.remaining reader.old) (λ script.
         RunDone C.after script (D.view disk) children.old children.new
-        (W.contents writer.old) (W.contents writer.new) (D.view back))) }
-    ensures same { IfOk result (λ back. SameDisk (D.view disk) (D.view back)) }
+        (W.contents writer.old) (W.contents writer.new) (D.view result.disk))) }
+    ensures same { SameDisk (D.view disk) (D.view result.disk) }
 
     // A script that is too long is reported as such, whatever else would go wrong with its text.
-    ensures short { OnOk result (IfSome (R.remaining reader.old)
+    ensures short { OnOk result.answer (IfSome (R.remaining reader.old)
         (λ script. length script ≤ longest_standard_input)) }
-    ensures fault { IfErr result (TellsRun C.after (R.remaining reader.old) (D.view disk)
-        children.old children.new (W.contents writer.old) (W.contents writer.new)
-        ((writer.new ≡ writer.old) × (children.new ≡ children.old))) }
+    ensures fault { IfErr result.answer (TellsRun C.after (R.remaining reader.old)
+        (D.view disk) (D.view result.disk) children.old children.new
+        (W.contents writer.old) (W.contents writer.new)
+        (((writer.new ≡ writer.old) × (children.new ≡ children.old))
+        × Untouched (D.view disk) (D.view result.disk))) }
 
     // That the disk failed, at the opening or later, is reported only where it did.
-    ensures unopened { IsErrOf result (told.Open opens.Disk) → FailedSince D.view disk }
-    ensures failed { IsErrOf result (told.Host hosts.Disk) → FailedSince D.view disk }
+    ensures unopened { IsErrOf result.answer (told.Open opens.Disk)
+        → Rises (D.view disk).faults (D.view result.disk).faults }
+    ensures failed { IsErrOf result.answer (told.Host hosts.Disk)
+        → Rises (D.view disk).faults (D.view result.disk).faults }
 {
-    match run_script(alloc, reader, writer, disk, children, false) {
-        Ok(Ran { disk, .. }) => Ok(disk),
-        Err(fault) => Err(fault),
-    }
+    run_script(alloc, reader, writer, disk, children, false)
 }
 
 /// Runs a script as `run` does, and stops after the first line that goes wrong: one that isn't known, one
@@ -159,18 +174,22 @@ pub fn run_strict<R: Read, W: Write, D: Disk, C: Children>(
     writer: &mut W,
     disk: D,
     children: &mut C,
-) -> Result<Ran<D>, RunFault>
-    ensures ran { IfOk result (λ ran. IfSome (R.remaining reader.old) (λ script.
+) -> Ran<D>
+    ensures ran { IfOk result.answer (λ stopped. IfSome (R.remaining reader.old) (λ script.
         StrictDone C.after script (D.view disk) children.old children.new
-        (W.contents writer.old) (W.contents writer.new) (D.view ran.disk) ran.stopped_at)) }
-    ensures same { IfOk result (λ ran. SameDisk (D.view disk) (D.view ran.disk)) }
-    ensures short { OnOk result (IfSome (R.remaining reader.old)
+        (W.contents writer.old) (W.contents writer.new) (D.view result.disk) stopped)) }
+    ensures same { SameDisk (D.view disk) (D.view result.disk) }
+    ensures short { OnOk result.answer (IfSome (R.remaining reader.old)
         (λ script. length script ≤ longest_standard_input)) }
-    ensures fault { IfErr result (TellsStrict C.after (R.remaining reader.old) (D.view disk)
-        children.old children.new (W.contents writer.old) (W.contents writer.new)
-        ((writer.new ≡ writer.old) × (children.new ≡ children.old))) }
-    ensures unopened { IsErrOf result (told.Open opens.Disk) → FailedSince D.view disk }
-    ensures failed { IsErrOf result (told.Host hosts.Disk) → FailedSince D.view disk }
+    ensures fault { IfErr result.answer (TellsStrict C.after (R.remaining reader.old)
+        (D.view disk) (D.view result.disk) children.old children.new
+        (W.contents writer.old) (W.contents writer.new)
+        (((writer.new ≡ writer.old) × (children.new ≡ children.old))
+        × Untouched (D.view disk) (D.view result.disk))) }
+    ensures unopened { IsErrOf result.answer (told.Open opens.Disk)
+        → Rises (D.view disk).faults (D.view result.disk).faults }
+    ensures failed { IsErrOf result.answer (told.Host hosts.Disk)
+        → Rises (D.view disk).faults (D.view result.disk).faults }
 {
     run_script(alloc, reader, writer, disk, children, true)
 }

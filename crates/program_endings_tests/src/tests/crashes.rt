@@ -60,7 +60,7 @@ fn rescues(alloc: Global, from: &Folder, to: &Folder, told: &[u8]) -> bool {
         return false;
     };
     let made = FileDisk::create(&Machine { folder: to }, alloc, "sheet");
-    let ended = run_rescue(alloc, &found, made, &mut text, &mut errors);
+    let ended = run_rescue(alloc, found, made, &mut text, &mut errors);
     ended.status == 0 && text.as_slice() == told
 }
 

@@ -14,9 +14,10 @@ fn shown_after(alloc: Global, script: &[u8]) -> Option<Vec<u8>> {
     let mut children = Scripted::new(alloc, Vec::new(alloc));
     let mut reader = script;
     let mut text: Vec<u8> = Vec::new(alloc);
-    let disk = run(alloc, &mut reader, &mut text, disk, &mut children).ok()?;
+    let ran = run(alloc, &mut reader, &mut text, disk, &mut children);
+    ran.answer.ok()?;
     let mut shown: Vec<u8> = Vec::new(alloc);
-    show(alloc, disk, &mut shown).ok()?;
+    show(alloc, ran.disk, &mut shown).answer.ok()?;
     Some(shown)
 }
 

@@ -11,7 +11,7 @@ use tests_desk::{Full, Parts, Unflushed};
 fn fault<R: Read, W: Write>(alloc: Global, reader: &mut R, writer: &mut W) -> Option<RunFault> {
     let disk = journal::create(MemoryDisk::new(alloc, 1_000)).ok()?;
     let mut children = Scripted::new(alloc, Vec::new(alloc));
-    run(alloc, reader, writer, disk, &mut children).err()
+    run(alloc, reader, writer, disk, &mut children).answer.err()
 }
 
 // That of a reader that fails after a line, where nothing was written.
@@ -52,8 +52,9 @@ fn stopped(alloc: Global, script: &[u8]) -> Option<Option<u64>> {
     let mut children = Scripted::new(alloc, Vec::new(alloc));
     let mut reader = script;
     let mut text: Vec<u8> = Vec::new(alloc);
-    let ran = run_strict(alloc, &mut reader, &mut text, disk, &mut children).ok()?;
-    Some(ran.stopped_at)
+    run_strict(alloc, &mut reader, &mut text, disk, &mut children)
+        .answer
+        .ok()
 }
 
 #[test]

@@ -23,9 +23,9 @@ LineTook R number l s h c a b wrong =
     (beats : List Beat) × (text : List ℕ) × (t : World) × LineDone R number l s beats text (at t c h.store.disk) × IsHost h t × Appends a b text × (wrong ≡ goes_wrong l beats)
 
 -- What a fault of a run tells, which is strict or not.
-abbrev pub TellsBy : {C : Type 0} → Bool → Relation C → Option (List ℕ) → DiskView → C → C → Option (List ℕ) → Option (List ℕ) → Type 0 → RunFault → Type 0
-TellsBy false R stream disk c d a b nothing f = TellsRun R stream disk c d a b nothing f
-TellsBy true R stream disk c d a b nothing f = TellsStrict R stream disk c d a b nothing f
+abbrev pub TellsBy : {C : Type 0} → Bool → Relation C → Option (List ℕ) → DiskView → DiskView → C → C → Option (List ℕ) → Option (List ℕ) → Type 0 → RunFault → Type 0
+TellsBy false R stream disk back c d a b nothing f = TellsRun R stream disk back c d a b nothing f
+TellsBy true R stream disk back c d a b nothing f = TellsStrict R stream disk back c d a b nothing f
 
 -- What a fault of the lines of a script leaves.
 abbrev pub LinesFailed : {C : Type 0} → Relation C → Bool → List (List ℕ) → At C → HostView → C → Option (List ℕ) → Option (List ℕ) → RunFault → Type 0

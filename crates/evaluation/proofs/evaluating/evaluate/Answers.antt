@@ -4,6 +4,7 @@ use Rattle.worksheet.specs.Contents.{Contents}
 use Rattle.session_engine.specs.World.{sheet_in, world_at_opening}
 use Rattle.child_edge.specs.Faithful.{at}
 use Rattle.child_edge.proofs.Faulting.{same-on}
+use Rattle.offline_programs.specs.Faults.{Untouched}
 use Rattle.offline_programs.specs.declared.fault.RunFault.TheVariants as told
 use Rattle.journal.specs.declared.opening.OpenCause.TheVariants as opens
 use Rattle.host_events.specs.declared.outcome.HostFault.TheVariants as hosts
@@ -42,15 +43,16 @@ returns-in-Ok-done-clause-fault g c =
     let t = subst (λ m. ThroughAnd (setting g.T.Tells.voice g.S.Children.after g.S.Sources.clock g.S.Sources.wakes c.args.plan.now m) (stands (at start c.args.sources.now c.in-Ok.host.store.disk) not_begun) (StoppedBehind g.S.Children.after c.evaluate_and_stop-done.new.sources) c.evaluate_and_stop-done.new.host (g.W.Write.contents c.args.writer.now) (g.W.Write.contents c.evaluate_and_stop-done.new.writer) c.in-Ok-done.stand) is (if_ok_is c.evaluate_and_stop-done.result _ c.in-Ok-done.stand c.in-Ok-done.is (c.evaluate_and_stop-done.ensures.ok start o.1)) in
     counts_untold (setting g.T.Tells.voice g.S.Children.after g.S.Sources.clock g.S.Sources.wakes c.args.plan.now []) disk c.in-Ok.host.store.disk c.args.sources.now c.evaluate_and_stop-done.new.sources (g.W.Write.contents c.args.writer.now) (g.W.Write.contents c.evaluate_and_stop-done.new.writer) start c.evaluate_and_stop-done.new.host
     ((opened_on disk c.in-Ok.host o.0 o.1 c.in-Ok.ensures.found c.in-Ok.ensures.ends c.in-Ok.ensures.looks), found.0) o.1.stands.images c.in-Ok-done.stand t
-    (g.W.Write.contents c.note.new.writer) _ c.in-Err-note.fault c.in-Err-note.ensures.err
+    (g.D.Disk.view c.close-disk.result) c.close-disk.ensures (g.W.Write.contents c.note.new.writer) _ c.in-Err-note.fault c.in-Err-note.ensures.err
 
 pub returns-in-Err-ids_in-clause-fault : goal.returns-in-Err-ids_in-clause-fault
 returns-in-Err-ids_in-clause-fault g c =
     let o = c.in-Ok.ensures.opens in
     let disk = g.D.Disk.view c.args.disk in
     let start = world_at_opening o.0 disk.room c.in-Ok.host.store.end in
-    in_vain (setting g.T.Tells.voice g.S.Children.after g.S.Sources.clock g.S.Sources.wakes c.args.plan.now []) disk c.in-Ok.host.store.disk c.args.sources.now c.args.sources.now (g.W.Write.contents c.args.writer.now) (g.W.Write.contents c.args.writer.now) start
-    ((c.args.writer.now ≡ c.args.writer.now) × (c.args.sources.now ≡ c.args.sources.now)) c.in-Err-ids_in.why (refl, refl)
+    in_vain (setting g.T.Tells.voice g.S.Children.after g.S.Sources.clock g.S.Sources.wakes c.args.plan.now []) disk (g.D.Disk.view c.close.result) c.in-Ok.host.store.disk c.args.sources.now c.args.sources.now (g.W.Write.contents c.args.writer.now) (g.W.Write.contents c.args.writer.now) start
+    (((c.args.writer.now ≡ c.args.writer.now) × (c.args.sources.now ≡ c.args.sources.now)) × Untouched disk (g.D.Disk.view c.close.result)) c.in-Err-ids_in.why
+    ((refl, refl), subst (Untouched disk) (sym c.close.ensures) c.in-Ok.ensures.looks)
     (opened_on disk c.in-Ok.host o.0 o.1 c.in-Ok.ensures.found c.in-Ok.ensures.ends c.in-Ok.ensures.looks) (c.in-Err-ids_in.ensures.fault start o.1)
 
 pub returns-in-Err-ids_in-clause-unopened : goal.returns-in-Err-ids_in-clause-unopened
@@ -73,8 +75,7 @@ returns-clause-fault g c =
     let found = c.in-Ok-ids_in.ensures.ids start o.1 in
     let is = c.as_slice.ensures.value ∙ found.1 in
     evaluation_failed (setting g.T.Tells.voice g.S.Children.after g.S.Sources.clock g.S.Sources.wakes c.args.plan.now []) disk c.in-Ok.host.store.disk c.args.sources.now c.evaluate_and_stop-done.new.sources (g.W.Write.contents c.args.writer.now) (g.W.Write.contents c.evaluate_and_stop-done.new.writer) start c.evaluate_and_stop-done.new.host
-    ((opened_on disk c.in-Ok.host o.0 o.1 c.in-Ok.ensures.found c.in-Ok.ensures.ends c.in-Ok.ensures.looks), found.0) o.1.stands.images _ c.in-Err-done.fault
-    (same-on disk c.in-Ok.host.store.disk c.evaluate_and_stop-done.new.host.store.disk c.in-Ok.ensures.same c.evaluate_and_stop-done.ensures.same)
+    ((opened_on disk c.in-Ok.host o.0 o.1 c.in-Ok.ensures.found c.in-Ok.ensures.ends c.in-Ok.ensures.looks), found.0) o.1.stands.images (g.D.Disk.view c.close-in-Err-done.result) c.close-in-Err-done.ensures _ c.in-Err-done.fault
     (subst (λ m. BrokeOff (setting g.T.Tells.voice g.S.Children.after g.S.Sources.clock g.S.Sources.wakes c.args.plan.now m) (stands (at start c.args.sources.now c.in-Ok.host.store.disk) not_begun) (StoppedBehind g.S.Children.after c.evaluate_and_stop-done.new.sources) c.evaluate_and_stop-done.new.host (g.W.Write.contents c.args.writer.now) (g.W.Write.contents c.evaluate_and_stop-done.new.writer) c.in-Err-done.fault) is (if_err_is c.evaluate_and_stop-done.result _ c.in-Err-done.fault c.in-Err-done.is (c.evaluate_and_stop-done.ensures.err start o.1)))
 
 pub returns-clause-unopened : goal.returns-clause-unopened
@@ -91,7 +92,24 @@ returns-clause-failed g c = λ e.
     let disk = g.D.Disk.view c.args.disk in
     let host = c.evaluate_and_stop-done.new.host in
     let start = world_at_opening o.0 disk.room c.in-Ok.host.store.end in
-    let same = (same-on disk c.in-Ok.host.store.disk c.evaluate_and_stop-done.new.host.store.disk c.in-Ok.ensures.same c.evaluate_and_stop-done.ensures.same) in
-    let rises = evaluation_failed_since (setting g.T.Tells.voice g.S.Children.after g.S.Sources.clock g.S.Sources.wakes c.args.plan.now c.as_slice.result.now) disk c.in-Ok.host.store.disk start c.args.sources.now c.evaluate_and_stop-done.new.sources host
-    (g.W.Write.contents c.args.writer.now) (g.W.Write.contents c.evaluate_and_stop-done.new.writer) c.in-Err-done.fault c.in-Ok.ensures.same (if_err_is c.evaluate_and_stop-done.result _ c.in-Err-done.fault c.in-Err-done.is (c.evaluate_and_stop-done.ensures.err start o.1)) (same_run c.in-Err-done.fault (told.Host hosts.Disk) (err_same _ (evals.Run c.in-Err-done.fault) (evals.Run (told.Host hosts.Disk)) refl e)) in
-    (c.close.result, subst (λ v. SameDisk disk v) (sym c.close.ensures) same, subst (λ (v : DiskView). Rises disk.faults v.faults) (sym c.close.ensures) rises)
+    subst (λ (v : DiskView). Rises disk.faults v.faults) (sym c.close-in-Err-done.ensures)
+    (evaluation_failed_since (setting g.T.Tells.voice g.S.Children.after g.S.Sources.clock g.S.Sources.wakes c.args.plan.now c.as_slice.result.now) disk c.in-Ok.host.store.disk start c.args.sources.now c.evaluate_and_stop-done.new.sources host
+    (g.W.Write.contents c.args.writer.now) (g.W.Write.contents c.evaluate_and_stop-done.new.writer) c.in-Err-done.fault c.in-Ok.ensures.same (if_err_is c.evaluate_and_stop-done.result _ c.in-Err-done.fault c.in-Err-done.is (c.evaluate_and_stop-done.ensures.err start o.1)) (same_run c.in-Err-done.fault (told.Host hosts.Disk) (err_same _ (evals.Run c.in-Err-done.fault) (evals.Run (told.Host hosts.Disk)) refl e)))
+
+pub returns-in-Ok-note-clause-same : goal.returns-in-Ok-note-clause-same
+returns-in-Ok-note-clause-same g c =
+    let disk = g.D.Disk.view c.args.disk in
+    subst (SameDisk disk) (sym c.close-disk.ensures) (same-on disk c.in-Ok.host.store.disk c.evaluate_and_stop-done.new.host.store.disk c.in-Ok.ensures.same c.evaluate_and_stop-done.ensures.same)
+
+pub returns-in-Ok-done-clause-same : goal.returns-in-Ok-done-clause-same
+returns-in-Ok-done-clause-same g c =
+    let disk = g.D.Disk.view c.args.disk in
+    subst (SameDisk disk) (sym c.close-disk.ensures) (same-on disk c.in-Ok.host.store.disk c.evaluate_and_stop-done.new.host.store.disk c.in-Ok.ensures.same c.evaluate_and_stop-done.ensures.same)
+
+pub returns-in-Err-ids_in-clause-same : goal.returns-in-Err-ids_in-clause-same
+returns-in-Err-ids_in-clause-same g c = subst (SameDisk (g.D.Disk.view c.args.disk)) (sym c.close.ensures) c.in-Ok.ensures.same
+
+pub returns-clause-same : goal.returns-clause-same
+returns-clause-same g c =
+    let disk = g.D.Disk.view c.args.disk in
+    subst (SameDisk disk) (sym c.close-in-Err-done.ensures) (same-on disk c.in-Ok.host.store.disk c.evaluate_and_stop-done.new.host.store.disk c.in-Ok.ensures.same c.evaluate_and_stop-done.ensures.same)

@@ -1,10 +1,17 @@
 use Rattle.std.proofs.Common.{ap, ◌∙◌, subst}
+use Rattle.std.specs.Prelude.{OnOk}
 use Rattle.std.specs.Io.KnownBytes.{Appends}
+use Rattle.std.proofs.lemmas.Result.{IfErr-weaker}
+use Rattle.worksheet.specs.Contents.{Contents}
 use Rattle.sheet_text.specs.Texts.{sheet_text}
+use Rattle.offline_programs.proofs.Shows.{output_told}
 use Rattle.offline_programs.proofs.printing.show.Goals as goal
 
-pub returns-in-Ok-tell_sheet-clause-shown : goal.returns-in-Ok-tell_sheet-clause-shown
-returns-in-Ok-tell_sheet-clause-shown g c = λ model sheet image.
+pub returns-in-Ok-clause-shown : goal.returns-in-Ok-clause-shown
+returns-in-Ok-clause-shown g c = λ model sheet image.
     let same = c.in-Ok.ensures.exact model sheet image in
-    subst (λ s. Appends (g.W.Write.contents c.args.writer.now) (g.W.Write.contents c.tell_sheet.new.writer) (sheet_text s))
-    (ap (λ v. v.contents) c.sheet.ensures.sheet ∙ same) c.in-Ok-tell_sheet.ensures.ok
+    subst (λ (s : Contents). OnOk c.tell_sheet-answer.result (Appends (g.W.Write.contents c.args.writer.now) (g.W.Write.contents c.tell_sheet-answer.new.writer) (sheet_text s)))
+    (ap (λ v. v.contents) c.sheet.ensures.sheet ∙ same) c.tell_sheet-answer.ensures.ok
+
+pub returns-in-Ok-clause-fault : goal.returns-in-Ok-clause-fault
+returns-in-Ok-clause-fault g c = IfErr-weaker c.tell_sheet-answer.result _ _ (λ why is. output_told (g.D.Disk.view c.args.disk) _ why is) c.tell_sheet-answer.ensures.err

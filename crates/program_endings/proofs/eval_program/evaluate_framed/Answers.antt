@@ -3,7 +3,7 @@ use Rattle.program_endings.specs.EvalProgram as ends
 use Rattle.program_endings.proofs.eval_program.evaluate_framed.Goals as goal
 
 pub returns-in-Err : goal.returns-in-Err
-returns-in-Err g c = ends.ungreeted c.in-Err.fault refl c.in-Err.ensures.err.0 c.in-Err.ensures.err.1 refl
+returns-in-Err g c = ends.ungreeted c.in-Err.fault refl c.in-Err.ensures.err.0 c.in-Err.ensures.err.1 refl c.close.ensures
 
 pub returns-in-Ok-frame : goal.returns-in-Ok-frame
 returns-in-Ok-frame g c =

@@ -2,56 +2,77 @@ use Rattle.std.proofs.Common.{◌≤◌, ap, arith, length, refl, sym, ◌∙◌
 use Rattle.std.specs.Prelude.{Err}
 use Rattle.std.proofs.lemmas.Option.{IfSome_then}
 use Rattle.session_engine.specs.World.{world_at_opening}
-use Rattle.child_edge.proofs.Faulting.{same-on}
+use Rattle.child_edge.proofs.Faulting.{same-at, same-on}
 use Rattle.offline_programs.specs.Input.{longest_standard_input}
 use Rattle.offline_programs.proofs.Scripting.{script-few}
+use Rattle.offline_programs.proofs.Shows.{untouched}
 use Rattle.offline_programs.specs.Memory.{script_lines}
 use Rattle.offline_programs.specs.declared.fault.RunFault.TheVariants as told
 use Rattle.host_events.specs.declared.outcome.HostFault.TheVariants as hosts
+use Rattle.journal.specs.declared.opening.OpenCause.TheVariants as opens
 use Rattle.disk_model.specs.Disk.{DiskView, Rises, SameDisk}
-use Rattle.sheet_programs.proofs.Runs.{unread_script, opened_on, done_run, broken_run, failed_since, if_err_is, if_ok_is, err_same}
+use Rattle.sheet_programs.proofs.Runs.{unread_script, opened_on, done_run, broken_run, failed_since, if_err_is, if_err_then, if_ok_then, on_ok_always}
 use Rattle.sheet_programs.proofs.running.run_script.Goals as goal
 
-pub run_on_host-done-requires : goal.run_on_host-done-requires
-run_on_host-done-requires g c =
+pub run_on_host-answer-requires : goal.run_on_host-answer-requires
+run_on_host-answer-requires g c =
     let short = c.in-Ok.ensures.short in
     let same = ap length c.as_slice.ensures.value in
     omega (arith, script-few c.as_slice.result.now, same, short)
 
+pub returns-in-Err-clause-same : goal.returns-in-Err-clause-same
+returns-in-Err-clause-same g c = same-at (g.D.Disk.view c.args.disk)
+
 pub returns-in-Err-clause-fault : goal.returns-in-Err-clause-fault
 returns-in-Err-clause-fault g c =
-    unread_script c.args.strict g.C.Children.after (g.R.Read.remaining c.args.reader.now) (g.D.Disk.view c.args.disk) c.args.children.now c.args.children.now (g.W.Write.contents c.args.writer.now) (g.W.Write.contents c.args.writer.now) _
-    c.in-Err.fault c.in-Err.ensures.faults (λ e. c.in-Err.ensures.long (ap (λ f. Err f) e)) (refl, refl)
+    unread_script c.args.strict g.C.Children.after (g.R.Read.remaining c.args.reader.now) (g.D.Disk.view c.args.disk) (g.D.Disk.view c.args.disk) c.args.children.now c.args.children.now (g.W.Write.contents c.args.writer.now) (g.W.Write.contents c.args.writer.now) _
+    c.in-Err.fault c.in-Err.ensures.faults (λ e. c.in-Err.ensures.long (ap (λ f. Err f) e)) ((refl, refl), untouched (g.D.Disk.view c.args.disk))
 
-pub returns-in-Ok-done-clause-ran : goal.returns-in-Ok-done-clause-ran
-returns-in-Ok-done-clause-ran g c =
+pub returns-clause-ran : goal.returns-clause-ran
+returns-clause-ran g c =
     let o = c.in-Ok-open.ensures.opens in
     let disk = g.D.Disk.view c.args.disk in
     let start = world_at_opening o.0 disk.room c.in-Ok-open.host.store.end in
-    let p = if_ok_is c.run_on_host-done.result _ c.in-Ok-done.stopped_at c.in-Ok-done.is (c.run_on_host-done.ensures.ok start o.1) in
-    done_run g.C.Children.after c.args.strict c.in-Ok-done.stopped_at (g.R.Read.remaining c.args.reader.now) disk c.in-Ok-open.host.store.disk c.args.children.now c.run_on_host-done.new.children (g.W.Write.contents c.args.writer.now) (g.W.Write.contents c.run_on_host-done.new.writer)
-    (g.D.Disk.view c.close-disk.result) c.as_slice.result.now start p.0 p.1 p.2 c.run_on_host-done.new.host (IfSome_then (g.R.Read.remaining c.args.reader.now) c.in-Ok.ensures.whole (λ bytes e. c.as_slice.ensures.value ∙ e))
-    (opened_on disk c.in-Ok-open.host o.0 o.1 c.in-Ok-open.ensures.found c.in-Ok-open.ensures.ends c.in-Ok-open.ensures.looks) o.1.stands.images p.3 p.4 p.5 p.6 p.7 c.close-disk.ensures
+    if_ok_then c.run_on_host-answer.result _ _
+    (λ stopped p. done_run g.C.Children.after c.args.strict stopped (g.R.Read.remaining c.args.reader.now) disk c.in-Ok-open.host.store.disk c.args.children.now c.run_on_host-answer.new.children (g.W.Write.contents c.args.writer.now) (g.W.Write.contents c.run_on_host-answer.new.writer)
+    (g.D.Disk.view c.close.result) c.as_slice.result.now start p.0 p.1 p.2 c.run_on_host-answer.new.host (IfSome_then (g.R.Read.remaining c.args.reader.now) c.in-Ok.ensures.whole (λ bytes e. c.as_slice.ensures.value ∙ e))
+    (opened_on disk c.in-Ok-open.host o.0 o.1 c.in-Ok-open.ensures.found c.in-Ok-open.ensures.ends c.in-Ok-open.ensures.looks) o.1.stands.images p.3 p.4 p.5 p.6 p.7 c.close.ensures)
+    (c.run_on_host-answer.ensures.ok start o.1)
+
+pub returns-clause-same : goal.returns-clause-same
+returns-clause-same g c =
+    let disk = g.D.Disk.view c.args.disk in
+    subst (λ v. SameDisk disk v) (sym c.close.ensures) (same-on disk c.in-Ok-open.host.store.disk c.run_on_host-answer.new.host.store.disk c.in-Ok-open.ensures.same c.run_on_host-answer.ensures.same)
+
+pub returns-clause-short : goal.returns-clause-short
+returns-clause-short g c =
+    on_ok_always c.run_on_host-answer.result (IfSome_then (g.R.Read.remaining c.args.reader.now) c.in-Ok.ensures.whole (λ bytes e. subst (λ xs. length xs ≤ longest_standard_input) e c.in-Ok.ensures.short))
 
 pub returns-clause-fault : goal.returns-clause-fault
 returns-clause-fault g c =
     let o = c.in-Ok-open.ensures.opens in
     let disk = g.D.Disk.view c.args.disk in
     let start = world_at_opening o.0 disk.room c.in-Ok-open.host.store.end in
-    broken_run g.C.Children.after (g.R.Read.remaining c.args.reader.now) disk c.in-Ok-open.host.store.disk c.args.children.now c.run_on_host-done.new.children (g.W.Write.contents c.args.writer.now) (g.W.Write.contents c.run_on_host-done.new.writer) _
-    c.as_slice.result.now start c.run_on_host-done.new.host (IfSome_then (g.R.Read.remaining c.args.reader.now) c.in-Ok.ensures.whole (λ bytes e. c.as_slice.ensures.value ∙ e))
+    if_err_then c.run_on_host-answer.result _ _
+    (λ f p. broken_run g.C.Children.after (g.R.Read.remaining c.args.reader.now) disk c.in-Ok-open.host.store.disk c.args.children.now c.run_on_host-answer.new.children (g.W.Write.contents c.args.writer.now) (g.W.Write.contents c.run_on_host-answer.new.writer) _
+    c.as_slice.result.now start c.run_on_host-answer.new.host (IfSome_then (g.R.Read.remaining c.args.reader.now) c.in-Ok.ensures.whole (λ bytes e. c.as_slice.ensures.value ∙ e))
     (subst (λ xs. length xs ≤ longest_standard_input) (sym c.as_slice.ensures.value) c.in-Ok.ensures.short) (opened_on disk c.in-Ok-open.host o.0 o.1 c.in-Ok-open.ensures.found c.in-Ok-open.ensures.ends c.in-Ok-open.ensures.looks) o.1.stands.images
-    (same-on disk c.in-Ok-open.host.store.disk c.run_on_host-done.new.host.store.disk c.in-Ok-open.ensures.same c.run_on_host-done.ensures.same)
-    c.args.strict c.in-Err-done.fault (if_err_is c.run_on_host-done.result _ c.in-Err-done.fault c.in-Err-done.is (c.run_on_host-done.ensures.err start o.1))
+    (g.D.Disk.view c.close.result) c.close.ensures c.args.strict f p)
+    (c.run_on_host-answer.ensures.err start o.1)
+
+pub returns-clause-unopened : goal.returns-clause-unopened
+returns-clause-unopened g c = λ e.
+    let o = c.in-Ok-open.ensures.opens in
+    let start = world_at_opening o.0 (g.D.Disk.view c.args.disk).room c.in-Ok-open.host.store.end in
+    absurd (if_err_is c.run_on_host-answer.result _ (told.Open opens.Disk) e (c.run_on_host-answer.ensures.err start o.1))
 
 pub returns-clause-failed : goal.returns-clause-failed
 returns-clause-failed g c = λ e.
     let o = c.in-Ok-open.ensures.opens in
     let disk = g.D.Disk.view c.args.disk in
-    let host = c.run_on_host-done.new.host in
+    let host = c.run_on_host-answer.new.host in
     let start = world_at_opening o.0 disk.room c.in-Ok-open.host.store.end in
-    let same = same-on disk c.in-Ok-open.host.store.disk host.store.disk c.in-Ok-open.ensures.same c.run_on_host-done.ensures.same in
-    let stopped = if_err_is c.run_on_host-done.result _ c.in-Err-done.fault c.in-Err-done.is (c.run_on_host-done.ensures.err start o.1) in
-    let rises = failed_since g.C.Children.after c.args.strict (script_lines c.as_slice.result.now) disk c.in-Ok-open.host.store.disk start c.args.children.now c.run_on_host-done.new.children host
-    (g.W.Write.contents c.args.writer.now) (g.W.Write.contents c.run_on_host-done.new.writer) c.in-Err-done.fault c.in-Ok-open.ensures.same stopped (err_same _ c.in-Err-done.fault (told.Host hosts.Disk) refl e) in
-    (c.close-disk.result, subst (λ v. SameDisk disk v) (sym c.close-disk.ensures) same, subst (λ (v : DiskView). Rises disk.faults v.faults) (sym c.close-disk.ensures) rises)
+    let stopped = if_err_is c.run_on_host-answer.result _ (told.Host hosts.Disk) e (c.run_on_host-answer.ensures.err start o.1) in
+    subst (λ (v : DiskView). Rises disk.faults v.faults) (sym c.close.ensures)
+    (failed_since g.C.Children.after c.args.strict (script_lines c.as_slice.result.now) disk c.in-Ok-open.host.store.disk start c.args.children.now c.run_on_host-answer.new.children host
+    (g.W.Write.contents c.args.writer.now) (g.W.Write.contents c.run_on_host-answer.new.writer) (told.Host hosts.Disk) c.in-Ok-open.ensures.same stopped refl)

@@ -1,0 +1,36 @@
+//! A disk that a program ends with by closing it.
+use crate::{DiskFile, FileDisk};
+use disk_model::{Disk, FuseDisk, MemoryDisk};
+
+/// A disk that is closed when a program has done with it.
+///
+/// A disk that is dropped leaves no contract anything to speak of. That one was closed, and as which, the
+/// relation says: generic code has it of a disk by that call alone, and can do nothing to the disk after it.
+/// So a contract that says of the closed disk what was done to it says so of all that the program did.
+pub trait Close: Disk {
+    /// The disk was closed as it is.
+    ghost closed: { Self → Type 0 };
+
+    /// Ends with the disk. What it holds is let go, files and their lock.
+    fn close(self)
+        ensures { closed self };
+}
+
+/// Both files are closed, the lock on the first one with it. Of the system's own files nothing is claimed.
+impl<F: DiskFile + Drop> Close for FileDisk<F> {
+    ghost closed = { λ _. Unit {0} };
+
+    fn close(self) {}
+}
+
+impl Close for MemoryDisk {
+    ghost closed = { λ _. Unit {0} };
+
+    fn close(self) {}
+}
+
+impl<D: Close> Close for FuseDisk<D> {
+    ghost closed = { λ _. Unit {0} };
+
+    fn close(self) {}
+}
