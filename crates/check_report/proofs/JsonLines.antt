@@ -31,7 +31,7 @@ hello_is = refl
 part : (x y more all : List ℕ) → y ++ more ≡ all → (x ++ y) ++ more ≡ x ++ all
 part x y more all e = append_assoc x y more ∙ ap (λ t. x ++ t) e
 
--- in front of the counts, between them, and behind the last one
+-- in front of the counts, between them, and after the last one
 first : List ℕ
 first = codes "{\"differ\":"
 
