@@ -136,8 +136,4 @@ def check(
     try:
         yield from told_by(child)
     finally:
-        child.kill()
-        for stream in (child.process.stdin, child.process.stdout):
-            if stream is not None:
-                stream.close()
-        child.process.wait()
+        child.close()
