@@ -1,6 +1,6 @@
 -- A report as lines of JSON.
 use Rattle.std.proofs.Common.{◌≡◌, ◌+◌, ◌≤◌, ◌<◌, ◌^◌, ℕ, suc, List, [], ◌∷◌, ◌++◌, codes, flat_map, length, map, refl, ap, sym, ◌∙◌, append_assoc, append-nil, arith}
-use Rattle.std.specs.Fmt.{decimal}
+use Rattle.std.specs.Fmt.{decimal, digits}
 use Rattle.std.specs.List.{AllByRecursion}
 use Rattle.json.specs.Print.{escape_byte}
 use Rattle.serde_json.specs.Written.{compact_text}
@@ -18,13 +18,13 @@ use Rattle.check_report.specs.Json.{counts_told, json_head, json_tail}
 use Rattle.check_report.specs.Laws.{JsonIsItsLines, report_tellings}
 use Rattle.check_report.specs.Reports.{Case, cases_text, report_text, telling_of, verdicts_of}
 use Rattle.check_report.specs.Verdicts.{counts_of, total}
-use Rattle.check_report.specs.inside.Closing.{closing_parts}
+use Rattle.check_report.specs.inside.Closing.{first_part, second_part}
 use Rattle.check_report.proofs.Totals.{total-of}
 
 -- What is written without memory is the text of the values.
 
 pub hello_is : json_head ≡ codes "{\"format\":1,\"program\":\"tmhost\",\"protocol\":2,\"type\":\"hello\",\"version\":\"0.1.0\"}\n"
-unfolding escape_byte
+unfolding escape_byte digits
 hello_is = refl
 
 -- a part, and what follows it, with more after it
@@ -32,30 +32,27 @@ part : (x y more all : List ℕ) → y ++ more ≡ all → (x ++ y) ++ more ≡ 
 part x y more all e = append_assoc x y more ∙ ap (λ t. x ++ t) e
 
 -- in front of the counts, between them, and after the last one
-first : List ℕ
+abbrev first : List ℕ
 first = codes "{\"differ\":"
 
-second : List ℕ
+abbrev second : List ℕ
 second = codes ",\"left_out\":"
 
-third : List ℕ
+abbrev third : List ℕ
 third = codes ",\"same\":"
 
-fourth : List ℕ
+abbrev fourth : List ℕ
 fourth = codes ",\"type\":\"compared\",\"unanswered\":"
 
-behind : List ℕ
+abbrev behind : List ℕ
 behind = codes "}\n{\"type\":\"end\"}\n"
 
 -- the parts, each with all that follows it
-row : (a b c d rest : List ℕ) → List ℕ
+abbrev row : (a b c d rest : List ℕ) → List ℕ
 row a b c d rest = first ++ (a ++ (second ++ (b ++ (third ++ (c ++ (fourth ++ (d ++ rest)))))))
 
-to_the_right : (p a q b r c s d rest : List ℕ) → p ++ a ++ q ++ b ++ r ++ c ++ s ++ d ++ rest ≡ p ++ (a ++ (q ++ (b ++ (r ++ (c ++ (s ++ (d ++ rest)))))))
-to_the_right p a q b r c s d rest =
-    append_assoc (p ++ a ++ q ++ b ++ r ++ c ++ s) d rest ∙ append_assoc (p ++ a ++ q ++ b ++ r ++ c) s (d ++ rest) ∙ append_assoc (p ++ a ++ q ++ b ++ r) c (s ++ (d ++ rest))
-    ∙ append_assoc (p ++ a ++ q ++ b) r (c ++ (s ++ (d ++ rest))) ∙ append_assoc (p ++ a ++ q) b (r ++ (c ++ (s ++ (d ++ rest)))) ∙ append_assoc (p ++ a) q (b ++ (r ++ (c ++ (s ++ (d ++ rest)))))
-    ∙ append_assoc p a (q ++ (b ++ (r ++ (c ++ (s ++ (d ++ rest))))))
+to_the_right : (p a q b more : List ℕ) → p ++ a ++ q ++ b ++ more ≡ p ++ (a ++ (q ++ (b ++ more)))
+to_the_right p a q b more = append_assoc (p ++ a ++ q) b more ∙ append_assoc (p ++ a) q (b ++ more) ∙ append_assoc p a (q ++ (b ++ more))
 
 -- a row of parts with more after it
 further : (a b c d x more : List ℕ) → row a b c d x ++ more ≡ row a b c d (x ++ more)
@@ -73,14 +70,14 @@ end_is : telling_line told.end ≡ codes "{\"type\":\"end\"}\n"
 unfolding escape_byte
 end_is = refl
 
-pub closing_is : (counts : Counts) → closing_parts counts ≡ json_tail counts
+pub closing_is : (counts : Counts) → first_part counts ++ second_part counts ≡ json_tail counts
 closing_is counts =
     let a = decimal counts.differ in
     let b = decimal counts.left_out in
     let c = decimal counts.same in
     let d = decimal counts.unanswered in
     let last = codes "{\"type\":\"end\"}\n" in
-    to_the_right first a second b third c fourth d behind
+    to_the_right first a second b (second_part counts) ∙ ap (λ t. first ++ (a ++ (second ++ (b ++ t)))) (to_the_right third c fourth d behind)
     ∙ sym (ap (λ t. (t ++ 10 ∷ []) ++ telling_line told.end) (counts_are counts) ∙ ap (λ t. (row a b c d (125 ∷ []) ++ 10 ∷ []) ++ t) end_is
     ∙ ap (λ t. t ++ last) (further a b c d (125 ∷ []) (10 ∷ [])) ∙ further a b c d (125 ∷ 10 ∷ []) last)
 
@@ -122,5 +119,5 @@ json_is_its_lines cases sound few =
     let counts = counts_of (verdicts_of cases) in
     let fits : total counts < 2 ^ 32 = omega (arith, total-of cases, few) in (
       one_line told.hello tt,
-      each_line cases (counts_told counts ∷ told.end ∷ []) sound (one_line (counts_told counts) (counts_sound counts fits), one_line told.end tt, tt),
+      each_line cases (counts_told counts ∷ told.end ∷ []) sound (one_line (counts_told counts) (counts_sound counts fits), (one_line told.end tt, tt)),
     )

@@ -43,16 +43,6 @@ fn is_passed(chosen: &Chosen, counts: Counts) -> bool
     are_same(counts) && found_any(chosen, counts)
 }
 
-/// What the program answers, by what a check did.
-fn answer_by(chosen: &Chosen, answer: Result<Counts, RunFault>) -> Result<bool, RunFault>
-    ensures { result ≡ answer_of_check chosen.now answer }
-{
-    match answer {
-        Ok(counts) => Ok(is_passed(chosen, counts)),
-        Err(fault) => Err(fault),
-    }
-}
-
 /// Ends the program by what it answered: a fault is printed on both streams where the report is JSON.
 fn end_report<W: Write, E: Write>(
     alloc: Global,
@@ -73,6 +63,29 @@ fn end_report<W: Write, E: Write>(
     }
 }
 
+/// Ends the program by what a check answered.
+fn end_check<W: Write, E: Write>(
+    alloc: Global,
+    request: &Request,
+    answer: Result<Counts, RunFault>,
+    output: &mut W,
+    errors: &mut E,
+) -> Ending
+    ensures last { LastOfCheck request.now.format W.contents output.old output.new result.told
+        (answer_of_check request.now.chosen answer) }
+    ensures status { result.status ≡ status_of (answer_of_check request.now.chosen answer) }
+    ensures told { TellsFault E.contents errors.old errors.new result.told
+        (answer_of_check request.now.chosen answer) }
+{
+    match answer {
+        Ok(counts) => {
+            let passed = is_passed(&request.chosen, counts);
+            end_report(alloc, request.format, Ok(passed), output, errors)
+        }
+        Err(fault) => end_report(alloc, request.format, Err(fault), output, errors),
+    }
+}
+
 /// Checks the worksheet on a disk, and drops the disk at the end.
 fn check_on<D: Disk, C: Sources, P: Progress, W: Write, E: Write>(
     alloc: Global,
@@ -88,8 +101,7 @@ fn check_on<D: Disk, C: Sources, P: Progress, W: Write, E: Write>(
         E.contents errors.old errors.new result }
 {
     let Checked { disk: _, answer } = check(alloc, request, disk, sources, progress, output);
-    let answer = answer_by(&request.chosen, answer);
-    end_report(alloc, request.format, answer, output, errors)
+    end_check(alloc, request, answer, output, errors)
 }
 
 /// The whole program `check` on its files, or on why they weren't opened: the report goes to `output`,

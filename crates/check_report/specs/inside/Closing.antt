@@ -3,7 +3,9 @@ use Rattle.std.specs.Prelude.{ℕ, List, ◌++◌, codes}
 use Rattle.std.specs.Fmt.{decimal}
 use Rattle.check_report.specs.declared.verdict.Counts.{Counts}
 
-abbrev pub closing_parts : Counts → List ℕ
-closing_parts counts =
-    codes "{\"differ\":" ++ decimal counts.differ ++ codes ",\"left_out\":" ++ decimal counts.left_out ++ codes ",\"same\":" ++ decimal counts.same
-    ++ codes ",\"type\":\"compared\",\"unanswered\":" ++ decimal counts.unanswered ++ codes "}\n{\"type\":\"end\"}\n"
+-- how many differ and were left out, and then the other counts and what stands last
+abbrev pub first_part : Counts → List ℕ
+first_part counts = codes "{\"differ\":" ++ decimal counts.differ ++ codes ",\"left_out\":" ++ decimal counts.left_out
+
+abbrev pub second_part : Counts → List ℕ
+second_part counts = codes ",\"same\":" ++ decimal counts.same ++ codes ",\"type\":\"compared\",\"unanswered\":" ++ decimal counts.unanswered ++ codes "}\n{\"type\":\"end\"}\n"
