@@ -9,6 +9,7 @@ What a call returned is on the disk: a crash of this process, of the program or 
 
 from .aio import AsyncCell, AsyncCellLike, AsyncEvaluation, AsyncWorksheet
 from .blocking import Cell, CellLike, Evaluation, Worksheet
+from .checks import Checked, Compared, check
 from .errors import BadLine, Closed, Died, Gone, InUse, Lost, ProtocolError, Refused, TimedOut, TmhostError
 from .events import Answered, Banner, Completed, Default, Done, Ended, Event, Finished, OfLife, Stopped
 from .program import find_program
@@ -27,7 +28,9 @@ __all__ = [
     "Block",
     "Cell",
     "CellLike",
+    "Checked",
     "Closed",
+    "Compared",
     "Completed",
     "Completions",
     "Default",
@@ -52,6 +55,7 @@ __all__ = [
     "TimedOut",
     "TmhostError",
     "Worksheet",
+    "check",
     "find_program",
     "readable",
 ]

@@ -9,3 +9,5 @@ pub mod NoMarks
 pub mod Lines
 pub mod TapLines
 pub mod Tags
+pub mod JsonLines
+pub mod Totals

@@ -1,25 +1,14 @@
 -- Reports, by their points.
 use Rattle.std.proofs.Common.{◌≡◌, ◌+◌, ℕ, suc, List, [], ◌∷◌, ◌++◌, flat_map, length, map, refl, ap, sym, ◌∙◌, arith}
 use Rattle.check_report.specs.declared.report.Format.TheVariants as format
-use Rattle.check_report.specs.declared.verdict.Counts.{Counts}
-use Rattle.check_report.specs.declared.verdict.Verdict.{Verdict}
-use Rattle.check_report.specs.declared.verdict.Verdict.TheVariants as verdict
 use Rattle.check_report.specs.Junit.{head, junit_case, tail}
 use Rattle.check_report.specs.Laws.{ReportsAreTheirTexts}
 use Rattle.check_report.specs.Reports.{Case, cases_text, point_of, verdicts_of}
 use Rattle.check_report.specs.Tap.{plan_line, tap_point, tap_points, version_line}
-use Rattle.check_report.specs.Verdicts.{counted_with, counts_of, total}
+use Rattle.check_report.specs.Verdicts.{counts_of, total}
 use Rattle.check_report.specs.Words.{acceptance_text, accepted_counts_text, counts_text, verdict_text}
-
-pub total-with : (one : Verdict) (counts : Counts) → total (counted_with one counts) ≡ total counts + 1
-total-with verdict.Same counts = omega arith
-total-with verdict.Differs counts = omega arith
-total-with verdict.Unanswered counts = omega arith
-total-with verdict.LeftOut counts = omega arith
-
-pub total-of : (cases : List Case) → total (counts_of (verdicts_of cases)) ≡ length cases
-total-of [] = refl
-total-of (c ∷ cases) = omega (arith, total-with c.verdict (counts_of (verdicts_of cases)), total-of cases)
+use Rattle.check_report.proofs.JsonLines.{json_report}
+use Rattle.check_report.proofs.Totals.{total-of}
 
 taps : (number : ℕ) (cases : List Case) → cases_text format.Tap number cases ≡ tap_points number (map point_of cases)
 taps number [] = refl
@@ -46,6 +35,7 @@ are_their_texts cases = (
   ap (λ t. version_line ++ t ++ plan_line (total (counts_of (verdicts_of cases)))) (taps 1 cases)
       ∙ ap (λ n. version_line ++ tap_points 1 (map point_of cases) ++ plan_line n) (total-of cases ∙ sym (points-length cases)),
   ap (λ t. head ++ t ++ tail) (junits 1 cases),
+  json_report cases,
   ap (λ t. t ++ counts_text (counts_of (verdicts_of cases))) (words 1 cases),
   ap (λ t. t ++ accepted_counts_text (counts_of (verdicts_of cases))) (accepted 1 cases),
 )

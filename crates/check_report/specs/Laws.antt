@@ -1,11 +1,17 @@
 -- Laws of the definitions.
 use Rattle.std.specs.Prelude.{ℕ, ◌+◌, Bool, List, [], ◌∷◌, ◌++◌, ◌≡◌, ◌<◌, ◌^◌, ◌==◌, ◌||◌, ◌&&◌, not, nat_eq, true, false, codes, cond, length, map, slice_index}
-use Rattle.std.specs.List.{filter, flat_map, list_all, list_any, starts_with}
+use Rattle.std.specs.List.{AllByRecursion, filter, flat_map, list_all, list_any, starts_with}
 use Rattle.bstr.specs.Text.{lines_of}
 use Rattle.worksheet.specs.Names.{is_name}
+use Rattle.sheet_json.specs.Lines.{IsOneLine}
+use Rattle.sheet_json.specs.Plain.{IsSoundTelling}
+use Rattle.sheet_json.specs.Sheets.{telling_line, tellings_text}
+use Rattle.sheet_json.specs.Tellings.{Telling}
+use Rattle.sheet_json.specs.Tellings as told
 use Rattle.check_report.specs.declared.report.Format.TheVariants as format
 use Rattle.check_report.specs.Points.{Point}
-use Rattle.check_report.specs.Reports.{Case, point_of, report_text, verdicts_of}
+use Rattle.check_report.specs.Json.{counts_told}
+use Rattle.check_report.specs.Reports.{Case, point_of, report_text, telling_of, verdicts_of}
 use Rattle.check_report.specs.Verdicts.{counts_of}
 use Rattle.check_report.specs.Words.{acceptance_text, accepted_counts_text, counts_text, verdict_text}
 use Rattle.check_report.specs.Junit.{junit_text}
@@ -30,11 +36,16 @@ abbrev pub point_lines : ℕ → List Point → List (List ℕ)
 point_lines number [] = []
 point_lines number (p ∷ points) = point_line number p.id p.session p.verdict ∷ point_lines (number + 1) points
 
--- A report as TAP and one in JUnit's XML are those of its points, and those in words have the texts of their cases and then the counts.
+-- what a report tells in lines of JSON: first, of each case in their order, then the counts, and last that it came to its end
+abbrev pub report_tellings : List Case → List Telling
+report_tellings cases = told.hello ∷ (map telling_of cases ++ counts_told (counts_of (verdicts_of cases)) ∷ told.end ∷ [])
+
+-- A report as TAP and one in JUnit's XML are those of its points, one as JSON is the lines of its tellings, and those in words have the texts of their cases and then the counts.
 abbrev pub ReportsAreTheirTexts : Type 0
 ReportsAreTheirTexts = (cases : List Case)
     → (report_text format.Tap cases ≡ tap_text (map point_of cases))
     × (report_text format.Junit cases ≡ junit_text (map point_of cases))
+    × (report_text format.Json cases ≡ tellings_text (report_tellings cases))
     × (report_text format.Text cases ≡ flat_map (λ c. verdict_text c.field c.came c.verdict) cases ++ counts_text (counts_of (verdicts_of cases)))
     × (report_text format.Accepting cases ≡ flat_map (λ c. acceptance_text c.field c.came c.verdict) cases ++ accepted_counts_text (counts_of (verdicts_of cases)))
 
@@ -43,6 +54,12 @@ ReportsAreTheirTexts = (cases : List Case)
 abbrev pub TapIsItsPoints : Type 0
 TapIsItsPoints = (points : List Point) → ArePoints points → length points < 2 ^ 32
     → filter is_no_comment (lines_of (tap_text points)) ≡ version_line ∷ (point_lines 1 points ++ plan_line (length points) ∷ [])
+
+-- Each telling of a report as JSON is one line, whatever an interpreter wrote, where the numbers of its fields fit and its outputs are
+-- blocks. That it reads back as what it tells is `ChecksReadBack` of `sheet_json`.
+abbrev pub JsonIsItsLines : Type 0
+JsonIsItsLines = (cases : List Case) → AllByRecursion (λ c. IsSoundTelling (telling_of c)) cases → length cases < 2 ^ 32
+    → AllByRecursion (λ t. IsOneLine (telling_line t)) (report_tellings cases)
 
 -- '<', '>', '"', and each control character but a tab and a line feed
 abbrev pub is_xml_mark : ℕ → Bool

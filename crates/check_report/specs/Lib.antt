@@ -1,3 +1,4 @@
+pub mod inside
 pub mod Verdicts
 pub mod Chosen
 pub mod IdLists
@@ -7,5 +8,6 @@ pub mod Points
 pub mod Tap
 pub mod Xml
 pub mod Junit
+pub mod Json
 pub mod Reports
 pub mod Laws

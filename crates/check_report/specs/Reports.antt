@@ -1,6 +1,7 @@
 -- A report, in each of its formats.
 use Rattle.std.specs.Prelude.{ℕ, ◌+◌, Bool, true, false, List, [], ◌∷◌, ◌++◌, Option, map}
 use Rattle.std.specs.Io.KnownBytes.{Appends}
+use Rattle.block_tree.specs.declared.reason.Reason.{Reason}
 use Rattle.worksheet.specs.declared.field.Answer.{Answer}
 use Rattle.worksheet.specs.declared.field.Field.{Field}
 use Rattle.check_report.specs.declared.report.Format.{Format}
@@ -15,15 +16,20 @@ use Rattle.check_report.specs.Points.{Point, point}
 use Rattle.check_report.specs.Words.{acceptance_text, accepted_counts_text, counts_text, verdict_text}
 use Rattle.check_report.specs.Tap.{plan_line, tap_point, version_line}
 use Rattle.check_report.specs.Junit.{head, junit_case, tail}
+use Rattle.check_report.specs.Json.{checked_told, json_head, json_tail}
+use Rattle.sheet_json.specs.Sheets.{telling_line}
+use Rattle.sheet_json.specs.Tellings.{Telling}
 
--- A field that was evaluated again: the answer that came, or none, and what that came to.
+-- A field that was evaluated again: the answer that came, or none; the reason that the field then shows for none, where it shows one;
+-- and what that came to.
 pub record Case : Type 0 where
   pub field : Field
   pub came : Option Answer
+  pub lost : Option Reason
   pub verdict : Verdict
 
-abbrev pub case : Field → Option Answer → Verdict → Case
-case field came verdict = record { field = field; came = came; verdict = verdict }
+abbrev pub case : Field → Option Answer → Option Reason → Verdict → Case
+case field came lost verdict = record { field = field; came = came; lost = lost; verdict = verdict }
 
 -- what is said of it in a format that programs read
 abbrev pub point_of : Case → Point
@@ -32,11 +38,16 @@ point_of c = point c.field.id c.field.session c.verdict (verdict_text c.field c.
 abbrev pub verdicts_of : List Case → List Verdict
 verdicts_of cases = map (λ c. c.verdict) cases
 
+-- the same in JSON
+abbrev pub telling_of : Case → Telling
+telling_of c = checked_told c.field c.came c.lost c.verdict
+
 -- what stands first
 abbrev pub opening_text : Format → List ℕ
 opening_text format.Text = []
 opening_text format.Tap = version_line
 opening_text format.Junit = head
+opening_text format.Json = json_head
 opening_text format.Accepting = []
 
 -- what is written of a case, of which this is the number
@@ -44,6 +55,7 @@ abbrev pub case_text : Format → ℕ → Case → List ℕ
 case_text format.Text number c = verdict_text c.field c.came c.verdict
 case_text format.Tap number c = tap_point number (point_of c)
 case_text format.Junit number c = junit_case (point_of c)
+case_text format.Json number c = telling_line (telling_of c)
 case_text format.Accepting number c = acceptance_text c.field c.came c.verdict
 
 -- the same of cases, one after another, of which the first has this number
@@ -56,6 +68,7 @@ abbrev pub closing_text : Format → Counts → List ℕ
 closing_text format.Text counts = counts_text counts
 closing_text format.Tap counts = plan_line (total counts)
 closing_text format.Junit counts = tail
+closing_text format.Json counts = json_tail counts
 closing_text format.Accepting counts = accepted_counts_text counts
 
 -- a report up to here
@@ -77,6 +90,7 @@ abbrev pub is_written : Format → Verdict → Bool
 is_written format.Text v = is_written_in_words v
 is_written format.Tap v = true
 is_written format.Junit v = true
+is_written format.Json v = true
 is_written format.Accepting v = is_written_in_words v
 
 -- What a fault leaves of the output: where there was no memory nothing was written, and else the writer failed.

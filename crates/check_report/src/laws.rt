@@ -1,8 +1,9 @@
 //! Laws of the definitions that the contracts cite. Each function does nothing: its contract is the
 //! law.
-ghost use Rattle.check_report.specs.Laws.{ReportsAreTheirTexts, TapIsItsPoints, TextsAreNoTags, XmlHasNoMarks};
+ghost use Rattle.check_report.specs.Laws.{JsonIsItsLines, ReportsAreTheirTexts, TapIsItsPoints, TextsAreNoTags, XmlHasNoMarks};
 
-/// Reports as TAP and in JUnit's XML are those of their points, so the laws below are about them.
+/// Reports as TAP and in JUnit's XML are those of their points, and those as JSON the lines of their
+/// tellings, so the laws below are about them.
 pub fn reports_are_their_texts()
     ensures { ReportsAreTheirTexts }
 {}
@@ -11,6 +12,12 @@ pub fn reports_are_their_texts()
 /// comments.
 pub fn tap_is_its_points()
     ensures { TapIsItsPoints }
+{}
+
+/// Each telling of a report as JSON is one line.
+#[tactic(auto, using(crate::proofs::JsonLines::json_is_its_lines))]
+pub fn json_is_its_lines()
+    ensures { JsonIsItsLines }
 {}
 
 /// No text in XML has `<`, `>` or `"`, and each `&` in it begins a reference.

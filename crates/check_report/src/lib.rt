@@ -1,8 +1,10 @@
-//! What a check of a worksheet asks for, and how it reports what came: in words, as TAP, or in JUnit's XML.
+//! What a check of a worksheet asks for, and how it reports what came: in words, as TAP, in JUnit's XML, or as lines
+//! of JSON.
 #![tactic(auto)]
 
 mod chosen;
 mod ids;
+mod json;
 mod junit;
 pub mod laws;
 mod report;

@@ -6,7 +6,10 @@ ghost use Rattle.check_report.specs.Reports.{Unreported, case as case_of, case_t
 ghost use Rattle.check_report.specs.Words as printed;
 ghost use Rattle.check_report.specs.Tap as taps;
 ghost use Rattle.check_report.specs.Junit as junits;
+ghost use Rattle.check_report.specs.Json.{checked_told};
+ghost use Rattle.sheet_json.specs.Sheets.{telling_line};
 
+use crate::json::{case_in_memory, write_end, write_hello};
 use crate::junit::{write_case, write_head, write_tail};
 use crate::tap::{write_plan, write_point, write_version};
 use crate::verdict::{Counts, Verdict};
@@ -15,6 +18,7 @@ use crate::words::{
     write_counts, write_difference,
 };
 use crate::writing::write_bytes;
+use block_tree::Reason;
 use sheet_text::WriteFault;
 use std::alloc::Global;
 use std::io::Write;
@@ -29,6 +33,8 @@ pub enum Format {
     Tap,
     /// In JUnit's XML: a test case for each field.
     Junit,
+    /// As lines of JSON: an object for each field.
+    Json,
     /// In words, where answers that differ are accepted: that is said after each.
     Accepting,
 }
@@ -51,6 +57,7 @@ pub fn open_report<W: Write>(format: Format, writer: &mut W) -> Result<(), Write
         Format::Text | Format::Accepting => return Ok(()),
         Format::Tap => write_version(writer)?,
         Format::Junit => write_head(writer)?,
+        Format::Json => write_hello(writer)?,
     }
     writer.flush().map_err(|_| WriteFault)
 }
@@ -64,6 +71,7 @@ fn write_closing<W: Write>(format: Format, counts: Counts, writer: &mut W) -> Re
         Format::Text => write_counts(counts, writer),
         Format::Tap => write_plan(counts.total(), writer),
         Format::Junit => write_tail(writer),
+        Format::Json => write_end(counts, writer),
         Format::Accepting => write_accepted_counts(counts, writer),
     }
 }
@@ -95,7 +103,7 @@ pub fn is_written(format: Format, verdict: Verdict) -> bool
 {
     match format {
         Format::Text | Format::Accepting => is_written_in_words(verdict),
-        Format::Tap | Format::Junit => true,
+        Format::Tap | Format::Junit | Format::Json => true,
     }
 }
 
@@ -200,7 +208,8 @@ fn report_point<W: Write>(
     writer: &mut W,
 ) -> Result<(), ReportFault>
     ensures ok { OnOk result (Appends (W.contents writer.old) (W.contents writer.new)
-        (case_text Format.Tap number (case_of field.now came.now verdict))) }
+        (taps.tap_point number (point field.now.id field.now.session verdict
+        (printed.verdict_text field.now came.now verdict)))) }
     ensures err { IfErr result (Unreported (W.contents writer.old) (W.contents writer.new)) }
 {
     let Some(told) = verdict_in_memory(alloc, field, came, verdict) else {
@@ -243,6 +252,28 @@ pub fn bring_out<W: Write>(text: &[u8], writer: &mut W) -> Result<(), WriteFault
     Ok(())
 }
 
+/// Tells a field as a line of JSON.
+fn report_json<W: Write>(
+    alloc: Global,
+    field: &Field,
+    came: &Option<Answer>,
+    lost: Option<Reason>,
+    verdict: Verdict,
+    writer: &mut W,
+) -> Result<(), ReportFault>
+    ensures ok { OnOk result (Appends (W.contents writer.old) (W.contents writer.new)
+        (telling_line (checked_told field.now came.now lost verdict))) }
+    ensures err { IfErr result (Unreported (W.contents writer.old) (W.contents writer.new)) }
+{
+    let Some(line) = case_in_memory(alloc, field, came, lost, verdict) else {
+        return Err(ReportFault::OutOfMemory);
+    };
+    match bring_out(line.as_slice(), writer) {
+        Ok(()) => Ok(()),
+        Err(_) => Err(ReportFault::Output),
+    }
+}
+
 /// Tells a field in words, where answers that differ are accepted.
 fn report_accepting<W: Write>(
     alloc: Global,
@@ -264,24 +295,27 @@ fn report_accepting<W: Write>(
     }
 }
 
-/// Tells what a field came to, which is the case of this number, and brings it out.
+/// Tells what a field came to, which is the case of this number, and brings it out. The field may show a
+/// reason for no answer then.
 pub fn report_case<W: Write>(
     alloc: Global,
     format: Format,
     number: u64,
     field: &Field,
     came: &Option<Answer>,
+    lost: Option<Reason>,
     verdict: Verdict,
     writer: &mut W,
 ) -> Result<(), ReportFault>
     ensures ok { OnOk result (Appends (W.contents writer.old) (W.contents writer.new)
-        (case_text format number (case_of field.now came.now verdict))) }
+        (case_text format number (case_of field.now came.now lost verdict))) }
     ensures err { IfErr result (Unreported (W.contents writer.old) (W.contents writer.new)) }
 {
     match format {
         Format::Text => report_words(alloc, field, came, verdict, writer),
         Format::Tap => report_point(alloc, number, field, came, verdict, writer),
         Format::Junit => report_junit(alloc, field, came, verdict, writer),
+        Format::Json => report_json(alloc, field, came, lost, verdict, writer),
         Format::Accepting => report_accepting(alloc, field, came, verdict, writer),
     }
 }

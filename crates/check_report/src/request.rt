@@ -31,9 +31,11 @@ pub enum RequestFault {
     OutOfMemory,
     /// In that format nothing is accepted.
     Accepting,
+    /// They name a format, and ask for lines of JSON beside it.
+    Both,
 }
 
-/// The format of this name: `text`, `tap` or `junit`. None where there is none of it.
+/// The format of this name: `text`, `tap`, `junit` or `json`. None where there is none of it.
 fn format_named(name: &str) -> Option<Format>
     ensures { result ≡ asked.report_named name.now }
 {
@@ -41,23 +43,30 @@ fn format_named(name: &str) -> Option<Format>
         "text" => Some(Format::Text),
         "tap" => Some(Format::Tap),
         "junit" => Some(Format::Junit),
+        "json" => Some(Format::Json),
         _ => None,
     }
 }
 
-/// The format that is asked for.
-fn read_format(name: Option<&str>) -> Result<Format, RequestFault>
-    ensures ok { IfOk result (λ format.
-        asked.format_asked (option_map (λ text. text.now) name.entry) ≡ Some format) }
-    ensures err { IfErr result (λ why. (why ≡ RequestFault.Format)
-        × (asked.format_asked (option_map (λ text. text.now) name.entry) ≡ None)) }
+/// The format with a name.
+fn read_named(name: &str) -> Result<Format, RequestFault>
+    ensures { result ≡ asked.named_or_none (asked.report_named name.now) }
 {
-    match name {
-        None => Ok(Format::Text),
-        Some(name) => match format_named(name) {
-            Some(format) => Ok(format),
-            None => Err(RequestFault::Format),
-        },
+    match format_named(name) {
+        Some(format) => Ok(format),
+        None => Err(RequestFault::Format),
+    }
+}
+
+/// The format that is asked for, by whether lines of JSON are, and by its name.
+fn read_format(json: bool, name: Option<&str>) -> Result<Format, RequestFault>
+    ensures { result ≡ asked.format_asked json (option_map (λ text. text.now) name.entry) }
+{
+    match (json, name) {
+        (false, None) => Ok(Format::Text),
+        (true, None) => Ok(Format::Json),
+        (false, Some(name)) => read_named(name),
+        (true, Some(_)) => Err(RequestFault::Both),
     }
 }
 
@@ -67,18 +76,17 @@ fn accepting(format: Format) -> Option<Format>
 {
     match format {
         Format::Text | Format::Accepting => Some(Format::Accepting),
-        Format::Tap | Format::Junit => None,
+        Format::Tap | Format::Junit | Format::Json => None,
     }
 }
 
-/// The report that is asked for, by the name of its format, and by whether answers that differ are
-/// accepted.
-fn read_report(name: Option<&str>, accept: bool) -> Result<Format, RequestFault>
-    ensures ok { IfOk result (asked.AsksReport accept (option_map (λ text. text.now) name.entry)) }
+/// The report that is asked for, by its format, and by whether answers that differ are accepted.
+fn read_report(json: bool, name: Option<&str>, accept: bool) -> Result<Format, RequestFault>
+    ensures ok { IfOk result (asked.AsksReport accept json (option_map (λ text. text.now) name.entry)) }
     ensures err { IfErr result
-        (asked.AsksFor accept (option_map (λ text. text.now) name.entry) None None) }
+        (asked.AsksFor accept json (option_map (λ text. text.now) name.entry) None None) }
 {
-    let format = match read_format(name) {
+    let format = match read_format(json, name) {
         Ok(format) => format,
         Err(why) => return Err(why),
     };
@@ -111,7 +119,7 @@ fn read_session(name: Option<&str>) -> Result<Option<Name>, RequestFault>
 fn read_left_out(alloc: Global, text: Option<&str>) -> Result<Sequence<Ids>, RequestFault>
     ensures ok { IfOk result (λ ids.
         asked.ids_asked (option_map (λ text. text.now) text.entry) ≡ Some ids) }
-    ensures err { IfErr result (asked.AsksFor false None None (option_map (λ text. text.now) text.entry)) }
+    ensures err { IfErr result (asked.AsksFor false false None None (option_map (λ text. text.now) text.entry)) }
 {
     let Some(text) = text else {
         return Ok(Sequence::new(alloc));
@@ -123,23 +131,24 @@ fn read_left_out(alloc: Global, text: Option<&str>) -> Result<Sequence<Ids>, Req
     }
 }
 
-/// What the words of a command line ask for: a format, a session, numbers of fields that are left out,
-/// and whether answers that differ are accepted; within this limit of time, where there is one.
+/// What the words of a command line ask for: lines of JSON, or a format; a session, numbers of fields that
+/// are left out, and whether answers that differ are accepted; within this limit of time, where there is one.
 pub fn read_request(
     alloc: Global,
+    json: bool,
     format: Option<&str>,
     session: Option<&str>,
     ids: Option<&str>,
     accept: bool,
     limit: Option<u32>,
 ) -> Result<Request, RequestFault>
-    ensures ok { IfOk result (asked.Asks accept (option_map (λ text. text.now) format.entry)
+    ensures ok { IfOk result (asked.Asks accept json (option_map (λ text. text.now) format.entry)
         (option_map (λ text. text.now) session.entry) (option_map (λ text. text.now) ids.entry)) }
     ensures within { IfOk result (λ request. request.limit ≡ limit) }
-    ensures err { IfErr result (asked.AsksFor accept (option_map (λ text. text.now) format.entry)
+    ensures err { IfErr result (asked.AsksFor accept json (option_map (λ text. text.now) format.entry)
         (option_map (λ text. text.now) session.entry) (option_map (λ text. text.now) ids.entry)) }
 {
-    let format = match read_report(format, accept) {
+    let format = match read_report(json, format, accept) {
         Ok(format) => format,
         Err(why) => return Err(why),
     };

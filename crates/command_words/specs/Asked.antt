@@ -12,6 +12,7 @@ use Rattle.command_words.specs.declared.words.Task.TheVariants as task
 
 -- what the words of `check` name beside its path, as contracts see it
 pub record CheckView : Type 0 where
+  pub json : Bool
   pub format : Option Text
   pub only : Option Text
   pub leave_out : Option Text
@@ -20,6 +21,7 @@ pub record CheckView : Type 0 where
 
 abbrev pub check_view : CheckWords → CheckView
 check_view words = record {
+  json = words.json;
   format = option_map (λ text. text.now) words.format;
   only = option_map (λ text. text.now) words.only;
   leave_out = option_map (λ text. text.now) words.leave_out;
@@ -97,13 +99,13 @@ json_rule = record (new_rule (codes "json")) { long = Some (codes "json"); actio
 abbrev pub with_json : Text → App
 with_json name = with_rule (with_path name) json_rule
 
--- and of the one with options: the format of its report, the session that it is about, the fields that aren't compared, the time that a
+-- and of the one with options: whether it writes JSON, the format of its report, the session that it is about, the fields that aren't compared, the time that a
 -- field may take, and whether answers that differ are accepted
 abbrev pub report_rule : Rule
 report_rule = record (new_rule (codes "format")) { long = Some (codes "format"); value_names = 1 }
 
 abbrev pub with_report : Text → App
-with_report name = with_rule (with_path name) report_rule
+with_report name = with_rule (with_json name) report_rule
 
 abbrev pub session_rule : Rule
 session_rule = record (new_rule (codes "only")) { long = Some (codes "only"); value_names = 1 }
@@ -211,6 +213,7 @@ flags_view flags = record { strict = flags.strict; json = flags.json; eval = eva
 -- what the words of `check` name among these words
 abbrev pub check_in : List Row → CheckView
 check_in rows = record {
+  json = is_set (first_of (codes "json") rows);
   format = first_of (codes "format") rows;
   only = first_of (codes "only") rows;
   leave_out = first_of (codes "leave-out") rows;

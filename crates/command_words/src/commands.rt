@@ -59,17 +59,17 @@ fn with_json<'a>(alloc: Global, row: Row) -> Result<Command<'a>, AllocError>
     )
 }
 
-/// A subcommand with a path, and with the format of its report.
+/// A subcommand with a path, with a flag that has it write JSON, and with the format of its report.
 fn with_report<'a>(alloc: Global, row: Row) -> Result<Command<'a>, AllocError>
     ensures made { IfOk result (λ command. app_of command ≡ asked.with_report row.name.now) }
     ensures local { IfOk result (λ command. (fields_of command).has_globals ≡ false) }
 {
-    let first = with_path(alloc, row)?;
+    let first = with_json(alloc, row)?;
     first.arg(
         Arg::new(alloc, "format")
             .long("format")
             .value_name("FORMAT")
-            .help("How the report is written: text, tap or junit"),
+            .help("How the report is written: text, tap, junit or json"),
     )
 }
 

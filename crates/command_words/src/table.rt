@@ -15,7 +15,7 @@ pub(crate) enum Shape {
     Json,
     /// PATH and numbers of fields, and the flags and options of an evaluation.
     Eval,
-    /// PATH, and the options of a report and of which fields it is about.
+    /// PATH, the flag `--json`, and the options of a report and of which fields it is about.
     Check,
     /// PATH and NEW.
     Paths,
@@ -126,9 +126,10 @@ it shows, with `- `, and those that came, with `+ `, are written at once, or `+ 
 where no answer came. Prompts aren't compared. The last line has the counts, as\n\
 `same 4 differ 1 unanswered 0`.\n\n\
 With --format it reports each field as a test: as a point of TAP 13, or as a case\n\
-in JUnit's XML. --only names the one session whose fields are evaluated. The\n\
-outputs of the fields that --leave-out names aren't compared, as of 3, 7, 8 and 9\n\
-by --leave-out 3,7-9; they are evaluated all the same.\n\n\
+in JUnit's XML. With --json, which is --format json, each is one object, which\n\
+programs read (docs/JSON.md). --only names the one session whose fields are\n\
+evaluated. The outputs of the fields that --leave-out names aren't compared, as of\n\
+3, 7, 8 and 9 by --leave-out 3,7-9; they are evaluated all the same.\n\n\
 With --timeout SECONDS (1 to 1,000,000) the interpreter of a field that takes\n\
 longer is sent SIGINT, and is stopped where it hasn't answered two seconds later.\n\
 No answer came then, whatever came after SIGINT, and the next field is checked.\n\

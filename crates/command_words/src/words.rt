@@ -11,6 +11,8 @@ use std::alloc::{AllocError, Global};
 /// What the words of `check` name beside its path, as they are.
 #[derive(Clone, Copy, Debug, PartialEq, Eq)]
 pub struct CheckWords<'a> {
+    /// It writes lines of JSON.
+    pub json: bool,
     /// The format of its report.
     pub format: Option<&'a str>,
     /// The session whose fields are evaluated.
@@ -166,6 +168,7 @@ fn check_words<'a>(matches: &ArgMatches<'a>) -> CheckWords<'a>
     ensures { check_view result ≡ check_in (rows_of (found_of matches.now)) }
 {
     CheckWords {
+        json: is_set(matches.get_str("json")),
         format: matches.get_str("format"),
         only: matches.get_str("only"),
         leave_out: matches.get_str("leave-out"),

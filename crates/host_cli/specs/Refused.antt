@@ -29,13 +29,16 @@ no_id_text = codes "error: this is no field: ID is a number, as 3\n\nFor more in
 abbrev pub no_both_text : List ℕ
 no_both_text = codes "error: --from goes with no ID after PATH\n\nFor more information, try 'tmhost eval --help'.\n"
 
--- what is printed of words that ask for no check: of a time, of a format, of the name of a session, of numbers of fields, and of a format in
--- which nothing is accepted
+-- what is printed of words that ask for no check: of a time, of a format, of two of them, of the name of a session, of numbers of fields, and
+-- of a format in which nothing is accepted
 abbrev pub no_check_seconds_text : List ℕ
 no_check_seconds_text = codes "error: this is no time: SECONDS is a number from 1 to 1000000\n\nFor more information, try 'tmhost check --help'.\n"
 
 abbrev pub no_report_text : List ℕ
-no_report_text = codes "error: there is no such format: FORMAT is text, tap or junit\n\nFor more information, try 'tmhost check --help'.\n"
+no_report_text = codes "error: there is no such format: FORMAT is text, tap, junit or json\n\nFor more information, try 'tmhost check --help'.\n"
+
+abbrev pub two_formats_text : List ℕ
+two_formats_text = codes "error: --json goes with no --format\n\nFor more information, try 'tmhost check --help'.\n"
 
 abbrev pub no_session_text : List ℕ
 no_session_text = codes "error: no session can have this name: NAME is 1 to 32 letters, digits, `_` and `-`\n\nFor more information, try 'tmhost check --help'.\n"
@@ -63,4 +66,5 @@ RefusesRequest request.Format said old new ending = RefusesWith no_report_text s
 RefusesRequest request.Session said old new ending = RefusesWith no_session_text said old new ending
 RefusesRequest request.Ids said old new ending = RefusesWith no_ids_text said old new ending
 RefusesRequest request.Accepting said old new ending = RefusesWith no_acceptance_text said old new ending
+RefusesRequest request.Both said old new ending = RefusesWith two_formats_text said old new ending
 RefusesRequest request.OutOfMemory said old new ending = (ending.status ≡ 1) × TellsFault said old new ending.told (Err fault.OutOfMemory)

@@ -141,6 +141,7 @@ module _ {Y D P S I W E Q : Type 0} (o : OutsideView D P S I W E) where
   ChecksIn report.Text old new ending path request = ChecksAs old new ending path request
   ChecksIn report.Tap old new ending path request = ChecksAs old new ending path request
   ChecksIn report.Junit old new ending path request = ChecksAs old new ending path request
+  ChecksIn report.Json old new ending path request = ChecksAs old new ending path request
   ChecksIn report.Accepting old new ending path request = AcceptsAs old new ending path request
 
   abbrev pub ChecksBy : Outside Y D P S I W E Q → Outside Y D P S I W E Q → Ending → Text → Request → Type 0
@@ -158,9 +159,9 @@ module _ {Y D P S I W E Q : Type 0} (o : OutsideView D P S I W E) where
 
   -- `check` by what its words name, within this limit of time, where there is one
   abbrev pub ChecksWithin : Outside Y D P S I W E Q → Outside Y D P S I W E Q → Ending → Text → CheckView → Option ℕ → Type 0
-  ChecksWithin old new ending path words limit = (read : Result Request RequestFault) × IfOk read (Asks words.accept words.format words.only words.leave_out)
+  ChecksWithin old new ending path words limit = (read : Result Request RequestFault) × IfOk read (Asks words.accept words.json words.format words.only words.leave_out)
       × IfOk read (λ request. request.limit ≡ limit)
-      × IfErr read (AsksFor words.accept words.format words.only words.leave_out) × MatchResult read (ChecksBy old new ending path) (ChecksNone old new ending)
+      × IfErr read (AsksFor words.accept words.json words.format words.only words.leave_out) × MatchResult read (ChecksBy old new ending path) (ChecksNone old new ending)
 
   -- `check` as its words ask for it
   abbrev pub DoesCheck : Outside Y D P S I W E Q → Outside Y D P S I W E Q → Ending → Text → CheckView → Type 0

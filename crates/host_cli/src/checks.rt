@@ -78,7 +78,9 @@ fn check_by<Y: System>(
 {
     match request.format {
         Report::Accepting => accept_as(alloc, outside, request, path),
-        Report::Text | Report::Tap | Report::Junit => check_as(alloc, outside, request, path),
+        Report::Text | Report::Tap | Report::Junit | Report::Json => check_as(
+            alloc, outside, request, path,
+        ),
     }
 }
 
@@ -96,13 +98,14 @@ fn check_within<Y: System>(
     ensures leaves { outside.new.input ≡ outside.old.input }
 {
     let CheckWords {
+        json,
         format,
         only,
         leave_out,
         timeout: _,
         accept,
     } = words;
-    match read_request(alloc, format, only, leave_out, accept, limit) {
+    match read_request(alloc, json, format, only, leave_out, accept, limit) {
         Ok(request) => check_by(alloc, outside, &request, path),
         Err(why) => refuse_request(why, &mut outside.errors),
     }

@@ -137,7 +137,7 @@ pub(crate) fn refuse_request<E: Write>(why: RequestFault, errors: &mut E) -> End
 {
     match why {
         RequestFault::Format => refuse_with(
-            b"error: there is no such format: FORMAT is text, tap or junit\n\n\
+            b"error: there is no such format: FORMAT is text, tap, junit or json\n\n\
             For more information, try 'tmhost check --help'.\n",
             errors,
         ),
@@ -148,6 +148,11 @@ pub(crate) fn refuse_request<E: Write>(why: RequestFault, errors: &mut E) -> End
         ),
         RequestFault::Ids => refuse_with(
             b"error: these are no fields: IDS are numbers and ranges of them, as 3,7-9\n\n\
+            For more information, try 'tmhost check --help'.\n",
+            errors,
+        ),
+        RequestFault::Both => refuse_with(
+            b"error: --json goes with no --format\n\n\
             For more information, try 'tmhost check --help'.\n",
             errors,
         ),

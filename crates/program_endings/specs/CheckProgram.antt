@@ -6,12 +6,15 @@ use Rattle.sheet_check.specs.Check.{CheckAnswer, OnlyRead}
 use Rattle.sheet_check.specs.Evaluated.{Way}
 use Rattle.check_report.specs.declared.chosen.Chosen.{Chosen}
 use Rattle.check_report.specs.declared.report.Format.{Format}
+use Rattle.check_report.specs.declared.report.Format.TheVariants as format
 use Rattle.check_report.specs.declared.verdict.Counts.{Counts}
 use Rattle.check_report.specs.Verdicts.{total}
 use Rattle.offline_programs.specs.declared.fault.RunFault.{RunFault}
 use Rattle.offline_programs.specs.declared.fault.RunFault.TheVariants as fault
 use Rattle.program_endings.specs.Ending.{ProgramAnswer, TellsFault, status_of}
 use Rattle.program_endings.specs.Faults.{no_files}
+use Rattle.program_endings.specs.LiveProgram.{LastTold}
+use Rattle.tellings.specs.Json.{in_json}
 use Rattle.program_endings.specs.declared.ending.Ending.{Ending}
 use Rattle.sheet_files.specs.Closing.{Closable}
 use Rattle.sheet_files.specs.declared.files_fault.FilesFault.{FilesFault}
@@ -36,6 +39,14 @@ abbrev pub answer_of_check : Chosen → Result Counts RunFault → ProgramAnswer
 answer_of_check chosen (Ok counts) = Ok (passes chosen counts)
 answer_of_check chosen (Err why) = Err why
 
+-- A fault is reported last of all in a report as JSON, where the output takes it; the other formats have none.
+abbrev pub LastOfCheck : {W : Type 0} → Format → (W → Option (List ℕ)) → W → W → Bool → ProgramAnswer → Type 0
+LastOfCheck format.Json written a b told answer = LastTold in_json written a b told answer
+LastOfCheck format.Text written a b told answer = b ≡ a
+LastOfCheck format.Tap written a b told answer = b ≡ a
+LastOfCheck format.Junit written a b told answer = b ≡ a
+LastOfCheck format.Accepting written a b told answer = b ≡ a
+
 -- The check of the worksheet on a disk, from children c to d, what it wrote, and how the program ends: the status follows from the
 -- counts.
 pub record CheckDone {D C W E : Type 0} (k : Closable D) (o : Way C) (chosen : Chosen) (F : Format) (disk : D) (c d : C) (written : W → Option (List ℕ)) (a b : W)
@@ -44,7 +55,9 @@ pub record CheckDone {D C W E : Type 0} (k : Closable D) (o : Way C) (chosen : C
   pub later : D
   pub closed : k.closed later
   pub answer : Result Counts RunFault
-  pub checked : CheckAnswer o chosen F (k.view disk) c d (written a) (written b) ((b ≡ a) × (d ≡ c)) answer
+  pub mid : W
+  pub checked : CheckAnswer o chosen F (k.view disk) c d (written a) (written mid) ((mid ≡ a) × (d ≡ c)) answer
+  pub last_told : LastOfCheck F written mid b ending.told (answer_of_check chosen answer)
   pub read : OnlyRead (k.view disk) (k.view later)
   -- that the disk failed is reported only where it did
   pub failed : answer ≡ Err (fault.Open opens.Disk) → Rises (k.view disk).faults (k.view later).faults
@@ -54,5 +67,5 @@ pub record CheckDone {D C W E : Type 0} (k : Closable D) (o : Way C) (chosen : C
 -- how `check` ends on its files, or on why they weren't opened
 abbrev pub CheckEnds : {D C W E : Type 0} → Closable D → Way C → Chosen → Format → Result D FilesFault → C → C → (W → Option (List ℕ)) → W → W → (E → Option (List ℕ)) → E → E → Ending → Type 0
 CheckEnds k o chosen F files c d written a b said old new ending =
-    IfErr files (λ why. (b ≡ a) × (d ≡ c) × (ending.status ≡ 1) × TellsFault said old new ending.told (Err (no_files why)))
+    IfErr files (λ why. LastOfCheck F written a b ending.told (Err (no_files why)) × (d ≡ c) × (ending.status ≡ 1) × TellsFault said old new ending.told (Err (no_files why)))
     × IfOk files (λ disk. CheckDone k o chosen F disk c d written a b said old new ending)

@@ -49,10 +49,10 @@ abbrev pub TellsEval : {E : Type 0} → (E → Option (List ℕ)) → E → E �
 TellsEval said old new told (Ok end) = TellsStop said old new told (Ok end.stopped_at)
 TellsEval said old new told (Err why) = told ≡ true → Appends (said old) (said new) (eval_fault_text why)
 
--- A fault is reported last of all, where the voice has it and the output takes it; that a field isn't there no voice has.
+-- A fault is reported last of all, where the voice has it and the output takes it.
 abbrev pub LastOfEval : {O : Type 0} → Voice → (O → Option (List ℕ)) → O → O → Bool → EvaluationAnswer → Type 0
 LastOfEval V contents old new told (Ok end) = new ≡ old
-LastOfEval V contents old new told (Err (evals.NoField id)) = new ≡ old
+LastOfEval V contents old new told (Err (evals.NoField id)) = (V.takes_memory ≡ false → new ≡ old) × (told ≡ true → Appends (contents old) (contents new) (V.frame (frame.NoField id)))
 LastOfEval V contents old new told (Err (evals.Run why)) = LastTold V contents old new told (Err why)
 
 -- What `eval` answers on a disk between what stands first and last, and what it has written and done then; `nothing` says that it wrote

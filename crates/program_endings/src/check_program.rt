@@ -5,17 +5,19 @@ ghost use Rattle.offline_programs.specs.declared.fault.RunFault.{RunFault};
 ghost use Rattle.sheet_check.specs.Evaluated.{way};
 ghost use Rattle.sheet_files.specs.Closing.{closable};
 ghost use Rattle.program_endings.specs.Ending.{TellsFault, status_of};
-ghost use Rattle.program_endings.specs.CheckProgram.{CheckDone, CheckEnds, all_same, answer_of_check, finds_any, passes};
+ghost use Rattle.program_endings.specs.CheckProgram.{CheckDone, CheckEnds, LastOfCheck, all_same, answer_of_check, finds_any, passes};
 
+use crate::live_program::end_told;
 use crate::telling::no_files;
 use crate::{Ending, end_program};
 use arrivals::Sources;
-use check_report::{Chosen, Counts, Request};
+use check_report::{Chosen, Counts, Format, Request};
 use offline_programs::RunFault;
 use sheet_check::{Checked, Progress, check};
 use sheet_files::{Close, FilesFault};
 use std::alloc::Global;
 use std::io::Write;
+use tellings::InJson;
 
 /// Whether no output differs, and no field was left unanswered.
 fn are_same(counts: Counts) -> bool
@@ -41,15 +43,46 @@ fn is_passed(chosen: &Chosen, counts: Counts) -> bool
     are_same(counts) && found_any(chosen, counts)
 }
 
+/// Ends the program by what it answered: a fault is printed on both streams where the report is JSON.
+fn end_report<W: Write, E: Write>(
+    alloc: Global,
+    format: Format,
+    answer: Result<bool, RunFault>,
+    output: &mut W,
+    errors: &mut E,
+) -> Ending
+    ensures last { LastOfCheck format W.contents output.old output.new result.told answer }
+    ensures status { result.status ≡ status_of answer }
+    ensures told { TellsFault E.contents errors.old errors.new result.told answer }
+{
+    match format {
+        Format::Json => end_told(answer, &InJson { alloc }, output, errors),
+        Format::Text | Format::Tap | Format::Junit | Format::Accepting => {
+            end_program(answer, errors)
+        }
+    }
+}
+
 /// Ends the program by what a check answered.
-fn end_check<E: Write>(chosen: &Chosen, answer: Result<Counts, RunFault>, errors: &mut E) -> Ending
-    ensures status { result.status ≡ status_of (answer_of_check chosen.now answer) }
+fn end_check<W: Write, E: Write>(
+    alloc: Global,
+    request: &Request,
+    answer: Result<Counts, RunFault>,
+    output: &mut W,
+    errors: &mut E,
+) -> Ending
+    ensures last { LastOfCheck request.now.format W.contents output.old output.new result.told
+        (answer_of_check request.now.chosen answer) }
+    ensures status { result.status ≡ status_of (answer_of_check request.now.chosen answer) }
     ensures told { TellsFault E.contents errors.old errors.new result.told
-        (answer_of_check chosen.now answer) }
+        (answer_of_check request.now.chosen answer) }
 {
     match answer {
-        Ok(counts) => end_program(Ok(is_passed(chosen, counts)), errors),
-        Err(fault) => end_program(Err(fault), errors),
+        Ok(counts) => {
+            let passed = is_passed(&request.chosen, counts);
+            end_report(alloc, request.format, Ok(passed), output, errors)
+        }
+        Err(fault) => end_report(alloc, request.format, Err(fault), output, errors),
     }
 }
 
@@ -69,12 +102,12 @@ fn check_on<D: Close, C: Sources, P: Progress, W: Write, E: Write>(
 {
     let Checked { disk, answer } = check(alloc, request, disk, sources, progress, output);
     disk.close();
-    end_check(&request.chosen, answer, errors)
+    end_check(alloc, request, answer, output, errors)
 }
 
 /// The whole program `check` on its files, or on why they weren't opened: the report goes to `output`,
-/// each part flushed when it is known, and the line of a fault to `errors`. `progress` shows how far
-/// it is, and nothing at its end.
+/// each part flushed when it is known, and the line of a fault to `errors`; one in JSON has the fault
+/// last. `progress` shows how far it is, and nothing at its end.
 pub fn run_check<D: Close, C: Sources, P: Progress, W: Write, E: Write>(
     alloc: Global,
     request: &Request,
@@ -90,6 +123,6 @@ pub fn run_check<D: Close, C: Sources, P: Progress, W: Write, E: Write>(
 {
     match files {
         Ok(disk) => check_on(alloc, request, disk, sources, progress, output, errors),
-        Err(why) => end_program(Err(no_files(why)), errors),
+        Err(why) => end_report(alloc, request.format, Err(no_files(why)), output, errors),
     }
 }

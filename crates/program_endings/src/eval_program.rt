@@ -1,6 +1,7 @@
 //! The program `eval` over a worksheet's files, from its files on.
 ghost use Rattle.std.specs.Prelude.{◌≡◌, Err, IfErr, IfOk, []};
 ghost use Rattle.evaluation.specs.Steps.{setting};
+ghost use Rattle.evaluation.specs.declared.fault.EvalFault.TheVariants as evals;
 ghost use Rattle.program_endings.specs.Ending.{TellsFault};
 ghost use Rattle.program_endings.specs.EvalProgram.{EvalAnswer, EvaluatesTo, EvaluationEnded, LastOfEval, TellsEval, are_none_over, counts_status, evaluation_status};
 ghost use Rattle.program_endings.specs.Faults as printed;
@@ -93,6 +94,23 @@ fn end_evaluated<E: Write>(end: EvalEnd, errors: &mut E) -> Ending
     }
 }
 
+/// Ends the program where no field has a number that was asked for, which goes to both streams where its
+/// voice has it.
+fn end_without<W: Write, E: Write, T: Tells>(
+    id: u32,
+    tells: &T,
+    output: &mut W,
+    errors: &mut E,
+) -> Ending
+    ensures last { LastOfEval T.voice W.contents output.old output.new result.told (Err (evals.NoField id)) }
+    ensures status { result.status ≡ 1 }
+    ensures told { TellsEval E.contents errors.old errors.new result.told (Err (evals.NoField id)) }
+{
+    let said = tells.frame(Frame::NoField(id), output).is_ok();
+    let told = eval_fault_text(EvalFault::NoField(id), errors).is_ok();
+    ended(1, told && said)
+}
+
 /// Ends the program where an evaluation had a fault, which goes to both streams where its voice has it.
 fn end_faulty<W: Write, E: Write, T: Tells>(
     fault: EvalFault,
@@ -105,7 +123,7 @@ fn end_faulty<W: Write, E: Write, T: Tells>(
     ensures told { TellsEval E.contents errors.old errors.new result.told (Err fault) }
 {
     match fault {
-        EvalFault::NoField(_) => ended(1, eval_fault_text(fault, errors).is_ok()),
+        EvalFault::NoField(id) => end_without(id, tells, output, errors),
         EvalFault::Run(why) => end_told(Err(why), tells, output, errors),
     }
 }

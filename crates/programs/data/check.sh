@@ -223,8 +223,11 @@ reports 'one that is not left out' 1 '#3 b\nb] hangs\n- hangs\n+ ?\nsame 2 diffe
 # Words that ask for no check.
 rm -f sent
 help="\n\nFor more information, try 'tmhost check --help'.\n"
-reports 'another format' 2 "error: there is no such format: FORMAT is text, tap or junit$help" --format xml
+reports 'another format' 2 "error: there is no such format: FORMAT is text, tap, junit or json$help" --format xml
 reports 'the name of no session' 2 "error: no session can have this name: NAME is 1 to 32 letters, digits, \`_\` and \`-\`$help" --only 'a b'
+reports 'lines of JSON and a format' 2 "error: --json goes with no --format$help" --json --format tap
+reports 'lines of JSON, by the name too' 2 "error: --json goes with no --format$help" --format json --json
+reports 'lines of JSON that are accepted' 2 "error: --accept goes with no FORMAT but text$help" --json --accept
 for ids in '' , 1, 1,,2 x 3-1 1- -1 01 1-2-3 4294967296 '1, 2'; do
     reports "no fields: $ids" 2 "error: these are no fields: IDS are numbers and ranges of them, as 3,7-9$help" "--leave-out=$ids"
 done
@@ -248,6 +251,68 @@ compare 'cases, read' "$(python3 cases.py report 2>&1; cat errors)" "$(cat <<'EN
 ('a', 'field 5', [('skipped', 'left out', None)])
 END_OF_CASES
 )"
+
+# As lines of JSON: NAME STATUS WORDS, where the lines that are wanted are the input here. The worksheet stays as it was.
+objects() {
+    cat >wanted
+    name=$1 want="$(cat wanted; echo "status $2")" before="$(bytes sheet) $(bytes sheet.alt 2>/dev/null)"
+    shift 2
+    compare "$name" "$(answer check --json "$@" sheet </dev/null)" "$want"
+    compare "$name, kept" "$(bytes sheet) $(bytes sheet.alt 2>/dev/null)" "$before"
+}
+made "$a"
+objects 'no object' 0 <<'END_OF_JSON'
+{"format":1,"program":"tmhost","protocol":2,"type":"hello","version":"0.1.0"}
+{"differ":0,"left_out":0,"same":0,"type":"compared","unanswered":0}
+{"type":"end"}
+END_OF_JSON
+made "$a"'new 0 a x\nnew 1 a differs\nnew 2 a tagged\nnew 3 a odd\nnew 4 a hangs\nnew 5 a prompts\nnew 6 a shorter\nnew 7 a not evaluated\neval 1\neval 2\neval 3\neval 4\neval 5\neval 6\neval 7\nwait\n'
+objects 'an object for each field' 1 --leave-out 7 <<'END_OF_JSON'
+{"format":1,"program":"tmhost","protocol":2,"type":"hello","version":"0.1.0"}
+{"id":1,"session":"a","type":"checked","verdict":"same"}
+{"came":{"output":{"items":["another"],"kind":"format","tag":"verbatim"},"prompt":"a] ","shown":"another"},"id":2,"input":"differs","session":"a","shows":{"output":{"items":["differs"],"kind":"format","tag":"verbatim"},"prompt":"a] ","shown":"differs"},"type":"checked","verdict":"differs"}
+{"came":{"output":{"items":["$x$"],"kind":"format","tag":"latex"},"prompt":"a] ","shown":"{latex:$x$}"},"id":3,"input":"tagged","session":"a","shows":{"output":{"items":["tagged"],"kind":"format","tag":"verbatim"},"prompt":"a] ","shown":"tagged"},"type":"checked","verdict":"differs"}
+{"came":{"output":{"items":[{"base64":"/8Op77++"}],"kind":"format","tag":"verbatim"},"prompt":"a] ","shown":{"base64":"/8Op77++"}},"id":4,"input":"odd","session":"a","shows":{"output":{"items":["odd"],"kind":"format","tag":"verbatim"},"prompt":"a] ","shown":"odd"},"type":"checked","verdict":"differs"}
+{"id":5,"input":"hangs","reason":"Ended","session":"a","shows":{"output":{"items":["hangs"],"kind":"format","tag":"verbatim"},"prompt":"a] ","shown":"hangs"},"type":"checked","verdict":"unanswered"}
+{"id":6,"session":"a","type":"checked","verdict":"same"}
+{"id":7,"session":"a","type":"checked","verdict":"left_out"}
+{"differ":3,"left_out":1,"same":2,"type":"compared","unanswered":1}
+{"type":"end"}
+END_OF_JSON
+compare 'by the name of the format' "$(answer check --format json --leave-out 7 sheet </dev/null)" "$(cat wanted; echo 'status 1')"
+made 'session c plain sh count.sh\nnew 0 c a\342\200\250b\neval 1\nwait\neval 1\nwait\n'
+objects 'an input of two lines' 1 --only c <<'END_OF_JSON'
+{"format":1,"program":"tmhost","protocol":2,"type":"hello","version":"0.1.0"}
+{"came":{"output":{"items":["1"],"kind":"format","tag":"verbatim"},"prompt":"> ","shown":"1"},"id":1,"input":"a\nb","session":"c","shows":{"output":{"items":["2"],"kind":"format","tag":"verbatim"},"prompt":"> ","shown":"2"},"type":"checked","verdict":"differs"}
+{"differ":1,"left_out":0,"same":0,"type":"compared","unanswered":0}
+{"type":"end"}
+END_OF_JSON
+objects 'a session without a field' 1 --only b <<'END_OF_JSON'
+{"format":1,"program":"tmhost","protocol":2,"type":"hello","version":"0.1.0"}
+{"differ":0,"left_out":0,"same":0,"type":"compared","unanswered":0}
+{"type":"end"}
+END_OF_JSON
+cp suite.sh gone.sh
+sed -i '1i #!/bin/sh' gone.sh
+chmod 755 gone.sh
+made 'session b plain ./gone.sh b\nnew 0 b x\neval 1\nwait\n'
+rm -f gone.sh
+objects 'an interpreter that is gone' 1 <<'END_OF_JSON'
+{"format":1,"program":"tmhost","protocol":2,"type":"hello","version":"0.1.0"}
+{"id":1,"input":"x","reason":"StartRefused","session":"b","shows":{"output":{"items":["x"],"kind":"format","tag":"verbatim"},"prompt":"b] ","shown":"x"},"type":"checked","verdict":"unanswered"}
+{"differ":0,"left_out":0,"same":0,"type":"compared","unanswered":1}
+{"type":"end"}
+END_OF_JSON
+made "$a"'new 0 a x\nnew 1 a kills\neval 1\neval 2\nwait\n'
+(exec "$tmhost" check --json sheet >text 2>errors) 2>/dev/null
+compare 'objects that are cut off' "$? $(cat text errors)" "$(printf '137 %s\n%s' '{"format":1,"program":"tmhost","protocol":2,"type":"hello","version":"0.1.0"}' '{"id":1,"session":"a","type":"checked","verdict":"same"}')"
+"$tmhost" check --json sheet >/dev/full 2>errors
+compare 'objects on a full output' "$? $(cat errors)" '1 fault 42 Output'
+words 'objects without a worksheet' 1 '{"name":"Disk","number":32,"type":"fault"}\nfault 32 Disk\n' check --json nowhere
+words 'objects of what is no worksheet' 1 '{"name":"NotASheet","number":31,"type":"fault"}\nfault 31 NotASheet\n' check --format json suite.sh
+printf 'TMWSHEET\001ARR' >sheet
+rm -f sheet.alt
+words 'objects of a damaged worksheet' 1 '{"name":"Damaged","number":30,"offset":10,"type":"fault"}\nfault 30 Damaged 10\n' check --json sheet
 
 # Limits of time. An interpreter that answers each line with it while there is no file `again`. Then it loops at `loop` and `late` until
 # it is interrupted (`env`: also where this script was started with the signal ignored), and answers the first as ever; at `deaf` it loops
@@ -280,10 +345,25 @@ reports 'the same left out' 0 'same 2 differ 0 unanswered 0 left out 1\n' --time
 wait
 compare 'the same as TAP' "$(cat beside.told)" "$(ending 'TAP version 13\nok 1 - field 1 of l\nnot ok 2 - field 2 of l\n# #2 l\n# > loop\n# - loop\n# + ?\nok 3 - field 3 of l\n1..3\n' 1)"
 compare 'the same as TAP, kept' "$(bytes sheet) $(bytes sheet.alt 2>/dev/null)" "$before"
+objects 'the same as JSON' 1 --timeout 2 <<'END_OF_JSON'
+{"format":1,"program":"tmhost","protocol":2,"type":"hello","version":"0.1.0"}
+{"id":1,"session":"l","type":"checked","verdict":"same"}
+{"id":2,"input":"loop","reason":null,"session":"l","shows":{"output":{"items":["loop"],"kind":"format","tag":"verbatim"},"prompt":"> ","shown":"loop"},"type":"checked","verdict":"unanswered"}
+{"id":3,"session":"l","type":"checked","verdict":"same"}
+{"differ":0,"left_out":0,"same":2,"type":"compared","unanswered":1}
+{"type":"end"}
+END_OF_JSON
 made "$l"'session a plain sh suite.sh a\nnew 0 l deaf\nnew 1 l y\nnew 2 a differs\neval 1\neval 2\neval 3\nwait\n'
 reports 'one that hears no interrupt' 1 '#1 l\n> deaf\n- deaf\n+ ?\n#3 a\na] differs\n- differs\n+ another\nsame 1 differ 1 unanswered 1\n' --timeout 2
 sent 'one that hears no interrupt' 'start\nsend deaf\nstart\nsend y\nstart a\nsend a differs'
 ended 'one that hears no interrupt' 3
+objects 'the same that stalls, as JSON' 1 --timeout 2 --only l <<'END_OF_JSON'
+{"format":1,"program":"tmhost","protocol":2,"type":"hello","version":"0.1.0"}
+{"id":1,"input":"deaf","reason":"Stalled","session":"l","shows":{"output":{"items":["deaf"],"kind":"format","tag":"verbatim"},"prompt":"> ","shown":"deaf"},"type":"checked","verdict":"unanswered"}
+{"id":2,"session":"l","type":"checked","verdict":"same"}
+{"differ":0,"left_out":0,"same":1,"type":"compared","unanswered":1}
+{"type":"end"}
+END_OF_JSON
 reports 'one session within its time' 1 '#3 a\na] differs\n- differs\n+ another\nsame 0 differ 1 unanswered 0\n' --timeout 1000000 --only a
 
 # A report that is cut off has no plan, and isn't well-formed.
@@ -329,6 +409,6 @@ rm -f sheet sheet.alt again
 "$tmhost" run sheet <many >/dev/null
 touch again
 checks 'a thousand fields' 1 '#999 a\na] differs\n- differs\n+ another\nsame 999 differ 1 unanswered 0\n'
-rm -f again sent lives many other report cases.py
+rm -f again sent lives many other report wanted cases.py
 
 counted checks

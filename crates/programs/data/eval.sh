@@ -193,7 +193,7 @@ END
 compare 'as JSON' "$(answer eval --json sheet </dev/null)" "$(cat wanted)"
 sed 's/"answered":1,/"answered":1,"over":0,"passed":0,/' wanted >wanted.time
 compare 'as JSON, with a limit' "$(answer eval --json --timeout 60 sheet </dev/null)" "$(cat wanted.time)"
-compare 'as JSON, a number that no field has' "$(answer eval --json sheet 9 </dev/null)" "$(head -n 1 wanted; printf 'fault 37 NoField 9\nstatus 1')"
+compare 'as JSON, a number that no field has' "$(answer eval --json sheet 9 </dev/null)" "$(head -n 1 wanted; printf '{"id":9,"name":"NoField","number":37,"type":"fault"}\nfault 37 NoField 9\nstatus 1')"
 compare 'as JSON, no worksheet' "$(answer eval --json missing </dev/null)" "$(printf '{"name":"Disk","number":32,"type":"fault"}\nfault 32 Disk\nstatus 1')"
 
 # Many fields.

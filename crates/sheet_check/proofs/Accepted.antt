@@ -33,7 +33,7 @@ use Rattle.check_report.specs.declared.verdict.Verdict.TheVariants as verdict
 use Rattle.check_report.specs.Chosen.{shown_by}
 use Rattle.check_report.specs.Reports.{Case, case, case_text, cases_text, report_front, verdicts_of}
 use Rattle.check_report.specs.Verdicts.{counts_of, total}
-use Rattle.sheet_check.specs.Evaluated.{Evaluated, FieldsChecked, Way, came_if, checked, passed, shown_in}
+use Rattle.sheet_check.specs.Evaluated.{Evaluated, FieldsChecked, Way, came_if, checked, passed, reason_shown_in, shown_in}
 use Rattle.sheet_check.specs.declared.accepting.Finding.{Finding}
 use Rattle.sheet_check.specs.Accept.{accepted, accepted_answer, accepted_of, answer_ops}
 use Rattle.sheet_check.specs.inside.Accepting.{FieldBroke, FieldLast, FieldTook, FieldsBroke, FieldsTook, FieldsUpTo, Finds, GoesOn, NotPut, NotTaken, ShownTook, broken, early, fault_of_acceptance, full, unwritten}
@@ -167,7 +167,7 @@ pub checked_took : {C : Type 0} (o : Way C) (chosen : Chosen) (field : Field) (s
     → FieldTook o chosen field s h c a b (λ took. Stores ops (more ++ took) disk store) counts after
 checked_took o chosen field shown s h c a b ops more disk store counts after v some p is =
     let q = p.0 in
-    let one = case field q.0 v in (
+    let one = case field q.0 (reason_shown_in q.1 field.id) v in (
       (one ∷ [], q.1, checked shown q.0 v (at q.1 c h.store.disk) some q.2 q.4, q.3, is, subst (Appends a b) (sym (append-nil (case_text format.Accepting 0 one))) q.5),
       subst (λ (os : List Op). Stores ops (more ++ os) disk store) (sym (append-nil (accepted_of one))) p.1,
     )

@@ -6,7 +6,7 @@ use Rattle.check_report.specs.declared.verdict.Verdict.{Verdict}
 use Rattle.check_report.specs.declared.verdict.Verdict.TheVariants as verdict
 use Rattle.check_report.specs.Reports.{Case, case_text, cases_text, opening_text, report_front, verdicts_of}
 use Rattle.check_report.specs.Verdicts.{counted_with, counts_of, total}
-use Rattle.check_report.proofs.Points.{total-of}
+use Rattle.check_report.proofs.Totals.{total-of}
 use Rattle.sheet_check.specs.inside.Checking.{counted_on}
 
 swapped : (a b : Verdict) (counts : Counts) → counted_with a (counted_with b counts) ≡ counted_with b (counted_with a counts)

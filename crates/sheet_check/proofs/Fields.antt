@@ -17,7 +17,7 @@ use Rattle.check_report.specs.declared.verdict.Verdict.{Verdict}
 use Rattle.check_report.specs.Chosen.{shown_by}
 use Rattle.check_report.specs.Reports.{Case, case, case_text, cases_text, opening_text, report_front, verdicts_of}
 use Rattle.check_report.specs.Verdicts.{counts_of, total}
-use Rattle.sheet_check.specs.Evaluated.{Evaluated, FieldChecked, FieldsChecked, WaitedBy, Way, eval_of, passed, checked}
+use Rattle.sheet_check.specs.Evaluated.{Evaluated, FieldChecked, FieldsChecked, WaitedBy, Way, eval_of, passed, checked, reason_shown_in}
 use Rattle.sheet_check.specs.Check.{FirstLed, FirstShows, WaitLedBy, asking, in_eval, in_wait, still, waiting}
 use Rattle.sheet_check.specs.inside.Checking.{AskFailed, EvaluationBroke, FieldFailed, FieldWrote, FieldsFailed, FieldsWrote, FirstFailed, LeavesText, ShownWrote, Untold, WaitBroke, counted_on}
 use Rattle.sheet_check.proofs.Counting.{cases-more, front-more}
@@ -32,7 +32,7 @@ pub field_checked : {C : Type 0} (o : Way C) (chosen : Chosen) (F : Format) (num
     (verdict : Verdict) → shown_by chosen field ≡ Some shown → ShownWrote o chosen F number field shown s h c a b verdict → number ≡ total counts + 1 → after ≡ counted_on (verdict ∷ []) counts
     → FieldWrote o chosen F field s h c a b counts after
 field_checked o chosen F number field shown s h c a b counts after verdict some p place is =
-    let one = case field p.0 verdict in
+    let one = case field p.0 (reason_shown_in p.1 field.id) verdict in
     let wrote : Appends a b (case_text F number one ++ []) = subst (Appends a b) (sym (append-nil (case_text F number one))) p.5 in (
       one ∷ [],
       p.1,

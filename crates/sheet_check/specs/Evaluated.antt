@@ -1,6 +1,7 @@
 -- The fields of a worksheet evaluated again, one after another.
 use Rattle.std.specs.Prelude.{◌≡◌, ◌&&◌, ℕ, Bool, true, false, List, [], ◌∷◌, ◌++◌, Option, Some, None}
 use Rattle.std.specs.Option.{option_map_or}
+use Rattle.block_tree.specs.declared.reason.Reason.{Reason}
 use Rattle.worksheet.specs.Checks.{field_in}
 use Rattle.worksheet.specs.declared.field.Answer.{Answer}
 use Rattle.worksheet.specs.declared.field.Field.{Field}
@@ -70,6 +71,10 @@ begins_for_memory (first ∷ others) = is_for_memory first
 abbrev pub shown_in : World → ℕ → Option Answer
 shown_in w id = option_map_or (λ field. field.answer) (field_in (sheet_in w).fields id) None
 
+-- the reason that a field shows in a world for no answer
+abbrev pub reason_shown_in : World → ℕ → Option Reason
+reason_shown_in w id = option_map_or (λ field. field.lost) (field_in (sheet_in w).fields id) None
+
 -- An answer came where the line was asked, and its time wasn't over: the one that the field shows then. Else none came: what it shows is
 -- the worksheet's, or came too late.
 abbrev pub came_if : Bool → Option Answer → Option Answer
@@ -98,7 +103,7 @@ pub data FieldChecked {C : Type 0} (o : Way C) (chosen : Chosen) (field : Field)
   passed : shown_by chosen field ≡ None → FieldChecked o chosen field s [] s
   checked : (shown : Answer) (came : Option Answer) (verdict : Verdict) (t : At C) → shown_by chosen field ≡ Some shown
       → Evaluated o field.id s came t → Judged chosen field.id shown.output came verdict
-      → FieldChecked o chosen field s (case field came verdict ∷ []) t
+      → FieldChecked o chosen field s (case field came (reason_shown_in t.world field.id) verdict ∷ []) t
 
 -- fields were checked, one after another
 abbrev pub FieldsChecked : {C : Type 0} → Way C → Chosen → List Field → At C → List Case → At C → Type 0

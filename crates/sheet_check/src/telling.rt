@@ -5,11 +5,12 @@ ghost use Rattle.session_engine.specs.World.{World};
 ghost use Rattle.session_engine.specs.Host.{IsHost};
 ghost use Rattle.check_report.specs.Chosen.{Judged};
 ghost use Rattle.check_report.specs.Reports.{case as case_of, case_text};
-ghost use Rattle.sheet_check.specs.Evaluated.{came_if, shown_in};
+ghost use Rattle.sheet_check.specs.Evaluated.{came_if, reason_shown_in, shown_in};
 ghost use Rattle.sheet_check.specs.Progress.{LeavesLine, MakesRoom};
 ghost use Rattle.sheet_check.specs.inside.Checking.{Untold};
 
 use crate::progress::{Progress, Sight};
+use block_tree::Reason;
 use check_report::{Format, ReportFault, Request, Verdict, is_written, report_case};
 use disk_model::Disk;
 use offline_programs::RunFault;
@@ -36,14 +37,15 @@ fn tell_case<W: Write>(
     number: u64,
     field: &Field,
     came: &Option<Answer>,
+    lost: Option<Reason>,
     verdict: Verdict,
     writer: &mut W,
 ) -> Result<(), RunFault>
     ensures ok { OnOk result (Appends (W.contents writer.old) (W.contents writer.new)
-        (case_text format number (case_of field.now came.now verdict))) }
+        (case_text format number (case_of field.now came.now lost verdict))) }
     ensures err { IfErr result (Untold (W.contents writer.old) (W.contents writer.new)) }
 {
-    match report_case(alloc, format, number, field, came, verdict, writer) {
+    match report_case(alloc, format, number, field, came, lost, verdict, writer) {
         Ok(()) => Ok(()),
         Err(ReportFault::OutOfMemory) => Err(RunFault::OutOfMemory),
         Err(ReportFault::Output) => Err(RunFault::Output),
@@ -57,17 +59,18 @@ fn tell_in_its_place<W: Write, P: Progress>(
     number: u64,
     field: &Field,
     came: &Option<Answer>,
+    lost: Option<Reason>,
     verdict: Verdict,
     progress: &mut P,
     writer: &mut W,
 ) -> Result<(), RunFault>
     ensures ok { OnOk result (Appends (W.contents writer.old) (W.contents writer.new)
-        (case_text format number (case_of field.now came.now verdict))) }
+        (case_text format number (case_of field.now came.now lost verdict))) }
     ensures err { IfErr result (Untold (W.contents writer.old) (W.contents writer.new)) }
     ensures room { MakesRoom format P.shows verdict progress.old progress.new }
 {
     make_room(format, verdict, progress);
-    tell_case(alloc, format, number, field, came, verdict, writer)
+    tell_case(alloc, format, number, field, came, lost, verdict, writer)
 }
 
 /// Judges the answer that came by the one that a field shows, and tells what that came to.
@@ -78,12 +81,13 @@ fn tell_verdict<W: Write, P: Progress>(
     field: &Field,
     shown: &Answer,
     came: &Option<Answer>,
+    lost: Option<Reason>,
     progress: &mut P,
     writer: &mut W,
 ) -> Result<Verdict, RunFault>
     ensures ok { IfOk result (λ verdict. Judged request.now.chosen field.now.id shown.now.output came.now verdict
         × Appends (W.contents writer.old) (W.contents writer.new)
-        (case_text request.now.format number (case_of field.now came.now verdict))) }
+        (case_text request.now.format number (case_of field.now came.now lost verdict))) }
     ensures err { IfErr result (Untold (W.contents writer.old) (W.contents writer.new)) }
     ensures room { IfOk result (λ verdict.
         MakesRoom request.now.format P.shows verdict progress.old progress.new) }
@@ -96,6 +100,7 @@ fn tell_verdict<W: Write, P: Progress>(
         number,
         field,
         came,
+        lost,
         verdict,
         progress,
         writer,
@@ -105,7 +110,42 @@ fn tell_verdict<W: Write, P: Progress>(
     }
 }
 
-/// The same with the answer that the field shows on the copy now, which came where its line was asked.
+/// The same of a field that shows this answer, or this reason, on the copy now; an answer came where its
+/// line was asked.
+fn tell_shown<W: Write, P: Progress>(
+    alloc: Global,
+    request: &Request,
+    number: u64,
+    field: &Field,
+    shown: &Answer,
+    now: &Option<Answer>,
+    lost: Option<Reason>,
+    asked: bool,
+    progress: &mut P,
+    writer: &mut W,
+) -> Result<Verdict, RunFault>
+    ensures ok { IfOk result (λ verdict.
+        Judged request.now.chosen field.now.id shown.now.output (came_if asked now.now) verdict
+        × Appends (W.contents writer.old) (W.contents writer.new)
+        (case_text request.now.format number
+        (case_of field.now (came_if asked now.now) lost verdict))) }
+    ensures err { IfErr result (Untold (W.contents writer.old) (W.contents writer.new)) }
+    ensures room { IfOk result (λ verdict.
+        MakesRoom request.now.format P.shows verdict progress.old progress.new) }
+    ensures left { IfErr result (λ _. LeavesLine P.shows progress.old progress.new) }
+{
+    if asked {
+        tell_verdict(
+            alloc, request, number, field, shown, now, lost, progress, writer,
+        )
+    } else {
+        tell_verdict(
+            alloc, request, number, field, shown, &None, lost, progress, writer,
+        )
+    }
+}
+
+/// The same with the answer that the field shows on the copy now.
 pub(crate) fn tell_what_came<D: Disk, W: Write, P: Progress>(
     alloc: Global,
     request: &Request,
@@ -121,32 +161,27 @@ pub(crate) fn tell_what_came<D: Disk, W: Write, P: Progress>(
         Judged request.now.chosen field.now.id shown.now.output (came_if asked (shown_in w field.now.id)) verdict
         × Appends (W.contents writer.old) (W.contents writer.new)
         (case_text request.now.format number
-        (case_of field.now (came_if asked (shown_in w field.now.id)) verdict))) }
+        (case_of field.now (came_if asked (shown_in w field.now.id)) (reason_shown_in w field.now.id) verdict))) }
     ensures err { IfErr result (Untold (W.contents writer.old) (W.contents writer.new)) }
     ensures room { IfOk result (λ verdict.
         MakesRoom request.now.format P.shows verdict progress.old progress.new) }
     ensures left { IfErr result (λ _. LeavesLine P.shows progress.old progress.new) }
 {
-    if !asked {
-        return tell_verdict(
-            alloc, request, number, field, shown, &None, progress, writer,
-        );
-    }
     match host.sheet().field(field.id) {
-        None => tell_verdict(
-            alloc, request, number, field, shown, &None, progress, writer,
+        None => tell_shown(
+            alloc, request, number, field, shown, &None, None, asked, progress, writer,
         ),
-        Some(now) => {
-            tell_verdict(
-                alloc,
-                request,
-                number,
-                field,
-                shown,
-                &now.answer,
-                progress,
-                writer,
-            )
-        }
+        Some(now) => tell_shown(
+            alloc,
+            request,
+            number,
+            field,
+            shown,
+            &now.answer,
+            now.lost,
+            asked,
+            progress,
+            writer,
+        ),
     }
 }

@@ -6,6 +6,7 @@ pub mod Within
 pub mod Tellings
 pub mod Wholes
 pub mod ReadFields
+pub mod ReadChecks
 pub mod PlainValues
 pub mod Apart
 pub mod Wholly

@@ -11,12 +11,14 @@ use Rattle.serde_json.specs.Written.{has_float, items_have_float}
 use Rattle.sheet_json.specs.Bytes.{base64_data, bytes_data}
 use Rattle.sheet_json.specs.Blocks.{block_object, items_data, tree_data}
 use Rattle.sheet_json.specs.Lines.{json_line}
-use Rattle.sheet_json.specs.Objects.{completions_data, count, event_data, field_with, life_data, lost_data, reply_data, session_data, shown_data, telling_data}
+use Rattle.sheet_json.specs.Objects.{answer_data, checked_data, completions_data, count, event_data, field_with, life_data, lost_data, reply_data, session_data, shown_data, telling_data, why_data}
 use Rattle.sheet_json.specs.Sheets.{telling_line}
 use Rattle.sheet_json.specs.Shown.{still_field, whole_of}
 use Rattle.worksheet.specs.Contents.{Contents}
+use Rattle.block_tree.specs.declared.reason.Reason.{Reason}
+use Rattle.worksheet.specs.declared.field.Answer.{Answer}
 use Rattle.worksheet.specs.declared.field.Field.{Field}
-use Rattle.sheet_json.specs.Tellings.{EventTold, FieldShown, Reply, SessionShown, State, Telling}
+use Rattle.sheet_json.specs.Tellings.{CheckTold, EventTold, FieldShown, Reply, SessionShown, State, Telling}
 use Rattle.sheet_json.specs.Tellings as told
 
 bytes_none : (b : List ℕ) → has_float (bytes_data b) ≡ false
@@ -87,6 +89,22 @@ event_none session life (told.completed id given) = ap₂ (λ a b. a || (b || fa
 event_none session life (told.input line) = ap₂ (λ a b. a || (b || false)) (bytes_none session) (bytes_none line)
 event_none session life (told.ended why lost) = ap₂ (λ a b. a || (b || false)) (row_none lost_data lost_none lost) (bytes_none session)
 
+answer_none : (answer : Option Answer) → has_float (answer_data answer) ≡ false
+answer_none None = refl
+answer_none (Some a) = two (has_float (tree_data a.output)) (has_float (bytes_data a.prompt)) _ (tree_none a.output) (bytes_none a.prompt) (ap (λ b. b || false) (bytes_none _))
+
+why_none : (why : Option Reason) → has_float (why_data why) ≡ false
+why_none None = refl
+why_none (Some why) = refl
+
+checked_none : (id : ℕ) (session : List ℕ) (c : CheckTold) → has_float (checked_data id session c) ≡ false
+checked_none id session told.same = ap (λ b. b || false) (bytes_none session)
+checked_none id session told.left_out = ap (λ b. b || false) (bytes_none session)
+checked_none id session (told.differs input shows came) =
+    two (has_float (answer_data came)) (has_float (bytes_data session)) _ (answer_none came) (bytes_none session) (ap (λ b. b || false) (answer_none shows))
+checked_none id session (told.unanswered input shows why) =
+    two (has_float (why_data why)) (has_float (bytes_data session)) _ (why_none why) (bytes_none session) (ap (λ b. b || false) (answer_none shows))
+
 pub none_told : (t : Telling) → has_float (telling_data t) ≡ false
 none_told told.hello = refl
 none_told (told.reply line r) = reply_none line r
@@ -101,6 +119,9 @@ none_told (told.fault n name None) = refl
 none_told (told.fault n name (Some offset)) = refl
 none_told (told.counted answered unanswered) = refl
 none_told (told.counted_in_time answered unanswered over passed) = refl
+none_told (told.checked id session c) = checked_none id session c
+none_told (told.compared same differ unanswered left_out) = refl
+none_told (told.no_field id) = refl
 none_told told.end = refl
 
 -- a value that is printed has none

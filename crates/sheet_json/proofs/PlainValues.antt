@@ -6,6 +6,8 @@ use Rattle.std.proofs.lemmas.Bool.Decides.{nat_tests}
 use Rattle.block_tree.specs.Shape.{is_block, is_proper, is_tag_name, levels, longest_tag}
 use Rattle.block_tree.specs.Tree.{Tree, end, text, block}
 use Rattle.block_tree.specs.Tree as tree
+use Rattle.block_tree.specs.declared.reason.Reason.{Reason}
+use Rattle.worksheet.specs.declared.field.Answer.{Answer}
 use Rattle.worksheet.specs.Refusals.{refusal_number}
 use Rattle.worksheet.specs.declared.refusal.Refusal.{Refusal}
 use Rattle.worksheet.specs.declared.refusal.Refusal.TheVariants as refusal
@@ -17,9 +19,9 @@ use Rattle.serde_json.specs.Data as json
 use Rattle.serde_json.specs.View.{items_of}
 use Rattle.sheet_json.specs.Bytes.{base64_data, bytes_data}
 use Rattle.sheet_json.specs.Blocks.{block_object, items_data, tree_data}
-use Rattle.sheet_json.specs.Objects.{completions_data, count, event_data, field_with, ids_data, life_data, lost_data, losts_data, reply_data, session_data, sessions_data, telling_data, texts_data, typed}
-use Rattle.sheet_json.specs.Plain.{ArePlain, HasPlain, Is64, IsPlain, IsSoundTelling, IsSoundEvent, IsSoundItem, IsSoundLife, IsSoundReply, IsSoundSession, IsSoundState}
-use Rattle.sheet_json.specs.Tellings.{Telling, Reply, EventTold, FieldShown, SessionShown, State}
+use Rattle.sheet_json.specs.Objects.{answer_data, checked_data, completions_data, count, event_data, field_with, ids_data, life_data, lost_data, losts_data, reply_data, session_data, sessions_data, telling_data, texts_data, typed, why_data}
+use Rattle.sheet_json.specs.Plain.{ArePlain, HasPlain, Is64, IsPlain, IsSoundAnswer, IsSoundCheck, IsSoundTelling, IsSoundEvent, IsSoundItem, IsSoundLife, IsSoundReply, IsSoundSession, IsSoundState}
+use Rattle.sheet_json.specs.Tellings.{CheckTold, Telling, Reply, EventTold, FieldShown, SessionShown, State}
 use Rattle.sheet_json.specs.Tellings as told
 
 a_text : {n : ℕ} {s : List ℕ} → IsPlain n (string s)
@@ -182,6 +184,22 @@ ids_plain ids s = an_array (a_row count Is64 (λ x h. a_count h) ids s)
 sessions_plain : (sessions : List SessionShown) → AllByRecursion IsSoundSession sessions → IsPlain 66 (sessions_data sessions)
 sessions_plain sessions s = deeper (omega arith) (an_array (a_row session_data IsSoundSession session_plain sessions s))
 
+answer_plain : (answer : Option Answer) → IsSoundAnswer answer → IsPlain 66 (answer_data answer)
+answer_plain None s = no_value
+answer_plain (Some a) s = an_object (a_member (a_tree a.output s (omega arith)) (a_member (some_bytes a.prompt) (a_member (some_bytes _) no_more)))
+
+why_plain : {n : ℕ} (why : Option Reason) → IsPlain n (why_data why)
+why_plain None = no_value
+why_plain (Some why) = a_text
+
+checked_plain : (id : ℕ) (session : List ℕ) (c : CheckTold) → Is64 id → IsSoundCheck c → IsPlain 67 (checked_data id session c)
+checked_plain id session told.same i s = an_object (a_member (a_count i) (a_member (some_bytes session) (a_member a_text (a_member a_text no_more))))
+checked_plain id session told.left_out i s = an_object (a_member (a_count i) (a_member (some_bytes session) (a_member a_text (a_member a_text no_more))))
+checked_plain id session (told.differs input shows came) i s =
+    an_object (a_member (answer_plain came s.1) (a_member (a_count i) (a_member a_text (a_member (some_bytes session) (a_member (answer_plain shows s.0) (a_member a_text (a_member a_text no_more)))))))
+checked_plain id session (told.unanswered input shows why) i s =
+    an_object (a_member (a_count i) (a_member a_text (a_member (why_plain why) (a_member (some_bytes session) (a_member (answer_plain shows s) (a_member a_text (a_member a_text no_more)))))))
+
 -- so its text is defined and one line, and reads back
 pub tellings_are_plain : (t : Telling) → IsSoundTelling t → IsPlain 67 (telling_data t)
 tellings_are_plain told.hello s = an_object (a_member (a_count (omega arith)) (a_member a_text (a_member (a_count (omega arith)) (a_member a_text (a_member a_text no_more)))))
@@ -200,4 +218,8 @@ tellings_are_plain (told.fault n name (Some offset)) s = an_object (a_member a_t
 tellings_are_plain (told.counted answered unanswered) s = an_object (a_member (a_count s.0) (a_member a_text (a_member (a_count s.1) no_more)))
 tellings_are_plain (told.counted_in_time answered unanswered over passed) s =
     an_object (a_member (a_count s.0) (a_member (a_count s.2) (a_member (a_count s.3) (a_member a_text (a_member (a_count s.1) no_more)))))
+tellings_are_plain (told.checked id session c) s = checked_plain id session c s.0 s.1
+tellings_are_plain (told.compared same differ unanswered left_out) s =
+    an_object (a_member (a_count s.1) (a_member (a_count s.3) (a_member (a_count s.0) (a_member a_text (a_member (a_count s.2) no_more)))))
+tellings_are_plain (told.no_field id) s = an_object (a_member (a_count s) (a_member a_text (a_member (a_count (omega arith)) a_type)))
 tellings_are_plain told.end s = an_object a_type

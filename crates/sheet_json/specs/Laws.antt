@@ -11,9 +11,9 @@ use Rattle.sheet_json.specs.Lines.{HasCounts, json_line}
 use Rattle.sheet_json.specs.Objects.{field_data, session_data, telling_data}
 use Rattle.sheet_json.specs.Plain.{IsPlain, IsSoundTelling}
 use Rattle.sheet_json.specs.Reading.{bytes_in, tree_in, HasBytes}
-use Rattle.sheet_json.specs.Tellings.{EventTold, FieldShown, Reply, SessionShown, Telling}
+use Rattle.sheet_json.specs.Tellings.{CheckTold, EventTold, FieldShown, Reply, SessionShown, Telling}
 use Rattle.sheet_json.specs.Tellings as told
-use Rattle.sheet_json.specs.Told.{counts_in, field_read, session_in, told_in, EventHasBytes, StateHasBytes}
+use Rattle.sheet_json.specs.Told.{checked_in, compared_in, counts_in, field_read, no_field_in, session_in, told_in, CheckHasBytes, EventHasBytes, StateHasBytes}
 
 -- Bytes read back, whatever they are.
 abbrev pub BytesReadBack : Type 0
@@ -42,6 +42,12 @@ SessionsReadBack = (s : SessionShown) → IsBytes s.name → AllByRecursion IsBy
 abbrev pub CountsReadBack : Type 0
 CountsReadBack = ((a u : ℕ) → counts_in (telling_data (told.counted a u)) ≡ Some (told.counted a u))
     × ((a u over passed : ℕ) → counts_in (telling_data (told.counted_in_time a u over passed)) ≡ Some (told.counted_in_time a u over passed))
+
+-- What a field that was evaluated again came to reads back, and so do the counts of a check, and the number that no field has.
+abbrev pub ChecksReadBack : Type 0
+ChecksReadBack = ((id : ℕ) (session : List ℕ) (c : CheckTold) → IsBytes session → CheckHasBytes c → checked_in (telling_data (told.checked id session c)) ≡ Some (told.checked id session c))
+    × ((same differ unanswered left_out : ℕ) → compared_in (telling_data (told.compared same differ unanswered left_out)) ≡ Some (told.compared same differ unanswered left_out))
+    × ((id : ℕ) → no_field_in (telling_data (told.no_field id)) ≡ Some (told.no_field id))
 
 -- What a program tells has no float, no number of more than 64 bits, and nests 67 deep at most. So of each telling `line_bytes` gives
 -- the line of the definition, which is one line and reads back.

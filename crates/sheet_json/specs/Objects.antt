@@ -1,6 +1,8 @@
 -- What is printed, as JSON: the members of each object in the order of their names. (docs/JSON.md.)
 use Rattle.std.specs.Prelude.{ℕ, true, false, List, Option, Some, None, codes, map}
 use Rattle.block_tree.specs.Tree.{Tree}
+use Rattle.block_tree.specs.declared.reason.Reason.{Reason}
+use Rattle.worksheet.specs.declared.field.Answer.{Answer}
 use Rattle.worksheet.specs.Refusals.{refusal_number, refusal_name}
 use Rattle.scheme_text.specs.declared.answer.Completions.{Completions}
 use Rattle.plugin_core.specs.declared.item.Item.{Item}
@@ -11,7 +13,7 @@ use Rattle.serde_json.specs.Data.{Data, Members, null, boolean, number, unsigned
 use Rattle.serde_json.specs.View.{items_of}
 use Rattle.sheet_json.specs.Bytes.{bytes_data}
 use Rattle.sheet_json.specs.Blocks.{tree_data}
-use Rattle.sheet_json.specs.Tellings.{Telling, Reply, EventTold, FieldShown, SessionShown, State}
+use Rattle.sheet_json.specs.Tellings.{CheckTold, Telling, Reply, EventTold, FieldShown, SessionShown, State}
 use Rattle.sheet_json.specs.Tellings as told
 
 abbrev pub count : ℕ → Data
@@ -107,6 +109,31 @@ ids_data ids = array (items_of (map count ids))
 abbrev pub sessions_data : List SessionShown → Data
 sessions_data sessions = array (items_of (map session_data sessions))
 
+-- Checks.
+
+-- an answer, with its output as a worksheet shows it; null where there is none
+abbrev pub answer_data : Option Answer → Data
+answer_data None = null
+answer_data (Some answer) = object (member (codes "output") (tree_data answer.output) (member (codes "prompt") (bytes_data answer.prompt) (member (codes "shown") (shown_data answer.output) no_members)))
+
+abbrev pub why_data : Option Reason → Data
+why_data None = null
+why_data (Some why) = string (reason_name why)
+
+-- the members `type` and `verdict`, and none after them
+abbrev pub judged : List ℕ → Members
+judged verdict = member (codes "type") (string (codes "checked")) (member (codes "verdict") (string verdict) no_members)
+
+abbrev pub checked_data : ℕ → List ℕ → CheckTold → Data
+checked_data id session told.same = object (member (codes "id") (count id) (member (codes "session") (bytes_data session) (judged (codes "same"))))
+checked_data id session told.left_out = object (member (codes "id") (count id) (member (codes "session") (bytes_data session) (judged (codes "left_out"))))
+checked_data id session (told.differs input shows came) =
+    object (member (codes "came") (answer_data came) (member (codes "id") (count id) (member (codes "input") (string input) (member (codes "session") (bytes_data session)
+    (member (codes "shows") (answer_data shows) (judged (codes "differs")))))))
+checked_data id session (told.unanswered input shows why) =
+    object (member (codes "id") (count id) (member (codes "input") (string input) (member (codes "reason") (why_data why) (member (codes "session") (bytes_data session)
+    (member (codes "shows") (answer_data shows) (judged (codes "unanswered")))))))
+
 -- All that is printed.
 abbrev pub telling_data : Telling → Data
 telling_data told.hello = object (member (codes "format") (count 1) (member (codes "program") (string (codes "tmhost")) (member (codes "protocol") (count 2) (member (codes "type") (string (codes "hello")) (member (codes "version") (string (codes "0.1.0")) no_members)))))
@@ -123,4 +150,8 @@ telling_data (told.fault n name (Some offset)) = object (member (codes "name") (
 telling_data (told.counted answered unanswered) = object (member (codes "answered") (count answered) (member (codes "type") (string (codes "counted")) (member (codes "unanswered") (count unanswered) no_members)))
 telling_data (told.counted_in_time answered unanswered over passed) =
     object (member (codes "answered") (count answered) (member (codes "over") (count over) (member (codes "passed") (count passed) (member (codes "type") (string (codes "counted")) (member (codes "unanswered") (count unanswered) no_members)))))
+telling_data (told.checked id session c) = checked_data id session c
+telling_data (told.compared same differ unanswered left_out) =
+    object (member (codes "differ") (count differ) (member (codes "left_out") (count left_out) (member (codes "same") (count same) (member (codes "type") (string (codes "compared")) (member (codes "unanswered") (count unanswered) no_members)))))
+telling_data (told.no_field id) = object (member (codes "id") (count id) (member (codes "name") (string (codes "NoField")) (member (codes "number") (count 37) (typed (codes "fault")))))
 telling_data told.end = object (typed (codes "end"))

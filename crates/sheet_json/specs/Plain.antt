@@ -1,13 +1,14 @@
 -- Values without floats, whose numbers have 64 bits, and which nest so deep at most: their text is defined, is one line, and reads back.
 use Rattle.std.specs.Prelude.{◌≡◌, ℕ, ◌<◌, ◌≤◌, ◌^◌, true, false, Option, Some, None}
 use Rattle.block_tree.specs.Shape.{is_block}
+use Rattle.worksheet.specs.declared.field.Answer.{Answer}
 use Rattle.plugin_core.specs.declared.item.Item.{Item}
 use Rattle.plugin_core.specs.declared.item.Item.TheVariants as item
 use Rattle.std.specs.List.{AllByRecursion}
 use Rattle.serde_json.specs.Data.{Data, Items, Members, depth, items_depth, members_depth}
 use Rattle.serde_json.specs.Written.{has_float, items_have_float, members_have_float}
 use Rattle.sheet_json.specs.Lines.{HasCounts, ItemsHaveCounts, MembersHaveCounts}
-use Rattle.sheet_json.specs.Tellings.{Telling, Reply, EventTold, FieldShown, SessionShown, State}
+use Rattle.sheet_json.specs.Tellings.{CheckTold, Telling, Reply, EventTold, FieldShown, SessionShown, State}
 use Rattle.sheet_json.specs.Tellings as told
 
 pub record IsPlain (n : ℕ) (d : Data) : Type 0 where
@@ -67,6 +68,16 @@ IsSoundLife (Some life) = Is64 life
 abbrev pub IsSoundSession : SessionShown → Type 0
 IsSoundSession s = IsSoundLife s.life × Is64 s.waiting
 
+abbrev pub IsSoundAnswer : Option Answer → Type 0
+IsSoundAnswer None = Unit {0}
+IsSoundAnswer (Some answer) = is_block answer.output ≡ true
+
+abbrev pub IsSoundCheck : CheckTold → Type 0
+IsSoundCheck told.same = Unit {0}
+IsSoundCheck told.left_out = Unit {0}
+IsSoundCheck (told.differs input shows came) = IsSoundAnswer shows × IsSoundAnswer came
+IsSoundCheck (told.unanswered input shows why) = IsSoundAnswer shows
+
 abbrev pub IsSoundTelling : Telling → Type 0
 IsSoundTelling told.hello = Unit {0}
 IsSoundTelling (told.reply line r) = Is64 line × IsSoundReply r
@@ -81,4 +92,7 @@ IsSoundTelling (told.fault n name None) = Is64 n
 IsSoundTelling (told.fault n name (Some offset)) = Is64 n × Is64 offset
 IsSoundTelling (told.counted answered unanswered) = Is64 answered × Is64 unanswered
 IsSoundTelling (told.counted_in_time answered unanswered over passed) = Is64 answered × Is64 unanswered × Is64 over × Is64 passed
+IsSoundTelling (told.checked id session c) = Is64 id × IsSoundCheck c
+IsSoundTelling (told.compared same differ unanswered left_out) = Is64 same × Is64 differ × Is64 unanswered × Is64 left_out
+IsSoundTelling (told.no_field id) = Is64 id
 IsSoundTelling told.end = Unit {0}

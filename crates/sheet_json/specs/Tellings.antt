@@ -2,6 +2,7 @@
 use Rattle.std.specs.Prelude.{ℕ, Bool, List, Option}
 use Rattle.block_tree.specs.Tree.{Tree}
 use Rattle.block_tree.specs.declared.reason.Reason.{Reason}
+use Rattle.worksheet.specs.declared.field.Answer.{Answer}
 use Rattle.worksheet.specs.declared.refusal.Refusal.{Refusal}
 use Rattle.scheme_text.specs.declared.answer.Completions.{Completions}
 use Rattle.plugin_core.specs.declared.item.Item.{Item}
@@ -49,6 +50,14 @@ pub data EventTold : Type 0 where
   input : List ℕ → EventTold
   ended : Reason → List Item → EventTold
 
+-- What another evaluation of a field came to. Where that isn't the same output: its input, the answer that it shows, and the one that
+-- came, or the reason that it shows for none.
+pub data CheckTold : Type 0 where
+  same : CheckTold
+  left_out : CheckTold
+  differs : List ℕ → Option Answer → Option Answer → CheckTold
+  unanswered : List ℕ → Option Answer → Option Reason → CheckTold
+
 pub data Telling : Type 0 where
   hello : Telling
   -- of the line with this number
@@ -70,5 +79,11 @@ pub data Telling : Type 0 where
   counted : ℕ → ℕ → Telling
   -- the same, and for how many fields the limit of time was over, and how many were passed over
   counted_in_time : ℕ → ℕ → ℕ → ℕ → Telling
+  -- a field with this number, of this session, that a check evaluated again
+  checked : ℕ → List ℕ → CheckTold → Telling
+  -- at the end of a check, how many outputs were the same, how many differed, and how many fields were unanswered and left out
+  compared : ℕ → ℕ → ℕ → ℕ → Telling
+  -- the fault that no field has this number
+  no_field : ℕ → Telling
   -- the input came to its end
   end : Telling

@@ -6,6 +6,7 @@ use Rattle.std.specs.Str.{bytes_eq}
 use Rattle.base64.specs.GeneralPurpose.{IsBytes}
 use Rattle.block_tree.specs.declared.reason.Reason.{Reason}
 use Rattle.block_tree.specs.declared.reason.Reason.TheVariants as reason
+use Rattle.worksheet.specs.declared.field.Answer.{Answer}
 use Rattle.worksheet.specs.declared.refusal.Refusal.{Refusal}
 use Rattle.worksheet.specs.declared.refusal.Refusal.TheVariants as refusal
 use Rattle.scheme_text.specs.declared.answer.Completions.{Completions}
@@ -14,7 +15,7 @@ use Rattle.plugin_core.specs.declared.item.Item.TheVariants as lost
 use Rattle.serde_json.specs.Data.{Data, Items, null, number, unsigned, array, item, no_items}
 use Rattle.serde_json.specs.Find.{get, as_bool, as_str}
 use Rattle.sheet_json.specs.Reading.{bytes_in, tree_in, HasBytes}
-use Rattle.sheet_json.specs.Tellings.{Telling, Reply, EventTold, FieldShown, SessionShown, State}
+use Rattle.sheet_json.specs.Tellings.{CheckTold, Telling, Reply, EventTold, FieldShown, SessionShown, State}
 use Rattle.sheet_json.specs.Tellings as told
 
 abbrev pub count_in : Data → Option ℕ
@@ -134,6 +135,33 @@ counts_with (Some over) d =
 abbrev pub counts_in : Data → Option Telling
 counts_in d = counts_with (get (codes "over") d) d
 
+-- an answer, or that there is none
+abbrev pub some_answer_in : Data → Option Answer
+some_answer_in d = of (option_map (λ prompt output. record { prompt = prompt; output = output }) (member_in bytes_in (codes "prompt") d)) (member_in tree_in (codes "output") d)
+
+abbrev pub answer_in : Data → Option (Option Answer)
+answer_in d = option_in some_answer_in d
+
+-- what a field that was evaluated again came to
+abbrev pub check_named : List ℕ → Data → Option CheckTold
+check_named name d =
+    cond (bytes_eq name (codes "same")) (Some told.same) (cond (bytes_eq name (codes "left_out")) (Some told.left_out)
+    (cond (bytes_eq name (codes "differs")) (of (of (option_map (λ input shows came. told.differs input shows came) (member_in as_str (codes "input") d)) (member_in answer_in (codes "shows") d)) (member_in answer_in (codes "came") d))
+    (cond (bytes_eq name (codes "unanswered")) (of (of (option_map (λ input shows why. told.unanswered input shows why) (member_in as_str (codes "input") d)) (member_in answer_in (codes "shows") d)) (member_in (option_in reason_in) (codes "reason") d)) None)))
+
+abbrev pub checked_in : Data → Option Telling
+checked_in d = of (of (option_map (λ id session c. told.checked id session c) (member_in count_in (codes "id") d)) (member_in bytes_in (codes "session") d)) (option_and_then (λ name. check_named name d) (member_in as_str (codes "verdict") d))
+
+-- the counts of a check
+abbrev pub compared_in : Data → Option Telling
+compared_in d =
+    of (of (of (option_map (λ same differ unanswered left_out. told.compared same differ unanswered left_out) (member_in count_in (codes "same") d)) (member_in count_in (codes "differ") d))
+    (member_in count_in (codes "unanswered") d)) (member_in count_in (codes "left_out") d)
+
+-- the number that no field has
+abbrev pub no_field_in : Data → Option Telling
+no_field_in d = option_map (λ id. told.no_field id) (member_in count_in (codes "id") d)
+
 -- what a program's bytes are
 
 abbrev pub ItemHasBytes : Item → Type 0
@@ -156,3 +184,13 @@ StateHasBytes (told.answered prompt output) = IsBytes prompt × HasBytes output
 StateHasBytes (told.lost why) = Unit {0}
 StateHasBytes told.waiting = Unit {0}
 StateHasBytes told.empty = Unit {0}
+
+abbrev pub AnswerHasBytes : Option Answer → Type 0
+AnswerHasBytes None = Unit {0}
+AnswerHasBytes (Some answer) = IsBytes answer.prompt × HasBytes answer.output
+
+abbrev pub CheckHasBytes : CheckTold → Type 0
+CheckHasBytes told.same = Unit {0}
+CheckHasBytes told.left_out = Unit {0}
+CheckHasBytes (told.differs input shows came) = AnswerHasBytes shows × AnswerHasBytes came
+CheckHasBytes (told.unanswered input shows why) = AnswerHasBytes shows

@@ -45,6 +45,13 @@ pub fn counted_in_time_value(
     })
 }
 
+/// The fault that no field has this number.
+pub fn no_field_value(alloc: Global, id: u32) -> Result<Value, AllocError>
+    ensures { IfOk result (λ value. view value ≡ telling_data (told.no_field id)) }
+{
+    json!(in alloc; {"id": id, "name": "NoField", "number": 37, "type": "fault"})
+}
+
 /// A fault, and the offset of a damage.
 pub fn fault_value(
     alloc: Global,

@@ -43,6 +43,12 @@ pub fn counts_read_back()
     ensures { laws.CountsReadBack }
 {}
 
+/// What a check tells reads back: what a field came to, the counts, and the number that no field has.
+#[tactic(auto, using(crate::proofs::ReadChecks::checks_read_back))]
+pub fn checks_read_back()
+    ensures { laws.ChecksReadBack }
+{}
+
 /// What a program tells has no float, no number of more than 64 bits, and nests 67 deep at most.
 #[tactic(auto, using(crate::proofs::PlainValues::tellings_are_plain))]
 pub fn tellings_are_plain()

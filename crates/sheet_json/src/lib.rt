@@ -3,6 +3,7 @@
 
 mod blocks;
 mod bytes;
+mod checks;
 mod ends;
 mod events;
 mod fields;
@@ -15,7 +16,10 @@ mod whole;
 
 pub use blocks::block_value;
 pub use bytes::bytes_value;
-pub use ends::{counted_in_time_value, counted_value, end_value, fault_value, hello_value};
+pub use checks::{differs_value, left_out_value, same_value, unanswered_value};
+pub use ends::{
+    counted_in_time_value, counted_value, end_value, fault_value, hello_value, no_field_value,
+};
 pub use events::{
     answered_value, banner_value, completed_value, default_value, ended_value, stopped_value,
 };

@@ -18,7 +18,7 @@ use session_engine::Host;
 use sheet_json::{
     asked_value, bad_value, closed_value, counted_in_time_value, counted_value, default_value,
     done_value, end_value, ended_value, fault_value, hello_value, interrupted_value, made_value,
-    nothing_value, refused_value, stopped_value, waited_value,
+    no_field_value, nothing_value, refused_value, stopped_value, waited_value,
 };
 use std::alloc::{AllocError, Global};
 use std::io::Write;
@@ -274,6 +274,7 @@ fn write_frame<W: Write>(alloc: Global, frame: Frame, writer: &mut W) -> Result<
     match frame {
         Frame::Hello => write_made(alloc, hello_value(alloc), writer),
         Frame::End => write_made(alloc, end_value(alloc), writer),
+        Frame::NoField(id) => write_made(alloc, no_field_value(alloc, id), writer),
     }
 }
 

@@ -9,6 +9,8 @@ pub enum Frame {
     Hello,
     /// The input came to its end, and all is done.
     End,
+    /// No field has this number, which was asked for: the fault 37.
+    NoField(u32),
 }
 
 /// What a limit of time came to in an evaluation.

@@ -24,7 +24,7 @@ use Rattle.check_report.specs.declared.verdict.Verdict.{Verdict}
 use Rattle.check_report.specs.Chosen.{Judged}
 use Rattle.check_report.specs.Reports.{Case, case, report_front}
 use Rattle.check_report.specs.Words.{acceptance_text}
-use Rattle.sheet_check.specs.Evaluated.{FieldChecked, FieldsChecked, Way}
+use Rattle.sheet_check.specs.Evaluated.{FieldChecked, FieldsChecked, Way, reason_shown_in}
 use Rattle.sheet_check.specs.Check.{IsCopy}
 use Rattle.sheet_check.specs.Accept.{AcceptLeft, accepted, accepted_answer, accepted_of}
 use Rattle.sheet_check.specs.declared.accepting.Finding.{Finding}
@@ -73,7 +73,7 @@ pub record GoesOn (sheet : Contents) (store : StoreView) : Type 0 where
 
 -- A field that shows this answer was checked, and what is to be reported is written; what is accepted of it has P.
 abbrev pub ShownTook : {C : Type 0} → Way C → Chosen → Field → Answer → At C → HostView → C → Option (List ℕ) → Option (List ℕ) → (List Op → Type 0) → Verdict → Type 0
-ShownTook o chosen field shown s h c a b P v = (wrote : ShownWrote o chosen format.Accepting 0 field shown s h c a b v) × P (accepted_of (case field wrote.0 v))
+ShownTook o chosen field shown s h c a b P v = (wrote : ShownWrote o chosen format.Accepting 0 field shown s h c a b v) × P (accepted_of (case field wrote.0 (reason_shown_in wrote.1 field.id) v))
 
 -- The same of a field that was checked after those that are counted, and of fields.
 abbrev pub FieldTook : {C : Type 0} → Way C → Chosen → Field → At C → HostView → C → Option (List ℕ) → Option (List ℕ) → (List Op → Type 0) → Counts → Counts → Type 0

@@ -27,7 +27,7 @@ use Rattle.check_report.specs.declared.verdict.Verdict.{Verdict}
 use Rattle.check_report.specs.Chosen.{Judged}
 use Rattle.check_report.specs.Reports.{Case, case, case_text, cases_text, report_front, verdicts_of}
 use Rattle.check_report.specs.Verdicts.{counted_with, counts_of, total}
-use Rattle.sheet_check.specs.Evaluated.{Evaluated, FieldChecked, FieldsChecked, Way, eval_of}
+use Rattle.sheet_check.specs.Evaluated.{Evaluated, FieldChecked, FieldsChecked, Way, eval_of, reason_shown_in}
 use Rattle.worksheet.specs.Contents.{Contents}
 use Rattle.sheet_check.specs.Check.{FirstLed, FirstTooLong, FirstUnwatched, FirstUpTo, IsCopy, NotOfDisk, TooLongBy, UnwatchedBy, WaitLedBy, WaitUpToBy}
 use Rattle.sheet_check.specs.declared.progress.Sight.{Sight}
@@ -104,7 +104,7 @@ LeavesText a b text fault.InUse = ⊥
 -- A field that shows this answer was evaluated, what came was judged, and what is to be reported is written: it is the case of this number.
 abbrev pub ShownWrote : {C : Type 0} → Way C → Chosen → Format → ℕ → Field → Answer → At C → HostView → C → Option (List ℕ) → Option (List ℕ) → Verdict → Type 0
 ShownWrote o chosen F number field shown s h c a b verdict = (came : Option Answer) × (t : World) × Evaluated o field.id s came (at t c h.store.disk)
-    × IsHost h t × Judged chosen field.id shown.output came verdict × Appends a b (case_text F number (case field came verdict))
+    × IsHost h t × Judged chosen field.id shown.output came verdict × Appends a b (case_text F number (case field came (reason_shown_in t field.id) verdict))
 
 -- with these verdicts more
 abbrev pub counted_on : List Verdict → Counts → Counts

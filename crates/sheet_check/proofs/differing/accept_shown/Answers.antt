@@ -7,7 +7,7 @@ use Rattle.child_edge.specs.Faithful.{at}
 use Rattle.offline_programs.specs.declared.fault.RunFault.TheVariants as fault
 use Rattle.check_report.specs.Reports.{case}
 use Rattle.sheet_check.specs.Accept.{answer_ops}
-use Rattle.sheet_check.specs.Evaluated.{came_if, checked, shown_in, way}
+use Rattle.sheet_check.specs.Evaluated.{came_if, checked, reason_shown_in, shown_in, way}
 use Rattle.sheet_check.proofs.Accepted.{evaluation_broke, memory_broke, short_in, shown_took, take_broke}
 use Rattle.sheet_check.proofs.Fields.{evaluation_failed, tell_failed}
 use Rattle.sheet_check.proofs.differing.accept_shown.Goals as goal
@@ -58,7 +58,7 @@ returns-in-Some-clause-err g c = λ w h ops more disk stores.
     let came = came_if c.in-Ok.came (shown_in q.0 c.args.field.now.id) in
     let f = c.in-Some.ensures q.0 q.2 in
     IfErr-weaker c.take.result _ _
-    (λ why p. take_broke way_here c.args.request.now.chosen c.args.field.now s c.evaluate.new.host c.evaluate.new.sources a ops more disk c.take.new.store (case c.args.field.now came c.in-Some.found.verdict)
+    (λ why p. take_broke way_here c.args.request.now.chosen c.args.field.now s c.evaluate.new.host c.evaluate.new.sources a ops more disk c.take.new.store (case c.args.field.now came (reason_shown_in q.0 c.args.field.now.id) c.in-Some.found.verdict)
     (answer_ops c.args.field.now.id c.in-Some.found.answer) (g.W.Write.contents c.take.new.writer) why
     (tell_failed way_here c.args.request.now.chosen c.args.field.now c.args.shown.now c.requires.shows s c.evaluate.new.host c.evaluate.new.sources came q.0 q.1 q.2 a a fault.OutOfMemory (Appends-nil a)) (
       q.0,

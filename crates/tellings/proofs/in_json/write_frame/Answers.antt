@@ -10,3 +10,6 @@ returns-in-Hello-clause-ok g c = subst (λ x. OnOk c.write_made.result (Appends 
 
 pub returns-in-End-clause-ok : goal.returns-in-End-clause-ok
 returns-in-End-clause-ok g c = subst (λ x. OnOk c.write_made-in-End.result (Appends (g.W.Write.contents c.args.writer.now) (g.W.Write.contents c.write_made-in-End.new.writer) (frame_json x))) (sym c.in-End.is) (c.write_made-in-End.ensures.ok (told.end) c.end_value.ensures)
+
+pub returns-in-NoField-clause-ok : goal.returns-in-NoField-clause-ok
+returns-in-NoField-clause-ok g c = subst (λ x. OnOk c.write_made-in-NoField.result (Appends (g.W.Write.contents c.args.writer.now) (g.W.Write.contents c.write_made-in-NoField.new.writer) (frame_json x))) (sym c.in-NoField.is) (c.write_made-in-NoField.ensures.ok (told.no_field c.in-NoField.id) c.no_field_value.ensures)

@@ -1,0 +1,139 @@
+"""A check of a worksheet by `tmhost check --json`: its fields, evaluated again on a copy, and the counts."""
+
+import dataclasses
+import os
+import subprocess
+from typing import Generator, Iterator, List, Optional, Sequence, Union
+
+from .errors import Died, InUse, ProtocolError
+from .program import GRACE, Child, Program, fault_in, path_word, words_of_program
+from .protocol import IN_USE, VERSION, Lines
+from .reading import OTHERS, End, Fault, Hello, Members, Told, answer, data_of, string
+from .values import LINE_END, Answer
+
+PIECE = 65_536
+
+
+@dataclasses.dataclass(frozen=True)
+class Checked:
+    """A field that was evaluated again.
+
+    `verdict` is "same", "differs", "unanswered" or "left_out". Of "differs" there are `input`, the answer that the field `shows` and the one
+    that `came`; of "unanswered" `input`, `shows`, and the `reason`, None where the field shows none (its time was over).
+    """
+
+    id: int
+    session: str
+    verdict: str
+    input: Optional[str] = None
+    shows: Optional[Answer] = None
+    came: Optional[Answer] = None
+    reason: Optional[str] = None
+
+
+@dataclasses.dataclass(frozen=True)
+class Compared:
+    """How many fields came to what; the last thing that a check tells."""
+
+    same: int
+    differ: int
+    unanswered: int
+    left_out: int
+
+    @property
+    def is_same(self) -> bool:
+        """No output that is compared differs, and none is missing."""
+        return self.differ == 0 and self.unanswered == 0
+
+
+def checked(told: Members) -> Checked:
+    verdict = told.one_of("verdict", "same", "differs", "unanswered", "left_out")
+    apart = verdict in ("differs", "unanswered")
+    return Checked(
+        told.number("id"),
+        told.string("session"),
+        verdict,
+        told.string("input").replace("\n", LINE_END) if apart else None,
+        answer(Members(told.get("shows"))) if apart else None,
+        answer(Members(told.get("came"))) if verdict == "differs" else None,
+        told.or_none("reason", string) if verdict == "unanswered" else None,
+    )
+
+
+def read(line: bytes) -> "Union[Checked, Compared, Told, None]":
+    """What a line tells; None where it is of a type that isn't known."""
+    told = data_of(line)
+    kind = told.string("type")
+    if kind == "checked":
+        return checked(told)
+    if kind == "compared":
+        return Compared(told.number("same"), told.number("differ"), told.number("unanswered"), told.number("left_out"))
+    return OTHERS[kind](told) if kind in OTHERS else None
+
+
+def words_of_check(program: Program, path: str, only: Optional[str], leave_out: Sequence[int], timeout: Optional[int]) -> List[str]:
+    words = [*words_of_program(program), "check", "--json"]
+    if only is not None:
+        words.append(f"--only={only}")
+    if leave_out:
+        words.append("--leave-out=" + ",".join(str(id) for id in leave_out))
+    if timeout is not None:
+        words.append(f"--timeout={timeout}")
+    return [*words, path]
+
+
+def lines_of(child: Child) -> Iterator[bytes]:
+    """The lines that the program writes, each as soon as it is there."""
+    cut = Lines()
+    assert child.process.stdout is not None
+    while True:
+        piece = os.read(child.process.stdout.fileno(), PIECE)
+        if not piece:
+            return
+        yield from cut.feed(piece)
+
+
+def died(child: Child, fault: Optional[Fault]) -> Died:
+    """Why a check didn't come to its end."""
+    try:
+        status: Optional[int] = child.process.wait(GRACE)
+    except subprocess.TimeoutExpired:
+        status = None
+    said = child.said()
+    fault = fault or fault_in(said)
+    kind = InUse if fault and fault.number == IN_USE else Died
+    return kind(fault.name if fault else None, fault.number if fault else None, said, status, fault.offset if fault else None)
+
+
+def told_by(child: Child) -> "Iterator[Union[Checked, Compared]]":
+    for line in lines_of(child):
+        told = read(line)
+        if isinstance(told, Hello) and told.protocol != VERSION:
+            raise ProtocolError(f"tmhost speaks the protocol {told.protocol}, and not {VERSION}")
+        if isinstance(told, (Checked, Compared)):
+            yield told
+        elif isinstance(told, Fault):
+            raise died(child, told)
+        elif isinstance(told, End):
+            return
+    raise died(child, None)
+
+
+def check(
+    path: "Union[str, os.PathLike[str]]",
+    only: Optional[str] = None,
+    leave_out: Sequence[int] = (),
+    timeout: Optional[int] = None,
+    program: Program = None,
+) -> "Generator[Union[Checked, Compared], None, None]":
+    """Evaluates each field of a worksheet that shows an answer again, on a copy, with interpreters of its own; the worksheet stays as it is.
+
+    Gives a `Checked` for each field, in order and as soon as it is known, and at last a `Compared`. `only` names the one session whose
+    fields are evaluated; those of `leave_out` aren't compared; a field may take `timeout` seconds. Raises InUse, or Died for another
+    fault or a death of the program. To stop early, close the iterator: the program is ended then.
+    """
+    child = Child(words_of_check(program, path_word(path), only, leave_out, timeout))
+    try:
+        yield from told_by(child)
+    finally:
+        child.close()

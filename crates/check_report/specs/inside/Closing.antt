@@ -1,0 +1,11 @@
+-- The end of a report as JSON, as it is written, part by part. No public contract names this.
+use Rattle.std.specs.Prelude.{ℕ, List, ◌++◌, codes}
+use Rattle.std.specs.Fmt.{decimal}
+use Rattle.check_report.specs.declared.verdict.Counts.{Counts}
+
+-- how many differ and were left out, and then the other counts and what stands last
+abbrev pub first_part : Counts → List ℕ
+first_part counts = codes "{\"differ\":" ++ decimal counts.differ ++ codes ",\"left_out\":" ++ decimal counts.left_out
+
+abbrev pub second_part : Counts → List ℕ
+second_part counts = codes ",\"same\":" ++ decimal counts.same ++ codes ",\"type\":\"compared\",\"unanswered\":" ++ decimal counts.unanswered ++ codes "}\n{\"type\":\"end\"}\n"

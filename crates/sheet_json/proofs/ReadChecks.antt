@@ -1,0 +1,47 @@
+-- What a check tells reads back.
+use Rattle.std.proofs.Common.{◌≡◌, ℕ, List, Option, Some, None, option_map, refl, ap, ◌∙◌}
+use Rattle.base64.specs.GeneralPurpose.{IsBytes}
+use Rattle.block_tree.specs.Tree.{Tree}
+use Rattle.block_tree.specs.declared.reason.Reason.{Reason}
+use Rattle.worksheet.specs.declared.field.Answer.{Answer}
+use Rattle.sheet_json.specs.Blocks.{tree_data}
+use Rattle.sheet_json.specs.Bytes.{bytes_data}
+use Rattle.sheet_json.specs.Laws.{ChecksReadBack}
+use Rattle.sheet_json.specs.Objects.{answer_data, checked_data, why_data}
+use Rattle.sheet_json.specs.Reading.{bytes_in, tree_in}
+use Rattle.sheet_json.specs.Tellings.{CheckTold, Telling}
+use Rattle.sheet_json.specs.Tellings as told
+use Rattle.sheet_json.specs.Told.{answer_in, checked_in, of, option_in, reason_in, AnswerHasBytes, CheckHasBytes}
+use Rattle.sheet_json.proofs.Back.{bytes_back, blocks_read_back}
+use Rattle.sheet_json.proofs.Tellings.{reason_back}
+
+abbrev whole_answer : List ℕ → Tree → Answer
+whole_answer prompt output = record { prompt = prompt; output = output }
+
+answer_back : (answer : Option Answer) → AnswerHasBytes answer → answer_in (answer_data answer) ≡ Some answer
+answer_back None good = refl
+answer_back (Some a) good =
+    ap (λ r. option_map (λ x. Some x) (of (option_map (λ prompt output. whole_answer prompt output) r) (tree_in (tree_data a.output)))) (bytes_back a.prompt good.0)
+    ∙ ap (λ r. option_map (λ x. Some x) (of (Some (λ output. whole_answer a.prompt output)) r)) (blocks_read_back a.output good.1)
+
+why_back : (why : Option Reason) → option_in reason_in (why_data why) ≡ Some why
+why_back None = refl
+why_back (Some why) = ap (option_map (λ x. Some x)) (reason_back why)
+
+-- with its number and its session
+of_field : (id : ℕ) (session : List ℕ) (c : CheckTold) (r : Option CheckTold) → IsBytes session → r ≡ Some c
+    → of (of (Some (λ s x. told.checked id s x)) (bytes_in (bytes_data session))) r ≡ Some (told.checked id session c)
+of_field id session c r are is = ap (λ s. of (of (Some (λ t x. told.checked id t x)) s) r) (bytes_back session are) ∙ ap (of (Some (λ x. told.checked id session x))) is
+
+checked_back : (id : ℕ) (session : List ℕ) (c : CheckTold) → IsBytes session → CheckHasBytes c → checked_in (checked_data id session c) ≡ Some (told.checked id session c)
+checked_back id session told.same are good = of_field id session told.same (Some told.same) are refl
+checked_back id session told.left_out are good = of_field id session told.left_out (Some told.left_out) are refl
+checked_back id session (told.differs input shows came) are good =
+    of_field id session (told.differs input shows came) _ are
+    (ap (λ r. of (of (Some (λ x y. told.differs input x y)) r) (answer_in (answer_data came))) (answer_back shows good.0) ∙ ap (of (Some (λ y. told.differs input shows y))) (answer_back came good.1))
+checked_back id session (told.unanswered input shows why) are good =
+    of_field id session (told.unanswered input shows why) _ are
+    (ap (λ r. of (of (Some (λ x y. told.unanswered input x y)) r) (option_in reason_in (why_data why))) (answer_back shows good) ∙ ap (of (Some (λ y. told.unanswered input shows y))) (why_back why))
+
+pub checks_read_back : ChecksReadBack
+checks_read_back = (checked_back, (λ same differ unanswered left_out. refl), (λ id. refl))
