@@ -47,6 +47,11 @@ module _ (old mid new : StoreView) (o : Op) (same : SameStore old mid) where
     contents = λ ops is. adds.contents ops (same.contents ∙ is);
     kept = λ model ops kept. adds.kept (still_model model) ops (keeps_still old mid ops same kept);
     images = λ model. adds.images (still_model model);
+    real = record {
+      gathers = adds.real.gathers ∙ same.gathers;
+      owed = λ gathers. adds.real.owed (same.gathers ∙ gathers) ∙ same.real;
+      written = λ at_once. adds.real.written (same.gathers ∙ at_once);
+    };
   }
 
   pub commits_from : (result : Result Unit CommitFault) → CommitAnswers old new o result → SameDisk mid.disk new.disk → InModel mid.disk (CommitMoments mid new o)

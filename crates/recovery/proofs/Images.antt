@@ -1,5 +1,5 @@
 -- The images of a store.
-use Rattle.std.proofs.Common.{◌≡◌, ◌≤◌, min, arith, inl, inr, ⊎_elim, ℕ, true, false, append-nil, List, [], ◌∷◌, ◌++◌, length, Option, Some, None, Result, Ok, Err, refl, sym, ap, ◌∙◌, subst, IsTrue, append_assoc}
+use Rattle.std.proofs.Common.{◌≡◌, ◌+◌, ◌≤◌, min, arith, inl, inr, ⊎_elim, ℕ, true, false, append-nil, List, [], ◌∷◌, ◌++◌, length, Option, Some, None, Result, Ok, Err, refl, sym, ap, ◌∙◌, subst, IsTrue, append_assoc}
 use Rattle.std.specs.Prelude.{is_err, OnOk}
 use Rattle.std.specs.List.{AllByRecursion}
 use Rattle.std.specs.Result.{result_err}
@@ -13,7 +13,9 @@ use Rattle.worksheet.specs.Checks.{Allowed, AllowedFrom, first_refusal}
 use Rattle.worksheet.proofs.Existence.{allowed_goes_on}
 use Rattle.journal.specs.Kept.{Fits, ImageStandsFor, BeforeOrAfter, OtherUntouched, active_of}
 use Rattle.journal.specs.inside.Standing.{keeps_images}
+use Rattle.journal.specs.Area.{records}
 use Rattle.journal.specs.Limits.{longest_payload}
+use Rattle.journal.specs.Owed.{owed_disk}
 use Rattle.journal.specs.declared.opening.OpenCause.{OpenCause}
 use Rattle.journal.specs.declared.opening.OpenCause.TheVariants as causes
 use Rattle.journal.specs.Open.{IsPassing}
@@ -22,8 +24,8 @@ use Rattle.recovery.specs.Code.{code_of, longest_told, IsTyped, IsPayloadOf}
 use Rattle.recovery.specs.Sheets.{codes_of, Makes, IsSheetImage, IsEither}
 use Rattle.recovery.specs.inside.Taken.{RefusesFrom}
 use Rattle.recovery.specs.declared.base.Base.{Base}
-use Rattle.recovery.specs.declared.base.Base.TheVariants.{Open, Closed}
-use Rattle.recovery.specs.inside.Base.{disk_of, is_closed, KeepsIn, KeepsSheet, IsBaseOf, IsStoreOf}
+use Rattle.recovery.specs.declared.base.Base.TheVariants.{Open, Gathering, Closed}
+use Rattle.recovery.specs.inside.Base.{disk_of, is_closed, KeepsIn, KeepsSheet, IsBaseOf, MayOweIn, IsStoreOf}
 use Rattle.recovery.specs.Laws.{OneListOfOps, OneSheet}
 use Rattle.recovery.proofs.Unique.{one_op}
 use Rattle.worksheet.proofs.NextLaws.{same_next}
@@ -60,6 +62,11 @@ pub all_images : {D : Type 0} (view : D → DiskView) (base : Base D) (sheet : C
 all_images view (Open journal) sheet kept i image = record {
   ops = kept.ops;
   stands = keeps_images journal.disk.history journal.end (codes_of kept.ops) kept.keeps i image;
+  makes = kept.makes;
+}
+all_images view (Gathering journal group) sheet kept i image = record {
+  ops = kept.ops;
+  stands = keeps_images (owed_disk journal.disk journal.end group.payloads).history (journal.end + length (records group.payloads)) (codes_of kept.ops) kept.keeps i image;
   makes = kept.makes;
 }
 all_images view (Closed disk) sheet kept i image = absurd kept.keeps
@@ -102,8 +109,10 @@ module _ {D : Type 0} (view : D → DiskView) (base : Base D) (sheet : Contents)
   pub committed : (new : Base D) (after : Contents) → SameDisk (disk_of view base) (disk_of view new)
       → InModel (disk_of view base) ((payloads : List (List ℕ)) → KeepsIn base payloads → KeepsIn new (payloads ++ payload ∷ []))
       → ((ops : List Op) → sheet ≡ sheet_of ops → after ≡ sheet_of (ops ++ o ∷ []))
+      → MayOweIn new
       → IsBaseOf view new after
-  committed new after same ok applied = record {
+  committed new after same ok applied owing = record {
+    owing = owing;
     made = (holds.made.0 ++ o ∷ [], makes_more holds.made.0 o sheet after holds.made.1 own.typed short next (applied holds.made.0 holds.made.1.is));
     kept = λ is_open model.
         let before = subst IsTrue same.keeps_model model in

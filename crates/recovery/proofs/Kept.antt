@@ -1,5 +1,5 @@
 -- The ops that a store keeps.
-use Rattle.std.proofs.Common.{◌≡◌, inl, inr, ⊎_elim, ℕ, false, List, [], ◌∷◌, ◌++◌, ◌≤◌, length, Option, Some, None, sym, ap, ◌∙◌, subst}
+use Rattle.std.proofs.Common.{◌≡◌, inl, inr, ⊎_elim, ℕ, false, List, [], ◌∷◌, ◌++◌, ◌≤◌, length, Option, Some, None, refl, sym, ap, ◌∙◌, subst}
 use Rattle.disk_model.specs.Disk.{DiskView, History, InModel, Leaves, LeavesOnly}
 use Rattle.disk_model.specs.inside.Moments.{started, weakens}
 use Rattle.worksheet.specs.declared.op.Op.{Op}
@@ -9,23 +9,26 @@ use Rattle.worksheet.specs.Checks.{first_refusal}
 use Rattle.journal.specs.inside.Standing.{keeps_images}
 use Rattle.journal.specs.Kept.{Fits, ImageStandsFor, JournalView, Keeps, BeforeOrAfter}
 use Rattle.journal.specs.Limits.{longest_payload}
+use Rattle.journal.specs.Owed.{owed_disk}
 use Rattle.recovery.specs.Code.{code_of, IsPayloadOf}
 use Rattle.recovery.specs.Sheets.{StoreView, codes_of, Makes, HasPlace, IsSheetImage, IsStore, KeepsOps, SameStore, StandsWithOrWithout}
 use Rattle.recovery.specs.declared.base.Base.{Base}
-use Rattle.recovery.specs.declared.base.Base.TheVariants.{Open, Closed}
-use Rattle.recovery.specs.inside.Base.{disk_of, disk_in, end_in, is_closed, is_closed_store, KeepsIn, KeepsSheet, IsStoreOf, store_on}
+use Rattle.recovery.specs.declared.base.Base.TheVariants.{Open, Gathering, Closed}
+use Rattle.recovery.specs.inside.Base.{disk_of, disk_in, end_in, gathers_in, is_closed, is_closed_store, owed_in, real_in, KeepsIn, KeepsSheet, IsStoreOf, store_on}
 use Rattle.recovery.specs.inside.Taken.{TakesAll}
 use Rattle.recovery.proofs.Allowed.{makes_more}
 use Rattle.recovery.proofs.Images.{all_images, made_in}
 use Rattle.recovery.proofs.Taking.{codes_push}
 
 -- what a store's disk keeps is what its open base keeps
-inside : {D : Type 0} (view : D → DiskView) (base : Base D) (payloads : List (List ℕ)) → is_closed base ≡ false → Keeps (disk_of view base).history (end_in base) payloads → KeepsIn base payloads
+pub inside : {D : Type 0} (view : D → DiskView) (base : Base D) (payloads : List (List ℕ)) → is_closed base ≡ false → Keeps (disk_of view base).history (end_in base) payloads → KeepsIn base payloads
 inside view (Open journal) payloads opened keeps = keeps
+inside view (Gathering journal group) payloads opened keeps = keeps
 inside view (Closed disk) payloads opened keeps = absurd cc
 
 pub outside : {D : Type 0} (view : D → DiskView) (base : Base D) (payloads : List (List ℕ)) → KeepsIn base payloads → Keeps (disk_of view base).history (end_in base) payloads
 outside view (Open journal) payloads keeps = keeps
+outside view (Gathering journal group) payloads keeps = keeps
 outside view (Closed disk) payloads keeps = absurd keeps
 
 -- a journal whose payloads were all taken keeps the sheet that they made
@@ -50,11 +53,29 @@ some_images : {D : Type 0} (view : D → DiskView) (base : Option (Base D)) (she
 some_images view None sheet holds model opened = absurd holds
 some_images view (Some base) sheet holds model opened = all_images view base sheet.contents (holds.kept opened model)
 
+-- where nothing is owed the disk is as it stands
+owes_none : (v : DiskView) (end : ℕ) (payloads : List (List ℕ)) → payloads ≡ [] → v ≡ owed_disk v end payloads
+owes_none v end payloads none = ap (λ (ps : List (List ℕ)). owed_disk v end ps) (sym none)
+
+plain_in : {D : Type 0} (view : D → DiskView) (base : Option (Base D)) → owed_in base ≡ [] → real_in view base ≡ disk_in view base
+plain_in view None none = refl
+plain_in view (Some (Open journal)) none = refl
+plain_in view (Some (Gathering journal group)) none = owes_none journal.disk journal.end group.payloads none
+plain_in view (Some (Closed disk)) none = refl
+
+pub written_in : {D : Type 0} (view : D → DiskView) (base : Option (Base D)) → gathers_in base ≡ false → (owed_in base ≡ []) × (real_in view base ≡ disk_in view base)
+written_in view None at_once = (refl, refl)
+written_in view (Some (Open journal)) at_once = (refl, refl)
+written_in view (Some (Gathering journal group)) at_once = absurd cc
+written_in view (Some (Closed disk)) at_once = (refl, refl)
+
 pub is_store : {D : Type 0} (view : D → DiskView) (base : Option (Base D)) (sheet : SheetView) → IsStoreOf view base sheet.contents → IsStore (store_on view base sheet)
 is_store view base sheet holds = record {
   made = made_in view base sheet.contents holds;
   kept = some_kept view base sheet holds;
   images = some_images view base sheet holds;
+  none_owed = plain_in view base;
+  written = written_in view base;
 }
 
 -- what fits once memory was made ready, fitted before

@@ -18,3 +18,4 @@ pub mod Measures
 pub mod Rescues
 pub mod Saves
 pub mod Sourcing
+pub mod Owed

@@ -17,7 +17,7 @@ use Rattle.recovery.specs.Checkpointed.{CheckpointAnswers, HasRoomAnew}
 use Rattle.recovery.specs.declared.fault.CheckpointFault.{CheckpointFault}
 use Rattle.recovery.specs.declared.fault.CheckpointFault.TheVariants as faults
 use Rattle.recovery.specs.declared.base.Base.{Base}
-use Rattle.recovery.specs.inside.Base.{disk_of, is_closed, AnewAnswers, KeepsIn, KeepsSheet, IsBaseOf, store_on}
+use Rattle.recovery.specs.inside.Base.{disk_of, is_closed, AnewAnswers, KeepsIn, KeepsSheet, IsBaseOf, MayOweIn, store_on}
 use Rattle.recovery.proofs.Kept.{outside}
 use Rattle.recovery.proofs.Lengths.{rewrites_are_short}
 
@@ -33,7 +33,7 @@ same_disk v = record { room = refl; keeps_model = refl; later = omega arith }
 
 module _ {D : Type 0} (view : D → DiskView) (base new : Base D) (sheet : SheetView) (payloads : List (List ℕ))
     (holds : IsBaseOf view base sheet.contents) (opened : is_closed base ≡ false)
-    (are : payloads ≡ codes_of (rewrite_of sheet.contents)) (typed : AllByRecursion IsTyped (rewrite_of sheet.contents)) (same : SameDisk (disk_of view base) (disk_of view new)) where
+    (are : payloads ≡ codes_of (rewrite_of sheet.contents)) (typed : AllByRecursion IsTyped (rewrite_of sheet.contents)) (same : SameDisk (disk_of view base) (disk_of view new)) (owing : MayOweIn new) where
   anew : Makes (rewrite_of sheet.contents) sheet.contents
   anew = makes_anew holds.made.0 sheet.contents holds.made.1 typed
 
@@ -49,12 +49,14 @@ module _ {D : Type 0} (view : D → DiskView) (base new : Base D) (sheet : Sheet
   -- the base is still that of the worksheet
   pub still_base : (result : Result Unit CheckpointFault) → AnewAnswers view base new payloads result → IsBaseOf view new sheet.contents
   still_base (Ok u) answers = record {
+    owing = owing;
     made = holds.made;
     kept = λ _ model. keeps_anew answers.3 (subst IsTrue same.keeps_model model);
   }
   still_base (Err faults.Full) answers = subst (λ (b : Base D). IsBaseOf view b sheet.contents) (sym answers.1) holds
   still_base (Err faults.OutOfMemory) answers = absurd answers
   still_base (Err faults.Disk) answers = record {
+    owing = owing;
     made = holds.made;
     kept = λ is_open. absurd (let no : true ≡ false = sym answers.0 ∙ is_open in cc);
   }
@@ -76,7 +78,7 @@ module _ {D : Type 0} (view : D → DiskView) (base new : Base D) (sheet : Sheet
     opened,
     λ fits. answers.0 (subst (λ (l : List (List ℕ)). FitsAnew (disk_of view base).room l) (sym are) fits),
     subst (λ (b : Base D). SameStore (store_on view (Some base) sheet) (store_on view (Some b) sheet)) (sym answers.1)
-        (record { disk = refl; end = refl; contents = refl; closed = refl }),
+        (record { disk = refl; end = refl; contents = refl; closed = refl; real = refl; owed = refl; gathers = refl }),
   )
   answered room (Err faults.OutOfMemory) answers = absurd answers
   answered room (Err faults.Disk) answers = (opened, room, answers.0, answers.1)

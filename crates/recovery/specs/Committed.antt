@@ -5,7 +5,7 @@ use Rattle.journal.specs.Kept.{OtherUntouched, other_of}
 use Rattle.worksheet.specs.declared.op.Op.{Op}
 use Rattle.worksheet.specs.Ops.{sheet_of}
 use Rattle.recovery.specs.Code.{code_of}
-use Rattle.recovery.specs.Sheets.{StoreView, SameStore, HasPlace, IsEither, IsSheetImage, KeepsOps, StandsWithOrWithout}
+use Rattle.recovery.specs.Sheets.{StoreView, SameStore, HasPlace, IsEither, IsOwedOrWritten, IsSheetImage, KeepsOps, StandsWithOrWithout}
 use Rattle.recovery.specs.declared.fault.CommitFault.{CommitFault}
 use Rattle.recovery.specs.declared.fault.CommitFault.TheVariants as faults
 
@@ -33,6 +33,7 @@ pub record Adds (old new : StoreView) (op : Op) : Type 0 where
       → new.sheet.contents ≡ sheet_of (ops ++ op ∷ [])
   pub kept : InModel old.disk ((ops : List Op) → KeepsOps old ops → KeepsOps new (ops ++ op ∷ []))
   pub images : InModel old.disk (Leaves (IsSheetImage new.sheet.contents) new.disk.history.now)
+  pub real : IsOwedOrWritten old new
 
 -- the disk failed: the worksheet is as before, and the store is closed
 pub record Breaks (old new : StoreView) : Type 0 where

@@ -1,5 +1,5 @@
 -- The worksheet that a disk stands for (docs/FORMAT.md, "Payloads").
-use Rattle.std.specs.Prelude.{◌≡◌, ◌⊎◌, ℕ, Bool, true, false, List, [], ◌∷◌, ◌++◌, length, map, None}
+use Rattle.std.specs.Prelude.{◌≡◌, ◌⊎◌, ◌+◌, ◌≤◌, ℕ, Bool, true, false, List, [], ◌∷◌, ◌++◌, length, map, None}
 use Rattle.std.specs.List.{AllByRecursion}
 use Rattle.disk_model.specs.Disk.{DiskView, Image, InModel, Leaves}
 use Rattle.worksheet.specs.declared.op.Op.{Op}
@@ -61,13 +61,19 @@ TellsOfSheet i causes.NotASheet = Tells i causes.NotASheet
 TellsOfSheet i causes.Disk = Unit {0}
 TellsOfSheet i causes.OutOfMemory = Unit {0}
 
--- a store as contracts see it: its disk, while it is open the offset of the closed gate after the
--- disk's payloads, its worksheet, and whether it is closed
+-- A store as contracts see it: its disk, as it would be if each record that is owed had been appended;
+-- while it is open the offset of the closed gate after that disk's payloads; its worksheet; and whether
+-- it is closed. Then the disk as it stands; the payloads that are owed to it; whether records are owed,
+-- and not written at once; and for how many bytes of a record there is memory.
 pub record StoreView : Type 0 where
   pub disk : DiskView
   pub end : ℕ
   pub sheet : SheetView
   pub closed : Bool
+  pub real : DiskView
+  pub owed : List (List ℕ)
+  pub gathers : Bool
+  pub place : ℕ
 
 -- The store isn't closed, and keeps these ops: its disk stands for their payloads, which are
 -- durable, its end is the gate after them, and they make its worksheet.
@@ -77,12 +83,15 @@ pub record KeepsOps (store : StoreView) (ops : List Op) : Type 0 where
   pub makes : Makes ops store.sheet.contents
 
 -- What is true of each store: allowed ops made its worksheet; while it is open it keeps their
--- payloads, and a crash leaves an image of its worksheet.
+-- payloads, and a crash leaves an image of its worksheet. Where nothing is owed its disk is as it
+-- stands, so it is where records are written at once.
 pub record IsStore (store : StoreView) : Type 0 where
   pub made : (ops : List Op) × Makes ops store.sheet.contents
   pub kept : InModel store.disk (store.closed ≡ false → (ops : List Op) × KeepsOps store ops)
   pub images : InModel store.disk
       (store.closed ≡ false → Leaves (IsSheetImage store.sheet.contents) store.disk.history.now)
+  pub none_owed : store.owed ≡ [] → store.real ≡ store.disk
+  pub written : store.gathers ≡ false → (store.owed ≡ []) × (store.real ≡ store.disk)
 
 -- the store isn't closed, and a payload of so many bytes fits on its disk
 abbrev pub HasPlace : StoreView → ℕ → Type 0
@@ -94,6 +103,7 @@ pub record IsReady (store : StoreView) (o : Op) (payload : List ℕ) : Type 0 wh
   pub fits : HasPlace store (length (code_of o))
   pub room : room_for store.sheet o ≡ true
   pub own : IsPayloadOf o payload
+  pub place : 5 + length (code_of o) ≤ store.place
 
 -- memory may have been made ready, and nothing else has changed
 pub record SameStore (old new : StoreView) : Type 0 where
@@ -101,3 +111,23 @@ pub record SameStore (old new : StoreView) : Type 0 where
   pub end : new.end ≡ old.end
   pub contents : new.sheet.contents ≡ old.sheet.contents
   pub closed : new.closed ≡ old.closed
+  pub real : new.real ≡ old.real
+  pub owed : new.owed ≡ old.owed
+  pub gathers : new.gathers ≡ old.gathers
+
+-- an image of this sheet, or of that one
+abbrev pub IsSheetOf : Contents → Contents → Image → Type 0
+IsSheetOf before after i = IsSheetImage before i ⊎ IsSheetImage after i
+
+-- Where records are owed, the disk as it stands is left alone; else it is the disk.
+pub record IsOwedOrWritten (old new : StoreView) : Type 0 where
+  pub gathers : new.gathers ≡ old.gathers
+  pub owed : old.gathers ≡ true → new.real ≡ old.real
+  pub written : old.gathers ≡ false → new.real ≡ new.disk
+
+-- Whether records are owed or written at once stays as it was; while they are owed, the disk as it
+-- stands is left alone, and an open store stays open.
+pub record GathersOn (old new : StoreView) : Type 0 where
+  pub gathers : new.gathers ≡ old.gathers
+  pub real : old.gathers ≡ true → new.real ≡ old.real
+  pub closed : old.gathers ≡ true → new.closed ≡ old.closed

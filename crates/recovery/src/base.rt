@@ -1,26 +1,38 @@
 //! What a store stands on.
-ghost use Rattle.std.specs.Prelude.{◌≡◌, ◌+◌, ◌++◌, ◌∷◌, ◌↔◌, [], List, ℕ, length, false, true, OnOk, OnErr, IsTrue, vec_capacity};
-ghost use Rattle.disk_model.specs.Disk.{InModel, LeavesOnly, SameDisk, Rises, bytes_on};
+ghost use Rattle.std.specs.Prelude.{◌≡◌, ◌≤◌, ◌+◌, ◌++◌, ◌∷◌, ◌↔◌, [], List, ℕ, length, false, true, OnOk, OnErr, IsTrue, MatchResult, vec_capacity};
+ghost use Rattle.disk_model.specs.Disk.{InModel, IsImage, LeavesOnly, SameDisk, Rises, bytes_on};
 ghost use Rattle.journal.specs.Kept.{BeforeOrAfter, EitherStands, Fits, FitsAnew, other_of};
+ghost use Rattle.journal.specs.Limits.{longest_payload};
 ghost use Rattle.journal.specs.Sources.{HoldsEach};
 
 use crate::fault::CheckpointFault;
+use crate::owing::{owe, write_group};
 use disk_model::{Disk, DiskFault};
-use journal::{AppendFault, Frame, Journal, Source};
+use journal::{AppendFault, Frame, Group, Journal, OutOfMemory, Source};
 
-/// A journal, or a disk that has failed and is written no more.
+/// A journal, or one to which payloads are owed, or a disk that has failed and is written no more.
 #[derive(Drop)]
 pub(crate) enum Base<D: Disk> {
     Open(Journal<D>),
+    Gathering(Journal<D>, Group),
     Closed(D),
 }
 
 impl<D: Disk> Base<D> {
-    ghost use Rattle.recovery.specs.inside.Base.{disk_of, end_in, is_closed, AnewAnswers, HasPlaceIn, KeepsIn};
+    ghost use Rattle.recovery.specs.inside.Base.{disk_of, end_in, gathers, is_closed, owed_to, place_for, real_of, AnewAnswers, HasPlaceIn, MayOweIn, KeepsIn, KeepsSome, RealKeeps};
 
-    /// Adds a payload for which there is a place. A failure of the disk closes it.
+    /// Adds a payload for which there is a place, or owes it. A failure of the disk closes it.
     pub(crate) fn with(self, frame: &Frame) -> (Base<D>, Result<(), DiskFault>)
-        requires { HasPlaceIn self (length frame.now) }
+        requires place { HasPlaceIn self (length frame.now) }
+        requires memory { 5 + length frame.now ≤ place_for self }
+        requires owing { MayOweIn self }
+
+        ensures owing { MayOweIn result.0 }
+        ensures real { gathers self ≡ true → (real_of D.view result.0 ≡ real_of D.view self)
+            × (gathers result.0 ≡ true) }
+        ensures written { gathers self ≡ false → gathers result.0 ≡ false }
+        ensures at_once { OnErr result.1 (gathers self ≡ false) }
+        ensures still_open { gathers self ≡ true → is_closed result.0 ≡ false }
 
         ensures same { SameDisk (disk_of D.view self) (disk_of D.view result.0) }
         ensures other { InModel (disk_of D.view self)
@@ -48,6 +60,7 @@ impl<D: Disk> Base<D> {
                 Err(AppendFault::Disk(disk)) => (Base::Closed(disk), Err(DiskFault)),
                 Err(AppendFault::JournalFull(_)) => unreachable!(),
             },
+            Base::Gathering(journal, group) => (owe(journal, group, frame), Ok(())),
             Base::Closed(_) => unreachable!(),
         }
     }
@@ -59,10 +72,13 @@ impl<D: Disk> Base<D> {
         batch: &mut Vec<u8>,
     ) -> (Base<D>, Result<(), CheckpointFault>)
         requires open { is_closed self ≡ false }
+        requires flushed { owed_to self ≡ [] }
         requires room { FitsAnew (disk_of D.view self).room (S.payloads source.now) }
         requires memory { HoldsEach (vec_capacity batch.old) (S.payloads source.now) }
 
         ensures same { SameDisk (disk_of D.view self) (disk_of D.view result.0) }
+        ensures owing { MayOweIn result.0 }
+        ensures written { gathers result.0 ≡ false }
         ensures answers { AnewAnswers D.view self result.0 (S.payloads source.now) result.1 }
         ensures any_moment { InModel (disk_of D.view self)
             ((payloads : List (List ℕ)) → KeepsIn self payloads
@@ -71,6 +87,12 @@ impl<D: Disk> Base<D> {
     {
         match self {
             Base::Open(journal) => match journal.rewrite_from(source, batch) {
+                Ok(journal) => (Base::Open(journal), Ok(())),
+                Err(AppendFault::Disk(disk)) => (Base::Closed(disk), Err(CheckpointFault::Disk)),
+                Err(AppendFault::JournalFull(_)) => unreachable!(),
+            },
+            // Nothing is owed, so it goes on without the group.
+            Base::Gathering(journal, _) => match journal.rewrite_from(source, batch) {
                 Ok(journal) => (Base::Open(journal), Ok(())),
                 Err(AppendFault::Disk(disk)) => (Base::Closed(disk), Err(CheckpointFault::Disk)),
                 Err(AppendFault::JournalFull(_)) => unreachable!(),
@@ -86,6 +108,7 @@ impl<D: Disk> Base<D> {
     {
         match self {
             Base::Open(journal) => journal.fits(payload_len),
+            Base::Gathering(journal, group) => journal.fits_behind(group, payload_len),
             Base::Closed(_) => false,
         }
     }
@@ -93,11 +116,23 @@ impl<D: Disk> Base<D> {
     /// The most bytes that an area may have, of one that is open.
     pub(crate) fn room(&self) -> u64
         requires { is_closed self.now ≡ false }
-        ensures { result ≡ (disk_of D.view self.now).room }
+        ensures room { result ≡ (disk_of D.view self.now).room }
+        ensures content_stays { InModel (real_of D.view self.now)
+            (IsImage (real_of D.view self.now).history.now (bytes_on (real_of D.view self.now))) }
     {
         match self {
-            Base::Open(journal) => journal.room(),
+            Base::Open(journal) | Base::Gathering(journal, _) => journal.room(),
             Base::Closed(_) => unreachable!(),
+        }
+    }
+
+    /// Whether something is owed.
+    pub(crate) fn owes(&self) -> bool
+        ensures { result ≡ false → owed_to self.now ≡ [] }
+    {
+        match self {
+            Base::Gathering(_, group) => !group.is_empty(),
+            Base::Open(_) | Base::Closed(_) => false,
         }
     }
 
@@ -109,11 +144,82 @@ impl<D: Disk> Base<D> {
 
     /// The disk, as it stands.
     pub(crate) fn into_disk(self) -> D
-        ensures { D.view result ≡ disk_of D.view self }
+        ensures { D.view result ≡ real_of D.view self }
     {
         match self {
             Base::Open(journal) => journal.into_disk(),
+            Base::Gathering(journal, _) => journal.into_disk(),
             Base::Closed(disk) => disk,
+        }
+    }
+
+    /// From now on payloads are owed, in this group, which has none yet, if they aren't already.
+    pub(crate) fn gather(self, group: Group) -> Base<D>
+        requires { group.payloads ≡ [] }
+        ensures disk { disk_of D.view result ≡ disk_of D.view self }
+        ensures real { real_of D.view result ≡ real_of D.view self }
+        ensures end { end_in result ≡ end_in self }
+        ensures closed { is_closed result ≡ is_closed self }
+        ensures owed { owed_to result ≡ owed_to self }
+        ensures gathers { is_closed self ≡ false → gathers result ≡ true }
+        ensures keeps { (payloads : List (List ℕ)) → KeepsIn self payloads → KeepsIn result payloads }
+        ensures owing { MayOweIn self → (is_closed self ≡ false → KeepsSome D.view self)
+            → MayOweIn result }
+    {
+        match self {
+            Base::Open(journal) => Base::Gathering(journal, group),
+            other => other,
+        }
+    }
+
+    /// Makes memory for a payload of so many bytes, where it is to be owed. Refused, nothing has changed.
+    pub(crate) fn make_place(&mut self, payload_len: u64) -> Result<(), OutOfMemory>
+        requires { payload_len ≤ longest_payload }
+        ensures disk { disk_of D.view self.new ≡ disk_of D.view self.old }
+        ensures real { real_of D.view self.new ≡ real_of D.view self.old }
+        ensures end { end_in self.new ≡ end_in self.old }
+        ensures closed { is_closed self.new ≡ is_closed self.old }
+        ensures owed { owed_to self.new ≡ owed_to self.old }
+        ensures gathers { gathers self.new ≡ gathers self.old }
+        ensures place { OnOk result (5 + payload_len ≤ place_for self.new) }
+        ensures owing { MayOweIn self.old → MayOweIn self.new }
+        ensures keeps { (payloads : List (List ℕ)) → KeepsIn self.old payloads
+            → KeepsIn self.new payloads }
+    {
+        match self {
+            Base::Gathering(_, group) => group.make_place(payload_len),
+            Base::Open(_) | Base::Closed(_) => Ok(()),
+        }
+    }
+
+    /// Makes durable what is owed. Nothing is owed after it, and payloads are written at once. A failure
+    /// of the disk closes it.
+    pub(crate) fn flush(self) -> (Base<D>, Result<(), DiskFault>)
+        requires { MayOweIn self }
+        ensures same { SameDisk (real_of D.view self) (real_of D.view result.0) }
+        ensures flushed { OnOk result.1 ((owed_to result.0 ≡ [])
+            × (disk_of D.view result.0 ≡ real_of D.view result.0)) }
+        ensures ok { OnOk result.1 ((is_closed result.0 ≡ is_closed self)
+            × (end_in result.0 ≡ end_in self)
+            × ((real_of D.view result.0).faults ≡ (real_of D.view self).faults)) }
+        ensures closed { OnErr result.1 ((is_closed result.0 ≡ true)
+            × Rises (real_of D.view self).faults (real_of D.view result.0).faults) }
+        ensures keeps { OnOk result.1 (InModel (disk_of D.view self)
+            ((payloads : List (List ℕ)) → KeepsIn self payloads → KeepsIn result.0 payloads)) }
+        ensures owing { MayOweIn result.0 }
+        ensures written { gathers result.0 ≡ false }
+        ensures nothing { owed_to self ≡ [] → MatchResult result.1
+            (λ _. real_of D.view result.0 ≡ real_of D.view self) (λ _. ⊥) }
+
+        // A crash at any moment of the call leaves the payloads that the disk had, or all of them.
+        ensures any_moment { InModel (disk_of D.view self) (is_closed self ≡ false
+            → (before payloads : List (List ℕ)) → RealKeeps self before → KeepsIn self payloads
+            → LeavesOnly (EitherStands before payloads) (real_of D.view self).history
+            (real_of D.view result.0).history) }
+    {
+        match self {
+            Base::Gathering(journal, group) => write_group(journal, group),
+            other => (other, Ok(())),
         }
     }
 }

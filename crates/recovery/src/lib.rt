@@ -5,9 +5,11 @@
 mod afters;
 mod base;
 mod fault;
+mod flushing;
 mod laws;
 mod measuring;
 mod opening;
+mod owing;
 mod parts;
 mod reading;
 mod records;

@@ -9,7 +9,7 @@ ghost use Rattle.journal.specs.Kept.{Fits, OtherUntouched, other_of};
 ghost use Rattle.std.specs.List.{AllByRecursion};
 ghost use Rattle.worksheet.specs.Rewrite.{rewrite_of};
 ghost use Rattle.recovery.specs.Code.{code_of, HasCode, IsPayloadOf, IsTyped};
-ghost use Rattle.recovery.specs.Sheets.{codes_of, IsSheetImage, IsEither, KeepsOps, Makes, StandsWithOrWithout, TellsOfSheet, HasPlace, IsReady, IsStore, SameStore};
+ghost use Rattle.recovery.specs.Sheets.{codes_of, IsSheetImage, IsEither, KeepsOps, Makes, StandsWithOrWithout, TellsOfSheet, HasPlace, GathersOn, IsOwedOrWritten, IsReady, IsStore, SameStore};
 
 use crate::base::Base;
 use crate::fault::{CheckpointFault, CommitFault, PrepareFault};
@@ -32,7 +32,7 @@ use worksheet::{Op, Sheet};
 pub struct Store<D: Disk> {
     alloc: Global,
     // A base is always there but within a call.
-    base: Option<Base<D>>,
+    pub(crate) base: Option<Base<D>>,
     sheet: Sheet,
 }
 
@@ -64,6 +64,10 @@ impl<D: Disk> Store<D> {
         ensures same { SameDisk (D.view disk) (disk_left D.view result) }
         ensures open { IfOk result (λ store. store.closed ≡ false) }
         ensures store { IfOk result IsStore }
+
+        // Nothing is owed, and records are written at once.
+        ensures written { IfOk result (λ store. (store.owed ≡ []) × (store.gathers ≡ false)
+            × (store.real ≡ store.disk)) }
 
         // Whether the disk keeps the model or not, the worksheet is made by allowed ops.
         ensures made { IfOk result (λ store. (ops : List Op) × Makes ops store.sheet.contents) }
@@ -136,7 +140,7 @@ impl<D: Disk> Store<D> {
             → HasPlace self.old (length (code_of op.now)) }
         ensures store { IsStore self.old }
     {
-        let Some(base) = &self.base else {
+        let Some(base) = &mut self.base else {
             unreachable!();
         };
         if base.is_closed() {
@@ -147,6 +151,7 @@ impl<D: Disk> Store<D> {
             return Err(PrepareFault::Full);
         }
         self.sheet.make_room(op)?;
+        base.make_place(len)?;
         Ok(frame_of(self.alloc, op, len)?)
     }
 
@@ -165,6 +170,14 @@ impl<D: Disk> Store<D> {
         ensures closed { OnErr result
             ((self.new.closed ≡ true) × Rises self.old.disk.faults self.new.disk.faults) }
         ensures steady { OnOk result (self.new.disk.faults ≡ self.old.disk.faults) }
+
+        // The record is written, or owed.
+        ensures real { OnOk result (IsOwedOrWritten self.old self.new) }
+
+        // While records are owed the disk as it stands is left alone, whatever the answer; only one that is
+        // written at once can fail.
+        ensures gathers { GathersOn self.old self.new }
+        ensures at_once { OnErr result (self.old.gathers ≡ false) }
 
         // The area that isn't active is left alone, at every moment of the call too.
         ensures other { InModel self.old.disk
@@ -219,6 +232,12 @@ impl<D: Disk> Store<D> {
         ensures refused { IfErr result (LeftBy self.old self.new op) }
         ensures steady { OnOk result (self.new.disk.faults ≡ self.old.disk.faults) }
 
+        // The record is written, or owed. While records are owed the disk as it stands is left alone, whatever
+        // the answer; only one that is written at once can fail.
+        ensures real { OnOk result (IsOwedOrWritten self.old self.new) }
+        ensures gathers { GathersOn self.old self.new }
+        ensures at_once { IsErrOf result CommitFault.Disk → self.old.gathers ≡ false }
+
         // The area that isn't active is left alone, at every moment of the call too.
         ensures other { InModel self.old.disk
             (other_of (bytes_on self.new.disk) ≡ other_of (bytes_on self.old.disk)) }
@@ -258,7 +277,8 @@ impl<D: Disk> Store<D> {
     /// changes neither the worksheet nor the number of its next new field. (docs/FORMAT.md,
     /// "Payloads".)
     ///
-    /// `Full` and `OutOfMemory` change nothing and touch no disk. After `Disk` the store is closed.
+    /// `Full` and `OutOfMemory` change nothing and touch no disk. After `Disk` the store is closed. It is
+    /// refused with `OutOfMemory` while something is owed, so `flush` goes before it.
     pub fn checkpoint(&mut self) -> Result<(), CheckpointFault>
         ensures store { IsStore self.old }
         ensures same { SameDisk self.old.disk self.new.disk }
@@ -266,6 +286,7 @@ impl<D: Disk> Store<D> {
 
         // All that it does, by its answer.
         ensures answers { CheckpointAnswers self.old self.new result }
+        ensures written { self.old.gathers ≡ false → self.new.gathers ≡ false }
 
         // A crash at any moment of the call leaves the same worksheet.
         ensures any_moment { InModel self.old.disk
@@ -281,6 +302,9 @@ impl<D: Disk> Store<D> {
         let Some(len) = len_anew(base.room(), &self.sheet) else {
             return Err(CheckpointFault::Full);
         };
+        if base.owes() {
+            return Err(CheckpointFault::OutOfMemory);
+        }
         let anew = match anew_of(self.alloc, &self.sheet) {
             Ok(anew) => anew,
             Err(_) => return Err(CheckpointFault::OutOfMemory),
@@ -310,9 +334,10 @@ impl<D: Disk> Store<D> {
         &self.sheet
     }
 
-    /// The disk, as it stands.
+    /// The disk, as it stands. What is owed to it isn't there.
     pub fn into_disk(self) -> D
-        ensures { D.view result ≡ self.disk }
+        ensures real { D.view result ≡ self.real }
+        ensures written { self.gathers ≡ false → D.view result ≡ self.disk }
     {
         let Store {
             alloc: _,

@@ -1,15 +1,18 @@
 -- What a store stands on: a journal, or a disk that has failed. No public clause speaks of it.
-use Rattle.std.specs.Prelude.{◌≡◌, ℕ, Bool, true, false, List, [], Option, Some, None, Result, Ok, Err}
+use Rattle.std.specs.Prelude.{◌≡◌, ◌⊎◌, ℕ, ◌+◌, Bool, true, false, List, [], length, Option, Some, None, Result, Ok, Err}
 use Rattle.disk_model.specs.Disk.{DiskView, InModel, Rises}
-use Rattle.journal.specs.Area.{end_of}
+use Rattle.journal.specs.Area.{ArePayloads, end_of, records}
 use Rattle.worksheet.specs.declared.op.Op.{Op}
 use Rattle.worksheet.specs.Contents.{Contents, SheetView}
-use Rattle.journal.specs.Kept.{Fits, FitsAnew, Keeps}
+use Rattle.worksheet.specs.Ops.{sheet_of}
+use Rattle.journal.specs.Kept.{Fits, FitsAll, FitsAnew, JournalView, Keeps}
+use Rattle.journal.specs.Limits.{longest_payload}
+use Rattle.journal.specs.Owed.{owed_disk}
 use Rattle.recovery.specs.Sheets.{StoreView, codes_of, Makes}
 use Rattle.recovery.specs.declared.fault.CheckpointFault.{CheckpointFault}
 use Rattle.recovery.specs.declared.fault.CheckpointFault.TheVariants as faults
 use Rattle.recovery.specs.declared.base.Base.{Base}
-use Rattle.recovery.specs.declared.base.Base.TheVariants.{Open, Closed}
+use Rattle.recovery.specs.declared.base.Base.TheVariants.{Open, Gathering, Closed}
 
 abbrev pub no_disk : DiskView
 no_disk = record {
@@ -27,24 +30,53 @@ no_disk = record {
 
 abbrev pub disk_of : {D : Type 0} → (D → DiskView) → Base D → DiskView
 disk_of view (Open journal) = journal.disk
+disk_of view (Gathering journal group) = owed_disk journal.disk journal.end group.payloads
 disk_of view (Closed disk) = view disk
+
+-- the disk as it stands, without what is owed to it
+abbrev pub real_of : {D : Type 0} → (D → DiskView) → Base D → DiskView
+real_of view (Open journal) = journal.disk
+real_of view (Gathering journal group) = journal.disk
+real_of view (Closed disk) = view disk
+
+-- the payloads that are owed
+abbrev pub owed_to : {D : Type 0} → Base D → List (List ℕ)
+owed_to (Open journal) = []
+owed_to (Gathering journal group) = group.payloads
+owed_to (Closed disk) = []
+
+-- payloads are owed, and not written at once
+abbrev pub gathers : {D : Type 0} → Base D → Bool
+gathers (Open journal) = false
+gathers (Gathering journal group) = true
+gathers (Closed disk) = false
+
+-- for so many bytes there is memory, where they are to be owed; else none is wanted
+abbrev pub place_for : {D : Type 0} → Base D → ℕ
+place_for (Open journal) = 5 + longest_payload
+place_for (Gathering journal group) = group.place
+place_for (Closed disk) = 5 + longest_payload
 
 abbrev pub end_in : {D : Type 0} → Base D → ℕ
 end_in (Open journal) = journal.end
+end_in (Gathering journal group) = journal.end + length (records group.payloads)
 end_in (Closed disk) = 0
 
 abbrev pub is_closed : {D : Type 0} → Base D → Bool
 is_closed (Open journal) = false
+is_closed (Gathering journal group) = false
 is_closed (Closed disk) = true
 
 -- a payload of so many bytes fits
 abbrev pub HasPlaceIn : {D : Type 0} → Base D → ℕ → Type 0
 HasPlaceIn (Open journal) n = Fits journal.disk.room journal.end n
+HasPlaceIn (Gathering journal group) n = Fits journal.disk.room (journal.end + length (records group.payloads)) n
 HasPlaceIn (Closed disk) n = ⊥
 
 -- the journal keeps these payloads
 abbrev pub KeepsIn : {D : Type 0} → Base D → List (List ℕ) → Type 0
 KeepsIn (Open journal) payloads = Keeps journal.disk.history journal.end payloads
+KeepsIn (Gathering journal group) payloads = Keeps (owed_disk journal.disk journal.end group.payloads).history (journal.end + length (records group.payloads)) payloads
 KeepsIn (Closed disk) payloads = ⊥
 
 -- the journal keeps the payloads of ops that make the sheet
@@ -53,11 +85,33 @@ pub record KeepsSheet {D : Type 0} (base : Base D) (sheet : Contents) : Type 0 w
   pub keeps : KeepsIn base (codes_of ops)
   pub makes : Makes ops sheet
 
+-- What is owed fits, and the disk as it stands keeps the payloads of ops that make a worksheet.
+pub record MayOwe (journal : JournalView) (owed : List (List ℕ)) : Type 0 where
+  pub fits : (owed ≡ []) ⊎ FitsAll journal.disk.room journal.end owed
+  pub each : ArePayloads longest_payload owed
+  pub ops : InModel journal.disk ((ops : List Op) × Keeps journal.disk.history journal.end (codes_of ops) × Makes ops (sheet_of ops))
+
+abbrev pub MayOweIn : {D : Type 0} → Base D → Type 0
+MayOweIn (Open journal) = Unit {0}
+MayOweIn (Gathering journal group) = MayOwe journal group.payloads
+MayOweIn (Closed disk) = Unit {0}
+
+-- the disk as it stands keeps these payloads
+abbrev pub RealKeeps : {D : Type 0} → Base D → List (List ℕ) → Type 0
+RealKeeps (Open journal) payloads = Keeps journal.disk.history journal.end payloads
+RealKeeps (Gathering journal group) payloads = Keeps journal.disk.history journal.end payloads
+RealKeeps (Closed disk) payloads = ⊥
+
+-- the base keeps the payloads of ops that make a worksheet
+abbrev pub KeepsSome : {D : Type 0} → (D → DiskView) → Base D → Type 0
+KeepsSome view base = InModel (disk_of view base) ((ops : List Op) × KeepsIn base (codes_of ops) × Makes ops (sheet_of ops))
+
 -- ops make the sheet, and while the store is open its journal keeps their payloads
 pub record IsBaseOf {D : Type 0} (view : D → DiskView) (base : Base D)
     (sheet : Contents) : Type 0 where
   pub made : (ops : List Op) × Makes ops sheet
   pub kept : is_closed base ≡ false → InModel (disk_of view base) (KeepsSheet base sheet)
+  pub owing : MayOweIn base
 
 abbrev pub disk_in : {D : Type 0} → (D → DiskView) → Option (Base D) → DiskView
 disk_in view None = no_disk
@@ -71,6 +125,22 @@ abbrev pub is_closed_store : {D : Type 0} → Option (Base D) → Bool
 is_closed_store None = true
 is_closed_store (Some base) = is_closed base
 
+abbrev pub real_in : {D : Type 0} → (D → DiskView) → Option (Base D) → DiskView
+real_in view None = no_disk
+real_in view (Some base) = real_of view base
+
+abbrev pub owed_in : {D : Type 0} → Option (Base D) → List (List ℕ)
+owed_in None = []
+owed_in (Some base) = owed_to base
+
+abbrev pub gathers_in : {D : Type 0} → Option (Base D) → Bool
+gathers_in None = false
+gathers_in (Some base) = gathers base
+
+abbrev pub place_in : {D : Type 0} → Option (Base D) → ℕ
+place_in None = 5 + longest_payload
+place_in (Some base) = place_for base
+
 -- a store on a base, with this sheet
 abbrev pub store_on : {D : Type 0} → (D → DiskView) → Option (Base D) → SheetView → StoreView
 store_on view base sheet = record {
@@ -78,6 +148,10 @@ store_on view base sheet = record {
   end = end_of_base base;
   sheet = sheet;
   closed = is_closed_store base;
+  real = real_in view base;
+  owed = owed_in base;
+  gathers = gathers_in base;
+  place = place_in base;
 }
 
 -- there is a base, and it is that of this sheet

@@ -1,4 +1,4 @@
-use Rattle.std.proofs.Common.{◌≡◌, ◌+◌, ◌≤◌, ℕ, List, min, refl, sym, ◌∙◌, subst, false, Some, Option, vec_capacity}
+use Rattle.std.proofs.Common.{◌≡◌, ◌+◌, ◌≤◌, ℕ, List, [], min, refl, sym, ◌∙◌, subst, false, Some, Option, vec_capacity}
 use Rattle.disk_model.specs.Disk.{InModel, LeavesOnly}
 use Rattle.journal.specs.Limits.{batch_len, longest_payload}
 use Rattle.journal.specs.Sources.{HoldsEach}
@@ -6,7 +6,7 @@ use Rattle.worksheet.specs.Rewrite.{rewrite_of}
 use Rattle.recovery.specs.Checkpointed.{CheckpointAnswers, HasRoomAnew}
 use Rattle.recovery.specs.Sheets.{codes_of, IsSheetImage, IsStore, StoreView}
 use Rattle.recovery.specs.declared.base.Base.{Base}
-use Rattle.recovery.specs.inside.Base.{disk_in, disk_of, is_closed_store, IsStoreOf, store_on}
+use Rattle.recovery.specs.inside.Base.{disk_in, disk_of, is_closed_store, owed_in, IsStoreOf, store_on}
 use Rattle.recovery.proofs.Images.{made_in}
 use Rattle.recovery.proofs.Kept.{is_store}
 use Rattle.recovery.proofs.Lengths.{next_some, numbers_apart, records_anew, rewrites_are_short}
@@ -76,7 +76,7 @@ invariant_of-self g c =
     let e : c.self.inside.base ≡ Some c.unwrap.result = sym c.take.ensures.value ∙ c.unwrap.ensures in
     let holds = subst (λ (b : Option (Base g.row.D.Denot)). IsStoreOf view b sheet.contents) e c.self.invariant in
     let opened = subst (λ (b : Option (Base g.row.D.Denot)). is_closed_store b ≡ false) (sym c.in-Some.is ∙ e) (sym c.is_closed.ensures ∙ c.if-is_closed.false) in
-    still_base view c.unwrap.result c.anew-renewed.result.0 sheet c.in-Ok.anew holds opened c.in-Ok.ensures.ok c.in-Ok.ensures.typed c.anew-renewed.ensures.same c.anew-renewed.result.1 c.anew-renewed.ensures.answers
+    still_base view c.unwrap.result c.anew-renewed.result.0 sheet c.in-Ok.anew holds opened c.in-Ok.ensures.ok c.in-Ok.ensures.typed c.anew-renewed.ensures.same c.anew-renewed.ensures.owing c.anew-renewed.result.1 c.anew-renewed.ensures.answers
 
 pub returns-clause-answers : goal.returns-clause-answers
 returns-clause-answers g c =
@@ -85,11 +85,11 @@ returns-clause-answers g c =
     let e : c.self.inside.base ≡ Some c.unwrap.result = sym c.take.ensures.value ∙ c.unwrap.ensures in
     let holds = subst (λ (b : Option (Base g.row.D.Denot)). IsStoreOf view b sheet.contents) e c.self.invariant in
     let opened = subst (λ (b : Option (Base g.row.D.Denot)). is_closed_store b ≡ false) (sym c.in-Some.is ∙ e) (sym c.is_closed.ensures ∙ c.if-is_closed.false) in
-    let here : HasRoomAnew (disk_of view c.in-Some.base).room sheet.contents = subst (λ (n : ℕ). HasRoomAnew n sheet.contents) c.room.ensures (c.in-Some-len_anew.ensures.room.0 refl) in
+    let here : HasRoomAnew (disk_of view c.in-Some.base).room sheet.contents = subst (λ (n : ℕ). HasRoomAnew n sheet.contents) c.room.ensures.room (c.in-Some-len_anew.ensures.room.0 refl) in
     let room = subst (λ (b : Option (Base g.row.D.Denot)). HasRoomAnew (disk_in view b).room sheet.contents) (sym c.in-Some.is ∙ e) here in
     subst (λ (s : StoreView). CheckpointAnswers s (store_on view (Some c.anew-renewed.result.0) sheet) c.anew-renewed.result.1) c.self.view_is
     (subst (λ (b : Option (Base g.row.D.Denot)). CheckpointAnswers (store_on view b sheet) (store_on view (Some c.anew-renewed.result.0) sheet) c.anew-renewed.result.1) (sym e)
-    (answered view c.unwrap.result c.anew-renewed.result.0 sheet c.in-Ok.anew holds opened c.in-Ok.ensures.ok c.in-Ok.ensures.typed c.anew-renewed.ensures.same room c.anew-renewed.result.1 c.anew-renewed.ensures.answers))
+    (answered view c.unwrap.result c.anew-renewed.result.0 sheet c.in-Ok.anew holds opened c.in-Ok.ensures.ok c.in-Ok.ensures.typed c.anew-renewed.ensures.same c.anew-renewed.ensures.owing room c.anew-renewed.result.1 c.anew-renewed.ensures.answers))
 
 pub returns-clause-any_moment : goal.returns-clause-any_moment
 returns-clause-any_moment g c = λ model _.
@@ -100,5 +100,20 @@ returns-clause-any_moment g c = λ model _.
     let opened = subst (λ (b : Option (Base g.row.D.Denot)). is_closed_store b ≡ false) (sym c.in-Some.is ∙ e) (sym c.is_closed.ensures ∙ c.if-is_closed.false) in
     let run = subst (λ (s : StoreView). InModel s.disk (LeavesOnly (IsSheetImage s.sheet.contents) s.disk.history (disk_of view c.anew-renewed.result.0).history)) c.self.view_is
     (subst (λ (b : Option (Base g.row.D.Denot)). InModel (disk_in view b) (LeavesOnly (IsSheetImage sheet.contents) (disk_in view b).history (disk_of view c.anew-renewed.result.0).history)) (sym e)
-    (same_sheet_moments view c.unwrap.result c.anew-renewed.result.0 sheet c.in-Ok.anew holds opened c.in-Ok.ensures.ok c.in-Ok.ensures.typed c.anew-renewed.ensures.same c.anew-renewed.ensures.any_moment)) in
+    (same_sheet_moments view c.unwrap.result c.anew-renewed.result.0 sheet c.in-Ok.anew holds opened c.in-Ok.ensures.ok c.in-Ok.ensures.typed c.anew-renewed.ensures.same c.anew-renewed.ensures.owing c.anew-renewed.ensures.any_moment)) in
     run model
+
+pub returns-in_default-len_anew-clause-store : goal.returns-in_default-len_anew-clause-store
+returns-in_default-len_anew-clause-store g c = subst IsStore c.self.view_is (is_store g.D.Disk.view c.self.inside.base c.self.inside.sheet c.self.invariant)
+
+pub anew-renewed-requires-clause-flushed : goal.anew-renewed-requires-clause-flushed
+anew-renewed-requires-clause-flushed g c =
+    let e : c.self.inside.base ≡ Some c.unwrap.result = sym c.take.ensures.value ∙ c.unwrap.ensures in
+    subst (λ (b : Option (Base g.row.D.Denot)). owed_in b ≡ []) (sym c.in-Some.is ∙ e) (c.owes.ensures c.if-owes.false)
+
+pub returns-then-owes-clause-any_moment : goal.returns-then-owes-clause-any_moment
+returns-then-owes-clause-any_moment g c = λ model opened.
+    stays_same c.args.self.now (subst IsStore c.self.view_is (is_store g.D.Disk.view c.self.inside.base c.self.inside.sheet c.self.invariant)) opened model
+
+pub returns-then-owes-clause-store : goal.returns-then-owes-clause-store
+returns-then-owes-clause-store g c = subst IsStore c.self.view_is (is_store g.D.Disk.view c.self.inside.base c.self.inside.sheet c.self.invariant)

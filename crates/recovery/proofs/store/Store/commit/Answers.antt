@@ -37,6 +37,7 @@ returns-in-Ok-commit_ready-clause-commits g c =
       contents = done.sheet;
       kept = done.kept;
       images = done.acknowledged;
+      real = done.real;
     }) in
     commits_from old mid new c.args.op same _ (place_before old mid (length (code_of c.args.op)) same c.in-Ok.ensures.ready.fits, adds) done.same
     (λ model. record { sheets = λ opened. done.any_moment model; payloads = done.payloads model; others = done.others model }) done.other

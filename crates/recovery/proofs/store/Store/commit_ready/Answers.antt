@@ -35,7 +35,7 @@ invariant_of-self-2 g c =
     let next = subst (λ (s : StoreView). first_refusal s.sheet.contents o ≡ None) (sym c.self.view_is) c.requires.allowed in
     let opened = subst (λ (b : Option (Base g.row.D.Denot)). is_closed_store b ≡ false) e (subst (λ (s : StoreView). s.closed ≡ false) (sym c.self.view_is) c.requires.fits.0) in
     committed view c.unwrap.result sheet o c.args.frame holds c.requires.own c.requires.fits.1.0 next opened c.with-base.result.0 c.apply.new.self.contents c.with-base.ensures.same
-    (λ model payloads keeps. on_ok c.with-base.result.1 c.in_ok-result.field-0 c.in_ok-result.was (c.with-base.ensures.ok model payloads keeps)) c.in-Ok.ensures.ok
+    (λ model payloads keeps. on_ok c.with-base.result.1 c.in_ok-result.field-0 c.in_ok-result.was (c.with-base.ensures.ok model payloads keeps)) c.in-Ok.ensures.ok c.with-base.ensures.owing
 
 pub returns-clause-any_moment : goal.returns-clause-any_moment
 returns-clause-any_moment g c =
@@ -60,7 +60,7 @@ returns-clause-acknowledged g c = λ model.
     let next = subst (λ (s : StoreView). first_refusal s.sheet.contents o ≡ None) (sym c.self.view_is) c.requires.allowed in
     let opened = subst (λ (b : Option (Base g.row.D.Denot)). is_closed_store b ≡ false) e (subst (λ (s : StoreView). s.closed ≡ false) (sym c.self.view_is) c.requires.fits.0) in
     let after = committed view c.unwrap.result sheet o c.args.frame holds c.requires.own c.requires.fits.1.0 next opened c.with-base.result.0 c.apply.new.self.contents c.with-base.ensures.same
-    (λ model payloads keeps. on_ok c.with-base.result.1 c.in_ok-result.field-0 c.in_ok-result.was (c.with-base.ensures.ok model payloads keeps)) c.in-Ok.ensures.ok in
+    (λ model payloads keeps. on_ok c.with-base.result.1 c.in_ok-result.field-0 c.in_ok-result.was (c.with-base.ensures.ok model payloads keeps)) c.in-Ok.ensures.ok c.with-base.ensures.owing in
     let here = subst (λ (b : Option (Base g.row.D.Denot)). IsTrue (disk_in view b).keeps_model) e (subst (λ (s : StoreView). IsTrue s.disk.keeps_model) (sym c.self.view_is) model) in
     all_images view c.with-base.result.0 c.apply.new.self.contents
     (after.kept (on_ok c.with-base.result.1 c.in_ok-result.field-0 c.in_ok-result.was c.with-base.ensures.open) (subst IsTrue (sym c.with-base.ensures.same.keeps_model) here))

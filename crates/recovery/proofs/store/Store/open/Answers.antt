@@ -47,6 +47,7 @@ returns-in-Ok-take_all-clause-sheet g c = λ model.
 
 pub invariant_of-result : goal.invariant_of-result
 invariant_of-result g c = record {
+  owing = tt;
   made = c.in-Ok-take_all.ensures.made;
   kept = λ opened model2.
       let model1 = subst IsTrue c.in-Ok-take_all.ensures.same.keeps_model model2 in
@@ -56,6 +57,7 @@ invariant_of-result g c = record {
 
 pub returns-in-Ok-take_all-clause-store : goal.returns-in-Ok-take_all-clause-store
 returns-in-Ok-take_all-clause-store g c = is_store g.D.Disk.view (Some (Open c.in-Ok-take_all.journal)) c.in-Ok-take_all.sheet (record {
+  owing = tt;
   made = c.in-Ok-take_all.ensures.made;
   kept = λ opened model2.
       let model1 = subst IsTrue c.in-Ok-take_all.ensures.same.keeps_model model2 in

@@ -1,11 +1,11 @@
-use Rattle.std.proofs.Common.{◌≡◌, length, sym, subst, false, None, Option}
+use Rattle.disk_model.specs.Disk.{DiskView}
+use Rattle.std.proofs.Common.{◌≡◌, ◌∙◌, ℕ, arith, length, sym, subst, false, None}
 use Rattle.worksheet.specs.Contents.{Contents}
 use Rattle.worksheet.specs.Checks.{first_refusal}
 use Rattle.journal.specs.Kept.{Fits}
 use Rattle.recovery.specs.Code.{code_of}
 use Rattle.recovery.specs.Sheets.{IsStore, StoreView}
-use Rattle.recovery.specs.declared.base.Base.{Base}
-use Rattle.recovery.specs.inside.Base.{disk_in, disk_of, end_in, end_of_base, is_closed_store}
+use Rattle.recovery.specs.inside.Base.{disk_of, end_in}
 use Rattle.recovery.proofs.Allowed.{code_on}
 use Rattle.recovery.proofs.Images.{made_in, fits_uncapped}
 use Rattle.recovery.proofs.Kept.{is_store}
@@ -30,10 +30,19 @@ returns-clause-ready g c =
     let allowed = subst (λ (s : StoreView). first_refusal s.sheet.contents c.args.op.now ≡ None) (sym c.self.view_is) c.requires in
     record {
       allowed = subst (λ (s : Contents). first_refusal s c.args.op.now ≡ None) (sym c.make_room.ensures.same) allowed;
-      fits = subst (λ (b : Option (Base g.row.D.Denot)). (is_closed_store b ≡ false) × Fits (disk_in g.D.Disk.view b).room (end_of_base b) (length (code_of c.args.op.now))) (sym c.in-Some.is)
-          (let place = c.has_place.ensures.0 c.if-not-has_place.false in
-          (place.0, fits_uncapped (disk_of g.D.Disk.view c.in-Some.base).room (end_in c.in-Some.base) (length (code_of c.args.op.now)) (rw c.code_len-len.ensures at place.1)));
+      fits =
+          let here = c.has_place.ensures.0 c.if-not-has_place.false in
+          let n = length (code_of c.args.op.now) in
+          let fits = fits_uncapped (disk_of g.D.Disk.view c.in-Some.base).room (end_in c.in-Some.base) n (rw c.code_len-len.ensures at here.1) in (
+            c.make_place.ensures.closed ∙ here.0,
+            subst (λ (end : ℕ). Fits (disk_of g.D.Disk.view c.make_place.new.self).room end n) (sym c.make_place.ensures.end)
+                (subst (λ (d : DiskView). Fits d.room (end_in c.in-Some.base) n) (sym c.make_place.ensures.disk) fits),
+          );
       room = c.in_ok-make_room.ensures.ok;
+      place =
+          let here = c.has_place.ensures.0 c.if-not-has_place.false in
+          let short = (fits_uncapped (disk_of g.D.Disk.view c.in-Some.base).room (end_in c.in-Some.base) (length (code_of c.args.op.now)) (rw c.code_len-len.ensures at here.1)).0 in
+          omega (arith, c.in_ok-make_place.ensures.place, c.code_len-len.ensures, short);
       own = record {
         typed = c.in_ok-frame_of.ensures.typed;
         fits = code_on made.0 c.self.inside.sheet.contents c.args.op.now made.1 allowed;
@@ -52,3 +61,6 @@ returns-in_err-make_room-clause-store g c = subst IsStore c.self.view_is (is_sto
 
 pub returns-in_err-frame_of-clause-store : goal.returns-in_err-frame_of-clause-store
 returns-in_err-frame_of-clause-store g c = subst IsStore c.self.view_is (is_store g.D.Disk.view c.self.inside.base c.self.inside.sheet c.self.invariant)
+
+pub returns-in_err-make_place-clause-store : goal.returns-in_err-make_place-clause-store
+returns-in_err-make_place-clause-store g c = subst IsStore c.self.view_is (is_store g.D.Disk.view c.self.inside.base c.self.inside.sheet c.self.invariant)
