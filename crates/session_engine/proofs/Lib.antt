@@ -8,6 +8,7 @@ pub mod Renewals
 pub mod Asking
 pub mod Completing
 pub mod Playing
+pub mod Gathering
 pub mod Committing
 pub mod Losing
 pub mod Losses

@@ -6,4 +6,6 @@ pub mod Does
 pub mod Host
 pub mod Faults
 pub mod Crash
+pub mod Gathers
+pub mod Groups
 pub mod inside

@@ -1,10 +1,10 @@
 //! Commands that change the worksheet alone.
-ghost use Rattle.std.specs.Prelude.{◌≡◌, None, Some, true, IfOk, IfErr, OnErr};
+ghost use Rattle.std.specs.Prelude.{◌≡◌, None, Some, true, false, IfOk, IfErr, IsErrOf, OnErr};
 ghost use Rattle.std.specs.List.{AllByRecursion};
 ghost use Rattle.std.specs.Result.{result_err};
 ghost use Rattle.disk_model.specs.Disk.{SameDisk, InModel, LeavesOnly, Rises};
 ghost use Rattle.worksheet.specs.Checks.{first_of, first_refusal};
-ghost use Rattle.recovery.specs.Sheets.{IsEither};
+ghost use Rattle.recovery.specs.Sheets.{GathersOn, IsEither};
 ghost use Rattle.host_events.specs.declared.command.Command.{Command};
 
 use crate::commits::commit;
@@ -57,6 +57,8 @@ impl<D: Disk> Engine<D> {
         requires works { Works self.old }
         requires allowed { first_refusal self.old.store.sheet.contents op ≡ None }
         ensures same { SameDisk self.old.store.disk self.new.store.disk }
+        ensures gathers { GathersOn self.old.store self.new.store }
+        ensures at_once { IsErrOf result HostFault.Disk → self.old.store.gathers ≡ false }
         ensures ok { (w : World) → StandsAt self.old w → AllByRecursion (SparesLife op) w.lives
             → IfOk result (Changes w op reply self.old self.new) }
         ensures fault { IfErr result (λ fault. (fault ≡ faults.Disk)
@@ -83,6 +85,8 @@ impl<D: Disk> Engine<D> {
     pub(crate) fn alter(&mut self, op: Op) -> Result<Outcome, HostFault>
         requires { Works self.old }
         ensures same { SameDisk self.old.store.disk self.new.store.disk }
+        ensures gathers { GathersOn self.old.store self.new.store }
+        ensures at_once { IsErrOf result HostFault.Disk → self.old.store.gathers ≡ false }
         ensures took { (w : World) (c : Command) → StandsAt self.old w → op_of c ≡ Some op
             → IfOk result (TookAt w (event.Command c) self.old self.new) }
         ensures failed { (w : World) (c : Command) → StandsAt self.old w → op_of c ≡ Some op

@@ -1,5 +1,5 @@
 //! A checkpoint.
-ghost use Rattle.std.specs.Prelude.{◌≡◌, IfOk, IfErr};
+ghost use Rattle.std.specs.Prelude.{◌≡◌, false, IfOk, IfErr};
 ghost use Rattle.disk_model.specs.Disk.{SameDisk};
 
 use crate::engine::{Engine, refused};
@@ -18,6 +18,7 @@ impl<D: Disk> Engine<D> {
     pub(crate) fn checkpoint(&mut self) -> Result<Outcome, HostFault>
         requires { Works self.old }
         ensures same { SameDisk self.old.store.disk self.new.store.disk }
+        ensures written { self.old.store.gathers ≡ false → self.new.store.gathers ≡ false }
         ensures took { (w : World) → StandsAt self.old w
             → IfOk result (TookAt w (event_of.Command command_of.Checkpoint) self.old self.new) }
         ensures failed { (w : World) → StandsAt self.old w

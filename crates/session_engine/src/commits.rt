@@ -1,11 +1,11 @@
 //! What the store does for an event.
-ghost use Rattle.std.specs.Prelude.{◌≡◌, false, true, List, IfOk, IfErr, OnOk, OnErr};
+ghost use Rattle.std.specs.Prelude.{◌≡◌, false, true, List, IfOk, IfErr, IsErrOf, OnOk, OnErr};
 ghost use Rattle.std.specs.Option.{option_copied};
 ghost use Rattle.disk_model.specs.Disk.{InModel, LeavesOnly, Rises, SameDisk};
 ghost use Rattle.worksheet.specs.declared.op.Op.{Op};
 ghost use Rattle.worksheet.specs.Ops.{sheet_of};
 ghost use Rattle.worksheet.specs.Checks.{first_refusal};
-ghost use Rattle.recovery.specs.Sheets.{IsEither};
+ghost use Rattle.recovery.specs.Sheets.{GathersOn, IsEither};
 ghost use Rattle.plugin_core.specs.Items.{first_line_of};
 ghost use Rattle.session_engine.specs.Does.{closed_told, op_by};
 ghost use Rattle.session_engine.specs.inside.Words.{op_of_end};
@@ -35,6 +35,8 @@ pub(crate) fn commit<D: Disk>(store: &mut Store<D>, op: Op) -> Result<Option<Ref
     requires open { store.old.closed ≡ false }
     requires allowed { first_refusal store.old.sheet.contents op ≡ None }
     ensures same { SameDisk store.old.disk store.new.disk }
+    ensures gathers { GathersOn store.old store.new }
+    ensures at_once { OnErr result (store.old.gathers ≡ false) }
     ensures ok { (ops : List Op) → store.old.sheet.contents ≡ sheet_of ops
         → IfOk result (Commits store.old ops op store.new) }
     ensures fits { OnErr result (fits_in store.old.disk.room store.old.end op ≡ true) }
@@ -75,6 +77,8 @@ pub(crate) fn lose<D: Disk>(
     requires open { store.old.closed ≡ false }
     requires there { HasFieldIf store.old.sheet.contents line }
     ensures same { SameDisk store.old.disk store.new.disk }
+    ensures gathers { GathersOn store.old store.new }
+    ensures at_once { IsErrOf result LoseFault.Disk → store.old.gathers ≡ false }
     ensures ok { (ops : List Op) → store.old.sheet.contents ≡ sheet_of ops
         → OnOk result (CommittedIf store.old ops
         (kept_for store.old.disk.room store.old.end reason line) store.new) }
@@ -121,6 +125,8 @@ fn lose_at_end<D: Disk>(store: &mut Store<D>, ended: &Option<Ended>) -> Result<(
     requires open { store.old.closed ≡ false }
     requires there { LosesField store.old.sheet.contents ended.now }
     ensures same { SameDisk store.old.disk store.new.disk }
+    ensures gathers { GathersOn store.old store.new }
+    ensures at_once { IsErrOf result LoseFault.Disk → store.old.gathers ≡ false }
     ensures ok { (ops : List Op) → store.old.sheet.contents ≡ sheet_of ops
         → OnOk result (CommittedIf store.old ops
         (op_of_end store.old.disk.room store.old.end ended.now) store.new) }
@@ -151,6 +157,8 @@ pub(crate) fn keep<D: Disk>(
     requires allowed { AllowedIf store.old.sheet.contents (answer_op answered) }
     requires there { LosesField store.old.sheet.contents ended.now }
     ensures same { SameDisk store.old.disk store.new.disk }
+    ensures gathers { GathersOn store.old store.new }
+    ensures at_once { IsErrOf result HostFault.Disk → store.old.gathers ≡ false }
     ensures ok { (ops : List Op) → store.old.sheet.contents ≡ sheet_of ops
         → IfOk result (λ closed. (closed ≡ closed_told answered)
         × CommittedIf store.old ops

@@ -1,6 +1,7 @@
 //! The ends of lives.
-ghost use Rattle.std.specs.Prelude.{◌≡◌, false, List, IfOk, IfErr, OnOk};
+ghost use Rattle.std.specs.Prelude.{◌≡◌, false, List, IfOk, IfErr, IsErrOf, OnOk};
 ghost use Rattle.disk_model.specs.Disk.{SameDisk};
+ghost use Rattle.recovery.specs.Sheets.{GathersOn};
 ghost use Rattle.meta_format.specs.Stream.{Outer};
 ghost use Rattle.plugin_core.specs.Past.{Event as LifeEvent};
 ghost use Rattle.plugin_core.specs.Kept.{LifeHasPast};
@@ -28,6 +29,8 @@ impl<D: Disk> Engine<D> {
     pub(crate) fn lose(&mut self, name: Name, reason: Reason) -> Result<(), LoseFault>
         requires { Works self.old }
         ensures same { SameDisk self.old.store.disk self.new.store.disk }
+        ensures gathers { GathersOn self.old.store self.new.store }
+        ensures at_once { IsErrOf result LoseFault.Disk → self.old.store.gathers ≡ false }
         ensures lives { self.new.lives.items ≡ self.old.lives.items }
         ensures begun { self.new.begun ≡ self.old.begun }
         ensures ok { (w : World) → StandsAt self.old w
@@ -49,6 +52,8 @@ impl<D: Disk> Engine<D> {
     ) -> Result<Outcome, HostFault>
         requires { Works self.old }
         ensures same { SameDisk self.old.store.disk self.new.store.disk }
+        ensures gathers { GathersOn self.old.store self.new.store }
+        ensures at_once { IsErrOf result HostFault.Disk → self.old.store.gathers ≡ false }
         ensures took { (w : World) (e : ChildEvent) → StandsAt self.old w
             → end_by e ≡ Some (reason, killed)
             → IfOk result (TookAt w (event_of.Child name number e) self.old self.new) }

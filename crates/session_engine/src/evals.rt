@@ -1,8 +1,8 @@
 //! Evaluations.
-ghost use Rattle.std.specs.Prelude.{◌≡◌, ◌∷◌, [], false, true, Some, None, IfOk, IfErr, OnOk, OnErr, List, ℕ, ◌<◌, vec_len, vec_capacity};
+ghost use Rattle.std.specs.Prelude.{◌≡◌, ◌∷◌, [], false, true, Some, None, IfOk, IfErr, IsErrOf, OnOk, OnErr, List, ℕ, ◌<◌, vec_len, vec_capacity};
 ghost use Rattle.disk_model.specs.Disk.{InModel, LeavesOnly, Rises, SameDisk};
 ghost use Rattle.worksheet.specs.declared.op.Op.TheVariants as op;
-ghost use Rattle.recovery.specs.Sheets.{IsEither, IsReady, SameStore};
+ghost use Rattle.recovery.specs.Sheets.{GathersOn, IsEither, IsReady, SameStore};
 ghost use Rattle.plugin_core.specs.Items.{IsAskable};
 ghost use Rattle.plugin_core.specs.declared.item.Item.TheVariants as item_of;
 ghost use Rattle.session_engine.specs.inside.Tables.{Asked, CanGoBack, GoesOnAt};
@@ -199,6 +199,8 @@ impl<D: Disk> Engine<D> {
     pub(crate) fn eval(&mut self, id: u32) -> Result<Outcome, HostFault>
         requires { Works self.old }
         ensures same { SameDisk self.old.store.disk self.new.store.disk }
+        ensures gathers { GathersOn self.old.store self.new.store }
+        ensures at_once { IsErrOf result HostFault.Disk → self.old.store.gathers ≡ false }
         ensures took { (w : World) → StandsAt self.old w
             → IfOk result (TookAt w (event_of.Command (command_of.Eval id)) self.old self.new) }
         ensures failed { (w : World) → StandsAt self.old w
@@ -232,6 +234,8 @@ impl<D: Disk> Engine<D> {
         requires ready { IsReady self.old.store (op.Clear id) frame }
         requires askable { IsAskable line }
         ensures same { SameDisk self.old.store.disk self.new.store.disk }
+        ensures gathers { GathersOn self.old.store self.new.store }
+        ensures at_once { IsErrOf result HostFault.Disk → self.old.store.gathers ≡ false }
         ensures ok { (w : World) → StandsAt self.old w
             → lives_are_spent w.begun (life_of w name) ≡ false → HasField (sheet_in w) line
             → IfOk result (Evaluated w name id line self.old self.new) }

@@ -1,5 +1,5 @@
 //! The host.
-ghost use Rattle.std.specs.Prelude.{◌≡◌, ◌↔◌, List, true, false, IfOk, IfErr, OnErr, IsErrOf, MatchResult, length, option_map};
+ghost use Rattle.std.specs.Prelude.{◌≡◌, ◌↔◌, List, [], true, false, IfOk, IfErr, OnErr, IsErrOf, MatchResult, length, option_map};
 ghost use Rattle.std.specs.Option.{option_copied};
 ghost use Rattle.disk_model.specs.Disk.{InModel, LeavesOnly, Looks, Rises, SameDisk, bytes_on};
 ghost use Rattle.worksheet.specs.declared.op.Op.{Op};
@@ -12,12 +12,10 @@ ghost use Rattle.session_engine.specs.World.{World, in_flight, life_of, world_at
 ghost use Rattle.session_engine.specs.Host.{EndsAt, HostGivesSheet, IsHost, Took, disk_of_opening, number_in};
 ghost use Rattle.session_engine.specs.Faults.{Failed};
 
-use crate::engine::Engine;
-use crate::table::{place_of, waits};
+use crate::buffered::BufferedHost;
 use disk_model::Disk;
 use host_events::{Command, Event, HostFault, Outcome};
 use journal::{OpenCause, OpenFault};
-use recovery::Store;
 use std::alloc::Global;
 use std::marker::Model;
 use worksheet::{Name, Sheet};
@@ -33,8 +31,8 @@ use worksheet::{Name, Sheet};
 /// and its disk is to be opened again.
 #[derive(Drop)]
 pub struct Host<D: Disk> {
-    pub(crate) engine: Engine<D>,
-    pub(crate) closed: bool,
+    // Between two calls it gathers no records.
+    pub(crate) inner: BufferedHost<D>,
 }
 
 impl<D: Disk> Model for Host<D> {
@@ -47,11 +45,10 @@ impl<D: Disk> Model for Host<D> {
     ghost coded = { Prim.hlevel (codes, coded_store) };
 
     ghost use Rattle.std.specs.Prelude.{◌≡◌, false};
-    ghost use Rattle.session_engine.specs.inside.Engines.{view_of, Works};
 
-    ghost view = { λ h. view_of h.engine h.closed };
+    ghost view = { λ h. h.inner };
 
-    ghost invariant = { λ h. h.closed ≡ false → Works h.engine };
+    ghost invariant = { λ h. h.inner.store.gathers ≡ false };
 }
 
 impl<D: Disk> Host<D> {
@@ -92,21 +89,10 @@ impl<D: Disk> Host<D> {
         ensures looks { InModel (D.view disk)
             (Looks (D.view disk).history (disk_of_opening D.view result).history) }
     {
-        let store = match Store::open(alloc, disk) {
-            Ok(store) => store,
-            Err(fault) => return Err(fault),
-        };
-        // Its clause says that the worksheet is one that ops make.
-        let _sheet = store.sheet();
-        Ok(Host {
-            engine: Engine {
-                alloc,
-                store,
-                lives: Vec::new(alloc),
-                begun: 0,
-            },
-            closed: false,
-        })
+        match BufferedHost::open(alloc, disk) {
+            Ok(inner) => Ok(Host { inner }),
+            Err(fault) => Err(fault),
+        }
     }
 
     /// Takes one event. What it does is described in docs/HOST.md, "What an event does", and which
@@ -124,14 +110,7 @@ impl<D: Disk> Host<D> {
         ensures closes { OnErr result (self.new.closed ≡ true) }
         ensures still { self.old.closed ≡ true → self.new ≡ self.old }
     {
-        if self.closed {
-            return Err(HostFault::Closed);
-        }
-        let outcome = self.engine.take(event);
-        if outcome.is_err() {
-            self.closed = true;
-        }
-        outcome
+        self.inner.step(event)
     }
 
     /// Rewrites the journal into the area that isn't active, with the ops that make the same worksheet
@@ -168,8 +147,11 @@ impl<D: Disk> Host<D> {
 
         // A host that isn't closed stands for some world.
         ensures works { self.now.closed ≡ false → (w : World) × IsHost self.now w }
+
+        // Nothing is owed to its disk: what is said of that is said of the disk as it stands.
+        ensures written { (self.now.store.owed ≡ []) × (self.now.store.real ≡ self.now.store.disk) }
     {
-        self.engine.store.sheet()
+        self.inner.sheet()
     }
 
     /// The life of a session, where one goes on. After a fault its number is that from before the event,
@@ -180,16 +162,7 @@ impl<D: Disk> Host<D> {
             → result ≡ option_map
             (λ l. record { number = l.number; waiting = length (waiting_in l) }) (life_of w name) }
     {
-        match place_of(&self.engine.lives, name) {
-            Some(place) => {
-                let running = &self.engine.lives[place];
-                Some(LifeView {
-                    number: running.life.number(),
-                    waiting: running.life.waiting(),
-                })
-            }
-            None => None,
-        }
+        self.inner.life(name)
     }
 
     /// Whether the line of the field with this number waits for an answer, be it sent or not. After a
@@ -197,7 +170,7 @@ impl<D: Disk> Host<D> {
     pub fn is_waiting(&self, id: u32) -> bool
         ensures { (w : World) → IsHost self.now w → result ≡ in_flight w id }
     {
-        waits(&self.engine.lives, id)
+        self.inner.is_waiting(id)
     }
 
     /// The prompt that a line of this session would have if it were asked now, where a life of it goes
@@ -207,21 +180,24 @@ impl<D: Disk> Host<D> {
         ensures prompt { (w : World) → IsHost self.now w
             → option_copied result ≡ option_map (λ l. prompt_of l.past l.blocks) (life_of w name) }
     {
-        match place_of(&self.engine.lives, name) {
-            Some(place) => {
-                let running = &self.engine.lives[place];
-                Some(running.life.prompt())
-            }
-            None => None,
-        }
+        self.inner.prompt(name)
+    }
+
+    /// The same host, as one that may hold records back.
+    pub fn buffered(self) -> BufferedHost<D>
+        ensures host { result ≡ self }
+        ensures written { result.store.gathers ≡ false }
+    {
+        let Host { inner: host } = self;
+        host
     }
 
     /// Gives the disk back as it stands. Lives that go on are dropped.
     pub fn close(self) -> D
         ensures { D.view result ≡ self.store.disk }
     {
-        let Host { engine, closed: _ } = self;
-        engine.store.into_disk()
+        let Host { inner } = self;
+        inner.close()
     }
 }
 

@@ -2,6 +2,7 @@
 //! what is to be done with the interpreters.
 #![tactic(auto)]
 
+mod buffered;
 mod changes;
 mod checkpoints;
 mod commits;
@@ -15,5 +16,6 @@ mod play;
 mod table;
 mod take;
 
+pub use buffered::BufferedHost;
 pub use host::{Host, LifeView};
-pub use play::PlayFault;
+pub use play::{GroupFault, PlayFault};

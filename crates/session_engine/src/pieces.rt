@@ -1,6 +1,7 @@
 //! Pieces of an interpreter's output.
-ghost use Rattle.std.specs.Prelude.{◌≡◌, IfOk, IfErr, List, ℕ, Option};
+ghost use Rattle.std.specs.Prelude.{◌≡◌, false, IfOk, IfErr, IsErrOf, List, ℕ, Option};
 ghost use Rattle.disk_model.specs.Disk.{SameDisk};
+ghost use Rattle.recovery.specs.Sheets.{GathersOn};
 ghost use Rattle.session_engine.specs.Does.{told_with};
 
 use crate::commits::keep;
@@ -27,6 +28,8 @@ impl<D: Disk> Engine<D> {
     ) -> Result<Outcome, HostFault>
         requires { Works self.old }
         ensures same { SameDisk self.old.store.disk self.new.store.disk }
+        ensures gathers { GathersOn self.old.store self.new.store }
+        ensures at_once { IsErrOf result HostFault.Disk → self.old.store.gathers ≡ false }
         ensures took { (w : World) → StandsAt self.old w
             → IfOk result
             (TookAt w (event.Child name number (child.Piece piece.now)) self.old self.new) }

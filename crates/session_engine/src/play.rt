@@ -1,13 +1,18 @@
 //! Events in order.
-ghost use Rattle.std.specs.Prelude.{◌≡◌, ◌≤◌, ◌<◌, ◌+◌, ◌++◌, ◌∷◌, [], true, List, IfOk, IfErr, vec_len, vec_capacity};
+ghost use Rattle.std.specs.Prelude.{◌≡◌, ◌≤◌, ◌<◌, ◌+◌, ◌++◌, ◌∷◌, [], false, true, List, IfOk, IfErr, vec_len, vec_capacity};
+ghost use Rattle.std.specs.List.{list_any};
 ghost use Rattle.disk_model.specs.Disk.{SameDisk};
 ghost use Rattle.session_engine.specs.World.{World};
 ghost use Rattle.session_engine.specs.Host.{IsHost};
 ghost use Rattle.session_engine.specs.Crash.{Halts, HasPlayed, Moments, PlaysClosed, TookEach};
+ghost use Rattle.recovery.specs.Sheets.{GathersOn};
+ghost use Rattle.session_engine.specs.Gathers.{NoCheckpoints, OnlyAtOnce, is_checkpoint};
+ghost use Rattle.session_engine.specs.Groups.{HaltsGroup, PlaysGroupClosed, TookGroup};
 
-use crate::Host;
+use crate::{BufferedHost, Host};
 use disk_model::Disk;
-use host_events::{Event, HostFault, Outcome};
+use host_events::{Command, Event, HostFault, Outcome};
+use journal::Group;
 
 /// Why not all events were taken.
 #[derive(Drop)]
@@ -19,6 +24,23 @@ pub enum PlayFault {
         outcomes: Vec<Outcome>,
         fault: HostFault,
     },
+}
+
+/// Why not all events of a group were taken, or none is reported.
+#[derive(Drop)]
+pub enum GroupFault {
+    /// One of the events is a checkpoint. None was taken, and here they are.
+    Checkpoint(Vec<Event>),
+    /// There is no memory for the outcomes. No event was taken, and here they are.
+    NoRoom(Vec<Event>),
+    /// A fault that isn't the disk's, after these outcomes of the first events, which are durable. The
+    /// events after the fault are dropped.
+    Stopped {
+        outcomes: Vec<Outcome>,
+        fault: HostFault,
+    },
+    /// The disk failed: of none of the events anything may be reported.
+    Disk,
 }
 
 impl<D: Disk> Host<D> {
@@ -43,6 +65,50 @@ impl<D: Disk> Host<D> {
         ensures closed { self.old.closed ≡ true → PlaysClosed events.items result }
         ensures still { self.old.closed ≡ true → self.new ≡ self.old }
     {
+        self.inner.play(events)
+    }
+
+    /// Takes events in order as `play` does, none of which may be a checkpoint, and makes all that they give
+    /// durable at once: one gate commits it, by the calls of one record.
+    ///
+    /// At every moment each image of the disk is one of the worksheet before the call, or of the one after all
+    /// events that were taken.
+    pub fn play_group(&mut self, events: Vec<Event>) -> Result<Vec<Outcome>, GroupFault>
+        ensures same { SameDisk self.old.store.real self.new.store.real }
+        ensures took { (w : World) → IsHost self.old w
+            → IfOk result (λ outcomes. TookGroup w events.items outcomes.items self.old self.new) }
+        ensures halts { (w : World) → IsHost self.old w
+            → IfErr result (HaltsGroup w events.items self.old self.new) }
+        ensures closed { self.old.closed ≡ true → PlaysGroupClosed result }
+        ensures still { self.old.closed ≡ true → self.new ≡ self.old }
+    {
+        self.inner.play_group(events)
+    }
+}
+
+impl<D: Disk> BufferedHost<D> {
+    /// Takes events in order, each as a `step` takes it, up to the first fault.
+    pub fn play(&mut self, events: Vec<Event>) -> Result<Vec<Outcome>, PlayFault>
+        ensures same { SameDisk self.old.store.disk self.new.store.disk }
+        ensures played { (w : World) → IsHost self.old w
+            → IfOk result (λ outcomes. HasPlayed w events.items [] outcomes.items self.new) }
+        ensures each { (w : World) → IsHost self.old w
+            → IfOk result (λ outcomes. (v : World)
+            × TookEach w events.items self.old outcomes.items v self.new) }
+        ensures moments { (w : World) → IsHost self.old w
+            → IfOk result
+            (λ outcomes. Moments w events.items outcomes.items self.old.store.disk self.new.store.disk) }
+        ensures halts { (w : World) → IsHost self.old w
+            → IfErr result (Halts w events.items self.old self.new) }
+        ensures closed { self.old.closed ≡ true → PlaysClosed events.items result }
+        ensures still { self.old.closed ≡ true → self.new ≡ self.old }
+
+        // While records are owed, events of which none is a checkpoint leave the disk as it stands alone, and
+        // the disk can't fail.
+        ensures gathers { NoCheckpoints events.items → GathersOn self.old.store self.new.store }
+        ensures at_once { NoCheckpoints events.items → IfErr result (OnlyAtOnce self.old.store) }
+        ensures written { self.old.store.gathers ≡ false → self.new.store.gathers ≡ false }
+    {
         let mut outcomes = Vec::new(self.engine.alloc);
         if outcomes.reserve_exact(events.len()).is_err() {
             return Err(PlayFault::NoRoom(events));
@@ -55,6 +121,76 @@ impl<D: Disk> Host<D> {
         }
         Ok(outcomes)
     }
+
+    /// Takes events in order, none of which may be a checkpoint, and makes all that they give durable at once,
+    /// with what was owed before: one gate commits it. From then on records are written at once.
+    pub fn play_group(&mut self, events: Vec<Event>) -> Result<Vec<Outcome>, GroupFault>
+        ensures same { SameDisk self.old.store.real self.new.store.real }
+        ensures took { (w : World) → IsHost self.old w
+            → IfOk result (λ outcomes. TookGroup w events.items outcomes.items self.old self.new) }
+        ensures halts { (w : World) → IsHost self.old w
+            → IfErr result (HaltsGroup w events.items self.old self.new) }
+        ensures closed { self.old.closed ≡ true → PlaysGroupClosed result }
+        ensures still { self.old.closed ≡ true → self.new ≡ self.old }
+        ensures written { self.old.store.gathers ≡ false → self.new.store.gathers ≡ false }
+    {
+        if self.closed {
+            return Err(GroupFault::Stopped {
+                outcomes: Vec::new(self.engine.alloc),
+                fault: HostFault::Closed,
+            });
+        }
+        if has_checkpoint(&events) {
+            return Err(GroupFault::Checkpoint(events));
+        }
+        // Its clause says that the store isn't closed.
+        let _sheet = self.sheet();
+        match Group::new(self.engine.alloc) {
+            Ok(group) => self.play_owed(group, events),
+            Err(_) => Err(GroupFault::NoRoom(events)),
+        }
+    }
+
+    // Takes events, in this group, and flushes it.
+    fn play_owed(&mut self, group: Group, events: Vec<Event>) -> Result<Vec<Outcome>, GroupFault>
+        requires group { group.payloads ≡ [] }
+        requires none { NoCheckpoints events.items }
+        requires open { self.old.store.closed ≡ false }
+        ensures same { SameDisk self.old.store.real self.new.store.real }
+        ensures took { (w : World) → IsHost self.old w
+            → IfOk result (λ outcomes. TookGroup w events.items outcomes.items self.old self.new) }
+        ensures halts { (w : World) → IsHost self.old w
+            → IfErr result (HaltsGroup w events.items self.old self.new) }
+        ensures written { self.new.store.gathers ≡ false }
+    {
+        self.gather(group);
+        match self.play(events) {
+            Ok(outcomes) => match self.flush() {
+                Ok(()) => Ok(outcomes),
+                Err(_) => Err(GroupFault::Disk),
+            },
+            Err(PlayFault::NoRoom(events)) => match self.flush() {
+                Ok(()) => Err(GroupFault::NoRoom(events)),
+                Err(_) => Err(GroupFault::Disk),
+            },
+            Err(PlayFault::Stopped { outcomes, fault }) => match self.flush() {
+                Ok(()) => Err(GroupFault::Stopped { outcomes, fault }),
+                Err(_) => Err(GroupFault::Disk),
+            },
+        }
+    }
+}
+
+fn asks_for_checkpoint(event: &Event) -> bool
+    ensures { result ≡ is_checkpoint event.now }
+{
+    matches!(event, Event::Command(Command::Checkpoint))
+}
+
+fn has_checkpoint(events: &[Event]) -> bool
+    ensures { result ≡ list_any is_checkpoint events.now }
+{
+    events.iter().any(asks_for_checkpoint)
 }
 
 fn add(outcomes: &mut Vec<Outcome>, outcome: Outcome)

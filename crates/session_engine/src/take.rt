@@ -1,6 +1,8 @@
 //! Each kind of event.
-ghost use Rattle.std.specs.Prelude.{◌≡◌, IfOk, IfErr};
+ghost use Rattle.std.specs.Prelude.{◌≡◌, false, IfOk, IfErr, IsErrOf};
 ghost use Rattle.disk_model.specs.Disk.{SameDisk};
+ghost use Rattle.recovery.specs.Sheets.{GathersOn};
+ghost use Rattle.session_engine.specs.Gathers.{GathersUnlessCheckpoint, is_checkpoint};
 
 use crate::commits::LoseFault;
 use crate::ends::ended;
@@ -23,6 +25,10 @@ impl<D: Disk> Engine<D> {
     pub(crate) fn take(&mut self, event: Event) -> Result<Outcome, HostFault>
         requires { Works self.old }
         ensures same { SameDisk self.old.store.disk self.new.store.disk }
+        ensures gathers { GathersUnlessCheckpoint event self.old.store self.new.store }
+        ensures at_once { IsErrOf result HostFault.Disk → is_checkpoint event ≡ false
+            → self.old.store.gathers ≡ false }
+        ensures written { self.old.store.gathers ≡ false → self.new.store.gathers ≡ false }
         ensures took { (w : World) → StandsAt self.old w
             → IfOk result (TookAt w event self.old self.new) }
         ensures failed { (w : World) → StandsAt self.old w
@@ -37,6 +43,10 @@ impl<D: Disk> Engine<D> {
     fn command(&mut self, command: Command) -> Result<Outcome, HostFault>
         requires { Works self.old }
         ensures same { SameDisk self.old.store.disk self.new.store.disk }
+        ensures gathers { GathersUnlessCheckpoint (event_of.Command command) self.old.store self.new.store }
+        ensures at_once { IsErrOf result HostFault.Disk → is_checkpoint (event_of.Command command) ≡ false
+            → self.old.store.gathers ≡ false }
+        ensures written { self.old.store.gathers ≡ false → self.new.store.gathers ≡ false }
         ensures took { (w : World) → StandsAt self.old w
             → IfOk result (TookAt w (event_of.Command command) self.old self.new) }
         ensures failed { (w : World) → StandsAt self.old w
@@ -58,6 +68,8 @@ impl<D: Disk> Engine<D> {
     fn stop(&mut self, name: Octets) -> Result<Outcome, HostFault>
         requires { Works self.old }
         ensures same { SameDisk self.old.store.disk self.new.store.disk }
+        ensures gathers { GathersOn self.old.store self.new.store }
+        ensures at_once { IsErrOf result HostFault.Disk → self.old.store.gathers ≡ false }
         ensures took { (w : World) → StandsAt self.old w
             → IfOk result (TookAt w (event_of.Command (command_of.Stop name)) self.old self.new) }
         ensures failed { (w : World) → StandsAt self.old w
@@ -83,6 +95,8 @@ impl<D: Disk> Engine<D> {
     fn child(&mut self, name: Name, life: u32, event: ChildEvent) -> Result<Outcome, HostFault>
         requires { Works self.old }
         ensures same { SameDisk self.old.store.disk self.new.store.disk }
+        ensures gathers { GathersOn self.old.store self.new.store }
+        ensures at_once { IsErrOf result HostFault.Disk → self.old.store.gathers ≡ false }
         ensures took { (w : World) → StandsAt self.old w
             → IfOk result (TookAt w (event_of.Child name life event) self.old self.new) }
         ensures failed { (w : World) → StandsAt self.old w

@@ -1,11 +1,13 @@
-use Rattle.std.proofs.Common.{◌≡◌, ◌≤◌, ◌+◌, [], length, true, vec_len, vec_capacity}
+use Rattle.std.proofs.Common.{◌≡◌, ◌≤◌, ◌+◌, [], length, false, true, vec_len, vec_capacity}
 use Rattle.std.specs.Vec.Iter.{into_iter_items, into_iter_len}
 use Rattle.disk_model.specs.Disk.{SameDisk}
 use Rattle.session_engine.specs.World.{World}
 use Rattle.session_engine.specs.Host.{IsHost}
 use Rattle.session_engine.specs.Crash.{Moments}
+use Rattle.session_engine.specs.Gathers.{NoCheckpoints}
+use Rattle.recovery.specs.Sheets.{GathersOn}
 use Rattle.session_engine.proofs.Playing.{PlayedEach}
-use Rattle.session_engine.proofs.host.Host.play.Given as goal
+use Rattle.session_engine.proofs.buffered.BufferedHost.play.Given as goal
 
 abbrev pub invariant-loop-event : goal.invariant-loop-event
 invariant-loop-event g l = record {
@@ -16,5 +18,7 @@ invariant-loop-event g l = record {
   moments : (w : World) → IsHost l.fn.self w → Moments w l.fn.events.items l.outcomes.items l.fn.self.store.disk l.self.store.disk;
   -- a closed host takes no event
   still : l.fn.self.closed ≡ true → l.self ≡ l.fn.self;
+  gathers : NoCheckpoints l.fn.events.items → GathersOn l.fn.self.store l.self.store × NoCheckpoints (into_iter_items l.event-iterator);
+  written : l.fn.self.store.gathers ≡ false → l.self.store.gathers ≡ false;
   none : l.fn.self.closed ≡ true → (into_iter_items l.event-iterator ≡ l.fn.events.items) × (l.outcomes.items ≡ []);
 }

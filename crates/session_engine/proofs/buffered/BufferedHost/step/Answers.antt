@@ -3,7 +3,7 @@ use Rattle.std.proofs.lemmas.Result.{IfErr-weaker}
 use Rattle.session_engine.specs.Host.{HostView, EngineStandsFor}
 use Rattle.session_engine.specs.Faults.{CauseOf, Failed}
 use Rattle.session_engine.specs.inside.Engines.{FailedAt, view_of}
-use Rattle.session_engine.proofs.host.Host.step.Goals as goal
+use Rattle.session_engine.proofs.buffered.BufferedHost.step.Goals as goal
 
 pub returns-then-is_err-clause-failed : goal.returns-then-is_err-clause-failed
 returns-then-is_err-clause-failed g c = λ w h.

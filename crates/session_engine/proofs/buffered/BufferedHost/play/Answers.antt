@@ -6,8 +6,10 @@ use Rattle.host_events.specs.declared.outcome.Outcome.{Outcome}
 use Rattle.session_engine.specs.Host.{Took}
 use Rattle.session_engine.specs.Faults.{Failed}
 use Rattle.session_engine.specs.Crash.{Moments}
+use Rattle.session_engine.specs.Gathers.{NoCheckpoints}
+use Rattle.session_engine.proofs.Gathering.{gathers_on, gathers_self}
 use Rattle.session_engine.proofs.Playing.{PlayedEach, nothing_each, nothing_left, one_more_each, moments_on, moments_failed, same_on, same_self}
-use Rattle.session_engine.proofs.host.Host.play.Goals as goal
+use Rattle.session_engine.proofs.buffered.BufferedHost.play.Goals as goal
 
 pub loop-event-init : goal.loop-event-init
 loop-event-init g c = record {
@@ -19,6 +21,8 @@ loop-event-init g c = record {
   moments = λ w h. subst (λ (os : List Outcome). Moments w c.args.events.items os c.args.self.now.store.disk c.args.self.now.store.disk) (sym (c.reserve_exact.ensures.items ∙ c.new-outcomes.ensures.items))
       (nothing_left w c.args.events.items c.args.events.items [] c.args.self.now (nothing_each w c.args.events.items c.args.self.now h).0);
   still = λ closed. refl;
+  written = λ at_once. at_once;
+  gathers = λ none. (gathers_self c.args.self.now.store, subst NoCheckpoints (sym c.into_iter-event-iterator.ensures.into_iter_gives.0) none);
   none = search rules;
 }
 
@@ -50,6 +54,11 @@ loop-event-preserved g c =
           subst (λ (l : List Outcome). Moments w events l first.store.disk c.step.new.self.store.disk) (sym c.add.ensures.items)
           (moments_on w events rest e os at.self p.0 first.store.disk c.step.new.self o inv.same (inv.moments w h) took);
       still = search rules;
+      written = λ at_once. c.step.ensures.written (inv.written at_once);
+      gathers = λ none.
+          let was = inv.gathers none in
+          let here = subst NoCheckpoints steps was.1 in
+          (gathers_on first.store at.self.store c.step.new.self.store was.0 (c.step.ensures.gathers here.0), here.1);
       none = search rules;
     }
 
@@ -76,3 +85,13 @@ returns-in-Err-clause-halts g c = λ w h.
       closed = c.in-Err.ensures.closes;
       moments = moments_failed w events rest e os at.self p.0 first.store.disk c.step.new.self c.in-Err.fault inv.same (inv.moments w h) failed;
     }
+
+pub returns-in-Err-clause-gathers : goal.returns-in-Err-clause-gathers
+returns-in-Err-clause-gathers g c = λ none.
+    let at = c.loop-event in
+    let was = at.invariant.gathers none in
+    let here = subst NoCheckpoints c.in-Some.ensures.steps.0 was.1 in
+    gathers_on c.args.self.now.store at.self.store c.step.new.self.store was.0 (c.step.ensures.gathers here.0)
+
+pub returns-in-Err-clause-written : goal.returns-in-Err-clause-written
+returns-in-Err-clause-written g c = λ at_once. c.step.ensures.written (c.loop-event.invariant.written at_once)

@@ -6,7 +6,7 @@ use Rattle.session_engine.specs.World.{Going, waiting_in}
 use Rattle.session_engine.specs.Host.{HostView, Lives}
 use Rattle.session_engine.specs.Host.{name_of, life_in, number_in}
 use Rattle.session_engine.proofs.Tables.{placed, none, found, not_found}
-use Rattle.session_engine.proofs.host.Host.life.Goals as goal
+use Rattle.session_engine.proofs.buffered.BufferedHost.life.Goals as goal
 
 same_view : (a b n k : ℕ) → a ≡ b → n ≡ k → (let x : LifeView = record { number = a; waiting = n } in x) ≡ record { number = b; waiting = k }
 same_view a b n k e f = rw (e, f) refl

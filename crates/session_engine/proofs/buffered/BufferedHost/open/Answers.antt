@@ -6,7 +6,7 @@ use Rattle.session_engine.specs.declared.table.Running.{Running}
 use Rattle.session_engine.specs.Host.{Lives}
 use Rattle.session_engine.specs.Limits.{most_lives}
 use Rattle.session_engine.specs.World.{world_at_opening}
-use Rattle.session_engine.proofs.host.Host.open.Goals as goal
+use Rattle.session_engine.proofs.buffered.BufferedHost.open.Goals as goal
 
 pub invariant_of-result : goal.invariant_of-result
 invariant_of-result g c = λ closed.

@@ -5,7 +5,7 @@ use Rattle.session_engine.specs.declared.table.Running.{Running}
 use Rattle.session_engine.specs.World.{Going}
 use Rattle.session_engine.specs.Host.{HostView, Lives, name_of, life_in}
 use Rattle.session_engine.proofs.Tables.{placed, none, found, not_found}
-use Rattle.session_engine.proofs.host.Host.prompt.Goals as goal
+use Rattle.session_engine.proofs.buffered.BufferedHost.prompt.Goals as goal
 
 pub returns-in-None : goal.returns-in-None
 returns-in-None g c = record {
