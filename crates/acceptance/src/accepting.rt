@@ -39,7 +39,8 @@ pub fn accept<D: Disk>(store: &mut Store<D>, id: u32, answer: Answer) -> Result<
     requires open { store.old.closed ≡ false }
     requires there { has_field store.old.sheet.contents id ≡ true }
     requires short { length answer.prompt ≤ longest_kept_prompt }
-    ensures { (ops more : List Op) → (disk : DiskView) → Stores ops more disk store.old
+    ensures written { store.old.gathers ≡ false → store.new.gathers ≡ false }
+    ensures puts { (ops more : List Op) → (disk : DiskView) → Stores ops more disk store.old
         → PutsOne ops more disk (answer_op id answer) store.new result }
 {
     worksheet::laws::allowed_goes_on();

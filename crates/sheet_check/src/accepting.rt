@@ -131,6 +131,7 @@ fn put<D: Disk>(store: &mut Store<D>, id: u32, answer: Option<Answer>) -> Result
     requires open { store.old.closed ≡ false }
     requires there { has_field store.old.sheet.contents id ≡ true }
     requires short { HasShortPrompt answer }
+    ensures written { store.old.gathers ≡ false → store.new.gathers ≡ false }
     ensures ok { (ops more : List Op) → (disk : DiskView) → Stores ops more disk store.old
         → OnOk result (Stores ops (more ++ answer_ops id answer) disk store.new) }
     ensures err { (ops more : List Op) → (disk : DiskView) → Stores ops more disk store.old
@@ -168,6 +169,7 @@ pub(crate) fn take<D: Disk, W: Write, P: Progress>(
     requires open { store.old.closed ≡ false }
     requires there { has_field store.old.sheet.contents id ≡ true }
     requires short { HasShortPrompt found.answer }
+    ensures written { store.old.gathers ≡ false → store.new.gathers ≡ false }
     ensures ok { (ops more : List Op) → (disk : DiskView) → Stores ops more disk store.old
         → IfOk result (λ verdict. (verdict ≡ found.verdict)
         × Stores ops (more ++ answer_ops id found.answer) disk store.new

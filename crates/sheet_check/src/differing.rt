@@ -56,6 +56,7 @@ fn accept_shown<D: Disk, S: Disk, C: Sources, W: Write, P: Progress>(
     requires stands { (w : World) × IsHost host.old w }
     requires open { store.old.closed ≡ false }
     requires there { has_field store.old.sheet.contents field.now.id ≡ true }
+    ensures written { store.old.gathers ≡ false → store.new.gathers ≡ false }
     ensures ok { (w : World) → IsHost host.old w → (ops more : List Op) → (disk : DiskView)
         → Stores ops more disk store.old → IfOk result (ShownTook (way C.after C.clock C.wakes request.now.limit)
         request.now.chosen field.now shown.now
@@ -99,6 +100,7 @@ fn accept_field<D: Disk, S: Disk, C: Sources, W: Write, P: Progress>(
     requires stands { (w : World) × IsHost host.old w }
     requires open { store.old.closed ≡ false }
     requires there { has_field store.old.sheet.contents field.now.id ≡ true }
+    ensures written { store.old.gathers ≡ false → store.new.gathers ≡ false }
     ensures ok { (w : World) → IsHost host.old w → (ops more : List Op) → (disk : DiskView)
         → Stores ops more disk store.old → IfOk result (FieldTook (way C.after C.clock C.wakes request.now.limit)
         request.now.chosen field.now
@@ -140,6 +142,7 @@ fn accept_fields<D: Disk, S: Disk, C: Sources, W: Write, P: Progress>(
     requires few { length sheet.now.contents.fields < 2 ^ 31 }
     requires stands { (w : World) × IsHost host.old w }
     requires goes_on { GoesOn sheet.now.contents store.old }
+    ensures written { store.old.gathers ≡ false → store.new.gathers ≡ false }
     ensures ok { (w : World) → IsHost host.old w → (ops : List Op) → (disk : DiskView)
         → Stores ops [] disk store.old → IfOk result (FieldsTook (way C.after C.clock C.wakes request.now.limit)
         request.now.chosen sheet.now.contents.fields
@@ -182,6 +185,7 @@ fn accept_and_stop<D: Disk, S: Disk, C: Sources, W: Write, P: Progress>(
     requires few { length sheet.now.contents.fields < 2 ^ 31 }
     requires stands { (w : World) × IsHost host.old w }
     requires goes_on { GoesOn sheet.now.contents store.old }
+    ensures written { store.old.gathers ≡ false → store.new.gathers ≡ false }
     ensures ok { (w : World) → IsHost host.old w → (ops : List Op) → (disk : DiskView)
         → Stores ops [] disk store.old → IfOk result (CopyTook (way C.after C.clock C.wakes request.now.limit)
         request.now.chosen sheet.now.contents
@@ -219,6 +223,7 @@ fn accepted_on_copy<S: Disk, C: Sources, W: Write, P: Progress>(
     requires made { (ops : List Op) × Makes ops sheet.now.contents }
     requires few { length sheet.now.contents.fields < 2 ^ 31 }
     requires goes_on { GoesOn sheet.now.contents store.old }
+    ensures written { store.old.gathers ≡ false → store.new.gathers ≡ false }
     ensures none { IfNone result ((sources.new ≡ sources.old) × (writer.new ≡ writer.old)
         × (progress.new ≡ progress.old) × (store.new ≡ store.old)) }
     ensures some { (ops : List Op) → (disk : DiskView) → Stores ops [] disk store.old
@@ -250,6 +255,7 @@ fn accepted_on_copies<S: Disk, C: Sources, W: Write, P: Progress>(
     requires made { (ops : List Op) × Makes ops store.old.sheet.contents }
     requires few { length store.old.sheet.contents.fields < 2 ^ 31 }
     requires goes_on { GoesOn store.old.sheet.contents store.old }
+    ensures written { store.old.gathers ≡ false → store.new.gathers ≡ false }
     ensures none { IfNone result ((sources.new ≡ sources.old) × (writer.new ≡ writer.old)
         × (progress.new ≡ progress.old) × (store.new ≡ store.old)) }
     ensures some { (ops : List Op) → (disk : DiskView) → Stores ops [] disk store.old
@@ -286,6 +292,7 @@ fn accept_sheet<S: Disk, C: Sources, W: Write, P: Progress>(
 ) -> Result<Counts, RunFault>
     requires made { (ops : List Op) × Makes ops store.old.sheet.contents }
     requires goes_on { GoesOn store.old.sheet.contents store.old }
+    ensures written { store.old.gathers ≡ false → store.new.gathers ≡ false }
     ensures accepted { (ops : List Op) → (disk : DiskView) → Stores ops [] disk store.old
         → SheetAccepts (way C.after C.clock C.wakes request.now.limit)
         request.now.chosen store.old.sheet.contents sources.old sources.new

@@ -18,6 +18,7 @@ loop-field-init g c =
       shown = none_shown format.Accepting g.P.Progress.shows c.args.all c.args.progress.now c.none-counts.result c.none-counts.ensures;
       rest = ([], sym c.fields-fields.ensures);
       stands = c.requires.stands;
+      written = λ at_once. at_once;
       goes = c.requires.goes_on;
       runs = λ w h ops disk stores. none_took (way g.C.Children.after g.C.Sources.clock g.C.Sources.wakes c.args.request.now.limit) c.args.request.now.chosen c.args.sheet.now.contents.fields _ w c.args.host.now c.args.sources.now (g.W.Write.contents c.args.writer.now) ops disk c.args.store.now c.none-counts.result c.fields-fields.ensures c.none-counts.ensures h stores;
     }
@@ -41,6 +42,7 @@ loop-field-preserved g c =
       shown = one_shown format.Accepting g.P.Progress.shows c.args.all c.args.progress.now c.loop-field.counts c.in-Ok.after c.loop-field.progress c.accept_field.new.progress was.shown c.in-Ok.ensures.shown;
       rest = (gone ++ c.in-Some.field.now ∷ [], was.rest.1 ∙ ap (λ (fs : List Field). gone ++ fs) c.in-Some.ensures.steps ∙ sym (append_assoc gone (c.in-Some.field.now ∷ []) c.next.new.self));
       stands = (took.0.1, took.0.3);
+      written = λ at_once. c.accept_field.ensures.written (was.written at_once);
       goes = goes_further c.args.sheet.now.contents c.loop-field.store c.accept_field.new.store was.goes took.0.0 took.1;
       runs = λ w h ops disk stores.
           let so = was.runs w h ops disk stores in
@@ -60,6 +62,9 @@ returns-in-Err-clause-err g c = λ w h ops disk stores.
     one_broke (way g.C.Children.after g.C.Sources.clock g.C.Sources.wakes c.args.request.now.limit) c.args.request.now.chosen c.args.sheet.now.contents.fields c.loop-field.fields c.in-Some.field.now c.next.new.self (at w c.args.sources.now c.args.host.now.store.disk) c.loop-field.host c.loop-field.sources
     (g.W.Write.contents c.args.writer.now) (g.W.Write.contents c.loop-field.writer) ops disk c.loop-field.store c.loop-field.counts c.accept_field.new.host c.accept_field.new.sources (g.W.Write.contents c.accept_field.new.writer)
     c.accept_field.new.store c.in-Some.ensures.steps so c.in-Err.fault (c.in-Err.ensures.err so.so.leads so.so.stands ops (accepted so.so.cases) disk so.kept)
+
+pub returns-in-Err-clause-written : goal.returns-in-Err-clause-written
+returns-in-Err-clause-written g c = λ at_once. c.accept_field.ensures.written (c.loop-field.invariant.written at_once)
 
 pub returns-in-Err-clause-left : goal.returns-in-Err-clause-left
 returns-in-Err-clause-left g c = (c.loop-field.counts, c.loop-field.progress, c.loop-field.invariant.shown, c.in-Err.ensures.left)

@@ -27,7 +27,7 @@ returns-in-Ok-clause-accepted g c =
     let nothing : Type 0 = (c.accept_sheet-answer.new.writer ≡ c.args.writer.now) × (c.accept_sheet-answer.new.sources ≡ c.args.sources.now) in
     opened c.in-Ok.store.sheet.contents e.made.0 c.in-Ok.store.disk (opened_on (g.D.Disk.view c.args.disk) c.in-Ok.store e.made.0 e.made.1 e.open e.same e.steady e.sheet e.looks)
     (subst (λ (back : DiskView). SheetAccepts (way g.C.Children.after g.C.Sources.clock g.C.Sources.wakes c.args.request.now.limit) c.args.request.now.chosen c.in-Ok.store.sheet.contents c.args.sources.now c.accept_sheet-answer.new.sources (g.W.Write.contents c.args.writer.now)
-    (g.W.Write.contents c.accept_sheet-answer.new.writer) nothing e.made.0 c.in-Ok.store.disk back c.accept_sheet-answer.result) (sym c.into_disk.ensures)
+    (g.W.Write.contents c.accept_sheet-answer.new.writer) nothing e.made.0 c.in-Ok.store.disk back c.accept_sheet-answer.result) (sym (c.into_disk.ensures.written (c.accept_sheet-answer.ensures.written e.written.1)))
     (c.accept_sheet-answer.ensures.accepted e.made.0 c.in-Ok.store.disk (opened_stores (g.D.Disk.view c.args.disk) c.in-Ok.store e.made.0 e.made.1 e.open e.same e.images)))
 
 pub returns-in-Ok-clause-failed : goal.returns-in-Ok-clause-failed
