@@ -3,6 +3,7 @@
 mod desk;
 mod events;
 mod failing;
+mod groups;
 mod hosts;
 mod lives;
 mod moments;

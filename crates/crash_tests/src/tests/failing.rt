@@ -114,8 +114,8 @@ fn comes(alloc: Global, story: Story, k: u64, mode: FuseMode) -> Came {
     }
 }
 
-// How many calls the opening of a new worksheet and so many events make.
-fn calls_of(alloc: Global, story: Story, count: u32) -> Option<u64> {
+/// How many calls the opening of a new worksheet and so many events make.
+pub fn calls_of(alloc: Global, story: Story, count: u32) -> Option<u64> {
     let before = calls_of_create(alloc)?;
     calls_behind(alloc, story, count)?.checked_sub(before)
 }

@@ -32,7 +32,8 @@ fn is_left(
     }
 }
 
-fn each_choice_leaves(
+/// Whether each choice of a crash at this moment leaves one of two worksheets.
+pub fn each_choice_leaves(
     alloc: Global,
     disk: &MemoryDisk,
     moment: u64,
@@ -47,8 +48,8 @@ fn each_choice_leaves(
     true
 }
 
-// Whether each crash from this moment to that one leaves one of two worksheets.
-fn moments_leave(
+/// Whether each crash from this moment to that one leaves one of two worksheets.
+pub fn moments_leave(
     alloc: Global,
     disk: &MemoryDisk,
     (first, last): (u64, u64),

@@ -1,7 +1,7 @@
 //! Which events hosts take, and what their worksheets have after each.
 use super::desk::{answer, child, created, line, open, piece};
 use disk_model::{Disk, MemoryDisk};
-use host_events::{ChildEvent, Closed, Event, HostFault, Reply};
+use host_events::{ChildEvent, Closed, Event, HostFault, Outcome, Reply};
 use session_engine::Host;
 use sheet_text::sheet_text;
 use std::alloc::Global;
@@ -254,6 +254,18 @@ pub fn tells(host: &mut Host<MemoryDisk>, event: Option<Event>, wanted: Told) ->
         Some(event) => give(host, event, wanted) == Step::Taken,
         None => false,
     }
+}
+
+/// Whether these outcomes are those of so many first events of a story.
+pub fn tells_each(story: Story, outcomes: &[Outcome], count: u32) -> bool {
+    let mut number = 0u32;
+    for outcome in outcomes {
+        if told_by(&outcome.reply) != story.told(number) {
+            return false;
+        }
+        number = number.saturating_add(1);
+    }
+    number == count
 }
 
 /// A host takes one event of a story.
