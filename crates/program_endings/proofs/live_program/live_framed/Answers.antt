@@ -14,7 +14,7 @@ returns-in-Ok-frame g c =
 pub returns-in-Err-frame : goal.returns-in-Err-frame
 returns-in-Err-frame g c =
     ends.unended c.in-Err-frame.fault c.frame.new.writer c.live_on.new.output refl c.in-Err-frame.ensures.err.0 c.in-Err-frame.ensures.err.1 (c.in_default.ensures.ok, c.in_default.ensures.still)
-    (subst (λ whole. LivesOn g.T.Tells.voice (closable g.D.Disk.view g.D.closed) g.S.Children.after g.S.Sources.clock g.S.Sources.wakes (g.R.Read.remaining c.args.input.now) c.args.disk c.args.sources.now c.live_on.new.sources
+    (subst (λ whole. LivesOn g.T.Tells.voice (closable g.D.Disk.view g.D.Close.closed) g.S.Children.after g.S.Sources.clock g.S.Sources.wakes (g.R.Read.remaining c.args.input.now) c.args.disk c.args.sources.now c.live_on.new.sources
     (g.W.Write.contents c.frame.new.writer) (g.W.Write.contents c.live_on.new.output) ((c.live_on.new.output ≡ c.frame.new.writer) × (c.live_on.new.sources ≡ c.args.sources.now)) (Ok whole))
     c.in-Ok.ensures.lived.0 c.in-Ok.ensures)
 
