@@ -4,9 +4,9 @@
 
 mod chosen;
 mod ids;
-mod json;
 mod junit;
 pub mod laws;
+mod objects;
 mod report;
 mod request;
 mod tap;

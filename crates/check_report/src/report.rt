@@ -9,8 +9,8 @@ ghost use Rattle.check_report.specs.Junit as junits;
 ghost use Rattle.check_report.specs.Json.{checked_told};
 ghost use Rattle.sheet_json.specs.Sheets.{telling_line};
 
-use crate::json::{case_in_memory, write_end, write_hello};
 use crate::junit::{write_case, write_head, write_tail};
+use crate::objects::{case_in_memory, write_end, write_hello};
 use crate::tap::{write_plan, write_point, write_version};
 use crate::verdict::{Counts, Verdict};
 use crate::words::{

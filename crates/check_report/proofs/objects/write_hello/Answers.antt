@@ -2,7 +2,7 @@ use Rattle.std.proofs.Common.{sym, subst}
 use Rattle.std.specs.Prelude.{List, ℕ, OnOk}
 use Rattle.std.specs.Io.KnownBytes.{Appends}
 use Rattle.check_report.proofs.JsonLines.{hello_is}
-use Rattle.check_report.proofs.json.write_hello.Goals as goal
+use Rattle.check_report.proofs.objects.write_hello.Goals as goal
 
 pub returns : goal.returns
 returns g c =

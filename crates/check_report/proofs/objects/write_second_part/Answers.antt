@@ -1,7 +1,7 @@
 use Rattle.std.proofs.Common.{◌++◌, codes}
 use Rattle.std.proofs.KnownBytes.{Appends-trans}
 use Rattle.std.specs.Fmt.{decimal}
-use Rattle.check_report.proofs.json.write_second_part.Goals as goal
+use Rattle.check_report.proofs.objects.write_second_part.Goals as goal
 
 pub returns : goal.returns
 returns g c =

@@ -4,7 +4,7 @@ use Rattle.std.specs.Prelude.{List, ℕ}
 use Rattle.std.specs.Io.KnownBytes.{Appends}
 use Rattle.check_report.specs.inside.Closing.{first_part, second_part}
 use Rattle.check_report.proofs.JsonLines.{closing_is}
-use Rattle.check_report.proofs.json.write_end.Goals as goal
+use Rattle.check_report.proofs.objects.write_end.Goals as goal
 
 pub returns : goal.returns
 returns g c =
