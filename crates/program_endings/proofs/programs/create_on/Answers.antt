@@ -8,8 +8,8 @@ use Rattle.program_endings.proofs.programs.create_on.Goals as goal
 one_cause : (cause why : CreateCause) → Some cause ≡ Some why → cause ≡ why
 one_cause cause why is = ap (λ (answer : CreateAnswer). unwrap_or answer cause) is
 
-pub returns : goal.returns
-returns g c =
+pub returns-in-Err : goal.returns-in-Err
+returns-in-Err g c =
     let cause = c.in-Err.cause in
     let made : Creates (g.D.Disk.view c.args.disk) (g.D.Disk.view c.in-Err.disk) (Some cause) = record {
       same = c.in-Err.ensures.same;
