@@ -10,7 +10,6 @@ use crate::ending::{answered, ended};
 use crate::telling::no_files;
 use crate::{Ending, create_fault_text, end_program};
 use child_calls::Children;
-use journal::CreateFault;
 use offline_programs::{RunFault, Shown, show};
 use sheet_files::{Close, FilesFault, MakeFault};
 use sheet_programs::{Ran, run};
@@ -35,9 +34,9 @@ fn create_on<D: Close, E: Write>(disk: D, errors: &mut E) -> Ending
             made.close();
             ended(0, true)
         }
-        Err(CreateFault { cause, disk }) => {
-            disk.close();
-            end_create(MakeFault::Create(cause), errors)
+        Err(fault) => {
+            fault.disk.close();
+            end_create(MakeFault::Create(fault.cause), errors)
         }
     }
 }
