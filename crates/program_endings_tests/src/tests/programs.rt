@@ -124,7 +124,7 @@ fn rescues_without_room(alloc: Global, status: u8, said: &[u8]) -> Option<bool> 
         return None;
     };
     let new: Result<MemoryDisk, MakeFault> = Ok(MemoryDisk::new(alloc, 40));
-    let ended = run_rescue(alloc, &found, new, &mut output, &mut errors);
+    let ended = run_rescue(alloc, found, new, &mut output, &mut errors);
     Some(ended == ending(status, true) && output.is_empty() && errors.as_slice() == said)
 }
 
@@ -142,7 +142,7 @@ fn rescues_to_a_broken_disk(alloc: Global, status: u8, said: &[u8]) -> Option<bo
         return None;
     };
     let broken = FuseDisk::new(MemoryDisk::new(alloc, 1_000), 1, FuseMode::From);
-    let ended = run_rescue(alloc, &found, Ok(broken), &mut output, &mut errors);
+    let ended = run_rescue(alloc, found, Ok(broken), &mut output, &mut errors);
     Some(ended == ending(status, true) && output.is_empty() && errors.as_slice() == said)
 }
 
