@@ -141,6 +141,10 @@ class Reading(unittest.TestCase):
     def test_groups(self) -> None:
         self.assertEqual(self.inputs("a\n\nb\n c\n\n d\ne"), ["a", "b| c|| d", "e"])
         self.assertEqual(self.inputs("if x:\n  y\nelse:\n  z\nf(\n  1,\n)\n@d\ndef f():\n  1"), ["if x:|  y|else:|  z", "f(|  1,|)", "@d|def f():|  1"])
+        self.assertEqual(self.inputs("f(n) =\n{\nn + 1\n\n}\nf(2)"), ["f(n) =|{|n + 1||}", "f(2)"])
+        self.assertEqual(self.inputs("a = [1,2;\n3,4]\nx = \\\n3\nx"), ["a = [1,2;|3,4]", "x = \\|3", "x"])
+        self.assertEqual(self.inputs("print('{', \"(\")\n1\n# see (a\nx = {\ny"), ["print('{', \"(\")", "1", "# see (a", "x = {", "y"])
+        self.assertEqual(self.inputs("x = (\n" + "y\n" * 2048 + ")"), ["x = (", *["y"] * 2047, "y|)"])
         self.assertEqual(self.inputs("a\n\nb", "{whole}"), ["a||b"])
         self.assertEqual(self.inputs("a\nb", "{pure}"), ["a|b"])
         self.assertEqual(self.inputs("\n  \n"), [])

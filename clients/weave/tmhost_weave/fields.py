@@ -1,7 +1,8 @@
 """The fields of a fence: its lines, in groups of those that go on from one another."""
 import dataclasses
+import itertools
 import re
-from typing import Iterator, List, Optional
+from typing import Dict, Iterator, List, Optional, Tuple
 
 LINE_END = "\u2028"  # stands in an input for the end of a line, since an input has none
 LONGEST_INPUT = 4095  # bytes
@@ -11,6 +12,9 @@ SURROGATE = re.compile(r"[\ud800-\udfff]")
 CLOSING = "elif|else|elseif|except|finally|end|endif|endfor|endwhile|endfunction|endswitch|end_try_catch|end_unwind_protect|do|done|then|fi|esac|od"
 GOES_ON = re.compile(rf"[ \t)\]}}]|(?:{CLOSING})\b")
 DECORATOR = re.compile(r"@\w")
+# What has no brackets that count: texts, and remarks.
+TEXT = re.compile(r"""\"(?:\\.|[^\"\\])*\"|'[^']*'|(?:\A|(?<=\s))#\s.*""")
+HOLDS = re.compile(r"[\\=]\s*\Z")  # at the end of a line
 
 
 @dataclasses.dataclass(frozen=True)
@@ -36,20 +40,54 @@ def group(at: int, lines: List[str]) -> Iterator[Group]:
         yield Group(at, LINE_END.join(lines))
 
 
+def opened(line: str) -> int:
+    """How many brackets a line leaves open; below 0 it closes some of others."""
+    left = TEXT.sub("", line)
+    return sum(left.count(it) for it in "([{") - sum(left.count(it) for it in ")]}")
+
+
+def closings(lines: List[str]) -> Dict[int, int]:
+    """The line that closes the brackets that a line leaves open, by that one, where there is such a line."""
+    closed: Dict[int, int] = {}
+    waiting: List[Tuple[int, int]] = []  # lines whose brackets are open, each with the depth before it
+    depth = 0
+    for at, line in enumerate(lines):
+        before, depth = depth, depth + opened(line)
+        while waiting and depth <= waiting[-1][1]:
+            closed[waiting.pop()[0]] = at
+        if depth > before:
+            waiting.append((at, before))
+    return closed
+
+
+def holds(lines: List[str]) -> Iterator[int]:
+    """Of each line the last one that it holds: that which closes its brackets, where a field can have all of them; the next one after a
+    backslash or an equals sign at its end; else itself."""
+    ends = list(itertools.accumulate((1 + len(line) for line in lines), initial=0))
+    closed = closings(lines)
+    for at, line in enumerate(lines):
+        last = closed.get(at, at)
+        if last > at and ends[last + 1] - ends[at] <= LONGEST_INPUT:
+            yield last
+        else:
+            yield at + 1 if HOLDS.search(line) else at
+
+
 def groups(lines: List[str]) -> Iterator[Group]:
-    """Each line with those that go on from it. Empty lines stand in a group only where it goes on behind them."""
+    """Each line with those that go on from it. Empty lines stand in a group only where it goes on after them."""
     taken: List[str] = []
     blanks: List[str] = []
-    begin = 0
-    for at, line in enumerate(lines):
+    begin, held = 0, -1
+    for at, (line, last) in enumerate(zip(lines, holds(lines))):
         if not line.strip(" \t"):
             blanks.append(line)
-        elif taken and (GOES_ON.match(line) or DECORATOR.match(taken[-1])):
+            continue
+        if taken and (at <= held or GOES_ON.match(line) or DECORATOR.match(taken[-1])):
             taken += [*blanks, line]
-            blanks = []
         else:
             yield from group(begin, taken)
-            taken, blanks, begin = [line], [], at
+            taken, begin = [line], at
+        blanks, held = [], max(held, last)
     yield from group(begin, taken)
 
 
