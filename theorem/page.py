@@ -60,10 +60,6 @@ REWORDED: dict[Key, tuple[str, str]] = {
         "as above, and",
         "the same room, the model kept or not as before, no failure forgotten; and",
     ),
-    ("sheet_files.DiskFile", "Loses"): (
-        "no sync is forgotten that failed, and one that did is on record",
-        "a sync that succeeds, or that has nothing to flush, doesn't change whether one failed; of another error nothing is claimed here",
-    ),
     ("plugin_core.AskPoints", "AnswersByAskPoints"): ("has them and", "has the answers by ask points and"),
     ("block_tree.Output", "output"): ("the output of a block:", "the output of a block: what it has but prompts and default inputs;"),
     ("block_tree.Shape", "is_tag_byte"): ("no control character", "none below 32"),

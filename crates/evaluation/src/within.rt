@@ -18,7 +18,7 @@ use offline_programs::RunFault;
 use session_engine::Host;
 use std::alloc::Global;
 
-/// A plan by which no field is asked.
+/// The plan of a wait alone: it is taken with no field to ask, so that its limit is all that counts.
 fn waiting_plan(seconds: u32) -> Plan
     ensures { result ≡ plan_of_wait seconds }
 {

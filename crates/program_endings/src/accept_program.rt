@@ -18,7 +18,8 @@ use sheet_files::{Close, FilesFault};
 use std::alloc::Global;
 use std::io::Write;
 
-/// Whether a check that accepts ends well: an answer came to each field, and there was one.
+/// Whether a check that accepts ends well: no field was left unanswered, and, where those of one session
+/// are asked for, any was checked.
 fn are_accepted(chosen: &Chosen, counts: Counts) -> bool
     ensures { result ≡ accepts_all chosen.now counts }
 {

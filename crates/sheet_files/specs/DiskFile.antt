@@ -74,7 +74,8 @@ pub record FileSynced {T E : Type 0} (result : Result T E) (old new : AreaState)
   pub images : (c : List ℕ) → FileImage new c → FileImage old c
   pub durable : MatchResult result (λ _. IsDurable new) (λ _. Unit {0})
 
--- no sync is forgotten that failed, and one that did is on record
+-- a sync that succeeds, or has nothing to flush, leaves on record whether one failed as it was; of
+-- another error nothing is said
 abbrev pub Loses : {T : Type 0} → Result T Error → FileView → FileView → Type 0
 Loses result old new = MatchResult result (λ _. new.lost ≡ old.lost)
     (λ error. tells_nothing_to_sync (error_kind error) ≡ true → new.lost ≡ old.lost)

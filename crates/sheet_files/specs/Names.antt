@@ -1,7 +1,9 @@
 -- What a place of files went through when a worksheet's two files were made or opened. The place is
 -- followed from each call to the next one, so nothing else was done there, and each answer is said.
-use Rattle.std.specs.Prelude.{◌⊎◌, ℕ, List, Bool, false, Option, Some, None, Result, Ok, Err}
+use Rattle.std.specs.Prelude.{◌≡◌, ◌⊎◌, ℕ, List, Bool, false, Option, Some, None, Result, Ok, Err}
+use Rattle.std.specs.IoError.{error_kind}
 use Rattle.std.specs.declared.io.Error.{Error}
+use Rattle.std.specs.declared.io.ErrorKind.TheVariants.{NotFound}
 use Rattle.sheet_files.specs.declared.sheet_file.Lock.{Lock}
 use Rattle.sheet_files.specs.declared.sheet_file.Lock.TheVariants.{Shared, Exclusive}
 
@@ -31,16 +33,16 @@ FirstOpened {F} {N} opens locks is_single path lock first old new =
     × ((b : N) × locks a first lock (Ok false) b
     × is_single b first (Ok tt) new)
 
--- a second file was opened; or there was none, the first one doesn't say that the worksheet lies in
--- it, and one was made
+-- a second file was opened; or there was none, as the error of its opening said, the first one doesn't
+-- say that the worksheet lies in it, and one was made
 abbrev pub SecondOpened : {F N : Type 0} → (N → List ℕ → Lock → Result F Error → N → Type 0)
     → (N → F → Result Bool Error → N → Type 0) → (N → List ℕ → Result F Error → N → Type 0)
     → List ℕ → F → F → N → N → Type 0
 SecondOpened {F} {N} opens reads makes alt first second old new =
     opens old alt Exclusive (Ok second) new
-    ⊎ ((error : Error) × ((a : N) × opens old alt Exclusive (Err error) a
+    ⊎ ((error : Error) × (error_kind error ≡ NotFound × ((a : N) × opens old alt Exclusive (Err error) a
     × ((b : N) × reads a first (Ok false) b
-    × makes b alt (Ok second) new)))
+    × makes b alt (Ok second) new))))
 
 -- both files were opened to be written, they are two, and then the names of their folder were brought
 -- onto the disk
@@ -56,14 +58,15 @@ Opened {F} {N} opens locks is_single reads makes are_two syncs_folder path alt f
     × ((c : N) × are_two b first second (Ok tt) c
     × syncs_folder c path (Ok tt) new))
 
--- a second file that is only read was opened, and it is another file than the first; or none was
+-- a second file that is only read was opened, and it is another file than the first; or there was none,
+-- as the error of its opening said
 abbrev pub SecondRead : {F N : Type 0} → (N → List ℕ → Lock → Result F Error → N → Type 0)
     → (N → F → F → Result (Unit {0}) Error → N → Type 0)
     → List ℕ → F → Option F → N → N → Type 0
 SecondRead {F} {N} opens are_two alt first (Some second) old new =
     (a : N) × opens old alt Shared (Ok second) a × are_two a first second (Ok tt) new
 SecondRead {F} {N} opens are_two alt first None old new =
-    (error : Error) × opens old alt Shared (Err error) new
+    (error : Error) × (error_kind error ≡ NotFound × opens old alt Shared (Err error) new)
 
 -- the files were opened to be read alone: none was made, written or synced
 abbrev pub OpenedToRead : {F N : Type 0} → (N → List ℕ → Lock → Result F Error → N → Type 0)
