@@ -139,6 +139,22 @@ MAXIMA_LATEX: List[Case] = [
 ]
 
 # A line that takes longer than the seconds of its session ends by itself.
+# Values without their numbers, whose `%` and `%1` are gp's own.
+GP_NO_NUMBERS: List[Case] = [
+    ("1 + 1", "{latex:$2$}"),
+    ("% + 1", "{latex:$3$}"),
+    ("%1", "{latex:$2$}"),
+    ("[1, 2; 3, 4]", r"{latex:$\begin{pmatrix}1&2\\ 3&4\end{pmatrix}$}"),
+    ('"a b"', '"a b"'),
+    ('"%1 = 2"', '"%1 = 2"'),
+    ("f(x) = x^2", "(x)->x^2"),
+    ('print("a"); f(3)', "a\n{latex:$9$}"),
+    ("1/0", "  ***   at top-level: 1/0\n  ***                  ^--\n  *** _/_: impossible inverse in gdiv: 0."),
+    ("1 + 1\u20282 + 2", "{latex:$2$}\n{latex:$4$}"),
+    ("while (1, )", "..user interrupt", True),
+    ("f(4)", "{latex:$16$}"),
+]
+
 GP_SECONDS: List[Case] = [("y = 5", r"{latex:$\%1 = 5$}"), ("while (1, )", "..user interrupt"), ("y + 1", r"{latex:$\%2 = 6$}")]
 PYTHON_SECONDS: List[Case] = [("y = 5", ""), ("while True: pass", "..KeyboardInterrupt"), ("y + 1", "6")]
 
@@ -233,6 +249,7 @@ TRIALS = {
     "gp": Trial("gp", "gp", "quit", "while (1, )", GP),
     "gp_lines": Trial("gp", "gp", "\\q", "while (1, )", gp_lines.LINES),
     "gp_text": Trial("gp --text", "gp", "\\q", "while (1, )", GP_TEXT),
+    "gp_no_numbers": Trial("gp --no-numbers", "gp", "\\q", "while (1, )", GP_NO_NUMBERS),
     "gp_seconds": Trial("gp --seconds 5", "gp", "\\q", "while (1, )", GP_SECONDS),
     "python_seconds": Trial("python --seconds 5", "python3", "os._exit(0)", "while True: pass", [("import os", ""), *PYTHON_SECONDS]),
     "python": Trial("python", "python3", "os._exit(0)", "while True: pass", PYTHON + ten_lines("python")),

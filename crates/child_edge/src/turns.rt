@@ -21,6 +21,7 @@ use std::alloc::{AllocError, Global};
 /// one is received from. Between two steps the host is as after any call: the disk has what it returned.
 #[derive(Drop)]
 pub struct Waiting {
+    // How many turns are over, the lives of this one, and which of them comes next.
     pub(crate) whole: u32,
     pub(crate) seats: Vec<Seat>,
     pub(crate) place: usize,

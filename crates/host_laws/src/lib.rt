@@ -17,7 +17,7 @@ pub fn sessions_are_independent()
     plugin_core::streams_read_one_way();
 }
 
-/// So they lead to worksheets that differ in answers of other sessions' fields alone.
+/// So they lead to worksheets that differ in answers of other sessions' fields and in reasons alone.
 pub fn sessions_see_their_own()
     ensures { SessionsSeeTheirOwn }
 {

@@ -58,7 +58,7 @@ fn evaluate_on<W: Write, D: Close, S: Sources, T: Tells>(
     answer
 }
 
-/// The same, between what stands first and what stands last.
+/// Writes the voice's first message, evaluates, and writes its last.
 fn evaluate_framed<W: Write, D: Close, S: Sources, T: Tells>(
     alloc: Global,
     plan: &Plan,

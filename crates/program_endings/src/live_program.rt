@@ -34,7 +34,7 @@ fn live_on<R: Read, W: Write, D: Close, S: Sources, T: Tells>(
     answered(answer)
 }
 
-/// The same, between what stands first and what stands last.
+/// Writes the voice's first message, goes on live, and writes its last.
 fn live_framed<R: Read, W: Write, D: Close, S: Sources, T: Tells>(
     alloc: Global,
     input: &mut R,
@@ -69,7 +69,8 @@ fn tell_last<W: Write, T: Tells>(answer: Result<bool, RunFault>, tells: &T, outp
     }
 }
 
-/// Ends the program by what it answered: a fault is printed on both streams.
+/// Ends the program by what it answered: a fault is printed on standard error, and on standard output where
+/// its voice has it.
 pub(crate) fn end_told<W: Write, E: Write, T: Tells>(
     answer: Result<bool, RunFault>,
     tells: &T,

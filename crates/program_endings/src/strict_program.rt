@@ -56,7 +56,7 @@ pub fn run_strictly<R: Read, W: Write, E: Write, D: Close, C: Children>(
     files: Result<D, FilesFault>,
     children: &mut C,
 ) -> Ending
-    // It is printed before the script is read.
+    // Why there are no files is printed; the input isn't read.
     ensures unopened { IfErr files (λ why. (input.new ≡ input.old) × (output.new ≡ output.old)
         × (children.new ≡ children.old) × (result.status ≡ 1)
         × TellsFault E.contents errors.old errors.new result.told (Err (printed.no_files why))) }

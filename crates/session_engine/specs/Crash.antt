@@ -39,8 +39,8 @@ pub record HasPlayed (w : World) (events rest : List Event) (told : List Outcome
   pub stands : IsHost host leads
 
 -- Each of these events was taken in turn, as a step takes it, with one of these outcomes: from
--- this world and host to those, on the same disk. So what makes no call on the disk in a step makes
--- none here.
+-- this world and host to those, on the same disk. So what writes and syncs nothing in a step does not
+-- do so here.
 abbrev pub TookEach : World → List Event → HostView → List Outcome → World → HostView → Type 0
 TookEach w [] old [] v new = (v ≡ w) × (new ≡ old)
 TookEach w (e ∷ es) old (o ∷ os) v new =

@@ -25,7 +25,7 @@ use std::marker::Model;
 use worksheet::{Name, Sheet};
 
 /// A host that may hold records back (docs/HOST.md, "Many events, one gate"). After `gather` an event that
-/// gives an op makes no call on the disk; `flush` makes all that is owed durable, and one gate commits it.
+/// gives an op writes and syncs nothing; `flush` makes all that is owed durable, and one gate commits it.
 /// Each call is that of [`Host`](crate::Host) with its name.
 ///
 /// What the contracts say of `store.disk` is said of the disk as it is owed: as it would be if each record
@@ -95,7 +95,7 @@ impl<D: Disk> BufferedHost<D> {
             Ok(store) => store,
             Err(fault) => return Err(fault),
         };
-        // Its clause says that the worksheet is one that ops make.
+        // Called for its contract alone: the worksheet is one that ops make.
         let _sheet = store.sheet();
         Ok(BufferedHost {
             engine: Engine {

@@ -90,7 +90,7 @@ pub(crate) fn lose<D: Disk>(
         (IsEitherIf ops (kept_for store.old.disk.room store.old.end reason
         line)) store.old.disk.history store.new.disk.history) }
 {
-    // Its clause says that the worksheet is one that ops make.
+    // Called for its contract alone: the worksheet is one that ops make.
     let _sheet = store.sheet();
     let Some(id) = line else {
         return Ok(());
@@ -138,7 +138,7 @@ fn lose_at_end<D: Disk>(store: &mut Store<D>, ended: &Option<Ended>) -> Result<(
         (IsEitherIf ops (op_of_end store.old.disk.room store.old.end
         ended.now)) store.old.disk.history store.new.disk.history) }
 {
-    // Its clause says that the worksheet is one that ops make.
+    // Called for its contract alone: the worksheet is one that ops make.
     let _sheet = store.sheet();
     match ended {
         None => Ok(()),
@@ -171,7 +171,7 @@ pub(crate) fn keep<D: Disk>(
         (IsEitherIf ops (op_by store.old.disk.room store.old.end answered
         ended.now)) store.old.disk.history store.new.disk.history) }
 {
-    // Its clause says that the worksheet is one that ops make.
+    // Called for its contract alone: the worksheet is one that ops make.
     let _sheet = store.sheet();
     match answered {
         None => match lose_at_end(store, ended) {

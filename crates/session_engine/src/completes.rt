@@ -78,7 +78,7 @@ impl<D: Disk> Engine<D> {
         ensures store { self.new.store ≡ self.old.store }
     {
         match self.completion(id, cursor) {
-            Ok((name, item)) => match self.asked(name, item) {
+            Ok((name, item)) => match self.ask_session(name, item) {
                 Ok(outcome) => outcome,
                 Err(_) => refused(Refusal::OutOfMemory),
             },

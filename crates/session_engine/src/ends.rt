@@ -9,7 +9,7 @@ ghost use Rattle.session_engine.specs.Does.{ends};
 
 use crate::commits::{LoseFault, lose};
 use crate::engine::{Engine, nothing};
-use crate::table::{Running, first_line, has_life, take_life};
+use crate::table::{Running, first_line, has_life, remove_life};
 use disk_model::Disk;
 use host_events::{ChildReply, Effect, HostFault, Outcome, Reply};
 use plugin_core::Reason;
@@ -65,7 +65,7 @@ impl<D: Disk> Engine<D> {
             return Ok(nothing());
         }
         match self.lose(name, reason) {
-            Ok(()) => match take_life(&mut self.lives, name) {
+            Ok(()) => match remove_life(&mut self.lives, name) {
                 Some(running) => Ok(ended(running, reason, killed)),
                 None => Ok(nothing()),
             },

@@ -15,6 +15,7 @@ pub(crate) struct Engine<D: Disk> {
     pub(crate) alloc: Global,
     pub(crate) store: Store<D>,
     pub(crate) lives: Vec<Running>,
+    // How many lives have begun.
     pub(crate) begun: u32,
 }
 

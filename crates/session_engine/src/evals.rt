@@ -122,8 +122,9 @@ impl<D: Disk> Engine<D> {
         }
     }
 
-    /// Whether a session takes one line more for a field, and a record of the Clear that goes with it.
-    fn ready(&mut self, name: Name, id: u32) -> Result<Frame, Refusal>
+    /// A record of the Clear that goes with one line more of a session, where the session takes one and there
+    /// is room and memory.
+    fn prepare_clear(&mut self, name: Name, id: u32) -> Result<Frame, Refusal>
         requires works { Works self.old }
         requires field { has_field self.old.store.sheet.contents id ≡ true }
         ensures store { SameStore self.old.store self.new.store }
@@ -147,7 +148,7 @@ impl<D: Disk> Engine<D> {
     }
 
     /// Asks an item of a session: it begins a life, or joins the one that goes on.
-    pub(crate) fn asked(&mut self, name: Name, item: Item) -> Result<Outcome, OutOfMemory>
+    pub(crate) fn ask_session(&mut self, name: Name, item: Item) -> Result<Outcome, OutOfMemory>
         requires works { Works self.old }
         requires askable { IsAskable item }
         ensures ok { (w : World) → StandsAt self.old w
@@ -162,11 +163,11 @@ impl<D: Disk> Engine<D> {
     {
         let words = self.words_for(name)?;
         let (number, sent) = ask(self.alloc, &mut self.lives, self.begun + 1, name, item)?;
-        Ok(self.told(name, number, words, sent))
+        Ok(self.outcome_of_ask(name, number, words, sent))
     }
 
     /// What is returned for an item that is asked.
-    fn told(
+    fn outcome_of_ask(
         &mut self,
         name: Name,
         life: u32,
@@ -195,7 +196,8 @@ impl<D: Disk> Engine<D> {
         }
     }
 
-    /// The input of a field is asked.
+    /// The input of a field is asked. Refusals come first; then the record of its Clear and all memory; then the
+    /// line joins its life; then the Clear is committed, and where the disk fails a life begun for it is removed.
     pub(crate) fn eval(&mut self, id: u32) -> Result<Outcome, HostFault>
         requires { Works self.old }
         ensures same { SameDisk self.old.store.disk self.new.store.disk }
@@ -213,7 +215,7 @@ impl<D: Disk> Engine<D> {
         if waits(&self.lives, id) {
             return Ok(refused(Refusal::InFlight));
         }
-        match self.ready(name, id) {
+        match self.prepare_clear(name, id) {
             Ok(frame) => match line {
                 Ok(line) => self.evaluate(name, id, line, frame),
                 Err(_) => Ok(refused(Refusal::OutOfMemory)),
@@ -253,7 +255,7 @@ impl<D: Disk> Engine<D> {
             (op.Clear id)) self.old.store.disk.history self.new.store.disk.history) }
     {
         let begun = self.begun;
-        match self.asked(name, line) {
+        match self.ask_session(name, line) {
             Ok(outcome) => match self.store.commit_ready(Op::Clear { id }, frame) {
                 Ok(()) => Ok(outcome),
                 Err(_) => {

@@ -99,7 +99,8 @@ impl<D: Disk> Host<D> {
     /// fault it can have in "Faults" there.
     ///
     /// A refused command changes nothing and writes nothing. At `Ok` what the event did is durable. At
-    /// `Err` the host is closed: the worksheet, and the number of each life, are as before the event.
+    /// `Err` the host is closed: the worksheet, and the number of each life, are as before the event. Of a
+    /// host that was closed already `still` speaks.
     pub fn step(&mut self, event: Event) -> Result<Outcome, HostFault>
         ensures same { SameDisk self.old.store.disk self.new.store.disk }
         ensures took { (w : World) → IsHost self.old w
@@ -135,7 +136,7 @@ impl<D: Disk> Host<D> {
             → LeavesOnly (IsSheetImage self.old.store.sheet.contents) self.old.store.disk.history
             self.new.store.disk.history) }
     {
-        // Its clause says that the worksheet is one that ops make.
+        // Called for its contract alone: the worksheet is one that ops make.
         let _sheet = self.sheet();
         self.step(Event::Command(Command::Checkpoint))
     }

@@ -54,7 +54,7 @@ impl<D: Disk> Engine<D> {
         match keep(&mut self.store, answered, &ended) {
             Ok(closed) => {
                 settle(&mut self.lives, name, ended.is_some());
-                Ok(told(name, number, closed, default_input, send, ended))
+                Ok(outcome_of_piece(name, number, closed, default_input, send, ended))
             }
             Err(fault) => Err(fault),
         }
@@ -62,7 +62,7 @@ impl<D: Disk> Engine<D> {
 }
 
 /// What is returned for a piece.
-fn told(
+fn outcome_of_piece(
     name: Name,
     life: u32,
     closed: Option<Closed>,

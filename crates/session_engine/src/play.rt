@@ -31,7 +31,7 @@ pub enum PlayFault {
 pub enum GroupFault {
     /// One of the events is a checkpoint. None was taken, and here they are.
     Checkpoint(Vec<Event>),
-    /// There is no memory for the outcomes. No event was taken, and here they are.
+    /// There is no memory for the group or the outcomes. No event was taken, and here they are.
     NoRoom(Vec<Event>),
     /// A fault that isn't the disk's, after these outcomes of the first events, which are durable. The
     /// events after the fault are dropped.
@@ -45,7 +45,7 @@ pub enum GroupFault {
 
 impl<D: Disk> Host<D> {
     /// Takes events in order, each as a `step` takes it, up to the first fault. So an event that gives no
-    /// op, and one that fails but for the disk, makes no call on the disk; a checkpoint gives none, and
+    /// op, and one that fails but for the disk, writes and syncs nothing; a checkpoint gives none, and
     /// rewrites an area.
     ///
     /// At every moment each image of the disk is one of the worksheet after some of the first events.
@@ -143,7 +143,7 @@ impl<D: Disk> BufferedHost<D> {
         if has_checkpoint(&events) {
             return Err(GroupFault::Checkpoint(events));
         }
-        // Its clause says that the store isn't closed.
+        // Called for its contract alone: it says that the store isn't closed.
         let _sheet = self.sheet();
         match Group::new(self.engine.alloc) {
             Ok(group) => self.play_owed(group, events),

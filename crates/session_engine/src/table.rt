@@ -13,7 +13,8 @@ use block_tree::OutOfMemory;
 use plugin_core::{Life, Step};
 use worksheet::Name;
 
-/// A life that goes on, and the session that it is of.
+/// A life that goes on, and the session that it is of. Contracts see it as a `Going`, callers of the host as a
+/// `LifeView`; a `Seat` is its session and number alone.
 #[derive(Drop)]
 pub(crate) struct Running {
     pub(crate) name: Name,
@@ -44,7 +45,7 @@ pub(crate) fn has_life(lives: &Vec<Running>, name: Name, number: u32) -> bool
 }
 
 /// Takes the life of this session out.
-pub(crate) fn take_life(lives: &mut Vec<Running>, name: Name) -> Option<Running>
+pub(crate) fn remove_life(lives: &mut Vec<Running>, name: Name) -> Option<Running>
     ensures { TakesOut name lives.old.items lives.new.items result }
 {
     match place_of(lives, name) {
@@ -79,7 +80,7 @@ pub(crate) fn settle(lives: &mut Vec<Running>, name: Name, over: bool)
         ≡ (if over then without_named name_of name lives.old.items else lives.old.items) }
 {
     if over {
-        let _ = take_life(lives, name);
+        let _ = remove_life(lives, name);
     }
 }
 

@@ -7,7 +7,7 @@ ghost use Rattle.session_engine.specs.Gathers.{GathersUnlessCheckpoint, is_check
 use crate::commits::LoseFault;
 use crate::ends::ended;
 use crate::engine::{Engine, nothing, refused};
-use crate::table::take_life;
+use crate::table::remove_life;
 use block_tree::Octets;
 use disk_model::Disk;
 use host_events::{ChildEvent, Command, Event, HostFault, Outcome, Reply};
@@ -80,7 +80,7 @@ impl<D: Disk> Engine<D> {
             None => return Ok(refused(Refusal::NoSession)),
         };
         match self.lose(name, Reason::Stopped) {
-            Ok(()) => match take_life(&mut self.lives, name) {
+            Ok(()) => match remove_life(&mut self.lives, name) {
                 Some(running) => Ok(ended(running, Reason::Stopped, true)),
                 None => Ok(Outcome {
                     reply: Reply::Done,

@@ -7,7 +7,7 @@ use std::fs::{File, OpenFile};
 use std::io;
 use std::os::unix::fs::FileExt;
 
-/// An open file, of which a disk asks four things. A call that may change something is given
+/// An open file, of which a disk asks five things. A call that may change something is given
 /// the moment at which it is made: the number of that call among all on the disk's files.
 ///
 /// A file that keeps the model has a state at each moment: what a read gives, and what a crash may

@@ -103,9 +103,9 @@ impl<F: SheetFile + Drop> FileDisk<F> {
         Ok(FileDisk::of(first, Some(second), Lock::Exclusive)?)
     }
 
-    /// The same, to read alone: the lock is one that other readers may have too, the files needn't be
-    /// such that they may be written, no second file is made, and each write is a failure of the disk,
-    /// like each call on a second file that is missing.
+    /// Opens the files to read alone: the lock is one that other readers may have too, the files needn't be
+    /// such that they may be written, no second file is made, no folder is synced, and each write is a
+    /// failure of the disk, like each call on a second file that is missing, be the worksheet there or not.
     pub fn open_to_read<R: Files<File = F>>(
         rt: &R,
         alloc: Global,

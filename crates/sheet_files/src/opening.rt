@@ -105,7 +105,7 @@ fn open_if_there<F: Drop, N: Names<F>>(names: &mut N, alt: &str, first: &F) -> i
     }
 }
 
-/// The same as `open`, to read alone: none is made.
+/// Opens the files to read alone, the first one locked before anything is read: none is made or synced.
 pub(crate) fn open_to_read<F: Drop, N: Names<F>>(
     names: &mut N,
     path: &str,

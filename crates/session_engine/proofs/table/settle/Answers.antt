@@ -8,5 +8,5 @@ use Rattle.session_engine.proofs.table.settle.Goals as goal
 pub returns-then-over : goal.returns-then-over
 returns-then-over c =
     let rs = c.args.lives.now.items in
-    taken_out c.args.name rs c.take_life.new.lives.items c.take_life.result c.take_life.ensures
+    taken_out c.args.name rs c.remove_life.new.lives.items c.remove_life.result c.remove_life.ensures
     ∙ sym (ap (λ (b : Bool). if b then without_named name_of c.args.name rs else rs) c.if-over.true)

@@ -49,7 +49,7 @@ returns-in-Some-clause-took g c = λ w e h is.
       did = ends_life w why killed (Some f.life) reply.Nothing;
       may = subst (λ (l : Option Going). ChildDoes w l e (ends_life w why killed (Some f.life) reply.Nothing)) (sym there) (gives_end w (Some f.life) e why killed is);
       told = c.ended.ensures f.life.past f.life.blocks f.runs.stands ∙ told_end f.life r.name r.life.number why killed f.runs.name f.runs.number;
-      stands = record { works = refl; stands = end_stands c.lose.new.self.store rs c.take_life.new.lives.items c.lose.new.self.begun w name r why f lost.stands c.in-Some.ensures.1 };
+      stands = record { works = refl; stands = end_stands c.lose.new.self.store rs c.remove_life.new.lives.items c.lose.new.self.begun w name r why f lost.stands c.in-Some.ensures.1 };
       disk = subst (λ (k : Option Going). OnDisk w.ops false (kept_at_end w why k) c.args.self.now.store.disk c.lose.new.self.store.disk) f.is lost.disk;
     }
 

@@ -37,12 +37,12 @@ returns-in-Ok-line-clause-took g c = λ w h.
     let line : c.in-Ok-line.line ≡ item.Line id f.input = IfOk-at_ok (λ (l : Item). l ≡ item.Line f.id f.input) c.in-Ok-line.is c.line_of.ensures ∙ ap (λ (k : ℕ). item.Line k f.input) same_id in
     let left = subst (λ (n : List ℕ). lives_are_spent w.begun (life_of w n) ≡ false) s (not_spent w id none) in
     let has : HasField (sheet_in w) c.in-Ok-line.line = subst (λ (l : Item). HasField (sheet_in w) l) (sym line) (ap (λ (o : Option Field). is_some o) here) in
-    let still = unchanged c.args.self.now.store c.ready.new.self.store c.args.self.now.lives.items c.args.self.now.begun w h c.ready.ensures.store in
-    let stand = subst (λ (l : List Running). EngineStandsFor c.ready.new.self.store l c.ready.new.self.begun w) (sym (ap (λ (x : Rattle.std.specs.declared.vec.Vec.Vec Running _). x.items) c.ready.ensures.lives))
-    (subst (λ (k : ℕ). EngineStandsFor c.ready.new.self.store c.args.self.now.lives.items k w) (sym c.ready.ensures.begun) still) in
+    let still = unchanged c.args.self.now.store c.prepare_clear.new.self.store c.args.self.now.lives.items c.args.self.now.begun w h c.prepare_clear.ensures.store in
+    let stand = subst (λ (l : List Running). EngineStandsFor c.prepare_clear.new.self.store l c.prepare_clear.new.self.begun w) (sym (ap (λ (x : Rattle.std.specs.declared.vec.Vec.Vec Running _). x.items) c.prepare_clear.ensures.lives))
+    (subst (λ (k : ℕ). EngineStandsFor c.prepare_clear.new.self.store c.args.self.now.lives.items k w) (sym c.prepare_clear.ensures.begun) still) in
     let cleared : OnDisk w.ops false (Some (op.Clear id)) c.args.self.now.store.disk c.evaluate.new.self.store.disk =
-    subst (λ (d : DiskView). OnDisk w.ops false (Some (op.Clear id)) d c.evaluate.new.self.store.disk) c.ready.ensures.store.disk (c.evaluate.ensures.moments w stand) in
-    IfOk-weaker c.evaluate.result (Evaluated w f.session id c.in-Ok-line.line c.ready.new.self c.evaluate.new.self) (TookAt w (event.Command (command.Eval id)) c.args.self.now c.evaluate.new.self)
+    subst (λ (d : DiskView). OnDisk w.ops false (Some (op.Clear id)) d c.evaluate.new.self.store.disk) c.prepare_clear.ensures.store.disk (c.evaluate.ensures.moments w stand) in
+    IfOk-weaker c.evaluate.result (Evaluated w f.session id c.in-Ok-line.line c.prepare_clear.new.self c.evaluate.new.self) (TookAt w (event.Command (command.Eval id)) c.args.self.now c.evaluate.new.self)
     (λ out. ⊎_elim
     (λ done. record {
       did = does w (command.Eval id);
@@ -56,7 +56,7 @@ returns-in-Ok-line-clause-took g c = λ w h.
       may = eval_refused w id f here free refusal.OutOfMemory (inr (none, refl));
       told = want.0;
       stands = record { works = refl; stands = want.1 };
-      disk = want.2 ∙ c.ready.ensures.store.disk;
+      disk = want.2 ∙ c.prepare_clear.ensures.store.disk;
     }))
     (c.evaluate.ensures.ok w stand left has)
 
@@ -68,14 +68,14 @@ returns-in-Ok-line-clause-failed g c = λ w h.
     sym (c.in-Some.ensures ∙ ap (λ (l : SheetView). field_in l.contents.fields id) c.sheet.ensures.sheet ∙ ap (λ (x : Contents). field_in x.fields id) h.contents) in
     let free : in_flight w id ≡ false = sym (c.waits.ensures w.lives h.lives_are) ∙ c.if-waits.false in
     let none = c.in-Ok.ensures.ok w h (session_is w id f here) in
-    let still = unchanged c.args.self.now.store c.ready.new.self.store c.args.self.now.lives.items c.args.self.now.begun w h c.ready.ensures.store in
-    let lives = ap (λ (x : Rattle.std.specs.declared.vec.Vec.Vec Running _). x.items) c.ready.ensures.lives in
-    let stand = subst (λ (l : List Running). EngineStandsFor c.ready.new.self.store l c.ready.new.self.begun w) (sym lives)
-    (subst (λ (k : ℕ). EngineStandsFor c.ready.new.self.store c.args.self.now.lives.items k w) (sym c.ready.ensures.begun) still) in
+    let still = unchanged c.args.self.now.store c.prepare_clear.new.self.store c.args.self.now.lives.items c.args.self.now.begun w h c.prepare_clear.ensures.store in
+    let lives = ap (λ (x : Rattle.std.specs.declared.vec.Vec.Vec Running _). x.items) c.prepare_clear.ensures.lives in
+    let stand = subst (λ (l : List Running). EngineStandsFor c.prepare_clear.new.self.store l c.prepare_clear.new.self.begun w) (sym lives)
+    (subst (λ (k : ℕ). EngineStandsFor c.prepare_clear.new.self.store c.args.self.now.lives.items k w) (sym c.prepare_clear.ensures.begun) still) in
     let cleared : OnDisk w.ops false (Some (op.Clear id)) c.args.self.now.store.disk c.evaluate.new.self.store.disk =
-    subst (λ (d : DiskView). OnDisk w.ops false (Some (op.Clear id)) d c.evaluate.new.self.store.disk) c.ready.ensures.store.disk (c.evaluate.ensures.moments w stand) in
-    eval_fails w id f here free (view_of c.args.self.now false) (view_of c.ready.new.self false) (view_of c.evaluate.new.self false) c.evaluate.result h none
-    c.ready.ensures.store lives c.evaluate.ensures.contents c.evaluate.ensures.numbers c.evaluate.ensures.fault cleared
+    subst (λ (d : DiskView). OnDisk w.ops false (Some (op.Clear id)) d c.evaluate.new.self.store.disk) c.prepare_clear.ensures.store.disk (c.evaluate.ensures.moments w stand) in
+    eval_fails w id f here free (view_of c.args.self.now false) (view_of c.prepare_clear.new.self false) (view_of c.evaluate.new.self false) c.evaluate.result h none
+    c.prepare_clear.ensures.store lives c.evaluate.ensures.contents c.evaluate.ensures.numbers c.evaluate.ensures.fault cleared
 
 pub returns-in-Err-clause-took : goal.returns-in-Err-clause-took
 returns-in-Err-clause-took g c = λ w h.
@@ -85,15 +85,15 @@ returns-in-Err-clause-took g c = λ w h.
     sym (c.in-Some.ensures ∙ ap (λ (l : SheetView). field_in l.contents.fields id) c.sheet.ensures.sheet ∙ ap (λ (x : Contents). field_in x.fields id) h.contents) in
     let free : in_flight w id ≡ false = sym (c.waits.ensures w.lives h.lives_are) ∙ c.if-waits.false in
     let why = c.in-Err.ensures.err w h (session_is w id f here) in
-    let still = unchanged c.args.self.now.store c.ready.new.self.store c.args.self.now.lives.items c.args.self.now.begun w h c.ready.ensures.store in
-    let stand = subst (λ (l : List Running). EngineStandsFor c.ready.new.self.store l c.ready.new.self.begun w) (sym (ap (λ (x : Rattle.std.specs.declared.vec.Vec.Vec Running _). x.items) c.ready.ensures.lives))
-    (subst (λ (k : ℕ). EngineStandsFor c.ready.new.self.store c.args.self.now.lives.items k w) (sym c.ready.ensures.begun) still) in
+    let still = unchanged c.args.self.now.store c.prepare_clear.new.self.store c.args.self.now.lives.items c.args.self.now.begun w h c.prepare_clear.ensures.store in
+    let stand = subst (λ (l : List Running). EngineStandsFor c.prepare_clear.new.self.store l c.prepare_clear.new.self.begun w) (sym (ap (λ (x : Rattle.std.specs.declared.vec.Vec.Vec Running _). x.items) c.prepare_clear.ensures.lives))
+    (subst (λ (k : ℕ). EngineStandsFor c.prepare_clear.new.self.store c.args.self.now.lives.items k w) (sym c.prepare_clear.ensures.begun) still) in
     record {
       did = tells w (reply.Refused c.in-Err.refusal);
       may = eval_refused w id f here free c.in-Err.refusal why;
       told = c.refused-in-Err.ensures;
       stands = record { works = refl; stands = stand };
-      disk = c.ready.ensures.store.disk;
+      disk = c.prepare_clear.ensures.store.disk;
     }
 
 pub returns-in-None-clause-took : goal.returns-in-None-clause-took
@@ -131,13 +131,13 @@ returns-in-Err-line-clause-took g c = λ w h.
     sym (c.in-Some.ensures ∙ ap (λ (l : SheetView). field_in l.contents.fields id) c.sheet.ensures.sheet ∙ ap (λ (x : Contents). field_in x.fields id) h.contents) in
     let free : in_flight w id ≡ false = sym (c.waits.ensures w.lives h.lives_are) ∙ c.if-waits.false in
     let none = c.in-Ok.ensures.ok w h (session_is w id f here) in
-    let still = unchanged c.args.self.now.store c.ready.new.self.store c.args.self.now.lives.items c.args.self.now.begun w h c.ready.ensures.store in
-    let stand = subst (λ (l : List Running). EngineStandsFor c.ready.new.self.store l c.ready.new.self.begun w) (sym (ap (λ (x : Rattle.std.specs.declared.vec.Vec.Vec Running _). x.items) c.ready.ensures.lives))
-    (subst (λ (k : ℕ). EngineStandsFor c.ready.new.self.store c.args.self.now.lives.items k w) (sym c.ready.ensures.begun) still) in
+    let still = unchanged c.args.self.now.store c.prepare_clear.new.self.store c.args.self.now.lives.items c.args.self.now.begun w h c.prepare_clear.ensures.store in
+    let stand = subst (λ (l : List Running). EngineStandsFor c.prepare_clear.new.self.store l c.prepare_clear.new.self.begun w) (sym (ap (λ (x : Rattle.std.specs.declared.vec.Vec.Vec Running _). x.items) c.prepare_clear.ensures.lives))
+    (subst (λ (k : ℕ). EngineStandsFor c.prepare_clear.new.self.store c.args.self.now.lives.items k w) (sym c.prepare_clear.ensures.begun) still) in
     record {
       did = tells w (reply.Refused refusal.OutOfMemory);
       may = eval_refused w id f here free refusal.OutOfMemory (inr (none, refl));
       told = c.refused-in-Err-line.ensures;
       stands = record { works = refl; stands = stand };
-      disk = c.ready.ensures.store.disk;
+      disk = c.prepare_clear.ensures.store.disk;
     }

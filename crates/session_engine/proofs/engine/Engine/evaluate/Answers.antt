@@ -16,9 +16,9 @@ returns-in-Ok-commit_ready-clause-ok g c = λ w h left has.
     let o = op.Clear c.args.id in
     let v = with_item w c.args.name c.args.line (life_of w c.args.name) in
     let done = c.in-Ok.ensures.ok w h left has in
-    let store = c.asked.new.self.store in
+    let store = c.ask_session.new.self.store in
     let new = c.commit_ready.new.self in
-    let ready = subst (λ (s : StoreView). IsReady s o c.args.frame) (sym c.asked.ensures.store) c.requires.ready in
+    let ready = subst (λ (s : StoreView). IsReady s o c.args.frame) (sym c.ask_session.ensures.store) c.requires.ready in
     let contents = c.in-Ok-commit_ready.ensures.sheet v.ops done.1.contents in
     let here : Committed store v.ops o new = record {
       fits = fit store.disk.room store.end o ready.fits.1;
@@ -29,6 +29,6 @@ returns-in-Ok-commit_ready-clause-ok g c = λ w h left has.
     } in
     inl (
       done.0,
-      committed store new c.asked.new.self.lives.items c.asked.new.self.begun v o done.1 here c.commit_ready.ensures.same
+      committed store new c.ask_session.new.self.lives.items c.ask_session.new.self.begun v o done.1 here c.commit_ready.ensures.same
           (subst (λ (s : Contents). first_refusal s o ≡ None) done.1.contents ready.allowed) (spared_clear c.args.id v.lives),
     )

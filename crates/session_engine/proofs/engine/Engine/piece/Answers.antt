@@ -92,7 +92,7 @@ returns-in-Ok-keep-clause-took g c = λ w h.
     record {
       did = did store rs begun w name number piece fe.before fe.life step h f fe.numbered fe.same takes;
       may = may store rs begun w name number piece fe.before fe.life step h f fe.numbered fe.same takes;
-      told = c.told.ensures ∙ ap (λ (x : Option Closed). told_with name number x step.default_input step.send step.ended) kept.0 ∙ told store rs begun w name number piece fe.before fe.life step h f fe.numbered fe.same takes;
+      told = c.outcome_of_piece.ensures ∙ ap (λ (x : Option Closed). told_with name number x step.default_input step.send step.ended) kept.0 ∙ told store rs begun w name number piece fe.before fe.life step h f fe.numbered fe.same takes;
       stands = record {
         works = refl;
         stands = subst (λ (v : World). EngineStandsFor c.keep.new.store c.settle.new.lives.items begun v) (leads store rs begun w name number piece fe.before fe.life step h f fe.numbered fe.same takes)

@@ -22,10 +22,10 @@ ended-requires g c =
     let w = c.requires.0 in
     let rs = c.lose.new.self.lives.items in
     let lives = subst (λ (l : List Running). Lives l w.lives) (sym c.lose.ensures.lives) c.requires.1.lives_are in
-    (found c.in-Some.session.now.name rs w.lives c.in-Some-take_life.running lives c.in-Some-take_life.ensures.0).runs.stands.goes_on
+    (found c.in-Some.session.now.name rs w.lives c.in-Some-remove_life.running lives c.in-Some-remove_life.ensures.0).runs.stands.goes_on
 
-pub returns-in-Some-take_life-clause-took : goal.returns-in-Some-take_life-clause-took
-returns-in-Some-take_life-clause-took g c = λ w h.
+pub returns-in-Some-remove_life-clause-took : goal.returns-in-Some-remove_life-clause-took
+returns-in-Some-remove_life-clause-took g c = λ w h.
     let asked = c.args.name in
     let s = c.in-Some.session.now in
     let named : session_named (sheet_in w).sessions asked ≡ Some s =
@@ -33,16 +33,16 @@ returns-in-Some-take_life-clause-took g c = λ w h.
     ∙ ap (λ (n : List ℕ). session_named c.args.self.now.store.sheet.contents.sessions n) c.as_slice.ensures ∙ ap (λ (x : Contents). session_named x.sessions asked) h.contents) in
     let same : s.name ≡ asked = session_named-name (sheet_in w).sessions asked s named in
     let rs = c.lose.new.self.lives.items in
-    let r = c.in-Some-take_life.running in
+    let r = c.in-Some-remove_life.running in
     let lives = subst (λ (l : List Running). Lives l w.lives) (sym c.lose.ensures.lives) h.lives_are in
-    let f = found s.name rs w.lives r lives c.in-Some-take_life.ensures.0 in
+    let f = found s.name rs w.lives r lives c.in-Some-remove_life.ensures.0 in
     let there : life_of w asked ≡ Some f.life = ap (λ (n : List ℕ). life_of w n) (sym same) ∙ f.is in
     let lost = c.in-Ok.ensures.ok w h in
     record {
       did = ends_life w reason.Stopped true (Some f.life) reply.Done;
       may = gives_stop w asked s (Some f.life) named there;
       told = c.ended.ensures f.life.past f.life.blocks f.runs.stands ∙ told_end f.life r.name r.life.number reason.Stopped true f.runs.name f.runs.number;
-      stands = record { works = refl; stands = end_stands c.lose.new.self.store rs c.take_life.new.lives.items c.lose.new.self.begun w s.name r reason.Stopped f lost.stands c.in-Some-take_life.ensures.1 };
+      stands = record { works = refl; stands = end_stands c.lose.new.self.store rs c.remove_life.new.lives.items c.lose.new.self.begun w s.name r reason.Stopped f lost.stands c.in-Some-remove_life.ensures.1 };
       disk = subst (λ (k : Option Going). OnDisk w.ops false (kept_at_end w reason.Stopped k) c.args.self.now.store.disk c.lose.new.self.store.disk) f.is lost.disk;
     }
 
@@ -56,14 +56,14 @@ returns-in-Ok-clause-took g c = λ w h.
     let same : s.name ≡ asked = session_named-name (sheet_in w).sessions asked s named in
     let rs = c.lose.new.self.lives.items in
     let lives = subst (λ (l : List Running). Lives l w.lives) (sym c.lose.ensures.lives) h.lives_are in
-    let gone_before : life_of w s.name ≡ None = not_found s.name rs w.lives lives c.in-None-take_life.ensures.0 in
+    let gone_before : life_of w s.name ≡ None = not_found s.name rs w.lives lives c.in-None-remove_life.ensures.0 in
     let lost = c.in-Ok.ensures.ok w h in
     let stands : EngineStandsFor c.lose.new.self.store rs c.lose.new.self.begun w = subst (λ (k : Option Going). EngineStandsFor c.lose.new.self.store rs c.lose.new.self.begun (with_op_if (kept_at_end w reason.Stopped k) w)) gone_before lost.stands in
     record {
       did = tells w reply.Done;
       may = gives_stop w asked s None named (ap (λ (n : List ℕ). life_of w n) (sym same) ∙ gone_before);
       told = refl;
-      stands = record { works = refl; stands = subst (λ (l : List Running). EngineStandsFor c.lose.new.self.store l c.lose.new.self.begun w) (sym c.in-None-take_life.ensures.1) stands };
+      stands = record { works = refl; stands = subst (λ (l : List Running). EngineStandsFor c.lose.new.self.store l c.lose.new.self.begun w) (sym c.in-None-remove_life.ensures.1) stands };
       disk = subst (λ (k : Option Going). OnDisk w.ops false (kept_at_end w reason.Stopped k) c.args.self.now.store.disk c.lose.new.self.store.disk) gone_before lost.disk;
     }
 

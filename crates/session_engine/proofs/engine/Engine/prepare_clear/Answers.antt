@@ -4,7 +4,7 @@ use Rattle.recovery.specs.declared.fault.PrepareFault.{PrepareFault}
 use Rattle.recovery.specs.declared.fault.PrepareFault.TheVariants as faults
 use Rattle.session_engine.specs.World.{fits_in}
 use Rattle.session_engine.proofs.Asking.{unfit, fits_unless, refused_queue, refused_full, not_refused}
-use Rattle.session_engine.proofs.engine.Engine.ready.Goals as goal
+use Rattle.session_engine.proofs.engine.Engine.prepare_clear.Goals as goal
 
 pub returns-in-Err-clause-err : goal.returns-in-Err-clause-err
 returns-in-Err-clause-err g c = λ w h is. refused_queue w c.args.id c.args.name c.in-Err.refusal is (sym (c.in-Err.ensures w h))

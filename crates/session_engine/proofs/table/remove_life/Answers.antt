@@ -2,7 +2,7 @@ use Rattle.std.proofs.Common.{ap, sym, ◌∙◌, refl, Some}
 use Rattle.session_engine.specs.declared.table.Running.{Running}
 use Rattle.session_engine.specs.Host.{name_of}
 use Rattle.session_engine.proofs.Tables.{placed, none}
-use Rattle.session_engine.proofs.table.take_life.Goals as goal
+use Rattle.session_engine.proofs.table.remove_life.Goals as goal
 
 pub returns-in-Some : goal.returns-in-Some
 returns-in-Some c =

@@ -1,0 +1,29 @@
+//! Calls whose contracts say with one word of these laws what those of the host and of the journal say in several.
+ghost use Rattle.std.specs.Prelude.{◌≤◌, List, [], IfOk};
+ghost use Rattle.disk_model.specs.Disk.{InModel, Leaves, bytes_on};
+ghost use Rattle.worksheet.specs.declared.op.Op.{Op};
+ghost use Rattle.worksheet.specs.Ops.{sheet_of};
+ghost use Rattle.recovery.specs.Sheets.{IsSheetImage};
+ghost use Rattle.host_laws.specs.OneHost.{JustOpened};
+
+use disk_model::Disk;
+use journal::{CreateFault, OpenFault, create};
+use session_engine::Host;
+use std::alloc::Global;
+
+/// A host that is opened was just opened on the image that its disk had: from there the laws of turns go on.
+pub fn opened_host<D: Disk>(alloc: Global, disk: D) -> Result<Host<D>, OpenFault<D>>
+    ensures { InModel (D.view disk) (IfOk result (λ host. (found : List Op)
+        × JustOpened (D.view disk).room (bytes_on (D.view disk)) found host)) }
+{
+    Host::open(alloc, disk)
+}
+
+/// A crash after a worksheet was made leaves one without sessions and fields.
+pub fn created_disk<D: Disk>(disk: D) -> Result<D, CreateFault<D>>
+    requires { 11 ≤ (D.view disk).room }
+    ensures { InModel (D.view disk)
+        (IfOk result (λ d. Leaves (IsSheetImage (sheet_of [])) (D.view d).history.now)) }
+{
+    create(disk)
+}
