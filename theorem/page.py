@@ -19,11 +19,12 @@ import sys
 
 sys.dont_write_bytecode = True
 import worked  # noqa: E402
-from sources import ROOT, Definition, Key, Sources, files, read  # noqa: E402
+from sources import ROOT, Definition, Key, Sources, files, line_of, read  # noqa: E402
 
 HEAD = "theorem/head.md"
 PAGE = "docs/THEOREM.md"
 HOST = "crates/session_engine/src/host.rt"
+CALLS = "crates/host_laws/src/made.rt"  # laws that make the call that they speak of
 PLACE = re.compile(r"\{(?:(?P<kind>clause \w+|law|mutant) (?P<word>\w+)|(?P<file>file )?(?P<module>\w+::|\w+(?:\.\w+)*\.)(?P<name>[\w']+))\}")
 
 # Definitions that the page links to in their files. What they say isn't needed: a definition that has them for words is followed by a law
@@ -233,7 +234,9 @@ class Page:
         return f"[`{key[1]}`]({self.sources.definitions[key].place if match['file'] else self.link(key)})"
 
     def laws(self) -> dict[str, str]:
-        return {function: f"{file}#L{line}" for function, file, line in self.sources.laws.values()}
+        """The functions that carry laws, those that make a call among them, with their places."""
+        calls = {found[1]: f"{CALLS}#L{line_of(read(CALLS), found.start())}" for found in re.finditer(r"^pub fn (\w+)", read(CALLS), re.M)}
+        return calls | {function: f"{file}#L{line}" for function, file, line in self.sources.laws.values()}
 
     # The whole.
 

@@ -1,11 +1,15 @@
 //! Laws of the definitions that the contracts of `session_engine` cite (docs/HOST.md, "Laws"). Each function does nothing: its contract is
-//! the law. `hosts_in_turn` is the theorem of many hosts on one disk.
+//! the law. `hosts_in_turn` is the theorem of many hosts on one disk. The two of `made` make the call that they speak of.
 #![tactic(auto)]
 
 ghost use Rattle.host_laws.specs.Apart.{OthersAreSilent, SessionsAreIndependent, SessionsSeeTheirOwn};
 ghost use Rattle.host_laws.specs.OneHost.{StepsLeavePrefixes};
 ghost use Rattle.host_laws.specs.Turns.{EvaluatedAnew, HostsInTurn, PlaysAreTurns, StepsAreTurns};
 ghost use Rattle.host_laws.specs.Laws.{AnEventDoesOneThing, EachCommandHasAReply, EachEventHasAnOutcome, NothingIsShownInFlight, NothingOfAnEndedLife, NumbersAreGivenOnce, OutcomesLeadToOneWorld};
+
+mod made;
+
+pub use made::{created_disk, opened_host};
 
 /// The same is reported to a session whatever others' interpreters do. Take two histories without
 /// refusals, from worlds alike for it. Where they agree in the merged list of all commands and this
