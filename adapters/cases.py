@@ -93,6 +93,13 @@ GP: List[Case] = [
     ("%", r"{latex:$\%53 = 7$}"),
     ("allocatemem(10^7)", "..new stack size = 10000000"),
     ("%1", r"{latex:$\%54 = 2$}"),
+    # Brackets hold lines together, where a later line closes them.
+    ("[1, 2;\u2028  3, 4]", r"{latex:$\%55 = \begin{pmatrix}1&2\\ 3&4\end{pmatrix}$}"),
+    ("for (i = 1, 2, \\\\ a remark (\u2028  print(i);\u2028\u2028  if (i > 1, {\u2028    print(i)\u2028  }))", "1\n2\n2"),
+    ("v = [1, \\\u20282, /* a remark (\u2028*/ 3];\u2028#v", r"{latex:$\%58 = 3$}"),
+    ("f(a,\u2028  b) = {\u2028  a + b\u2028}\u2028f(1, 2)", "%59 = (a,b)->a+b\n{latex:$\\%60 = 3$}"),
+    ("[1, 2\u20283 + 3", "..syntax error"),
+    ("??sin", "..sin(x):\n\n   Sine of x. Note that"),
 ]
 
 GP_TEXT: List[Case] = [
@@ -101,6 +108,14 @@ GP_TEXT: List[Case] = [
     (ones(4_095), "%11 = 2048"), ("1/0", "..impossible inverse in gdiv: 0."), ("Strchr([2, 5, 27])", '%12 = "\\x02\\x05\\e"'),
     ("while (1, )", "..user interrupt", True), ("y", "%13 = 5"), ("input()", "..a line has no input of its own"),
     ("1 + 1\u20282 + 2;\u20283 + 3", "%14 = 2\n%16 = 6"), ("[1..3000]", "..2999,3000]"),
+    ("default(output, 3)", ""), ("2", "%19 = 2"), ("while (1, )", "..user interrupt", True), ("5", "%20 = 5"), ("default(output, 1)", ""), ("[1,\u2028 2]", "%22 = [1, 2]"),
+    ("1/0", "..impossible inverse in gdiv: 0."), ("6", "%23 = 6"), ("???determinant", '..\n\nSee also:\n  "Finite abelian groups"'),
+]
+
+GP_TEXT_NO_NUMBERS: List[Case] = [
+    ("1 + 1", "2"), ("[1, 2; 3, 4]", "\n[1 2]\n\n[3 4]"), ("default(output, 0)", ""), ("[1, 2; 3, 4]", "[1,2;3,4]"), ('"%5 = a"', '"%5 = a"'), ('print("%6 = 5"); 8', "%6 = 5\n8"),
+    ("%1", "2"), ("f(x) = x^2", "(x)->x^2"), ("1 + 1\u20282 + 2;\u20283 + 3", "2\n6"), ("1/0", "..impossible inverse in gdiv: 0."), ("default(output, 3)", ""),
+    ("2", "2"), ("while (1, )", "..user interrupt", True), ("5", "5"), ("%", "5"),
 ]
 
 M2: List[Case] = [
@@ -138,7 +153,6 @@ MAXIMA_LATEX: List[Case] = [
     ("1 +", "..incorrect syntax"), ("", ""), ("integrate(y^n, y)", "..a line has no input of its own"), ("while true do 0", "..interrupt", True), ("a + 1", "{latex:$6$}"),
 ]
 
-# A line that takes longer than the seconds of its session ends by itself.
 # Values without their numbers, whose `%` and `%1` are gp's own.
 GP_NO_NUMBERS: List[Case] = [
     ("1 + 1", "{latex:$2$}"),
@@ -153,8 +167,13 @@ GP_NO_NUMBERS: List[Case] = [
     ("1 + 1\u20282 + 2", "{latex:$2$}\n{latex:$4$}"),
     ("while (1, )", "..user interrupt", True),
     ("f(4)", "{latex:$16$}"),
+    ("default(output, 3)", ""),
+    ("2", "{latex:$2$}"),
+    ("while (1, )", "..user interrupt", True),
+    ("5", "{latex:$5$}"),
 ]
 
+# A line that takes longer than the seconds of its session ends by itself.
 GP_SECONDS: List[Case] = [("y = 5", r"{latex:$\%1 = 5$}"), ("while (1, )", "..user interrupt"), ("y + 1", r"{latex:$\%2 = 6$}")]
 PYTHON_SECONDS: List[Case] = [("y = 5", ""), ("while True: pass", "..KeyboardInterrupt"), ("y + 1", "6")]
 
@@ -250,6 +269,7 @@ TRIALS = {
     "gp_lines": Trial("gp", "gp", "\\q", "while (1, )", gp_lines.LINES),
     "gp_text": Trial("gp --text", "gp", "\\q", "while (1, )", GP_TEXT),
     "gp_no_numbers": Trial("gp --no-numbers", "gp", "\\q", "while (1, )", GP_NO_NUMBERS),
+    "gp_text_no_numbers": Trial("gp --text --no-numbers", "gp", "\\q", "while (1, )", GP_TEXT_NO_NUMBERS),
     "gp_seconds": Trial("gp --seconds 5", "gp", "\\q", "while (1, )", GP_SECONDS),
     "python_seconds": Trial("python --seconds 5", "python3", "os._exit(0)", "while True: pass", [("import os", ""), *PYTHON_SECONDS]),
     "python": Trial("python", "python3", "os._exit(0)", "while True: pass", PYTHON + ten_lines("python")),

@@ -1,11 +1,13 @@
 """The command in a pipe: answers in order, notes on standard error, and the status."""
 import os
+import shutil
 import signal
 import subprocess
 import sys
 import time
+import unittest
 
-from .support import COMMAND, INTERPRETER, LINE_END, Case, environment, heed_control_c, program_of
+from .support import COMMAND, INTERPRETER, LINE_END, ROOT, Case, environment, heed_control_c, program_of
 
 
 class Pipe(Case):
@@ -30,6 +32,19 @@ class Pipe(Case):
         self.make()
         self.assertEqual(self.pipe("a\\\nb\\\n\\\nc\nd\\\\\n\ne\\", self.sheet, "t"), (0, "a\nb\n\nc\nd\\\ne\n", ""))
         self.assertEqual([input for input, _ in self.pairs()], [f"a{LINE_END}b{LINE_END}{LINE_END}c", "d\\", "e"])
+
+    def test_a_backslash_of_the_interpreter(self) -> None:
+        """The second one of two is its own. gp gets all, but a remark that ends in one ends its line."""
+        self.make()
+        self.assertEqual(self.pipe("a \\\\\nb\n", self.sheet, "t"), (0, "a \\\nb\n", ""))
+        text = "%session u " + " ".join(INTERPRETER) + " adapters/gp\na + \\\nb\nc \\\\ d\\\ne \\\\\nf \\\n\n%session t\ng\\\nh\n"
+        self.assertEqual(self.pipe(text, self.sheet, "t"), (0, "a + \\\nb\nc \\\\ d\\\ne \\\\\nf \\\ng\nh\n", ""))
+
+    @unittest.skipUnless(shutil.which("gp"), "there is no gp")
+    def test_lines_of_gp_that_go_on(self) -> None:
+        text = "x = 1 + \\\n2\nf(n) = \\\nn^2 + x\nf(2)\n{f(n) = \\\n n + \\\n 1}\nf(2) \\\\ a remark\\\n%1\n"
+        status, out, errors = self.pipe(text, "--create", self.sheet, "gp", os.path.join(ROOT, "adapters/gp"), "--text")
+        self.assertEqual((status, out, errors), (0, "%1 = 3\n%2 = (n)->n^2+x\n%3 = 7\n%4 = (n)->n+1\n%5 = 3\n%6 = 3\n", ""))
 
     def test_windows_line_ends(self) -> None:
         self.make()

@@ -53,7 +53,7 @@ class Commands:
 
     def enter(self, session: str) -> None:
         self.session = session
-        self.lines.enter(session)
+        self.lines.enter(self.worksheet.sessions[session])
 
     def _list(self, words: List[str]) -> None:
         for field in self.worksheet.fields:

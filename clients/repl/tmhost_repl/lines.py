@@ -1,15 +1,23 @@
 """The lines that are to be evaluated, from a terminal or from a pipe. A line that ends in a backslash goes on with the next one."""
 
+import os
+import re
 import readline
 import sys
 from typing import Optional, Sequence
 
-from tmhost import Worksheet
+from tmhost import Session, Worksheet
 
 from .completion import Completer, Draft
 from .console import Console, Terminal
 from .evaluation import Evaluator, control_c_raises
 from .texts import LINE_END
+
+TEXT_OF_GP = re.compile(r'"(?:\\.|[^"\\])*"|\\\\.*')  # a string, or a remark: no backslash in them is one of the line
+
+
+def is_of_gp(session: Session) -> bool:
+    return any(os.path.basename(word) == "gp" for word in session.words)
 
 
 class Lines:
@@ -17,20 +25,26 @@ class Lines:
 
     def __init__(self, console: Console) -> None:
         self.console = console
+        self.is_for_gp = False
 
     def know(self, words: Sequence[str]) -> None:
         """These words are for the program itself."""
 
-    def enter(self, session: str) -> None:
+    def enter(self, session: Session) -> None:
         """From now on the lines are for this session."""
+        self.is_for_gp = is_of_gp(session)
+
+    def goes_on(self, line: str) -> bool:
+        return (TEXT_OF_GP.sub("", line) if self.is_for_gp else line).endswith("\\")
 
     def next(self) -> Optional[str]:
-        """The next text that isn't empty."""
+        """The next text that isn't empty. gp gets the backslashes, since it joins the lines by them as one; others would do the same, or
+        something else, so they get none, and two statements can be typed."""
         while True:
             parts = []
             line = self.read("")
-            while line is not None and line.endswith("\\"):
-                parts.append(line[:-1])
+            while line is not None and self.goes_on(line):
+                parts.append(line if self.is_for_gp else line[:-1])
                 line = self.read("\n".join(parts) + "\n")
             if line or (line is not None and not parts):
                 parts.append(line)
@@ -72,11 +86,12 @@ class TerminalLines(Lines):
     def know(self, words: Sequence[str]) -> None:
         self.completer.commands = words
 
-    def enter(self, session: str) -> None:
-        self.session = self.completer.session = session
+    def enter(self, session: Session) -> None:
+        super().enter(session)
+        self.session = self.completer.session = session.name
         readline.clear_history()
         for field in self.worksheet.fields:
-            if field.session == session:
+            if field.session == session.name:
                 self.remember(field.input.replace(LINE_END, "\n"))
 
     def remember(self, text: str) -> None:

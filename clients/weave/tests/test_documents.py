@@ -17,7 +17,7 @@ from tmhost_weave.fields import LINE_END  # noqa: E402
 from tmhost_weave.troubles import Trouble  # noqa: E402
 
 DOCUMENTS = int(os.environ.get("TMHOST_DOCUMENTS", "1000"))
-FRONT = "---\nsessions: {py: [adapters/python], sh: [adapters/prompted.py, sh]}\n---\n"
+FRONT = "---\nsessions: {py: [adapters/python], sh: [adapters/prompted.py, sh], pari: [adapters/gp, --text]}\n---\n"
 PREFIXES = ["", "", "", "", "> ", ">", "- ", "  ", "    ", "1. ", "   ", "\t", "> > ", "> - ", ">   ", "-\t", "10) ", "* - ", "     "]
 BODIES = [
     "text", "```py", "```", "~~~py {hide}", "~~~", "````", "# head", "---", "===", "<div>", "</div>", "<!-- x", "-->", "[a]: /b", "", "", "x = 1",
@@ -134,8 +134,8 @@ class Reading(unittest.TestCase):
     def one(self, text: str) -> Document:
         return Document(FRONT + text)
 
-    def inputs(self, code: str, flags: str = "") -> List[str]:
-        document = self.one(f"```py {flags}\n{code}\n```\n")
+    def inputs(self, code: str, flags: str = "", session: str = "py") -> List[str]:
+        document = self.one(f"```{session} {flags}\n{code}\n```\n")
         return [group.input.replace(LINE_END, "|") for group in document.fences[0].groups]
 
     def test_groups(self) -> None:
@@ -149,6 +149,15 @@ class Reading(unittest.TestCase):
         self.assertEqual(self.inputs("a\nb", "{pure}"), ["a|b"])
         self.assertEqual(self.inputs("\n  \n"), [])
         self.assertEqual(self.inputs(" a\nb"), [" a", "b"])
+
+    def test_groups_of_gp(self) -> None:
+        """Its remarks and texts hold no lines but their own."""
+        self.assertEqual(self.inputs("/* a (\n\n'b */\nx", session="pari"), ["/* a (||'b */", "x"])
+        self.assertEqual(self.inputs("1 \\\\ see (a\n2)\n\"[\" /* { */\n3]", session="pari"), ["1 \\\\ see (a", "2)", "\"[\" /* { */", "3]"])
+        self.assertEqual(self.inputs("g = 'x + f('y,\n'z)\nf'(0)", session="pari"), ["g = 'x + f('y,|'z)", "f'(0)"])
+        self.assertEqual(self.inputs("f(n) = \\\\ a remark\n{\nn # 1\n}\nx = 1 + \\\n2\na \\\\ b =\nc", session="pari"), ["f(n) = \\\\ a remark|{|n # 1|}", "x = 1 + \\|2", "a \\\\ b =", "c"])
+        self.assertEqual(self.inputs("/* open\nx\ny", session="pari"), ["/* open|x|y"])
+        self.assertEqual(self.inputs("/* open\nx\ny"), ["/* open", "x", "y"])
 
     def test_info_strings(self) -> None:
         for info, flags in [

@@ -1,5 +1,6 @@
 """A text with fences of sessions: what each has, where it ends, and what an earlier weave put behind it."""
 import dataclasses
+import os
 import re
 from typing import Any, FrozenSet, List, Optional, Sequence, Tuple
 
@@ -28,6 +29,7 @@ class Fence:
     until: int
     prefix: str  # of each line behind it: the marks of the quotes and lists in which it stands
     is_in_container: bool
+    is_of_gp: bool
     old: Shown
 
     @property
@@ -36,7 +38,8 @@ class Fence:
 
     @property
     def groups(self) -> List[Group]:
-        return list((whole if self.flags & {PURE, WHOLE} else groups)(list(self.content)))
+        lines = list(self.content)
+        return list(whole(lines) if self.flags & {PURE, WHOLE} else groups(lines, self.is_of_gp))
 
     @property
     def code(self) -> Tuple[str, FrozenSet[str], Tuple[str, ...]]:
@@ -104,7 +107,8 @@ class Document:
         old = finder.shown()
         # Readers differ in what they make of a part of a tab. The quote's optional space, since else it would take the first one of a line.
         prefix = prefix.expandtabs(TAB) + (" " if prefix.endswith(">") else "")
-        return Fence(*named, content, begin, end, finder.end + first, prefix, token.level > 0, old)
+        is_of_gp = any(os.path.basename(word) == "gp" for word in self.sessions[named[0]])
+        return Fence(*named, content, begin, end, finder.end + first, prefix, token.level > 0, is_of_gp, old)
 
     def woven(self, shown: Sequence[Shown]) -> str:
         """The text with these answers behind its fences, in place of those that stand there."""

@@ -14,6 +14,8 @@ GOES_ON = re.compile(rf"[ \t)\]}}]|(?:{CLOSING})\b")
 DECORATOR = re.compile(r"@\w")
 # What has no brackets that count: texts, and remarks.
 TEXT = re.compile(r"""\"(?:\\.|[^\"\\])*\"|'[^']*'|(?:\A|(?<=\s))#\s.*""")
+# In gp, where remarks have one line or several, and ' begins no text.
+TEXT_OF_GP = re.compile(r'"(?:\\.|[^"\\\n])*"|/\*.*?(?:\*/|\Z)|\\\\[^\n]*', re.DOTALL)
 HOLDS = re.compile(r"[\\=]\s*\Z")  # at the end of a line
 
 
@@ -40,14 +42,23 @@ def group(at: int, lines: List[str]) -> Iterator[Group]:
         yield Group(at, LINE_END.join(lines))
 
 
+def without_text_of_gp(lines: List[str]) -> List[str]:
+    """The lines of a fence of gp without texts and remarks. Of a remark of several lines there are brackets, which hold these together."""
+
+    def left(found: "re.Match[str]") -> str:
+        line_ends = found[0].count("\n")
+        return "(" + "\n" * line_ends + ")" if line_ends else '""' if found[0].startswith('"') else ""
+
+    return TEXT_OF_GP.sub(left, "\n".join(lines)).split("\n")
+
+
 def opened(line: str) -> int:
-    """How many brackets a line leaves open; below 0 it closes some of others."""
-    left = TEXT.sub("", line)
-    return sum(left.count(it) for it in "([{") - sum(left.count(it) for it in ")]}")
+    """How many brackets a line without texts leaves open; below 0 it closes some of others."""
+    return sum(line.count(it) for it in "([{") - sum(line.count(it) for it in ")]}")
 
 
 def closings(lines: List[str]) -> Dict[int, int]:
-    """The line that closes the brackets that a line leaves open, by that one, where there is such a line."""
+    """The line that closes the brackets that a line leaves open, by that one, where there is such a line. The lines are without texts."""
     closed: Dict[int, int] = {}
     waiting: List[Tuple[int, int]] = []  # lines whose brackets are open, each with the depth before it
     depth = 0
@@ -60,12 +71,13 @@ def closings(lines: List[str]) -> Dict[int, int]:
     return closed
 
 
-def holds(lines: List[str]) -> Iterator[int]:
+def holds(lines: List[str], is_of_gp: bool) -> Iterator[int]:
     """Of each line the last one that it holds: that which closes its brackets, where a field can have all of them; the next one after a
     backslash or an equals sign at its end; else itself."""
     ends = list(itertools.accumulate((1 + len(line) for line in lines), initial=0))
-    closed = closings(lines)
-    for at, line in enumerate(lines):
+    bare = without_text_of_gp(lines) if is_of_gp else lines
+    closed = closings(bare if is_of_gp else [TEXT.sub("", line) for line in lines])
+    for at, line in enumerate(bare):
         last = closed.get(at, at)
         if last > at and ends[last + 1] - ends[at] <= LONGEST_INPUT:
             yield last
@@ -73,12 +85,12 @@ def holds(lines: List[str]) -> Iterator[int]:
             yield at + 1 if HOLDS.search(line) else at
 
 
-def groups(lines: List[str]) -> Iterator[Group]:
+def groups(lines: List[str], is_of_gp: bool) -> Iterator[Group]:
     """Each line with those that go on from it. Empty lines stand in a group only where it goes on after them."""
     taken: List[str] = []
     blanks: List[str] = []
     begin, held = 0, -1
-    for at, (line, last) in enumerate(zip(lines, holds(lines))):
+    for at, (line, last) in enumerate(zip(lines, holds(lines, is_of_gp))):
         if not line.strip(" \t"):
             blanks.append(line)
             continue
