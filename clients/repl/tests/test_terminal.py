@@ -171,8 +171,9 @@ class Control(Case):
         terminal.sees(r"^3\] count\n2\nt>\Z")
 
     def stuck(self) -> Terminal:
+        """Its lines are long, since the interpreter is shown, whose path may be."""
         self.make()
-        terminal = self.terminal()
+        terminal = self.terminal(columns=400)
         terminal.sees("t>")
         terminal.send("stuck 3\r")
         terminal.sees("Tester")

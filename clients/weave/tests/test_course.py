@@ -150,3 +150,13 @@ class Course(Case):
         self.assertEqual(woven.count("\n\n<!-- tmhost-answer -->\n\n$"), len(here))
         self.assertEqual(woven.count("\\frac{1}{3}$\n\n<!-- /tmhost-answer -->\n\n"), len(here))
         self.assertEqual(self.weave(woven), woven)
+
+    def test_lines_of_gp(self) -> None:
+        """Code as a mathematician writes it: remarks over lines and with brackets in them, a matrix and a loop over lines, without braces."""
+        if not shutil.which("gp"):
+            self.skipTest("there is no gp")
+        code = "/* squares (of\n   those */\ns(n) = n^2; \\\\ one (\nM = [1, 2;\n3, s(2)]\nfor(i = 1, 2,\nprint(i)\n)\nf(x) =\n{\n  x + 1;\n}\nf(1) + \\\n2"
+        words = [os.path.join(ADAPTERS, "gp"), "--text", "--no-numbers"]
+        woven = self.weave(self.front(gp=words) + f"```gp\n{code}\n```\n")
+        found = re.findall(r"```tmhost-answer\n(.*?)\n```", woven, re.DOTALL)
+        self.assertEqual(found, ["\n[1 2]\n\n[3 4]", "1\n2", "4"])
