@@ -38,11 +38,13 @@ install: all
 		install clients/$$client/tmhost-$$client $(HERE)/clients/$$client && \
 		ln -sf ../share/tmhost/clients/$$client/tmhost-$$client $(DESTDIR)$(PREFIX)/bin/tmhost-$$client || exit 1; \
 	done
+	install clients/import/tmhost-prose $(HERE)/clients/import
+	ln -sf ../share/tmhost/clients/import/tmhost-prose $(DESTDIR)$(PREFIX)/bin/tmhost-prose
 	install -d $(SHARE)/emacs/site-lisp/tmhost
 	install -m 644 clients/emacs/*.el $(SHARE)/emacs/site-lisp/tmhost
 
 uninstall:
 	rm -f $(DESTDIR)$(PREFIX)/bin/tmhost $(SHARE)/man/man1/tmhost.1 $(SHARE)/bash-completion/completions/tmhost
 	rm -rf $(HERE) $(SHARE)/emacs/site-lisp/tmhost
-	rm -f $(addprefix $(DESTDIR)$(PREFIX)/bin/tmhost-,$(CLIENTS))
+	rm -f $(addprefix $(DESTDIR)$(PREFIX)/bin/tmhost-,$(CLIENTS) prose)
 	rm -f $(SHARE)/zsh/site-functions/_tmhost $(SHARE)/fish/vendor_completions.d/tmhost.fish

@@ -3,6 +3,7 @@ import collections
 import dataclasses
 
 LONGEST_SHOWN = 100  # characters of a name from a document that a message shows
+TAB = 4  # columns, in Markdown
 
 
 class Trouble(Exception):
@@ -23,6 +24,7 @@ class Cell:
     hints: tuple[str, ...]  # languages and kernels, the surest first, by which an interpreter is looked for
     is_optional: bool  # whether it is left out where there is no interpreter for it
     kind: str  # what it is called where it is left out
+    is_prose: bool = False  # text between code: of the others only the place and the name of a session count
 
 
 @dataclasses.dataclass
@@ -40,6 +42,11 @@ def plain(text: str) -> str:
 
 def shown(text: str) -> str:
     return f"'{plain(text)}'"
+
+
+def prose_cell(place: str, text: str, session: str | None = None) -> Cell:
+    """Text between code. Tabs become the spaces for which Markdown takes them, since exports have none in an input."""
+    return Cell(place, text.expandtabs(TAB), session, (), False, "prose", True)
 
 
 def code_text(text: str) -> str:

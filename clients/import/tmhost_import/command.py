@@ -4,7 +4,7 @@ import os
 import signal
 import sys
 
-from . import fences, notebook, org
+from . import markdown, notebook, org
 from .cells import Document, Trouble
 from .fields import Sheet
 from .making import make, refuse_taken
@@ -17,6 +17,7 @@ SUFFIXES = {".ipynb": "notebook", ".org": "org", ".md": "markdown", ".markdown":
 ABOUT = "Makes a new worksheet of tmhost from a Jupyter notebook, an Org file or a CommonMark text with fences."
 NOTES = f"""
 Each code cell or block becomes a field. Its lines are one input, with U+2028 between them; nothing is evaluated.
+With --prose the text between them becomes fields, too, of a session `prose` whose only word is `true`.
 Languages with an interpreter: {", ".join(LANGUAGES)}.
 The program is the one that TMHOST names, or tmhost on PATH. The status is 0 where the worksheet is made, 1 where it
 isn't, which is told, and 2 where the words are refused.
@@ -31,6 +32,7 @@ def arguments(words: list[str]) -> argparse.Namespace:
     parser.add_argument("--session", action="append", default=[], metavar="NAME=WORDS", help="the words that start the session or the language NAME")
     parser.add_argument("--kernel", metavar="NAME", help="the kernel of a notebook, in place of the one that it names")
     parser.add_argument("--split", action="store_true", help="a field for each line, and those behind it that are indented")
+    parser.add_argument("--prose", action="store_true", help="take the text of a notebook or of Markdown, too")
     parser.add_argument("--script", action="store_true", help="write the script in place of making a worksheet")
     given = parser.parse_intermixed_args(words)
     if not (0 if given.script else 1) <= len(given.paths) <= (1 if given.script else 2):
@@ -75,13 +77,21 @@ def read(given: argparse.Namespace, path: str) -> Document:
     text = text_of(read_bytes(path))
     chosen = given.format or format_of(path, text)
     if chosen == "notebook":
-        return notebook.read(text, given.kernel)
-    return org.read(text) if chosen == "org" else fences.read(text)
+        return notebook.read(text, given.kernel, given.prose)
+    if chosen == "markdown":
+        return markdown.read(text, given.session, given.prose)
+    if given.prose:
+        raise Trouble("prose is Markdown, and the text of an Org file isn't: make Markdown of it first (pandoc --from org --to gfm)")
+    return org.read(text)
+
+
+def say_as(name: str, *lines: str) -> None:
+    for line in lines:
+        print(f"{name}: {line}", file=sys.stderr)
 
 
 def say(*lines: str) -> None:
-    for line in lines:
-        print(f"tmhost-import: {line}", file=sys.stderr)
+    say_as("tmhost-import", *lines)
 
 
 def tell(document: Document, sheet: Sheet) -> None:
@@ -91,16 +101,22 @@ def tell(document: Document, sheet: Sheet) -> None:
     if kinds:
         say("left out: " + "; ".join(kinds[:MOST_KINDS] + more))
     say(*document.notes, *sheet.sessions.renamed())
+    if sheet.cuts:
+        say(f"texts that are several fields of prose, cut at empty lines: {sheet.cuts}")
     if count := sheet.count_of_many_lines():
         say(f"fields of several lines, with U+2028 between them: {count}")
 
 
-def write_script(sheet: Sheet) -> None:
+def write_bytes(data: bytes, what: str = "it") -> None:
     try:
         with open(1, "wb", closefd=False) as out:
-            out.write("".join(line + "\n" for line in sheet.script()).encode("utf-8"))
+            out.write(data)
     except OSError as error:
-        raise Trouble(f"the script can't be written: {error.strerror}") from error
+        raise Trouble(f"{what} can't be written: {error.strerror}") from error
+
+
+def write_script(sheet: Sheet) -> None:
+    write_bytes("".join(line + "\n" for line in sheet.script()).encode("utf-8"), "the script")
 
 
 def do(given: argparse.Namespace) -> None:
@@ -109,7 +125,7 @@ def do(given: argparse.Namespace) -> None:
     if not given.script:
         refuse_taken(new)
     document = read(given, path)
-    sheet = Sheet(document, {**document.words, **given.session}, given.split)
+    sheet = Sheet(document, {**document.words, **given.session}, given.split, given.prose)
     tell(document, sheet)
     if not sheet.fields:
         raise Trouble("there is nothing in it to make a field of")

@@ -6,16 +6,12 @@ told apart only as far as it decides where one begins. References are paragraphs
 import dataclasses
 import re
 
-from .cells import Cell, Document, plain
-from .front import sessions_of
-
 TAB = 4  # columns
 MOST_LEVELS = 100  # of containers; what would open one more is text
 FENCE = re.compile(r"(?:(`{3,})([^`]*)|(~{3,})(.*))")
 HEADING = re.compile(r"#{1,6}(?:[ \t].*)?")
 UNDERLINE = re.compile(r"(?:=+|-+)[ \t]*")
 MARKER = re.compile(r"(?:[*+-]|(\d{1,9})[.)])(?=[ \t]|$)", re.ASCII)
-LANGUAGE = re.compile(r"\{?\.?([^\s,{}]+)")  # python, {python, echo=FALSE} and {.python}
 ATTRIBUTE = r"\s+[A-Za-z_:][A-Za-z0-9_.:-]*(?:\s*=\s*(?:[^\s\"'=<>`]+|'[^']*'|\"[^\"]*\"))?"
 ELEMENTS = (
     "address|article|aside|base|basefont|blockquote|body|caption|center|col|colgroup|dd|details|dialog|dir|div|dl|dt|fieldset|figcaption|"
@@ -88,6 +84,12 @@ class Fence:
     mark: str
     info: str
     lines: list[str] = dataclasses.field(default_factory=list)
+    is_closed: bool = False
+
+    @property
+    def end(self) -> int:
+        """Its last line."""
+        return self.line + len(self.lines) + self.is_closed
 
     def is_closed_by(self, line: Line) -> bool:
         body = line.body().rstrip(" \t")
@@ -168,7 +170,7 @@ class Reader:
 
     def take_code(self, fence: Fence, line: Line) -> None:
         if fence.is_closed_by(line):
-            self.leaf = None
+            self.leaf, fence.is_closed = None, True
         else:
             line.skip(fence.indent)
             fence.lines.append(line.rest())
@@ -236,22 +238,12 @@ class Reader:
             self.containers[-1].is_empty = False
 
 
+def lines_of(text: str) -> list[str]:
+    return text.replace("\r\n", "\n").replace("\r", "\n").removesuffix("\n").split("\n")
+
+
 def fences_of(text: str) -> list[Fence]:
     reader = Reader()
-    lines = text.replace("\r\n", "\n").replace("\r", "\n").removesuffix("\n").split("\n")
-    for number, line in enumerate(lines, 1):
+    for number, line in enumerate(lines_of(text), 1):
         reader.take(number, line)
     return reader.fences
-
-
-def read(text: str) -> Document:
-    """The fenced blocks of which the first word behind the fence is a language or a session."""
-    document = Document(words=sessions_of(text))
-    for fence in fences_of(text):
-        if found := LANGUAGE.match(fence.info):
-            kind = f"blocks of {plain(found[1])}"
-            code = "\n".join(fence.lines).rstrip("\n")
-            document.cells.append(Cell(f"the block in line {fence.line}", code, None, (found[1],), True, kind))
-        else:
-            document.left_out["blocks without a language"] += 1
-    return document

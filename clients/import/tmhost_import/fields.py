@@ -4,11 +4,9 @@ import re
 from collections.abc import Iterator
 
 from .cells import Cell, Document, Trouble, plain
+from .prose import LINE_END, LONGEST_INPUT, WORDS, parts_of
 from .sessions import Sessions
 
-# Stands in an input for the end of a line, since an input has none.
-LINE_END = "\u2028"
-LONGEST_INPUT = 4095  # bytes
 MOST_FIELDS = 10_000
 MOST_TOLD = 10  # troubles
 CONTROL = re.compile(r"[\x00-\x08\x0a-\x1f]")
@@ -68,9 +66,10 @@ def told(troubles: list[str]) -> Trouble:
 class Sheet:
     """The worksheet that a document becomes. It is made whole or not at all."""
 
-    def __init__(self, document: Document, given: dict[str, tuple[str, ...]], is_split: bool) -> None:
-        self.sessions, self.is_split = Sessions(given), is_split
+    def __init__(self, document: Document, given: dict[str, tuple[str, ...]], is_split: bool, has_prose: bool = False) -> None:
+        self.sessions, self.is_split = Sessions(given, has_prose), is_split
         self.fields: list[Field] = []
+        self.cuts = 0  # texts of prose that became several fields
         self.troubles: list[str] = []
         self.unknown: set[str] = set()  # sessions for which there is no interpreter
         self.left_out = document.left_out.copy()
@@ -98,8 +97,17 @@ class Sheet:
             self.unknown.add(session)
             self.troubles.append(f"{place}: no interpreter is known for its session: say --session '{session}=WORDS'")
 
+    def pieces_for(self, cell: Cell, session: str) -> Iterator[tuple[str, list[str]]]:
+        """The lines of each field that a cell becomes, with their places."""
+        if self.is_split and self.sessions.words[session] != WORDS:
+            yield from pieces(cell)
+            return
+        parts = parts_of(cell.text) if cell.is_prose else [cell.text]
+        self.cuts += len(parts) > 1
+        yield from ((cell.place, part.split("\n")) for part in parts)
+
     def add_fields(self, cell: Cell, session: str) -> None:
-        for place, lines in pieces(cell) if self.is_split else [(cell.place, cell.text.split("\n"))]:
+        for place, lines in self.pieces_for(cell, session):
             if len(self.fields) == MOST_FIELDS:
                 raise Trouble(f"{place}: a worksheet has at most {MOST_FIELDS:,} fields, and this is one more")
             if reason := misfit(lines):

@@ -5,7 +5,7 @@ import json
 import re
 import warnings
 
-from .cells import Cell, Document, Trouble, code_text, plain, shown
+from .cells import Cell, Document, Trouble, code_text, plain, prose_cell, shown
 from .sessions import NAME
 
 VERSION = 4
@@ -155,7 +155,16 @@ def code_cell(cell: Object, place: str, kernel: Kernel) -> Cell:
     return Cell(place, text, session, hints, False, "code cells")
 
 
-def read(text: str, kernel: str | None) -> Document:
+def markdown_cell(cell: Object, place: str, document: Document) -> Cell:
+    """A cell of prose. What is attached to it isn't taken."""
+    source, own = source_of(cell, place), own_session(cell, place)
+    attached = cell.get("attachments")
+    if isinstance(attached, dict) and attached:
+        document.left_out["attachments of markdown cells"] += len(attached)
+    return prose_cell(place, code_text(source) if own is None else source, own)
+
+
+def read(text: str, kernel: str | None, has_prose: bool = False) -> Document:
     """The cells of a notebook; those that name no session of tmhost's have the one of its kernel, or of the one that is given."""
     notebook = checked_notebook(parsed(text))
     found, document = Kernel(notebook, kernel), Document()
@@ -165,6 +174,8 @@ def read(text: str, kernel: str | None) -> Document:
             raise Trouble(f"cell {number}: it is no object with a text cell_type, or its id is no text")
         if kind == "code":
             document.cells.append(code_cell(cell, f"cell {number}", found))
+        elif kind == "markdown" and has_prose:
+            document.cells.append(markdown_cell(cell, f"cell {number}", document))
         else:
             document.left_out[f"{plain(kind)} cells"] += 1
     refuse_invalid(notebook)

@@ -2,6 +2,7 @@
 import os
 import re
 
+from . import prose
 from .cells import Cell, Trouble, shown
 
 NAME = re.compile(r"[A-Za-z0-9_-]{1,32}")
@@ -87,20 +88,28 @@ def given_session(option: str) -> tuple[str, tuple[str, ...]]:
 
 
 class Sessions:
-    """The sessions that the cells so far have asked for. `words` has those of each, by its name."""
+    """The sessions that the cells so far have asked for. `words` has those of each, by its name. Where there is prose, its sessions are known."""
 
-    def __init__(self, given: dict[str, tuple[str, ...]]) -> None:
-        self.given = given
+    def __init__(self, given: dict[str, tuple[str, ...]], has_prose: bool = False) -> None:
+        self.given, self.has_prose = given, has_prose
         self.words: dict[str, tuple[str, ...]] = {}
         self.names: dict[tuple[str, tuple[str, ...]], str] = {}  # by what the document calls it, and its words
 
+    def choices(self, cell: Cell) -> list[tuple[str, tuple[str, ...]]]:
+        """What may evaluate a cell: names, each with its words, the surest first."""
+        hints = (cell.session or "", *cell.hints)
+        given = [(hint, self.given[hint]) for hint in hints if hint in self.given]
+        prosaic = [(hint, prose.WORDS) for hint in hints if self.has_prose and prose.is_prose(hint)]
+        return given + prosaic + [(language, table_words(language)) for language in map(language_of, cell.hints) if language]
+
     def of_cell(self, cell: Cell) -> str | None:
         """The name of a cell's session, which is made where it is the first one of it; none where there is no interpreter for it."""
-        given = [(hint, self.given[hint]) for hint in (cell.session or "", *cell.hints) if hint in self.given]
-        known = [(language, table_words(language)) for language in map(language_of, cell.hints) if language]
-        if not given + known:
+        if cell.is_prose:
+            return self.named(cell.session if cell.session and prose.is_prose(cell.session) else prose.NAME, prose.WORDS)
+        choices = self.choices(cell)
+        if not choices:
             return None
-        name, words = (given + known)[0]
+        name, words = choices[0]
         return self.named(cell.session or name, checked(words))
 
     def named(self, wanted: str, words: tuple[str, ...]) -> str:

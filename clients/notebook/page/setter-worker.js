@@ -2,12 +2,14 @@
 // page makes nodes by its own list.
 
 import { partsOf, wordsOfKatex } from "./latex.js";
+import { readerOf } from "./markdown.js";
 
 /** @typedef {import("./types").Tree} Tree */
 /** @typedef {{number: number, kind: "tex" | "markdown", text: string}} Job */
 
 const OPTIONS = { throwOnError: true, trust: false, strict: "ignore", maxSize: 20, maxExpand: 500 };
 const LONGEST_PROSE = 100_000;
+const HEADINGS_DOWN = 2; // the page has a heading, and each of its cells
 
 // Both are scripts that put themselves onto `self`; where they aren't installed the server gives empty ones.
 const here = /** @type {any} */ (self);
@@ -78,90 +80,14 @@ function block(text) {
 
 // ---- Markdown
 
-/**
- * A formula between dollars, as in notebooks: no blank within beside them, and no digit behind.
- * @type {(state: any, silent: boolean) => boolean}
- */
-function dollars(state, silent) {
-  const found = /^(\$\$?)(?!\s)((?:[^$\\]|\\[^])+?)(?<!\s)\1(?!\d)/.exec(state.src.slice(state.pos, state.pos + 2_000));
-  if (state.src[state.pos] !== "$" || !found) return false;
-  if (!silent) Object.assign(state.push("tex", "", 0), { content: found[2], markup: found[1] });
-  state.pos += found[0].length;
-  return true;
-}
-
-/** @type {any} */
-let markdownIt;
-
-function reader() {
-  if (!markdownIt) {
-    markdownIt = here.markdownit({ html: false, linkify: false, typographer: false });
-    markdownIt.inline.ruler.before("escape", "dollars", dollars);
-  }
-  return markdownIt;
-}
-
-/** @type {Record<string, string>} */
-const NAMES = { h1: "h3", h2: "h4", h3: "h5", h4: "h6", h5: "h6" };
-
-/** @type {(token: any) => Record<string, string>} */
-function kept(token) {
-  const given = Object.fromEntries(token.attrs ?? []);
-  if (token.tag === "a") return /^(https?:\/\/|mailto:)/i.test(given.href) ? { href: given.href } : {};
-  if (token.tag === "ol" && given.start) return { start: given.start };
-  const side = /^text-align:(left|center|right)$/.exec(given.style ?? "");
-  return side ? { class: side[1] } : {};
-}
-
-/**
- * A token that opens nothing.
- * @type {(token: any) => Tree[]}
- */
-function leaf(token) {
-  switch (token.type) {
-    case "inline": return nested(token.children);
-    case "fence": case "code_block": return [["pre", {}, [["code", {}, [token.content]]]]];
-    case "code_inline": return [["code", {}, [token.content]]];
-    case "softbreak": return ["\n"];
-    case "hardbreak": case "hr": return [[token.tag, {}, []]];
-    case "image": return [`[${token.content}]`];
-    case "tex": return mathIn(token);
-    default: return [token.content];
-  }
-}
-
-/** @type {(token: any) => Tree[]} */
-function mathIn(token) {
-  try {
-    return formula(token.content, token.markup === "$$");
-  } catch {
-    return [token.markup + token.content + token.markup];
-  }
-}
-
-/** @type {(tokens: any[]) => Tree[]} */
-function nested(tokens) {
-  /** @type {Tree[][]} */
-  const open = [[]];
-  for (const token of tokens) {
-    const into = open[open.length - 1];
-    if (token.nesting === 1 && !token.hidden) {
-      /** @type {Tree[]} */
-      const within = [];
-      into.push([NAMES[token.tag] ?? token.tag, kept(token), within]);
-      open.push(within);
-    } else if (token.nesting === -1 && !token.hidden) {
-      open.pop();
-    } else if (token.nesting === 0) {
-      into.push(...leaf(token));
-    }
-  }
-  return open[0];
-}
+/** @type {((text: string) => Tree[]) | undefined} */
+let reader;
 
 /** @type {(text: string) => Tree[] | null} */
 function markdown(text) {
-  return here.markdownit && text.length <= LONGEST_PROSE ? nested(reader().parse(text, {})) : null;
+  if (!here.markdownit || text.length > LONGEST_PROSE) return null;
+  reader ??= readerOf(here.markdownit, HEADINGS_DOWN, formula);
+  return reader(text);
 }
 
 /** @type {(job: Job) => Tree[] | null} */

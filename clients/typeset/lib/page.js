@@ -1,8 +1,8 @@
 "use strict";
-// The formulas of a page that `tmhost export html` wrote, and the same page with them set.
+// The formulas and the fields of prose of a page that `tmhost export html` wrote, and the same page with them set.
 //
-// In an output of such a page each `<` begins `<span class="tex">` or its `</span>`, whatever an interpreter wrote. So a span's end
-// needs no guess. All of this works on bytes: what is no formula is copied as it is.
+// In an output of such a page each `<` begins `<span class="tex">` or its `</span>`, whatever an interpreter wrote, and no other text has one.
+// So the end of a span and of a field needs no guess. All of this works on bytes: what is neither is copied as it is.
 
 const OUTPUT_START = Buffer.from('<pre class="out"');
 const OUTPUT_END = Buffer.from("</pre>");
@@ -14,6 +14,12 @@ const LINE_FEED = 10;
 const BLANKS = [32, 9];
 const MOST_SPANS = 100; // a browser cuts a tree at a depth of some 512 elements; MathML may have 200 of them
 const MOST_STEPS = 1000; // bytes and tags beside a span that are looked at
+const FIELD_START = Buffer.from('<section id="field-');
+const FIELD_END = Buffer.from("</section>\n");
+const LONGEST_FIELD = 50_000; // bytes of one that is prose: each of an input's 4,095 may be a reference
+// A field without an answer, whose session and input are found.
+const FIELD = new RegExp('^<section id="(field-[0-9]+)">\n<header><a href="#\\1">#[0-9]+</a> <bdi>([^<]*)</bdi></header>\n'
+  + '<pre class="in" dir="ltr"><bdi>[^<]*</bdi><code dir="ltr">([^<]*)</code></pre>\n<p class="none">no answer[^<]*</p>\n</section>\n$');
 
 const REFERENCES = new Map([["&amp;", "&"], ["&lt;", "<"], ["&gt;", ">"], ["&quot;", '"'], ["&#39;", "'"]]);
 const ESCAPES = new Map([...REFERENCES].map(([reference, character]) => [character, reference]));
@@ -32,6 +38,36 @@ mtd[columnalign="right"]{text-align:right;text-align:-webkit-right}
 .tex-under{border-bottom:.06em solid;padding-bottom:.12em}
 </style>
 `;
+
+// Prose: no card, but room for each of its parts.
+const PROSE_STYLE = `<style>
+.prose{padding:0 .9rem;border-color:transparent;background:none;overflow-wrap:anywhere;overflow-x:auto}
+.prose>:first-child{margin-top:0}
+.prose>:last-child{margin-bottom:0}
+.prose :is(p,ul,ol,pre,table,blockquote){margin:.6rem 0}
+.prose :is(h2,h3,h4,h5,h6){margin:1.1rem 0 .4rem;line-height:1.25;font-weight:650}
+.prose h2{font-size:1.35rem}
+.prose h3{font-size:1.15rem}
+.prose :is(h4,h5,h6){font-size:1rem}
+.prose code{font:.9em ui-monospace,Consolas,monospace}
+.prose pre{border:1px solid var(--line);border-radius:.4rem;background:var(--card)}
+.prose pre code{font:inherit}
+.prose blockquote{padding-left:.9rem;border-left:3px solid var(--line);color:var(--dim)}
+.prose table{border-collapse:collapse}
+.prose :is(th,td){padding:.15rem .6rem;border:1px solid var(--line);text-align:left}
+.prose .center{text-align:center}
+.prose .right{text-align:right}
+.prose a{color:var(--mark)}
+.prose :is(a,code){unicode-bidi:isolate}
+.prose .display{display:block;margin:.6rem 0;overflow-x:auto;text-align:center}
+@media print{.prose{break-inside:auto}.prose :is(h2,h3,h4,h5,h6){break-after:avoid}}
+</style>
+`;
+
+/**
+ * A field of prose: its bytes are `start` up to `end` of the page, without what has its number.
+ * @typedef {{start: number, end: number, session: string, text: string | null}} Prose
+ */
 
 /**
  * What stands in an innermost span: its bytes are `start` up to `end` of the page.
@@ -141,23 +177,57 @@ function escapedText(text) {
 }
 
 /**
- * The page with other contents of some spans, and a style in its head if there is one of them.
- * @type {(page: Buffer, made: {span: Span, html: string}[]) => Buffer}
+ * The field without an answer that begins at a place, where it has a session of prose.
+ * @type {(page: Buffer, start: number, isProse: (session: string) => boolean) => Prose | null}
  */
-function pageWith(page, made) {
+function proseAt(page, start, isProse) {
+  const end = page.indexOf(FIELD_END, start) + FIELD_END.length;
+  if (end < FIELD_END.length || end - start > LONGEST_FIELD) return null;
+  const found = FIELD.exec(page.toString("latin1", start, end));
+  if (!found) return null;
+  const [session, text] = found.slice(2).map((part) => textOf(Buffer.from(part, "latin1")));
+  return session !== null && isProse(session) ? { start: start + FIELD_START.length + found[1].length - "field-".length, end, session, text } : null;
+}
+
+/**
+ * The fields of prose of a page, in their order: those without an answer whose session is one of prose.
+ * @type {(page: Buffer, isProse: (session: string) => boolean) => Prose[]}
+ */
+function proseOf(page, isProse) {
+  const all = [];
+  for (let at = page.indexOf(FIELD_START); at >= 0; at = page.indexOf(FIELD_START, at + 1)) {
+    const found = proseAt(page, at, isProse);
+    if (found) all.push(found);
+  }
+  return all;
+}
+
+/**
+ * The section of a field of prose, from where its number ends.
+ * @type {(html: string) => string}
+ */
+function proseSection(html) {
+  return `" class="prose" dir="auto">\n${html}\n</section>\n`;
+}
+
+/**
+ * The page with something else in some places, which stand in their order, and with styles in its head.
+ * @type {(page: Buffer, made: {start: number, end: number, html: string}[], styles: string) => Buffer}
+ */
+function pageWith(page, made, styles) {
   const head = page.indexOf(HEAD_END);
   const pieces = [];
   let at = 0;
-  if (made.length > 0 && head >= 0) {
-    pieces.push(page.subarray(0, head), Buffer.from(STYLE));
+  if (styles && head >= 0) {
+    pieces.push(page.subarray(0, head), Buffer.from(styles));
     at = head;
   }
-  for (const { span, html } of made) {
-    pieces.push(page.subarray(at, span.start), Buffer.from(html));
-    at = span.end;
+  for (const { start, end, html } of made) {
+    pieces.push(page.subarray(at, start), Buffer.from(html));
+    at = end;
   }
   pieces.push(page.subarray(at));
   return Buffer.concat(pieces);
 }
 
-module.exports = { spansOf, textOf, escapedText, pageWith, STYLE };
+module.exports = { spansOf, proseOf, proseSection, textOf, escapedText, pageWith, STYLE, PROSE_STYLE };

@@ -5,25 +5,31 @@ const fs = require("node:fs");
 const path = require("node:path");
 const { parseArgs } = require("node:util");
 const { typeset } = require("./typeset.js");
-const { NoKatex } = require("./setter.js");
+const { NotStarted } = require("./setter.js");
 
-const HELP = `usage: tmhost-typeset [--report] [--seconds N] [--katex FILE] [PAGE]
+const HELP = `usage: tmhost-typeset [OPTIONS] [PAGE]
 
-Reads a page that \`tmhost export html\` wrote, from PAGE or from standard input, and writes it with its formulas set as MathML.
-What can't be set stays as its TeX, and all else as it is.
+Reads a page that \`tmhost export html\` wrote, from PAGE or from standard input, and writes it with its formulas set as MathML
+and its prose as what Markdown says. What can't be set stays as its TeX, and all else as it is.
 
-  --report      say of each formula that stays as its TeX why it does, on standard error
-  --seconds N   set what can be set within N seconds (60)
-  --katex FILE  KaTeX itself (katex.js of Debian's package katex)
-  --help        show this
+  --prose NAME        the fields of session NAME that have no answer are prose (prose, and prose-2 and so on); may stand more than once
+  --no-prose          no field is
+  --report            say of each formula and each field of prose that stays as it is why it does, on standard error
+  --seconds N         set what can be set within N seconds (60)
+  --katex FILE        KaTeX itself (katex.js of Debian's package katex)
+  --markdown-it FILE  markdown-it itself (markdown-it.js of Debian's package libjs-markdown-it)
+  --help              show this
 
 status: 0, also where formulas stay as their TeX; 1 where something can't be read, written or started; 2 where these words are refused
 `;
+const USAGE = HELP.split("\n")[0];
 const KATEX = ["/usr/share/nodejs/katex/dist/katex.js", "/usr/share/javascript/katex/katex.js"];
+const MARKDOWN = ["/usr/share/nodejs/markdown-it/dist/markdown-it.js", "/usr/share/javascript/markdown-it/markdown-it.js"];
+const PROSE = /^prose(-\d{1,6})?$/; // as tmhost-notebook and tmhost-import name its sessions
 const SECONDS = "60";
 const SHOWN = 60; // characters of a formula in a report
 
-/** @typedef {{report: boolean, help: boolean, seconds: number, katex: string, page: string | null}} Words */
+/** @typedef {{report: boolean, help: boolean, seconds: number, means: import("./typeset.js").Means, page: string | null}} Words */
 
 /** The command ends with a status, and says why. */
 class Fault extends Error {
@@ -40,20 +46,37 @@ class Fault extends Error {
 /** @type {(words: string[]) => Words} */
 function readWords(words) {
   /** @type {import("node:util").ParseArgsConfig["options"]} */
-  const options = { report: { type: "boolean" }, help: { type: "boolean" }, seconds: { type: "string" }, katex: { type: "string" } };
+  const options = {
+    report: { type: "boolean" }, help: { type: "boolean" }, seconds: { type: "string" }, katex: { type: "string" },
+    "markdown-it": { type: "string" }, prose: { type: "string", multiple: true }, "no-prose": { type: "boolean" },
+  };
   let read;
   try {
     read = parseArgs({ args: words, options, allowPositionals: true });
   } catch (error) {
     throw new Fault(2, error instanceof Error ? error.message : "words that are refused");
   }
-  const { report, help, seconds = SECONDS, katex } = /** @type {Record<string, any>} */ (read.values);
+  const { values, positionals } = read;
+  const { report, help, seconds = SECONDS } = /** @type {Record<string, any>} */ (values);
   if (!/^[0-9]{1,6}$/.test(seconds)) throw new Fault(2, `no number of seconds: ${seconds}`);
-  if (read.positionals.length > 1) throw new Fault(2, "more than one page");
-  const file = katex ?? KATEX.find((name) => fs.existsSync(name)) ?? KATEX[0];
-  return {
-    report: report === true, help: help === true, seconds: Number(seconds), katex: path.resolve(file), page: read.positionals[0] ?? null,
-  };
+  if (positionals.length > 1) throw new Fault(2, "more than one page");
+  return { report: report === true, help: help === true, seconds: Number(seconds), means: meansOf(values), page: positionals[0] ?? null };
+}
+
+/** @type {(values: Record<string, any>) => import("./typeset.js").Means} */
+function meansOf({ katex, "markdown-it": markdown, prose, "no-prose": isNone }) {
+  if (prose && isNone) throw new Fault(2, "--prose and --no-prose");
+  /** @type {(session: string) => boolean} */
+  const isProse = (session) => !isNone && (prose ? prose.includes(session) : PROSE.test(session));
+  return { katex: fileOf(katex, KATEX), markdown: fileOf(markdown, MARKDOWN), isProse };
+}
+
+/**
+ * The file that is given, or the first that is there of these.
+ * @type {(given: string | undefined, files: string[]) => string}
+ */
+function fileOf(given, files) {
+  return path.resolve(given ?? files.find((name) => fs.existsSync(name)) ?? files[0]);
 }
 
 /** @type {(file: string | null) => Promise<Buffer>} */
@@ -84,20 +107,25 @@ function shown(text) {
   return JSON.stringify(short).replace(/[^ -~]/gu, (character) => `\\u{${(character.codePointAt(0) ?? 0).toString(16)}}`);
 }
 
-/** @type {(set: number, left: import("./typeset.js").Left[], report: boolean) => void} */
-function tell(set, left, report) {
-  const lines = report ? left.map(({ text, reason }) => `left ${shown(text)}: ${shown(reason)}\n`) : [];
-  if (left.length > 0) lines.push(`tmhost-typeset: ${left.length} of ${set + left.length} formulas stay as their TeX\n`);
+/**
+ * What stays as it is, and of how many.
+ * @type {(left: import("./typeset.js").Left[], of: {formulas: number, prose: number}, report: boolean) => void}
+ */
+function tell(left, { formulas, prose }, report) {
+  const lines = report ? left.map(({ kind, text, reason }) => `left ${kind === "prose" ? "prose " : ""}${shown(text)}: ${shown(reason)}\n`) : [];
+  const [tex, code] = ["formula", "prose"].map((kind) => left.filter((one) => one.kind === kind).length);
+  if (tex > 0) lines.push(`tmhost-typeset: ${tex} of ${formulas} formulas stay as their TeX\n`);
+  if (code > 0) lines.push(`tmhost-typeset: ${code} of ${prose} fields of prose stay as they are\n`);
   process.stderr.write(lines.join(""));
 }
 
 /** @type {(words: string[]) => Promise<void>} */
 async function run(words) {
-  const { report, help, seconds, katex, page } = readWords(words);
+  const { report, help, seconds, means, page } = readWords(words);
   if (help) return write(HELP);
-  const made = await typeset(await readPage(page), katex, Date.now() + 1000 * seconds);
+  const made = await typeset(await readPage(page), means, Date.now() + 1000 * seconds);
   await write(made.page);
-  tell(made.set, made.left, report);
+  tell(made.left, made, report);
 }
 
 /** @type {(words: string[]) => Promise<void>} */
@@ -105,9 +133,9 @@ async function main(words) {
   try {
     await run(words);
   } catch (error) {
-    const fault = error instanceof NoKatex ? new Fault(1, `KaTeX can't be started from ${error.message}; Debian has it in the package katex`) : error;
+    const fault = error instanceof NotStarted ? new Fault(1, error.message) : error;
     if (!(fault instanceof Fault)) throw error;
-    process.stderr.write(`tmhost-typeset: ${fault.message}\n${fault.status === 2 ? HELP.split("\n")[0] + "\n" : ""}`);
+    process.stderr.write(`tmhost-typeset: ${fault.message}\n${fault.status === 2 ? USAGE + "\n" : ""}`);
     process.exitCode = fault.status;
   }
 }

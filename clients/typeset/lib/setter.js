@@ -1,35 +1,32 @@
 "use strict";
-// Has formulas set by KaTeX in a process of its own, within limits of time and memory, so that no formula stops the others.
+// Has texts set by KaTeX or markdown-it in a process of its own, within limits of time and memory, so that no text stops the others.
 
 const { fork } = require("node:child_process");
 const path = require("node:path");
 
+/** @typedef {import("node:child_process").ChildProcess} ChildProcess */
+
 /**
- * @typedef {import("./child.js").Question} Question
- * @typedef {import("./child.js").Answer} Answer
- * @typedef {import("node:child_process").ChildProcess} ChildProcess
+ * What sets texts: its name, Debian's package with it, the file where it is, the script of its process, and how what that tells is read.
+ * @template Question, Answer
+ * @typedef {{
+ *   name: string, debian: string, file: string, script: string, sizeOf: (question: Question) => number, answerIn: (told: any) => Answer | null,
+ * }} Setter
  */
+
+/** @typedef {{reason: string}} Reason why there is no answer */
 
 const MEGABYTES = 256;
 const STARTING = 20_000; // milliseconds for its first start
-const ROUNDS = [1_000, 8_000]; // milliseconds for a formula; those that take longer come again behind all others
+const ROUNDS = [1_000, 8_000]; // milliseconds for a text; those that take longer come again behind all others
 
-/** @type {Answer} */
+/** @type {Reason} */
 const LATE = { reason: "it takes too long" };
-/** @type {Answer} */
-const BROKEN = { reason: "KaTeX broke off" };
+/** @type {Reason} */
+const BROKEN = { reason: "it broke off" };
 
-/**
- * What a child told, as an answer.
- * @type {(told: any) => Answer}
- */
-function answerIn(told) {
-  if (typeof told?.markup === "string") return { markup: told.markup };
-  return typeof told?.reason === "string" ? { reason: told.reason } : BROKEN;
-}
-
-/** KaTeX can't be started. */
-class NoKatex extends Error {}
+/** What sets texts can't be started. */
+class NotStarted extends Error {}
 
 /**
  * What a child says next: a message, `BROKEN` where it ends, `LATE` where nothing comes.
@@ -51,10 +48,11 @@ function nextOf(child, milliseconds) {
   });
 }
 
-class Katex {
-  /** @param {string} file KaTeX itself */
-  constructor(file) {
-    this.file = file;
+/** @template Question, Answer */
+class Helper {
+  /** @param {Setter<Question, Answer>} setter */
+  constructor(setter) {
+    this.setter = setter;
     this.hasStarted = false;
     /** @type {ChildProcess | null} */
     this.child = null;
@@ -66,26 +64,32 @@ class Katex {
    */
   async started(milliseconds) {
     if (this.child?.connected) return this.child;
-    this.child = fork(path.join(__dirname, "child.js"), [this.file], {
+    this.child = fork(path.join(__dirname, this.setter.script), [this.setter.file], {
       cwd: "/", env: {}, stdio: ["ignore", "ignore", "ignore", "ipc"],
       execArgv: [`--max-old-space-size=${MEGABYTES}`, "--disallow-code-generation-from-strings"],
     });
     if (await nextOf(this.child, this.hasStarted ? milliseconds : STARTING) !== "ready") this.stop();
-    if (!this.child && !this.hasStarted) throw new NoKatex(this.file);
+    if (!this.child && !this.hasStarted) throw this.notStarted();
     this.hasStarted = true;
     return this.child;
   }
 
-  /** @type {(question: Question, milliseconds: number) => Promise<Answer>} */
+  /** @type {(question: Question, milliseconds: number) => Promise<Answer | Reason>} */
   async ask(question, milliseconds) {
     const child = await this.started(milliseconds);
     if (!child) return LATE;
-    const told = nextOf(child, milliseconds);
-    child.send(question, () => {});
-    const answer = await told;
-    if (answer !== LATE && answer !== BROKEN) return answerIn(answer);
-    this.stop();
-    return answer;
+    const next = nextOf(child, milliseconds);
+    child.send(/** @type {any} */ (question), () => {});
+    const told = await next;
+    if (told === LATE || told === BROKEN) this.stop();
+    if (told === LATE) return LATE;
+    const reason = told !== BROKEN && typeof told?.reason === "string" ? told.reason : `${this.setter.name} broke off`;
+    return this.setter.answerIn(told) ?? { reason };
+  }
+
+  notStarted() {
+    const { name, file, debian } = this.setter;
+    return new NotStarted(`${name} can't be started from ${file}; Debian has it in the package ${debian}`);
   }
 
   stop() {
@@ -96,29 +100,40 @@ class Katex {
 
 /**
  * Answers to questions, each at its question's place. Behind the deadline each is `LATE`.
- * @type {(questions: Question[], file: string, deadline: number) => Promise<Answer[]>}
+ * @template Question, Answer
+ * @param {Setter<Question, Answer>} setter
+ * @param {Question[]} questions
+ * @param {number} deadline
+ * @returns {Promise<(Answer | Reason)[]>}
  */
-async function answersTo(questions, file, deadline) {
-  const katex = new Katex(file);
+async function answersTo(setter, questions, deadline) {
+  const helper = new Helper(setter);
+  /** @type {(Answer | Reason)[]} */
   const answers = questions.map(() => LATE);
   try {
-    for (const limit of ROUNDS) await oneRound(katex, questions, answers, limit, deadline);
+    for (const limit of questions.length > 0 ? ROUNDS : []) await oneRound(helper, questions, answers, limit, deadline);
   } finally {
-    katex.stop();
+    helper.stop();
   }
   return answers;
 }
 
 /**
- * Asks what has no answer yet: short formulas first, since only long ones take long.
- * @type {(katex: Katex, questions: Question[], answers: Answer[], limit: number, deadline: number) => Promise<void>}
+ * Asks what has no answer yet: short texts first, since only long ones take long.
+ * @template Question, Answer
+ * @param {Helper<Question, Answer>} helper
+ * @param {Question[]} questions
+ * @param {(Answer | Reason)[]} answers
+ * @param {number} limit
+ * @param {number} deadline
  */
-async function oneRound(katex, questions, answers, limit, deadline) {
-  const order = [...questions.keys()].sort((one, other) => questions[one].tex.length - questions[other].tex.length);
+async function oneRound(helper, questions, answers, limit, deadline) {
+  const { sizeOf } = helper.setter;
+  const order = [...questions.keys()].sort((one, other) => sizeOf(questions[one]) - sizeOf(questions[other]));
   for (const index of order) {
     const rest = deadline - Date.now();
-    if (answers[index] === LATE && rest > 0) answers[index] = await katex.ask(questions[index], Math.min(limit, rest));
+    if (answers[index] === LATE && rest > 0) answers[index] = await helper.ask(questions[index], Math.min(limit, rest));
   }
 }
 
-module.exports = { answersTo, NoKatex };
+module.exports = { answersTo, NotStarted };

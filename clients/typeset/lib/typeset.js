@@ -1,28 +1,50 @@
 "use strict";
-// A page with its formulas set, and what is left of them.
+// A page with its formulas and its prose set, and what is left of them.
 
-const { spansOf, textOf, escapedText, pageWith } = require("./page.js");
-const { partsOf, wordsOfKatex } = require("./latex.js");
+const { spansOf, proseOf, proseSection, textOf, escapedText, pageWith, STYLE, PROSE_STYLE } = require("./page.js");
+const { partsOf, wordsOfKatex, isSeen } = require("./latex.js");
 const { answersTo } = require("./setter.js");
 const { mathOf } = require("./mathml.js");
+const { piecesOf } = require("./prose.js");
 const { Refused } = require("./refused.js");
 
 /**
- * @typedef {import("./page.js").Span} Span
  * @typedef {import("./latex.js").Part} Part
  * @typedef {import("./child.js").Question} Question
  * @typedef {import("./child.js").Answer} Answer
- * @typedef {{words: string} | {tex: string, question: Question}} Asked words, or a formula with what is asked of KaTeX
- * @typedef {{span: Span, text: string, parts: Asked[], reason?: string}} Found
- * @typedef {{text: string, reason: string}} Left a block that stays as its TeX
+ * @typedef {import("./reader.js").Prose} Text
+ * @typedef {import("./reader.js").Read} Read
+ * @typedef {{html: string} | {tex: string, question: Question, fallback?: string}} Asked
+ *   HTML, or a formula with what is asked of KaTeX, and what stands in its place where it can't be set
+ * @typedef {{start: number, end: number, kind: "formula" | "prose", text: string, parts: Asked[], reason?: string}} Found
+ * @typedef {{kind: "formula" | "prose", text: string, reason: string}} Left what stays as it is, or a formula of prose as its TeX
+ * @typedef {{katex: string, markdown: string, isProse: (session: string) => boolean}} Means files of both libraries, and which sessions are prose
  */
 
-const LONGEST_FACTOR = 200; // characters of MathML for each of TeX, so that a page grows by no more
+const LONGEST_FACTOR = 200; // characters of MathML for each of TeX, so that a page grows by no more; of HTML for each of prose
 const LONGEST_REST = 2_000;
 
-/** @type {(tex: string) => number} */
-function longestFor(tex) {
-  return LONGEST_FACTOR * tex.length + LONGEST_REST;
+/** @type {(text: string) => number} */
+function longestFor(text) {
+  return LONGEST_FACTOR * text.length + LONGEST_REST;
+}
+
+/** @type {(file: string) => import("./setter.js").Setter<Question, Answer>} */
+const katexOf = (file) => ({
+  name: "KaTeX", debian: "katex", file, script: "child.js", sizeOf: ({ tex }) => tex.length,
+  answerIn: (told) => (typeof told?.markup === "string" ? { markup: told.markup } : null),
+});
+
+/** @type {(file: string) => import("./setter.js").Setter<Text, Read>} */
+const markdownOf = (file) => ({
+  name: "markdown-it", debian: "libjs-markdown-it", file, script: "reader.js", sizeOf: ({ text }) => text.length,
+  answerIn: (told) => (Array.isArray(told?.trees) ? { trees: told.trees } : null),
+});
+
+/** @type {(tex: string, display: boolean) => {tex: string, question: Question}} */
+function askedFormula(tex, display) {
+  const words = wordsOfKatex(tex);
+  return { tex, question: { tex: words, display, longest: longestFor(words) } };
 }
 
 /**
@@ -30,9 +52,7 @@ function longestFor(tex) {
  * @type {(part: Part, alone: boolean) => Asked}
  */
 function asked(part, alone) {
-  if (part.kind === "words") return { words: part.text };
-  const tex = wordsOfKatex(part.tex);
-  return { tex: part.tex, question: { tex, display: part.display || alone, longest: longestFor(tex) } };
+  return part.kind === "words" ? { html: escapedText(part.text) } : askedFormula(part.tex, part.display || alone);
 }
 
 /**
@@ -50,12 +70,46 @@ function orReason(task) {
 }
 
 /** @type {(page: Buffer) => Found[]} */
-function foundIn(page) {
-  return spansOf(page).map((span) => {
-    const text = textOf(page.subarray(span.start, span.end));
-    if (text === null) return { span, text: "", parts: [], reason: "no text of an export" };
-    const told = orReason(() => ({ parts: partsOf(text).map((part) => asked(part, span.alone)) }));
-    return { span, text, parts: [], ...told };
+function formulasIn(page) {
+  return spansOf(page).map(({ start, end, alone }) => {
+    const text = textOf(page.subarray(start, end));
+    if (text === null) return { start, end, kind: "formula", text: "", parts: [], reason: "no text of an export" };
+    const told = orReason(() => ({ parts: partsOf(text).map((part) => asked(part, alone)) }));
+    return { start, end, kind: "formula", text, parts: [], ...told };
+  });
+}
+
+/**
+ * A formula of prose; one that KaTeX isn't asked for stays as its TeX.
+ * @type {(formula: import("./prose.js").Formula, left: Left[]) => Asked}
+ */
+function askedInProse({ tex, display }, left) {
+  const fallback = display ? `$$${tex}$$` : `$${tex}$`;
+  const told = orReason(() => {
+    if (!isSeen(tex)) throw new Refused("a character that is not seen");
+    return { ...askedFormula(tex, display), fallback };
+  });
+  if (!("reason" in told)) return told;
+  left.push({ kind: "formula", text: fallback, reason: told.reason });
+  return { html: escapedText(fallback) };
+}
+
+/** @type {(read: Read, text: string, left: Left[]) => Asked[]} */
+function partsOfProse(read, text, left) {
+  if ("reason" in read) throw new Refused(read.reason);
+  const pieces = piecesOf(read.trees);
+  const html = pieces.filter((piece) => typeof piece === "string").join("");
+  if (html.length > longestFor(text)) throw new Refused("too long");
+  return pieces.map((piece) => (typeof piece === "string" ? { html: piece } : askedInProse(piece, left)));
+}
+
+/** @type {(page: Buffer, means: Means, deadline: number, left: Left[]) => Promise<Found[]>} */
+async function proseIn(page, { markdown, isProse }, deadline, left) {
+  const all = proseOf(page, isProse).map((one) => ({ ...one, text: one.text ?? "", isText: one.text !== null }));
+  const answers = await answersTo(markdownOf(markdown), all.map(({ text }) => ({ text, longest: longestFor(text) })), deadline);
+  return all.map(({ start, end, text, isText }, index) => {
+    if (!isText) return { start, end, kind: "prose", text, parts: [], reason: "no text of an export" };
+    return { start, end, kind: "prose", text, parts: [], ...orReason(() => ({ parts: partsOfProse(answers[index], text, left) })) };
   });
 }
 
@@ -73,10 +127,8 @@ function questionsFor(found) {
   return new Map(parts.flatMap((part) => ("question" in part ? [[keyOf(part.question), part.question]] : [])));
 }
 
-/** @type {(part: Asked, answers: Map<string, Answer>) => string} */
-function htmlOfPart(part, answers) {
-  if ("words" in part) return escapedText(part.words);
-  const { tex, question } = part;
+/** @type {(part: {tex: string, question: Question}, answers: Map<string, Answer>) => string} */
+function mathFor({ tex, question }, answers) {
   const answer = answers.get(keyOf(question));
   if (!answer) throw new Error("a formula that was not asked for");
   if ("reason" in answer) throw new Refused(answer.reason);
@@ -85,29 +137,60 @@ function htmlOfPart(part, answers) {
   return math;
 }
 
-/** @type {(found: Found, answers: Map<string, Answer>) => {html: string} | {reason: string}} */
-function htmlOf({ parts, reason }, answers) {
+/**
+ * A part of a block, or of prose, in which a formula that can't be set stays as its TeX and all else is set.
+ * @type {(part: Asked, answers: Map<string, Answer>, left: Left[]) => string}
+ */
+function htmlOfPart(part, answers, left) {
+  if ("html" in part) return part.html;
+  const { fallback } = part;
+  if (fallback === undefined) return mathFor(part, answers);
+  const told = orReason(() => mathFor(part, answers));
+  if (typeof told === "string") return part.question.display ? `<span class="display">${told}</span>` : told;
+  left.push({ kind: "formula", text: fallback, reason: told.reason });
+  return escapedText(fallback);
+}
+
+/** @type {(found: Found, answers: Map<string, Answer>, left: Left[]) => {html: string} | {reason: string}} */
+function htmlOf({ kind, parts, reason }, answers, left) {
   if (reason !== undefined) return { reason };
-  return orReason(() => ({ html: parts.map((part) => htmlOfPart(part, answers)).join("") }));
+  const told = orReason(() => parts.map((part) => htmlOfPart(part, answers, left)).join(""));
+  if (typeof told !== "string") return told;
+  return { html: kind === "prose" ? proseSection(told) : told };
 }
 
 /**
- * The page with its formulas set, by the KaTeX of a file and before a time.
- * @type {(page: Buffer, katex: string, deadline: number) => Promise<{page: Buffer, set: number, left: Left[]}>}
+ * How many formulas KaTeX is asked for: a block counts as one, of prose each does.
+ * @type {(found: Found[]) => number}
  */
-async function typeset(page, katex, deadline) {
-  const found = foundIn(page);
+function countOf(found) {
+  const counts = found.map(({ kind, parts }) => (kind === "prose" ? parts.filter((part) => "question" in part).length : 1));
+  return counts.reduce((sum, count) => sum + count, 0);
+}
+
+/**
+ * The page with its formulas and its prose set, before a time.
+ * @type {(page: Buffer, means: Means, deadline: number) => Promise<{page: Buffer, formulas: number, prose: number, left: Left[]}>}
+ */
+async function typeset(page, means, deadline) {
+  /** @type {Left[]} */
+  const left = [];
+  const prose = await proseIn(page, means, deadline, left);
+  const unasked = left.length; // formulas of prose
+  const found = [...formulasIn(page), ...prose].sort((one, other) => one.start - other.start);
   const questions = questionsFor(found);
-  const told = questions.size > 0 ? await answersTo([...questions.values()], katex, deadline) : [];
+  const told = await answersTo(katexOf(means.katex), [...questions.values()], deadline);
   const answers = new Map([...questions.keys()].map((key, index) => [key, told[index]]));
   const made = [];
-  const left = [];
   for (const one of found) {
-    const result = htmlOf(one, answers);
-    if ("html" in result) made.push({ span: one.span, html: result.html });
-    else left.push({ text: one.text, reason: result.reason });
+    const result = htmlOf(one, answers, left);
+    if ("html" in result) made.push({ ...one, html: result.html });
+    else left.push({ kind: one.kind, text: one.text, reason: result.reason });
   }
-  return { page: pageWith(page, made), set: made.length, left };
+  const isMath = made.some(({ kind, html }) => kind === "formula" || html.includes("<math "));
+  const isProse = made.some(({ kind }) => kind === "prose");
+  const styles = (isMath ? STYLE : "") + (isProse ? PROSE_STYLE : "");
+  return { page: pageWith(page, made, styles), formulas: countOf(found) + unasked, prose: prose.length, left };
 }
 
 module.exports = { typeset };

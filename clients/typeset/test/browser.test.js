@@ -6,7 +6,7 @@ const fs = require("node:fs");
 const { test, before, after } = require("node:test");
 const { Browser, CHROMIUM } = require("./browser.js");
 const { FORMULAS } = require("./formulas.js");
-const { HOSTILE } = require("./hostile.js");
+const { HOSTILE, HOSTILE_PROSE } = require("./hostile.js");
 const { pageOf, span } = require("./pages.js");
 const { run } = require("./run.js");
 
@@ -132,3 +132,43 @@ test("hostile formulas: nothing runs, nothing is loaded, all around them stays",
   const [count, set] = [await open().value("document.querySelectorAll('math').length"), HOSTILE.filter(({ shows }) => shows !== undefined)];
   assert.ok(count <= set.length && count >= set.filter(({ slow }) => !slow).length, `${count} are set`);
 });
+
+// Runs in the page: what of its prose is no element of the list, or has another attribute.
+const STRANGERS_OF_PROSE = `[...document.querySelectorAll(".prose *")].filter((one) => {
+  if (one.namespaceURI.endsWith("/MathML")) return ![...one.attributes].every(({ name }) => !/^(on|href|src|style|id|xlink)/.test(name));
+  const isOne = /^(p|h[2-6]|em|strong|s|code|pre|blockquote|[uo]l|li|hr|br|table|thead|tbody|t[rhd]|a|span)$/.test(one.localName);
+  const allowed = { a: "href rel", ol: "start", th: "class", td: "class", span: "class" }[one.localName] ?? "";
+  return !isOne || ![...one.attributes].every(({ name }) => allowed.split(" ").includes(name));
+}).map((one) => one.outerHTML)`;
+
+test("hostile prose: nothing runs, nothing is loaded, and the other fields stay where they are", options, async () => {
+  const fields = HOSTILE_PROSE.flatMap((input) => [{ session: "prose", input, output: null }, { session: "py", input: "1", output: "out" }]);
+  await open().load(run(pageOf("prose", fields)).page);
+  assert.equal(open().requests.length, 1, open().requests.join(" "));
+  assert.equal(await open().value("document.scripts.length"), 0);
+  assert.deepEqual(await open().value(STRANGERS_OF_PROSE), []);
+  const [sections, outputs, within, links] = await open().value(`[
+    document.querySelectorAll("main > section").length, [...document.querySelectorAll(".out")].filter((one) => one.textContent === "out").length,
+    document.querySelectorAll(".prose section, .prose .out").length,
+    [...document.querySelectorAll(".prose a[href]")].map((one) => new URL(one.href).protocol),
+  ]`);
+  assert.deepEqual([sections, outputs, within], [fields.length, HOSTILE_PROSE.length, 0]);
+  assert.ok(links.length >= 5 && links.every((/** @type {string} */ link) => /^(?:https?|mailto):$/.test(link)), links.join(" "));
+});
+
+for (const width of [900, 360]) {
+  test(`prose is read as prose in a window of ${width} pixels`, options, async () => {
+    const wide = `$$${Array.from({ length: 60 }, (_, index) => `x^{${index}}`).join("+")}$$`;
+    const texts = ["# Heading\n\n- one\n- two\n\n`code` and $\\frac12$", wide, `|${"column|".repeat(40)}\n|${"-|".repeat(40)}\n|${"1|".repeat(40)}`, "x".repeat(500)];
+    await open().load(run(pageOf("page", [...texts.map((input) => ({ session: "prose", input, output: null })), { output: "out" }])).page, width);
+    const [page, sizes, shown, target] = await open().value(`(() => {
+      const size = (name) => parseFloat(getComputedStyle(document.querySelector(name)).fontSize);
+      location.hash = "#field-4";
+      return [document.documentElement.scrollWidth - innerWidth, [size("h1"), size(".prose h2"), size(".prose p")],
+        document.querySelectorAll("h2, ul > li, p > code, p > math > mrow > mfrac").length, document.querySelector(":target").className];
+    })()`);
+    assert.ok(page <= 0, `the page is ${page} pixels wider than the window`);
+    assert.ok(sizes[0] > sizes[1] && sizes[1] > sizes[2], sizes.join(" "));
+    assert.deepEqual([shown, target], [5, "prose"]);
+  });
+}

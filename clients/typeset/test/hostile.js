@@ -131,4 +131,20 @@ const MARKS = [
   { name: "a formula and an open dollar", tex: "$x$ costs 5$" },
 ];
 
-module.exports = { HOSTILE: [...LINKS, ...FILES, ...MACROS, ...SHAPES, ...LOOKS, ...MARKS] };
+// What may be written in a field of prose: Markdown, HTML and formulas.
+const HOSTILE_PROSE = [
+  "<script>alert(1)</script>", "<img src=x onerror=alert(1)>", "<b onclick=alert(1)>x</b>", "<style>*{display:none}</style>", "</section></main>", "<!-- ", "<svg><script>",
+  "[x](javascript:alert(1))", "[x](JaVaScRiPt:alert(1))", "[x](java\tscript:alert(1))", "[x](&#106;avascript:alert(1))", "[x](data:text/html,<script>alert(1)</script>)",
+  "[x](vbscript:x)", "[x](file:///etc/passwd)", "[x](//example.org)", "[x](/etc)", "[x](#field-1)", "[x](x)", "[x](ftp://x)", "[x](http:x)", "[x](\\/\\/x)",
+  '[x](http://x"onmouseover="alert(1))', "[x](http://x 'onmouseover=alert(1)')", '[x](http://x "><script>alert(1)</script>")', "[x](http://x/<b>)", "<http://x/\"onclick=\"y>",
+  "[x](http://x\u202ey)", "[x](http://\u200bx)", "[x]: javascript:alert(1)\n\n[x]", "[<img src=x>](http://x)", "[![y](javascript:1)](http://x)", "![x](http://127.0.0.1:1/x.png)",
+  "![x](data:image/png;base64,AAAA)", "![x][y]\n\n[y]: http://127.0.0.1:1/x.png", "[[x](http://y)](http://z)", "<javascript:alert(1)>", "&lt;script&gt;", "&#60;script&#62;", "&#0; &#x202e;",
+  "```x\" onclick=\"alert(1)\n```", "```<script>\n</code></pre><script>alert(1)</script>\n```", "`</code><script>`", "|<script>|\n|-|\n|</table>|", "# </h2><script>", "{onclick=alert(1)}",
+  "$\\href{javascript:alert(1)}{x}$", "$\\includegraphics{http://127.0.0.1:1}$", "$</math><script>alert(1)</script>$", "$\\text{</math><script>}$", "$\\htmlStyle{color:red}{x}$",
+  "$\\def\\a{\\a\\a}\\a$", "$\\char\"202E$", "$\u202ex$", `$${"{".repeat(900)}$`, "$$\n".repeat(500), "$`$`$", "$x$".repeat(1000), "\u202ereversed", "a\u0085b", "\u2029", "\\<script\\>",
+  "> ".repeat(1500) + "x", "- ".repeat(1500) + "x", "1. ".repeat(1000), "[".repeat(3000), "![".repeat(1500), "](".repeat(1500), "``` ".repeat(800), "*a ".repeat(1300), "_".repeat(4000),
+  "**".repeat(2000), "<a ".repeat(1300), "&".repeat(1000), "|".repeat(4000), `${"|a".repeat(600)}\n${"|-".repeat(600)}\n${"|\n".repeat(700)}`, "<".repeat(1000), "\\".repeat(4000), "[a]: b\n".repeat(500),
+  "~".repeat(4000), "a\n=\n".repeat(900), "#".repeat(4000), "constructor", "__proto__", "[constructor]\n\n[__proto__]: http://x", "[__proto__]\n\n[__proto__]: javascript:x",
+];
+
+module.exports = { HOSTILE: [...LINKS, ...FILES, ...MACROS, ...SHAPES, ...LOOKS, ...MARKS], HOSTILE_PROSE };

@@ -6,7 +6,10 @@ const path = require("node:path");
 
 const PARTS = path.join(__dirname, "../../../crates/sheet_export/specs/Parts.antt");
 
-/** @typedef {{session?: string, prompt?: string, input?: string, output: string}} Field `output` is HTML: texts and spans */
+/**
+ * `output` is HTML: texts and spans. null is a field without an answer, for the reason `lost` where there is one.
+ * @typedef {{session?: string, prompt?: string, input?: string, output: string | null, lost?: string}} Field
+ */
 
 /** @type {() => Record<string, string>} */
 function readParts() {
@@ -32,12 +35,18 @@ function span(text) {
   return parts.tex_start + escaped(text) + parts.tex_end;
 }
 
+/** @type {(output: string | null, lost: string | undefined) => string} */
+function answerHtml(output, lost) {
+  if (output !== null) return parts.output_start + output + parts.output_end;
+  return lost === undefined ? parts.no_answer : parts.lost_start + lost + parts.lost_end;
+}
+
 /** @type {(field: Field, index: number) => string} */
-function fieldHtml({ session = "session", prompt = "> ", input = "", output }, index) {
+function fieldHtml({ session = "session", prompt = "> ", input = "", output, lost }, index) {
   const id = String(index + 1);
   const head = parts.field_start + id + parts.anchor_end + id + parts.link_end + id + parts.number_end + escaped(session) + parts.session_end;
   const asked = parts.input_start + escaped(prompt) + parts.prompt_end + escaped(input) + parts.input_end;
-  return head + asked + parts.output_start + output + parts.output_end + parts.field_end;
+  return head + asked + answerHtml(output, lost) + parts.field_end;
 }
 
 /** @type {(title: string, fields: Field[]) => string} */

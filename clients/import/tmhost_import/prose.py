@@ -1,0 +1,120 @@
+"""Prose: fields of a session whose only word is `true`, and which are never evaluated, as tmhost-notebook keeps them."""
+import re
+from collections.abc import Iterator
+
+from .fences import ATTRIBUTE, Fence, Html, Reader, fences_of
+
+NAME = "prose"
+WORDS = ("true",)
+NAMES = re.compile(r"prose(-\d{1,6})?")
+LINE_END = "\u2028"  # stands in an input for the end of a line
+LONGEST_INPUT = 4095  # bytes
+# A line of dashes that is no underline, with text directly below: for pandoc and others it may begin a table or front matter that goes on
+# over the ends of blocks of code.
+DASHES = re.compile(r" {0,3}-[- ]*-[- ]*")
+REFERENCE = re.compile(r"\]:")
+# A line like a fence. Where CommonMark takes it for text, as in a block of HTML, others may not.
+MARK = re.compile(r"^[ \t>*+\d.)-]*(?:```|~~~)", re.MULTILINE)
+HTML = [(re.compile("<!--"), "-->"), (re.compile(r"<\?"), "?>"), (re.compile("<!\\["), "]]>"), (re.compile("<![A-Za-z]"), ">")]
+VERBATIM = re.compile(r"<(pre|script|style|textarea)\b", re.IGNORECASE)
+# A tag with a value in quotes, or one that ends an element; and what follows where it is whole.
+TAG = re.compile(r"<(?:/(?=[A-Za-z])|[A-Za-z](?=[^<>]*=\s*[\"']))")
+WHOLE_TAG = re.compile(rf"</[A-Za-z][A-Za-z0-9-]*\s*>|<[A-Za-z][A-Za-z0-9-]*(?:{ATTRIBUTE})*\s*/?>")
+MATH = re.compile(r"\$\$[^$]+\$\$|\$[^$\s](?:[^$]*[^$\s])?\$")
+NO_COMMAND = re.compile(r"\\[^A-Za-z]")
+COMMAND = re.compile(r"\\[A-Za-z]")
+PAIRS = (("[", "]"), ("{", "}"), ("\\begin", "\\end"))
+
+
+def is_prose(session: str) -> bool:
+    """Whether a session is one of prose by its name."""
+    return NAMES.fullmatch(session) is not None
+
+
+def size_of(text: str) -> int:
+    """The bytes of a text as an input."""
+    return len(text.replace("\n", LINE_END).encode("utf-8", "surrogatepass"))
+
+
+def blocks_of(text: str) -> Iterator[str]:
+    """The text in blocks: it is cut at empty lines with text behind them at the left edge, where no fence and no HTML is open."""
+    reader, block = Reader(), list[str]()
+    for number, line in enumerate(text.split("\n"), 1):
+        is_open = not reader.containers and isinstance(reader.leaf, (Fence, Html))
+        if block and not block[-1].strip() and line[:1].strip() and not is_open:
+            yield "\n".join(block)
+            block = []
+        block.append(line)
+        reader.take(number, line)
+    yield "\n".join(block)
+
+
+def parts_of(text: str) -> list[str]:
+    """Prose as inputs that fields can hold, each with as many of its blocks as it holds. A block that no field can hold stays whole."""
+    if size_of(text) <= LONGEST_INPUT:
+        return [text]
+    parts: list[str] = []
+    for block in blocks_of(text):
+        joined = f"{parts[-1]}\n{block}" if parts else block
+        if parts and size_of(joined.rstrip()) <= LONGEST_INPUT:
+            parts[-1] = joined
+        else:
+            parts.append(block)
+    return [part.rstrip() for part in parts]
+
+
+def outside_of_fences(lines: list[str], fences: list[Fence]) -> str:
+    """The lines that are in no closed fence, each at its place."""
+    kept = list(lines)
+    for fence in fences:
+        if fence.is_closed:
+            kept[fence.line - 1 : fence.end] = [""] * (fence.end - fence.line + 1)
+    return "\n".join(kept)
+
+
+def is_open_after(lines: list[str]) -> bool:
+    """Whether CommonMark takes what stands after these lines for a part of what is open there."""
+    reader = Reader()
+    for number, line in enumerate([*lines, "", "```after", "```"], 1):
+        reader.take(number, line)
+    last = reader.fences[-1] if reader.fences else None
+    return last is None or last.info != "after" or bool(last.lines) or reader.leaf is not None or bool(reader.containers)
+
+
+def has_open_html(text: str) -> bool:
+    """Whether something begins that readers take to its end over empty lines, without that end."""
+    if any(text.find(end, found.end()) < 0 for begin, end in HTML for found in begin.finditer(text)):
+        return True
+    if any(not WHOLE_TAG.match(text, found.start()) for found in TAG.finditer(text)):
+        return True
+    return any(not re.search(rf"</{found[1]}", text[found.end() :], re.IGNORECASE) for found in VERBATIM.finditer(text))
+
+
+def is_open(text: str, begin: str, end: str) -> bool:
+    """Whether one of these pairs has no end in the text."""
+    depth = 0
+    for found in re.finditer(f"{re.escape(begin)}|{re.escape(end)}", text):
+        depth = depth + 1 if found[0] == begin else max(0, depth - 1)
+    return depth > 0
+
+
+def has_open_pair(text: str) -> bool:
+    """Whether a bracket, or a brace or an environment of TeX, has no end, which pandoc looks for over the ends of blocks. Of formulas between
+    dollars each reader knows the end."""
+    plain = NO_COMMAND.sub("", MATH.sub("", text))
+    pairs = PAIRS if COMMAND.search(plain) else PAIRS[:1]
+    return any(is_open(plain, begin, end) for begin, end in pairs)
+
+
+def open_end(text: str) -> str | None:
+    """Why what stands after this text, an empty line between them, might be read as a part of it, by CommonMark or by other readers."""
+    lines = text.split("\n")
+    outside = outside_of_fences(lines, fences_of(text))
+    if is_open_after(lines) or MARK.search(outside):
+        return "a fence or HTML in it has no end"
+    if has_open_html(outside):
+        return "HTML in it has no end"
+    for before, line, below in zip(["", *lines], lines, lines[1:]):
+        if DASHES.fullmatch(line) and not before.strip() and below.strip():
+            return "it has a line of dashes with text directly below, which may begin a table or front matter"
+    return "a bracket or TeX in it has no end" if has_open_pair(outside) else None

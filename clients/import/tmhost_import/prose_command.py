@@ -1,0 +1,37 @@
+"""The command line of tmhost-prose."""
+import argparse
+
+from .cells import Trouble
+from .command import read_bytes, say_as, write_bytes
+from .exported import with_prose
+from .prose import is_prose
+
+NAME = "tmhost-prose"
+ABOUT = "Makes prose of the fields of prose in a notebook or a Markdown text that tmhost export wrote. All else stays byte for byte."
+NOTES = """
+A field of prose has the session prose, or prose-2 and so on, and no answer: a cell of Markdown in a notebook, and
+text without its fence in Markdown. What could take in what stands after it stays in its fence, which is told.
+The status is 0, 1 where nothing is written, which is told, and 2 where the words are refused.
+"""
+
+
+def arguments(words: list[str]) -> argparse.Namespace:
+    parser = argparse.ArgumentParser(NAME, None, ABOUT, NOTES, formatter_class=argparse.RawDescriptionHelpFormatter)
+    parser.add_argument("path", nargs="?", default="-", metavar="EXPORT", help="what is read (- or nothing: standard input)")
+    parser.add_argument("--prose", action="append", metavar="NAME", help="the session NAME is prose, and none that isn't named; may stand more than once")
+    return parser.parse_args(words)
+
+
+def main(words: list[str]) -> int:
+    given = arguments(words)
+    names: list[str] | None = given.prose
+    try:
+        made = with_prose(read_bytes(given.path), is_prose if names is None else names.__contains__)
+        write_bytes(made.data)
+    except Trouble as trouble:
+        say_as(NAME, *trouble.lines)
+        return 1
+    except KeyboardInterrupt:
+        return 130
+    say_as(NAME, *made.left)
+    return 0
