@@ -1,7 +1,8 @@
 #!/usr/bin/env bash
-# Prints how many commands a second `tmhost run` makes durable, on a script of 2,000 `set` lines, and the same of a plain C program that
-# does the same four calls for records of the same length in a file beside it (bench/plain_commits.c), and their ratio: the medians of
-# RUNS runs (9 where it isn't set) of both programs in turn. The files lie in FOLDER, or where none is given in the current one.
+# Prints how many commands a second `tmhost run` makes durable, on a script of 2,000 `set` lines with a `wait` after each, so that each is
+# taken by itself, and the same of a plain C program that does the same four calls for records of the same length in a file beside it
+# (bench/plain_commits.c), and their ratio: the medians of RUNS runs (9 where it isn't set) of both programs in turn. A second line has one
+# run of each on 10,000 `new` lines, which are taken together. The files lie in FOLDER, or where none is given in the current one.
 set -euo pipefail
 folder=$(readlink -f "${1:-.}")
 root=$(dirname "$(dirname "$(readlink -f "${BASH_SOURCE[0]}")")")
@@ -13,13 +14,12 @@ python3 - "$root/crates/tmhost/out/tmhost" "$work" "${RUNS:-9}" <<'PYTHON'
 import os, statistics, subprocess, sys, time
 
 program, work, runs = sys.argv[1], sys.argv[2], int(sys.argv[3])
-records, text = 2000, "x" * 20
+records, fields, text = 2000, 10000, "x" * 20
 sheet, other, script = work + "/sheet", work + "/plain.journal", work + "/script"
 # The length of the payload, the payload (its kind, the field, the length of the input, the input), and the next gate.
 length = 4 + 1 + 4 + 2 + len(text) + 1
-
-with open(script, "w") as out:
-    out.write(f"set 1 {text}\n" * records)
+# The same of a new field: its kind, the field before it, the length of its session's name, that, the length of the input, it.
+field_length = 4 + 1 + 4 + 1 + 1 + 2 + len(text) + 1
 
 # What it writes goes to memory, so that no other process runs beside it.
 def timed(words, given=None, expected=b""):
@@ -32,7 +32,9 @@ def timed(words, given=None, expected=b""):
         assert text.read() == expected
     return took
 
-def ours():
+def ours(lines, expected, added):
+    with open(script, "w") as out:
+        out.write(lines)
     for path in (sheet, sheet + ".alt"):
         if os.path.exists(path):
             os.remove(path)
@@ -40,19 +42,28 @@ def ours():
     subprocess.run([program, "run", sheet], input=b"session a plain p\nnew 0 a x\n", stdout=subprocess.DEVNULL, check=True)
     before = os.path.getsize(sheet)
     with open(script, "rb") as given:
-        took = timed([program, "run", sheet], given, b"ok\n" * records)
-    assert os.path.getsize(sheet) - before == records * length, "the records have another length"
+        took = timed([program, "run", sheet], given, expected)
+    assert os.path.getsize(sheet) - before == added, "the records have another length"
     return took
 
-def plain():
+def plain(count, each):
     if os.path.exists(other):
         os.remove(other)
-    took = timed([work + "/plain", other, str(records), str(length)])
-    assert os.path.getsize(other) == 11 + records * length
+    took = timed([work + "/plain", other, str(count), str(each)])
+    assert os.path.getsize(other) == 11 + count * each
     return took
 
-results = [(ours(), plain()) for _ in range(runs)]
+def singly():
+    return ours(f"set 1 {text}\nwait\n" * records, b"ok\n" * records, records * length)
+
+def together():
+    told = b"".join(b"field %d\n" % number for number in range(2, fields + 2))
+    return ours(f"new 0 a {text}\n" * fields, told, fields * field_length)
+
+results = [(singly(), plain(records, length)) for _ in range(runs)]
 rates = [records / statistics.median(result[i] for result in results) for i in (0, 1)]
 ratio = statistics.median(theirs / our for our, theirs in results)
 print(f"durable commands a second: tmhost {rates[0]:.0f}, plain {rates[1]:.0f}, ratio of the pairs {ratio:.2f}")
+our, theirs = together(), plain(fields, field_length)
+print(f"new fields a second: tmhost {fields / our:.0f}, plain {fields / theirs:.0f}, {theirs / our:.0f} times as many")
 PYTHON

@@ -235,7 +235,8 @@ class Model:
                 self.end(session, "Ended")
 
 
-VERBS = {"session", "new", "set", "remove", "move", "clear", "eval", "complete", "stop", "checkpoint"}
+EDITS = {"session", "new", "set", "remove", "move", "clear"}
+VERBS = EDITS | {"eval", "complete", "stop", "checkpoint"}
 
 
 def words_of(line):
@@ -285,7 +286,7 @@ def follow(script, output, kinds, memory=False):
         if len(told) < len(wanted):
             if told != wanted[: len(told)]:
                 raise Difference(f"line {number}, {line!r}: told {told}, wanted {wanted}")
-            return Followed({before, model.printed()}, False, refusals)
+            return Followed(sheets_in_group(model, before, script[:number], script[number:], memory), False, refusals)
         if told[: len(wanted)] != wanted:
             raise Difference(f"line {number}, {line!r}: told {told[: len(wanted)]}, wanted {wanted}")
         del told[: len(wanted)]
@@ -294,6 +295,27 @@ def follow(script, output, kinds, memory=False):
     if told:
         raise Difference(f"told behind the end: {told}")
     return Followed({model.printed()}, True, refusals)
+
+
+def is_skipped(line):
+    return line == "" or line.startswith("#")
+
+
+# What the worksheet may be where a run told nothing of the last of these lines, after which the model stands: without it, or with it.
+# Commands one after another that only change the worksheet are a group, of which all is there or nothing, and all where a reply of it
+# was told, unless memory was refused for the line after it. (A script has fewer than a group may have.)
+def sheets_in_group(model, before, done, later, memory):
+    commands = [line for line in done if not is_skipped(line)]
+    if words_of(commands[-1])[0] not in EDITS:
+        return {before, model.printed()}
+    for line in later:
+        verb, words = words_of(line)
+        if not is_skipped(line) and verb not in EDITS:
+            break
+        if not is_skipped(line) and not model.refusal(verb, words):
+            model.do(verb, words)
+    is_told = len(commands) > 1 and words_of(commands[-2])[0] in EDITS
+    return {model.printed()} if is_told and not memory else {before, model.printed()}
 
 
 # A start for which there was no memory ends its life at once.

@@ -1,8 +1,8 @@
 //! The end of all lives.
-ghost use Rattle.std.specs.Prelude.{◌≡◌, option_map};
+ghost use Rattle.std.specs.Prelude.{◌≡◌, List, ℕ, option_map};
 ghost use Rattle.disk_model.specs.Disk.{DiskView};
-ghost use Rattle.session_engine.specs.World.{World};
-ghost use Rattle.session_engine.specs.Host.{IsHost};
+ghost use Rattle.session_engine.specs.World.{World, life_of, sheet_in};
+ghost use Rattle.session_engine.specs.Host.{IsHost, number_in};
 ghost use Rattle.host_events.specs.declared.event.Event.{Event};
 ghost use Rattle.child_edge.specs.Edge.{Stopped};
 ghost use Rattle.child_edge.specs.Seats.{numbered, running};
@@ -32,6 +32,11 @@ pub fn stop_all<D: Disk, C: Children>(host: &Host<D>, children: &mut C)
         → Stops C.after (running w) children.old children.new }
     ensures stopped { (w : World) (e : Event) (before : DiskView) (fault : HostFault)
         → Stopped before host.now w e fault
+        → Stops C.after (running w) children.old children.new }
+
+    // Those of a world of which the host has the worksheet and each life's number, whatever its disk is.
+    ensures numbered { (w : World) → host.now.store.sheet.contents ≡ sheet_in w
+        → ((name : List ℕ) → number_in host.now.lives name ≡ option_map (λ l. l.number) (life_of w name))
         → Stops C.after (running w) children.old children.new }
 {
     for session in host.sheet().sessions() {

@@ -4,6 +4,7 @@ mod crashes;
 mod disk_calls;
 mod file_calls;
 mod file_disk;
+mod grouped;
 mod limits;
 mod machine;
 mod made_up;

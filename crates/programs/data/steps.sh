@@ -349,7 +349,7 @@ step closed streams
 "$tmhost" run sheet <&- 2>errors
 echo "status $?"
 cat errors
-printf 'new 0 a five\nnew 0 a six\n' | "$tmhost" run sheet 2>errors >&-
+printf 'new 0 a five\nwait\nnew 0 a six\n' | "$tmhost" run sheet 2>errors >&-
 echo "status $?"
 cat errors
 "$tmhost" show sheet 2>&- >text

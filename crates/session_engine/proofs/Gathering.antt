@@ -1,5 +1,5 @@
 -- What is reported and written of events while records are owed.
-use Rattle.std.proofs.Common.{◌≡◌, ◌⊎◌, inl, ⊎_elim, Bool, true, false, refl, sym, ap, ◌∙◌, subst, IsTrue, List, [], ◌∷◌, ◌||◌, Result, Err}
+use Rattle.std.proofs.Common.{◌≡◌, ◌⊎◌, inl, ⊎_elim, Bool, true, false, refl, sym, ap, ◌∙◌, subst, IsTrue, List, [], ◌∷◌, ◌||◌, ℕ, option_map, Result, Err}
 use Rattle.std.specs.List.{list_any}
 use Rattle.disk_model.specs.Disk.{DiskView, Leaves, LeavesOnly, Rises, SameDisk}
 use Rattle.disk_model.specs.inside.Moments.{started}
@@ -10,7 +10,7 @@ use Rattle.host_events.specs.declared.outcome.Outcome.{Outcome}
 use Rattle.host_events.specs.declared.outcome.HostFault.{HostFault}
 use Rattle.host_events.specs.declared.outcome.HostFault.TheVariants as faults
 use Rattle.session_engine.specs.declared.table.Running.{Running}
-use Rattle.session_engine.specs.World.{World, sheet_in}
+use Rattle.session_engine.specs.World.{World, life_of, sheet_in}
 use Rattle.session_engine.specs.Host.{HostView, IsHost, number_in}
 use Rattle.session_engine.specs.Crash.{HasPlayed, StoppedAt}
 use Rattle.session_engine.specs.Gathers.{FlushesTo, IsFlushed, NoCheckpoints, is_checkpoint}
@@ -76,12 +76,15 @@ module _ (w : World) (events : List Event) (old mid new : HostView) (real : mid.
   }
 
   pub failed_group : (rest : List Event) (untold : List Outcome) (before : HostView) (p : HasPlayed w events rest untold before) → mid.store.sheet.contents ≡ sheet_in p.leads
+      → ((name : List ℕ) → number_in mid.lives name ≡ option_map (λ l. l.number) (life_of p.leads name)) → new.store.sheet ≡ mid.store.sheet → new.lives ≡ mid.lives
       → new.closed ≡ true → Rises mid.store.real.faults new.store.real.faults → FailedGroup w events old new
-  failed_group rest untold before p is closed broke = record {
+  failed_group rest untold before p is numbers sheet lives closed broke = record {
     rest = rest;
     untold = untold;
     before = before;
     played = p;
+    contents = ap (λ (v : SheetView). v.contents) sheet ∙ is;
+    numbers = λ name. ap (λ (l : List Running). number_in l name) lives ∙ numbers name;
     closed = closed;
     broke = subst (λ (d : DiskView). Rises d.faults new.store.real.faults) real broke;
     moments = flushes_after old.store mid.store new.store (sheet_in p.leads) real same is flushes;

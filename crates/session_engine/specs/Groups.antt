@@ -39,12 +39,15 @@ pub record StoppedGroup (w : World) (events : List Event) (old new : HostView) (
   pub flushed : IsFlushed new
   pub moments : FlushesTo (sheet_in played.leads) old.store new.store
 
--- The disk failed: its worksheet is the one from before, or that after these events, of which nothing is reported.
+-- The disk failed: its worksheet is the one from before, or that after these events, of which nothing is reported. In the host's
+-- memory the worksheet, and each life's number, are as after them.
 pub record FailedGroup (w : World) (events : List Event) (old new : HostView) : Type 0 where
   pub rest : List Event
   pub untold : List Outcome
   pub before : HostView
   pub played : HasPlayed w events rest untold before
+  pub contents : new.store.sheet.contents ≡ sheet_in played.leads
+  pub numbers : (name : List ℕ) → number_in new.lives name ≡ option_map (λ l. l.number) (life_of played.leads name)
   pub closed : new.closed ≡ true
   pub broke : Rises old.store.real.faults new.store.real.faults
   pub moments : FlushesTo (sheet_in played.leads) old.store new.store

@@ -1,4 +1,7 @@
 pub mod Stricts
+pub mod Courses
 pub mod Runs
+pub mod Grouped
+pub mod Stretches
 pub mod Commands
 pub mod Heard

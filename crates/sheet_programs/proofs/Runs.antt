@@ -2,7 +2,7 @@
 use Rattle.std.proofs.Common.{◌≡◌, ◌+◌, ◌≤◌, ◌<◌, inl, inr, ℕ, true, false, List, [], ◌∷◌, ◌++◌, Option, Some, None, refl, ap, sym, ◌∙◌, subst, append_assoc, append-nil, length, arith}
 use Rattle.std.proofs.KnownBytes.{Appends-trans, Appends-nil}
 use Rattle.std.proofs.lemmas.Bool.{false≢true}
-use Rattle.std.specs.Prelude.{Bool, ◌&&◌, IfSome, IfOk, IfErr, OnOk, Result, Ok, Err, min}
+use Rattle.std.specs.Prelude.{Bool, ◌&&◌, ◌⊎◌, option_map, IfSome, IfOk, IfErr, OnOk, Result, Ok, Err, min}
 use Rattle.std.specs.Io.KnownBytes.{Appends}
 use Rattle.std.proofs.lemmas.Option.{IfSome_then}
 use Rattle.std.proofs.Math.Nat.{le-min, min-le_left, min-le_right}
@@ -13,27 +13,28 @@ use Rattle.host_events.specs.declared.event.Event.{Event}
 use Rattle.host_events.specs.declared.event.Event.TheVariants as event
 use Rattle.host_events.specs.declared.outcome.HostFault.{HostFault}
 use Rattle.host_events.specs.declared.outcome.HostFault.TheVariants as hosts
-use Rattle.session_engine.specs.World.{World, world_at_opening}
-use Rattle.session_engine.specs.Host.{HostView, EndsAt, IsHost}
+use Rattle.session_engine.specs.Crash.{Moments}
+use Rattle.session_engine.specs.World.{World, life_of, sheet_in, world_at_opening}
+use Rattle.session_engine.specs.Host.{HostView, EndsAt, IsHost, number_in}
 use Rattle.child_edge.specs.Faithful.{Relation, At, at, Beat}
 use Rattle.child_edge.specs.Kept.{HoldsSheet}
 use Rattle.child_edge.specs.Limits.{most_turns}
-use Rattle.child_edge.specs.Moments.{LeavesFronts}
+use Rattle.child_edge.specs.Moments.{LeavesFronts, events_of, outcomes_of}
 use Rattle.child_edge.specs.Edge.{Stopped}
 use Rattle.child_edge.specs.Seats.{running}
 use Rattle.child_edge.specs.Stops.{Stops}
-use Rattle.child_edge.proofs.Faulting.{same-at, same-on}
-use Rattle.child_edge.proofs.Timeline.{Goes, goes_on_by, follows-goes, turns-goes, so-far-goes, stopped-goes, goes_leaves, goes_up_to}
+use Rattle.child_edge.proofs.Timeline.{Goes, follows-goes, turns-goes, so-far-goes, stopped-goes}
 use Rattle.sheet_text.specs.Script.{line_of, wants_memory}
 use Rattle.sheet_text.specs.declared.script.ScriptLine.{ScriptLine}
 use Rattle.sheet_text.specs.declared.script.ScriptLine.TheVariants as line
-use Rattle.sheet_programs.specs.Lines.{LineDone, LinesDone, LineUpTo, LineSoFar, LineLed, whole, up_to, so_far, beats_text, led_beats}
+use Rattle.sheet_programs.specs.Lines.{LineDone, LinesDone, none, and_line, and_group, LineUpTo, LineSoFar, LineLed, whole, up_to, so_far, beats_text, led_beats}
 use Rattle.offline_programs.specs.Input.{IsInputFault, longest_standard_input}
 use Rattle.offline_programs.specs.Memory.{script_lines}
-use Rattle.sheet_programs.specs.Run.{OpenedOn, LinesBefore, LinesUpTo, LinesSoFar, LinesLed, RunOf, RunStopped, RunSoFar, RunLed}
+use Rattle.sheet_programs.specs.Run.{OpenedOn, LinesBefore, LinesUpTo, LinesSoFar, LinesLed, RunOf, RunStopped, RunBroke, RunSoFar, RunLed, RunUnwritten}
 use Rattle.sheet_programs.specs.Told.{LineFailed, LeavesFrontsAnyhow, StandsOrStopped}
 use Rattle.sheet_programs.specs.Strict.{GoRight, LinesTaken, RightIf, goes_wrong}
-use Rattle.sheet_programs.specs.inside.Taking.{LinesFailed, LinesStopped, TellsBy}
+use Rattle.sheet_programs.specs.inside.Taking.{LinesBroke, LinesFailed, LinesStopped, LinesUnwritten, TellsBy, UnlessStrict}
+use Rattle.sheet_programs.proofs.Courses.{Course, course_anyhow, course_on, course_up_to, either_moments, goes_course, group_course, moments_on}
 use Rattle.sheet_programs.proofs.Stricts.{is_strict, none_wrong, right_more, went_wrong}
 use Rattle.offline_programs.specs.declared.fault.RunFault.{RunFault}
 use Rattle.offline_programs.specs.declared.fault.RunFault.TheVariants as fault
@@ -50,33 +51,6 @@ unread R (Some (line.Command told)) s h = (refl, refl)
 
 -- Lines.
 
-lines-more : {C : Type 0} (R : Relation C) (number : ℕ) (lines : List (List ℕ)) (line : List ℕ) (s : At C) (beats : List Beat) (text : List ℕ) (mid : At C) (more : List Beat) (last : List ℕ) (t : At C)
-    → LinesDone R number lines s beats text mid → LineDone R (number + length lines) (line_of line) mid more last t → LinesDone R number (lines ++ line ∷ []) s (beats ++ more) (text ++ last) t
-lines-more R number [] line s beats text mid more last t h p =
-    let same : number + 0 ≡ number = omega arith in (
-      t,
-      more,
-      [],
-      last,
-      [],
-      subst (λ m. LineDone R number (line_of line) m more last t) h.2 (subst (λ n. LineDone R n (line_of line) mid more last t) same p),
-      (refl, refl, refl),
-      ap (λ x. x ++ more) h.0 ∙ sym (append-nil more),
-      ap (λ x. x ++ last) h.1 ∙ sym (append-nil last),
-    )
-lines-more R number (x ∷ xs) line s beats text mid more last t h p =
-    let same : number + length (x ∷ xs) ≡ number + 1 + length xs = omega arith in (
-      h.0,
-      h.1,
-      h.2 ++ more,
-      h.3,
-      h.4 ++ last,
-      h.5,
-      lines-more R (number + 1) xs line h.0 h.2 h.4 mid more last t h.6 (subst (λ n. LineDone R n (line_of line) mid more last t) same p),
-      ap (λ y. y ++ more) h.7 ∙ append_assoc h.1 h.2 more,
-      ap (λ y. y ++ last) h.8 ∙ append_assoc h.3 h.4 last,
-    )
-
 -- The first lines of a script were done, as many as this number, and these are left. In a strict run none of them went wrong.
 pub record DoneSoFar {C : Type 0} (R : Relation C) (strict : Bool) (all : List (List ℕ)) (number : ℕ) (left : List (List ℕ)) (s : At C) (h : HostView) (c : C) (a b : Option (List ℕ)) : Type 0 where
   pub done : List (List ℕ)
@@ -91,7 +65,7 @@ pub record DoneSoFar {C : Type 0} (R : Relation C) (strict : Bool) (all : List (
   pub right : RightIf strict done beats
 
 pub none_done : {C : Type 0} (R : Relation C) (strict : Bool) (all : List (List ℕ)) (left : List (List ℕ)) (w : World) (h : HostView) (c : C) (a : Option (List ℕ)) → left ≡ all → IsHost h w → DoneSoFar R strict all 0 left (at w c h.store.disk) h c a a
-none_done R strict all left w h c a e stands = record { done = []; beats = []; text = []; leads = w; split = sym e; count = refl; ran = (refl, refl, refl); stands = stands; wrote = Appends-nil a; right = none_wrong strict }
+none_done R strict all left w h c a e stands = record { done = []; beats = []; text = []; leads = w; split = sym e; count = refl; ran = none (at w c h.store.disk); stands = stands; wrote = Appends-nil a; right = none_wrong strict }
 
 pub one_done : {C : Type 0} (R : Relation C) (strict : Bool) (all : List (List ℕ)) (number : ℕ) (left : List (List ℕ)) (line : List ℕ) (others : List (List ℕ)) (s : At C) (h : HostView) (c : C) (a b : Option (List ℕ))
     (g : HostView) (d : C) (e : Option (List ℕ)) (more : List Beat) (last : List ℕ) (t : World) (wrong : Bool)
@@ -106,7 +80,7 @@ one_done R strict all number left line others s h c a b g d e more last t wrong 
       leads = t;
       split = so.split ∙ ap (λ x. so.done ++ x) is ∙ sym (append_assoc so.done (line ∷ []) others);
       count = omega (arith, so.count, length-snoc so.done line);
-      ran = lines-more R 1 so.done line s so.beats so.text (at so.leads c h.store.disk) more last (at t d g.store.disk) so.ran
+      ran = and_line so.done line s so.beats so.text (at so.leads c h.store.disk) more last (at t d g.store.disk) so.ran
           (subst (λ n. LineDone R n (line_of line) (at so.leads c h.store.disk) more last (at t d g.store.disk)) same p);
       stands = stands;
       wrote = Appends-trans a b e so.text last so.wrote wrote;
@@ -168,7 +142,7 @@ pub lines_failed : {C : Type 0} (R : Relation C) (strict : Bool) (all : List (Li
     (g : HostView) (d : C) (e : Option (List ℕ)) (f : RunFault)
     → left ≡ line ∷ others → (so : DoneSoFar R strict all number left s h c a b) → LineFailed R (line_of line) (at so.leads c h.store.disk) g d b e f
     → LinesFailed R strict all s g d a e f
-lines_failed R strict all number left line others s h c a b g d e (fault.Host f) is so p = (
+lines_failed R strict all number left line others s h c a b g d e (fault.Host f) is so p = inl (
   so.beats ++ p.0,
   so.text ++ beats_text p.0,
   p.1,
@@ -189,7 +163,7 @@ lines_failed R strict all number left line others s h c a b g d e fault.OutOfMem
   so.right,
 )
 lines_failed R strict all number left line others s h c a b g d e fault.Output is so p =
-    (p.0, p.1, record { line = line; mid = at so.leads c h.store.disk; earlier = so.beats; first = so.text; before = lines-before R strict all number left line others s h c a b is so; led = p.2 }, p.3, so.right)
+    inl (p.0, p.1, record { line = line; mid = at so.leads c h.store.disk; earlier = so.beats; first = so.text; before = lines-before R strict all number left line others s h c a b is so; led = p.2 }, p.3, so.right)
 lines_failed R strict all number left line others s h c a b g d e fault.Input is so p = absurd p
 lines_failed R strict all number left line others s h c a b g d e fault.InputTooLong is so p = absurd p
 lines_failed R strict all number left line others s h c a b g d e (fault.Open why) is so p = absurd p
@@ -201,19 +175,35 @@ abbrev pub StopsIn : {C : Type 0} → Relation C → HostView → C → C → Ty
 StopsIn R h c d = ((w : World) → IsHost h w → Stops R (running w) c d)
     × ((w : World) (e : Event) (before : DiskView) (f : HostFault) → Stopped before h w e f → Stops R (running w) c d)
 
+-- where the host has the worksheet and each life's number
+abbrev pub StopsNumbered : {C : Type 0} → Relation C → HostView → C → C → Type 0
+StopsNumbered R h c d = (w : World) → h.store.sheet.contents ≡ sheet_in w → ((name : List ℕ) → number_in h.lives name ≡ option_map (λ l. l.number) (life_of w name)) → Stops R (running w) c d
+
 pub stops_behind : {C : Type 0} (R : Relation C) (h : HostView) (c d : C) (t : World) (disk : DiskView) → StopsIn R h c d → StandsOrStopped h t disk → Stops R (running t) c d
 stops_behind R h c d t disk stops (inl stands) = stops.0 t stands.0
 stops_behind R h c d t disk stops (inr p) = stops.1 t p.0 disk p.1 p.2
 
+broke_stopped : {C : Type 0} (R : Relation C) (strict : Bool) (lines : List (List ℕ)) (s : At C) (h : HostView) (c d : C) (a b : Option (List ℕ)) (f : HostFault) → StopsNumbered R h c d
+    → UnlessStrict strict ((f ≡ hosts.Disk) × LinesBroke R lines s h c a b) → UnlessStrict strict ((f ≡ hosts.Disk) × ((k : C) × (p : LinesBroke R lines s h k a b) × Stops R (running p.5.leads) k d))
+broke_stopped R false lines s h c d a b f stops p = (p.0, (c, p.1, stops p.1.5.leads p.1.5.contents p.1.5.numbers))
+broke_stopped R true lines s h c d a b f stops p = p
+
+unwritten_stopped : {C : Type 0} (R : Relation C) (strict : Bool) (lines : List (List ℕ)) (s : At C) (h : HostView) (c d : C) → StopsIn R h c d
+    → UnlessStrict strict ((t : World) × LinesUnwritten R lines s (at t c h.store.disk) × IsHost h t) → UnlessStrict strict ((t : At C) × LinesUnwritten R lines s t × (t.disk ≡ h.store.disk) × Stops R (running t.world) t.children d)
+unwritten_stopped R false lines s h c d stops p = (at p.0 c h.store.disk, p.1, refl, stops.0 p.0 p.2)
+unwritten_stopped R true lines s h c d stops p = p
+
 pub lines_stopped : {C : Type 0} (R : Relation C) (strict : Bool) (lines : List (List ℕ)) (s : At C) (h : HostView) (c d : C) (a b : Option (List ℕ)) (f : RunFault)
-    → StopsIn R h c d → LinesFailed R strict lines s h c a b f → LinesStopped R strict lines s h d a b f
-lines_stopped R strict lines s h c d a b (fault.Host f) stops p = (p.0, p.1, p.2, at p.3 c p.4, p.5, p.6, stops.1 p.3 p.2 p.4 f p.6, p.7, p.8)
-lines_stopped R strict lines s h c d a b fault.OutOfMemory stops p = (p.0, p.1, at p.2 c h.store.disk, p.3, p.4, refl, stops.0 p.2 p.4, p.5, p.6)
-lines_stopped R strict lines s h c d a b fault.Output stops p = (at p.0 c p.1, p.2, p.3, stops_behind R h c d p.0 p.1 stops p.3, p.4)
-lines_stopped R strict lines s h c d a b fault.Input stops p = absurd p
-lines_stopped R strict lines s h c d a b fault.InputTooLong stops p = absurd p
-lines_stopped R strict lines s h c d a b (fault.Open why) stops p = absurd p
-lines_stopped R strict lines s h c d a b fault.InUse stops p = absurd p
+    → StopsIn R h c d → StopsNumbered R h c d → LinesFailed R strict lines s h c a b f → LinesStopped R strict lines s h d a b f
+lines_stopped R strict lines s h c d a b (fault.Host f) stops numbered (inl p) = inl (p.0, p.1, p.2, at p.3 c p.4, p.5, p.6, stops.1 p.3 p.2 p.4 f p.6, p.7, p.8)
+lines_stopped R strict lines s h c d a b (fault.Host f) stops numbered (inr p) = inr (broke_stopped R strict lines s h c d a b f numbered p)
+lines_stopped R strict lines s h c d a b fault.OutOfMemory stops numbered p = (p.0, p.1, at p.2 c h.store.disk, p.3, p.4, refl, stops.0 p.2 p.4, p.5, p.6)
+lines_stopped R strict lines s h c d a b fault.Output stops numbered (inl p) = inl (at p.0 c p.1, p.2, p.3, stops_behind R h c d p.0 p.1 stops p.3, p.4)
+lines_stopped R strict lines s h c d a b fault.Output stops numbered (inr p) = inr (unwritten_stopped R strict lines s h c d stops p)
+lines_stopped R strict lines s h c d a b fault.Input stops numbered p = absurd p
+lines_stopped R strict lines s h c d a b fault.InputTooLong stops numbered p = absurd p
+lines_stopped R strict lines s h c d a b (fault.Open why) stops numbered p = absurd p
+lines_stopped R strict lines s h c d a b fault.InUse stops numbered p = absurd p
 
 -- Lines are a timeline of the disk.
 
@@ -241,42 +231,44 @@ part-goes R (Some line.Print) s beats t p = absurd p
 part-goes R (Some (line.Command c)) s beats t p = no_beats s beats t p.0 p.1
 part-goes R (Some line.Wait) s beats t p = so-far-goes R most_turns s beats t p
 
-lines-goes : {C : Type 0} (R : Relation C) (number : ℕ) (lines : List (List ℕ)) (s : At C) (beats : List Beat) (text : List ℕ) (t : At C) → LinesDone R number lines s beats text t → Goes s.world s.disk beats t.world t.disk
-lines-goes R number [] s beats text t p = no_beats s beats t p.0 p.2
-lines-goes R number (l ∷ ls) s beats text t p =
-    subst (λ (bs : List Beat). Goes s.world s.disk bs t.world t.disk) (sym p.7)
-    (goes_on_by s.world s.disk p.1 p.0.world p.0.disk p.2 t.world t.disk (line-goes R number (line_of l) s p.1 p.3 p.0 p.5) (lines-goes R (number + 1) ls p.0 p.2 p.4 t p.6))
+pub lines-course : {C : Type 0} (R : Relation C) (number : ℕ) {lines : List (List ℕ)} {s : At C} {beats : List Beat} {text : List ℕ} {t : At C} → LinesDone R number lines s beats text t → Course s.world s.disk beats t.world t.disk
+lines-course R number (none s) = goes_course s.world s.disk [] s.world s.disk (refl, refl)
+lines-course R number (and_line lines line s before first mid last rest t done ran) =
+    course_on s.world s.disk before mid.world mid.disk last t.world t.disk (lines-course R number done)
+    (goes_course mid.world mid.disk last t.world t.disk (line-goes R (number + length lines) (line_of line) mid last rest t ran))
+lines-course R number (and_group lines group s before first mid last t done ran) =
+    course_on s.world s.disk before mid.world mid.disk last t.world t.disk (lines-course R number done) (group_course group mid last t ran)
 
-pub lines-up-to-goes : {C : Type 0} (R : Relation C) (lines : List (List ℕ)) (s : At C) (beats : List Beat) (text : List ℕ) (e : Event) (t : At C) → LinesUpTo R lines s beats text e t → Goes s.world s.disk beats t.world t.disk
-lines-up-to-goes R lines s beats text e t p =
-    subst (λ (bs : List Beat). Goes s.world s.disk bs t.world t.disk) (sym p.took)
-    (goes_on_by s.world s.disk p.earlier p.mid.world p.mid.disk p.beats t.world t.disk (lines-goes R 1 p.before.done s p.earlier p.first p.mid p.before.ran) (up-to-goes R (line_of p.line) p.mid p.beats e t p.broke))
+pub lines-up-to-course : {C : Type 0} (R : Relation C) (lines : List (List ℕ)) (s : At C) (beats : List Beat) (text : List ℕ) (e : Event) (t : At C) → LinesUpTo R lines s beats text e t → Course s.world s.disk beats t.world t.disk
+lines-up-to-course R lines s beats text e t p =
+    subst (λ (bs : List Beat). Course s.world s.disk bs t.world t.disk) (sym p.took)
+    (course_on s.world s.disk p.earlier p.mid.world p.mid.disk p.beats t.world t.disk (lines-course R 1 p.before.ran)
+    (goes_course p.mid.world p.mid.disk p.beats t.world t.disk (up-to-goes R (line_of p.line) p.mid p.beats e t p.broke)))
 
-pub lines-so-far-goes : {C : Type 0} (R : Relation C) (lines : List (List ℕ)) (s : At C) (beats : List Beat) (text : List ℕ) (t : At C) → LinesSoFar R lines s beats text t → Goes s.world s.disk beats t.world t.disk
-lines-so-far-goes R lines s beats text t p =
-    subst (λ (bs : List Beat). Goes s.world s.disk bs t.world t.disk) (sym p.took)
-    (goes_on_by s.world s.disk p.earlier p.mid.world p.mid.disk p.beats t.world t.disk (lines-goes R 1 p.before.done s p.earlier p.first p.mid p.before.ran) (part-goes R (line_of p.line) p.mid p.beats t p.broke))
+pub lines-so-far-course : {C : Type 0} (R : Relation C) (lines : List (List ℕ)) (s : At C) (beats : List Beat) (text : List ℕ) (t : At C) → LinesSoFar R lines s beats text t → Course s.world s.disk beats t.world t.disk
+lines-so-far-course R lines s beats text t p =
+    subst (λ (bs : List Beat). Course s.world s.disk bs t.world t.disk) (sym p.took)
+    (course_on s.world s.disk p.earlier p.mid.world p.mid.disk p.beats t.world t.disk (lines-course R 1 p.before.ran)
+    (goes_course p.mid.world p.mid.disk p.beats t.world t.disk (part-goes R (line_of p.line) p.mid p.beats t p.broke)))
 
 led-goes : {C : Type 0} (R : Relation C) (l : Option ScriptLine) (s t : At C) (led : LineLed R l s t) → Goes s.world s.disk (led_beats led) t.world t.disk
 led-goes R l s t (whole number beats text done) = line-goes R number l s beats text t done
 led-goes R l s t (up_to beats e broke) = up-to-goes R l s beats e t broke
 led-goes R l s t (so_far beats so) = part-goes R l s beats t so
 
-pub lines-led-goes : {C : Type 0} (R : Relation C) (lines : List (List ℕ)) (s t : At C) (p : LinesLed R lines s t) → Goes s.world s.disk (p.earlier ++ led_beats p.led) t.world t.disk
-lines-led-goes R lines s t p =
-    goes_on_by s.world s.disk p.earlier p.mid.world p.mid.disk (led_beats p.led) t.world t.disk (lines-goes R 1 p.before.done s p.earlier p.first p.mid p.before.ran)
-    (led-goes R (line_of p.line) p.mid t p.led)
+pub lines-led-course : {C : Type 0} (R : Relation C) (lines : List (List ℕ)) (s t : At C) (p : LinesLed R lines s t) → Course s.world s.disk (p.earlier ++ led_beats p.led) t.world t.disk
+lines-led-course R lines s t p =
+    course_on s.world s.disk p.earlier p.mid.world p.mid.disk (led_beats p.led) t.world t.disk (lines-course R 1 p.before.ran)
+    (goes_course p.mid.world p.mid.disk (led_beats p.led) t.world t.disk (led-goes R (line_of p.line) p.mid t p.led))
 
 -- A timeline at whose end the host goes on or has stopped leaves fronts.
 pub goes_anyhow : (w : World) (old : DiskView) (beats : List Beat) (v : World) (d : DiskView) (h : HostView) → HoldsSheet w old → Goes w old beats v d → StandsOrStopped h v d → LeavesFrontsAnyhow w beats old h v d
-goes_anyhow w old beats v d h held goes (inl stands) = inl (stands.0, stands.1, subst (LeavesFronts w beats old) stands.1 (goes_leaves w old beats v d held goes))
-goes_anyhow w old beats v d h held goes (inr p) = inr (p.0, p.1, p.2, goes_up_to w old beats v d p.0 p.1 h held goes p.2)
+goes_anyhow w old beats v d h held goes ends = course_anyhow w old beats v d h held (goes_course w old beats v d goes) ends
 
 -- A disk that failed at the end of a timeline has failed since its beginning.
 
 pub goes_same : (w : World) (d : DiskView) (bs : List Beat) (v : World) (f : DiskView) → Goes w d bs v f → SameDisk d f
-goes_same w d [] v f p = subst (SameDisk d) (sym p.1) (same-at d)
-goes_same w d (b ∷ bs) v f p = same-on d p.1 f p.3.same (goes_same p.0 p.1 bs v f p.4)
+goes_same w d bs v f p = (goes_course w d bs v f p).same
 
 pub min_since : (most a b c : ℕ) → a ≤ b → min (b + 1) most ≤ c → min (a + 1) most ≤ c
 min_since most a b c later rises =
@@ -286,10 +278,18 @@ min_since most a b c later rises =
 
 pub failed_since : {C : Type 0} (R : Relation C) (strict : Bool) (lines : List (List ℕ)) (disk now : DiskView) (start : World) (c d : C) (h : HostView) (a b : Option (List ℕ)) (f : RunFault)
     → SameDisk disk now → LinesStopped R strict lines (at start c now) h d a b f → f ≡ fault.Host hosts.Disk → Rises disk.faults h.store.disk.faults
-failed_since R strict lines disk now start c d h a b f same p e =
-    let q = subst (λ x. LinesStopped R strict lines (at start c now) h d a b x) e p in
-    let goes = goes_same start now q.0 q.3.world q.3.disk (lines-up-to-goes R lines (at start c now) q.0 q.1 q.2 q.3 q.4) in
-    min_since greatest_count disk.faults q.3.disk.faults h.store.disk.faults (omega (arith, same.later, goes.later)) q.5.cause.0
+failed_since {C = C} R strict lines disk now start c d h a b f same p e = go (subst (λ x. LinesStopped R strict lines (at start c now) h d a b x) e p)
+  where
+    later : (v : DiskView) → SameDisk now v → Rises v.faults h.store.disk.faults → Rises disk.faults h.store.disk.faults
+    later v goes rises = min_since greatest_count disk.faults v.faults h.store.disk.faults (omega (arith, same.later, goes.later)) rises
+
+    broke : (x : Bool) → UnlessStrict x ((hosts.Disk ≡ hosts.Disk) × ((k : C) × (p : LinesBroke R lines (at start c now) h k a b) × Stops R (running p.5.leads) k d)) → Rises disk.faults h.store.disk.faults
+    broke false q = later q.1.1.4 (lines-course R 1 q.1.1.6.ran).same q.1.1.5.failed
+    broke true q = absurd q
+
+    go : LinesStopped R strict lines (at start c now) h d a b (fault.Host hosts.Disk) → Rises disk.faults h.store.disk.faults
+    go (inl q) = later q.3.disk (lines-up-to-course R lines (at start c now) q.0 q.1 q.2 q.3 q.4).same q.5.cause.0
+    go (inr q) = broke strict q
 
 -- What is known of a result, where it is known which it is.
 
@@ -336,20 +336,20 @@ opened_on disk h ops stands found ends looks = record {
 }
 
 -- where a run stands that took its lines is known by its entries
-pub taken-goes : {C : Type 0} (R : Relation C) (strict : Bool) (lines : List (List ℕ)) (stopped : Option ℕ) (s : At C) (beats : List Beat) (text : List ℕ) (t : At C) → LinesTaken R strict lines stopped s beats text t
-    → Goes s.world s.disk beats t.world t.disk
-taken-goes R false lines stopped s beats text t p = lines-goes R 1 lines s beats text t p
-taken-goes R true lines None s beats text t p = lines-goes R 1 lines s beats text t p.0
-taken-goes R true lines (Some number) s beats text t p =
-    subst (λ (bs : List Beat). Goes s.world s.disk bs t.world t.disk) (sym p.took)
-    (goes_on_by s.world s.disk p.earlier p.mid.world p.mid.disk p.last t.world t.disk (lines-goes R 1 p.before.done s p.earlier p.first p.mid p.before.ran)
-    (line-goes R number (line_of p.line) p.mid p.last p.rest t p.ran))
+pub taken-course : {C : Type 0} (R : Relation C) (strict : Bool) (lines : List (List ℕ)) (stopped : Option ℕ) (s : At C) (beats : List Beat) (text : List ℕ) (t : At C) → LinesTaken R strict lines stopped s beats text t
+    → Course s.world s.disk beats t.world t.disk
+taken-course R false lines stopped s beats text t p = lines-course R 1 p
+taken-course R true lines None s beats text t p = lines-course R 1 p.0
+taken-course R true lines (Some number) s beats text t p =
+    subst (λ (bs : List Beat). Course s.world s.disk bs t.world t.disk) (sym p.took)
+    (course_on s.world s.disk p.earlier p.mid.world p.mid.disk p.last t.world t.disk (lines-course R 1 p.before.ran)
+    (goes_course p.mid.world p.mid.disk p.last t.world t.disk (line-goes R number (line_of p.line) p.mid p.last p.rest t p.ran)))
 
 pub done_run : {C : Type 0} (R : Relation C) (strict : Bool) (stopped : Option ℕ) (stream : Option (List ℕ)) (disk now : DiskView) (c d : C) (a b : Option (List ℕ)) (back : DiskView) (script : List ℕ) (start : World) (beats : List Beat) (text : List ℕ) (t : At C) (h : HostView)
     → IfSome stream (λ bytes. script ≡ bytes) → OpenedOn disk start now → HoldsSheet start now → LinesTaken R strict (script_lines script) stopped (at start c now) beats text t → Stops R (running t.world) t.children d → IsHost h t.world
     → t.disk ≡ h.store.disk → Appends a b text → back ≡ h.store.disk → IfSome stream (λ bytes. RunOf R (LinesTaken R strict (script_lines bytes) stopped) disk c d a b back)
 done_run R strict stopped stream disk now c d a b back script start beats text t h is opened held lines stops stands there wrote same =
-    let whole = goes_leaves start now beats t.world t.disk held (taken-goes R strict (script_lines script) stopped (at start c now) beats text t lines) in
+    let whole = (taken-course R strict (script_lines script) stopped (at start c now) beats text t lines).moments held in
     IfSome_then stream is (λ bytes e. subst (λ s. RunOf R (LinesTaken R strict (script_lines s) stopped) disk c d a b back) e
     (record {
       start = start;
@@ -368,23 +368,67 @@ done_run R strict stopped stream disk now c d a b back script start beats text t
 
 pub unread_script : {C : Type 0} (strict : Bool) (R : Relation C) (stream : Option (List ℕ)) (disk back : DiskView) (c d : C) (a b : Option (List ℕ)) (nothing : Type 0) (f : RunFault)
     → IsInputFault f → (f ≡ fault.InputTooLong → IfSome stream (λ script. longest_standard_input < length script)) → nothing → TellsBy strict R stream disk back c d a b nothing f
-unread_script false R stream disk back c d a b nothing fault.Input is long none = none
-unread_script false R stream disk back c d a b nothing fault.InputTooLong is long none = (none, long refl)
-unread_script false R stream disk back c d a b nothing fault.OutOfMemory is long none = inl none
-unread_script false R stream disk back c d a b nothing fault.Output is long none = absurd is
-unread_script false R stream disk back c d a b nothing (fault.Host why) is long none = absurd is
-unread_script false R stream disk back c d a b nothing (fault.Open why) is long none = absurd is
-unread_script false R stream disk back c d a b nothing fault.InUse is long none = absurd is
-unread_script true R stream disk back c d a b nothing fault.Input is long none = none
-unread_script true R stream disk back c d a b nothing fault.InputTooLong is long none = (none, long refl)
-unread_script true R stream disk back c d a b nothing fault.OutOfMemory is long none = inl none
-unread_script true R stream disk back c d a b nothing fault.Output is long none = absurd is
-unread_script true R stream disk back c d a b nothing (fault.Host why) is long none = absurd is
-unread_script true R stream disk back c d a b nothing (fault.Open why) is long none = absurd is
-unread_script true R stream disk back c d a b nothing fault.InUse is long none = absurd is
+unread_script false R stream disk back c d a b nothing fault.Input is long idle = idle
+unread_script false R stream disk back c d a b nothing fault.InputTooLong is long idle = (idle, long refl)
+unread_script false R stream disk back c d a b nothing fault.OutOfMemory is long idle = inl idle
+unread_script false R stream disk back c d a b nothing fault.Output is long idle = absurd is
+unread_script false R stream disk back c d a b nothing (fault.Host why) is long idle = absurd is
+unread_script false R stream disk back c d a b nothing (fault.Open why) is long idle = absurd is
+unread_script false R stream disk back c d a b nothing fault.InUse is long idle = absurd is
+unread_script true R stream disk back c d a b nothing fault.Input is long idle = idle
+unread_script true R stream disk back c d a b nothing fault.InputTooLong is long idle = (idle, long refl)
+unread_script true R stream disk back c d a b nothing fault.OutOfMemory is long idle = inl idle
+unread_script true R stream disk back c d a b nothing fault.Output is long idle = absurd is
+unread_script true R stream disk back c d a b nothing (fault.Host why) is long idle = absurd is
+unread_script true R stream disk back c d a b nothing (fault.Open why) is long idle = absurd is
+unread_script true R stream disk back c d a b nothing fault.InUse is long idle = absurd is
 
 module _ {C : Type 0} (R : Relation C) (disk now : DiskView) (c d : C) (a b : Option (List ℕ)) (script : List ℕ) (start : World) (h : HostView) (opened : OpenedOn disk start now) (held : HoldsSheet start now) (back : DiskView) (same : back ≡ h.store.disk) (strict : Bool) where
-  abbrev pub run-stopped : (f : HostFault) → LinesStopped R strict (script_lines script) (at start c now) h d a b (fault.Host f) → RunStopped R script disk back c d a b f
+  abbrev pub run-broke : (k : C) (p : LinesBroke R (script_lines script) (at start c now) h k a b) → Stops R (running p.5.leads) k d → RunBroke R script disk back c d a b
+  run-broke k p stops = record {
+    start = start;
+    now = now;
+    opened = opened;
+    group = p.0;
+    beats = p.1;
+    text = p.2;
+    leads = at p.3 k p.4;
+    before = p.6;
+    host = h;
+    back_is = same;
+    broke = p.5;
+    moments = subst (Moments start (events_of p.1 ++ p.5.taken) (outcomes_of p.1 ++ p.5.untold) now) (sym same)
+        (let first = lines-course R 1 p.6.ran in
+        moments_on start (events_of p.1) (outcomes_of p.1) p.3 p.5.taken p.5.untold now p.4 h.store.disk first.runs first.same (first.moments held)
+        (either_moments p.3 p.5.taken p.5.untold p.5.leads p.4 h.store.disk p.5.runs p.5.moments));
+    stops = stops;
+    wrote = p.7;
+  }
+
+  abbrev pub run-unwritten : (t : At C) → LinesUnwritten R (script_lines script) (at start c now) t → t.disk ≡ h.store.disk → Stops R (running t.world) t.children d → RunUnwritten R script disk back c d
+  run-unwritten t p there stops = record {
+    start = start;
+    now = now;
+    opened = opened;
+    group = p.0;
+    earlier = p.1;
+    first = p.2;
+    mid = p.3;
+    before = p.4;
+    beats = p.5;
+    leads = t;
+    done = p.6;
+    back_is = same ∙ sym there;
+    moments = subst (LeavesFronts start (p.1 ++ p.5) now) (there ∙ sym same)
+        ((course_on start now p.1 p.3.world p.3.disk p.5 t.world t.disk (lines-course R 1 p.4.ran) (group_course p.0 p.3 p.5 t p.6)).moments held);
+    stops = stops;
+  }
+
+  abbrev StoppedLines : HostFault → Type 0
+  StoppedLines f = (beats : List Beat) × (text : List ℕ) × (e : Event) × (t : At C) × (p : LinesUpTo R (script_lines script) (at start c now) beats text e t) × Stopped t.disk h t.world e f × Stops R (running t.world) t.children d
+      × Appends a b text × RightIf strict p.before.done p.earlier
+
+  abbrev pub run-stopped : (f : HostFault) → StoppedLines f → RunStopped R script disk back c d a b f
   run-stopped f p = record {
     start = start;
     now = now;
@@ -397,7 +441,7 @@ module _ {C : Type 0} (R : Relation C) (disk now : DiskView) (c d : C) (a b : Op
     host = h;
     back_is = same;
     stopped = p.5;
-    moments = goes_up_to start now p.0 p.3.world p.3.disk p.2 f h held (lines-up-to-goes R (script_lines script) (at start c now) p.0 p.1 p.2 p.3 p.4) p.5;
+    moments = course_up_to start now p.0 p.3.world p.3.disk p.2 f h held (lines-up-to-course R (script_lines script) (at start c now) p.0 p.1 p.2 p.3 p.4) p.5;
     stops = p.6;
     wrote = p.7;
   }
@@ -412,12 +456,15 @@ module _ {C : Type 0} (R : Relation C) (disk now : DiskView) (c d : C) (a b : Op
     leads = p.2;
     lines = p.3;
     back_is = same ∙ sym p.5;
-    moments = subst (LeavesFronts start p.0 now) (p.5 ∙ sym same) (goes_leaves start now p.0 p.2.world p.2.disk held (lines-so-far-goes R (script_lines script) (at start c now) p.0 p.1 p.2 p.3));
+    moments = subst (LeavesFronts start p.0 now) (p.5 ∙ sym same) ((lines-so-far-course R (script_lines script) (at start c now) p.0 p.1 p.2 p.3).moments held);
     stops = p.6;
     wrote = p.7;
   }
 
-  abbrev pub run-led : LinesStopped R strict (script_lines script) (at start c now) h d a b fault.Output → RunLed R script disk back c d
+  abbrev LedLines : Type 0
+  LedLines = (t : At C) × (p : LinesLed R (script_lines script) (at start c now) t) × StandsOrStopped h t.world t.disk × Stops R (running t.world) t.children d × RightIf strict p.before.done p.earlier
+
+  abbrev pub run-led : LedLines → RunLed R script disk back c d
   run-led p = record {
     start = start;
     now = now;
@@ -426,7 +473,7 @@ module _ {C : Type 0} (R : Relation C) (disk now : DiskView) (c d : C) (a b : Op
     lines = p.1;
     host = h;
     back_is = same;
-    moments = goes_anyhow start now (p.1.earlier ++ led_beats p.1.led) p.0.world p.0.disk h held (lines-led-goes R (script_lines script) (at start c now) p.0 p.1) p.2;
+    moments = course_anyhow start now (p.1.earlier ++ led_beats p.1.led) p.0.world p.0.disk h held (lines-led-course R (script_lines script) (at start c now) p.0 p.1) p.2;
     stops = p.3;
   }
 
@@ -437,15 +484,23 @@ told-of stream script P is p = IfSome_then stream is (λ bytes e. subst P e p)
 module _ {C : Type 0} (R : Relation C) (stream : Option (List ℕ)) (disk now : DiskView) (c d : C) (a b : Option (List ℕ)) (nothing : Type 0) (script : List ℕ) (start : World) (h : HostView)
     (is : IfSome stream (λ bytes. script ≡ bytes)) (short : length script ≤ longest_standard_input) (opened : OpenedOn disk start now) (held : HoldsSheet start now) (back : DiskView) (same : back ≡ h.store.disk) where
   pub broken_run : (strict : Bool) (f : RunFault) → LinesStopped R strict (script_lines script) (at start c now) h d a b f → TellsBy strict R stream disk back c d a b nothing f
-  broken_run false (fault.Host f) p = told-of stream script (λ s. RunStopped R s disk back c d a b f) is (run-stopped R disk now c d a b script start h opened held back same false f p)
+  broken_run false (fault.Host f) (inl p) =
+      told-of stream script (λ s. RunStopped R s disk back c d a b f ⊎ ((f ≡ hosts.Disk) × RunBroke R s disk back c d a b)) is (inl (run-stopped R disk now c d a b script start h opened held back same false f p))
+  broken_run false (fault.Host f) (inr p) =
+      told-of stream script (λ s. RunStopped R s disk back c d a b f ⊎ ((f ≡ hosts.Disk) × RunBroke R s disk back c d a b)) is (inr (p.0, run-broke R disk now c d a b script start h opened held back same false p.1.0 p.1.1 p.1.2))
   broken_run false fault.OutOfMemory p = inr (told-of stream script (λ s. RunSoFar R s disk back c d a b) is (run-so-far R disk now c d a b script start h opened held back same false p))
-  broken_run false fault.Output p = told-of stream script (λ s. (length s ≤ longest_standard_input) × RunLed R s disk back c d) is (short, run-led R disk now c d a b script start h opened held back same false p)
-  broken_run true (fault.Host f) p =
+  broken_run false fault.Output (inl p) =
+      told-of stream script (λ s. (length s ≤ longest_standard_input) × (RunLed R s disk back c d ⊎ RunUnwritten R s disk back c d)) is (short, inl (run-led R disk now c d a b script start h opened held back same false p))
+  broken_run false fault.Output (inr p) =
+      told-of stream script (λ s. (length s ≤ longest_standard_input) × (RunLed R s disk back c d ⊎ RunUnwritten R s disk back c d)) is (short, inr (run-unwritten R disk now c d a b script start h opened held back same false p.0 p.1 p.2 p.3))
+  broken_run true (fault.Host f) (inl p) =
       told-of stream script (λ s. (q : RunStopped R s disk back c d a b f) × GoRight q.lines.before.done q.lines.earlier) is (run-stopped R disk now c d a b script start h opened held back same true f p, p.8)
+  broken_run true (fault.Host f) (inr p) = absurd p
   broken_run true fault.OutOfMemory p =
       inr (told-of stream script (λ s. (q : RunSoFar R s disk back c d a b) × GoRight q.lines.before.done q.lines.earlier) is (run-so-far R disk now c d a b script start h opened held back same true p, p.8))
-  broken_run true fault.Output p =
+  broken_run true fault.Output (inl p) =
       told-of stream script (λ s. (length s ≤ longest_standard_input) × ((q : RunLed R s disk back c d) × GoRight q.lines.before.done q.lines.earlier)) is (short, (run-led R disk now c d a b script start h opened held back same true p, p.4))
+  broken_run true fault.Output (inr p) = absurd p
   broken_run false fault.Input p = absurd p
   broken_run false fault.InputTooLong p = absurd p
   broken_run false (fault.Open why) p = absurd p

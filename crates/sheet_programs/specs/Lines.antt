@@ -1,5 +1,5 @@
 -- Lines of a script over a worksheet on a disk and its interpreters. (docs/SCRIPT.md; docs/EDGE.md, "A faithful run".)
-use Rattle.std.specs.Prelude.{◌≡◌, ◌+◌, ℕ, List, [], ◌∷◌, ◌++◌, Option, Some, None}
+use Rattle.std.specs.Prelude.{◌≡◌, ◌+◌, ℕ, List, [], ◌∷◌, ◌++◌, Option, Some, None, length}
 use Rattle.host_events.specs.declared.event.Event.{Event}
 use Rattle.host_events.specs.declared.event.Event.TheVariants as event
 use Rattle.session_engine.specs.World.{sheet_in}
@@ -12,6 +12,7 @@ use Rattle.sheet_text.specs.Texts.{sheet_text}
 use Rattle.sheet_text.specs.declared.script.ScriptLine.{ScriptLine}
 use Rattle.sheet_text.specs.declared.script.ScriptLine.TheVariants as line
 use Rattle.offline_programs.specs.Memory.{bad_line, replies_text}
+use Rattle.sheet_programs.specs.Together.{GroupDone}
 
 -- what is written of the entries of a run: the texts of their replies
 abbrev pub beats_text : List Beat → List ℕ
@@ -25,12 +26,13 @@ LineDone R number (Some (line.Command c)) s beats text t = Served R s (event.Com
 LineDone R number (Some line.Wait) s beats text t = Waited R most_turns s beats t × (text ≡ beats_text beats)
 LineDone R number (Some line.Print) s beats text t = (beats ≡ []) × (text ≡ sheet_text (sheet_in s.world)) × (t ≡ s)
 
--- The lines from this number on were done, one after another.
-abbrev pub LinesDone : {C : Type 0} → Relation C → ℕ → List (List ℕ) → At C → List Beat → List ℕ → At C → Type 0
-LinesDone R number [] s beats text t = (beats ≡ []) × (text ≡ []) × (t ≡ s)
-LinesDone {C = C} R number (line ∷ lines) s beats text t =
-    (mid : At C) × (before : List Beat) × (behind : List Beat) × (first : List ℕ) × (rest : List ℕ) × LineDone R number (line_of line) s before first mid
-    × LinesDone R (number + 1) lines mid behind rest t × (beats ≡ before ++ behind) × (text ≡ first ++ rest)
+-- The lines from this number on were done: none; or a line after others; or a group of lines after others.
+pub data LinesDone {C : Type 0} (R : Relation C) (number : ℕ) : List (List ℕ) → At C → List Beat → List ℕ → At C → Type 0 where
+  none : (s : At C) → LinesDone R number [] s [] [] s
+  and_line : (lines : List (List ℕ)) (line : List ℕ) (s : At C) (before : List Beat) (first : List ℕ) (mid : At C) (last : List Beat) (rest : List ℕ) (t : At C) → LinesDone R number lines s before first mid
+      → LineDone R (number + length lines) (line_of line) mid last rest t → LinesDone R number (lines ++ line ∷ []) s (before ++ last) (first ++ rest) t
+  and_group : (lines group : List (List ℕ)) (s : At C) (before : List Beat) (first : List ℕ) (mid : At C) (last : List Beat) (t : At C) → LinesDone R number lines s before first mid
+      → GroupDone group mid last t → LinesDone R number (lines ++ group) s (before ++ last) (first ++ beats_text last) t
 
 -- The line came up to this event, at which the host had a fault: these entries of it came before.
 abbrev pub LineUpTo : {C : Type 0} → Relation C → Option ScriptLine → At C → List Beat → Event → At C → Type 0

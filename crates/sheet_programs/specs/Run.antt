@@ -7,18 +7,21 @@ use Rattle.worksheet.specs.Ops.{sheet_of}
 use Rattle.recovery.specs.Sheets.{IsSheetImage, TellsOfSheet}
 use Rattle.host_events.specs.declared.event.Event.{Event}
 use Rattle.host_events.specs.declared.outcome.HostFault.{HostFault}
+use Rattle.host_events.specs.declared.outcome.HostFault.TheVariants as hosts
 use Rattle.session_engine.specs.World.{World, world_at_opening}
+use Rattle.session_engine.specs.Crash.{Moments}
 use Rattle.session_engine.specs.Host.{HostView, EndsAt}
 use Rattle.child_edge.specs.Faithful.{Relation, At, at, Beat}
 use Rattle.child_edge.specs.Kept.{HoldsSheet}
 use Rattle.child_edge.specs.Edge.{Stopped}
-use Rattle.child_edge.specs.Moments.{LeavesFronts, LeavesFrontsUpTo}
+use Rattle.child_edge.specs.Moments.{LeavesFronts, LeavesFrontsUpTo, events_of, outcomes_of}
 use Rattle.child_edge.specs.Seats.{running}
 use Rattle.child_edge.specs.Stops.{Stops}
 use Rattle.sheet_text.specs.Script.{line_of}
 use Rattle.offline_programs.specs.Input.{longest_standard_input}
 use Rattle.offline_programs.specs.Memory.{script_lines}
 use Rattle.sheet_programs.specs.Lines.{LinesDone, LineUpTo, LineSoFar, LineLed, beats_text, led_beats}
+use Rattle.sheet_programs.specs.Together.{GroupBroke, GroupDone}
 use Rattle.sheet_programs.specs.Told.{LeavesFrontsAnyhow}
 use Rattle.offline_programs.specs.declared.fault.RunFault.{RunFault}
 use Rattle.offline_programs.specs.declared.fault.RunFault.TheVariants as fault
@@ -72,6 +75,13 @@ pub record LinesLed {C : Type 0} (R : Relation C) (lines : List (List ℕ)) (s t
   pub first : List ℕ
   pub before : LinesBefore R lines line s earlier first mid
   pub led : LineLed R (line_of line) mid t
+
+-- The lines before this group were done with these entries, and this was written of them.
+pub record GroupBefore {C : Type 0} (R : Relation C) (lines group : List (List ℕ)) (s : At C) (beats : List Beat) (text : List ℕ) (t : At C) : Type 0 where
+  pub done : List (List ℕ)
+  pub rest : List (List ℕ)
+  pub split : lines ≡ done ++ group ++ rest
+  pub ran : LinesDone R 1 done s beats text t
 
 -- What a run leaves whose lines were done so, from where the worksheet was opened: it wrote this text, and then it stopped each
 -- life that goes on. Each image of the disk that it gives back is one of the worksheet after all its events. At every moment since
@@ -138,6 +148,41 @@ pub record RunLed {C : Type 0} (R : Relation C) (script : List ℕ) (disk back :
   pub moments : LeavesFrontsAnyhow start (lines.earlier ++ led_beats lines.led) now host leads.world leads.disk
   pub stops : Stops R (running leads.world) leads.children d
 
+-- The disk failed in a group. Nothing of the group is written: the text is that of the lines before it. At every moment each image was one
+-- of the worksheet after some of the first events, those of the group that were taken among them. Each life that goes on was stopped.
+pub record RunBroke {C : Type 0} (R : Relation C) (script : List ℕ) (disk back : DiskView) (c d : C) (a b : Option (List ℕ)) : Type 0 where
+  pub start : World
+  pub now : DiskView
+  pub opened : OpenedOn disk start now
+  pub group : List (List ℕ)
+  pub beats : List Beat
+  pub text : List ℕ
+  pub leads : At C
+  pub before : GroupBefore R (script_lines script) group (at start c now) beats text leads
+  pub host : HostView
+  pub back_is : back ≡ host.store.disk
+  pub broke : GroupBroke group leads.world leads.disk host
+  pub moments : Moments start (events_of beats ++ broke.taken) (outcomes_of beats ++ broke.untold) now back
+  pub stops : Stops R (running broke.leads) leads.children d
+  pub wrote : Appends a b text
+
+-- The writer failed at the text of a group. The group was done as ever, and each life that goes on was stopped.
+pub record RunUnwritten {C : Type 0} (R : Relation C) (script : List ℕ) (disk back : DiskView) (c d : C) : Type 0 where
+  pub start : World
+  pub now : DiskView
+  pub opened : OpenedOn disk start now
+  pub group : List (List ℕ)
+  pub earlier : List Beat
+  pub first : List ℕ
+  pub mid : At C
+  pub before : GroupBefore R (script_lines script) group (at start c now) earlier first mid
+  pub beats : List Beat
+  pub leads : At C
+  pub done : GroupDone group mid beats leads
+  pub back_is : back ≡ leads.disk
+  pub moments : LeavesFronts start (earlier ++ beats) now back
+  pub stops : Stops R (running leads.world) leads.children d
+
 -- What a fault of a run tells, where the reader gives this stream, with the disk that is given back: where the script wasn't read, or the
 -- disk not opened, nothing was done.
 abbrev pub TellsRun : {C : Type 0} → Relation C → Option (List ℕ) → DiskView → DiskView → C → C → Option (List ℕ) → Option (List ℕ) → Type 0 → RunFault → Type 0
@@ -145,6 +190,6 @@ TellsRun R stream disk back c d a b nothing fault.Input = nothing
 TellsRun R stream disk back c d a b nothing fault.InputTooLong = nothing × IfSome stream (λ script. longest_standard_input < length script)
 TellsRun R stream disk back c d a b nothing (fault.Open why) = nothing × InModel disk (TellsOfSheet (bytes_on disk) why)
 TellsRun R stream disk back c d a b nothing fault.InUse = ⊥
-TellsRun R stream disk back c d a b nothing (fault.Host f) = IfSome stream (λ script. RunStopped R script disk back c d a b f)
+TellsRun R stream disk back c d a b nothing (fault.Host f) = IfSome stream (λ script. RunStopped R script disk back c d a b f ⊎ ((f ≡ hosts.Disk) × RunBroke R script disk back c d a b))
 TellsRun R stream disk back c d a b nothing fault.OutOfMemory = nothing ⊎ IfSome stream (λ script. RunSoFar R script disk back c d a b)
-TellsRun R stream disk back c d a b nothing fault.Output = IfSome stream (λ script. (length script ≤ longest_standard_input) × RunLed R script disk back c d)
+TellsRun R stream disk back c d a b nothing fault.Output = IfSome stream (λ script. (length script ≤ longest_standard_input) × (RunLed R script disk back c d ⊎ RunUnwritten R script disk back c d))

@@ -4,6 +4,7 @@
 
 mod running;
 mod taking;
+mod together;
 
 pub use running::{Ran, run, run_strict};
 pub use taking::{run_command, run_fault, run_line};

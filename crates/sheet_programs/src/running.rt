@@ -12,12 +12,13 @@ ghost use Rattle.offline_programs.specs.Input.{longest_standard_input};
 ghost use Rattle.offline_programs.specs.Memory.{script_lines};
 ghost use Rattle.sheet_programs.specs.Run.{RunDone, RunOf, TellsRun};
 ghost use Rattle.sheet_programs.specs.Strict.{LinesTaken, StrictDone, TellsStrict};
-ghost use Rattle.sheet_programs.specs.inside.Taking.{LinesStopped, TellsBy};
+ghost use Rattle.sheet_programs.specs.inside.Taking.{LinesFailed, LinesStopped, TellsBy};
 ghost use Rattle.offline_programs.specs.declared.fault.RunFault.TheVariants as told;
 ghost use Rattle.journal.specs.declared.opening.OpenCause.TheVariants as opens;
 ghost use Rattle.host_events.specs.declared.outcome.HostFault.TheVariants as hosts;
 
-use crate::taking::run_lines;
+use crate::taking::run_each;
+use crate::together::run_together;
 use child_calls::Children;
 use child_edge::stop_all;
 use disk_model::Disk;
@@ -34,6 +35,35 @@ pub struct Ran<D: Disk> {
     pub disk: D,
     /// The number of the line after which it stopped, where it is strict and did; or why it ended early.
     pub answer: Result<Option<u64>, RunFault>,
+}
+
+/// Does the lines of a script. A strict run takes each by itself, and stops after the first one that goes
+/// wrong, of which it gives the number.
+fn run_lines<D: Disk, C: Children, W: Write>(
+    alloc: Global,
+    host: &mut Host<D>,
+    children: &mut C,
+    script: &[u8],
+    strict: bool,
+    writer: &mut W,
+) -> Result<Option<u64>, RunFault>
+    requires { length (script_lines script.now) < 2 ^ 32 }
+    ensures same { SameDisk host.old.store.disk host.new.store.disk }
+    ensures ok { (w : World) → IsHost host.old w → IfOk result (λ stopped. (beats : List Beat) × (text : List ℕ)
+        × (t : World) × LinesTaken C.after strict (script_lines script.now) stopped
+        (at w children.old host.old.store.disk) beats text (at t children.new host.new.store.disk)
+        × IsHost host.new t × Appends (W.contents writer.old) (W.contents writer.new) text) }
+    ensures err { (w : World) → IsHost host.old w → IfErr result (LinesFailed C.after strict
+        (script_lines script.now) (at w children.old host.old.store.disk) host.new
+        children.new (W.contents writer.old) (W.contents writer.new)) }
+{
+    if strict {
+        return run_each(alloc, host, children, script, writer);
+    }
+    match run_together(alloc, host, children, script, writer) {
+        Ok(()) => Ok(None),
+        Err(fault) => Err(fault),
+    }
 }
 
 /// Does the lines of a script, and stops each life that goes on then.
@@ -124,15 +154,18 @@ fn run_script<R: Read, W: Write, D: Disk, C: Children>(
 /// at `print`, and `bad line N` where a line isn't known. Lines are numbered from 1. (docs/SCRIPT.md has
 /// the lines, docs/EDGE.md what comes of a command and of a wait.) It gives the disk back.
 ///
-/// The script is read whole before the disk is opened. What a line gives is written and flushed before
-/// the next line is taken, so whoever reads `ok` can rely on it. At the end of the script, and at a
+/// The script is read whole before the disk is opened. Commands one after another that only change the
+/// worksheet are taken together, up to 1,024 of them or 1 MiB of lines: all that they give is durable at
+/// once, and then their replies are written and flushed. What any other line gives is written and flushed
+/// before the next line is taken. So whoever reads `ok` can rely on it. At the end of the script, and at a
 /// fault, each life that goes on is stopped, in the order in which their sessions were made, and nothing
 /// is written of that.
 ///
 /// `Input` where the reader fails, an interruption included, `InputTooLong` where it gives more than
-/// `LONGEST_STANDARD_INPUT` bytes, `Open` where the disk isn't opened: nothing was written, and no child was called.
-/// `Host` where the host has a fault, and `OutOfMemory`: what was returned before is written. `Output` where the
-/// writer fails, a flush included: a part of the text may have gone out.
+/// `LONGEST_STANDARD_INPUT` bytes, `Open` where the disk isn't opened: nothing was written, and no child
+/// was called. `Host` where the host has a fault, and `OutOfMemory`: what was returned before is written,
+/// but nothing of commands that were taken together when the disk failed. `Output` where the writer fails,
+/// a flush included: a part of the text may have gone out.
 pub fn run<R: Read, W: Write, D: Disk, C: Children>(
     alloc: Global,
     reader: &mut R,
@@ -163,9 +196,9 @@ pub fn run<R: Read, W: Write, D: Disk, C: Children>(
     run_script(alloc, reader, writer, disk, children, false)
 }
 
-/// Runs a script as `run` does, and stops after the first line that goes wrong: one that isn't known, one
-/// that is refused, and one by which lines or requests were lost, since an interpreter ended. What that line
-/// gives is written, and what was reported is on the disk.
+/// Runs a script as `run` does, but each line by itself, and stops after the first line that goes wrong:
+/// one that isn't known, one that is refused, and one by which lines or requests were lost, since an
+/// interpreter ended. What that line gives is written, and what was reported is on the disk.
 ///
 /// Faults are those of `run`.
 pub fn run_strict<R: Read, W: Write, D: Disk, C: Children>(

@@ -1,5 +1,5 @@
 //! The lines of a script over a worksheet on a disk and its interpreters.
-ghost use Rattle.std.specs.Prelude.{◌≡◌, ◌<◌, ◌^◌, ◌&&◌, ◌||◌, ℕ, List, IfErr, IfOk, OnOk, Some, length};
+ghost use Rattle.std.specs.Prelude.{◌≡◌, ◌<◌, ◌^◌, ◌||◌, ℕ, List, IfErr, IfOk, OnOk, Some, length, true};
 ghost use Rattle.std.specs.List.{list_any};
 ghost use Rattle.std.specs.Io.KnownBytes.{Appends};
 ghost use Rattle.disk_model.specs.Disk.{SameDisk};
@@ -216,30 +216,21 @@ pub fn run_line<D: Disk, C: Children, W: Write>(
     }
 }
 
-/// Whether a run stops after a line.
-fn is_last(strict: bool, wrong: bool) -> bool
-    ensures { result ≡ (strict && wrong) }
-{
-    strict && wrong
-}
-
-/// Does the lines of a script, one after another. A strict run stops after the first one that goes wrong,
-/// and gives its number.
-pub(crate) fn run_lines<D: Disk, C: Children, W: Write>(
+/// Does the lines of a script, one after another, up to the first one that goes wrong, and gives its number.
+pub(crate) fn run_each<D: Disk, C: Children, W: Write>(
     alloc: Global,
     host: &mut Host<D>,
     children: &mut C,
     script: &[u8],
-    strict: bool,
     writer: &mut W,
 ) -> Result<Option<u64>, RunFault>
     requires { length (script_lines script.now) < 2 ^ 32 }
     ensures same { SameDisk host.old.store.disk host.new.store.disk }
     ensures ok { (w : World) → IsHost host.old w → IfOk result (λ stopped. (beats : List Beat) × (text : List ℕ)
-        × (t : World) × LinesTaken C.after strict (script_lines script.now) stopped
+        × (t : World) × LinesTaken C.after true (script_lines script.now) stopped
         (at w children.old host.old.store.disk) beats text (at t children.new host.new.store.disk)
         × IsHost host.new t × Appends (W.contents writer.old) (W.contents writer.new) text) }
-    ensures err { (w : World) → IsHost host.old w → IfErr result (LinesFailed C.after strict
+    ensures err { (w : World) → IsHost host.old w → IfErr result (LinesFailed C.after true
         (script_lines script.now) (at w children.old host.old.store.disk) host.new
         children.new (W.contents writer.old) (W.contents writer.new)) }
 {
@@ -249,7 +240,7 @@ pub(crate) fn run_lines<D: Disk, C: Children, W: Write>(
         number += 1;
         match run_line(alloc, host, children, line, number, writer) {
             Ok(wrong) => {
-                if is_last(strict, wrong) {
+                if wrong {
                     return Ok(Some(number));
                 }
             }

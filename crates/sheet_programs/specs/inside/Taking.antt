@@ -1,8 +1,9 @@
 -- What the functions of a script's run promise each other. No public contract names this.
-use Rattle.std.specs.Prelude.{◌≡◌, ℕ, Bool, true, false, List, Option}
+use Rattle.std.specs.Prelude.{◌≡◌, ◌⊎◌, ℕ, Bool, true, false, List, Option}
 use Rattle.std.specs.Io.KnownBytes.{Appends}
 use Rattle.disk_model.specs.Disk.{DiskView}
 use Rattle.host_events.specs.declared.event.Event.{Event}
+use Rattle.host_events.specs.declared.outcome.HostFault.TheVariants as hosts
 use Rattle.session_engine.specs.World.{World}
 use Rattle.session_engine.specs.Host.{HostView, IsHost}
 use Rattle.child_edge.specs.Faithful.{Relation, At, at, Beat}
@@ -12,7 +13,8 @@ use Rattle.child_edge.specs.Stops.{Stops}
 use Rattle.sheet_text.specs.declared.script.ScriptLine.{ScriptLine}
 use Rattle.sheet_programs.specs.Lines.{LineDone}
 use Rattle.sheet_programs.specs.Told.{StandsOrStopped}
-use Rattle.sheet_programs.specs.Run.{LinesUpTo, LinesSoFar, LinesLed, TellsRun}
+use Rattle.sheet_programs.specs.Together.{GroupBroke, GroupDone}
+use Rattle.sheet_programs.specs.Run.{GroupBefore, LinesUpTo, LinesSoFar, LinesLed, TellsRun}
 use Rattle.sheet_programs.specs.Strict.{RightIf, TellsStrict, goes_wrong}
 use Rattle.offline_programs.specs.declared.fault.RunFault.{RunFault}
 use Rattle.offline_programs.specs.declared.fault.RunFault.TheVariants as fault
@@ -27,15 +29,33 @@ abbrev pub TellsBy : {C : Type 0} → Bool → Relation C → Option (List ℕ) 
 TellsBy false R stream disk back c d a b nothing f = TellsRun R stream disk back c d a b nothing f
 TellsBy true R stream disk back c d a b nothing f = TellsStrict R stream disk back c d a b nothing f
 
+-- only a run that isn't strict takes lines together
+abbrev pub UnlessStrict : Bool → Type 0 → Type 0
+UnlessStrict false P = P
+UnlessStrict true P = ⊥
+
+-- The disk failed in a group of the lines. What the lines before it gave is written.
+abbrev pub LinesBroke : {C : Type 0} → Relation C → List (List ℕ) → At C → HostView → C → Option (List ℕ) → Option (List ℕ) → Type 0
+LinesBroke R lines s h c a b =
+    (group : List (List ℕ)) × (beats : List Beat) × (text : List ℕ) × (w : World) × (old : DiskView) × (broke : GroupBroke group w old h) × GroupBefore R lines group s beats text (at w c old) × Appends a b text
+
+-- A group of the lines was done, and is not written.
+abbrev pub LinesUnwritten : {C : Type 0} → Relation C → List (List ℕ) → At C → At C → Type 0
+LinesUnwritten {C = C} R lines s t =
+    (group : List (List ℕ)) × (beats : List Beat) × (text : List ℕ) × (mid : At C) × GroupBefore R lines group s beats text mid × (last : List Beat) × GroupDone group mid last t
+
 -- What a fault of the lines of a script leaves.
 abbrev pub LinesFailed : {C : Type 0} → Relation C → Bool → List (List ℕ) → At C → HostView → C → Option (List ℕ) → Option (List ℕ) → RunFault → Type 0
 LinesFailed R strict lines s h c a b (fault.Host f) =
-    (beats : List Beat) × (text : List ℕ) × (e : Event) × (t : World) × (d : DiskView) × (p : LinesUpTo R lines s beats text e (at t c d)) × Stopped d h t e f × Appends a b text
-    × RightIf strict p.before.done p.earlier
+    ((beats : List Beat) × (text : List ℕ) × (e : Event) × (t : World) × (d : DiskView) × (p : LinesUpTo R lines s beats text e (at t c d)) × Stopped d h t e f × Appends a b text
+    × RightIf strict p.before.done p.earlier)
+    ⊎ UnlessStrict strict ((f ≡ hosts.Disk) × LinesBroke R lines s h c a b)
 LinesFailed R strict lines s h c a b fault.OutOfMemory =
     (beats : List Beat) × (text : List ℕ) × (t : World) × (p : LinesSoFar R lines s beats text (at t c h.store.disk)) × IsHost h t × Appends a b text
     × RightIf strict p.before.done p.earlier
-LinesFailed R strict lines s h c a b fault.Output = (t : World) × (d : DiskView) × (p : LinesLed R lines s (at t c d)) × StandsOrStopped h t d × RightIf strict p.before.done p.earlier
+LinesFailed R strict lines s h c a b fault.Output =
+    ((t : World) × (d : DiskView) × (p : LinesLed R lines s (at t c d)) × StandsOrStopped h t d × RightIf strict p.before.done p.earlier)
+    ⊎ UnlessStrict strict ((t : World) × LinesUnwritten R lines s (at t c h.store.disk) × IsHost h t)
 LinesFailed R strict lines s h c a b fault.Input = ⊥
 LinesFailed R strict lines s h c a b fault.InputTooLong = ⊥
 LinesFailed R strict lines s h c a b (fault.Open why) = ⊥
@@ -44,13 +64,15 @@ LinesFailed R strict lines s h c a b fault.InUse = ⊥
 -- The same, and each life that goes on was stopped after it.
 abbrev pub LinesStopped : {C : Type 0} → Relation C → Bool → List (List ℕ) → At C → HostView → C → Option (List ℕ) → Option (List ℕ) → RunFault → Type 0
 LinesStopped {C = C} R strict lines s h d a b (fault.Host f) =
-    (beats : List Beat) × (text : List ℕ) × (e : Event) × (t : At C) × (p : LinesUpTo R lines s beats text e t) × Stopped t.disk h t.world e f × Stops R (running t.world) t.children d × Appends a b text
-    × RightIf strict p.before.done p.earlier
+    ((beats : List Beat) × (text : List ℕ) × (e : Event) × (t : At C) × (p : LinesUpTo R lines s beats text e t) × Stopped t.disk h t.world e f × Stops R (running t.world) t.children d × Appends a b text
+    × RightIf strict p.before.done p.earlier)
+    ⊎ UnlessStrict strict ((f ≡ hosts.Disk) × ((c : C) × (p : LinesBroke R lines s h c a b) × Stops R (running p.5.leads) c d))
 LinesStopped {C = C} R strict lines s h d a b fault.OutOfMemory =
     (beats : List Beat) × (text : List ℕ) × (t : At C) × (p : LinesSoFar R lines s beats text t) × IsHost h t.world × (t.disk ≡ h.store.disk) × Stops R (running t.world) t.children d × Appends a b text
     × RightIf strict p.before.done p.earlier
 LinesStopped {C = C} R strict lines s h d a b fault.Output =
-    (t : At C) × (p : LinesLed R lines s t) × StandsOrStopped h t.world t.disk × Stops R (running t.world) t.children d × RightIf strict p.before.done p.earlier
+    ((t : At C) × (p : LinesLed R lines s t) × StandsOrStopped h t.world t.disk × Stops R (running t.world) t.children d × RightIf strict p.before.done p.earlier)
+    ⊎ UnlessStrict strict ((t : At C) × LinesUnwritten R lines s t × (t.disk ≡ h.store.disk) × Stops R (running t.world) t.children d)
 LinesStopped R strict lines s h d a b fault.Input = ⊥
 LinesStopped R strict lines s h d a b fault.InputTooLong = ⊥
 LinesStopped R strict lines s h d a b (fault.Open why) = ⊥

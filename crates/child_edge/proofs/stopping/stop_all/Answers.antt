@@ -41,3 +41,9 @@ returns-clause-stopped g c = λ w e before fault s.
     let r = c.loop-session.invariant.kept in
     let all = all-lives (number_in c.args.host.now.lives) w r.0 c.loop-session.session-iterator c.args.host.now.store.sheet.contents.sessions c.in-None.ensures.steps.0 r.2 (ap (λ x. x.sessions) s.contents) s.numbers in
     subst (λ seats. Stops g.C.Children.after seats c.args.children.now c.loop-session.children) all r.1
+
+pub returns-clause-numbered : goal.returns-clause-numbered
+returns-clause-numbered g c = λ w contents numbers.
+    let r = c.loop-session.invariant.kept in
+    let all = all-lives (number_in c.args.host.now.lives) w r.0 c.loop-session.session-iterator c.args.host.now.store.sheet.contents.sessions c.in-None.ensures.steps.0 r.2 (ap (λ x. x.sessions) contents) numbers in
+    subst (λ seats. Stops g.C.Children.after seats c.args.children.now c.loop-session.children) all r.1

@@ -12,5 +12,5 @@ pub returns-clause-err : goal.returns-clause-err
 returns-clause-err g c = λ w h.
     if_err_then c.run_lines-done.result _ _
     (λ f p. lines_stopped g.C.Children.after c.args.strict (script_lines c.args.script.now) (at w c.args.children.now c.args.host.now.store.disk) c.run_lines-done.new.host c.run_lines-done.new.children c.stop_all.new.children
-    (g.W.Write.contents c.args.writer.now) (g.W.Write.contents c.run_lines-done.new.writer) f (c.stop_all.ensures.working, c.stop_all.ensures.stopped) p)
+    (g.W.Write.contents c.args.writer.now) (g.W.Write.contents c.run_lines-done.new.writer) f (c.stop_all.ensures.working, c.stop_all.ensures.stopped) c.stop_all.ensures.numbered p)
     (c.run_lines-done.ensures.err w h)

@@ -7,6 +7,7 @@ use Rattle.session_engine.specs.Host.{HostView, IsHost}
 use Rattle.session_engine.specs.Crash.{Halts}
 use Rattle.session_engine.specs.Gathers.{OnlyAtOnce}
 use Rattle.session_engine.proofs.Gathering.{broke_by, failed_group, flushes_after, stopped_group, took_group}
+use Rattle.session_engine.proofs.Tables.{numbers_are}
 use Rattle.session_engine.proofs.buffered.BufferedHost.play_owed.Goals as goal
 
 pub returns-in-Ok-flush-clause-took : goal.returns-in-Ok-flush-clause-took
@@ -33,7 +34,7 @@ returns-in-Err-clause-halts g c = λ w h.
     let real : mid.store.real ≡ old.store.real = on.real gathers ∙ c.gather.ensures.real in
     let same = subst (λ (d : DiskView). SameDisk d mid.store.disk) c.gather.ensures.disk c.play.ensures.same in
     let p = c.in-Ok.ensures.played w host in
-    failed_group w c.args.events.items old mid c.flush.new.self real same c.flush.ensures.any_moment [] c.in-Ok.outcomes.items mid p p.stands.stands.contents c.in-Err.ensures.closes
+    failed_group w c.args.events.items old mid c.flush.new.self real same c.flush.ensures.any_moment [] c.in-Ok.outcomes.items mid p p.stands.stands.contents (numbers_are mid.lives p.leads.lives p.stands.stands.lives_are) c.in-Err.ensures.sheet c.in-Err.ensures.lives c.in-Err.ensures.closes
     (broke_by c.flush.result c.in-Err.field-0 mid.store.closed (Rises mid.store.real.faults c.flush.new.self.store.real.faults) c.in-Err.is c.in-Err.ensures.other p.stands.stands.still_open c.flush.ensures.closed.0 c.flush.ensures.faulty)
 
 pub returns-in-Ok-flush-2-clause-halts : goal.returns-in-Ok-flush-2-clause-halts
@@ -71,7 +72,7 @@ returns-in-Err-flush-clause-halts g c = λ w h.
     let halts = subst (λ (x : PlayFault). Halts w c.args.events.items first mid x) c.in-Err-NoRoom.field-0-is (c.in-Err-NoRoom.ensures.halts w host) in
     let stands = subst (λ (v : HostView). IsHost v w) (sym halts.1) host in
     let flush = c.flush-in-Err-NoRoom in
-    failed_group w c.args.events.items old mid flush.new.self real same flush.ensures.any_moment c.args.events.items [] mid (record { done = []; split = refl; leads = w; runs = refl; stands = stands }) stands.stands.contents c.in-Err-flush.ensures.closes
+    failed_group w c.args.events.items old mid flush.new.self real same flush.ensures.any_moment c.args.events.items [] mid (record { done = []; split = refl; leads = w; runs = refl; stands = stands }) stands.stands.contents (numbers_are mid.lives w.lives stands.stands.lives_are) c.in-Err-flush.ensures.sheet c.in-Err-flush.ensures.lives c.in-Err-flush.ensures.closes
     (broke_by flush.result c.in-Err-flush.field-0 mid.store.closed (Rises mid.store.real.faults flush.new.self.store.real.faults) c.in-Err-flush.is c.in-Err-flush.ensures.other stands.stands.still_open flush.ensures.closed.0 flush.ensures.faulty)
 
 pub returns-in-Ok-flush-3-clause-halts : goal.returns-in-Ok-flush-3-clause-halts
@@ -102,7 +103,7 @@ returns-in-Err-flush-2-clause-halts g c = λ w h.
     let same = subst (λ (d : DiskView). SameDisk d mid.store.disk) c.gather.ensures.disk c.play.ensures.same in
     let s = subst (λ (x : PlayFault). Halts w c.args.events.items first mid x) c.in-Err-Stopped.field-0-is (c.in-Err-Stopped.ensures.halts w host) in
     let flush = c.flush-in-Err-Stopped in
-    failed_group w c.args.events.items old mid flush.new.self real same flush.ensures.any_moment (s.at ∷ s.dropped) c.in-Err-Stopped.outcomes.items s.before s.played s.failed.contents c.in-Err-flush-2.ensures.closes
+    failed_group w c.args.events.items old mid flush.new.self real same flush.ensures.any_moment (s.at ∷ s.dropped) c.in-Err-Stopped.outcomes.items s.before s.played s.failed.contents s.failed.numbers c.in-Err-flush-2.ensures.sheet c.in-Err-flush-2.ensures.lives c.in-Err-flush-2.ensures.closes
     (broke_by flush.result c.in-Err-flush-2.field-0 mid.store.closed (Rises mid.store.real.faults flush.new.self.store.real.faults) c.in-Err-flush-2.is c.in-Err-flush-2.ensures.other (on.closed gathers ∙ host.stands.still_open) flush.ensures.closed.0 flush.ensures.faulty)
 
 pub returns-in-Ok-flush-clause-written : goal.returns-in-Ok-flush-clause-written

@@ -1,0 +1,198 @@
+-- Commands that only change the worksheet, taken together.
+use Rattle.std.proofs.Common.{◌≡◌, ◌≤◌, ℕ, true, false, List, [], ◌∷◌, ◌++◌, inl, inr, Option, Some, None, refl, ap, sym, ◌∙◌, subst, append-nil, length, arith}
+use Rattle.std.proofs.lemmas.Bool.{false≢true}
+use Rattle.std.specs.Prelude.{is_some}
+use Rattle.std.specs.List.{AllByRecursion}
+use Rattle.std.specs.Bool.{IsTrue}
+use Rattle.std.specs.Io.KnownBytes.{Appends}
+use Rattle.disk_model.specs.Disk.{DiskView, Leaves, LeavesOnly, Rises, SameDisk}
+use Rattle.recovery.specs.Sheets.{IsSheetImage, IsSheetOf}
+use Rattle.host_events.specs.Commands.{op_of}
+use Rattle.host_events.specs.declared.command.Command.{Command}
+use Rattle.host_events.specs.declared.command.Command.TheVariants as command
+use Rattle.host_events.specs.declared.event.Event.{Event}
+use Rattle.host_events.specs.declared.event.Event.TheVariants as event
+use Rattle.host_events.specs.declared.outcome.Outcome.{Outcome}
+use Rattle.host_events.specs.declared.outcome.HostFault.{HostFault}
+use Rattle.host_events.specs.declared.outcome.HostFault.TheVariants as faults
+use Rattle.host_events.specs.declared.reply.Reply.{Reply}
+use Rattle.host_events.specs.declared.reply.Reply.TheVariants as reply
+use Rattle.worksheet.specs.declared.refusal.Refusal.{Refusal}
+use Rattle.worksheet.specs.Checks.{first_of}
+use Rattle.session_engine.specs.World.{World, sheet_in}
+use Rattle.session_engine.specs.Refused.{command_refusals}
+use Rattle.session_engine.specs.Does.{CommandDoes, Does, Gives, Runs}
+use Rattle.session_engine.specs.Host.{HostView, IsHost}
+use Rattle.session_engine.specs.Faults.{CauseOf, Failed}
+use Rattle.session_engine.specs.Gathers.{FlushesTo}
+use Rattle.session_engine.specs.Groups.{FailedGroup, NoGroup, StoppedGroup, TookGroup}
+use Rattle.child_edge.specs.Faithful.{At, at, Beat}
+use Rattle.child_edge.specs.Moments.{events_of, outcomes_of}
+use Rattle.child_edge.specs.Told.{spoken, told}
+use Rattle.offline_programs.specs.Memory.{replies_text}
+use Rattle.sheet_text.specs.Script.{line_of}
+use Rattle.sheet_text.specs.Texts.{reply_text}
+use Rattle.sheet_text.specs.declared.script.ScriptLine.{ScriptLine}
+use Rattle.sheet_text.specs.declared.script.ScriptLine.TheVariants as line
+use Rattle.sheet_programs.specs.Lines.{beats_text}
+use Rattle.sheet_programs.specs.Together.{Alone, GroupBroke, GroupDone, Joins, LeavesEither, lines_events, line_events, may_join}
+use Rattle.sheet_programs.specs.inside.Grouping.{GroupKept, outcome_text, outcomes_text}
+
+-- Such commands have no effect.
+
+-- an event of such a command
+abbrev IsEdit : Event → Type 0
+IsEdit (event.Command c) = is_some (op_of c) ≡ true
+IsEdit (event.Child name number e) = ⊥
+
+does_alone : (w : World) (c : Command) (r : Option Refusal) (d : Does) → is_some (op_of c) ≡ true → CommandDoes w c r d → d.told.effect ≡ None
+does_alone w c (Some r) d edit is = ap (λ (x : Does). x.told.effect) is
+does_alone w c None d edit (inr refused) = ap (λ (x : Does). x.told.effect) refused.1
+does_alone w (command.Session name tab words) None d edit (inl is) = ap (λ (x : Does). x.told.effect) is
+does_alone w (command.New after session input) None d edit (inl is) = ap (λ (x : Does). x.told.effect) is
+does_alone w (command.Set id input) None d edit (inl is) = ap (λ (x : Does). x.told.effect) is
+does_alone w (command.Remove id) None d edit (inl is) = ap (λ (x : Does). x.told.effect) is
+does_alone w (command.Move id after) None d edit (inl is) = ap (λ (x : Does). x.told.effect) is
+does_alone w (command.Clear id) None d edit (inl is) = ap (λ (x : Does). x.told.effect) is
+does_alone w (command.Eval id) None d edit (inl is) = absurd (false≢true edit)
+does_alone w (command.Complete id cursor) None d edit (inl is) = absurd (false≢true edit)
+does_alone w (command.Stop name) None d edit (inl is) = absurd (false≢true edit)
+does_alone w command.Checkpoint None d edit (inl is) = absurd (false≢true edit)
+
+gives_alone : (w : World) (e : Event) (o : Outcome) (v : World) → IsEdit e → Gives w e o v → o.effect ≡ None
+gives_alone w (event.Command c) o v edit gives = ap (λ (x : Outcome). x.effect) gives.2 ∙ does_alone w c (first_of (command_refusals w c)) gives.0 edit gives.1
+gives_alone w (event.Child name number e) o v edit gives = absurd edit
+
+-- The events of lines that join are such.
+
+edits_in : (lines : List (List ℕ)) → AllByRecursion (λ l. may_join (line_of l) ≡ true) lines → AllByRecursion IsEdit (lines_events lines)
+edits_in [] all = tt
+edits_in (l ∷ ls) all = go (line_of l) all.0 (edits_in ls all.1)
+  where
+    go : (x : Option ScriptLine) → may_join x ≡ true → AllByRecursion IsEdit (lines_events ls) → AllByRecursion IsEdit (line_events x ++ lines_events ls)
+    go None may rest = absurd (false≢true may)
+    go (Some line.Skip) may rest = rest
+    go (Some (line.Command c)) may rest = (may, rest)
+    go (Some line.Wait) may rest = absurd (false≢true may)
+    go (Some line.Print) may rest = absurd (false≢true may)
+
+pub joined_edits : (lines : List (List ℕ)) (events : List Event) → Joins lines events → AllByRecursion IsEdit events
+joined_edits lines events joins = subst (λ (es : List Event). AllByRecursion IsEdit es) (sym joins.are) (edits_in lines joins.each)
+
+among : (done : List Event) (e : Event) (more : List Event) → AllByRecursion IsEdit (done ++ e ∷ more) → IsEdit e
+among [] e more all = all.0
+among (x ∷ xs) e more all = among xs e more all.1
+
+-- a fault of one of them is the disk's
+edit_fault : (w : World) (e : Event) (old new : DiskView) (f : HostFault) → IsEdit e → ((f ≡ faults.Disk) → ⊥) → CauseOf w e old new f → ⊥
+edit_fault w (event.Child name number x) old new f edit kept cause = edit
+edit_fault w (event.Command c) old new faults.Closed edit kept cause = cause
+edit_fault w (event.Command c) old new faults.Disk edit kept cause = kept refl
+edit_fault w (event.Command c) old new faults.OutOfMemory edit kept cause = false≢true cause.1
+edit_fault w (event.Command c) old new faults.JournalFull edit kept cause = false≢true cause.1
+
+pub never_stopped : (lines : List (List ℕ)) (w : World) (events : List Event) (old new : HostView) (outcomes : List Outcome) (f : HostFault) → Joins lines events → StoppedGroup w events old new outcomes f → ⊥
+never_stopped lines w events old new outcomes f joins s =
+    let all = subst (λ (es : List Event). AllByRecursion IsEdit es) s.played.split (joined_edits lines events joins) in
+    edit_fault s.played.leads s.at s.before.store.disk s.after.store.disk f (among s.played.done s.at s.dropped all) s.kept s.failed.cause
+
+-- What is known of the disk as it stands, of the disk.
+
+module _ (w : World) (old new : HostView) (before : old.store.real ≡ old.store.disk) (after : new.store.real ≡ new.store.disk) (stands : IsHost old w) where
+  pub plain : (v : World) → FlushesTo (sheet_in v) old.store new.store → LeavesEither w v old.store.disk new.store.disk
+  plain v flushes = λ model.
+      subst (λ (d : DiskView). LeavesOnly (IsSheetOf (sheet_in w) (sheet_in v)) old.store.disk.history d.history) after
+      (subst (λ (d : DiskView). LeavesOnly (IsSheetOf (sheet_in w) (sheet_in v)) d.history new.store.real.history) before
+      (flushes model (sheet_in w) (subst (λ (d : DiskView). Leaves (IsSheetImage (sheet_in w)) d.history.now) (sym before) (stands.stands.images model))))
+
+  pub same_plain : SameDisk old.store.real new.store.real → SameDisk old.store.disk new.store.disk
+  same_plain same = subst (λ (d : DiskView). SameDisk old.store.disk d) after (subst (λ (d : DiskView). SameDisk d new.store.real) before same)
+
+  abbrev pub group_kept : (events : List Event) (outcomes : List Outcome) → TookGroup w events outcomes old new → GroupKept w events old new
+  group_kept events outcomes p = record {
+    told = outcomes;
+    leads = p.played.leads;
+    runs = subst (λ (es : List Event). Runs w es outcomes p.played.leads) (sym (append-nil p.played.done) ∙ sym p.played.split) p.played.runs;
+    stands = p.played.stands;
+    moments = plain p.played.leads p.moments;
+  }
+
+  pub group_broke : (lines : List (List ℕ)) (events : List Event) → Joins lines events → SameDisk old.store.real new.store.real → FailedGroup w events old new → GroupBroke lines w old.store.disk new
+  group_broke lines events joins same p = record {
+    taken = p.played.done;
+    dropped = p.rest;
+    joins = record { each = joins.each; are = sym p.played.split ∙ joins.are };
+    untold = p.untold;
+    leads = p.played.leads;
+    runs = p.played.runs;
+    closed = p.closed;
+    contents = p.contents;
+    numbers = p.numbers;
+    same = same_plain same;
+    failed = subst (λ (d : DiskView). Rises old.store.disk.faults d.faults) after (subst (λ (d : DiskView). Rises d.faults new.store.real.faults) before p.broke);
+    moments = plain p.played.leads p.moments;
+  }
+
+  pub no_group_disk : (events back : List Event) → old.store.owed ≡ [] → NoGroup w events back old new → new.store.disk ≡ old.store.disk
+  no_group_disk events back owed p = sym after ∙ p.untouched owed ∙ before
+
+-- The entries of events that have no effect.
+
+abbrev pub beats_from : List Event → List Outcome → List Beat
+beats_from [] os = []
+beats_from (e ∷ es) [] = []
+beats_from (e ∷ es) (o ∷ os) = record { event = e; outcome = o; answer = None } ∷ beats_from es os
+
+pub events_from : (w : World) (es : List Event) (os : List Outcome) (v : World) → Runs w es os v → events_of (beats_from es os) ≡ es
+events_from w [] os v runs = refl
+events_from w (e ∷ es) [] v runs = absurd runs
+events_from w (e ∷ es) (o ∷ os) v runs = ap (λ (l : List Event). e ∷ l) (events_from runs.0 es os v runs.2)
+
+pub outcomes_from : (w : World) (es : List Event) (os : List Outcome) (v : World) → Runs w es os v → outcomes_of (beats_from es os) ≡ os
+outcomes_from w [] [] v runs = refl
+outcomes_from w [] (o ∷ os) v runs = absurd runs
+outcomes_from w (e ∷ es) [] v runs = absurd runs
+outcomes_from w (e ∷ es) (o ∷ os) v runs = ap (λ (l : List Outcome). o ∷ l) (outcomes_from runs.0 es os v runs.2)
+
+alone_from : (w : World) (es : List Event) (os : List Outcome) (v : World) → AllByRecursion IsEdit es → Runs w es os v → AllByRecursion Alone (beats_from es os)
+alone_from w [] os v all runs = tt
+alone_from w (e ∷ es) [] v all runs = absurd runs
+alone_from w (e ∷ es) (o ∷ os) v all runs = ((gives_alone w e o runs.0 all.0 runs.1, refl), alone_from runs.0 es os v all.1 runs.2)
+
+length_from : (w : World) (es : List Event) (os : List Outcome) (v : World) → Runs w es os v → length (beats_from es os) ≡ length es
+length_from w [] os v runs = refl
+length_from w (e ∷ es) [] v runs = absurd runs
+length_from w (e ∷ es) (o ∷ os) v runs = let rest = length_from runs.0 es os v runs.2 in omega (arith, rest)
+
+-- their text is that of the outcomes
+spoken_text : (r : Reply) (rs : List Reply) → replies_text (spoken r ++ rs) ≡ reply_text r ++ replies_text rs
+spoken_text reply.Done rs = refl
+spoken_text (reply.Field id) rs = refl
+spoken_text (reply.Asked number) rs = refl
+spoken_text (reply.Refused why) rs = refl
+spoken_text (reply.Child one) rs = refl
+spoken_text reply.Nothing rs = refl
+
+told_text : (bs : List Beat) → outcomes_text (outcomes_of bs) ≡ beats_text bs
+told_text [] = refl
+told_text (b ∷ bs) = ap (λ (x : List ℕ). outcome_text b.outcome ++ x) (told_text bs) ∙ sym (spoken_text b.outcome.reply (told bs))
+
+module _ {C : Type 0} (lines : List (List ℕ)) (w : World) (events : List Event) (old new : HostView) (c : C) (joins : Joins lines events) (p : GroupKept w events old new) where
+  abbrev pub kept_beats : List Beat
+  kept_beats = beats_from events p.told
+
+  pub kept_text : outcomes_text p.told ≡ beats_text kept_beats
+  kept_text = ap (λ (os : List Outcome). outcomes_text os) (sym (outcomes_from w events p.told p.leads p.runs)) ∙ told_text kept_beats
+
+  pub kept_done : 2 ≤ length events → SameDisk old.store.disk new.store.disk → GroupDone lines (at w c old.store.disk) kept_beats (at p.leads c new.store.disk)
+  kept_done many same = record {
+    joins = subst (λ (es : List Event). Joins lines es) (sym (events_from w events p.told p.leads p.runs)) joins;
+    many = subst (λ (n : ℕ). 2 ≤ n) (sym (length_from w events p.told p.leads p.runs)) many;
+    runs = subst (λ (es : List Event). Runs w es (outcomes_of kept_beats) p.leads) (sym (events_from w events p.told p.leads p.runs))
+        (subst (λ (os : List Outcome). Runs w events os p.leads) (sym (outcomes_from w events p.told p.leads p.runs)) p.runs);
+    alone = alone_from w events p.told p.leads (joined_edits lines events joins) p.runs;
+    children = refl;
+    same = same;
+    moments = p.moments;
+    holds = p.stands.stands.images;
+  }

@@ -1,0 +1,19 @@
+use Rattle.std.proofs.Common.{◌≡◌, ◌+◌, length, true}
+use Rattle.disk_model.specs.Disk.{SameDisk}
+use Rattle.session_engine.specs.World.{World}
+use Rattle.session_engine.specs.Host.{IsHost}
+use Rattle.child_edge.specs.Faithful.{at}
+use Rattle.offline_programs.specs.Memory.{script_lines}
+use Rattle.sheet_programs.proofs.Runs.{DoneSoFar}
+use Rattle.sheet_programs.proofs.taking.run_each.Given as goal
+
+abbrev pub invariant-loop-line : goal.invariant-loop-line
+invariant-loop-line g l = record {
+  count : l.number + length l.lines ≡ length (script_lines l.fn.script);
+  same : SameDisk l.fn.host.store.disk l.host.store.disk;
+  runs : (w : World) → IsHost l.fn.host w
+      → DoneSoFar g.C.Children.after true (script_lines l.fn.script) l.number l.lines (at w l.fn.children l.fn.host.store.disk) l.host l.children (g.W.Write.contents l.fn.writer) (g.W.Write.contents l.writer);
+}
+
+abbrev pub decreases-loop-line : goal.decreases-loop-line
+decreases-loop-line g l = length l.lines

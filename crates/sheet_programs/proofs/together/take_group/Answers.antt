@@ -1,0 +1,37 @@
+use Rattle.std.proofs.Common.{refl, sym, subst}
+use Rattle.std.proofs.KnownBytes.{Appends-nil}
+use Rattle.std.specs.Io.KnownBytes.{Appends}
+use Rattle.session_engine.specs.declared.play.GroupFault.{GroupFault}
+use Rattle.session_engine.specs.Groups.{HaltsGroup}
+use Rattle.sheet_programs.specs.inside.Grouping.{GroupFailed, outcomes_text}
+use Rattle.sheet_programs.proofs.Grouped.{group_broke, group_kept, never_stopped}
+use Rattle.sheet_programs.proofs.together.take_group.Goals as goal
+
+pub returns-in-Ok-tell_outcomes-clause-ok : goal.returns-in-Ok-tell_outcomes-clause-ok
+returns-in-Ok-tell_outcomes-clause-ok g c = λ lines w h joins. (
+  group_kept w c.args.host.now c.play.new.host c.play.ensures.before.1 c.play.ensures.after h c.args.events.items c.in-Ok.outcomes.items (c.in-Ok.ensures.took w h),
+  subst (λ x. Appends (g.W.Write.contents c.args.writer.now) (g.W.Write.contents c.tell_outcomes.new.writer) (outcomes_text x)) c.as_slice.ensures.value c.in-Ok-tell_outcomes.ensures.ok,
+)
+
+pub returns-in-Ok-clause-err : goal.returns-in-Ok-clause-err
+returns-in-Ok-clause-err g c = λ lines w h joins.
+    subst (λ f. GroupFailed lines w c.args.events.items c.args.host.now c.play.new.host (g.W.Write.contents c.args.writer.now) (g.W.Write.contents c.tell_outcomes.new.writer) f) (sym c.in-Err.ensures.err)
+    (group_kept w c.args.host.now c.play.new.host c.play.ensures.before.1 c.play.ensures.after h c.args.events.items c.in-Ok.outcomes.items (c.in-Ok.ensures.took w h))
+
+pub returns-in-Ok-tell_outcomes-2-clause-err : goal.returns-in-Ok-tell_outcomes-2-clause-err
+returns-in-Ok-tell_outcomes-2-clause-err g c = λ lines w h joins.
+    absurd (never_stopped lines w c.args.events.items c.args.host.now c.play.new.host c.in-Err-Stopped.outcomes.items c.in-Err-Stopped.fault joins
+    (subst (λ (x : GroupFault). HaltsGroup w c.args.events.items c.args.host.now c.play.new.host x) c.in-Err-Stopped.field-0-is (c.in-Err-Stopped.ensures.halts w h)))
+
+pub returns-in-Err-Stopped-clause-err : goal.returns-in-Err-Stopped-clause-err
+returns-in-Err-Stopped-clause-err g c = λ lines w h joins.
+    absurd (never_stopped lines w c.args.events.items c.args.host.now c.play.new.host c.in-Err-Stopped.outcomes.items c.in-Err-Stopped.fault joins
+    (subst (λ (x : GroupFault). HaltsGroup w c.args.events.items c.args.host.now c.play.new.host x) c.in-Err-Stopped.field-0-is (c.in-Err-Stopped.ensures.halts w h)))
+
+pub returns-in-Err-Disk-clause-err : goal.returns-in-Err-Disk-clause-err
+returns-in-Err-Disk-clause-err g c = λ lines w h joins. (
+  refl,
+  group_broke w c.args.host.now c.play.new.host c.play.ensures.before.1 c.play.ensures.after h lines c.args.events.items joins c.play.ensures.same
+      (subst (λ (x : GroupFault). HaltsGroup w c.args.events.items c.args.host.now c.play.new.host x) c.in-Err-Disk.field-0-is (c.in-Err-Disk.ensures.halts w h)),
+  Appends-nil (g.W.Write.contents c.args.writer.now),
+)
