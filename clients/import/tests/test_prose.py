@@ -1,7 +1,9 @@
 """Text between code: what of it becomes fields of prose, and what tmhost-prose makes of exports."""
 import importlib
 import json
+import os
 import random
+import re
 import shutil
 import subprocess
 import unittest
@@ -14,6 +16,8 @@ from tmhost_import.prose import ITEM, open_end, parts_of
 from .support import COMMAND, LINE_END, PROGRAM, ROOT, Case, Done, code, needs_nbformat, needs_program, notebook
 
 PROSE = COMMAND.replace("tmhost-import", "tmhost-prose")
+TYPESET = f"{ROOT}/clients/typeset/tmhost-typeset"
+MARKDOWN_IT = ("/usr/share/javascript/markdown-it/markdown-it.js", "/usr/share/nodejs/markdown-it/dist/markdown-it.js")
 ECHO = f"sh {ROOT}/examples/echo.sh"
 
 
@@ -306,6 +310,24 @@ class RoundTrips(Case):
         self.assertEqual(made.out, document.replace("x + 1\n```", "x + 1\n```\n\n```\n3\n```").replace("x * 3\n```", "x * 3\n```\n\n```\n6\n```"))
         self.assertEqual(self.do("--prose", "--format", "markdown", "two", data=made.out).status, 0)
         self.assertEqual(self.host("export", "script", "two"), self.host("export", "script", "one"))
+
+    @unittest.skipUnless(shutil.which("node") and any(map(os.path.exists, MARKDOWN_IT)), "there is no node, or no markdown-it")
+    def test_a_page_with_prose(self) -> None:
+        """Long prose is several fields, each as long as may be, and in the page it reads as before."""
+        long = [f"Paragraph {number}, *é* & <b>: " + "word " * 150 for number in range(20)]
+        document = notebook(text("# Title\n\n- a\n- `b`"), code("1 + 1"), text("\n\n".join(long)), code("'<p>'"))
+        self.assertEqual(self.do("--prose", "one", data=document).status, 0)
+        fields = [line.split(" ")[2] for line in self.host("export", "script", "one").split("\n") if line.startswith("new")]
+        self.assertEqual((fields[:2], fields[-1], set(fields[2:-1])), (["prose", "python3"], "python3", {"prose"}))
+        self.host("run", "one", data=f"eval 2\neval {len(fields)}\nwait\n")
+        page = self.host("export", "html", "one")
+        done = subprocess.run([TYPESET], input=page.encode(), capture_output=True)
+        self.assertEqual((done.returncode, done.stderr), (0, b""))
+        made = done.stdout.decode()
+        wanted = "<h2>Title</h2><ul><li>a</li><li><code>b</code></li></ul>" + "".join(f"<p>{one.rstrip().replace('*é* & <b>', '<em>é</em> &amp; &lt;b&gt;')}</p>" for one in long)
+        self.assertEqual("".join(re.findall(r'class="prose" dir="auto">\n(.*?)\n</section>', made, re.DOTALL)), wanted)
+        for kept in re.findall(r'<section id="field-\d+">\n<header><a href="#field-\d+">#\d+</a> <bdi>python3<.*?</section>\n', page, re.DOTALL):
+            self.assertIn(kept, made)
 
     def test_exports_without_prose_come_back_too(self) -> None:
         self.assertEqual(self.do("--prose", "one", data=notebook(text("# a\n\nb"), code("1"), text("c"))).status, 0)
