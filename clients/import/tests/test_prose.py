@@ -1,7 +1,9 @@
 """Text between code: what of it becomes fields of prose, and what tmhost-prose makes of exports."""
 import importlib
 import json
+import os
 import random
+import re
 import shutil
 import subprocess
 import unittest
@@ -9,11 +11,13 @@ import unittest
 from tmhost_import import prose
 from tmhost_import.exported import markdown_with_prose, notebook_with_prose, with_prose
 from tmhost_import.fences import fences_of
-from tmhost_import.prose import open_end, parts_of
+from tmhost_import.prose import ITEM, open_end, parts_of
 
 from .support import COMMAND, LINE_END, PROGRAM, ROOT, Case, Done, code, needs_nbformat, needs_program, notebook
 
 PROSE = COMMAND.replace("tmhost-import", "tmhost-prose")
+TYPESET = f"{ROOT}/clients/typeset/tmhost-typeset"
+MARKDOWN_IT = ("/usr/share/javascript/markdown-it/markdown-it.js", "/usr/share/nodejs/markdown-it/dist/markdown-it.js")
 ECHO = f"sh {ROOT}/examples/echo.sh"
 
 
@@ -50,12 +54,13 @@ MARKDOWN: dict[str, list[tuple[str, str]]] = {
 }
 # Prose that would take in what stands after it, to CommonMark or to pandoc.
 OPEN = [
-    "```", "~~~", "a\n````\n```", "<!--", "text\n\n<pre>", "<script>\nx", "<?", "<!A", "<![CDATA[", "> a\n\n<!--\n\n-", "---\na: b", "a\n\n---\nb", "- -\nb", "--- ---\na b",
-    "\\begin{x}", "<div>\n~~~", "a <!-- b", "a <script>", 'a <b x="', "a </b", "\\foo{", "[a", "a [0, 1)", "] [", "^[a", "- a\n\n      ```",
+    "```", "~~~", "a\n````\n```", "<!--", "text\n\n<pre>", "<script>\nx", "<?", "<!A", "<![CDATA[", "> a\n\n<!--\n\n-", "---\na: b", "a\n\n---\nb", "- -\nb", "--- ---\na b", "a\n---\n---\nb", "```\nx\n```\n---\nb",
+    "a\n===\n---\nb", "|a|\n|-|\n---\nb",
+    "\\begin{x}", "<div>\n~~~", "a <!-- b", "a <script>", 'a <b x="', "a </b", "\\foo{", "[a", "a [0, 1)", "$5 [a $6", "$5 [a\n\nb$", "] [", "^[a", "- a\n\n      ```",
 ]
 CLOSED = [
     "", "a", "# a", "- a", "1. a\n   - b", "> a", "    a", "```\na\n```", "~~~x\n~~~", "- ```\n  a\n  ```", "> ```\n> ~~~\n> ```", "<!-- a -->", "<div>", "a `b", "*a", "$$", "$x", "---", "a\n---\nb",
-    "a\n\n---\n\nb", "a | b\n--|--\n1 | 2", "\\begin{x}\\end{x}", "***\na", "&", "<b", "a < b", "\\", "\\[a", "$\\left[0, 1\\right)$ and $[0, 1)$", "$$\n\\frac{a}{b}\n$$", "[a](http://b) ![c][d]",
+    "a\n\n---\n\nb", "```\n---\nb\n```", "a\n-------\n\nb", "a | b\n--|--\n1 | 2", "\\begin{x}\\end{x}", "***\na", "&", "<b", "a < b", "\\", "\\[a", "$\\left[0, 1\\right)$ and $[0, 1)$", "$$\n\\frac{a}{b}\n$$", "[a](http://b) ![c][d]",
     "<pre>a</pre>", "<b x='1'>a</b>", "- [ ] a\n- [x] b", "| a |\n|---|\n| $x$ |\n\n*a* **b** `c` ~~d~~ <http://e>\n\n> f\n\n1. g", "a}", "{a",
 ]
 # Lines of which random prose is made, and an answer with what may end what they begin.
@@ -113,7 +118,7 @@ class Imports(Case):
         attached = text("![a](attachment:a.png)", attachments={"a.png": {"image/png": "AAAA"}})
         self.assertIn("left out: attachments of markdown cells: 1\n", self.do("--script", "--prose", data=notebook(attached)).errors)
         self.assertIn("a reference like [1]", self.do("--script", "--prose", "--format", "markdown", data="[a][1]\n\n```sh\nx\n```\n\n[1]: b\n").errors)
-        for document, said in ((notebook(text("a\fb")), "cell 1: no field can hold the control character U+000C"), (notebook(code("x"), text("a" * 4096)), "cell 2: it has 4,096 bytes")):
+        for document, said in ((notebook(text("a\fb")), "cell 1: no field can hold the control character U+000C"), (notebook(code("x"), text("a" * 4096)), "cell 2: it has 4,096 bytes as an input, and a field has at most 4,095 (prose is cut at empty lines and items of lists alone)")):
             self.refused(document, said, "--prose")
         self.refused("a\n\n```sh\nx\n```\n\nb\0\n", "the text from line 7 on: no field can hold", "--prose", form="markdown")
         self.refused("* a\n", "make Markdown of it first (pandoc --from org --to gfm)", "--prose", form="org")
@@ -133,6 +138,14 @@ class Cutting(unittest.TestCase):
         self.assertEqual("\n\n".join(parts), "\n\n".join(blocks))
         self.assertTrue(all(prose.size_of(part) <= 4095 for part in parts), [prose.size_of(part) for part in parts])
         self.assertEqual([len(fences_of(part)) for part in parts if "```" in part], [1])
+
+    def test_a_long_list_is_cut_at_its_items(self) -> None:
+        for whole in ("\n".join(f"{number}. item\n   - within" for number in range(1, 400)), "text\n" + "- item\n" * 1000 + "end", "> " + "- a\n" * 1500):
+            parts = parts_of(whole)
+            self.assertGreater(len(parts), 1)
+            self.assertEqual("\n".join(parts), whole.rstrip())
+            self.assertTrue(all(ITEM.match(part) for part in parts[1:]))
+        self.assertEqual(len(parts_of("text\n" + "2. no item\n" * 1000)), 1)
 
     def test_what_fits_is_not_cut(self) -> None:
         for whole in ("", "a\n\nb", "a" * 4095, "\n" * 1365, "a\n\n" * 585):
@@ -297,6 +310,24 @@ class RoundTrips(Case):
         self.assertEqual(made.out, document.replace("x + 1\n```", "x + 1\n```\n\n```\n3\n```").replace("x * 3\n```", "x * 3\n```\n\n```\n6\n```"))
         self.assertEqual(self.do("--prose", "--format", "markdown", "two", data=made.out).status, 0)
         self.assertEqual(self.host("export", "script", "two"), self.host("export", "script", "one"))
+
+    @unittest.skipUnless(shutil.which("node") and any(map(os.path.exists, MARKDOWN_IT)), "there is no node, or no markdown-it")
+    def test_a_page_with_prose(self) -> None:
+        """Long prose is several fields, each as long as may be, and in the page it reads as before."""
+        long = [f"Paragraph {number}, *é* & <b>: " + "word " * 150 for number in range(20)]
+        document = notebook(text("# Title\n\n- a\n- `b`"), code("1 + 1"), text("\n\n".join(long)), code("'<p>'"))
+        self.assertEqual(self.do("--prose", "one", data=document).status, 0)
+        fields = [line.split(" ")[2] for line in self.host("export", "script", "one").split("\n") if line.startswith("new")]
+        self.assertEqual((fields[:2], fields[-1], set(fields[2:-1])), (["prose", "python3"], "python3", {"prose"}))
+        self.host("run", "one", data=f"eval 2\neval {len(fields)}\nwait\n")
+        page = self.host("export", "html", "one")
+        done = subprocess.run([TYPESET], input=page.encode(), capture_output=True)
+        self.assertEqual((done.returncode, done.stderr), (0, b""))
+        made = done.stdout.decode()
+        wanted = "<h2>Title</h2><ul><li>a</li><li><code>b</code></li></ul>" + "".join(f"<p>{one.rstrip().replace('*é* & <b>', '<em>é</em> &amp; &lt;b&gt;')}</p>" for one in long)
+        self.assertEqual("".join(re.findall(r'class="prose" dir="auto">\n(.*?)\n</section>', made, re.DOTALL)), wanted)
+        for kept in re.findall(r'<section id="field-\d+">\n<header><a href="#field-\d+">#\d+</a> <bdi>python3<.*?</section>\n', page, re.DOTALL):
+            self.assertIn(kept, made)
 
     def test_exports_without_prose_come_back_too(self) -> None:
         self.assertEqual(self.do("--prose", "one", data=notebook(text("# a\n\nb"), code("1"), text("c"))).status, 0)

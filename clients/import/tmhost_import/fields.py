@@ -9,6 +9,8 @@ from .sessions import Sessions
 
 MOST_FIELDS = 10_000
 MOST_TOLD = 10  # troubles
+TOO_LONG = f"bytes as an input, and a field has at most {LONGEST_INPUT:,}"
+CUT = " (prose is cut at empty lines and items of lists alone)"
 CONTROL = re.compile(r"[\x00-\x08\x0a-\x1f]")
 SURROGATE = re.compile(r"[\ud800-\udfff]")
 # Words of several languages that close what an earlier line began, or begin a further branch of it.
@@ -55,7 +57,7 @@ def misfit(lines: list[str]) -> str | None:
         if found := SURROGATE.search(line):
             return f"U+{ord(found[0]):04X}{where} is half of a character"
     length = len(LINE_END.join(lines).encode("utf-8"))
-    return f"it has {length:,} bytes as an input, and a field has at most {LONGEST_INPUT:,}" if length > LONGEST_INPUT else None
+    return f"it has {length:,} {TOO_LONG}" if length > LONGEST_INPUT else None
 
 
 def told(troubles: list[str]) -> Trouble:
@@ -111,7 +113,7 @@ class Sheet:
             if len(self.fields) == MOST_FIELDS:
                 raise Trouble(f"{place}: a worksheet has at most {MOST_FIELDS:,} fields, and this is one more")
             if reason := misfit(lines):
-                self.troubles.append(f"{place}: {reason}")
+                self.troubles.append(f"{place}: {reason}{CUT if cell.is_prose and TOO_LONG in reason else ''}")
             self.fields.append(Field(session, LINE_END.join(lines), place))
 
     def count_of_many_lines(self) -> int:

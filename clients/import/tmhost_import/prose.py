@@ -1,14 +1,15 @@
 """Prose: fields of a session whose only word is `true`, and which are never evaluated, as tmhost-notebook keeps them."""
 import re
-from collections.abc import Iterator
+from collections.abc import Callable, Iterator
 
-from .fences import ATTRIBUTE, Fence, Html, Reader, fences_of
+from .fences import ATTRIBUTE, Fence, Html, Paragraph, Reader, fences_of
 
 NAME = "prose"
 WORDS = ("true",)
 NAMES = re.compile(r"prose(-\d{1,6})?")
 LINE_END = "\u2028"  # stands in an input for the end of a line
 LONGEST_INPUT = 4095  # bytes
+ITEM = re.compile(r"(?:[*+-]|\d{1,9}[.)])[ \t]+\S")
 # A line of dashes that is no underline, with text directly below: for pandoc and others it may begin a table or front matter that goes on
 # over the ends of blocks of code.
 DASHES = re.compile(r" {0,3}-[- ]*-[- ]*")
@@ -20,7 +21,8 @@ VERBATIM = re.compile(r"<(pre|script|style|textarea)\b", re.IGNORECASE)
 # A tag with a value in quotes, or one that ends an element; and what follows where it is whole.
 TAG = re.compile(r"<(?:/(?=[A-Za-z])|[A-Za-z](?=[^<>]*=\s*[\"']))")
 WHOLE_TAG = re.compile(rf"</[A-Za-z][A-Za-z0-9-]*\s*>|<[A-Za-z][A-Za-z0-9-]*(?:{ATTRIBUTE})*\s*/?>")
-MATH = re.compile(r"\$\$[^$]+\$\$|\$[^$\s](?:[^$]*[^$\s])?\$")
+WITHIN = r"(?:[^$\n]|\n(?![ \t]*\n))"  # a formula, which goes over no empty line
+MATH = re.compile(rf"\$\${WITHIN}+\$\$|\$[^$\s](?:{WITHIN}*[^$\s])?\$(?!\d)")
 NO_COMMAND = re.compile(r"\\[^A-Za-z]")
 COMMAND = re.compile(r"\\[A-Za-z]")
 PAIRS = (("[", "]"), ("{", "}"), ("\\begin", "\\end"))
@@ -36,17 +38,37 @@ def size_of(text: str) -> int:
     return len(text.replace("\n", LINE_END).encode("utf-8", "surrogatepass"))
 
 
-def blocks_of(text: str) -> Iterator[str]:
-    """The text in blocks: it is cut at empty lines with text behind them at the left edge, where no fence and no HTML is open."""
-    reader, block = Reader(), list[str]()
+def is_open_fence(reader: Reader) -> bool:
+    """Whether a fence or HTML is open that is in no quote and no list."""
+    return not reader.containers and isinstance(reader.leaf, (Fence, Html))
+
+
+def cut(text: str, begins: Callable[[Reader, str, str], bool]) -> list[str]:
+    """The text in blocks. `begins` says whether one begins with a line, by what is open there and the line before."""
+    reader, blocks = Reader(), list[list[str]]()
     for number, line in enumerate(text.split("\n"), 1):
-        is_open = not reader.containers and isinstance(reader.leaf, (Fence, Html))
-        if block and not block[-1].strip() and line[:1].strip() and not is_open:
-            yield "\n".join(block)
-            block = []
-        block.append(line)
+        if blocks and not begins(reader, blocks[-1][-1], line):
+            blocks[-1].append(line)
+        else:
+            blocks.append([line])
         reader.take(number, line)
-    yield "\n".join(block)
+    return ["\n".join(block) for block in blocks]
+
+
+def begins_block(reader: Reader, before: str, line: str) -> bool:
+    """Whether a line stands at the left edge after an empty one, and no fence and no HTML is open."""
+    return not before.strip() and bool(line[:1].strip()) and not is_open_fence(reader)
+
+
+def begins_item(reader: Reader, _: str, line: str) -> bool:
+    """Whether a line is a further item of a list that isn't in another one."""
+    return bool(reader.containers) and ITEM.match(line) is not None
+
+
+def blocks_of(text: str) -> Iterator[str]:
+    """The text in blocks, and those that no field can hold in the items of their lists."""
+    for block in cut(text, begins_block):
+        yield from [block] if size_of(block) <= LONGEST_INPUT else cut(block, begins_item)
 
 
 def parts_of(text: str) -> list[str]:
@@ -106,6 +128,17 @@ def has_open_pair(text: str) -> bool:
     return any(is_open(plain, begin, end) for begin, end in pairs)
 
 
+def has_open_dashes(lines: list[str]) -> bool:
+    """Whether a line of dashes stands directly above text, and is no underline of a paragraph. No line is one of a fence."""
+    reader = Reader()
+    for number, (before, line, below) in enumerate(zip(["", *lines], lines, [*lines[1:], ""]), 1):
+        is_underline = isinstance(reader.leaf, Paragraph) and "|" not in before and not DASHES.fullmatch(before)
+        if DASHES.fullmatch(line) and below.strip() and not is_underline:
+            return True
+        reader.take(number, line)
+    return False
+
+
 def open_end(text: str) -> str | None:
     """Why what stands after this text, an empty line between them, might be read as a part of it, by CommonMark or by other readers."""
     lines = text.split("\n")
@@ -114,7 +147,6 @@ def open_end(text: str) -> str | None:
         return "a fence or HTML in it has no end"
     if has_open_html(outside):
         return "HTML in it has no end"
-    for before, line, below in zip(["", *lines], lines, lines[1:]):
-        if DASHES.fullmatch(line) and not before.strip() and below.strip():
-            return "it has a line of dashes with text directly below, which may begin a table or front matter"
+    if has_open_dashes(outside.split("\n")):
+        return "it has a line of dashes with text directly below, which may begin a table or front matter"
     return "a bracket or TeX in it has no end" if has_open_pair(outside) else None

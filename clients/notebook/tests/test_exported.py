@@ -49,6 +49,27 @@ class Exported(Case):
                 self.assertEqual(headers["content-disposition"], f"attachment; filename*=UTF-8''{file}")
                 self.assertIn("default-src 'none'", headers["content-security-policy"])
 
+    def test_prose_is_prose(self) -> None:
+        """Which sessions are prose is known here by their words, and not by the name alone."""
+        self.page.call("session", name="prose", words=SPOKEN, tab=False)
+        self.page.call("new", session="prose", text="*code*", after=0)
+        self.page.call("new", session=None, text="# Title\n\n*prose*", after=1)
+        markdown, notebook = self.export("markdown-prose"), self.export("notebook-prose")
+        self.assertEqual((markdown[0], markdown[2].decode()), (200, "```prose\n*code*\n```\n\n*no answer*\n\n# Title\n\n*prose*\n"))
+        cells = [(cell["cell_type"], cell["source"]) for cell in json.loads(notebook[2])["cells"]]
+        self.assertEqual(cells, [("code", "*code*"), ("markdown", "# Title\n\n*prose*")])
+        status, headers, page = self.export("html-set")
+        if status == 409:
+            self.skipTest(page.decode())
+        self.assertIn(b"<h2>Title</h2><p><em>prose</em></p>", page)
+        self.assertIn(b"*code*", page)
+        self.assertIn("default-src 'none'", headers["content-security-policy"])
+
+    def test_without_prose_the_same(self) -> None:
+        self.page.call("new", session="s", text="say 1", after=0)
+        for name in ("markdown", "notebook"):
+            self.assertEqual(self.export(name)[2], self.export(f"{name}-prose")[2])
+
     def test_who_gets_none(self) -> None:
         cookie = {"Cookie": self.page.cookie}
         strangers: List[Dict[str, str]] = [{}, {"Cookie": "tmhost=x"}, {**cookie, "Sec-Fetch-Site": "cross-site"}, {**cookie, "Origin": "http://evil.example"}]

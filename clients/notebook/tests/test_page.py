@@ -66,6 +66,11 @@ A *word*, `code`, [a link](https://www.texmacs.org), $\\frac{1}{2}$ and <b>no ma
 | a | b |
 |:-:|--:|
 | 1 | 2 |
+
+$$
+a
+- b
+$$
 """
 ASKS = """
 (kind, mode) => fetch(PLACE + "call", {
@@ -319,7 +324,7 @@ class ThePage(Case):
         tab = opened(self.browser, self.server)
         reading = f"document.querySelector('#cell-{prose} .reading')"
         tab.until(f"{reading}.classList.contains('set')")
-        wanted = {"h3": 1, "em": 1, "code": 1, "a": 1, ".katex": 1, "ol > li": 2, "blockquote": 1, "td.center": 1,
+        wanted = {"h3": 1, "em": 1, "code": 1, "a": 1, ".katex": 2, ".katex-display": 1, "ul": 0, "ol > li": 2, "blockquote": 1, "td.center": 1,
             "td.right": 1, "b": 0}
         self.assertEqual({name: tab.value(f"{reading}.querySelectorAll('{name}').length") for name in wanted}, wanted)
         self.assertEqual(tab.value(f"(({{href, target, rel}}) => [href, target, rel])({reading}.querySelector('a'))"),

@@ -9,7 +9,7 @@ import os
 import subprocess
 import tempfile
 import time
-from typing import Dict, Optional, Tuple
+from typing import Dict, List, Optional, Set, Tuple
 
 from tmhost.program import path_word, words_of_program
 
@@ -20,7 +20,15 @@ FORMATS: Dict[str, Tuple[str, str]] = {
     "notebook": (".ipynb", "application/x-ipynb+json"),
     "json": (".jsonl", "application/jsonl"),
     "script": (".txt", "text/plain; charset=utf-8"),
+    "html-set": (".html", "text/html; charset=utf-8"),
+    "markdown-prose": (".md", "text/markdown; charset=utf-8"),
+    "notebook-prose": (".ipynb", "application/x-ipynb+json"),
 }
+# Those that a command of a client beside this one makes of an export of the program.
+CLIENTS = os.path.dirname(os.path.dirname(os.path.dirname(os.path.abspath(__file__))))
+PROSE = os.path.join(CLIENTS, "import", "tmhost-prose")
+COMMANDS = {"html-set": os.path.join(CLIENTS, "typeset", "tmhost-typeset"), "markdown-prose": PROSE, "notebook-prose": PROSE}
+NO_SESSION = ""  # a name that none has
 FILES = ("", ".alt")
 PIECE = 1 << 20
 TIMES = 100  # that a copy is tried
@@ -52,16 +60,27 @@ def copy_of(sheet: str, folder: str) -> str:
     raise NotExported("the worksheet is changing all the time: try again when less is evaluated")
 
 
-def exported(sheet: str, program: Optional[str], name: str) -> bytes:
-    """The worksheet in a format of this name."""
+def written_by(words: List[str], given: bytes = b"") -> bytes:
+    """What a command writes."""
     try:
-        with tempfile.TemporaryDirectory(prefix="tmhost-notebook-") as folder:
-            words = [*words_of_program(program), "export", name, path_word(copy_of(sheet, folder))]
-            done = subprocess.run(words, stdin=subprocess.DEVNULL, stdout=subprocess.PIPE, stderr=subprocess.PIPE, timeout=WITHIN)
+        done = subprocess.run(words, input=given, stdout=subprocess.PIPE, stderr=subprocess.PIPE, timeout=WITHIN)
     except subprocess.TimeoutExpired:
         raise NotExported("the export takes too long") from None
-    except OSError as error:
-        raise NotExported(f"the worksheet can't be copied: {error}") from error
     if done.returncode:
         raise NotExported(f"the export was refused: {done.stderr.decode('utf-8', 'backslashreplace').strip()}")
     return done.stdout
+
+
+def exported(sheet: str, program: Optional[str], name: str, prose: Set[str]) -> bytes:
+    """The worksheet in a format of this name. `prose` has the names of its sessions of prose."""
+    try:
+        with tempfile.TemporaryDirectory(prefix="tmhost-notebook-") as folder:
+            data = written_by([*words_of_program(program), "export", name.partition("-")[0], path_word(copy_of(sheet, folder))])
+    except OSError as error:
+        raise NotExported(f"the worksheet can't be copied: {error}") from error
+    if name not in COMMANDS:
+        return data
+    try:
+        return written_by([COMMANDS[name], *(word for one in sorted(prose) or [NO_SESSION] for word in ("--prose", one))], data)
+    except OSError as error:
+        raise NotExported(f"{COMMANDS[name]} can't be started: {error}") from error

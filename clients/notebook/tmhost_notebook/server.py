@@ -142,7 +142,7 @@ class Handler(http.server.BaseHTTPRequestHandler):
         """A file with the worksheet, to be kept."""
         book, (end, kind) = self.server.book, FORMATS[name]
         try:
-            data = exported(book.path, book.program, name)
+            data = exported(book.path, book.program, name, book.prose)
         except NotExported as error:
             self.answer(409, f"{error}\n".encode(), TEXT)
             return

@@ -25,3 +25,13 @@ class Import(Case):
         self.assertEqual(done.returncode, 0, done.stderr.decode())
         self.assertEqual(self.lines(new), self.lines(self.sheet))
         self.assertEqual(len(self.lines(new)), 10)
+
+    def test_prose_of_a_woven_text(self) -> None:
+        """The text between the fences, without an answer that stands there."""
+        self.weave(self.front("a", "b") + "# Title\n\n" + fences([("a", "x"), ("b {fold}", "latex $x$"), ("b", "latex $y$")]) + "\n- text\n")
+        with open(self.text, encoding="utf-8") as file:
+            self.assertGreater(file.read().count("tmhost-answer"), 4)
+        done = subprocess.run([sys.executable, "-B", IMPORT, "--prose", "--script", self.text], capture_output=True, env=environment())
+        lines = [line.split(" ", 2)[2] for line in done.stdout.decode().split("\n") if line.startswith("new ")]
+        texts = ["prose # Title\u2028\u2028Text 0.", "prose Text 1.", "prose Text 2.", "prose - text"]
+        self.assertEqual(lines, [texts[0], "a x", texts[1], "b latex $x$", texts[2], "b latex $y$", texts[3]])
