@@ -1,10 +1,8 @@
 -- Commands that only change the worksheet, taken together.
-use Rattle.std.proofs.Common.{◌≡◌, ◌≤◌, ℕ, true, false, List, [], ◌∷◌, ◌++◌, inl, inr, Option, Some, None, refl, ap, sym, ◌∙◌, subst, append-nil, length, arith}
+use Rattle.std.proofs.Common.{◌≡◌, ◌≤◌, ℕ, true, List, [], ◌∷◌, ◌++◌, inl, inr, Option, Some, None, refl, ap, sym, ◌∙◌, subst, append-nil, length, arith}
 use Rattle.std.proofs.lemmas.Bool.{false≢true}
 use Rattle.std.specs.Prelude.{is_some}
 use Rattle.std.specs.List.{AllByRecursion}
-use Rattle.std.specs.Bool.{IsTrue}
-use Rattle.std.specs.Io.KnownBytes.{Appends}
 use Rattle.disk_model.specs.Disk.{DiskView, Leaves, LeavesOnly, Rises, SameDisk}
 use Rattle.recovery.specs.Sheets.{IsSheetImage, IsSheetOf}
 use Rattle.host_events.specs.Commands.{op_of}
@@ -23,10 +21,10 @@ use Rattle.session_engine.specs.World.{World, sheet_in}
 use Rattle.session_engine.specs.Refused.{command_refusals}
 use Rattle.session_engine.specs.Does.{CommandDoes, Does, Gives, Runs}
 use Rattle.session_engine.specs.Host.{HostView, IsHost}
-use Rattle.session_engine.specs.Faults.{CauseOf, Failed}
+use Rattle.session_engine.specs.Faults.{CauseOf}
 use Rattle.session_engine.specs.Gathers.{FlushesTo}
 use Rattle.session_engine.specs.Groups.{FailedGroup, NoGroup, StoppedGroup, TookGroup}
-use Rattle.child_edge.specs.Faithful.{At, at, Beat}
+use Rattle.child_edge.specs.Faithful.{at, Beat}
 use Rattle.child_edge.specs.Moments.{events_of, outcomes_of}
 use Rattle.child_edge.specs.Told.{spoken, told}
 use Rattle.offline_programs.specs.Memory.{replies_text}

@@ -1,5 +1,5 @@
 -- Lines that were read, of which the last ones wait to be taken.
-use Rattle.std.proofs.Common.{◌≡◌, ◌+◌, ◌≤◌, inl, inr, ℕ, true, false, List, [], ◌∷◌, ◌++◌, Option, Some, None, refl, ap, sym, ◌∙◌, subst, append_assoc, append-nil, length, length-append, arith}
+use Rattle.std.proofs.Common.{◌≡◌, ◌+◌, ◌≤◌, inr, ℕ, true, false, List, [], ◌∷◌, ◌++◌, Option, Some, None, refl, ap, sym, ◌∙◌, subst, append_assoc, append-nil, length, length-append, arith}
 use Rattle.std.proofs.KnownBytes.{Appends-nil, Appends-trans}
 use Rattle.std.proofs.lemmas.Bool.{false≢true}
 use Rattle.std.specs.Prelude.{Bool, OnOk, Result, Ok, Err}
@@ -19,10 +19,10 @@ use Rattle.sheet_programs.specs.Lines.{LineDone, LineSoFar, LinesDone, none, and
 use Rattle.sheet_programs.specs.Run.{GroupBefore}
 use Rattle.sheet_programs.specs.Together.{Joins, lines_events, line_events, may_join}
 use Rattle.sheet_programs.specs.Told.{LineFailed, LineWrote}
-use Rattle.sheet_programs.specs.inside.Grouping.{GroupFailed, GroupKept, GroupTook, Standing, outcomes_text}
+use Rattle.sheet_programs.specs.inside.Grouping.{GroupFailed, GroupTook, Standing}
 use Rattle.sheet_programs.specs.inside.Taking.{LineTook, LinesFailed}
 use Rattle.sheet_programs.proofs.Grouped.{kept_beats, kept_done, kept_text}
-use Rattle.sheet_programs.proofs.Runs.{DoneSoFar, lines_failed}
+use Rattle.sheet_programs.proofs.Runs.{lines_failed}
 use Rattle.offline_programs.specs.declared.fault.RunFault.{RunFault}
 use Rattle.offline_programs.specs.declared.fault.RunFault.TheVariants as fault
 

@@ -1,4 +1,4 @@
-use Rattle.std.proofs.Common.{[], ◌+◌, ◌≡◌, ◌∷◌, ◌++◌, ap, append-nil, arith, false, length, subst, sym, ◌∙◌}
+use Rattle.std.proofs.Common.{[], ◌+◌, ◌≡◌, ap, append-nil, arith, false, length, subst, ◌∙◌}
 use Rattle.std.specs.Prelude.{IfErr}
 use Rattle.child_edge.specs.Faithful.{at}
 use Rattle.child_edge.proofs.Faulting.{same-at, same-on}
