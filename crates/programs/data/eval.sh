@@ -223,6 +223,8 @@ printf 'set 3 w\n' >given
 "$tmhost" run sheet <given >text
 evaluates 'one session alone' 1 'asked\nbanner a\nanswered 1\nasked\nanswered 2\nanswered 2 unanswered 1\n' \
     '#1 a\n> x\nx 1\n#2 a\n> y\ny 2\n#3 b\n> w\n?\n' --jobs 4 1 2
+made 'session a plain sh count.sh\nsession b plain sh count.sh\nsession c plain sh count.sh\nnew 0 c x\nnew 1 b x\nnew 2 a x\nnew 3 a y\nnew 4 c y\n'
+compare 'a field is not passed over while the one before it waits' "$("$tmhost" eval --jobs 2 --timeout 60 sheet </dev/null | tail -n 2)" "$(printf 'answered 5 unanswered 0\nover 0 passed 0')"
 made 'session a plain sh count.sh\nsession b plain ./nothing\nsession c plain sh count.sh\nnew 0 a x\nnew 1 b y\nnew 2 c z\n'
 compare 'one that is lost at once leaves its place' "$(sorted 4 --jobs 2)" \
     "$(printf 'status 1\nasked\nasked\nended b StartRefused lost 1\nasked\n--\nanswered 1\nanswered 2 unanswered 1\nanswered 3\nasked\nasked\nasked\nbanner a\nbanner c\nended b StartRefused lost 1')"
