@@ -37,6 +37,7 @@ pub record EvalView : Type 0 where
   pub keep_going : Bool
   pub timeout : Option Text
   pub from : Option Text
+  pub jobs : Option Text
   pub ids : List Text
 
 abbrev pub eval_view : EvalWords → EvalView
@@ -47,6 +48,7 @@ eval_view words = record {
   keep_going = words.keep_going;
   timeout = option_map (λ text. text.now) words.timeout;
   from = option_map (λ text. text.now) words.from;
+  jobs = option_map (λ text. text.now) words.jobs;
   ids = map (λ text. text.now) words.ids.items;
 }
 
@@ -131,7 +133,8 @@ accept_rule = record (new_rule (codes "accept")) { long = Some (codes "accept");
 abbrev pub with_check : Text → App
 with_check name = with_rule (with_check_timeout name) accept_rule
 
--- and of `eval`, with flags, the time that a field may take, the number of the first field, and numbers of fields after the path
+-- and of `eval`, with flags, the time that a field may take, the number of the first field, how many sessions go side by side, and numbers of
+-- fields after the path
 abbrev pub unanswered_rule : Rule
 unanswered_rule = record (new_rule (codes "unanswered")) { long = Some (codes "unanswered"); action = Some SetTrue }
 
@@ -156,11 +159,17 @@ from_rule = record (new_rule (codes "from")) { long = Some (codes "from"); value
 abbrev pub with_from : Text → App
 with_from name = with_rule (with_keep_going name) from_rule
 
+abbrev pub jobs_rule : Rule
+jobs_rule = record (new_rule (codes "jobs")) { long = Some (codes "jobs"); value_names = 1 }
+
+abbrev pub with_jobs : Text → App
+with_jobs name = with_rule (with_from name) jobs_rule
+
 abbrev pub ids_rule : Rule
 ids_rule = record (new_rule (codes "ID")) { action = Some Append }
 
 abbrev pub with_eval : Text → App
-with_eval name = with_rule (with_from name) ids_rule
+with_eval name = with_rule (with_jobs name) ids_rule
 
 -- and of the one with a second path after the first
 abbrev pub second_rule : Rule
@@ -234,6 +243,7 @@ eval_in rows = record {
   keep_going = is_set (first_of (codes "keep-going") rows);
   timeout = first_of (codes "timeout") rows;
   from = first_of (codes "from") rows;
+  jobs = first_of (codes "jobs") rows;
   ids = ids_in rows;
 }
 

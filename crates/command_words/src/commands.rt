@@ -199,12 +199,26 @@ fn with_from<'a>(alloc: Global, row: Row) -> Result<Command<'a>, AllocError>
     )
 }
 
+/// The same, and with how many sessions go side by side.
+fn with_jobs<'a>(alloc: Global, row: Row) -> Result<Command<'a>, AllocError>
+    ensures made { IfOk result (λ command. app_of command ≡ asked.with_jobs row.name.now) }
+    ensures local { IfOk result (λ command. (fields_of command).has_globals ≡ false) }
+{
+    let first = with_from(alloc, row)?;
+    first.arg(
+        Arg::new(alloc, "jobs")
+            .long("jobs")
+            .value_name("N")
+            .help("Evaluate fields of up to so many sessions side by side"),
+    )
+}
+
 /// A subcommand with a path and numbers of fields, and with the flags and the options of `eval`.
 fn with_eval<'a>(alloc: Global, row: Row) -> Result<Command<'a>, AllocError>
     ensures made { IfOk result (λ command. app_of command ≡ asked.with_eval row.name.now) }
     ensures local { IfOk result (λ command. (fields_of command).has_globals ≡ false) }
 {
-    let first = with_from(alloc, row)?;
+    let first = with_jobs(alloc, row)?;
     first.arg(
         Arg::new(alloc, "ID")
             .help("The numbers of the fields that are evaluated; without one all are")

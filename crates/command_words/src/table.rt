@@ -106,6 +106,10 @@ hasn't answered two seconds later. Fields after one of their session that shows 
 answer are passed over then, and keep what they show, but with --keep-going. A\n\
 line `over 1 passed 12` has these counts. With --json each line is one object\n\
 (docs/JSON.md).\n\n\
+With --jobs N (1 to 64) fields of up to N sessions wait at a time, of each session\n\
+one: first the first field of each session is asked, then the second of each, and\n\
+so on. With --timeout the time of fields that wait together begins when the last of\n\
+them was asked. It goes with no --strict.\n\n\
 Status: 0 where each field of the worksheet shows an answer, and none was over or\n\
 passed over; 1 where that isn't so, or at a fault; 2 where the words are refused; 3\n\
 where --strict stopped it.\n\n\

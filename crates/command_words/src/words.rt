@@ -70,6 +70,8 @@ pub struct EvalWords<'a> {
     pub timeout: Option<&'a str>,
     /// The number of the first field that is evaluated.
     pub from: Option<&'a str>,
+    /// In how many sessions fields wait at a time.
+    pub jobs: Option<&'a str>,
     /// The numbers of the fields that are evaluated, where any are named.
     pub ids: Vec<&'a str>,
 }
@@ -208,6 +210,7 @@ fn eval_words<'a>(alloc: Global, matches: &ArgMatches<'a>) -> Result<EvalWords<'
         keep_going: is_set(matches.get_str("keep-going")),
         timeout: matches.get_str("timeout"),
         from: matches.get_str("from"),
+        jobs: matches.get_str("jobs"),
         ids,
     })
 }

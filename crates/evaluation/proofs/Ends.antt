@@ -64,19 +64,19 @@ GoesTo s beats t = Goes s.world s.disk beats t.world t.disk
 step-goes : {C : Type 0} (o : Setting C) (p : EvalPlace C) (s : Step) (beats : List Beat) (text : List ℕ) (t : At C) → StepDone o p s beats text t → GoesTo p.run beats t
 step-goes o p (ask k id) beats text t q = follows-goes o.after p.run (Some (event.Command (command.Eval id))) beats None t q.1
 step-goes o p (heard seat) beats text t q = taken-goes o.after true None seat p.run beats t q.0
-step-goes o p over beats text t q = no_beats (at p.run.world t.children p.run.disk) beats t q.0 q.2
+step-goes o p (over n id) beats text t q = no_beats (at p.run.world t.children p.run.disk) beats t q.0 q.2
 step-goes o p stalled beats text t q = stalled-goes o.after (waits p.run.world) (length (waits p.run.world)) p.run beats t q.0
 
 step-up-to-goes : {C : Type 0} (o : Setting C) (e : Event) (p : EvalPlace C) (s : Step) (beats : List Beat) (t : At C) → StepUpTo o e p s beats t → GoesTo p.run beats t
 step-up-to-goes o e p (ask k id) beats t q = follows-goes o.after p.run (Some (event.Command (command.Eval id))) beats (Some e) t q.1
 step-up-to-goes o e p (heard seat) beats t q = taken-goes o.after true (Some e) seat p.run beats t q
-step-up-to-goes o e p over beats t q = absurd q
+step-up-to-goes o e p (over n id) beats t q = absurd q
 step-up-to-goes o e p stalled beats t q = turn-stopped-goes o.after (waits p.run.world) p.run beats e t q
 
 step-so-far-goes : {C : Type 0} (o : Setting C) (p : EvalPlace C) (s : Step) (beats : List Beat) (t : At C) → StepSoFar o p s beats t → GoesTo p.run beats t
 step-so-far-goes o p (ask k id) beats t q = no_beats p.run beats t q.1 q.2
 step-so-far-goes o p (heard seat) beats t q = no_beats p.run beats t q.0 q.1
-step-so-far-goes o p over beats t q = absurd q
+step-so-far-goes o p (over n id) beats t q = absurd q
 step-so-far-goes o p stalled beats t q = stalled-goes o.after (waits p.run.world) q.whole p.run beats t q.are_done
 
 step-led-goes : {C : Type 0} (o : Setting C) (p : EvalPlace C) (s : Step) (beats : List Beat) (t : At C) → StepLed o p s beats t → GoesTo p.run beats t

@@ -1,4 +1,6 @@
 pub mod Meaning
+pub mod InRounds
+pub mod Together
 pub mod InVain
 pub mod Taking
 pub mod Goings

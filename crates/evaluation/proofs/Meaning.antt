@@ -1,15 +1,18 @@
 -- The fields that are to be evaluated.
-use Rattle.std.proofs.Common.{◌≡◌, ◌⊎◌, inl, inr, ◌+◌, ◌≤◌, ◌<◌, ◌^◌, ◌==◌, ◌&&◌, ℕ, subst, Bool, true, false, List, [], ◌∷◌, ◌++◌, refl, ap, sym, ◌∙◌, append_assoc, append-nil, length, arith, map}
-use Rattle.std.specs.Prelude.{cond}
+use Rattle.std.proofs.Common.{◌≡◌, ◌⊎◌, inl, inr, ◌+◌, ◌≤◌, ◌<◌, ◌==◌, ◌&&◌, ℕ, subst, Bool, true, false, List, [], ◌∷◌, ◌++◌, refl, ap, sym, ◌∙◌, append_assoc, append-nil, length, arith, map}
+use Rattle.std.specs.Prelude.{cond, Some, is_some, slice_get}
 use Rattle.std.specs.List.{filter}
 use Rattle.std.proofs.lemmas.Bool.{cases_lt}
+use Rattle.std.proofs.lemmas.Option.{slice_get_within}
 use Rattle.std.proofs.lemmas.List.{length-map}
 use Rattle.std.proofs.lemmas.List.Sums.{count_by-le-length, length-filter}
 use Rattle.worksheet.specs.declared.field.Field.{Field}
 use Rattle.evaluation.specs.declared.plan.Plan.{Plan}
+use Rattle.evaluation.specs.declared.plan.Stand.{Stand}
 use Rattle.evaluation.specs.declared.plan.Which.{Which}
 use Rattle.evaluation.specs.declared.plan.Which.TheVariants as which
-use Rattle.evaluation.specs.Meant.{IsNext, asked_for, fields_from, is_meant, is_one_of, is_passed, meant_in}
+use Rattle.evaluation.specs.inside.Beside.{AsksNone}
+use Rattle.evaluation.specs.Meant.{IsAsked, IsNext, stop_line, asked_for, fields_from, is_meant, is_one_of, is_passed, meant_in}
 use Rattle.evaluation.specs.inside.Choosing.{id_if, is_asked_for}
 
 -- Those that are asked for of the fields that are to come, where the one before them is asked for or isn't.
@@ -100,9 +103,6 @@ few_meant plan fields =
     let asked = asked_for plan.which fields in
     omega (arith, length-map (filter (is_meant plan) asked) (λ (field : Field). field.id), length-filter (is_meant plan) asked, count_by-le-length (is_meant plan) asked, few-asked plan.which fields)
 
-pub few_ids : (plan : Plan) (fields : List Field) (ids : List ℕ) → ids ≡ meant_in plan fields → length fields < 2 ^ 31 → length ids < 2 ^ 31
-few_ids plan fields ids is few = omega (arith, ap length is, few_meant plan fields, few)
-
 -- one more is passed over
 pub next_one : (plan : Plan) (fields : List Field) (meant : List ℕ) (from at : ℕ) → IsNext plan fields meant from at → is_passed plan fields meant at ≡ true → IsNext plan fields meant from (at + 1)
 next_one plan fields meant from at q is = (omega (arith, q.0), λ k low high. up_to k low (cases_lt k at) high)
@@ -117,3 +117,37 @@ pub next_here : (plan : Plan) (fields : List Field) (meant : List ℕ) (from : �
 next_here plan fields meant from = (omega arith, λ k low high. absurd (omega (arith, low, high)))
 
 pub ruleset next_steps = (next_one, next_here)
+
+-- where it stops no field is the next
+pub stopped_asks_none : (plan : Plan) (fields : List Field) (meant : List ℕ) (stand : Stand) → is_some (stop_line plan.strict fields stand) ≡ true → AsksNone plan fields meant stand
+stopped_asks_none plan fields meant stand stops = record {
+  each = λ k id asked. let wrong : false ≡ true = ap is_some (sym asked.goes_on) ∙ stops in absurd cc;
+}
+
+-- nor where all to come are passed over
+pub passed_asks_none : (plan : Plan) (fields : List Field) (meant : List ℕ) (stand : Stand) (at : ℕ) → IsNext plan fields meant stand.taken at → length meant ≤ at → AsksNone plan fields meant stand
+passed_asks_none plan fields meant stand at next end = record {
+  each = λ k id asked.
+      let within : k < length meant = slice_get_within meant k id asked.there in
+      let wrong : false ≡ true = sym asked.asked ∙ next.1 k asked.next.0 (omega (arith, within, end)) in
+      absurd cc;
+}
+
+pub ruleset none_asked_steps = (stopped_asks_none, passed_asks_none)
+
+not-before : (plan : Plan) (fields : List Field) (meant : List ℕ) (stand : Stand) (k id j jd : ℕ) → IsAsked plan fields meant stand k id → IsAsked plan fields meant stand j jd → k < j → ⊥
+not-before plan fields meant stand k id j jd one other low = let wrong : false ≡ true = sym one.asked ∙ other.next.1 k one.next.0 low in absurd cc
+
+-- no two fields are the next
+pub one_asked : (plan : Plan) (fields : List Field) (meant : List ℕ) (stand : Stand) (k id j jd : ℕ) → IsAsked plan fields meant stand k id → IsAsked plan fields meant stand j jd → (k ≡ j) × (id ≡ jd)
+one_asked plan fields meant stand k id j jd one other = by (cases_lt k j) (cases_lt j k)
+  where
+    some_same : (x y : ℕ) → Some x ≡ Some y → x ≡ y
+    some_same x y e = cc
+
+    by : (k < j) ⊎ (j ≤ k) → (j < k) ⊎ (k ≤ j) → (k ≡ j) × (id ≡ jd)
+    by (inl low) _ = absurd (not-before plan fields meant stand k id j jd one other low)
+    by (inr x) (inl low) = absurd (not-before plan fields meant stand j jd k id other one low)
+    by (inr x) (inr y) =
+        let e : k ≡ j = omega (arith, x, y) in
+        (e, some_same id jd (sym one.there ∙ ap (slice_get meant) e ∙ other.there))

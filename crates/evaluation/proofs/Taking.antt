@@ -1,6 +1,5 @@
 -- What came of a step.
 use Rattle.std.proofs.Common.{◌≡◌, ◌+◌, inl, inr, ℕ, true, false, List, [], Option, Some, None, refl, sym, subst}
-use Rattle.std.specs.Prelude.{◌≢◌}
 use Rattle.host_events.specs.declared.command.Command.TheVariants as command
 use Rattle.session_engine.specs.World.{sheet_in}
 use Rattle.session_engine.specs.Host.{HostView}
@@ -25,7 +24,7 @@ use Rattle.live.specs.Taking as lives
 use Rattle.live.proofs.Coming.{comes_by, told_life}
 use Rattle.evaluation.specs.declared.plan.Stand.{Stand}
 use Rattle.evaluation.specs.Meant.{IsAsked, line_behind}
-use Rattle.evaluation.specs.Steps.{Setting, EvalPlace, Step, ask, heard, over, stalled, LimitBegins, StepComes, asked_at, fields_at, held_at, woken_in}
+use Rattle.evaluation.specs.Steps.{Setting, EvalPlace, Step, ask, heard, over, stalled, LimitBegins, StepComes, WatchesAt, asked_at, fields_at, held_at, woken_in}
 use Rattle.evaluation.specs.Broken.{StepLed, StepSoFar, StepUpTo}
 use Rattle.evaluation.specs.Broken as broken
 use Rattle.evaluation.specs.inside.Stepping.{IsOf, IsTimeOf, StepFailed, StepTook, TakingFailed, Took, TookUnwritten, TurnFailed, Turned}
@@ -128,17 +127,17 @@ module _ {C : Type 0} (o : Setting C) (p : EvalPlace C) (d : C) where
   abbrev pub TurnsTo : Woken → Type 0
   TurnsTo told_of = TurnComes o.clock o.wakes p.stand.held p.run.children false d told_of
 
-  time-comes : (s : Step) → TurnsTo woken.TimeOver → IsTimeOf p.stand s → StepComes o p s d
-  time-comes (ask k id) turn is = absurd is
-  time-comes (heard seat) turn is = absurd is
-  time-comes over turn is = (is, turn.0, comes_by o.clock o.wakes p.stand.held p.run.children false d woken.TimeOver time_over turn tt)
-  time-comes stalled turn is = (is, turn.0, comes_by o.clock o.wakes p.stand.held p.run.children false d woken.TimeOver time_over turn tt)
+  time-comes : (s : Step) → WatchesAt o p → TurnsTo woken.TimeOver → IsTimeOf o (woken_in p d) s → StepComes o p s d
+  time-comes (ask k id) due turn is = absurd is
+  time-comes (heard seat) due turn is = absurd is
+  time-comes (over n id) due turn is = inl (is.0, due, is.1, turn.0, comes_by o.clock o.wakes p.stand.held p.run.children false d woken.TimeOver time_over turn tt)
+  time-comes stalled due turn is = (is, due, turn.0, comes_by o.clock o.wakes p.stand.held p.run.children false d woken.TimeOver time_over turn tt)
 
-  pub comes_of : (told_of : Woken) (s : Step) → p.stand.held ≢ hold.Free → TurnsTo told_of → IsOf p.stand told_of s → StepComes o p s d
-  comes_of woken.Input s held turn is = absurd is
-  comes_of (woken.Life seat) s held turn is =
-      subst (λ (x : Step). StepComes o p x d) (sym is) (held, told_life o.clock o.wakes p.stand.held p.run.children false d seat turn.1)
-  comes_of woken.TimeOver s held turn is = time-comes s turn is
+  pub comes_of : (told_of : Woken) (s : Step) → WatchesAt o p → TurnsTo told_of → IsOf o (woken_in p d) told_of s → StepComes o p s d
+  comes_of woken.Input s due turn is = absurd is
+  comes_of (woken.Life seat) s due turn is =
+      subst (λ (x : Step). StepComes o p x d) (sym is) (due, told_life o.clock o.wakes p.stand.held p.run.children false d seat turn.1)
+  comes_of woken.TimeOver s due turn is = time-comes s due turn is
 
   module _ (h : HostView) (c : C) (a b : Option (List ℕ)) where
     pub came_failed : (s : Step) (f : RunFault) → StepComes o p s d → TakingFailed o (woken_in p d) s h c a b f → StepFailed o p h c a b f
@@ -150,8 +149,8 @@ module _ {C : Type 0} (o : Setting C) (p : EvalPlace C) (d : C) where
     came_failed s (fault.Open why) comes q = absurd q
     came_failed s fault.InUse comes q = absurd q
 
-    pub turn_took : (told_of : Woken) (stand : Stand) → p.stand.held ≢ hold.Free → TurnsTo told_of → Turned o (woken_in p d) told_of h c a b stand → StepTook o p h c a b stand
-    turn_took told_of stand held turn t = (t.0, d, comes_of told_of t.0 held turn t.1, t.2)
+    pub turn_took : (told_of : Woken) (stand : Stand) → WatchesAt o p → TurnsTo told_of → Turned o (woken_in p d) told_of h c a b stand → StepTook o p h c a b stand
+    turn_took told_of stand due turn t = (t.0, d, comes_of told_of t.0 due turn t.1, t.2)
 
-    pub turn_failed : (told_of : Woken) (f : RunFault) → p.stand.held ≢ hold.Free → TurnsTo told_of → TurnFailed o (woken_in p d) told_of h c a b f → StepFailed o p h c a b f
-    turn_failed told_of f held turn t = came_failed t.0 f (comes_of told_of t.0 held turn t.1) t.2
+    pub turn_failed : (told_of : Woken) (f : RunFault) → WatchesAt o p → TurnsTo told_of → TurnFailed o (woken_in p d) told_of h c a b f → StepFailed o p h c a b f
+    turn_failed told_of f due turn t = came_failed t.0 f (comes_of told_of t.0 due turn t.1) t.2

@@ -15,7 +15,7 @@ use Rattle.evaluation.specs.Steps.{Setting, EvalPlace, Step, ask, heard, over, s
 abbrev pub StepUpTo : {C : Type 0} → Setting C → Event → EvalPlace C → Step → List Beat → At C → Type 0
 StepUpTo o e p (ask k id) beats t = IsAsked o.plan (fields_at p) o.meant p.stand k id × ServedUpTo o.after p.run (event.Command (command.Eval id)) beats e t
 StepUpTo o e p (heard seat) beats t = TakenUpTo o.after true seat p.run beats e t
-StepUpTo o e p over beats t = ⊥
+StepUpTo o e p (over n id) beats t = ⊥
 StepUpTo o e p stalled beats t = TurnStopped o.after false (waits p.run.world) p.run beats e t
 
 -- A step came so far when memory was refused: a field was not asked, of a life nothing was received, and of the lives that were to be
@@ -23,7 +23,7 @@ StepUpTo o e p stalled beats t = TurnStopped o.after false (waits p.run.world) p
 abbrev pub StepSoFar : {C : Type 0} → Setting C → EvalPlace C → Step → List Beat → At C → Type 0
 StepSoFar o p (ask k id) beats t = IsAsked o.plan (fields_at p) o.meant p.stand k id × (beats ≡ []) × (t ≡ p.run)
 StepSoFar o p (heard seat) beats t = (beats ≡ []) × (t ≡ p.run)
-StepSoFar o p over beats t = ⊥
+StepSoFar o p (over n id) beats t = ⊥
 StepSoFar o p stalled beats t = TurnSoFar o.after false (waits p.run.world) p.run beats t
 
 -- A step, or a part of it, led from here to there.

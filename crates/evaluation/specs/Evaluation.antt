@@ -22,13 +22,14 @@ use Rattle.tellings.specs.declared.note.Counts.{Counts}
 use Rattle.tellings.specs.declared.note.Note.TheVariants as note
 use Rattle.live.specs.declared.holding.Hold.TheVariants as hold
 use Rattle.evaluation.specs.declared.plan.Stand.{Stand}
-use Rattle.evaluation.specs.Meant.{EndsHere, evaluation_counts, meant_in, missing_in}
+use Rattle.evaluation.specs.Meant.{EndsHere, evaluation_counts, missing_in}
+use Rattle.evaluation.specs.Rounds.{asking_order}
 use Rattle.evaluation.specs.Steps.{Setting, EvalPlace, Step, StepsTaken, fields_at, stands}
 use Rattle.evaluation.specs.Broken.{Cut, StepUpTo, StepSoFar, StepLed, Unwatched, TooMany}
 
--- how the fields are evaluated that are meant in the worksheet of this world
+-- how the fields are evaluated that are meant in the worksheet of this world, in their order
 abbrev pub meaning : {C : Type 0} → Setting C → World → Setting C
-meaning o w = record { voice = o.voice; after = o.after; clock = o.clock; wakes = o.wakes; plan = o.plan; meant = meant_in o.plan (sheet_in w).fields }
+meaning o w = record { voice = o.voice; after = o.after; clock = o.clock; wakes = o.wakes; plan = o.plan; meant = asking_order o.plan (sheet_in w).fields }
 
 -- the worksheet of this world has each field that is asked for
 abbrev pub HasThem : {C : Type 0} → Setting C → World → Type 0
@@ -40,7 +41,7 @@ OpenedFor o disk start now = OpenedOn disk start now × HasThem o start
 
 -- nothing was asked yet
 abbrev pub not_begun : Stand
-not_begun = record { taken = 0; field = 0; held = hold.Free; warned = false; at_once = false; asked = 0; overs = 0 }
+not_begun = record { taken = 0; first = 0; field = 0; held = hold.Free; asking = false; warned = false; at_once = false; asked = 0; overs = 0 }
 
 -- No item waits, and it comes to its end.
 abbrev pub Ends : {C : Type 0} → Setting C → EvalPlace C → Option ℕ → Type 0

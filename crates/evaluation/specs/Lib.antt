@@ -1,4 +1,7 @@
 pub mod Meant
+pub mod Rounds
+pub mod Laws
+pub mod Beside
 pub mod Steps
 pub mod Broken
 pub mod Evaluation

@@ -1,5 +1,5 @@
 -- The steps of an evaluation, one after the other, and what comes of each.
-use Rattle.std.specs.Prelude.{◌≡◌, ◌≢◌, ◌+◌, ℕ, false, true, not, List, [], ◌∷◌, ◌++◌, Option, Some, None}
+use Rattle.std.specs.Prelude.{◌≡◌, ◌≢◌, ◌⊎◌, ◌+◌, ℕ, Bool, false, true, not, List, [], ◌∷◌, ◌++◌, Option, Some, None}
 use Rattle.worksheet.specs.Checks.{field_in}
 use Rattle.worksheet.specs.Contents.{Contents}
 use Rattle.worksheet.specs.declared.field.Field.{Field}
@@ -23,6 +23,7 @@ use Rattle.live.specs.Arrivals.{Watch, WatchTells, Comes, time_over}
 use Rattle.evaluation.specs.declared.plan.Plan.{Plan}
 use Rattle.evaluation.specs.declared.plan.Stand.{Stand}
 use Rattle.evaluation.specs.Meant.{IsAsked, line_behind}
+use Rattle.evaluation.specs.Beside.{IsFirstWaiting, IsLate, IsWatchDue, joins}
 
 -- How fields are evaluated, and which, in their order.
 pub record Setting (C : Type 0) : Type 1 where
@@ -53,22 +54,36 @@ pub data Step : Type 0 where
   ask : ℕ → ℕ → Step
   -- something of the child of this life came: a piece, its end or a fault
   heard : Seat → Step
-  -- the time of the field that was asked last is over
-  over : Step
-  -- so are the two seconds that its interpreter has after the interrupt
+  -- the time is over of the field that is the nth of those to be evaluated, which has this number
+  over : ℕ → ℕ → Step
+  -- so are the two seconds that an interpreter has after the interrupt
   stalled : Step
 
 -- the seconds that an interrupted interpreter has
 abbrev pub grace : ℕ
 grace = 2
 
--- The step is due, and these are the sources after the watch that reported it. While no item waits the next field is asked; while one does,
--- sources are watched, and the clock is read before each watch.
+-- the field at this place, with this number, may be asked here: no item waits, or it joins those that wait
+abbrev pub MayAsk : {C : Type 0} → Setting C → EvalPlace C → ℕ → ℕ → Type 0
+MayAsk o p k id = (p.stand.held ≡ hold.Free) ⊎ (joins o.plan p.run.world p.stand k id ≡ true)
+
+-- sources are watched here
+abbrev pub WatchesAt : {C : Type 0} → Setting C → EvalPlace C → Type 0
+WatchesAt o p = IsWatchDue o.plan p.run.world o.meant p.stand
+
+-- The time of this field is over here: that of a first one by the clock, and then, before any watch, that of each other that waits.
+abbrev pub OverComes : {C : Type 0} → Setting C → EvalPlace C → ℕ → ℕ → C → Type 0
+OverComes o p n id d =
+    ((p.stand.warned ≡ false) × WatchesAt o p × IsLate p.run.world o.meant p.stand n id × IsTimed p.stand.held × Comes o.clock o.wakes p.stand.held p.run.children time_over d)
+    ⊎ ((p.stand.warned ≡ true) × (p.stand.held ≢ hold.Free) × IsFirstWaiting p.run.world o.meant p.stand n id × (d ≡ p.run.children))
+
+-- The step is due, and these are the sources after the watch that reported it. While no item waits the next field is asked. While one does,
+-- so is one that joins those that wait; else sources are watched, and the clock is read before each watch.
 abbrev pub StepComes : {C : Type 0} → Setting C → EvalPlace C → Step → C → Type 0
-StepComes o p (ask k id) d = (p.stand.held ≡ hold.Free) × (d ≡ p.run.children)
-StepComes o p (heard seat) d = (p.stand.held ≢ hold.Free) × WatchTells o.clock o.wakes p.stand.held p.run.children false (Some (woken.Life seat)) d
-StepComes o p over d = (p.stand.warned ≡ false) × IsTimed p.stand.held × Comes o.clock o.wakes p.stand.held p.run.children time_over d
-StepComes o p stalled d = (p.stand.warned ≡ true) × IsTimed p.stand.held × Comes o.clock o.wakes p.stand.held p.run.children time_over d
+StepComes o p (ask k id) d = MayAsk o p k id × (d ≡ p.run.children)
+StepComes o p (heard seat) d = WatchesAt o p × WatchTells o.clock o.wakes p.stand.held p.run.children false (Some (woken.Life seat)) d
+StepComes o p (over n id) d = OverComes o p n id d
+StepComes o p stalled d = (p.stand.warned ≡ true) × WatchesAt o p × IsTimed p.stand.held × Comes o.clock o.wakes p.stand.held p.run.children time_over d
 
 -- the fields of the worksheet where it stands so
 abbrev pub fields_at : {C : Type 0} → EvalPlace C → List Field
@@ -80,14 +95,49 @@ abbrev pub LimitBegins : {C : Type 0} → Clock C → C → Option ℕ → Hold 
 LimitBegins K c None held = held ≡ hold.Wait
 LimitBegins K c (Some seconds) held = (now : ℕ) × K c now × (held ≡ hold.Until (seconds_behind now seconds))
 
+-- the first place of those that wait together, by whether the field at this place is asked while others wait
+abbrev pub first_by : Bool → ℕ → ℕ → ℕ
+first_by true first k = first
+first_by false first k = k
+
 abbrev pub asked_at : Stand → ℕ → ℕ → Hold → Stand
-asked_at s k id held = record { taken = k + 1; field = id; held = held; warned = false; at_once = not (is_held held); asked = s.asked + 1; overs = s.overs }
+asked_at s k id held = record {
+  taken = k + 1;
+  first = first_by (is_held s.held) s.first k;
+  field = id;
+  held = held;
+  asking = true;
+  warned = false;
+  at_once = not (is_held held);
+  asked = s.asked + 1;
+  overs = s.overs;
+}
 
 abbrev pub held_at : Stand → Hold → Stand
-held_at s held = record { taken = s.taken; field = s.field; held = held; warned = s.warned; at_once = s.at_once; asked = s.asked; overs = s.overs }
+held_at s held = record {
+  taken = s.taken;
+  first = s.first;
+  field = s.field;
+  held = held;
+  asking = false;
+  warned = s.warned;
+  at_once = s.at_once;
+  asked = s.asked;
+  overs = s.overs;
+}
 
-abbrev pub warned_at : Stand → Hold → Stand
-warned_at s held = record { taken = s.taken; field = s.field; held = held; warned = true; at_once = s.at_once; asked = s.asked; overs = s.overs + 1 }
+abbrev pub warned_at : Stand → ℕ → Hold → Stand
+warned_at s n held = record {
+  taken = s.taken;
+  first = n;
+  field = s.field;
+  held = held;
+  asking = false;
+  warned = true;
+  at_once = s.at_once;
+  asked = s.asked;
+  overs = s.overs + 1;
+}
 
 -- the life of this field's session is interrupted where an item waits in it
 abbrev pub InterruptsFor : {C : Type 0} → Relation C → World → Option Field → C → Interrupted → C → Type 0
@@ -98,7 +148,7 @@ InterruptsFor R w (Some field) c came d = Interrupts R w field.session c came d
 abbrev pub step_text : Voice → Step → Contents → List Beat → List ℕ
 step_text V (ask k id) sheet beats = replied_text V (line_behind (k + 1)) sheet (told beats)
 step_text V (heard seat) sheet beats = came_text V sheet (told beats)
-step_text V over sheet beats = []
+step_text V (over n id) sheet beats = []
 step_text V stalled sheet beats = came_text V sheet (told beats)
 
 -- What came of a step: its entries of the trace, what is written, and where the run stands after it. An interrupt gives no entry, and all
@@ -107,16 +157,16 @@ abbrev pub StepDone : {C : Type 0} → Setting C → EvalPlace C → Step → Li
 StepDone o p (ask k id) beats text t =
     IsAsked o.plan (fields_at p) o.meant p.stand k id × Served o.after p.run (event.Command (command.Eval id)) beats t × (text ≡ step_text o.voice (ask k id) (sheet_in t.world) beats)
 StepDone o p (heard seat) beats text t = Taken o.after true None seat p.run beats t × (text ≡ step_text o.voice (heard seat) (sheet_in t.world) beats)
-StepDone o p over beats text t =
-    (beats ≡ []) × ((came : Interrupted) × InterruptsFor o.after p.run.world (field_in (fields_at p) p.stand.field) p.run.children came t.children
-    × (text ≡ o.voice.note (note.Over (line_behind p.stand.taken) p.stand.field came))) × (t ≡ at p.run.world t.children p.run.disk)
+StepDone o p (over n id) beats text t =
+    (beats ≡ []) × ((came : Interrupted) × InterruptsFor o.after p.run.world (field_in (fields_at p) id) p.run.children came t.children
+    × (text ≡ o.voice.note (note.Over (line_behind n) id came))) × (t ≡ at p.run.world t.children p.run.disk)
 StepDone o p stalled beats text t = OneTurn o.after false (waits p.run.world) p.run beats t × (text ≡ step_text o.voice stalled (sheet_in t.world) beats)
 
 -- How the evaluation stands after a step that led there.
 abbrev pub StandsBehind : {C : Type 0} → Setting C → EvalPlace C → Step → At C → Stand → Type 0
 StandsBehind o p (ask k id) t stand = (begun : Hold) × (held : Hold) × LimitBegins o.clock t.children o.plan.limit begun × WaitGoesOn begun t.world held × (stand ≡ asked_at p.stand k id held)
 StandsBehind o p (heard seat) t stand = (held : Hold) × WaitGoesOn p.stand.held t.world held × (stand ≡ held_at p.stand held)
-StandsBehind o p over t stand = (now : ℕ) × o.clock t.children now × (stand ≡ warned_at p.stand (hold.Until (seconds_behind now grace)))
+StandsBehind o p (over n id) t stand = (now : ℕ) × o.clock t.children now × (stand ≡ warned_at p.stand n (hold.Until (seconds_behind now grace)))
 StandsBehind o p stalled t stand = stand ≡ held_at p.stand hold.Free
 
 abbrev pub TakesStep : {C : Type 0} → Setting C → EvalPlace C → Step → List Beat → List ℕ → EvalPlace C → Type 0

@@ -3,6 +3,7 @@ ghost use Rattle.std.specs.Prelude.{◌≡◌, ◌<◌, ◌≤◌, ◌^◌, ℕ,
 ghost use Rattle.std.specs.List.{list_any};
 ghost use Rattle.std.specs.Option.{option_copied};
 ghost use Rattle.evaluation.specs.Meant as meant;
+ghost use Rattle.evaluation.specs.inside.Beside.{AsksNone};
 
 use crate::choosing::is_answered;
 use crate::plan::{Plan, Stand};
@@ -107,7 +108,16 @@ pub(crate) fn stop_line(plan: &Plan, sheet: &Sheet, stand: Stand) -> Option<u64>
     }
 }
 
+/// The number at this place.
+pub(crate) fn id_at(ids: &[u32], place: usize) -> u32
+    requires { place < length ids.now }
+    ensures { slice_get ids.now place ≡ Some result }
+{
+    ids[place]
+}
+
 /// The place of the field that is asked next, where it doesn't come to its end here.
+#[tactic(auto, using(crate::proofs::Meaning::none_asked_steps))]
 pub(crate) fn next_place(plan: &Plan, sheet: &Sheet, ids: &[u32], stand: Stand) -> Option<usize>
     requires few { length ids.now < 2 ^ 32 }
     requires taken { stand.taken ≤ length ids.now }
@@ -116,6 +126,7 @@ pub(crate) fn next_place(plan: &Plan, sheet: &Sheet, ids: &[u32], stand: Stand) 
         → meant.IsAsked plan.now sheet.now.contents.fields ids.now stand at id) }
     ensures ends { result ≡ None → (stopped : Option ℕ)
         × meant.EndsHere plan.now sheet.now.contents.fields ids.now stand stopped }
+    ensures none { result ≡ None → AsksNone plan.now sheet.now.contents.fields ids.now stand }
 {
     if stop_line(plan, sheet, stand).is_some() {
         return None;

@@ -8,6 +8,7 @@ ghost use Rattle.child_edge.specs.Seats.{running};
 ghost use Rattle.child_edge.specs.Stops.{Stops};
 ghost use Rattle.offline_programs.specs.Faults.{Untouched};
 ghost use Rattle.evaluation.specs.Meant as meant;
+ghost use Rattle.evaluation.specs.Rounds.{asking_order};
 ghost use Rattle.evaluation.specs.Steps.{setting, stands};
 ghost use Rattle.evaluation.specs.Evaluation.{EvaluationDone, TellsEvalFault, not_begun as begins};
 ghost use Rattle.evaluation.specs.declared.fault.EvalFault.TheVariants as evals;
@@ -18,9 +19,10 @@ ghost use Rattle.journal.specs.declared.opening.OpenCause.TheVariants as opens;
 ghost use Rattle.host_events.specs.declared.outcome.HostFault.TheVariants as hosts;
 
 use crate::asking::stop_line;
-use crate::choosing::{meant_in, missing_in};
+use crate::choosing::missing_in;
 use crate::fault::EvalFault;
 use crate::plan::{Plan, Stand, counts_of};
+use crate::rounds::asked_in;
 use crate::stepping::step;
 use arrivals::Sources;
 use child_edge::stop_all;
@@ -59,8 +61,10 @@ fn not_begun() -> Stand
 {
     Stand {
         taken: 0,
+        first: 0,
         field: 0,
         held: Hold::Free,
+        asking: false,
         warned: false,
         at_once: false,
         asked: 0,
@@ -135,12 +139,12 @@ fn few_fields<D: Disk>(host: &Host<D>)
     worksheet::laws::ops_make_worksheets();
 }
 
-/// The numbers of these fields that are to be evaluated.
+/// The numbers of these fields that are to be evaluated, in the order in which they are asked.
 fn ids_of(alloc: Global, plan: &Plan, sheet: &Sheet) -> Result<Vec<u32>, EvalFault>
-    ensures ids { IfOk result (λ ids. ids.items ≡ meant.meant_in plan.now sheet.now.contents.fields) }
+    ensures ids { IfOk result (λ ids. ids.items ≡ asking_order plan.now sheet.now.contents.fields) }
     ensures fault { IfErr result (λ why. why ≡ evals.Run told.OutOfMemory) }
 {
-    match meant_in(alloc, plan, sheet) {
+    match asked_in(alloc, plan, sheet) {
         Ok(ids) => Ok(ids),
         Err(_) => Err(EvalFault::Run(RunFault::OutOfMemory)),
     }
@@ -152,7 +156,7 @@ fn ids_in<D: Disk>(alloc: Global, plan: &Plan, host: &Host<D>) -> Result<Vec<u32
     requires { (w : World) × IsHost host.now w }
     ensures ids { (w : World) → IsHost host.now w
         → IfOk result (λ ids. (meant.missing_in plan.now.which (sheet_in w).fields ≡ None)
-        × (ids.items ≡ meant.meant_in plan.now (sheet_in w).fields)) }
+        × (ids.items ≡ asking_order plan.now (sheet_in w).fields)) }
     ensures few { IfOk result (λ ids. length ids.items < 2 ^ 31) }
     ensures fault { (w : World) → IsHost host.now w
         → IfErr result (AsksInVain plan.now.which (sheet_in w).fields) }
@@ -179,11 +183,16 @@ fn counts_in<D: Disk>(plan: &Plan, all: u64, host: &Host<D>, stand: Stand) -> Co
 /// first field that is lost or refused, and the fields after it keep what they show. At the end each life that
 /// goes on is stopped, and the counts are reported. It gives the disk back.
 ///
-/// With a limit, a field whose time is over is reported, and its interpreter is interrupted once; where an
-/// item still waits two seconds later it has stalled. Fields after one of their session that shows no answer
-/// are passed over then, unless it keeps going: they aren't asked, and keep what they show.
+/// With more jobs than one fields of so many sessions wait together, of each session one at a time: then first
+/// the first field of each session is asked, then the second of each, and so on, one after another up to one
+/// for which there is no room; that one is asked when no item waits any more.
 ///
-/// So one field at a time is without its old answer, and what was reported is on the disk.
+/// With a limit, a field whose time is over is reported, and its interpreter is interrupted once; where an
+/// item still waits two seconds later it has stalled. The time of fields that wait together begins when the
+/// last of them was asked. Fields after one of their session that shows no answer are passed over then, unless
+/// it keeps going: they aren't asked, and keep what they show.
+///
+/// So no more fields than that are without their old answers at a time, and what was reported is on the disk.
 ///
 /// `Open` where the disk isn't opened, `NoField` where no field has a number that is asked for, and
 /// `OutOfMemory` where there is no memory for the fields' numbers: nothing was written, and no child was

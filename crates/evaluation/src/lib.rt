@@ -1,11 +1,14 @@
-//! The evaluation of a worksheet's fields, one after another, with a limit of time where one is wanted.
+//! The evaluation of a worksheet's fields, one after another or those of several sessions side by side, with a limit of time where one is wanted.
 #![tactic(auto)]
 
 mod asking;
+mod beside;
 mod choosing;
 mod evaluating;
 mod fault;
+mod laws;
 pub mod plan;
+mod rounds;
 mod silence;
 mod stepping;
 mod timing;
@@ -13,5 +16,6 @@ mod within;
 
 pub use evaluating::{EvalEnd, Evaluated, evaluate};
 pub use fault::{EvalFault, eval_fault_text};
+pub use laws::rounds_leave_none_out;
 pub use plan::{Plan, Which};
 pub use within::wait_within;

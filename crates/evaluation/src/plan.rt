@@ -1,5 +1,5 @@
 //! What an evaluation is asked for, where it stands, and what it comes to.
-ghost use Rattle.std.specs.Prelude.{◌≡◌, ◌<◌, ◌^◌, length};
+ghost use Rattle.std.specs.Prelude.{◌≡◌, ◌+◌, ◌<◌, ◌^◌, length};
 ghost use Rattle.evaluation.specs.Meant as meant;
 ghost use Rattle.evaluation.specs.Steps as steps;
 
@@ -33,6 +33,8 @@ pub struct Plan {
     pub limit: Option<u32>,
     /// Whether, with a limit, fields are asked after one of their session that shows no answer.
     pub keep_going: bool,
+    /// In how many sessions fields may wait for answers at a time: 1 for one field after another.
+    pub jobs: u32,
 }
 
 /// Where an evaluation stands.
@@ -40,11 +42,15 @@ pub struct Plan {
 pub struct Stand {
     /// How many of the fields that are to be evaluated were asked or passed over.
     pub taken: usize,
+    /// How many of these were before the first that may wait and whose interpreter wasn't interrupted.
+    pub first: usize,
     /// The field that was asked last.
     pub field: u32,
-    /// The wait for its answer.
+    /// The wait for its answer, and for those of the fields that wait beside it.
     pub held: Hold,
-    /// Whether its interpreter was interrupted.
+    /// Whether no source was watched since it was asked.
+    pub asking: bool,
+    /// Whether the time was over, so that an interpreter was interrupted.
     pub warned: bool,
     /// Whether no item waited for an answer right after its `eval`.
     pub at_once: bool,
@@ -54,18 +60,38 @@ pub struct Stand {
     pub overs: u64,
 }
 
-/// The same place, with this wait.
+/// The same place after a watch, with this wait.
 pub(crate) fn held_at(stand: Stand, held: Hold) -> Stand
     ensures { result ≡ steps.held_at stand held }
 {
     Stand {
         taken: stand.taken,
+        first: stand.first,
         field: stand.field,
         held,
+        asking: false,
         warned: stand.warned,
         at_once: stand.at_once,
         asked: stand.asked,
         overs: stand.overs,
+    }
+}
+
+/// The same place after the interrupt of the interpreter of the field at this place, with this wait.
+pub(crate) fn warned_at(stand: Stand, place: usize, held: Hold) -> Stand
+    requires { stand.overs + 1 < 2 ^ 64 }
+    ensures { result ≡ steps.warned_at stand place held }
+{
+    Stand {
+        taken: stand.taken,
+        first: place,
+        field: stand.field,
+        held,
+        asking: false,
+        warned: true,
+        at_once: stand.at_once,
+        asked: stand.asked,
+        overs: stand.overs + 1,
     }
 }
 

@@ -5,16 +5,19 @@ ghost use Rattle.session_engine.specs.World.{World, sheet_in};
 ghost use Rattle.session_engine.specs.Host.{IsHost};
 ghost use Rattle.child_edge.specs.Faithful.{at};
 ghost use Rattle.evaluation.specs.declared.plan.Plan.{Plan};
+ghost use Rattle.evaluation.specs.Beside.{IsWatchDue, NoneJoins};
 ghost use Rattle.evaluation.specs.Meant.{IsAsked};
 ghost use Rattle.live.specs.Saying.{is_held};
 ghost use Rattle.evaluation.specs.Steps as steps;
 ghost use Rattle.evaluation.specs.Steps.{ask, heard, setting, stands};
+ghost use Rattle.evaluation.specs.inside.Beside.{IsDueAt};
 ghost use Rattle.evaluation.specs.inside.Stepping.{StepFailed, StepGave, StepTook, TakingFailed, Took, Turned, TurnFailed};
 ghost use Rattle.live.specs.Taking.{MayTurn};
 
-use crate::asking::{line_behind, next_place};
+use crate::asking::{id_at, line_behind, next_place};
+use crate::beside::{further_late, joining};
 use crate::plan::{Plan, Stand, held_at};
-use crate::timing::{limit_from, take_time};
+use crate::timing::{end_time, limit_from, take_time};
 use arrivals::{Sources, Woken};
 use child_calls::Seat;
 use disk_model::Disk;
@@ -36,6 +39,16 @@ fn is_free(held: Hold) -> bool
     }
 }
 
+/// The first place of the fields that wait together, where the one at this place is asked.
+fn first_at(stand: Stand, at: usize) -> usize
+    ensures { result ≡ steps.first_by (is_held stand.held) stand.first at }
+{
+    match stand.held {
+        Hold::Free => at,
+        Hold::Wait | Hold::Until(_) => stand.first,
+    }
+}
+
 /// The place after the field with this number, which was asked at this place.
 fn asked_at(stand: Stand, at: usize, id: u32, held: Hold) -> Stand
     requires few { at + 1 < 2 ^ 64 }
@@ -44,8 +57,10 @@ fn asked_at(stand: Stand, at: usize, id: u32, held: Hold) -> Stand
 {
     Stand {
         taken: at + 1,
+        first: first_at(stand, at),
         field: id,
         held,
+        asking: true,
         warned: false,
         at_once: is_free(held),
         asked: stand.asked + 1,
@@ -125,28 +140,31 @@ fn take_woken<D: Disk, S: Sources, T: Tells, W: Write>(
     alloc: Global,
     host: &mut Host<D>,
     sources: &mut S,
+    plan: &Plan,
+    ids: &[u32],
     woken: Woken,
     stand: Stand,
     tells: &T,
     writer: &mut W,
 ) -> Result<Stand, RunFault>
-    requires few { stand.taken < 2 ^ 32 }
+    requires few { length ids.now < 2 ^ 31 }
+    requires taken { stand.taken ≤ length ids.now }
     requires counted { stand.overs + 1 < 2 ^ 64 }
     requires turn { MayTurn stand.held woken }
     requires held { stand.held ≡ Hold.Free → ⊥ }
     ensures same { SameDisk host.old.store.disk host.new.store.disk }
-    ensures ok { (plan : Plan) (meant : List ℕ) (w : World) → IsHost host.old w → IfOk result (Turned
-        (setting T.voice S.after S.clock S.wakes plan meant) (stands (at w sources.old host.old.store.disk) stand) woken
+    ensures ok { (w : World) → IsHost host.old w → IfOk result (Turned
+        (setting T.voice S.after S.clock S.wakes plan.now ids.now) (stands (at w sources.old host.old.store.disk) stand) woken
         host.new sources.new (W.contents writer.old) (W.contents writer.new)) }
-    ensures err { (plan : Plan) (meant : List ℕ) (w : World) → IsHost host.old w → IfErr result (TurnFailed
-        (setting T.voice S.after S.clock S.wakes plan meant) (stands (at w sources.old host.old.store.disk) stand) woken
+    ensures err { (w : World) → IsHost host.old w → IfErr result (TurnFailed
+        (setting T.voice S.after S.clock S.wakes plan.now ids.now) (stands (at w sources.old host.old.store.disk) stand) woken
         host.new sources.new (W.contents writer.old) (W.contents writer.new)) }
     ensures taken { IfOk result (λ next. next.taken ≡ stand.taken) }
     ensures counts { IfOk result (λ next. (next.asked ≡ stand.asked) × (next.overs ≤ stand.overs + 1)) }
 {
     match woken {
         Woken::Life(seat) => take_life(alloc, host, sources, seat, stand, tells, writer),
-        Woken::TimeOver => take_time(alloc, host, sources, stand, tells, writer),
+        Woken::TimeOver => take_time(alloc, host, sources, plan, ids, stand, tells, writer),
         Woken::Input => unreachable!(),
     }
 }
@@ -156,35 +174,127 @@ fn take_turn<D: Disk, S: Sources, T: Tells, W: Write>(
     alloc: Global,
     host: &mut Host<D>,
     sources: &mut S,
+    plan: &Plan,
+    ids: &[u32],
     stand: Stand,
     tells: &T,
     writer: &mut W,
 ) -> Result<Stand, RunFault>
-    requires few { stand.taken < 2 ^ 32 }
+    requires few { length ids.now < 2 ^ 31 }
+    requires taken { stand.taken ≤ length ids.now }
     requires counted { stand.overs + 1 < 2 ^ 64 }
     requires held { stand.held ≡ Hold.Free → ⊥ }
+    requires due { (w : World) → IsHost host.old w → IsWatchDue plan.now w ids.now stand }
     ensures same { SameDisk host.old.store.disk host.new.store.disk }
-    ensures ok { (plan : Plan) (meant : List ℕ) (w : World) → IsHost host.old w → IfOk result (StepTook
-        (setting T.voice S.after S.clock S.wakes plan meant) (stands (at w sources.old host.old.store.disk) stand)
+    ensures ok { (w : World) → IsHost host.old w → IfOk result (StepTook
+        (setting T.voice S.after S.clock S.wakes plan.now ids.now) (stands (at w sources.old host.old.store.disk) stand)
         host.new sources.new (W.contents writer.old) (W.contents writer.new)) }
-    ensures err { (plan : Plan) (meant : List ℕ) (w : World) → IsHost host.old w → IfErr result (StepFailed
-        (setting T.voice S.after S.clock S.wakes plan meant) (stands (at w sources.old host.old.store.disk) stand)
+    ensures err { (w : World) → IsHost host.old w → IfErr result (StepFailed
+        (setting T.voice S.after S.clock S.wakes plan.now ids.now) (stands (at w sources.old host.old.store.disk) stand)
         host.new sources.new (W.contents writer.old) (W.contents writer.new)) }
     ensures taken { IfOk result (λ next. next.taken ≡ stand.taken) }
     ensures counts { IfOk result (λ next. (next.asked ≡ stand.asked) × (next.overs ≤ stand.overs + 1)) }
 {
     match next_turn(sources, stand.held, false) {
-        Ok(woken) => take_woken(alloc, host, sources, woken, stand, tells, writer),
+        Ok(woken) => take_woken(alloc, host, sources, plan, ids, woken, stand, tells, writer),
         Err(_) => Err(RunFault::Input),
     }
 }
 
-/// The number at this place.
-fn id_at(ids: &[u32], place: usize) -> u32
-    requires { place < length ids.now }
-    ensures { slice_get ids.now place ≡ Some result }
+/// Interrupts the interpreter of a further field whose time is over, or else waits until something comes, and
+/// takes it.
+fn take_late_or_turn<D: Disk, S: Sources, T: Tells, W: Write>(
+    alloc: Global,
+    host: &mut Host<D>,
+    sources: &mut S,
+    plan: &Plan,
+    ids: &[u32],
+    stand: Stand,
+    tells: &T,
+    writer: &mut W,
+) -> Result<Stand, RunFault>
+    requires few { length ids.now < 2 ^ 31 }
+    requires taken { stand.taken ≤ length ids.now }
+    requires counted { stand.overs + 1 < 2 ^ 64 }
+    requires held { stand.held ≡ Hold.Free → ⊥ }
+    requires none_joins { (w : World) → IsHost host.old w → NoneJoins plan.now w ids.now stand }
+    ensures same { SameDisk host.old.store.disk host.new.store.disk }
+    ensures ok { (w : World) → IsHost host.old w → IfOk result (StepTook
+        (setting T.voice S.after S.clock S.wakes plan.now ids.now) (stands (at w sources.old host.old.store.disk) stand)
+        host.new sources.new (W.contents writer.old) (W.contents writer.new)) }
+    ensures err { (w : World) → IsHost host.old w → IfErr result (StepFailed
+        (setting T.voice S.after S.clock S.wakes plan.now ids.now) (stands (at w sources.old host.old.store.disk) stand)
+        host.new sources.new (W.contents writer.old) (W.contents writer.new)) }
+    ensures taken { IfOk result (λ next. next.taken ≡ stand.taken) }
+    ensures counts { IfOk result (λ next. (next.asked ≡ stand.asked) × (next.overs ≤ stand.overs + 1)) }
 {
-    ids[place]
+    match further_late(host, ids, stand) {
+        Some(late) => end_time(host, sources, late, stand, tells, writer),
+        None => take_turn(alloc, host, sources, plan, ids, stand, tells, writer),
+    }
+}
+
+/// Asks the field at this place, which is the next, where no item waits or it joins those that wait.
+fn ask_at<D: Disk, S: Sources, T: Tells, W: Write>(
+    alloc: Global,
+    host: &mut Host<D>,
+    sources: &mut S,
+    plan: &Plan,
+    ids: &[u32],
+    place: usize,
+    stand: Stand,
+    tells: &T,
+    writer: &mut W,
+) -> Result<Stand, RunFault>
+    requires few { length ids.now < 2 ^ 31 }
+    requires there { place < length ids.now }
+    requires counted { stand.asked + 1 < 2 ^ 64 }
+    requires due { (w : World) (id : ℕ) → IsHost host.old w → slice_get ids.now place ≡ Some id
+        → IsDueAt plan.now w ids.now stand place id }
+    ensures same { SameDisk host.old.store.disk host.new.store.disk }
+    ensures ok { (w : World) → IsHost host.old w → IfOk result (StepTook
+        (setting T.voice S.after S.clock S.wakes plan.now ids.now) (stands (at w sources.old host.old.store.disk) stand)
+        host.new sources.new (W.contents writer.old) (W.contents writer.new)) }
+    ensures err { (w : World) → IsHost host.old w → IfErr result (StepFailed
+        (setting T.voice S.after S.clock S.wakes plan.now ids.now) (stands (at w sources.old host.old.store.disk) stand)
+        host.new sources.new (W.contents writer.old) (W.contents writer.new)) }
+    ensures taken { IfOk result (λ next. next.taken ≤ length ids.now) }
+    ensures counts { IfOk result (λ next. (next.asked ≡ stand.asked + 1) × (next.overs ≡ stand.overs)) }
+{
+    let id = id_at(ids, place);
+    ask_field(alloc, host, sources, plan, id, place, stand, tells, writer)
+}
+
+/// Asks a field that joins those that wait, where there is one, and else takes what is next.
+fn take_beside<D: Disk, S: Sources, T: Tells, W: Write>(
+    alloc: Global,
+    host: &mut Host<D>,
+    sources: &mut S,
+    plan: &Plan,
+    ids: &[u32],
+    stand: Stand,
+    tells: &T,
+    writer: &mut W,
+) -> Result<Stand, RunFault>
+    requires few { length ids.now < 2 ^ 31 }
+    requires taken { stand.taken ≤ length ids.now }
+    requires counted { (stand.asked + 1 < 2 ^ 64) × (stand.overs + 1 < 2 ^ 64) }
+    requires held { stand.held ≡ Hold.Free → ⊥ }
+    ensures same { SameDisk host.old.store.disk host.new.store.disk }
+    ensures ok { (w : World) → IsHost host.old w → IfOk result (StepTook
+        (setting T.voice S.after S.clock S.wakes plan.now ids.now) (stands (at w sources.old host.old.store.disk) stand)
+        host.new sources.new (W.contents writer.old) (W.contents writer.new)) }
+    ensures err { (w : World) → IsHost host.old w → IfErr result (StepFailed
+        (setting T.voice S.after S.clock S.wakes plan.now ids.now) (stands (at w sources.old host.old.store.disk) stand)
+        host.new sources.new (W.contents writer.old) (W.contents writer.new)) }
+    ensures taken { IfOk result (λ next. next.taken ≤ length ids.now) }
+    ensures counts { IfOk result (λ next.
+        (next.asked ≤ stand.asked + 1) × (next.overs ≤ stand.overs + 1)) }
+{
+    match joining(host, plan, ids, stand) {
+        Some(place) => ask_at(alloc, host, sources, plan, ids, place, stand, tells, writer),
+        None => take_late_or_turn(alloc, host, sources, plan, ids, stand, tells, writer),
+    }
 }
 
 /// Asks the next field. `None` at the end.
@@ -215,8 +325,7 @@ fn take_next<D: Disk, S: Sources, T: Tells, W: Write>(
 {
     match next_place(plan, host.sheet(), ids, stand) {
         Some(place) => {
-            let id = id_at(ids, place);
-            match ask_field(alloc, host, sources, plan, id, place, stand, tells, writer) {
+            match ask_at(alloc, host, sources, plan, ids, place, stand, tells, writer) {
                 Ok(next) => Ok(Some(next)),
                 Err(fault) => Err(fault),
             }
@@ -225,7 +334,8 @@ fn take_next<D: Disk, S: Sources, T: Tells, W: Write>(
     }
 }
 
-/// Asks the next field while no item waits, and takes what comes while one does. `None` at the end.
+/// Asks the next field while no item waits, and takes what comes while one does, but for a field that joins
+/// those that wait. `None` at the end.
 pub(crate) fn step<D: Disk, S: Sources, T: Tells, W: Write>(
     alloc: Global,
     host: &mut Host<D>,
@@ -253,7 +363,7 @@ pub(crate) fn step<D: Disk, S: Sources, T: Tells, W: Write>(
     match stand.held {
         Hold::Free => take_next(alloc, host, sources, plan, ids, stand, tells, writer),
         Hold::Wait | Hold::Until(_) => {
-            match take_turn(alloc, host, sources, stand, tells, writer) {
+            match take_beside(alloc, host, sources, plan, ids, stand, tells, writer) {
                 Ok(next) => Ok(Some(next)),
                 Err(fault) => Err(fault),
             }

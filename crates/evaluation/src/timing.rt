@@ -1,16 +1,17 @@
 //! The time that a field has.
-ghost use Rattle.std.specs.Prelude.{◌≡◌, ◌+◌, ◌<◌, ◌≤◌, ◌^◌, ℕ, List, IfErr, IfOk, false, true};
+ghost use Rattle.std.specs.Prelude.{◌≡◌, ◌+◌, ◌<◌, ◌≤◌, ◌^◌, ℕ, List, IfErr, IfOk, length};
 ghost use Rattle.disk_model.specs.Disk.{SameDisk};
 ghost use Rattle.worksheet.specs.Checks.{field_in};
 ghost use Rattle.session_engine.specs.World.{World, sheet_in};
 ghost use Rattle.session_engine.specs.Host.{IsHost};
 ghost use Rattle.child_edge.specs.Faithful.{at};
 ghost use Rattle.evaluation.specs.declared.plan.Plan.{Plan};
-ghost use Rattle.evaluation.specs.Steps.{InterruptsFor, LimitBegins, Step, over, setting, stalled, stands};
-ghost use Rattle.evaluation.specs.inside.Stepping.{IsTimeOf, TakingFailed, Took};
+ghost use Rattle.evaluation.specs.Steps.{InterruptsFor, LimitBegins, over, setting, stalled, stands};
+ghost use Rattle.evaluation.specs.inside.Stepping.{TakingFailed, TimeFailed, TimeTook, Took};
 
 use crate::asking::line_behind;
-use crate::plan::{Stand, held_at};
+use crate::beside::{Late, first_late};
+use crate::plan::{Plan, Stand, held_at, warned_at};
 use arrivals::Sources;
 use child_edge::{Interrupted, interrupt, waiting_lives};
 use disk_model::Disk;
@@ -45,39 +46,29 @@ fn interrupt_for<D: Disk, S: Sources>(host: &Host<D>, sources: &mut S, id: u32) 
     }
 }
 
-/// The time of the field that was asked last is over: its interpreter is interrupted, and has two seconds more.
-fn end_time<D: Disk, S: Sources, T: Tells, W: Write>(
+/// The time of this field is over: its interpreter is interrupted, and has two seconds more.
+pub(crate) fn end_time<D: Disk, S: Sources, T: Tells, W: Write>(
     host: &Host<D>,
     sources: &mut S,
+    late: Late,
     stand: Stand,
     tells: &T,
     writer: &mut W,
 ) -> Result<Stand, RunFault>
-    requires few { stand.taken < 2 ^ 32 }
+    requires few { late.place < 2 ^ 32 }
     requires counted { stand.overs + 1 < 2 ^ 64 }
     ensures ok { (plan : Plan) (meant : List ℕ) (w : World) → IsHost host.now w → IfOk result (Took
-        (setting T.voice S.after S.clock S.wakes plan meant) (stands (at w sources.old host.now.store.disk) stand) over
+        (setting T.voice S.after S.clock S.wakes plan meant) (stands (at w sources.old host.now.store.disk) stand) (over late.place late.id)
         host.now sources.new (W.contents writer.old) (W.contents writer.new)) }
     ensures err { (plan : Plan) (meant : List ℕ) (w : World) → IsHost host.now w → IfErr result (TakingFailed
-        (setting T.voice S.after S.clock S.wakes plan meant) (stands (at w sources.old host.now.store.disk) stand) over
+        (setting T.voice S.after S.clock S.wakes plan meant) (stands (at w sources.old host.now.store.disk) stand) (over late.place late.id)
         host.now sources.new (W.contents writer.old) (W.contents writer.new)) }
     ensures taken { IfOk result (λ next. next.taken ≡ stand.taken) }
     ensures counts { IfOk result (λ next. (next.asked ≡ stand.asked) × (next.overs ≡ stand.overs + 1)) }
 {
-    let told = interrupt_for(host, sources, stand.field);
-    match tells.note(
-        Note::Over(line_behind(stand.taken), stand.field, told),
-        writer,
-    ) {
-        Ok(()) => Ok(Stand {
-            taken: stand.taken,
-            field: stand.field,
-            held: wait_for(sources.now(), GRACE),
-            warned: true,
-            at_once: stand.at_once,
-            asked: stand.asked,
-            overs: stand.overs + 1,
-        }),
+    let told = interrupt_for(host, sources, late.id);
+    match tells.note(Note::Over(line_behind(late.place), late.id, told), writer) {
+        Ok(()) => Ok(warned_at(stand, late.place, wait_for(sources.now(), GRACE))),
         Err(fault) => Err(fault),
     }
 }
@@ -115,25 +106,29 @@ pub(crate) fn take_time<D: Disk, S: Sources, T: Tells, W: Write>(
     alloc: Global,
     host: &mut Host<D>,
     sources: &mut S,
+    plan: &Plan,
+    ids: &[u32],
     stand: Stand,
     tells: &T,
     writer: &mut W,
 ) -> Result<Stand, RunFault>
-    requires few { stand.taken < 2 ^ 32 }
+    requires few { length ids.now < 2 ^ 31 }
+    requires taken { stand.taken ≤ length ids.now }
     requires counted { stand.overs + 1 < 2 ^ 64 }
     ensures same { SameDisk host.old.store.disk host.new.store.disk }
-    ensures ok { (plan : Plan) (meant : List ℕ) (w : World) → IsHost host.old w → IfOk result (λ next. (s : Step) × IsTimeOf stand s × Took
-        (setting T.voice S.after S.clock S.wakes plan meant) (stands (at w sources.old host.old.store.disk) stand) s
-        host.new sources.new (W.contents writer.old) (W.contents writer.new) next) }
-    ensures err { (plan : Plan) (meant : List ℕ) (w : World) → IsHost host.old w → IfErr result (λ fault. (s : Step) × IsTimeOf stand s × TakingFailed
-        (setting T.voice S.after S.clock S.wakes plan meant) (stands (at w sources.old host.old.store.disk) stand) s
-        host.new sources.new (W.contents writer.old) (W.contents writer.new) fault) }
+    ensures ok { (w : World) → IsHost host.old w → IfOk result (TimeTook
+        (setting T.voice S.after S.clock S.wakes plan.now ids.now) (stands (at w sources.old host.old.store.disk) stand)
+        host.new sources.new (W.contents writer.old) (W.contents writer.new)) }
+    ensures err { (w : World) → IsHost host.old w → IfErr result (TimeFailed
+        (setting T.voice S.after S.clock S.wakes plan.now ids.now) (stands (at w sources.old host.old.store.disk) stand)
+        host.new sources.new (W.contents writer.old) (W.contents writer.new)) }
     ensures taken { IfOk result (λ next. next.taken ≡ stand.taken) }
     ensures counts { IfOk result (λ next. (next.asked ≡ stand.asked) × (next.overs ≤ stand.overs + 1)) }
 {
     if stand.warned {
         end_grace(alloc, host, sources, stand, tells, writer)
     } else {
-        end_time(host, sources, stand, tells, writer)
+        let late = first_late(host, ids, stand);
+        end_time(host, sources, late, stand, tells, writer)
     }
 }

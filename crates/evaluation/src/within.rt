@@ -28,6 +28,7 @@ fn waiting_plan(seconds: u32) -> Plan
         strict: false,
         limit: Some(seconds),
         keep_going: false,
+        jobs: 1,
     }
 }
 
@@ -37,8 +38,10 @@ fn asked_last(id: u32, held: Hold) -> Stand
 {
     Stand {
         taken: 0,
+        first: 0,
         field: id,
         held,
+        asking: false,
         warned: false,
         at_once: false,
         asked: 0,

@@ -23,6 +23,20 @@ abbrev pub limit_asked : Option Text → Option (Option ℕ)
 limit_asked None = Some None
 limit_asked (Some text) = limit_if (number_written text)
 
+-- In how many sessions fields may wait at a time: 1 to 64 where the words write that, which goes with no strict evaluation, and else 1.
+abbrev pub jobs_by : Bool → Bool → ℕ → Result ℕ PlanFault
+jobs_by true true jobs = Err plans.Strict
+jobs_by true false jobs = Ok jobs
+jobs_by false strict jobs = Err plans.Jobs
+
+abbrev pub jobs_if : Option ℕ → Bool → Result ℕ PlanFault
+jobs_if None strict = Err plans.Jobs
+jobs_if (Some jobs) strict = jobs_by (nat_le 1 jobs && nat_le jobs 64) strict jobs
+
+abbrev pub jobs_asked : Option Text → Bool → Result ℕ PlanFault
+jobs_asked None strict = Ok 1
+jobs_asked (Some text) strict = jobs_if (number_written text) strict
+
 -- the numbers that words write, where each of them writes one
 abbrev pub with_id : Option ℕ → Option (List ℕ) → Option (List ℕ)
 with_id None others = None
@@ -64,14 +78,21 @@ pub record AsksPlan (words : EvalView) (plan : Plan) : Type 0 where
   pub strict : plan.strict ≡ words.strict
   pub limit : limit_asked words.timeout ≡ Some plan.limit
   pub keep_going : plan.keep_going ≡ words.keep_going
+  pub jobs : jobs_asked words.jobs words.strict ≡ Ok plan.jobs
 
 -- they name a time that a field may take, or none
 abbrev pub NamesTime : EvalView → Type 0
 NamesTime words = (limit : Option ℕ) × (limit_asked words.timeout ≡ Some limit)
 
--- They ask for nothing that there is, for this reason, of which the time is the first; or there was no memory.
+-- and a number of sessions with it, or none
+abbrev pub NamesJobs : EvalView → Type 0
+NamesJobs words = NamesTime words × ((jobs : ℕ) × (jobs_asked words.jobs words.strict ≡ Ok jobs))
+
+-- They ask for nothing that there is, for this reason, of which the time is the first, and how many sessions the next; or there was no memory.
 abbrev pub AsksNoPlan : EvalView → PlanFault → Type 0
 AsksNoPlan words plans.Seconds = limit_asked words.timeout ≡ None
-AsksNoPlan words plans.Id = NamesTime words × (which_asked words.from words.ids ≡ Err plans.Id)
-AsksNoPlan words plans.Both = NamesTime words × (which_asked words.from words.ids ≡ Err plans.Both)
+AsksNoPlan words plans.Jobs = NamesTime words × (jobs_asked words.jobs words.strict ≡ Err plans.Jobs)
+AsksNoPlan words plans.Strict = NamesTime words × (jobs_asked words.jobs words.strict ≡ Err plans.Strict)
+AsksNoPlan words plans.Id = NamesJobs words × (which_asked words.from words.ids ≡ Err plans.Id)
+AsksNoPlan words plans.Both = NamesJobs words × (which_asked words.from words.ids ≡ Err plans.Both)
 AsksNoPlan words plans.OutOfMemory = Unit {0}

@@ -19,7 +19,8 @@ ShowsText k = (k ≡ kind.DisplayHelp) ⊎ (k ≡ kind.DisplayVersion)
 abbrev pub no_format_text : List ℕ
 no_format_text = codes "error: there is no such format: FORMAT is script, markdown, html, notebook or json\n\nFor more information, try 'tmhost export --help'.\n"
 
--- what is printed of words that ask for no evaluation: that name no time, or no number of a field, or numbers of fields and one to begin with
+-- what is printed of words that ask for no evaluation: that name no time, or no number of a field, or numbers of fields and one to begin with,
+-- or no number of sessions that go side by side, or one where it is strict
 abbrev pub no_seconds_text : List ℕ
 no_seconds_text = codes "error: this is no time: SECONDS is a number from 1 to 1000000\n\nFor more information, try 'tmhost eval --help'.\n"
 
@@ -28,6 +29,12 @@ no_id_text = codes "error: this is no field: ID is a number, as 3\n\nFor more in
 
 abbrev pub no_both_text : List ℕ
 no_both_text = codes "error: --from goes with no ID after PATH\n\nFor more information, try 'tmhost eval --help'.\n"
+
+abbrev pub no_jobs_text : List ℕ
+no_jobs_text = codes "error: this is no number of jobs: N is a number from 1 to 64\n\nFor more information, try 'tmhost eval --help'.\n"
+
+abbrev pub strict_jobs_text : List ℕ
+strict_jobs_text = codes "error: --jobs goes with no --strict\n\nFor more information, try 'tmhost eval --help'.\n"
 
 -- what is printed of words that ask for no check: of a time, of a format, of two of them, of the name of a session, of numbers of fields, and
 -- of a format in which nothing is accepted
@@ -58,6 +65,8 @@ abbrev pub RefusesPlan : {E : Type 0} → PlanFault → (E → Option (List ℕ)
 RefusesPlan plans.Seconds said old new ending = RefusesWith no_seconds_text said old new ending
 RefusesPlan plans.Id said old new ending = RefusesWith no_id_text said old new ending
 RefusesPlan plans.Both said old new ending = RefusesWith no_both_text said old new ending
+RefusesPlan plans.Jobs said old new ending = RefusesWith no_jobs_text said old new ending
+RefusesPlan plans.Strict said old new ending = RefusesWith strict_jobs_text said old new ending
 RefusesPlan plans.OutOfMemory said old new ending = (ending.status ≡ 1) × TellsFault said old new ending.told (Err fault.OutOfMemory)
 
 -- how the program ends where the words of `check` ask for none, or where there was no memory for them

@@ -1,7 +1,7 @@
 //! What the words of `eval` ask for.
-ghost use Rattle.std.specs.Prelude.{◌≡◌, Err, IfErr, IfOk, Ok, map, option_map};
+ghost use Rattle.std.specs.Prelude.{◌≡◌, Err, IfErr, IfOk, Ok, map, option_map, true};
 ghost use Rattle.command_words.specs.Asked.{eval_view};
-ghost use Rattle.host_cli.specs.Plans.{AsksNoPlan, AsksPlan, from_asked, limit_asked, named_asked, numbers_in, which_asked};
+ghost use Rattle.host_cli.specs.Plans.{AsksNoPlan, AsksPlan, from_asked, jobs_asked, jobs_by, limit_asked, named_asked, numbers_in, which_asked};
 ghost use Rattle.host_cli.specs.inside.Reading.{IsWhy};
 
 use block_tree::{OutOfMemory, Sequence};
@@ -13,6 +13,9 @@ use std::alloc::Global;
 /// The most seconds that a field may be given.
 const MOST_SECONDS: u32 = 1_000_000;
 
+/// The most sessions in which fields may wait at a time.
+const MOST_JOBS: u32 = 64;
+
 /// Why the words of `eval` ask for nothing that there is.
 #[derive(Clone, Copy, Debug, PartialEq, Eq)]
 pub enum PlanFault {
@@ -22,6 +25,10 @@ pub enum PlanFault {
     Id,
     /// They name fields, and one to begin with.
     Both,
+    /// They name no number of sessions.
+    Jobs,
+    /// Sessions are to go side by side, and to stop after the first field that goes wrong.
+    Strict,
     /// There was no memory for them.
     OutOfMemory,
 }
@@ -42,6 +49,36 @@ pub(crate) fn read_limit(text: Option<&str>) -> Option<Option<u32>>
                 None
             }
         }
+    }
+}
+
+/// In how many sessions fields may wait at a time, where these words write that. One at a time without them.
+fn read_jobs(text: Option<&str>, strict: bool) -> Result<u32, PlanFault>
+    ensures { result ≡ jobs_asked (option_map (λ text. text.now) text.entry) strict }
+{
+    let Some(text) = text else {
+        return Ok(1);
+    };
+    match read_number(text.as_bytes()) {
+        None => Err(PlanFault::Jobs),
+        Some(jobs) => {
+            if 1 <= jobs && jobs <= MOST_JOBS {
+                allow_jobs(jobs, strict)
+            } else {
+                Err(PlanFault::Jobs)
+            }
+        }
+    }
+}
+
+/// So many, where it isn't strict.
+fn allow_jobs(jobs: u32, strict: bool) -> Result<u32, PlanFault>
+    ensures { result ≡ jobs_by true strict jobs }
+{
+    if strict {
+        Err(PlanFault::Strict)
+    } else {
+        Ok(jobs)
     }
 }
 
@@ -109,6 +146,10 @@ pub(crate) fn read_plan(alloc: Global, words: &EvalWords<'_>) -> Result<Plan, Pl
     let Some(limit) = read_limit(words.timeout) else {
         return Err(PlanFault::Seconds);
     };
+    let jobs = match read_jobs(words.jobs, words.strict) {
+        Ok(jobs) => jobs,
+        Err(why) => return Err(why),
+    };
     match read_which(alloc, words.from, words.ids.as_slice()) {
         Ok(which) => Ok(Plan {
             which,
@@ -116,6 +157,7 @@ pub(crate) fn read_plan(alloc: Global, words: &EvalWords<'_>) -> Result<Plan, Pl
             strict: words.strict,
             limit,
             keep_going: words.keep_going,
+            jobs,
         }),
         Err(why) => Err(why),
     }

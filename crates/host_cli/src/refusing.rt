@@ -116,6 +116,16 @@ pub(crate) fn refuse_plan<E: Write>(why: PlanFault, errors: &mut E) -> Ending
             For more information, try 'tmhost eval --help'.\n",
             errors,
         ),
+        PlanFault::Jobs => refuse_with(
+            b"error: this is no number of jobs: N is a number from 1 to 64\n\n\
+            For more information, try 'tmhost eval --help'.\n",
+            errors,
+        ),
+        PlanFault::Strict => refuse_with(
+            b"error: --jobs goes with no --strict\n\n\
+            For more information, try 'tmhost eval --help'.\n",
+            errors,
+        ),
         PlanFault::OutOfMemory => end_program(Err(RunFault::OutOfMemory), errors),
     }
 }

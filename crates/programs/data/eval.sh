@@ -179,6 +179,64 @@ for seconds in 0 1000001 x '' 1.5; do
     words "no time: $seconds" 2 "error: this is no time: SECONDS is a number from 1 to 1000000\n\nFor more information, try 'tmhost eval --help'.\n" eval --timeout "$seconds" sheet
 done
 
+# Sessions side by side. An interpreter that answers a line when that of another session has its line of the same name too: each makes a
+# file of it, and waits for the other's.
+cat >meets.sh <<'END'
+printf '\002verbatim:\005'
+while IFS= read -r l; do
+    : >"met.$1.$l"
+    until [ -e "met.$2.$l" ]; do sleep 0.02; done
+    printf '\002verbatim:%s\005' "$l"
+done
+END
+# What is written of these words, but for the order of what comes of interpreters: the first lines, and all of them sorted.
+sorted() {
+    first=$1
+    shift
+    rm -f met.*
+    "$tmhost" eval "$@" sheet >text 2>errors </dev/null
+    echo "status $?"
+    head -n "$first" text
+    echo --
+    LC_ALL=C sort text
+    cat errors
+}
+made 'session a plain env --default-signal=INT sh meets.sh a b\nsession b plain env --default-signal=INT sh meets.sh b a\nnew 0 a x\nnew 1 a y\nnew 2 b x\nnew 3 b y\n'
+compare 'two sessions side by side' "$(sorted 2 --jobs 2)" \
+    "$(printf 'status 0\nasked\nasked\n--\nanswered 1\nanswered 2\nanswered 3\nanswered 4\nanswered 4 unanswered 0\nasked\nasked\nasked\nasked\nbanner a\nbanner b')"
+compare 'two sessions side by side, shown' "$(answer show sheet </dev/null)" \
+    "$(ending '#1 a\n> x\nx\n#2 a\n> y\ny\n#3 b\n> x\nx\n#4 b\n> y\ny\n' 0)"
+compare 'more jobs than sessions' "$(sorted 2 --jobs 64 | head -n 3)" "$(printf 'status 0\nasked\nasked')"
+compare 'one after another they wait for each other' "$(sorted 1 --jobs 1 --timeout 1)" \
+    "$(printf 'status 1\nasked\n--\nanswered 2 unanswered 2\nanswered 3\nasked\nasked\nasked\nbanner a\nbanner b\nended a Ended lost 1\nended b Ended lost 1\nover 1\nover 2 passed 1\nover 4')"
+made 'session a plain sh count.sh\nsession b plain sh count.sh\nsession c plain sh count.sh\nnew 0 a x\nnew 1 b y\nnew 2 c z\n'
+"$tmhost" eval --jobs 2 sheet >text 2>errors </dev/null
+compare 'the third is asked when the two have answered' "$(sed -n '1,2p;7,$p' text; sed -n 3,6p text | LC_ALL=C sort; cat errors)" \
+    "$(printf 'asked\nasked\nasked\nbanner c\nanswered 3\nanswered 3 unanswered 0\nanswered 1\nanswered 2\nbanner a\nbanner b')"
+made 'session a plain sh count.sh\nsession b plain sh count.sh\nnew 0 a x\nnew 1 a y\nnew 2 b z\n'
+"$tmhost" eval --jobs 4 sheet >text 2>errors </dev/null
+compare 'a field waits for the one before it in its session' "$(sed -n '1,2p;7,$p' text; sed -n 3,6p text | LC_ALL=C sort; cat errors)" \
+    "$(printf 'asked\nasked\nasked\nanswered 2\nanswered 3 unanswered 0\nanswered 1\nanswered 3\nbanner a\nbanner b')"
+evaluates 'one at a time in the order of the worksheet' 0 'asked\nbanner a\nanswered 1\nasked\nanswered 2\nasked\nbanner b\nanswered 3\nanswered 3 unanswered 0\n' \
+    '#1 a\n> x\nx 1\n#2 a\n> y\ny 2\n#3 b\n> z\nz 1\n' --jobs 1
+printf 'set 3 w\n' >given
+"$tmhost" run sheet <given >text
+evaluates 'one session alone' 1 'asked\nbanner a\nanswered 1\nasked\nanswered 2\nanswered 2 unanswered 1\n' \
+    '#1 a\n> x\nx 1\n#2 a\n> y\ny 2\n#3 b\n> w\n?\n' --jobs 4 1 2
+made 'session a plain sh count.sh\nsession b plain sh count.sh\nsession c plain sh count.sh\nnew 0 c x\nnew 1 b x\nnew 2 a x\nnew 3 a y\nnew 4 c y\n'
+compare 'a field is not passed over while the one before it waits' "$("$tmhost" eval --jobs 2 --timeout 60 sheet </dev/null | tail -n 2)" "$(printf 'answered 5 unanswered 0\nover 0 passed 0')"
+made 'session a plain sh count.sh\nsession b plain ./nothing\nsession c plain sh count.sh\nnew 0 a x\nnew 1 b y\nnew 2 c z\n'
+compare 'one that is lost at once leaves its place' "$(sorted 4 --jobs 2)" \
+    "$(printf 'status 1\nasked\nasked\nended b StartRefused lost 1\nasked\n--\nanswered 1\nanswered 2 unanswered 1\nanswered 3\nasked\nasked\nasked\nbanner a\nbanner c\nended b StartRefused lost 1')"
+made 'session a plain env --default-signal=INT sh turns.sh\nsession b plain env --default-signal=INT sh turns.sh\nnew 0 a loop\nnew 1 b loop\n'
+compare 'the time of both is over' "$(sorted 2 --jobs 2 --timeout 1)" \
+    "$(printf 'status 1\nasked\nasked\n--\nanswered 1\nanswered 2\nanswered 2 unanswered 0\nasked\nasked\nbanner a\nbanner b\nover 1\nover 2\nover 2 passed 0')"
+compare 'both are interrupted before anything else is taken' "$(grep -A 1 '^over 1$' text)" "$(printf 'over 1\nover 2')"
+for jobs in 0 65 x '' 1.5; do
+    words "no number of jobs: $jobs" 2 "error: this is no number of jobs: N is a number from 1 to 64\n\nFor more information, try 'tmhost eval --help'.\n" eval --jobs "$jobs" sheet
+done
+words 'side by side, and strictly' 2 "error: --jobs goes with no --strict\n\nFor more information, try 'tmhost eval --help'.\n" eval --strict --jobs 2 sheet
+
 # In lines of JSON.
 made 'session a plain sh count.sh\nnew 0 a x\n'
 cat >wanted <<'END'

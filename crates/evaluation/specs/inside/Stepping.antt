@@ -14,16 +14,17 @@ use Rattle.sheet_programs.specs.Told.{StandsOrStopped}
 use Rattle.offline_programs.specs.declared.fault.RunFault.{RunFault}
 use Rattle.offline_programs.specs.declared.fault.RunFault.TheVariants as fault
 use Rattle.evaluation.specs.declared.plan.Stand.{Stand}
+use Rattle.evaluation.specs.Beside.{IsLate}
 use Rattle.evaluation.specs.Steps.{Setting, EvalPlace, Step, ask, heard, over, stalled, StepComes, TakesStep, StepsTaken, stands, step_text, woken_in}
 use Rattle.evaluation.specs.Broken.{Cut, StepUpTo, StepSoFar, StepLed, Unwatched, TooMany}
 use Rattle.evaluation.specs.Evaluation.{Ends, Short}
 
 -- the step of a time that is over
-abbrev pub IsTimeOf : Stand → Step → Type 0
-IsTimeOf stand (ask k id) = ⊥
-IsTimeOf stand (heard seat) = ⊥
-IsTimeOf stand over = stand.warned ≡ false
-IsTimeOf stand stalled = stand.warned ≡ true
+abbrev pub IsTimeOf : {C : Type 0} → Setting C → EvalPlace C → Step → Type 0
+IsTimeOf o p (ask k id) = ⊥
+IsTimeOf o p (heard seat) = ⊥
+IsTimeOf o p (over n id) = (p.stand.warned ≡ false) × IsLate p.run.world o.meant p.stand n id
+IsTimeOf o p stalled = p.stand.warned ≡ true
 
 -- A step was taken, and what came of it is written; the host and the children stand there.
 abbrev pub Took : {C : Type 0} → Setting C → EvalPlace C → Step → HostView → C → Option (List ℕ) → Option (List ℕ) → Stand → Type 0
@@ -47,18 +48,25 @@ TakingFailed o p s h c a b fault.InputTooLong = ⊥
 TakingFailed o p s h c a b (fault.Open why) = ⊥
 TakingFailed o p s h c a b fault.InUse = ⊥
 
+-- the step of a time that is over was taken
+abbrev pub TimeTook : {C : Type 0} → Setting C → EvalPlace C → HostView → C → Option (List ℕ) → Option (List ℕ) → Stand → Type 0
+TimeTook o p h c a b stand = (s : Step) × IsTimeOf o p s × Took o p s h c a b stand
+
+abbrev pub TimeFailed : {C : Type 0} → Setting C → EvalPlace C → HostView → C → Option (List ℕ) → Option (List ℕ) → RunFault → Type 0
+TimeFailed o p h c a b f = (s : Step) × IsTimeOf o p s × TakingFailed o p s h c a b f
+
 -- the step that comes of this turn
-abbrev pub IsOf : Stand → Woken → Step → Type 0
-IsOf stand woken.Input s = ⊥
-IsOf stand (woken.Life seat) s = s ≡ heard seat
-IsOf stand woken.TimeOver s = IsTimeOf stand s
+abbrev pub IsOf : {C : Type 0} → Setting C → EvalPlace C → Woken → Step → Type 0
+IsOf o p woken.Input s = ⊥
+IsOf o p (woken.Life seat) s = s ≡ heard seat
+IsOf o p woken.TimeOver s = IsTimeOf o p s
 
 -- whoever's turn it was had it
 abbrev pub Turned : {C : Type 0} → Setting C → EvalPlace C → Woken → HostView → C → Option (List ℕ) → Option (List ℕ) → Stand → Type 0
-Turned o p told h c a b stand = (s : Step) × IsOf p.stand told s × Took o p s h c a b stand
+Turned o p told h c a b stand = (s : Step) × IsOf o p told s × Took o p s h c a b stand
 
 abbrev pub TurnFailed : {C : Type 0} → Setting C → EvalPlace C → Woken → HostView → C → Option (List ℕ) → Option (List ℕ) → RunFault → Type 0
-TurnFailed o p told h c a b f = (s : Step) × IsOf p.stand told s × TakingFailed o p s h c a b f
+TurnFailed o p told h c a b f = (s : Step) × IsOf o p told s × TakingFailed o p s h c a b f
 
 -- a step came and was taken
 abbrev pub StepTook : {C : Type 0} → Setting C → EvalPlace C → HostView → C → Option (List ℕ) → Option (List ℕ) → Stand → Type 0

@@ -8,4 +8,6 @@ abbrev pub IsWhy : {X : Type 0} → Result X PlanFault → PlanFault → Type 0
 IsWhy asked plans.Seconds = asked ≡ Err plans.Seconds
 IsWhy asked plans.Id = asked ≡ Err plans.Id
 IsWhy asked plans.Both = asked ≡ Err plans.Both
+IsWhy asked plans.Jobs = asked ≡ Err plans.Jobs
+IsWhy asked plans.Strict = asked ≡ Err plans.Strict
 IsWhy asked plans.OutOfMemory = Unit {0}

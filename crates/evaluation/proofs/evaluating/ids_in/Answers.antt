@@ -1,10 +1,10 @@
 use Rattle.std.proofs.Common.{◌<◌, ◌^◌, length, sym, subst}
 use Rattle.worksheet.specs.Contents.{SheetView}
 use Rattle.sheet_programs.proofs.Runs.{if_ok_then}
-use Rattle.evaluation.proofs.Meaning.{few_ids}
+use Rattle.evaluation.proofs.InRounds.{few_in_order}
 use Rattle.evaluation.proofs.evaluating.ids_in.Goals as goal
 
 pub returns-in-None-clause-few : goal.returns-in-None-clause-few
 returns-in-None-clause-few g c =
     if_ok_then c.ids_of.result _ _
-    (λ ids is. few_ids c.args.plan.now c.sheet-in-None.result.now.contents.fields ids.items is (subst (λ (s : SheetView). length s.contents.fields < 2 ^ 31) (sym c.sheet-in-None.ensures.sheet) c.few_fields.ensures)) c.ids_of.ensures.ids
+    (λ ids is. few_in_order c.args.plan.now c.sheet-in-None.result.now.contents.fields ids.items is (subst (λ (s : SheetView). length s.contents.fields < 2 ^ 31) (sym c.sheet-in-None.ensures.sheet) c.few_fields.ensures)) c.ids_of.ensures.ids

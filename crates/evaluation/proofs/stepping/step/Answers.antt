@@ -4,7 +4,7 @@ pub returns-in-Err : goal.returns-in-Err
 returns-in-Err g c = record {
   same = c.in-Err.ensures.same;
   ok = λ w h. tt;
-  err = λ w h. c.in-Err.ensures.err c.args.plan.now c.args.ids.now w h;
+  err = λ w h. c.in-Err.ensures.err w h;
   taken = tt;
   counts = tt;
 }

@@ -3,17 +3,17 @@ use Rattle.evaluation.specs.Steps.{over, stalled}
 use Rattle.evaluation.proofs.timing.take_time.Goals as goal
 
 pub returns-then-stand-clause-ok : goal.returns-then-stand-clause-ok
-returns-then-stand-clause-ok g c = λ plan meant w h.
-    if_ok_then c.end_grace.result _ _ (λ next t. (stalled, c.if-stand.true, t)) (c.end_grace.ensures.ok plan meant w h)
+returns-then-stand-clause-ok g c = λ w h.
+    if_ok_then c.end_grace.result _ _ (λ next t. (stalled, c.if-stand.true, t)) (c.end_grace.ensures.ok c.args.plan.now c.args.ids.now w h)
 
 pub returns-then-stand-clause-err : goal.returns-then-stand-clause-err
-returns-then-stand-clause-err g c = λ plan meant w h.
-    if_err_then c.end_grace.result _ _ (λ f t. (stalled, c.if-stand.true, t)) (c.end_grace.ensures.err plan meant w h)
+returns-then-stand-clause-err g c = λ w h.
+    if_err_then c.end_grace.result _ _ (λ f t. (stalled, c.if-stand.true, t)) (c.end_grace.ensures.err c.args.plan.now c.args.ids.now w h)
 
 pub returns-else-stand-clause-ok : goal.returns-else-stand-clause-ok
-returns-else-stand-clause-ok g c = λ plan meant w h.
-    if_ok_then c.end_time.result _ _ (λ next t. (over, c.if-stand.false, t)) (c.end_time.ensures.ok plan meant w h)
+returns-else-stand-clause-ok g c = λ w h.
+    if_ok_then c.end_time.result _ _ (λ next t. (over c.first_late-late.result.place c.first_late-late.result.id, (c.if-stand.false, c.first_late-late.ensures.late w h), t)) (c.end_time.ensures.ok c.args.plan.now c.args.ids.now w h)
 
 pub returns-else-stand-clause-err : goal.returns-else-stand-clause-err
-returns-else-stand-clause-err g c = λ plan meant w h.
-    if_err_then c.end_time.result _ _ (λ f t. (over, c.if-stand.false, t)) (c.end_time.ensures.err plan meant w h)
+returns-else-stand-clause-err g c = λ w h.
+    if_err_then c.end_time.result _ _ (λ f t. (over c.first_late-late.result.place c.first_late-late.result.id, (c.if-stand.false, c.first_late-late.ensures.late w h), t)) (c.end_time.ensures.err c.args.plan.now c.args.ids.now w h)

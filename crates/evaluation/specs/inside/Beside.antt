@@ -1,0 +1,32 @@
+-- What the functions about fields that wait side by side promise each other.
+use Rattle.std.specs.Prelude.{◌≡◌, ◌⊎◌, ◌<◌, ◌≤◌, ◌-◌, ℕ, Bool, true, false, List, length, slice_get}
+use Rattle.worksheet.specs.declared.field.Field.{Field}
+use Rattle.worksheet.specs.declared.field.Session.{Session}
+use Rattle.session_engine.specs.World.{World, sheet_in}
+use Rattle.live.specs.declared.holding.Hold.TheVariants as hold
+use Rattle.child_edge.specs.Seats.{seats_of, waits}
+use Rattle.evaluation.specs.declared.plan.Plan.{Plan}
+use Rattle.evaluation.specs.declared.plan.Stand.{Stand}
+use Rattle.evaluation.specs.Meant.{IsAsked}
+use Rattle.evaluation.specs.Beside.{is_waiting_one, joins}
+
+-- no field is asked next
+pub record AsksNone (plan : Plan) (fields : List Field) (meant : List ℕ) (stand : Stand) : Type 0 where
+  pub each : (k id : ℕ) → IsAsked plan fields meant stand k id → ⊥
+
+-- this field is the next, and no item waits or it joins those that wait
+abbrev pub IsDueAt : Plan → World → List ℕ → Stand → ℕ → ℕ → Type 0
+IsDueAt plan w meant stand k id = IsAsked plan (sheet_in w).fields meant stand k id × ((stand.held ≡ hold.Free) ⊎ (joins plan w stand k id ≡ true))
+
+abbrev pub one_if : Bool → ℕ
+one_if true = 1
+one_if false = 0
+
+-- of so many sessions this is left beside those in which an item waits, but for these, which are to be looked at
+pub record SeatsLeft (most : ℕ) (w : World) (rest : List Session) (left : ℕ) : Type 0 where
+  pub fits : length (seats_of w rest) ≤ length (waits w)
+  pub is : left ≡ most - (length (waits w) - length (seats_of w rest))
+
+-- none of the fields from one place up to another waits
+pub record NoneBetween (w : World) (meant : List ℕ) (low high : ℕ) : Type 0 where
+  pub each : (k : ℕ) → low ≤ k → k < high → is_waiting_one w (slice_get meant k) ≡ false

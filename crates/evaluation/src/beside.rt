@@ -1,0 +1,186 @@
+//! Fields that wait side by side.
+ghost use Rattle.std.specs.Prelude.{◌≡◌, ◌&&◌, ◌+◌, ◌-◌, ◌<◌, ◌≤◌, ◌^◌, ℕ, IfSome, None, Some, length, nat_lt, slice_get, true};
+ghost use Rattle.std.specs.Option.{option_copied};
+ghost use Rattle.session_engine.specs.World.{World, sheet_in};
+ghost use Rattle.session_engine.specs.Host.{IsHost};
+ghost use Rattle.child_edge.specs.Seats.{waits};
+ghost use Rattle.evaluation.specs.Meant.{IsAsked};
+ghost use Rattle.evaluation.specs.Beside as beside;
+ghost use Rattle.evaluation.specs.inside.Beside as inside;
+
+use crate::asking::{id_at, next_place};
+use crate::plan::{Plan, Stand};
+use disk_model::Disk;
+use session_engine::Host;
+use session_engine::host::LifeView;
+use worksheet::Field;
+
+/// A field whose time is over.
+#[derive(Clone, Copy, Debug)]
+pub(crate) struct Late {
+    /// Which of the fields that are to be evaluated it is: 1 for the first.
+    pub(crate) place: usize,
+    /// Its number.
+    pub(crate) id: u32,
+}
+
+/// Whether an item waits in this life.
+fn is_busy(life: Option<LifeView>) -> bool
+    ensures { result ≡ beside.is_busy life }
+{
+    match life {
+        None => false,
+        Some(life) => life.waiting > 0,
+    }
+}
+
+/// Whether an item waits in the session of this field.
+fn is_session_busy<D: Disk>(host: &Host<D>, field: Option<&Field>) -> bool
+    ensures { (w : World) → IsHost host.now w → result ≡ beside.is_session_busy w (option_copied field.entry) }
+{
+    match field {
+        None => false,
+        Some(field) => is_busy(host.life(field.session)),
+    }
+}
+
+/// How many sessions are left of so many, after one in which an item waits or doesn't.
+fn left_of(left: u32, is_busy: bool) -> u32
+    ensures { result ≡ left - inside.one_if is_busy }
+{
+    if is_busy {
+        left.saturating_sub(1)
+    } else {
+        left
+    }
+}
+
+/// Whether items wait in fewer sessions than this.
+#[tactic(auto, using(crate::proofs::Together::none_left))]
+fn wait_in_fewer<D: Disk>(host: &Host<D>, most: u32) -> bool
+    ensures { (w : World) → IsHost host.now w → result ≡ nat_lt (length (waits w)) most }
+{
+    let mut left = most;
+    for session in host.sheet().sessions() {
+        left = left_of(left, is_busy(host.life(session.name)));
+    }
+    left > 0
+}
+
+/// Whether there is room for the field with this number beside those that wait.
+fn has_room<D: Disk>(host: &Host<D>, plan: &Plan, id: u32) -> bool
+    ensures { (w : World) → IsHost host.now w → result ≡ beside.has_room_beside plan.now w id }
+{
+    !is_session_busy(host, host.sheet().field(id)) && wait_in_fewer(host, plan.jobs)
+}
+
+/// Whether the field with this number may be asked before any watch.
+fn may_join<D: Disk>(host: &Host<D>, plan: &Plan, stand: Stand, id: u32) -> bool
+    ensures { (w : World) → IsHost host.now w
+        → result ≡ (stand.asking && beside.has_room_beside plan.now w id) }
+{
+    stand.asking && has_room(host, plan, id)
+}
+
+/// Whether the field at this place, with this number, is asked although others wait, if it is the next. Whether
+/// one is passed over is known only when none waits.
+fn joins<D: Disk>(host: &Host<D>, plan: &Plan, stand: Stand, at: usize, id: u32) -> bool
+    ensures { (w : World) → IsHost host.now w → result ≡ beside.joins plan.now w stand at id }
+{
+    at == stand.taken && may_join(host, plan, stand, id)
+}
+
+/// The place of the field that is asked although others wait, where there is one.
+pub(crate) fn joining<D: Disk>(
+    host: &Host<D>,
+    plan: &Plan,
+    ids: &[u32],
+    stand: Stand,
+) -> Option<usize>
+    requires few { length ids.now < 2 ^ 32 }
+    requires taken { stand.taken ≤ length ids.now }
+    ensures within { IfSome result (λ at. at < length ids.now) }
+    ensures next { (w : World) (id : ℕ) → IsHost host.now w → IfSome result (λ at. slice_get ids.now at ≡ Some id
+        → IsAsked plan.now (sheet_in w).fields ids.now stand at id × (beside.joins plan.now w stand at id ≡ true)) }
+    ensures none { (w : World) → IsHost host.now w → result ≡ None
+        → beside.NoneJoins plan.now w ids.now stand }
+{
+    match next_place(plan, host.sheet(), ids, stand) {
+        None => None,
+        Some(at) => {
+            let id = id_at(ids, at);
+            if joins(host, plan, stand, at, id) {
+                Some(at)
+            } else {
+                None
+            }
+        }
+    }
+}
+
+/// The first place from this one on whose field waits for its answer, or `to` where none before that does.
+#[tactic(auto, using(crate::proofs::Together::between_steps))]
+fn first_waiting<D: Disk>(host: &Host<D>, ids: &[u32], from: usize, to: usize) -> usize
+    requires { to ≤ length ids.now }
+    ensures before { (w : World) → IsHost host.now w → inside.NoneBetween w ids.now from result }
+    ensures found { (w : World) → IsHost host.now w → result < to
+        → beside.is_waiting_one w (slice_get ids.now result) ≡ true }
+    ensures low { result < to → from ≤ result }
+{
+    for at in from..to {
+        if host.is_waiting(ids[at]) {
+            return at;
+        }
+    }
+    to
+}
+
+/// The first that waits of the fields whose interpreters weren't interrupted.
+fn next_late<D: Disk>(host: &Host<D>, ids: &[u32], stand: Stand) -> Option<Late>
+    requires { stand.taken ≤ length ids.now }
+    ensures found { (w : World) → IsHost host.now w → IfSome result (λ late.
+        beside.IsFirstWaiting w ids.now stand late.place late.id) }
+    ensures none { (w : World) → IsHost host.now w → result ≡ None → beside.NoneWaits w ids.now stand }
+    ensures taken { IfSome result (λ late. late.place ≤ stand.taken) }
+{
+    let at = first_waiting(host, ids, stand.first, stand.taken);
+    if at < stand.taken {
+        Some(Late {
+            place: at + 1,
+            id: ids[at],
+        })
+    } else {
+        None
+    }
+}
+
+/// The field whose time is over first: the one that was asked last where none is known to wait.
+pub(crate) fn first_late<D: Disk>(host: &Host<D>, ids: &[u32], stand: Stand) -> Late
+    requires { stand.taken ≤ length ids.now }
+    ensures late { (w : World) → IsHost host.now w → beside.IsLate w ids.now stand result.place result.id }
+    ensures taken { result.place ≤ stand.taken }
+{
+    match next_late(host, ids, stand) {
+        Some(late) => late,
+        None => Late {
+            place: stand.taken,
+            id: stand.field,
+        },
+    }
+}
+
+/// The next field whose interpreter is interrupted after that of another one whose time was over.
+pub(crate) fn further_late<D: Disk>(host: &Host<D>, ids: &[u32], stand: Stand) -> Option<Late>
+    requires { stand.taken ≤ length ids.now }
+    ensures found { (w : World) → IsHost host.now w → IfSome result (λ late. (stand.warned ≡ true)
+        × beside.IsFirstWaiting w ids.now stand late.place late.id) }
+    ensures none { (w : World) → IsHost host.now w → result ≡ None
+        → stand.warned ≡ true → beside.NoneWaits w ids.now stand }
+    ensures taken { IfSome result (λ late. late.place ≤ stand.taken) }
+{
+    if stand.warned {
+        next_late(host, ids, stand)
+    } else {
+        None
+    }
+}
