@@ -111,6 +111,12 @@ class Imports(Case):
         self.assertEqual([line for line in lines if line.startswith("session prose")], ["session prose-3 plain true", "session prose plain sh x", "session prose-2 plain true"])
         self.assertEqual([line.split(" ")[2] for line in lines if line.startswith("new")], ["prose-3", "prose", "prose-2", "prose-2", "gp"])
 
+    def test_what_is_answered_is_no_prose(self) -> None:
+        """A session of that name may have an interpreter, whose words the document hasn't."""
+        answered = code("b", "prose", outputs=[{"output_type": "stream", "name": "stdout", "text": "1"}])
+        self.refused(notebook(code("a", "prose"), answered), "cell 2: no interpreter is known for its session: say --session 'prose=WORDS'", "--prose")
+        self.assertEqual(self.fields("```prose\na\n```\n\n*no answer*\n\n```prose\nb\n```\n\n```\n1\n```\n", form="markdown"), [("prose", "a")])
+
     def test_prose_is_not_split(self) -> None:
         self.assertEqual(self.fields(notebook(text("a\nb"), code("x\ny")), "--split"), [("prose", "a|b"), ("python3", "x"), ("python3", "y")])
 
