@@ -25,6 +25,7 @@ class Cell:
     is_optional: bool  # whether it is left out where there is no interpreter for it
     kind: str  # what it is called where it is left out
     is_prose: bool = False  # text between code: of the others only the place and the name of a session count
+    is_answered: bool = False  # by an interpreter, as prose never is
 
 
 @dataclasses.dataclass

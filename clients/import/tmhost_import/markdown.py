@@ -1,4 +1,5 @@
 """The fenced blocks of a CommonMark text, and the text between them."""
+import dataclasses
 import re
 
 from .cells import Cell, Document, Trouble, plain, prose_cell
@@ -102,8 +103,9 @@ class Reader:
             return
         self.take_text(fence.line)
         self.at = answers.get(fence.line, fence.end)
+        is_answered = fence.line in answers and not NO_ANSWER.fullmatch(self.lines[self.at - 1])
         if cell := cell_of(fence):
-            self.document.cells.append(cell)
+            self.document.cells.append(dataclasses.replace(cell, is_answered=is_answered))
 
     def read(self, fences: list[Fence]) -> None:
         answers = self.answers(fences)

@@ -152,7 +152,7 @@ def code_cell(cell: Object, place: str, kernel: Kernel) -> Cell:
     if own is None and kernel.name is None:
         raise Trouble(f"{place}: neither it nor the notebook names a kernel: give one by --kernel NAME")
     session, hints = (own, (own,)) if own else (kernel.name, kernel.hints)
-    return Cell(place, text, session, hints, False, "code cells")
+    return Cell(place, text, session, hints, False, "code cells", is_answered=bool(cell.get("outputs")))
 
 
 def markdown_cell(cell: Object, place: str, document: Document) -> Cell:

@@ -99,7 +99,7 @@ class Sessions:
         """What may evaluate a cell: names, each with its words, the surest first."""
         hints = (cell.session or "", *cell.hints)
         given = [(hint, self.given[hint]) for hint in hints if hint in self.given]
-        prosaic = [(hint, prose.WORDS) for hint in hints if self.has_prose and prose.is_prose(hint)]
+        prosaic = [(hint, prose.WORDS) for hint in hints if self.has_prose and not cell.is_answered and prose.is_prose(hint)]
         return given + prosaic + [(language, table_words(language)) for language in map(language_of, cell.hints) if language]
 
     def of_cell(self, cell: Cell) -> str | None:
