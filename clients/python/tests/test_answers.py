@@ -64,6 +64,25 @@ class Answers(Case):
         self.assertTrue(all(one.done() for one in evaluations))
         self.assert_exact(sheet)
 
+    def test_whose_turn_it_is(self) -> None:
+        sheet = self.sheet("a", "b")
+        first, second, other = sheet.new("a", "sleep 60"), sheet.new("a", "count"), sheet.new("b", "sleep 60")
+        sheet.new("a", "hello").evaluate(timeout=SECONDS)  # behind it a signal ends no interpreter
+        waits = [first.eval(), second.eval(), other.eval()]
+        self.until(lambda: other.turn == "running")
+        self.assertEqual([cell.turn for cell in sheet.cells], ["running", "queued", "running", None])
+        self.interrupt(waits[0])
+        self.assertEqual(waits[1].result(SECONDS).text, "3")
+        self.assertEqual([cell.turn for cell in sheet.cells], [None, None, "running", None])
+        words, number = self.busy()
+        sheet.session("c", words)
+        mute = sheet.new("c", "x")
+        mute.eval()
+        number()
+        self.assertEqual((mute.state, mute.turn), ("waiting", "queued"))  # it has no banner
+        sheet.stop("c")
+        self.assertEqual((mute.state, mute.turn), ("lost", None))
+
     def test_an_answer_that_is_asked_for_anew(self) -> None:
         sheet = self.sheet()
         cell = sheet.new("a", "count")

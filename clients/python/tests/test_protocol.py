@@ -171,6 +171,37 @@ class Objects(unittest.TestCase):
         talk.told({"life": 1, "line": 1, "type": "asked"})
         return talk, evaluation
 
+    def test_turns(self) -> None:
+        """A line runs from when it was sent: behind the banner of its interpreter, and behind the answers to those before it."""
+        talk, _ = self.asked()
+        mirror, waits = talk.protocol.mirror, commands.Eval(2, concurrent.futures.Future())
+        mirror.insert(Field(2, "a", "y"), 1)
+        mirror.insert(Field(3, "a", "z"), 2)
+        answer: Dict[str, Any] = {"life": 1, "output": BLOCK, "prompt": "", "session": "a", "shown": "", "type": "answered"}
+
+        def turns() -> List[Any]:
+            return [mirror.turn(id) for id in (1, 2, 3)]
+
+        self.assertEqual(turns(), ["queued", None, None])
+        talk.told(BANNER)
+        self.assertEqual(turns(), ["running", None, None])
+        talk.send(commands.Complete(3, 0, concurrent.futures.Future()))
+        talk.send(waits)
+        talk.told({"life": 1, "line": 2, "type": "asked"}, {"life": 1, "line": 3, "type": "asked"})
+        self.assertEqual(turns(), ["running", "queued", None])
+        talk.told({**answer, "id": 1})
+        self.assertEqual(turns(), [None, "queued", None])
+        talk.told({"id": 3, "life": 1, "session": "a", "told": None, "type": "completed"})
+        self.assertEqual(turns(), [None, "running", None])
+        talk.told({"life": 1, "lost": [{"id": 2, "text": "y"}], "reason": "Ended", "session": "a", "type": "ended"})
+        self.assertEqual(turns(), [None, None, None])
+        talk.send(commands.Eval(1, concurrent.futures.Future()))
+        look = {"id": 2, "input": "y", "reason": "Ended", "session": "a", "state": "lost"}
+        talk.told({"field": look, "line": 4, "type": "field"}, {"life": 2, "line": 5, "type": "asked"})
+        self.assertEqual(turns(), ["queued", None, None])
+        talk.told({**BANNER, "life": 2})
+        self.assertEqual(turns(), ["running", None, None])
+
     def test_deep_blocks(self) -> None:
         block: Any = {**BLOCK, "items": ["x"]}
         for _ in range(31):

@@ -14,7 +14,7 @@ from .errors import BadLine, Closed, Died, Gone, InUse, Lost, ProtocolError, Ref
 from .events import Answered, Banner, Completed, Default, Done, Ended, Event, Finished, OfLife, Stopped
 from .program import find_program
 from .protocol import Protocol
-from .values import Answer, Block, Completions, Field, LostItem, Session, Text, readable
+from .values import Answer, Block, Completions, Field, LostItem, Session, Text, Turn, readable
 
 __all__ = [
     "Answer",
@@ -54,6 +54,7 @@ __all__ = [
     "Text",
     "TimedOut",
     "TmhostError",
+    "Turn",
     "Worksheet",
     "check",
     "find_program",

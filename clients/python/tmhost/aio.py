@@ -16,7 +16,7 @@ from .connection import Moment
 from .errors import Closed, Refused, TimedOut, TmhostError
 from .program import Program, path_word, words_of_program
 from .tasks import AsyncConnection, AsyncListener, new_future, outcome
-from .values import Answer, Completions, Field, LostItem, Session
+from .values import Answer, Completions, Field, LostItem, Session, Turn
 
 AsyncCellLike = Union["AsyncCell", int]
 
@@ -164,6 +164,9 @@ class AsyncWorksheet:
     def next_id(self) -> int:
         """The number that the next new cell gets."""
         return self._connection.protocol.mirror.next_id
+
+    def _turn(self, id: int) -> Optional[Turn]:
+        return self._connection.protocol.mirror.turn(id)
 
     def _field(self, id: int) -> Field:
         return self._connection.protocol.mirror.field(id)

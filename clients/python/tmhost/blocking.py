@@ -20,7 +20,7 @@ from .commands import Command, R, input_of, matching, words_of
 from .connection import Connection, Listener, Moment, outcome
 from .errors import Closed, Refused, TimedOut, TmhostError
 from .program import Program, path_word, refuse_uncreated, words_of_program
-from .values import Answer, Completions, Field, LostItem, Session
+from .values import Answer, Completions, Field, LostItem, Session, Turn
 
 CellLike = Union["Cell", int]
 
@@ -175,6 +175,10 @@ class Worksheet:
     def _field(self, id: int) -> Field:
         with self._connection.lock:
             return self._connection.mirror.field(id)
+
+    def _turn(self, id: int) -> Optional[Turn]:
+        with self._connection.lock:
+            return self._connection.mirror.turn(id)
 
     def _evaluation(self, id: int) -> Optional[Evaluation]:
         with self._connection.lock:

@@ -4,7 +4,7 @@ import operator
 from typing import Any, List, Optional, SupportsIndex, Union
 
 from .errors import Gone
-from .values import Answer, Block, Field, Text
+from .values import Answer, Block, Field, Text, Turn
 
 
 class CellView:
@@ -55,6 +55,13 @@ class CellView:
     def state(self) -> str:
         """ "empty", "waiting", "answered" or "lost"."""
         return self.field.state
+
+    @property
+    def turn(self) -> Optional[Turn]:
+        """Of a cell that waits "running" where its interpreter works on its line, and "queued" where that isn't sent yet; else None. It changes
+        with an event alone. (A line that can't be sent counts as running until `Ended` says so, which comes at once.)"""
+        found: Optional[Turn] = self._worksheet._turn(self.id)
+        return found
 
     @property
     def answer(self) -> Optional[Answer]:

@@ -8,7 +8,7 @@ from typing import Any, Deque, Dict, List, NoReturn, Optional, Tuple, TypeVar
 from .errors import Gone, ProtocolError
 from .events import Answered, Completed
 from .reading import Sheet
-from .values import Field, LostItem, Session
+from .values import Field, LostItem, Session, Turn
 
 Result = TypeVar("Result", contravariant=True)
 
@@ -44,6 +44,8 @@ class Mirror:
         self._fields: Dict[int, Field] = {}
         # A session answers its items in the order in which they were asked, so what it answers is the first of its row.
         self._rows: Dict[str, Deque[Item]] = collections.defaultdict(collections.deque)
+        # The life of each session whose banner has come: it is sent the first of its row, and the next one when that is answered.
+        self._greeted: Dict[str, int] = {}
 
     def field(self, id: int) -> Field:
         if id not in self._fields:
@@ -57,6 +59,14 @@ class Mirror:
         """Who waits for the answer to a cell's line."""
         rows = [self._rows[self._fields[id].session]] if id in self._fields else []
         return next((item.waiter for row in rows for item in row if item.id == id and item.cursor is None), None)
+
+    def turn(self, id: int) -> Optional[Turn]:
+        """Whether the interpreter of a cell works on its line, or others come first."""
+        session = self.sessions[self.field(id).session]
+        lines = [item.id if item.cursor is None else None for item in self._rows[session.name]]
+        if id not in lines:
+            return None
+        return "running" if lines[0] == id and self._greeted.get(session.name) == session.life else "queued"
 
     # ---- what commands do
 
@@ -120,6 +130,10 @@ class Mirror:
         self.next_id = sheet.next
 
     # ---- what comes of interpreters
+
+    def greeted(self, session: str, life: int) -> None:
+        """An interpreter is ready, and has the first of its row."""
+        self._greeted[session] = life
 
     def answered(self, told: Answered) -> Item:
         old = self._old(told.id)

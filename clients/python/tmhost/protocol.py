@@ -8,7 +8,7 @@ from typing import Any, Callable, Deque, List, Optional, Tuple
 
 from .commands import AnyCommand, Command, Look, R, bytes_of
 from .errors import BadLine, Closed, Died, InUse, Lost, ProtocolError, Refused, TmhostError
-from .events import Answered, Completed, Done, Ended, Event, Finished, Stopped
+from .events import Answered, Banner, Completed, Done, Ended, Event, Finished, Stopped
 from .mirror import Mirror, Settles, out_of_step
 from .program import fault_in
 from .reading import End, Fault, Hello, OneField, Refusal, Reply, StopReply, Told, read
@@ -155,6 +155,8 @@ class Protocol:
             taken.give(self.mirror.answered(event).waiter, event.answer)
         elif isinstance(event, Completed):
             taken.give(self.mirror.completed(event).waiter, event.completions)
+        elif isinstance(event, Banner):
+            self.mirror.greeted(event.session, event.life)
         elif isinstance(event, Ended):
             self._lose(event.session, event.reason, event.lost, taken)
         taken.events.append(event)

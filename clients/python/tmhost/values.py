@@ -1,10 +1,13 @@
 """What a worksheet has: frozen values, which any thread may read."""
 
 import dataclasses
-from typing import List, Optional, Tuple, Union
+from typing import List, Literal, Optional, Tuple, Union
 
 Text = Union[str, bytes]
 """Text of an interpreter: str where its bytes are UTF-8, else the bytes."""
+
+Turn = Literal["running", "queued"]
+"""Of a cell that waits: whether its line was sent to the interpreter, which works on it, or the banner or others before it come first."""
 
 LINE_END = "\u2028"
 """Stands in an input for the end of a line, since an input is one line."""

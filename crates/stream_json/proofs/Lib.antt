@@ -1,0 +1,2 @@
+pub mod OnLines
+pub mod Written

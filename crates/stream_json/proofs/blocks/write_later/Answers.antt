@@ -1,0 +1,48 @@
+use Rattle.std.proofs.Common.{◌∷◌, ◌++◌, []}
+use Rattle.std.proofs.KnownBytes.{Appends-nil}
+use Rattle.meta_format.specs.Limits.{limits}
+use Rattle.meta_format.specs.Stream.{Outer}
+use Rattle.meta_format.specs.Faults.{bad_tag, too_deep, too_long}
+use Rattle.stream_json.proofs.Written.{nothing_read, object_more, end_written, open_written, fault_written}
+use Rattle.stream_json.proofs.blocks.write_later.Goals as goal
+
+pub loop-start-init : goal.loop-start-init
+loop-start-init g c = ([], nothing_read limits c.args.stream.now, Appends-nil (g.W.Write.contents c.args.out.now))
+
+pub write_outer-requires : goal.write_outer-requires
+write_outer-requires g c =
+    let so = c.loop-start.invariant in
+    let next = c.in-Outer.ensures.next so.0 so.1 in
+    (next.0, next.2.spelled)
+
+pub loop-start-preserved : goal.loop-start-preserved
+loop-start-preserved g c =
+    let so = c.loop-start.invariant in
+    let next = c.in-Outer.ensures.next so.0 so.1 in
+    let one : Outer = record { start = c.in-Outer.start; stop = c.in-Outer.stop; block = next.0 } in
+    (so.0 ++ one ∷ [], next.1, object_more so.0 one _ _ _ so.2 (c.in_ok-write_outer-in-Outer.ensures.ok next.0 next.2.spelled))
+
+pub returns-in-Open-clause-printed : goal.returns-in-Open-clause-printed
+returns-in-Open-clause-printed g c =
+    let so = c.loop-start.invariant in
+    open_written limits c.args.stream.now so.0 c.in-Open.start _ _ _ (c.in-Open.ensures.next so.0 so.1) so.2 c.in_ok-write_unfinished-in-Open.ensures.ok
+
+pub returns-in-End-clause-printed : goal.returns-in-End-clause-printed
+returns-in-End-clause-printed g c =
+    let so = c.loop-start.invariant in
+    end_written limits c.args.stream.now so.0 _ _ _ (c.in-End.ensures.next so.0 so.1) so.2 c.in_ok-write_end-in-End.ensures.ok
+
+pub returns-in-BadTag-clause-printed : goal.returns-in-BadTag-clause-printed
+returns-in-BadTag-clause-printed g c =
+    let so = c.loop-start.invariant in
+    fault_written limits c.args.stream.now c.in-BadTag.offset bad_tag so.0 _ _ _ (c.in-BadTag.ensures.next so.0 so.1) so.2 c.in_ok-write_fault-in-BadTag.ensures.ok
+
+pub returns-in-TooDeep-clause-printed : goal.returns-in-TooDeep-clause-printed
+returns-in-TooDeep-clause-printed g c =
+    let so = c.loop-start.invariant in
+    fault_written limits c.args.stream.now c.in-TooDeep.offset too_deep so.0 _ _ _ (c.in-TooDeep.ensures.next so.0 so.1) so.2 c.in_ok-write_fault-in-TooDeep.ensures.ok
+
+pub returns-in-TooLong-clause-printed : goal.returns-in-TooLong-clause-printed
+returns-in-TooLong-clause-printed g c =
+    let so = c.loop-start.invariant in
+    fault_written limits c.args.stream.now c.in-TooLong.offset too_long so.0 _ _ _ (c.in-TooLong.ensures.next so.0 so.1) so.2 c.in_ok-write_fault-in-TooLong.ensures.ok

@@ -1,0 +1,127 @@
+//! The objects of a stream.
+ghost use Rattle.std.specs.Prelude.{◌≡◌, IfOk, codes};
+ghost use Rattle.block_tree.specs.Output.{output, text_on_channel};
+ghost use Rattle.sheet_json.specs.Blocks.{tree_data};
+ghost use Rattle.serde_json.specs.View.{view};
+ghost use Rattle.sheet_json.specs.Objects.{shown_data};
+ghost use Rattle.sheet_text.specs.Blocks as printed;
+ghost use Rattle.stream_json.specs.StreamObjects.{channel_data, outer_data, outer_with, unfinished_data};
+
+use block_tree::{Block, channel_text, output_of};
+use serde_json::{Value, json};
+use sheet_json::{block_value, bytes_value};
+use sheet_text::block_text;
+use std::alloc::{AllocError, Global};
+
+/// The text of a channel, or that a block has no such channel.
+fn channel_value(alloc: Global, block: &Block, name: &[u8]) -> Result<Value, AllocError>
+    ensures { IfOk result (λ value. view value ≡ channel_data (text_on_channel name.now block.now)) }
+{
+    match channel_text(alloc, block, name)? {
+        None => Ok(Value::Null),
+        Some(text) => bytes_value(alloc, text.as_slice()),
+    }
+}
+
+/// An output as a worksheet shows it.
+fn shown_bytes(alloc: Global, output: &Block) -> Result<Vec<u8>, AllocError>
+    ensures { IfOk result (λ bytes. bytes.items ≡ printed.block_text output.now) }
+{
+    let mut bytes = Vec::new(alloc);
+    match block_text(output, &mut bytes) {
+        Ok(()) => Ok(bytes),
+        Err(_) => Err(AllocError),
+    }
+}
+
+/// The same, as JSON.
+fn shown_value(alloc: Global, output: &Block) -> Result<Value, AllocError>
+    ensures { IfOk result (λ value. view value ≡ shown_data output.now) }
+{
+    let bytes = shown_bytes(alloc, output)?;
+    bytes_value(alloc, bytes.as_slice())
+}
+
+/// What a host takes of an outer block as an answer.
+#[derive(Drop)]
+struct Taken {
+    default: Value,
+    output: Value,
+    prompt: Value,
+    shown: Value,
+}
+
+/// The same, of a block.
+fn taken_of(alloc: Global, block: &Block) -> Result<Taken, AllocError>
+    ensures default { IfOk result (λ taken. view taken.default
+        ≡ channel_data (text_on_channel (codes "input") block.now)) }
+    ensures output { IfOk result (λ taken. view taken.output ≡ tree_data (output block.now)) }
+    ensures prompt { IfOk result (λ taken. view taken.prompt
+        ≡ channel_data (text_on_channel (codes "prompt") block.now)) }
+    ensures shown { IfOk result (λ taken. view taken.shown ≡ shown_data (output block.now)) }
+{
+    let output = output_of(alloc, block)?;
+    let shown = shown_value(alloc, &output)?;
+    let output = block_value(alloc, &output)?;
+    let default = channel_value(alloc, block, b"input")?;
+    let prompt = channel_value(alloc, block, b"prompt")?;
+    Ok(Taken {
+        default,
+        output,
+        prompt,
+        shown,
+    })
+}
+
+/// A block with its offsets, and with what a host takes of it.
+fn framed(
+    alloc: Global,
+    start: usize,
+    stop: usize,
+    block: &Block,
+    taken: Taken,
+) -> Result<Value, AllocError>
+    ensures { IfOk result (λ value. view value
+        ≡ outer_with record { start = start; stop = stop; block = block.now }
+        (view taken.default) (view taken.output) (view taken.prompt) (view taken.shown)) }
+{
+    let whole = block_value(alloc, block)?;
+    let Taken {
+        default,
+        output,
+        prompt,
+        shown,
+    } = taken;
+    json!(in alloc; {
+        "block": whole,
+        "default": default,
+        "output": output,
+        "prompt": prompt,
+        "shown": shown,
+        "start": start as u64,
+        "stop": stop as u64,
+        "type": "block"
+    })
+}
+
+/// An outer block: where it starts, where the next byte stands, and the block with all its tags; and what a
+/// host takes of it as an answer.
+pub fn outer_value(
+    alloc: Global,
+    start: usize,
+    stop: usize,
+    block: &Block,
+) -> Result<Value, AllocError>
+    ensures { IfOk result (λ value. view value
+        ≡ outer_data record { start = start; stop = stop; block = block.now }) }
+{
+    let taken = taken_of(alloc, block)?;
+    framed(alloc, start, stop, block, taken)
+}
+
+/// An outer block that is open at the end of the stream.
+pub fn unfinished_value(alloc: Global, start: usize) -> Result<Value, AllocError>
+    ensures { IfOk result (λ value. view value ≡ unfinished_data start) }
+{
+    json!(in alloc; {"start": start as u64, "type": "unfinished"})
+}
