@@ -53,6 +53,7 @@ eval_view words = record {
 -- a task as contracts see it: a path is its bytes
 pub data TaskView : Type 0 where
   blocks : TaskView
+  blocks_json : TaskView
   create : Text → TaskView
   run : Text → TaskView
   run_strictly : Text → TaskView
@@ -67,6 +68,7 @@ pub data TaskView : Type 0 where
 
 abbrev pub task_view : Task → TaskView
 task_view task.Blocks = blocks
+task_view task.BlocksJson = blocks_json
 task_view (task.Create path) = create path.now
 task_view (task.Run path) = run path.now
 task_view (task.RunStrictly path) = run_strictly path.now
@@ -95,6 +97,9 @@ with_strict name = with_rule (with_path name) strict_rule
 
 abbrev pub json_rule : Rule
 json_rule = record (new_rule (codes "json")) { long = Some (codes "json"); action = Some SetTrue }
+
+abbrev pub with_stream : Text → App
+with_stream name = with_rule (new_app name) json_rule
 
 abbrev pub with_json : Text → App
 with_json name = with_rule (with_path name) json_rule
@@ -188,10 +193,10 @@ help_alone name =
 abbrev pub bare_tmhost : App
 bare_tmhost = let a = new_app (codes "tmhost") in record a { top = record a.top { has_version = true } }
 
--- the command line of `tmhost`: subcommands, six of them with a path, `run`, `live` and `show` with flags beside it, `eval` with flags, options and numbers, `check` with options, one with two, and one with a format and a path
+-- the command line of `tmhost`: subcommands, six of them with a path, `run`, `live` and `show` with flags beside it, `blocks` with a flag alone, `eval` with flags, options and numbers, `check` with options, one with two, and one with a format and a path
 abbrev pub tmhost : App
 tmhost = with_subcommand (with_subcommand (with_subcommand (with_subcommand (with_subcommand (with_subcommand (with_subcommand (with_subcommand (with_subcommand
-    (with_subcommand bare_tmhost (new_app (codes "blocks")).top)
+    (with_subcommand bare_tmhost (with_stream (codes "blocks")).top)
     (with_path (codes "create")).top) (with_strict (codes "run")).top) (with_json (codes "live")).top) (with_eval (codes "eval")).top)
     (with_json (codes "show")).top) (with_check (codes "check")).top) (with_paths (codes "rescue")).top) (with_format_and_path (codes "export")).top) (help_alone (codes "faults")).top
 
@@ -240,6 +245,10 @@ eval_in rows = record {
 abbrev pub flags_in : List Row → FlagsView
 flags_in rows = record { strict = is_set (first_of (codes "strict") rows); json = is_set (first_of (codes "json") rows); eval = eval_in rows; check = check_in rows }
 
+abbrev pub blocks_by : Bool → TaskView
+blocks_by true = blocks_json
+blocks_by false = blocks
+
 abbrev pub run_by : Bool → Text → TaskView
 run_by true path = run_strictly path
 run_by false path = run path
@@ -267,10 +276,10 @@ by_words name path None None flags = by_path name path flags
 by_words name path None (Some format) flags = if bytes_eq name (codes "export") then export format path else blocks
 by_words name path (Some new) format flags = if bytes_eq name (codes "rescue") then rescue path new else blocks
 
--- The task of a subcommand with its words; `blocks` has none. Where another has none, `clap` refuses
+-- The task of a subcommand with its words; `blocks` has no path. Where another has none, `clap` refuses
 -- the words.
 abbrev pub by_paths : Text → Option Text → Option Text → Option Text → FlagsView → TaskView
-by_paths name None new format flags = blocks
+by_paths name None new format flags = blocks_by flags.json
 by_paths name (Some path) new format flags = by_words name path new format flags
 
 -- the task of a subcommand, and `blocks` where there is none

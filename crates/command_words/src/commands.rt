@@ -20,6 +20,19 @@ fn plain<'a>(alloc: Global, row: Row) -> Command<'a>
         .after_help(row.notes)
 }
 
+/// A subcommand with a flag that has it write JSON.
+fn with_stream<'a>(alloc: Global, row: Row) -> Result<Command<'a>, AllocError>
+    ensures made { IfOk result (λ command. app_of command ≡ asked.with_stream row.name.now) }
+    ensures local { IfOk result (λ command. (fields_of command).has_globals ≡ false) }
+{
+    plain(alloc, row).arg(
+        Arg::new(alloc, "json")
+            .long("json")
+            .help("Write lines of JSON, which programs read")
+            .action(ArgAction::SetTrue),
+    )
+}
+
 /// A subcommand with a path.
 fn with_path<'a>(alloc: Global, row: Row) -> Result<Command<'a>, AllocError>
     ensures made { IfOk result (λ command. app_of command ≡ asked.with_path row.name.now) }
@@ -265,7 +278,7 @@ fn command_of<'a>(alloc: Global, row: Row) -> Result<Command<'a>, AllocError>
     ensures local { IfOk result (λ command. (fields_of command).has_globals ≡ false) }
 {
     match row.shape {
-        Shape::Bare => Ok(plain(alloc, row)),
+        Shape::Stream => with_stream(alloc, row),
         Shape::Path => with_path(alloc, row),
         Shape::Strict => with_strict(alloc, row),
         Shape::Json => with_json(alloc, row),

@@ -5,8 +5,8 @@ ghost use Rattle.command_words.specs.inside.Rows.{IsRow};
 /// Which words a subcommand has.
 #[derive(Clone, Copy, Debug, PartialEq, Eq)]
 pub(crate) enum Shape {
-    /// None.
-    Bare,
+    /// The flag `--json`.
+    Stream,
     /// PATH.
     Path,
     /// PATH, and the flag `--strict`.
@@ -48,7 +48,8 @@ Example: tmhost create sheet.tm && tmhost run sheet.tm <script.txt";
 
 const BLOCKS_NOTES: &str =
     "A line is the offset of the block's first byte, the offset after its last one,\n\
-and the block with its tags.\n\n\
+and the block with its tags. With --json each line is one object, which programs\n\
+read (docs/JSON.md).\n\n\
 Status: 0 where the stream is whole; 1 where it has a fault or an open block, or\n\
 at a fault of the program; 2 where the words are refused.\n\n\
 Example: printf '\\002verbatim:Hi\\005' | tmhost blocks";
@@ -226,7 +227,7 @@ pub(crate) fn row_at(at: usize) -> Row
     match at {
         0 => listed(
             "blocks",
-            Shape::Bare,
+            Shape::Stream,
             "Write the blocks of the stream on standard input, a line each",
             BLOCKS_NOTES,
         ),

@@ -1,6 +1,6 @@
 //! The words of a command line.
-ghost use Rattle.std.specs.Prelude.{◌≡◌, [], IfOk, None, Option, Some, map, option_map, string_bytes, unwrap_or};
-ghost use Rattle.clap.specs.Words.{FailsBy, Text, fault_of, found_of, rows_of, subcommand_rows_of};
+ghost use Rattle.std.specs.Prelude.{◌≡◌, [], IfOk, None, Option, Some, codes, map, option_map, string_bytes, unwrap_or};
+ghost use Rattle.clap.specs.Words.{FailsBy, Text, fault_of, first_of, found_of, rows_of, subcommand_rows_of};
 ghost use Rattle.command_words.specs.Asked.{FlagsView, asked_by, by_subcommand, by_words, check_in, check_view, eval_in, eval_view, flags_in, flags_view, ids_in, tmhost, task_view};
 ghost use Rattle.command_words.specs.Asked as asked;
 
@@ -30,6 +30,8 @@ pub struct CheckWords<'a> {
 pub enum Task<'a> {
     /// Write the blocks of the stream that comes in on standard input.
     Blocks,
+    /// The same, and write lines of JSON.
+    BlocksJson,
     /// Make an empty worksheet at the path.
     Create(&'a str),
     /// Run the script that comes in on standard input over the worksheet at the path.
@@ -91,6 +93,13 @@ fn is_set(value: Option<&str>) -> bool
         Some(text) => text == "true",
         None => false,
     }
+}
+
+/// The task of `blocks`.
+fn task_of_blocks<'a>(json: bool) -> Task<'a>
+    ensures { task_view result ≡ asked.blocks_by json }
+{
+    if json { Task::BlocksJson } else { Task::Blocks }
 }
 
 /// The task of `run`.
@@ -177,6 +186,13 @@ fn check_words<'a>(matches: &ArgMatches<'a>) -> CheckWords<'a>
     }
 }
 
+/// Whether JSON is asked for, by the matches of a subcommand.
+fn asks_for_json(matches: &ArgMatches<'_>) -> bool
+    ensures { result ≡ asked.is_set (first_of (codes "json") (rows_of (found_of matches.now))) }
+{
+    is_set(matches.get_str("json"))
+}
+
 /// A copy of these words, where there are any.
 fn copied<'a>(alloc: Global, words: Option<&[&'a str]>) -> Result<Vec<&'a str>, AllocError>
     ensures { IfOk result (λ copy. map (λ text. text.now) copy.items
@@ -233,7 +249,7 @@ fn task_of<'a>(alloc: Global, matches: &ArgMatches<'a>) -> Result<Task<'a>, Allo
         return Ok(Task::Blocks);
     };
     let Some(path) = inner.get_str("PATH") else {
-        return Ok(Task::Blocks);
+        return Ok(task_of_blocks(asks_for_json(inner)));
     };
     if let Some(new) = inner.get_str("NEW") {
         return Ok(task_with_paths(name, path, new));

@@ -30,6 +30,7 @@ use Rattle.offline_programs.specs.declared.fault.RunFault.TheVariants as fault
 use Rattle.program_endings.specs.AcceptProgram.{AcceptEnds}
 use Rattle.program_endings.specs.CheckProgram.{CheckEnds}
 use Rattle.program_endings.specs.Ending.{BlocksAnswer, ProgramAnswer, TellsFault, status_of}
+use Rattle.program_endings.specs.BlocksProgram.{ObjectsAnswer}
 use Rattle.program_endings.specs.EvalProgram.{EvaluationEnded}
 use Rattle.program_endings.specs.ExportProgram.{ExportEnds}
 use Rattle.program_endings.specs.Faults.{no_files, no_place}
@@ -81,6 +82,7 @@ module _ {Y D P S I W E Q : Type 0} where
   -- What a task isn't given stays as it was.
   abbrev pub LeavesAlone : Outside Y D P S I W E Q → Outside Y D P S I W E Q → TaskView → Type 0
   LeavesAlone old new asked.blocks = (new.places ≡ old.places) × (new.sources ≡ old.sources) × (new.progress ≡ old.progress)
+  LeavesAlone old new asked.blocks_json = (new.places ≡ old.places) × (new.sources ≡ old.sources) × (new.progress ≡ old.progress)
   LeavesAlone old new (asked.create path) = (new.sources ≡ old.sources) × (new.input ≡ old.input) × (new.output ≡ old.output) × (new.progress ≡ old.progress)
   LeavesAlone old new (asked.run path) = new.progress ≡ old.progress
   LeavesAlone old new (asked.run_strictly path) = new.progress ≡ old.progress
@@ -110,6 +112,11 @@ module _ {Y D P S I W E Q : Type 0} (o : OutsideView D P S I W E) where
   -- `blocks`
   abbrev pub DoesBlocks : Outside Y D P S I W E Q → Outside Y D P S I W E Q → Ending → Type 0
   DoesBlocks old new ending = (answer : ProgramAnswer) × BlocksAnswer (o.stream old.input) o.written old.output new.output answer × EndsWith old new ending answer
+
+  -- `blocks --json`, which has a fault of its own last
+  abbrev pub DoesBlocksInJson : Outside Y D P S I W E Q → Outside Y D P S I W E Q → Ending → Type 0
+  DoesBlocksInJson old new ending = (answer : ProgramAnswer) × (mid : W) × ObjectsAnswer (o.stream old.input) o.written old.output mid answer
+      × LastTold in_json o.written mid new.output ending.told answer × EndsWith old new ending answer
 
   -- `create` of what the places make at a path, or of why they don't
   abbrev pub DoesCreate : Outside Y D P S I W E Q → Outside Y D P S I W E Q → Ending → Text → Type 0
@@ -259,6 +266,7 @@ module _ {Y D P S I W E Q : Type 0} (o : OutsideView D P S I W E) where
   -- what is done, by the task
   abbrev pub DoesTask : Outside Y D P S I W E Q → Outside Y D P S I W E Q → Ending → TaskView → Type 0
   DoesTask old new ending asked.blocks = DoesBlocks old new ending
+  DoesTask old new ending asked.blocks_json = DoesBlocksInJson old new ending
   DoesTask old new ending (asked.create path) = DoesCreate old new ending path
   DoesTask old new ending (asked.run path) = DoesRun false old new ending path
   DoesTask old new ending (asked.run_strictly path) = DoesRun true old new ending path

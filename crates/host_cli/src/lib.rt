@@ -8,6 +8,7 @@ mod outlet;
 mod outside;
 mod plans;
 mod refusing;
+mod streams;
 mod tasks;
 
 pub use outlet::Outlet;

@@ -2,7 +2,7 @@
 ghost use Rattle.std.specs.Prelude.{◌≡◌, ◌≢◌, [], List, Err, false, map, option_map, string_bytes, true};
 ghost use Rattle.command_words.specs.Asked.{eval_view, task_view};
 ghost use Rattle.command_words.specs.Asked as asked;
-ghost use Rattle.host_cli.specs.Tasks.{BringsOut, DoesAsked, DoesBlocks, DoesCreate, DoesEval, DoesExport, DoesLive, DoesRescue, DoesRun, DoesShow, DoesTask, EndsBy, EvaluatesAs, ExportsAs, LeavesAlone, Performs, RescuesFrom, RescuesTo, outer, voice_by};
+ghost use Rattle.host_cli.specs.Tasks.{BringsOut, DoesAsked, DoesCreate, DoesEval, DoesExport, DoesLive, DoesRescue, DoesRun, DoesShow, DoesTask, EndsBy, EvaluatesAs, ExportsAs, LeavesAlone, Performs, RescuesFrom, RescuesTo, outer, voice_by};
 ghost use Rattle.program_endings.specs.Ending.{TellsFault};
 ghost use Rattle.offline_programs.specs.declared.fault.RunFault.TheVariants as fault;
 ghost use Rattle.recovery.specs.Sheets.{Makes};
@@ -15,13 +15,14 @@ use crate::outlet::Outlet;
 use crate::outside::{Outside, System};
 use crate::plans::read_plan;
 use crate::refusing::{refuse_format, refuse_plan};
+use crate::streams::{blocks, blocks_in_json};
 use crate::{refuse_unread_words, refuse_words};
 use command_words::{EvalWords, Task, read_words};
 use evaluation::Plan;
 use offline_programs::RunFault;
 use program_endings::{
-    Ending, end_program, end_unheld, read_rescued, run_blocks, run_create, run_evaluation,
-    run_export, run_live, run_rescue, run_script, run_show, run_strictly,
+    Ending, end_program, end_unheld, read_rescued, run_create, run_evaluation, run_export,
+    run_live, run_rescue, run_script, run_show, run_strictly,
 };
 use recovery::Rescued;
 use sheet_export::{Format, format_named, last_part};
@@ -30,20 +31,6 @@ use std::alloc::Global;
 use std::io;
 use std::io::Write;
 use tellings::{InJson, InWords, Tells};
-
-/// `blocks`.
-fn blocks<Y: System>(alloc: Global, outside: &mut Outside<Y>) -> Ending
-    ensures does { DoesBlocks (outer Y.Places.Places Y.Disk.Disk Y.Disk.closed Y.Sources.after
-        Y.Sources.clock Y.Sources.wakes Y.Input.Read Y.Output.Write Y.Output.brought Y.Errors.Write) outside.old outside.new result }
-    ensures leaves { LeavesAlone outside.old outside.new asked.blocks }
-{
-    run_blocks(
-        alloc,
-        &mut outside.input,
-        &mut outside.output,
-        &mut outside.errors,
-    )
-}
 
 /// `create` at a path.
 fn create_at<Y: System>(outside: &mut Outside<Y>, path: &str) -> Ending
@@ -319,6 +306,7 @@ pub fn do_task<Y: System>(alloc: Global, task: Task<'_>, outside: &mut Outside<Y
 {
     match task {
         Task::Blocks => blocks(alloc, outside),
+        Task::BlocksJson => blocks_in_json(alloc, outside),
         Task::Create(path) => create_at(outside, path),
         Task::Run(path) => run_at(alloc, outside, path),
         Task::RunStrictly(path) => run_strictly_at(alloc, outside, path),

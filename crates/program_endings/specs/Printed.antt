@@ -1,11 +1,12 @@
 -- What `blocks` writes of a stream: a line for each outer block, and one for its fault or its open tail.
-use Rattle.std.specs.Prelude.{◌≡◌, ◌+◌, ◌<◌, ℕ, Bool, true, false, List, [], ◌∷◌, ◌++◌, length, codes}
+use Rattle.std.specs.Prelude.{◌≡◌, ℕ, Bool, List, [], ◌∷◌, ◌++◌, codes}
 use Rattle.std.specs.List.{flat_map}
 use Rattle.std.specs.Fmt.{decimal}
 use Rattle.meta_format.specs.Limits.{Limits}
-use Rattle.meta_format.specs.Stream.{Outer, Stream}
-use Rattle.meta_format.specs.Faults.{Kind, bad_tag, too_deep, too_long, FirstFault, IsSound}
+use Rattle.meta_format.specs.Stream.{Outer}
+use Rattle.meta_format.specs.Faults.{Kind, bad_tag, too_deep, too_long}
 use Rattle.sheet_text.specs.Blocks.{tree_text}
+use Rattle.stream_json.specs.Streams.{StreamEnd, StreamHas, broken, inside, is_whole, outside}
 
 -- 'START STOP', a space, the block with its tags
 abbrev pub outer_line : Outer → List ℕ
@@ -32,14 +33,16 @@ fault_line kind offset = named_fault_line (kind_text kind) offset
 abbrev pub unfinished_line : ℕ → List ℕ
 unfinished_line start = codes "unfinished " ++ decimal start ++ 10 ∷ []
 
+-- what stands after the lines of the blocks
+abbrev pub end_line : StreamEnd → List ℕ
+end_line outside = []
+end_line (inside start) = unfinished_line start
+end_line (broken kind offset) = fault_line kind offset
+
 -- The text of the stream, and whether the stream is whole: it has no fault, and no outer block is open at its end.
-pub data Printed (most : Limits) (stream text : List ℕ) : Bool → Type 0 where
-  whole : (blocks : List Outer) → IsSound most stream → Stream most stream blocks []
-      → text ≡ outer_lines blocks → Printed most stream text true
-  unfinished : (blocks : List Outer) (tail : List ℕ) (start : ℕ) → IsSound most stream → Stream most stream blocks tail
-      → 0 < length tail → start + length tail ≡ length stream
-      → text ≡ outer_lines blocks ++ unfinished_line start → Printed most stream text false
-  -- the blocks are those before the fault
-  faulty : (blocks : List Outer) (kind : Kind) (offset : ℕ) (front rest tail : List ℕ) → FirstFault most stream offset kind
-      → stream ≡ front ++ rest → offset ≡ length front → Stream most front blocks tail
-      → text ≡ outer_lines blocks ++ fault_line kind offset → Printed most stream text false
+pub record Printed (most : Limits) (stream text : List ℕ) (is : Bool) : Type 0 where
+  pub blocks : List Outer
+  pub end : StreamEnd
+  pub has : StreamHas most stream blocks end
+  pub written : text ≡ outer_lines blocks ++ end_line end
+  pub whole : is ≡ is_whole end

@@ -5,6 +5,7 @@
 
 mod accept_program;
 mod block_lines;
+mod blocks_program;
 mod check_program;
 mod ending;
 mod eval_program;
@@ -17,6 +18,7 @@ mod telling;
 
 pub use accept_program::run_accept;
 pub use block_lines::blocks;
+pub use blocks_program::run_block_objects;
 pub use check_program::run_check;
 pub use ending::{Ending, end_program, run_blocks};
 pub use eval_program::run_evaluation;

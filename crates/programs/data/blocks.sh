@@ -63,4 +63,56 @@ compare 'blocks over a full output and full errors' "$?" 1
 "$tmhost" blocks </ >text 2>errors
 compare 'an input that is a folder' "$? $(wc -c <text) $(cat errors)" '1 0 fault 40 Input'
 
+# The same as lines of JSON: NAME INPUT STATUS, where the lines between the first and the last are the input here. Where the first fault is
+# one of the stream, it is the last object.
+hello='{"format":1,"program":"tmhost","protocol":2,"type":"hello","version":"0.1.0"}'
+objects() {
+    cat >wanted
+    printf "$2" >given
+    compare "$1 as JSON" "$(answer blocks --json <given)" "$(echo "$hello"; cat wanted; echo "status $3")"
+}
+objects 'noise' 'noise\n' 0 <<'END_OF_JSON'
+{"type":"end"}
+END_OF_JSON
+objects 'noise and a block' 'noise\002verbatim:Hi there!\005\n' 0 <<'END_OF_JSON'
+{"block":{"items":["Hi there!"],"kind":"format","tag":"verbatim"},"default":null,"output":{"items":["Hi there!"],"kind":"format","tag":"verbatim"},"prompt":null,"shown":"Hi there!","start":5,"stop":25,"type":"block"}
+{"type":"end"}
+END_OF_JSON
+objects 'two prompts, a default input, and a block without a text' '\002verbatim:4\002prompt#In 1] \005\002latex:x\002prompt#In 2] \005\005\002input#y\005\005\n\002a#\005' 0 <<'END_OF_JSON'
+{"block":{"items":["4",{"items":["In 1] "],"kind":"channel","tag":"prompt"},{"items":["x",{"items":["In 2] "],"kind":"channel","tag":"prompt"}],"kind":"format","tag":"latex"},{"items":["y"],"kind":"channel","tag":"input"}],"kind":"format","tag":"verbatim"},"default":"y","output":{"items":["4",{"items":["x"],"kind":"format","tag":"latex"}],"kind":"format","tag":"verbatim"},"prompt":"In 2] ","shown":"4{latex:x}","start":0,"stop":60,"type":"block"}
+{"block":{"items":[],"kind":"channel","tag":"a"},"default":null,"output":{"items":[],"kind":"channel","tag":"a"},"prompt":null,"shown":"{a#}","start":61,"stop":65,"type":"block"}
+{"type":"end"}
+END_OF_JSON
+objects 'a prompt alone' '\002prompt#a\005' 0 <<'END_OF_JSON'
+{"block":{"items":["a"],"kind":"channel","tag":"prompt"},"default":null,"output":{"items":[],"kind":"format","tag":"verbatim"},"prompt":"a","shown":"","start":0,"stop":10,"type":"block"}
+{"type":"end"}
+END_OF_JSON
+# JSON has the byte 127 as it is, and what isn't UTF-8 as base64.
+objects 'bytes of all kinds' '\002verbatim:{"type":"end"}\n\001\033\002\033\177\\\005\002verbatim:caf\351\002prompt#\377\005\005' 0 <<'END_OF_JSON'
+{"block":{"items":["{\"type\":\"end\"}\n\u0001\u0002\u001b\\"],"kind":"format","tag":"verbatim"},"default":null,"output":{"items":["{\"type\":\"end\"}\n\u0001\u0002\u001b\\"],"kind":"format","tag":"verbatim"},"prompt":null,"shown":"{\"type\":\"end\"}\n\\x01\\x02\\x1b\\x7f\\","start":0,"stop":32,"type":"block"}
+{"block":{"items":[{"base64":"Y2Fm6Q=="},{"items":[{"base64":"/w=="}],"kind":"channel","tag":"prompt"}],"kind":"format","tag":"verbatim"},"default":null,"output":{"items":[{"base64":"Y2Fm6Q=="}],"kind":"format","tag":"verbatim"},"prompt":{"base64":"/w=="},"shown":{"base64":"Y2Fm6Q=="},"start":32,"stop":57,"type":"block"}
+{"type":"end"}
+END_OF_JSON
+objects 'an open block behind another' '\002a:\005\n\002verbatim:\033' 1 <<'END_OF_JSON'
+{"block":{"items":[],"kind":"format","tag":"a"},"default":null,"output":{"items":[],"kind":"format","tag":"a"},"prompt":null,"shown":"{a:}","start":0,"stop":4,"type":"block"}
+{"start":5,"type":"unfinished"}
+{"type":"end"}
+END_OF_JSON
+objects 'a block, and a tag that is none' '\002a:\005\002verb\002' 1 <<'END_OF_JSON'
+{"block":{"items":[],"kind":"format","tag":"a"},"default":null,"output":{"items":[],"kind":"format","tag":"a"},"prompt":null,"shown":"{a:}","start":0,"stop":4,"type":"block"}
+{"name":"BadTag","number":1,"offset":9,"type":"fault"}
+END_OF_JSON
+objects '33 levels' "$(opened 33)" 1 <<'END_OF_JSON'
+{"name":"TooDeep","number":2,"offset":96,"type":"fault"}
+END_OF_JSON
+verbatim 16777206 >given
+compare 'a block of one byte more as JSON' "$(answer blocks --json <given)" "$(printf '%s\n{"name":"TooLong","number":3,"offset":16777215,"type":"fault"}\nstatus 1' "$hello")"
+zeros 67108865 >given
+compare 'one byte too many as JSON' "$(answer blocks --json <given)" "$(printf '{"name":"InputTooLong","number":41,"type":"fault"}\nfault 41 InputTooLong\nstatus 1')"
+compare 'a folder as JSON' "$(answer blocks --json </)" "$(printf '{"name":"Input","number":40,"type":"fault"}\nfault 40 Input\nstatus 1')"
+printf '\002a:\005' >given
+"$tmhost" blocks --json <given >/dev/full 2>errors
+compare 'objects over a full output' "$? $(cat errors)" '1 fault 42 Output'
+rm given wanted
+
 counted blocks

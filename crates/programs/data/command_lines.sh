@@ -14,6 +14,7 @@ words 'an empty path is not shown' 1 'fault 32 Disk\n' show ''
 words 'an empty path is not created' 1 'fault 32 Disk\n' create ''
 words 'no word' 0 ''
 words 'the word blocks' 0 '' blocks
+words 'blocks as JSON' 0 '{"format":1,"program":"tmhost","protocol":2,"type":"hello","version":"0.1.0"}\n{"type":"end"}\n' blocks --json
 words 'two dashes alone' 0 '' --
 
 # Words that ask for nothing: NAME WORDS and the first line of the text, which stands on the errors.
@@ -46,6 +47,8 @@ told 'a word behind faults' "error: unexpected argument 'x' found" faults x
 told 'another topic' "error: unrecognized subcommand 'fault'" help fault
 told 'another task' "error: unrecognized subcommand 'remove'" remove a
 told 'one word' "error: unrecognized subcommand 'foo'" foo
+told 'a word behind blocks and a flag' "error: unexpected argument 'x' found" blocks --json x
+told 'JSON without blocks' "error: unexpected argument '--json' found" --json
 told 'a word behind blocks' "error: unexpected argument 'x' found" blocks x
 told 'the version of a task' "error: unexpected argument '--version' found" run --version
 told 'a task behind dashes' "error: unexpected argument 'blocks' found" -- blocks
@@ -63,7 +66,7 @@ helps() {
     compare "the help of $1" "$? $(wc -c <errors) $(head -n 1 text)|$(grep '^Usage' text)|$(grep -c 'Status: 0 ' text)|$(tail -n 1 text)" "0 0 $2|$3|1|$4"
     compare "the paths of $1" "$(grep -c 'PATH\.alt' text)" "$5"
 }
-helps blocks 'Write the blocks of the stream on standard input, a line each' "Usage: ${tmhost##*/} blocks" "Example: printf '\\002verbatim:Hi\\005' | tmhost blocks" 0
+helps blocks 'Write the blocks of the stream on standard input, a line each' "Usage: ${tmhost##*/} blocks [OPTIONS]" "Example: printf '\\002verbatim:Hi\\005' | tmhost blocks" 0
 helps create 'Make an empty worksheet' "Usage: ${tmhost##*/} create <PATH>" 'Example: tmhost create sheet.tm' 3
 helps run 'Run the script on standard input over a worksheet' "Usage: ${tmhost##*/} run [OPTIONS] <PATH>" 'Example: tmhost run sheet.tm <script.txt' 1
 helps live 'Hold a worksheet open for lines that come on standard input' "Usage: ${tmhost##*/} live [OPTIONS] <PATH>" "Example: printf 'print\\n' | tmhost live sheet.tm" 1

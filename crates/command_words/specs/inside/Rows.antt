@@ -7,7 +7,7 @@ use Rattle.command_words.specs.declared.table.Shape.TheVariants as shape
 
 abbrev pub rows : List (Text × Shape)
 rows =
-    (codes "blocks", shape.Bare)
+    (codes "blocks", shape.Stream)
     ∷ (codes "create", shape.Path)
     ∷ (codes "run", shape.Strict)
     ∷ (codes "live", shape.Json)

@@ -1,14 +1,14 @@
 -- The command line of the table's rows.
 use Rattle.std.specs.Prelude.{ℕ, zero, suc}
 use Rattle.clap.specs.Words.{App, Text, new_app, with_subcommand}
-use Rattle.command_words.specs.Asked.{help_alone, with_check, with_eval, with_format_and_path, with_json, with_path, with_paths, with_strict}
+use Rattle.command_words.specs.Asked.{help_alone, with_check, with_eval, with_format_and_path, with_json, with_path, with_paths, with_stream, with_strict}
 use Rattle.command_words.specs.declared.table.Shape.{Shape}
 use Rattle.command_words.specs.declared.table.Shape.TheVariants as shape
 use Rattle.command_words.specs.inside.Rows.{listed_at}
 
 -- the subcommand of a row
 abbrev pub app_for : Shape → Text → App
-app_for shape.Bare name = new_app name
+app_for shape.Stream name = with_stream name
 app_for shape.Path name = with_path name
 app_for shape.Strict name = with_strict name
 app_for shape.Json name = with_json name

@@ -3,7 +3,7 @@ use Rattle.std.specs.Box.{box_value}
 use Rattle.clap.specs.Words.{Text, first_of, found_of, rows_of}
 use Rattle.clap.specs.declared.parser.matches.ArgMatches.TheViews.{out-ArgMatches, out-SubCommand}
 use Rattle.clap.proofs.WalkLemmas.{first_value-rows}
-use Rattle.command_words.specs.Asked.{FlagsView, by_paths, by_subcommand, flags_in}
+use Rattle.command_words.specs.Asked.{FlagsView, blocks_by, by_paths, by_subcommand, flags_in}
 use Rattle.command_words.proofs.Subcommands.{joined}
 use Rattle.command_words.proofs.words.task_of.Goals as goal
 
@@ -46,4 +46,5 @@ returns-in_default-get_str c =
     let rows_are = joined (out-ArgMatches c.args.matches.now).subcommand (λ b. (out-SubCommand (box_value b)).name.now)
     (λ b. rows_of (found_of (out-SubCommand (box_value b)).matches)) c.in-Some.name.now (rows_of found) c.in-Some.ensures.name c.in-Some.ensures.rows in
     let path_is : first_of (codes "PATH") (rows_of found) ≡ None = sym (first_value-rows found (codes "PATH")) ∙ sym c.in_default-get_str.ensures in
-    sym (ap by_subcommand rows_are ∙ ap (λ (path : Option Text). by_paths c.in-Some.name.now path (first_of (codes "NEW") (rows_of found)) (first_of (codes "FORMAT") (rows_of found)) (flags_in (rows_of found))) path_is)
+    c.task_of_blocks.ensures ∙ ap blocks_by c.asks_for_json.ensures
+    ∙ sym (ap by_subcommand rows_are ∙ ap (λ (path : Option Text). by_paths c.in-Some.name.now path (first_of (codes "NEW") (rows_of found)) (first_of (codes "FORMAT") (rows_of found)) (flags_in (rows_of found))) path_is)

@@ -3,7 +3,8 @@ use Rattle.std.proofs.KnownBytes.{Appends-nil}
 use Rattle.meta_format.specs.Limits.{limits}
 use Rattle.meta_format.specs.Stream.{Outer}
 use Rattle.meta_format.specs.Faults.{bad_tag, too_deep, too_long}
-use Rattle.program_endings.proofs.Lines.{nothing_read, line_more, end_printed, open_printed, fault_printed}
+use Rattle.stream_json.proofs.Written.{nothing_read}
+use Rattle.program_endings.proofs.Lines.{line_more, end_printed, open_printed, fault_printed}
 use Rattle.program_endings.proofs.block_lines.write_stream.Goals as goal
 
 pub loop-start-init : goal.loop-start-init

@@ -1,0 +1,35 @@
+//! `blocks`, in words or in lines of JSON.
+ghost use Rattle.command_words.specs.Asked as asked;
+ghost use Rattle.host_cli.specs.Tasks.{DoesBlocks, DoesBlocksInJson, LeavesAlone, outer};
+
+use crate::outside::{Outside, System};
+use program_endings::{Ending, run_block_objects, run_blocks};
+use std::alloc::Global;
+
+/// `blocks`.
+pub(crate) fn blocks<Y: System>(alloc: Global, outside: &mut Outside<Y>) -> Ending
+    ensures does { DoesBlocks (outer Y.Places.Places Y.Disk.Disk Y.Disk.closed Y.Sources.after
+        Y.Sources.clock Y.Sources.wakes Y.Input.Read Y.Output.Write Y.Output.brought Y.Errors.Write) outside.old outside.new result }
+    ensures leaves { LeavesAlone outside.old outside.new asked.blocks }
+{
+    run_blocks(
+        alloc,
+        &mut outside.input,
+        &mut outside.output,
+        &mut outside.errors,
+    )
+}
+
+/// `blocks --json`.
+pub(crate) fn blocks_in_json<Y: System>(alloc: Global, outside: &mut Outside<Y>) -> Ending
+    ensures does { DoesBlocksInJson (outer Y.Places.Places Y.Disk.Disk Y.Disk.closed Y.Sources.after
+        Y.Sources.clock Y.Sources.wakes Y.Input.Read Y.Output.Write Y.Output.brought Y.Errors.Write) outside.old outside.new result }
+    ensures leaves { LeavesAlone outside.old outside.new asked.blocks_json }
+{
+    run_block_objects(
+        alloc,
+        &mut outside.input,
+        &mut outside.output,
+        &mut outside.errors,
+    )
+}

@@ -1,0 +1,31 @@
+//! The program `blocks --json`.
+ghost use Rattle.std.specs.Prelude.{◌≡◌};
+ghost use Rattle.program_endings.specs.BlocksProgram.{ObjectsAnswer};
+ghost use Rattle.program_endings.specs.Ending.{ProgramAnswer, TellsFault, status_of};
+ghost use Rattle.program_endings.specs.LiveProgram.{LastTold};
+ghost use Rattle.tellings.specs.Json.{in_json};
+
+use crate::Ending;
+use crate::live_program::end_told;
+use std::alloc::Global;
+use std::io::{Read, Write};
+use stream_json::block_objects;
+use tellings::InJson;
+
+/// The whole program `blocks --json`: from `input` to `output`. A fault of its own is the last object there, and has a
+/// line on `errors`.
+pub fn run_block_objects<R: Read, W: Write, E: Write>(
+    alloc: Global,
+    input: &mut R,
+    output: &mut W,
+    errors: &mut E,
+) -> Ending
+    ensures { (answer : ProgramAnswer) × (mid : W)
+        × ObjectsAnswer (R.remaining input.old) W.contents output.old mid answer
+        × LastTold in_json W.contents mid output.new result.told answer
+        × (result.status ≡ status_of answer)
+        × TellsFault E.contents errors.old errors.new result.told answer }
+{
+    let answer = block_objects(alloc, input, output);
+    end_told(answer, &InJson { alloc }, output, errors)
+}
