@@ -150,6 +150,12 @@ def shown(block: Block) -> bytes:
     return inner if block.name + block.mark in (b"verbatim:", b"output#") else b"{" + escaped(block.name) + block.mark + inner + b"}"
 
 
+def printed(block: Block) -> bytes:
+    """A block with all its tags, on one line."""
+    inner = b"".join(printed(item) if isinstance(item, Block) else escaped(item) for item in block.items)
+    return b"{" + escaped(block.name) + block.mark + inner + b"}"
+
+
 SPACE = rb"[\t\n\x0c\r ]*"
 STRING = rb'"(?:[^"\\]|\\.)*"'
 

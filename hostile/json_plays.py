@@ -118,6 +118,23 @@ def play_of(rng: random.Random, name: str, completes: bool, holds: bool) -> Play
     return Play(rng.random() < 0.4, banner, tuple(acts[1:]))
 
 
+def quick_act_of(rng: random.Random) -> Act:
+    """An act that waits for nothing."""
+    while (act := act_of(rng, False, False)).kind in ("deaf", "hangs"):
+        pass
+    return act
+
+
+def quick_play_of(rng: random.Random) -> Play:
+    """A play of such acts."""
+    return Play(False, saying_of(rng, "says", False), tuple(quick_act_of(rng) for _ in range(rng.randint(2, 5))))
+
+
+def changed(rng: random.Random, play: Play) -> Play:
+    """A play some of whose acts are others."""
+    return play._replace(answers=tuple(act if rng.random() < 0.6 else quick_act_of(rng) for act in play.answers))
+
+
 def lines_of(act: Act, pieces: list[int]) -> list[str]:
     """What the shell does for an act, with the numbers of its pieces."""
     hold = [f"hold {act.token}"] if act.token else []

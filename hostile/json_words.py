@@ -4,7 +4,7 @@ import base64
 import json
 from typing import Any, Callable, NoReturn
 
-from json_blocks import MOST_DEPTH, Block, Item, escaped, quoted, shown
+from json_blocks import MOST_DEPTH, MOST_PROMPT, Block, Item, escaped, printed, quoted, read, shown
 from model import Difference
 
 Object = dict[str, Any]
@@ -122,8 +122,16 @@ def field_text(field: Any) -> bytes:
         prompt, output = bytes_of(rest[1]), shown(output_of(rest[0], rest[2]))
     elif state == "lost":
         output += b" " + text_of(rest[0])
-    head = b"#%d %s\n%s%s\n" % (number_of(id), text_of(session), escaped(prompt), b"\n. ".join(map(escaped, text_of(given).split(b"\n"))))
-    return head + output + (b"" if output.endswith(b"\n") else b"\n")
+    return head_of(id, session, prompt, given) + ended_line(output)
+
+
+def head_of(id: Any, session: Any, prompt: bytes, given: Any) -> bytes:
+    """The two lines of a field, or more where its input has more."""
+    return b"#%d %s\n%s%s\n" % (number_of(id), text_of(session), escaped(prompt), b"\n. ".join(map(escaped, text_of(given).split(b"\n"))))
+
+
+def ended_line(output: bytes) -> bytes:
+    return output + (b"" if output.endswith(b"\n") else b"\n")
 
 
 def hello(it: Object, _: bytes) -> bytes:
@@ -287,3 +295,89 @@ def shown_words(objects: list[Object]) -> bytes:
     if whole["fields"] != [it["field"]["id"] for it in fields] or not states <= {"answered", "lost", "empty", None}:
         raise Difference(f"not as its fields are, or something runs: {str(whole)[:300]}")
     return b"".join([words_of(objects[0], b""), *words, words_of(objects[-1], b"")])
+
+
+# ---- the words of `check`, which has neither lines nor lives
+
+
+def answer_of(it: Any) -> tuple[bytes, bytes]:
+    """The prompt of an answer, and its output as it is shown."""
+    output, prompt, as_shown = members(it, "output", "prompt", "shown")
+    return bytes_of(prompt), shown(output_of(output, as_shown))
+
+
+def marked(mark: bytes, output: bytes) -> bytes:
+    """The lines of an output, each behind a mark."""
+    return b"".join(mark + line + b"\n" for line in ended_line(output)[:-1].split(b"\n"))
+
+
+def checked(it: Object) -> bytes:
+    verdict = it.get("verdict")
+    more = {"same": [], "left_out": [], "differs": ["came", "input", "shows"], "unanswered": ["input", "reason", "shows"]}
+    if not isinstance(verdict, str) or verdict not in more:
+        raise Difference(f"no verdict: {str(it)[:300]}")
+    id, session, _, *_ = members(it, "id", "session", "verdict", *more[verdict])
+    number_of(id), text_of(session)
+    if not more[verdict]:
+        return b""
+    prompt, old = answer_of(it["shows"])
+    if verdict == "unanswered" and it["reason"] is not None:
+        text_of(it["reason"])
+    new = answer_of(it["came"])[1] if verdict == "differs" else b"?"
+    return head_of(id, session, prompt, it["input"]) + marked(b"- ", old) + marked(b"+ ", new)
+
+
+def compared(it: Object) -> bytes:
+    counts = tuple(map(number_of, members(it, "same", "differ", "unanswered", "left_out")))
+    return b"same %d differ %d unanswered %d" % counts[:3] + (b" left out %d" % counts[3] if counts[3] else b"") + b"\n"
+
+
+def checked_words(objects: list[Object]) -> bytes:
+    """The words of `check` for the objects of `check --json`, which count as they say."""
+    kinds = [it.get("type") for it in objects]
+    if kinds != ["hello"] + ["checked"] * (len(objects) - 3) + ["compared", "end"]:
+        raise Difference(f"not the objects of a check: {kinds}")
+    rests = [{name: value for name, value in it.items() if name != "type"} for it in objects]
+    verdicts = [it["verdict"] for it in objects[1:-2]]
+    counts = [objects[-2][name] for name in ("same", "differ", "unanswered", "left_out")]
+    if counts != [verdicts.count(one) for one in ("same", "differs", "unanswered", "left_out")]:
+        raise Difference(f"counted {counts}: {verdicts}")
+    words_of(objects[0], b""), words_of(objects[-1], b"")
+    return b"".join(map(checked, rests[1:-2])) + compared(rests[-2])
+
+
+# ---- the words of `blocks`
+
+
+def channel_of(it: Any) -> Any:
+    return None if it is None else bytes_of(it)
+
+
+def outer(it: Object) -> bytes:
+    """The line of an outer block, of which a host takes what stands beside it."""
+    block, default, output, prompt, as_shown, start, stop = members(it, "block", "default", "output", "prompt", "shown", "start", "stop")
+    whole = block_of(block)
+    wanted = read(whole)
+    found_prompt, found_default, found_output = channel_of(prompt), channel_of(default), output_of(output, as_shown)
+    cut = None if found_prompt is None else found_prompt[:MOST_PROMPT]
+    if (cut, found_default, found_output) != wanted:
+        raise Difference(f"not the prompt, default input and output of its block: {str(it)[:600]}")
+    return b"%d %d %s\n" % (number_of(start), number_of(stop), printed(whole))
+
+
+def blocks_words(objects: list[Object]) -> tuple[int, bytes]:
+    """The status and the words of `blocks` for the objects of `blocks --json`."""
+    kinds = [str(it.get("type")) for it in objects]
+    blocks = kinds.count("block")
+    if kinds[: 1 + blocks] != ["hello"] + ["block"] * blocks or kinds[1 + blocks :] not in (["end"], ["unfinished", "end"], ["fault"]):
+        raise Difference(f"not the objects of a stream: {kinds}")
+    words_of(objects[0], b"")
+    rests = [{name: value for name, value in it.items() if name != "type"} for it in objects]
+    words = b"".join(map(outer, rests[1 : 1 + blocks]))
+    if kinds[-1] == "fault":
+        name, found, offset = members(rests[-1], "name", "number", "offset")
+        return 1, words + b"fault %d %s %d\n" % (number_of(found), text_of(name), number_of(offset))
+    members(rests[-1])
+    if kinds[-2] == "unfinished":
+        return 1, words + b"unfinished %d\n" % number_of(members(rests[-2], "start")[0])
+    return 0, words
