@@ -103,6 +103,7 @@ pub(crate) fn evaluate_on<D: Disk, S: Sources, T: Tells, W: Write>(
             Err(fault) => return Err(fault),
         }
     }
+    // The loop needs an end; nobody takes so many steps.
     Err(RunFault::InputTooLong)
 }
 

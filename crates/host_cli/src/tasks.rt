@@ -1,4 +1,5 @@
-//! Which program runs for which words, over all that is outside.
+//! Which program runs for which words, over all that is outside. Each contract here has the same `outer ..`, which names what is
+//! outside: what stands before and after it is the contract's own.
 ghost use Rattle.std.specs.Prelude.{◌≡◌, ◌≢◌, [], List, Err, false, map, option_map, string_bytes, true};
 ghost use Rattle.command_words.specs.Asked.{eval_view, task_view};
 ghost use Rattle.command_words.specs.Asked as asked;

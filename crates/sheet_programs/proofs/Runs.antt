@@ -32,7 +32,7 @@ use Rattle.offline_programs.specs.Input.{IsInputFault, longest_standard_input}
 use Rattle.offline_programs.specs.Memory.{script_lines}
 use Rattle.sheet_programs.specs.Run.{OpenedOn, LinesBefore, LinesUpTo, LinesSoFar, LinesLed, RunOf, RunStopped, RunBroke, RunSoFar, RunLed, RunUnwritten}
 use Rattle.sheet_programs.specs.Told.{LineFailed, LeavesFrontsAnyhow, StandsOrStopped}
-use Rattle.sheet_programs.specs.Strict.{GoRight, LinesTaken, RightIf, goes_wrong}
+use Rattle.sheet_programs.specs.Strict.{EachRight, LinesTaken, RightIf, goes_wrong}
 use Rattle.sheet_programs.specs.inside.Taking.{LinesBroke, LinesFailed, LinesStopped, LinesUnwritten, TellsBy, UnlessStrict}
 use Rattle.sheet_programs.proofs.Courses.{Course, course_anyhow, course_on, course_up_to, either_moments, goes_course, group_course, moments_on}
 use Rattle.sheet_programs.proofs.Stricts.{is_strict, none_wrong, right_more, went_wrong}
@@ -62,17 +62,23 @@ pub record DoneSoFar {C : Type 0} (R : Relation C) (strict : Bool) (all : List (
   pub ran : LinesDone R 1 done s beats text (at leads c h.store.disk)
   pub stands : IsHost h leads
   pub wrote : Appends a b text
-  pub right : RightIf strict done beats
+  pub right : RightIf strict ran
 
 pub none_done : {C : Type 0} (R : Relation C) (strict : Bool) (all : List (List ℕ)) (left : List (List ℕ)) (w : World) (h : HostView) (c : C) (a : Option (List ℕ)) → left ≡ all → IsHost h w → DoneSoFar R strict all 0 left (at w c h.store.disk) h c a a
-none_done R strict all left w h c a e stands = record { done = []; beats = []; text = []; leads = w; split = sym e; count = refl; ran = none (at w c h.store.disk); stands = stands; wrote = Appends-nil a; right = none_wrong strict }
+none_done R strict all left w h c a e stands = record { done = []; beats = []; text = []; leads = w; split = sym e; count = refl; ran = begun; stands = stands; wrote = Appends-nil a; right = right strict }
+  where
+    begun : LinesDone R 1 [] (at w c h.store.disk) [] [] (at w c h.store.disk)
+    begun = none (at w c h.store.disk)
+
+    right : (x : Bool) → RightIf x begun
+    right false = tt
+    right true = (none_wrong, tt)
 
 pub one_done : {C : Type 0} (R : Relation C) (strict : Bool) (all : List (List ℕ)) (number : ℕ) (left : List (List ℕ)) (line : List ℕ) (others : List (List ℕ)) (s : At C) (h : HostView) (c : C) (a b : Option (List ℕ))
     (g : HostView) (d : C) (e : Option (List ℕ)) (more : List Beat) (last : List ℕ) (t : World) (wrong : Bool)
     → left ≡ line ∷ others → (so : DoneSoFar R strict all number left s h c a b) → LineDone R (number + 1) (line_of line) (at so.leads c h.store.disk) more last (at t d g.store.disk) → IsHost g t → Appends b e last → wrong ≡ goes_wrong (line_of line) more → (strict && wrong) ≡ false
     → DoneSoFar R strict all (number + 1) others s g d a e
 one_done R strict all number left line others s h c a b g d e more last t wrong is so p stands wrote goes on =
-    let same : number + 1 ≡ 1 + length so.done = omega (arith, so.count) in
     record {
       done = so.done ++ line ∷ [];
       beats = so.beats ++ more;
@@ -80,13 +86,22 @@ one_done R strict all number left line others s h c a b g d e more last t wrong 
       leads = t;
       split = so.split ∙ ap (λ x. so.done ++ x) is ∙ sym (append_assoc so.done (line ∷ []) others);
       count = omega (arith, so.count, length-snoc so.done line);
-      ran = and_line so.done line s so.beats so.text (at so.leads c h.store.disk) more last (at t d g.store.disk) so.ran
-          (subst (λ n. LineDone R n (line_of line) (at so.leads c h.store.disk) more last (at t d g.store.disk)) same p);
+      ran = and_line so.done line s so.beats so.text (at so.leads c h.store.disk) more last (at t d g.store.disk) so.ran numbered;
       stands = stands;
       wrote = Appends-trans a b e so.text last so.wrote wrote;
-      right = right_more strict wrong so.done line so.beats more so.right on goes;
+      right = right strict so.right on;
     }
   where
+    numbered : LineDone R (1 + length so.done) (line_of line) (at so.leads c h.store.disk) more last (at t d g.store.disk)
+    numbered =
+        let same : number + 1 ≡ 1 + length so.done = omega (arith, so.count) in
+        subst (λ n. LineDone R n (line_of line) (at so.leads c h.store.disk) more last (at t d g.store.disk)) same p
+
+    right : (x : Bool) → RightIf x so.ran → (x && wrong) ≡ false
+        → RightIf x (and_line so.done line s so.beats so.text (at so.leads c h.store.disk) more last (at t d g.store.disk) so.ran numbered)
+    right false before e = tt
+    right true before e = (right_more wrong so.done line so.beats more before.0 e goes, before.1)
+
     length-snoc : {A : Type 0} (xs : List A) (x : A) → length (xs ++ x ∷ []) ≡ length xs + 1
     length-snoc [] x = refl
     length-snoc (y ∷ ys) x = omega (arith, length-snoc ys x)
@@ -99,12 +114,9 @@ all_done {C = C} R strict all number left s h c a b e so = (so.beats, so.text, s
     same : so.done ≡ all
     same = sym (so.split ∙ ap (λ x. so.done ++ x) e ∙ append-nil so.done)
 
-    ran : LinesDone R 1 all s so.beats so.text (at so.leads c h.store.disk)
-    ran = subst (λ ls. LinesDone R 1 ls s so.beats so.text (at so.leads c h.store.disk)) same so.ran
-
-    whole : (x : Bool) → RightIf x so.done so.beats → LinesTaken R x all None s so.beats so.text (at so.leads c h.store.disk)
-    whole false right = ran
-    whole true right = (ran, subst (λ ls. GoRight ls so.beats) same right)
+    whole : (x : Bool) → RightIf x so.ran → LinesTaken R x all None s so.beats so.text (at so.leads c h.store.disk)
+    whole false right = subst (λ ls. LinesDone R 1 ls s so.beats so.text (at so.leads c h.store.disk)) same so.ran
+    whole true right = subst (λ ls. (d : LinesDone R 1 ls s so.beats so.text (at so.leads c h.store.disk)) × EachRight d) same (so.ran, right)
 
 -- Where a line broke off, the lines did.
 
@@ -120,7 +132,7 @@ pub line_stopped : {C : Type 0} (R : Relation C) (strict : Bool) (all : List (Li
 line_stopped R strict all number left line others s h c a b g d e more last t wrong is so p stands wrote goes stops =
     (so.beats ++ more, so.text ++ last, t, taken strict (is_strict strict wrong stops) so.right, stands, Appends-trans a b e so.text last so.wrote wrote)
   where
-    taken : (x : Bool) → x ≡ true → RightIf x so.done so.beats → LinesTaken R x all (Some (number + 1)) s (so.beats ++ more) (so.text ++ last) (at t d g.store.disk)
+    taken : (x : Bool) → x ≡ true → RightIf x so.ran → LinesTaken R x all (Some (number + 1)) s (so.beats ++ more) (so.text ++ last) (at t d g.store.disk)
     taken false e right = absurd (false≢true e)
     taken true e right = record {
       line = line;
@@ -426,7 +438,7 @@ module _ {C : Type 0} (R : Relation C) (disk now : DiskView) (c d : C) (a b : Op
 
   abbrev StoppedLines : HostFault → Type 0
   StoppedLines f = (beats : List Beat) × (text : List ℕ) × (e : Event) × (t : At C) × (p : LinesUpTo R (script_lines script) (at start c now) beats text e t) × Stopped t.disk h t.world e f × Stops R (running t.world) t.children d
-      × Appends a b text × RightIf strict p.before.done p.earlier
+      × Appends a b text × RightIf strict p.before.ran
 
   abbrev pub run-stopped : (f : HostFault) → StoppedLines f → RunStopped R script disk back c d a b f
   run-stopped f p = record {
@@ -462,7 +474,7 @@ module _ {C : Type 0} (R : Relation C) (disk now : DiskView) (c d : C) (a b : Op
   }
 
   abbrev LedLines : Type 0
-  LedLines = (t : At C) × (p : LinesLed R (script_lines script) (at start c now) t) × StandsOrStopped h t.world t.disk × Stops R (running t.world) t.children d × RightIf strict p.before.done p.earlier
+  LedLines = (t : At C) × (p : LinesLed R (script_lines script) (at start c now) t) × StandsOrStopped h t.world t.disk × Stops R (running t.world) t.children d × RightIf strict p.before.ran
 
   abbrev pub run-led : LedLines → RunLed R script disk back c d
   run-led p = record {
@@ -494,12 +506,12 @@ module _ {C : Type 0} (R : Relation C) (stream : Option (List ℕ)) (disk now : 
   broken_run false fault.Output (inr p) =
       told-of stream script (λ s. (length s ≤ longest_standard_input) × (RunLed R s disk back c d ⊎ RunUnwritten R s disk back c d)) is (short, inr (run-unwritten R disk now c d a b script start h opened held back same false p.0 p.1 p.2 p.3))
   broken_run true (fault.Host f) (inl p) =
-      told-of stream script (λ s. (q : RunStopped R s disk back c d a b f) × GoRight q.lines.before.done q.lines.earlier) is (run-stopped R disk now c d a b script start h opened held back same true f p, p.8)
+      told-of stream script (λ s. (q : RunStopped R s disk back c d a b f) × EachRight q.lines.before.ran) is (run-stopped R disk now c d a b script start h opened held back same true f p, p.8)
   broken_run true (fault.Host f) (inr p) = absurd p
   broken_run true fault.OutOfMemory p =
-      inr (told-of stream script (λ s. (q : RunSoFar R s disk back c d a b) × GoRight q.lines.before.done q.lines.earlier) is (run-so-far R disk now c d a b script start h opened held back same true p, p.8))
+      inr (told-of stream script (λ s. (q : RunSoFar R s disk back c d a b) × EachRight q.lines.before.ran) is (run-so-far R disk now c d a b script start h opened held back same true p, p.8))
   broken_run true fault.Output (inl p) =
-      told-of stream script (λ s. (length s ≤ longest_standard_input) × ((q : RunLed R s disk back c d) × GoRight q.lines.before.done q.lines.earlier)) is (short, (run-led R disk now c d a b script start h opened held back same true p, p.4))
+      told-of stream script (λ s. (length s ≤ longest_standard_input) × ((q : RunLed R s disk back c d) × EachRight q.lines.before.ran)) is (short, (run-led R disk now c d a b script start h opened held back same true p, p.4))
   broken_run true fault.Output (inr p) = absurd p
   broken_run false fault.Input p = absurd p
   broken_run false fault.InputTooLong p = absurd p

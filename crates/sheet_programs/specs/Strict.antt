@@ -12,7 +12,7 @@ use Rattle.sheet_text.specs.Script.{line_of}
 use Rattle.sheet_text.specs.declared.script.ScriptLine.{ScriptLine}
 use Rattle.offline_programs.specs.Input.{longest_standard_input}
 use Rattle.offline_programs.specs.Memory.{script_lines}
-use Rattle.sheet_programs.specs.Lines.{LineDone, LinesDone}
+use Rattle.sheet_programs.specs.Lines.{LineDone, LinesDone, none, and_line, and_group}
 use Rattle.sheet_programs.specs.Run.{LinesBefore, RunOf, RunStopped, RunSoFar, RunLed}
 use Rattle.offline_programs.specs.declared.fault.RunFault.{RunFault}
 use Rattle.offline_programs.specs.declared.fault.RunFault.TheVariants as fault
@@ -43,6 +43,16 @@ is_bad line = not (is_some (line_of line))
 abbrev pub GoRight : List (List ℕ) → List Beat → Type 0
 GoRight lines beats = (list_any is_bad lines ≡ false) × (list_any is_wrong (told beats) ≡ false)
 
+-- Each of these lines was done by itself: none was taken together with others.
+abbrev pub Singly : {C : Type 0} {R : Relation C} {number : ℕ} {lines : List (List ℕ)} {s : At C} {beats : List Beat} {text : List ℕ} {t : At C} → LinesDone R number lines s beats text t → Type 0
+Singly (none s) = Unit {0}
+Singly (and_line lines line s before first mid last rest t done ran) = Singly done
+Singly (and_group lines group s before first mid last t done ran) = ⊥
+
+-- Each was, and none went wrong.
+abbrev pub EachRight : {C : Type 0} {R : Relation C} {number : ℕ} {lines : List (List ℕ)} {s : At C} {beats : List Beat} {text : List ℕ} {t : At C} → LinesDone R number lines s beats text t → Type 0
+EachRight {lines = lines} {beats = beats} done = GoRight lines beats × Singly done
+
 -- The lines were done up to the one with this number, the first that went wrong.
 pub record StoppedBehind {C : Type 0} (R : Relation C) (lines : List (List ℕ)) (s : At C) (beats : List Beat) (text : List ℕ) (t : At C) (number : ℕ) : Type 0 where
   pub line : List ℕ
@@ -50,7 +60,7 @@ pub record StoppedBehind {C : Type 0} (R : Relation C) (lines : List (List ℕ))
   pub earlier : List Beat
   pub first : List ℕ
   pub before : LinesBefore R lines line s earlier first mid
-  pub right : GoRight before.done earlier
+  pub right : EachRight before.ran
   pub count : number ≡ length before.done + 1
   pub last : List Beat
   pub rest : List ℕ
@@ -61,13 +71,13 @@ pub record StoppedBehind {C : Type 0} (R : Relation C) (lines : List (List ℕ))
 
 -- All lines were done, and none went wrong; or they were done up to the first one that did, which has this number.
 abbrev pub StrictLines : {C : Type 0} → Relation C → List (List ℕ) → Option ℕ → At C → List Beat → List ℕ → At C → Type 0
-StrictLines R lines None s beats text t = LinesDone R 1 lines s beats text t × GoRight lines beats
+StrictLines R lines None s beats text t = (done : LinesDone R 1 lines s beats text t) × EachRight done
 StrictLines R lines (Some number) s beats text t = StoppedBehind R lines s beats text t number
 
--- In a strict run none of these lines went wrong.
-abbrev pub RightIf : Bool → List (List ℕ) → List Beat → Type 0
-RightIf false lines beats = Unit {0}
-RightIf true lines beats = GoRight lines beats
+-- In a strict run each of these lines was done by itself, and none went wrong.
+abbrev pub RightIf : {C : Type 0} {R : Relation C} {number : ℕ} {lines : List (List ℕ)} {s : At C} {beats : List Beat} {text : List ℕ} {t : At C} → Bool → LinesDone R number lines s beats text t → Type 0
+RightIf false done = Unit {0}
+RightIf true done = EachRight done
 
 -- The lines of a run, which is strict or not, up to where it stopped.
 abbrev pub LinesTaken : {C : Type 0} → Relation C → Bool → List (List ℕ) → Option ℕ → At C → List Beat → List ℕ → At C → Type 0
@@ -86,8 +96,8 @@ TellsStrict R stream disk back c d a b nothing fault.InputTooLong = nothing × I
 TellsStrict R stream disk back c d a b nothing (fault.Open why) = nothing × InModel disk (TellsOfSheet (bytes_on disk) why)
 TellsStrict R stream disk back c d a b nothing fault.InUse = ⊥
 TellsStrict R stream disk back c d a b nothing (fault.Host f) =
-    IfSome stream (λ script. (p : RunStopped R script disk back c d a b f) × GoRight p.lines.before.done p.lines.earlier)
+    IfSome stream (λ script. (p : RunStopped R script disk back c d a b f) × EachRight p.lines.before.ran)
 TellsStrict R stream disk back c d a b nothing fault.OutOfMemory =
-    nothing ⊎ IfSome stream (λ script. (p : RunSoFar R script disk back c d a b) × GoRight p.lines.before.done p.lines.earlier)
+    nothing ⊎ IfSome stream (λ script. (p : RunSoFar R script disk back c d a b) × EachRight p.lines.before.ran)
 TellsStrict R stream disk back c d a b nothing fault.Output =
-    IfSome stream (λ script. (length script ≤ longest_standard_input) × ((p : RunLed R script disk back c d) × GoRight p.lines.before.done p.lines.earlier))
+    IfSome stream (λ script. (length script ≤ longest_standard_input) × ((p : RunLed R script disk back c d) × EachRight p.lines.before.ran))

@@ -48,13 +48,13 @@ LinesUnwritten {C = C} R lines s t =
 abbrev pub LinesFailed : {C : Type 0} → Relation C → Bool → List (List ℕ) → At C → HostView → C → Option (List ℕ) → Option (List ℕ) → RunFault → Type 0
 LinesFailed R strict lines s h c a b (fault.Host f) =
     ((beats : List Beat) × (text : List ℕ) × (e : Event) × (t : World) × (d : DiskView) × (p : LinesUpTo R lines s beats text e (at t c d)) × Stopped d h t e f × Appends a b text
-    × RightIf strict p.before.done p.earlier)
+    × RightIf strict p.before.ran)
     ⊎ UnlessStrict strict ((f ≡ hosts.Disk) × LinesBroke R lines s h c a b)
 LinesFailed R strict lines s h c a b fault.OutOfMemory =
     (beats : List Beat) × (text : List ℕ) × (t : World) × (p : LinesSoFar R lines s beats text (at t c h.store.disk)) × IsHost h t × Appends a b text
-    × RightIf strict p.before.done p.earlier
+    × RightIf strict p.before.ran
 LinesFailed R strict lines s h c a b fault.Output =
-    ((t : World) × (d : DiskView) × (p : LinesLed R lines s (at t c d)) × StandsOrStopped h t d × RightIf strict p.before.done p.earlier)
+    ((t : World) × (d : DiskView) × (p : LinesLed R lines s (at t c d)) × StandsOrStopped h t d × RightIf strict p.before.ran)
     ⊎ UnlessStrict strict ((t : World) × LinesUnwritten R lines s (at t c h.store.disk) × IsHost h t)
 LinesFailed R strict lines s h c a b fault.Input = ⊥
 LinesFailed R strict lines s h c a b fault.InputTooLong = ⊥
@@ -65,13 +65,13 @@ LinesFailed R strict lines s h c a b fault.InUse = ⊥
 abbrev pub LinesStopped : {C : Type 0} → Relation C → Bool → List (List ℕ) → At C → HostView → C → Option (List ℕ) → Option (List ℕ) → RunFault → Type 0
 LinesStopped {C = C} R strict lines s h d a b (fault.Host f) =
     ((beats : List Beat) × (text : List ℕ) × (e : Event) × (t : At C) × (p : LinesUpTo R lines s beats text e t) × Stopped t.disk h t.world e f × Stops R (running t.world) t.children d × Appends a b text
-    × RightIf strict p.before.done p.earlier)
+    × RightIf strict p.before.ran)
     ⊎ UnlessStrict strict ((f ≡ hosts.Disk) × ((c : C) × (p : LinesBroke R lines s h c a b) × Stops R (running p.5.leads) c d))
 LinesStopped {C = C} R strict lines s h d a b fault.OutOfMemory =
     (beats : List Beat) × (text : List ℕ) × (t : At C) × (p : LinesSoFar R lines s beats text t) × IsHost h t.world × (t.disk ≡ h.store.disk) × Stops R (running t.world) t.children d × Appends a b text
-    × RightIf strict p.before.done p.earlier
+    × RightIf strict p.before.ran
 LinesStopped {C = C} R strict lines s h d a b fault.Output =
-    ((t : At C) × (p : LinesLed R lines s t) × StandsOrStopped h t.world t.disk × Stops R (running t.world) t.children d × RightIf strict p.before.done p.earlier)
+    ((t : At C) × (p : LinesLed R lines s t) × StandsOrStopped h t.world t.disk × Stops R (running t.world) t.children d × RightIf strict p.before.ran)
     ⊎ UnlessStrict strict ((t : At C) × LinesUnwritten R lines s t × (t.disk ≡ h.store.disk) × Stops R (running t.world) t.children d)
 LinesStopped R strict lines s h d a b fault.Input = ⊥
 LinesStopped R strict lines s h d a b fault.InputTooLong = ⊥
