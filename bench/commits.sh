@@ -32,14 +32,14 @@ def timed(words, given=None, expected=b""):
         assert text.read() == expected
     return took
 
-def ours(lines, expected, added):
+def ours(begin, lines, expected, added):
     with open(script, "w") as out:
         out.write(lines)
     for path in (sheet, sheet + ".alt"):
         if os.path.exists(path):
             os.remove(path)
     subprocess.run([program, "create", sheet], check=True)
-    subprocess.run([program, "run", sheet], input=b"session a plain p\nnew 0 a x\n", stdout=subprocess.DEVNULL, check=True)
+    subprocess.run([program, "run", sheet], input=begin, stdout=subprocess.DEVNULL, check=True)
     before = os.path.getsize(sheet)
     with open(script, "rb") as given:
         took = timed([program, "run", sheet], given, expected)
@@ -54,11 +54,11 @@ def plain(count, each):
     return took
 
 def singly():
-    return ours(f"set 1 {text}\nwait\n" * records, b"ok\n" * records, records * length)
+    return ours(b"session a plain p\nnew 0 a x\n", f"set 1 {text}\nwait\n" * records, b"ok\n" * records, records * length)
 
 def together():
-    told = b"".join(b"field %d\n" % number for number in range(2, fields + 2))
-    return ours(f"new 0 a {text}\n" * fields, told, fields * field_length)
+    told = b"".join(b"field %d\n" % number for number in range(1, fields + 1))
+    return ours(b"session a plain p\n", f"new 0 a {text}\n" * fields, told, fields * field_length)
 
 results = [(singly(), plain(records, length)) for _ in range(runs)]
 rates = [records / statistics.median(result[i] for result in results) for i in (0, 1)]
