@@ -29,7 +29,8 @@ pub struct Plan {
     pub unanswered: bool,
     /// Whether it stops after the first field that is lost or refused.
     pub strict: bool,
-    /// How many seconds a field may take from when it was asked, where there is a limit.
+    /// How many seconds a field may take from when it was asked, or the last of those that wait with it,
+    /// where there is a limit.
     pub limit: Option<u32>,
     /// Whether, with a limit, fields are asked after one of their session that shows no answer.
     pub keep_going: bool,

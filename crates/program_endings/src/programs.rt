@@ -137,8 +137,8 @@ fn end_run<R: Read, W: Write, E: Write, D: Close, C: Children>(
 }
 
 /// The whole program `run` on its files, or on why they weren't opened: the script comes from `input`,
-/// which is read only where there are files, and what its lines give goes to `output`, each line flushed.
-/// The line of a fault goes to `errors`.
+/// which is read only where there are files, and what its lines give goes to `output`, each line or group
+/// of commands flushed. The line of a fault goes to `errors`.
 pub fn run_script<R: Read, W: Write, E: Write, D: Close, C: Children>(
     alloc: Global,
     input: &mut R,

@@ -49,10 +49,11 @@ end_data outside = telling_data told.end ∷ []
 end_data (inside start) = unfinished_data start ∷ telling_data told.end ∷ []
 end_data (broken kind at) = telling_data (told.fault (kind_number kind) (kind_named kind) (Some at)) ∷ []
 
--- all objects of a stream, in order: first `hello`, then these
+-- the objects of a stream after `hello`, in order
 abbrev pub later_objects : List Outer → StreamEnd → List Data
 later_objects blocks end = map outer_data blocks ++ end_data end
 
+-- all its objects: first `hello`, then these
 abbrev pub stream_objects : List Outer → StreamEnd → List Data
 stream_objects blocks end = telling_data told.hello ∷ later_objects blocks end
 
