@@ -1,19 +1,19 @@
 //! A journal on a disk that it owns.
-ghost use Rattle.std.specs.Prelude.{◌≡◌, ◌≢◌, ◌<◌, ◌≤◌, ◌+◌, ◌++◌, ◌∷◌, ◌↔◌, [], List, ℕ, length, IfOk, IfErr, IsTrue, MatchResult, vec_capacity};
+ghost use Rattle.std.specs.Prelude.{◌≡◌, ◌<◌, ◌≤◌, ◌+◌, ◌++◌, ◌∷◌, ◌↔◌, [], List, ℕ, length, IfOk, IfErr, IsTrue, MatchResult, vec_capacity};
 ghost use Rattle.disk_model.specs.Disk.{ChangesArea, InModel, IsImage, LeavesOnly, Looks, Reaches, SameDisk, Torn, Rises, bytes_on, greatest_room, other_area};
 ghost use Rattle.journal.specs.Payloads.{payloads_in, AreGates};
 ghost use Rattle.journal.specs.Open.{AreEmpty, Tells};
-ghost use Rattle.journal.specs.Kept.{BeforeOrAfter, BeforeOrAll, EitherStands, Fits, FitsAll, FitsAnew, Keeps, ImageStandsFor, active_area, active_of, other_of};
-ghost use Rattle.journal.specs.Area.{added_at, all_added_at, end_of, first_gate, records};
+ghost use Rattle.journal.specs.Kept.{BeforeOrAfter, EitherStands, Fits, FitsAnew, Keeps, ImageStandsFor, active_area, active_of, other_of};
+ghost use Rattle.journal.specs.Area.{added_at, end_of, first_gate, records};
 ghost use Rattle.journal.specs.Sources.{HoldsEach};
 ghost use Rattle.journal.specs.inside.Active.{HasEnd};
 
-use crate::append::{add, add_one};
+use crate::append::add_one;
 use crate::layout::FIRST_GATE;
 use crate::renewal::write_from;
 use crate::rewrite::{end_of_frames, other, write_anew};
 use crate::{
-    CreateCause, CreateFault, Frame, Group, LONGEST_PAYLOAD, Next, OpenCause, Opening, Payload,
+    CreateCause, CreateFault, Frame, LONGEST_PAYLOAD, Next, OpenCause, Opening, Payload,
     Source, create,
 };
 use disk_model::{Area, Disk, DiskFault};
@@ -26,9 +26,9 @@ use std::marker::Model;
 /// `Keeps`: `create` and `open` give it, `append` carries it on.
 #[derive(Drop)]
 pub struct Journal<D: Disk> {
-    disk: D,
-    active: Area,
-    end: u64,
+    pub(crate) disk: D,
+    pub(crate) active: Area,
+    pub(crate) end: u64,
 }
 
 impl<D: Disk> Model for Journal<D> {
@@ -239,91 +239,6 @@ impl<D: Disk> Journal<D> {
             disk,
             active,
             end: end + bytes.len() as u64,
-        })
-    }
-
-    /// Whether the payloads of a group fit after the end: the end, their records and the next gate are
-    /// together at most the disk's room. It takes no memory.
-    pub fn fits_all(&self, group: &Group) -> bool
-        ensures { IsTrue result ↔ FitsAll self.now.disk.room self.now.end group.now.payloads }
-    {
-        let room = self.disk.room();
-        self.end < room && group.records_len() < room - self.end
-    }
-
-    /// Whether a payload of so many bytes fits after those of a group, were they appended. It takes no
-    /// memory.
-    pub fn fits_behind(&self, group: &Group, payload_len: u64) -> bool
-        ensures { IsTrue result ↔ Fits self.now.disk.room
-            (self.now.end + length (records group.now.payloads)) payload_len }
-    {
-        let room = self.disk.room();
-        let owed = group.records_len();
-        payload_len <= LONGEST_PAYLOAD
-            && self.end < room
-            && owed < room - self.end
-            && payload_len + 5 < room - self.end - owed
-    }
-
-    /// Adds the payloads of a group, which one gate commits: they are durable at `Ok`, all of them, and
-    /// a crash leaves all or none. Of a group without a payload no call is made. It takes no memory
-    /// (docs/FORMAT.md, "Append").
-    ///
-    /// Payloads that don't fit, as [`Journal::fits_all`] says, are refused with `JournalFull`; a call
-    /// on the disk that fails, with `Disk`.
-    pub fn append_all(self, group: &Group) -> Result<Journal<D>, AppendFault<D>>
-        ensures same { SameDisk self.disk (disk_after D.view result) }
-        ensures other { InModel self.disk
-            (other_of (bytes_on (disk_after D.view result)) ≡ other_of (bytes_on self.disk)) }
-
-        ensures ok { InModel self.disk
-            ((payloads : List (List ℕ)) → Keeps self.disk.history self.end payloads
-            → IfOk result (λ journal. Keeps journal.disk.history journal.end
-            (payloads ++ group.now.payloads))) }
-
-        // These bytes are then on the disk.
-        ensures written { InModel self.disk
-            (IfOk result (λ journal. group.now.payloads ≢ [] → active_of (bytes_on journal.disk)
-            ≡ all_added_at self.end group.now.payloads (active_of (bytes_on self.disk)))) }
-
-        // A crash at any moment of the call leaves the payloads from before it, with all of these or with none.
-        ensures any_moment { InModel self.disk
-            ((payloads : List (List ℕ)) → Keeps self.disk.history self.end payloads
-            → LeavesOnly (BeforeOrAll self.disk.history.now payloads group.now.payloads) self.disk.history
-            (disk_after D.view result).history) }
-
-        ensures ends { IfOk result (λ journal. journal.end ≡ self.end + length (records group.now.payloads)) }
-
-        // Of a group without a payload no call is made.
-        ensures nothing { group.now.payloads ≡ [] → MatchResult result (λ journal. journal ≡ self) (λ _. ⊥) }
-
-        ensures unchanged { HandsBack result self }
-        ensures full { IsFull result ↔ (group.now.payloads ≢ [])
-            × (FitsAll self.disk.room self.end group.now.payloads → ⊥) }
-        ensures faulty { IsFaulty result
-            → Rises self.disk.faults (disk_after D.view result).faults }
-        ensures steady { (IsFaulty result → ⊥)
-            → (disk_after D.view result).faults ≡ self.disk.faults }
-    {
-        if group.is_empty() {
-            return Ok(self);
-        }
-        if !self.fits_all(group) {
-            return Err(AppendFault::JournalFull(self));
-        }
-        let Journal {
-            mut disk,
-            active,
-            end,
-        } = self;
-        let records = group.behind_gate();
-        if let Err(DiskFault) = add(&mut disk, active, end, records) {
-            return Err(AppendFault::Disk(disk));
-        }
-        Ok(Journal {
-            disk,
-            active,
-            end: end + records.len() as u64,
         })
     }
 

@@ -5,6 +5,7 @@
 #![tactic(auto)]
 
 mod append;
+mod append_all;
 mod frame;
 mod front;
 mod group;

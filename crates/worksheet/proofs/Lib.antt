@@ -14,4 +14,5 @@ pub mod Existence
 pub mod NextLaws
 pub mod ApartLaws
 pub mod WorksheetLaws
+pub mod Placing
 pub mod Rewriting
