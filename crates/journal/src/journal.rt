@@ -13,8 +13,8 @@ use crate::layout::FIRST_GATE;
 use crate::renewal::write_from;
 use crate::rewrite::{end_of_frames, other, write_anew};
 use crate::{
-    CreateCause, CreateFault, Frame, LONGEST_PAYLOAD, Next, OpenCause, Opening, Payload,
-    Source, create,
+    CreateCause, CreateFault, Frame, LONGEST_PAYLOAD, Next, OpenCause, Opening, Payload, Source,
+    create,
 };
 use disk_model::{Area, Disk, DiskFault};
 use std::alloc::Global;
