@@ -57,7 +57,7 @@ pub(crate) fn add<D: Disk>(
 }
 
 /// Writes the bytes of a frame, one record, as [`add`] does those of many: a crash leaves the payloads
-/// before it, or those with this one.
+/// before it, or those with this one. It is [`add`], and a function for that clause.
 pub(crate) fn add_one<D: Disk>(
     disk: &mut D,
     active: Area,

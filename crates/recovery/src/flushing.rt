@@ -67,6 +67,7 @@ impl<D: Disk> Store<D> {
             self.new.real.history) }
     {
         let old = self.base.take().unwrap();
+        // Called for its contract alone: the disk holds an image that a crash may leave.
         let _room = old.room();
         let (base, result) = old.flush();
         self.base = Some(base);

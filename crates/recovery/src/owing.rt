@@ -40,6 +40,7 @@ pub(crate) fn owe<D: Disk>(journal: Journal<D>, group: Group, frame: &Frame) -> 
         frame.now) (owed_disk journal.disk journal.end group.payloads).history
         (disk_of D.view result).history) }
 {
+    // Called for their contracts alone: of the disk, which holds an image that a crash may leave, and of the frame.
     let _room = journal.room();
     let _len = frame.payload_len();
     let mut group = group;
@@ -77,6 +78,7 @@ pub(crate) fn write_group<D: Disk>(
         → LeavesOnly (EitherStands before payloads) journal.disk.history
         (real_of D.view result.0).history) }
 {
+    // Called for its contract alone: the disk holds an image that a crash may leave.
     let _room = journal.room();
     match journal.append_all(&group) {
         Ok(journal) => (Base::Open(journal), Ok(())),
