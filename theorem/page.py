@@ -49,10 +49,6 @@ NOT_EXPANDED: set[Key] = {
 # Sentences above definitions that lean on what their file has before them, or say more than the definition: words as they are, and those that
 # the page has for them. A sentence without such words stands as it is.
 REWORDED: dict[Key, tuple[str, str]] = {
-    ("host_laws.Turns", "EvaluatedAnew"): (
-        ": not where it was Stopped, nor where its interpreter ended before",
-        ", also where it was Stopped or its interpreter ended first",
-    ),
     ("host_laws.Laws", "may_want"): ("refused so", "refused for lack of memory"),
     ("session_engine.Host", "number_in"): ("its number", "the number of the life of a session that a host runs"),
     ("recovery.Laws", "OneSheet"): ("and is that", "An image is that"),

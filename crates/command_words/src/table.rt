@@ -39,12 +39,13 @@ pub(crate) const VERSION: &str = "0.1.0";
 
 /// What the help of the program says below its lists.
 pub(crate) const NOTES: &str = "Without a command it is `blocks`.\n\n\
-Status: 0 where all was done, or help was shown; 1 at a fault, which standard\n\
-error has as `fault N NAME`, where the stream of `blocks` has a fault or an open\n\
-block, where `check` finds a difference, and where `eval` leaves a field without\n\
-an answer; 2 where the words are refused; 3 where --strict stops.\n\
+Status: 0 where the input came to its end, or help was shown; 1 at a fault, which\n\
+standard error has as `fault N NAME`, where the stream of `blocks` has a fault or\n\
+an open block, where an answer of `check` didn't come, or differs and isn't\n\
+accepted, and where `eval` has a field unanswered, over or passed; 2 where the\n\
+words are refused; 3 where --strict stops.\n\
 `tmhost help faults` says what each fault means.\n\n\
-Example: tmhost create sheet.tm && tmhost run sheet.tm <script.txt";
+Example: tmhost create sheet && tmhost run sheet <script.txt";
 
 const BLOCKS_NOTES: &str =
     "A line is the offset of the block's first byte, the offset after its last one,\n\
@@ -60,11 +61,12 @@ A creation that was cut off may leave files that are no worksheet, which `run`\n
 reports as the fault 31: remove PATH and PATH.alt, and create it again.\n\n\
 Status: 0 where the worksheet is on the disk; 1 at a fault; 2 where the words are\n\
 refused.\n\n\
-Example: tmhost create sheet.tm";
+Example: tmhost create sheet";
 
 const RUN_NOTES: &str =
     "The script is read whole from standard input. What each line of it gives is\n\
-written before the next one is taken, and what it reports as done is on the disk.\n\
+written before the next one is taken, but lines that only change the worksheet\n\
+are taken together; what it reports as done is on the disk.\n\
 Where another program has the worksheet the script isn't read and nothing is\n\
 done: that is the fault 35 InUse.\n\n\
 With --strict it stops after the first line that is bad or refused, or by which\n\
@@ -73,7 +75,7 @@ was reported is on the disk, and standard error has `stopped at line N`.\n\n\
 Status: 0 where the script ran to its end, without --strict also where it has bad\n\
 lines and refused commands; 1 at a fault; 2 where the words are refused; 3 where\n\
 --strict stopped it.\n\n\
-Example: tmhost run sheet.tm <script.txt";
+Example: tmhost run sheet <script.txt";
 
 const LIVE_NOTES: &str =
     "Each line of standard input is taken when it comes, and what an interpreter\n\
@@ -86,7 +88,7 @@ interpreter is stopped.\n\n\
 With --json each line is one object, which programs read (docs/JSON.md).\n\n\
 Status: 0 where the input came to its end, also where it had bad lines and refused\n\
 commands; 1 at a fault; 2 where the words are refused.\n\n\
-Example: printf 'print\\n' | tmhost live sheet.tm";
+Example: printf 'print\\n' | tmhost live sheet";
 
 const EVAL_NOTES: &str =
     "It evaluates the fields in the worksheet's order, each by an `eval` and a `wait`,\n\
@@ -114,14 +116,14 @@ them was asked. It goes with no --strict.\n\n\
 Status: 0 where each field of the worksheet shows an answer, and none was over or\n\
 passed over; 1 where that isn't so, or at a fault; 2 where the words are refused; 3\n\
 where --strict stopped it.\n\n\
-Example: tmhost eval --timeout 10 sheet.tm 3 7";
+Example: tmhost eval --timeout 10 sheet 3 7";
 
 const SHOW_NOTES: &str =
     "It writes and makes no file. A field without an output shows `?`. Where a program\n\
 runs the worksheet nothing is shown: that is the fault 35 InUse. With --json it\n\
 writes what `export json` does.\n\n\
 Status: 0 where all was written; 1 at a fault; 2 where the words are refused.\n\n\
-Example: tmhost show sheet.tm";
+Example: tmhost show sheet";
 
 const CHECK_NOTES: &str =
     "Each field that shows an answer is evaluated again, in the worksheet's order and\n\
@@ -146,7 +148,7 @@ but text.\n\n\
 Status: 0 where all outputs that are compared are the same, or were accepted; 1\n\
 where one differs or didn't come, where the session that --only names has no field\n\
 that shows an answer, or at a fault; 2 where the words are refused.\n\n\
-Example: tmhost check --format junit sheet.tm >report.xml";
+Example: tmhost check --format junit sheet >report.xml";
 
 const RESCUE_NOTES: &str =
     "It reads PATH alone, and makes NEW as `create` does. NEW has the worksheet of the\n\
@@ -161,7 +163,7 @@ rescue that was cut off may leave NEW empty, or no worksheet: remove NEW and\n\
 NEW.alt, and give it again.\n\n\
 Status: 0 where NEW is on the disk and that was printed, be PATH whole or not; 1\n\
 at a fault; 2 where the words are refused.\n\n\
-Example: tmhost rescue sheet.tm new.tm";
+Example: tmhost rescue sheet new";
 
 const EXPORT_NOTES: &str = "FORMAT is one of these:\n\
 script    the lines that make the worksheet again, for `run` on an empty one: its\n\
@@ -178,7 +180,7 @@ json      lines of JSON, which programs read (docs/JSON.md): a line for each fie
 \x20         with its output as a tree of blocks\n\n\
 It reads PATH as `show` does, and writes and makes no file.\n\n\
 Status: 0 where all was written; 1 at a fault; 2 where the words are refused.\n\n\
-Example: tmhost export html sheet.tm >sheet.html";
+Example: tmhost export html sheet >sheet.html";
 
 const FAULTS_NOTES: &str =
     "A fault is printed on standard error as `fault N NAME`, with status 1.\n\n\
@@ -205,7 +207,8 @@ const FAULTS_NOTES: &str =
 \x20                `live`: at some line; all that was printed is kept\n\
 41 InputTooLong  more than 67,108,864 bytes; nothing was done: cut it into parts\n\
 42 Output        standard output can't be written; what was done is on the disk, and\n\
-\x20                one line more than was printed may be: `show` says where it stands\n\
+\x20                one line or group more than was printed may be: `show` says\n\
+\x20                where it stands\n\
 43 OutOfMemory   outside of the worksheet; all that was printed is kept: run the rest\n\
 \x20                again\n\n\
 docs/FAULTS.md has more of each.";

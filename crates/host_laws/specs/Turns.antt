@@ -191,8 +191,8 @@ HostsInTurn = (room : ℕ) (first : List Op) (before after : Image) (turns : Lis
     → Allowed first → IsSheetImage (sheet_of first) before → EachTurned room before turns after
     → LeftInTurn room first before after turns
 
--- Where an evaluation was accepted, what its field shows from there on is what a whole block answered to a line after it, or
--- nothing: not where it was Stopped, nor where its interpreter ended before.
+-- Where an evaluation was accepted, what its field shows from there on, while this host runs, is what a whole block answered to a line
+-- after it, or nothing, also where it was Stopped or its interpreter ended first.
 abbrev pub EvaluatedAnew : Type 0
 EvaluatedAnew = (found : List Op) (room end : ℕ) (es : List Event) (os : List Outcome) (w : World)
     → Allowed found → Runs (world_at_opening found room end) es os w

@@ -67,15 +67,15 @@ helps() {
     compare "the paths of $1" "$(grep -c 'PATH\.alt' text)" "$5"
 }
 helps blocks 'Write the blocks of the stream on standard input, a line each' "Usage: ${tmhost##*/} blocks [OPTIONS]" "Example: printf '\\002verbatim:Hi\\005' | tmhost blocks" 0
-helps create 'Make an empty worksheet' "Usage: ${tmhost##*/} create <PATH>" 'Example: tmhost create sheet.tm' 3
-helps run 'Run the script on standard input over a worksheet' "Usage: ${tmhost##*/} run [OPTIONS] <PATH>" 'Example: tmhost run sheet.tm <script.txt' 1
-helps live 'Hold a worksheet open for lines that come on standard input' "Usage: ${tmhost##*/} live [OPTIONS] <PATH>" "Example: printf 'print\\n' | tmhost live sheet.tm" 1
-helps eval 'Evaluate the fields of a worksheet' "Usage: ${tmhost##*/} eval [OPTIONS] <PATH> [ID]..." 'Example: tmhost eval --timeout 10 sheet.tm 3 7' 1
-helps show 'Write a worksheet' "Usage: ${tmhost##*/} show [OPTIONS] <PATH>" 'Example: tmhost show sheet.tm' 1
-helps check 'Evaluate a worksheet again, and write what differs' "Usage: ${tmhost##*/} check [OPTIONS] <PATH>" 'Example: tmhost check --format junit sheet.tm >report.xml' 1
-helps rescue 'Write what stands before a damage to a new worksheet' "Usage: ${tmhost##*/} rescue <PATH> <NEW>" 'Example: tmhost rescue sheet.tm new.tm' 1
+helps create 'Make an empty worksheet' "Usage: ${tmhost##*/} create <PATH>" 'Example: tmhost create sheet' 3
+helps run 'Run the script on standard input over a worksheet' "Usage: ${tmhost##*/} run [OPTIONS] <PATH>" 'Example: tmhost run sheet <script.txt' 1
+helps live 'Hold a worksheet open for lines that come on standard input' "Usage: ${tmhost##*/} live [OPTIONS] <PATH>" "Example: printf 'print\\n' | tmhost live sheet" 1
+helps eval 'Evaluate the fields of a worksheet' "Usage: ${tmhost##*/} eval [OPTIONS] <PATH> [ID]..." 'Example: tmhost eval --timeout 10 sheet 3 7' 1
+helps show 'Write a worksheet' "Usage: ${tmhost##*/} show [OPTIONS] <PATH>" 'Example: tmhost show sheet' 1
+helps check 'Evaluate a worksheet again, and write what differs' "Usage: ${tmhost##*/} check [OPTIONS] <PATH>" 'Example: tmhost check --format junit sheet >report.xml' 1
+helps rescue 'Write what stands before a damage to a new worksheet' "Usage: ${tmhost##*/} rescue <PATH> <NEW>" 'Example: tmhost rescue sheet new' 1
 
-helps export 'Write a worksheet as a script, Markdown, a page, a notebook or JSON' "Usage: ${tmhost##*/} export <FORMAT> <PATH>" 'Example: tmhost export html sheet.tm >sheet.html' 1
+helps export 'Write a worksheet as a script, Markdown, a page, a notebook or JSON' "Usage: ${tmhost##*/} export <FORMAT> <PATH>" 'Example: tmhost export html sheet >sheet.html' 1
 
 # Each help whole, as the file `help_texts` has it: NAME WORDS.
 whole_help() {

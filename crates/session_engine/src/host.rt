@@ -141,7 +141,8 @@ impl<D: Disk> Host<D> {
         self.step(Event::Command(Command::Checkpoint))
     }
 
-    /// The worksheet. After a fault it is that of the events before it.
+    /// The worksheet. After a fault it is that of the events before it; where the disk failed in a group, that
+    /// after its events.
     pub fn sheet(&self) -> &Sheet
         ensures sheet { result.now ≡ self.now.store.sheet }
         ensures stands { (w : World) → IsHost self.now w → result.now.contents ≡ sheet_in w }
