@@ -15,9 +15,7 @@ HERE = os.path.dirname(os.path.realpath(__file__))
 ADAPTERS = tuple(os.path.join(HERE, *folders) for folders in (("..", "..", "..", "adapters"), ("..", "..", "adapters"), ("..", "..")))
 WRAPPER = "prompted.py"
 PROFILES = ("bc", "gap", "giac", "gnuplot", "M2", "maxima", "octave", "python", "R", "sh", "singular", "yacas")  # of the wrapper
-# Interpreters that write blocks themselves.
-OWN_MODE = {"gp": ("gp", "--texmacs")}
-LANGUAGES = tuple(sorted([*PROFILES, *OWN_MODE], key=str.lower))
+LANGUAGES = tuple(sorted([*PROFILES, "gp"], key=str.lower))
 # Other names that kernels, Org and fences have for them, in lower case.
 ALIASES = {
     "bash": "sh",
@@ -48,15 +46,13 @@ def language_of(hint: str) -> str | None:
 
 
 def table_words(language: str) -> tuple[str, ...]:
-    """The words for a language of the table: its own adapter, else its profile of the wrapper, else its own mode."""
+    """The words for a language of the table: its own adapter, else its profile of the wrapper. Never gp's own mode, whose answers go astray."""
     own, wrapper = adapter(language), adapter(WRAPPER)
     if own:
         return ("python3", own)
-    if language in OWN_MODE:
-        return OWN_MODE[language]
-    if not wrapper:
-        raise Trouble(f"{WRAPPER} is not where it was installed: say --session {language}=WORDS")
-    return ("python3", wrapper, language)
+    if wrapper and language in PROFILES:
+        return ("python3", wrapper, language)
+    raise Trouble(f"the adapter of {language} is not where it was installed: say --session {language}=WORDS")
 
 
 def word_trouble(word: str) -> str | None:

@@ -2,12 +2,16 @@
 
 from typing import Callable, Dict, List, Optional, Tuple, Union
 
-from tmhost import BadLine, Refused, Worksheet
+from tmhost import BadLine, Cell, Refused, Worksheet
 
 from .console import Console
 from .evaluation import Evaluator, Outcome
 from .lines import Lines
 from .texts import harmless
+
+
+# The words of a session of prose (clients/notebook/README.md): its program ends at once, and its fields are never evaluated.
+PROSE = ("true",)
 
 
 class Mistake(Exception):
@@ -92,11 +96,17 @@ class Commands:
         self.console.note(f"interrupt: {self.worksheet.interrupt(self.session)}")
 
     def _eval_all(self, words: List[str]) -> None:
-        self._evaluate([cell.id for cell in self.worksheet.cells])
+        self._evaluate(self._code(self.worksheet.cells))
 
     def _from(self, words: List[str]) -> None:
-        ids = [cell.id for cell in self.worksheet.cells]
-        self._evaluate(ids[ids.index(self._id(words[0])) :])
+        cells = self.worksheet.cells
+        place = [cell.id for cell in cells].index(self._id(words[0]))
+        self._evaluate(self._code(cells[place:]))
+
+    def _code(self, cells: List[Cell]) -> List[int]:
+        """Those of these fields that an interpreter evaluates, so none of prose."""
+        sessions = self.worksheet.sessions
+        return [cell.id for cell in cells if sessions[cell.field.session].words != PROSE]
 
     def _evaluate(self, ids: List[int]) -> None:
         """One after another: an interpreter that ends takes the answer of one field alone, and those behind it keep theirs, since they
