@@ -1,7 +1,7 @@
 -- A wait goes on by one life.
 use Rattle.std.proofs.Common.{◌≡◌, ℕ, suc, zero, ◌+◌, ◌≤◌, ◌<◌, Bool, List, [], ◌∷◌, ◌++◌, Some, None, refl, sym, ap, ◌∙◌, subst, append_assoc, append-nil, add-one, length, slice_get, nat_lt, inl, inr, arith}
 use Rattle.host_events.specs.declared.event.Event.{Event}
-use Rattle.child_edge.specs.declared.turns.Waiting.{Waiting}
+use Rattle.child_edge.specs.declared.waiting.Waiting.{Waiting}
 use Rattle.child_calls.specs.declared.seat.Seat.{Seat}
 use Rattle.child_edge.specs.Limits.{most_turns}
 use Rattle.child_edge.specs.Seats.{waits}

@@ -3,7 +3,7 @@ use Rattle.std.specs.Prelude.{◌≡◌, ℕ, ◌≤◌, ◌+◌, ◌-◌, ◌*�
 use Rattle.host_events.specs.declared.reply.Reply.{Reply}
 use Rattle.session_engine.specs.World.{World}
 use Rattle.session_engine.specs.Host.{HostView}
-use Rattle.child_edge.specs.declared.turns.Waiting.{Waiting}
+use Rattle.child_edge.specs.declared.waiting.Waiting.{Waiting}
 use Rattle.child_edge.specs.Limits.{most_turns}
 use Rattle.child_edge.specs.Seats.{waits}
 use Rattle.child_edge.specs.Faithful.{Relation, At, at, Beat, FirstOf, Taken, Turns, Waited}

@@ -2,16 +2,16 @@
 //! of such a call one event of the host.
 #![tactic(auto)]
 
+mod busy;
 mod interrupting;
-pub mod lives;
+pub mod listening;
 pub mod serving;
 mod stopping;
-mod turns;
 mod waiting;
 
+pub use busy::{is_idle, waiting as waiting_lives};
 pub use interrupting::{Interrupted, interrupt};
-pub use lives::{listen, stall};
+pub use listening::{listen, stall};
 pub use serving::{EdgeCause, EdgeFault, MOST_TURNS, serve, wait};
 pub use stopping::stop_all;
-pub use turns::Waiting;
-pub use waiting::{is_idle, waiting as waiting_lives};
+pub use waiting::Waiting;

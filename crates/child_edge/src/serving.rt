@@ -13,7 +13,7 @@ ghost use Rattle.child_edge.specs.Faithful.{Hears, Taken, Waited};
 ghost use Rattle.child_edge.specs.Broken.{WaitSoFar, WaitStopped};
 ghost use Rattle.child_edge.specs.Told.{spoken};
 
-use crate::turns::Waiting;
+use crate::waiting::Waiting;
 use child_calls::{ChildFault, Children, ReceiveFault, Received, Seat};
 use disk_model::Disk;
 use host_events::{ChildEvent, Command, Effect, Event, HostFault, Outcome, Reply};
@@ -91,7 +91,7 @@ fn carry_out<C: Children>(children: &mut C, effect: Option<Effect>) -> Option<Ev
     }
 }
 
-/// One event.
+/// The step of a host at one event, with what it leaves of the disk.
 fn step<D: Disk>(host: &mut Host<D>, event: Event) -> Result<Outcome, HostFault>
     ensures same { SameDisk host.old.store.disk host.new.store.disk }
     ensures ok { (w : World) → IsHost host.old w → IfOk result (Took w event host.old host.new) }

@@ -9,7 +9,7 @@ use Rattle.session_engine.specs.Host.{HostView, IsHost}
 use Rattle.host_events.specs.declared.reply.Reply.{Reply}
 use Rattle.child_edge.specs.declared.serving.EdgeCause.{EdgeCause}
 use Rattle.child_edge.specs.declared.serving.EdgeCause.TheVariants as cause
-use Rattle.child_edge.specs.declared.turns.Waiting.{Waiting}
+use Rattle.child_edge.specs.declared.waiting.Waiting.{Waiting}
 use Rattle.child_edge.specs.Limits.{most_turns}
 use Rattle.child_edge.specs.Faithful.{Relation, At, at, Beat, Waited}
 use Rattle.child_edge.specs.Broken.{WaitSoFar, WaitStopped}

@@ -3,7 +3,7 @@ use Rattle.std.proofs.lemmas.Option.{slice_get-get_or}
 use Rattle.child_edge.specs.Faithful.{at}
 use Rattle.child_edge.proofs.Stepping.{came_on, came_broke}
 use Rattle.child_edge.proofs.Waits.{by_cause}
-use Rattle.child_edge.proofs.turns.Waiting.hear_next.Goals as goal
+use Rattle.child_edge.proofs.waiting.Waiting.hear_next.Goals as goal
 
 pub returns-in-Ok-clause-ok : goal.returns-in-Ok-clause-ok
 returns-in-Ok-clause-ok g c = λ s bs w h came.

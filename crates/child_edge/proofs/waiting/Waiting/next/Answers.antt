@@ -5,7 +5,7 @@ use Rattle.child_edge.specs.Limits.{most_turns}
 use Rattle.child_edge.specs.Steps.{Came}
 use Rattle.child_edge.proofs.Stepping.{came_idle, came_last, came_quiet, came_next}
 use Rattle.child_edge.proofs.Waits.{by_cause}
-use Rattle.child_edge.proofs.turns.Waiting.next.Goals as goal
+use Rattle.child_edge.proofs.waiting.Waiting.next.Goals as goal
 
 pub returns-in-Err-clause-err : goal.returns-in-Err-clause-err
 returns-in-Err-clause-err g c = λ s bs w h came.

@@ -1,6 +1,6 @@
 use Rattle.std.proofs.Common.{◌≡◌, [], true, false, refl, ap, ◌∙◌}
 use Rattle.child_edge.proofs.Seating.{seats-start, idle-on, not-idle}
-use Rattle.child_edge.proofs.waiting.is_idle.Goals as goal
+use Rattle.child_edge.proofs.busy.is_idle.Goals as goal
 
 pub loop-session-init : goal.loop-session-init
 loop-session-init g c = λ w h.
