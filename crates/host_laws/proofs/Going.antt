@@ -170,7 +170,7 @@ evaluated_anew found room end es os w allowed run id o mid given clears later to
 
 -- Plays after other events.
 
-runs_on : (w : World) (es : List Event) (os : List Outcome) (v : World) (fs : List Event) (ps : List Outcome) (u : World) → Runs w es os v → Runs v fs ps u → Runs w (es ++ fs) (os ++ ps) u
+pub runs_on : (w : World) (es : List Event) (os : List Outcome) (v : World) (fs : List Event) (ps : List Outcome) (u : World) → Runs w es os v → Runs v fs ps u → Runs w (es ++ fs) (os ++ ps) u
 runs_on w [] [] v fs ps u p q = subst (λ (x : World). Runs x fs ps u) p q
 runs_on w [] (o ∷ os) v fs ps u p q = absurd p
 runs_on w (e ∷ es) [] v fs ps u p q = absurd p

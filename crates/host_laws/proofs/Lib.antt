@@ -14,8 +14,10 @@ pub mod Living
 pub mod Showing
 pub mod Same
 pub mod Going
+pub mod Groups
 pub mod Stepwise
 pub mod Stepping
+pub mod Calling
 pub mod Examples
 pub mod OneThing
 pub mod Totals

@@ -1,5 +1,5 @@
 -- Each command has a reply of its own.
-use Rattle.std.proofs.Common.{◌≡◌, inl, inr, ℕ, true, List, Option, Some, None, refl, sym, subst}
+use Rattle.std.proofs.Common.{inl, inr, ℕ, true, List, Option, Some, None, refl, sym, subst}
 use Rattle.worksheet.specs.declared.op.Op.{Op}
 use Rattle.worksheet.specs.declared.refusal.Refusal.{Refusal}
 use Rattle.worksheet.specs.Checks.{first_of}

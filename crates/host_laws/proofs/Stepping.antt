@@ -27,7 +27,7 @@ module _ (room : ℕ) (before : Image) (found : List Op) (opened : HostView) (be
       (steps_are_turns room opened.store.end before found begun.allowed begun.image begun.ends es os at.0 at.1 e mid old (Ok o) at.2 met.0 met.1).1.0
 
   -- a crash after the last of them
-  after : (events : List Event) (told : List Outcome) (old : HostView) (w : World) → Runs first events told w → IsHost old w
+  pub after : (events : List Event) (told : List Outcome) (old : HostView) (w : World) → Runs first events told w → IsHost old w
       → CrashesAreTurns room before found (record { events = events; told = told }) old.store.disk old.store.disk
   after events told old w run is model = started (λ (i : Image). (kept : List Op) × Turned room before found (record { events = events; told = told }) i kept) old.store.disk.history (λ i image. (
     w.ops,
@@ -48,7 +48,7 @@ module _ (room : ℕ) (before : Image) (found : List Op) (opened : HostView) (be
   ))
 
   -- and one within one step more
-  within : (events : List Event) (told : List Outcome) (old : HostView) (w : World) → Runs first events told w → IsHost old w
+  pub within : (events : List Event) (told : List Outcome) (old : HostView) (w : World) → Runs first events told w → IsHost old w
       → (e : Event) (answer : Result Outcome HostFault) (new : HostView) → StepMeets e old answer new
       → CrashesAreTurns room before found (record { events = events ++ e ∷ []; told = told }) old.store.disk new.store.disk
   within events told old w run is e answer new meets =

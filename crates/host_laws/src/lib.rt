@@ -1,15 +1,17 @@
 //! Laws of the definitions that the contracts of `session_engine` cite (docs/HOST.md, "Laws"). Each function does nothing: its contract is
-//! the law. `hosts_in_turn` is the theorem of many hosts on one disk. The two of `made` make the call that they speak of.
+//! the law. `hosts_in_turn` is the theorem of many hosts on one disk. Those of `made` make the call that they speak of.
 #![tactic(auto)]
 
 ghost use Rattle.host_laws.specs.Apart.{OthersAreSilent, SessionsAreIndependent, SessionsSeeTheirOwn};
+ghost use Rattle.host_laws.specs.Calls.{CallsLeavePrefixes};
 ghost use Rattle.host_laws.specs.OneHost.{StepsLeavePrefixes};
+ghost use Rattle.host_laws.specs.Together.{GroupsAreTurns};
 ghost use Rattle.host_laws.specs.Turns.{EvaluatedAnew, HostsInTurn, PlaysAreTurns, StepsAreTurns};
 ghost use Rattle.host_laws.specs.Laws.{AnEventDoesOneThing, EachCommandHasAReply, EachEventHasAnOutcome, NothingIsShownInFlight, NothingOfAnEndedLife, NumbersAreGivenOnce, OutcomesLeadToOneWorld};
 
 mod made;
 
-pub use made::{created_disk, opened_host};
+pub use made::{created_disk, opened_host, played_group};
 
 /// The same is reported to a session whatever others' interpreters do. Take two histories without
 /// refusals, from worlds alike for it. Where they agree in the merged list of all commands and this
@@ -55,10 +57,20 @@ pub fn steps_are_turns()
     ensures { StepsAreTurns }
 {}
 
+/// So are groups, which one gate commits: a crash within such a play, and one after it, whatever it answers.
+pub fn groups_are_turns()
+    ensures { GroupsAreTurns }
+{}
+
 /// One host from its opening to a crash, whose caller gives it one event after another: all that the contracts of
 /// its calls say of that, in one statement.
 pub fn steps_leave_prefixes()
     ensures { StepsLeavePrefixes }
+{}
+
+/// The same of one whose caller gives it groups of events, too.
+pub fn calls_leave_prefixes()
+    ensures { CallsLeavePrefixes }
 {}
 
 /// What a field shows after an accepted evaluation of it is what a whole block answered after it, or

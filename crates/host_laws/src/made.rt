@@ -5,10 +5,12 @@ ghost use Rattle.worksheet.specs.declared.op.Op.{Op};
 ghost use Rattle.worksheet.specs.Ops.{sheet_of};
 ghost use Rattle.recovery.specs.Sheets.{IsSheetImage};
 ghost use Rattle.host_laws.specs.OneHost.{JustOpened};
+ghost use Rattle.host_laws.specs.Together.{GroupMeets};
 
 use disk_model::Disk;
+use host_events::{Event, Outcome};
 use journal::{CreateFault, OpenFault, create};
-use session_engine::Host;
+use session_engine::{GroupFault, Host};
 use std::alloc::Global;
 
 /// A host that is opened was just opened on the image that its disk had: from there the laws of turns go on.
@@ -26,4 +28,18 @@ pub fn created_disk<D: Disk>(disk: D) -> Result<D, CreateFault<D>>
         (IfOk result (λ d. Leaves (IsSheetImage (sheet_of [])) (D.view d).history.now)) }
 {
     create(disk)
+}
+
+/// Between two calls nothing is owed to a host's disk, so a group that is played is one of which the laws of turns speak. The calls
+/// of `sheet` are made for their contracts alone, which say that.
+pub fn played_group<D: Disk>(
+    host: &mut Host<D>,
+    events: Vec<Event>,
+) -> Result<Vec<Outcome>, GroupFault>
+    ensures { GroupMeets events.items host.old result host.new }
+{
+    let _before = host.sheet();
+    let played = host.play_group(events);
+    let _after = host.sheet();
+    played
 }

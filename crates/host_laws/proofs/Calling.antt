@@ -1,0 +1,48 @@
+-- A host, from its opening to a crash, call after call.
+use Rattle.std.proofs.Common.{ℕ, List, ◌++◌, refl}
+use Rattle.std.specs.Prelude.{Result, Ok}
+use Rattle.std.specs.declared.alloc.Global.{Global}
+use Rattle.std.specs.declared.vec.Vec.{Vec}
+use Rattle.disk_model.specs.Disk.{Image}
+use Rattle.worksheet.specs.declared.op.Op.{Op}
+use Rattle.host_events.specs.declared.event.Event.{Event}
+use Rattle.host_events.specs.declared.outcome.Outcome.{Outcome}
+use Rattle.session_engine.specs.declared.play.GroupFault.{GroupFault}
+use Rattle.session_engine.specs.World.{World, world_at_opening}
+use Rattle.session_engine.specs.Does.{Runs}
+use Rattle.session_engine.specs.Host.{HostView, IsHost}
+use Rattle.host_laws.specs.Turns.{CrashesAreTurns}
+use Rattle.host_laws.specs.OneHost.{JustOpened}
+use Rattle.host_laws.specs.Together.{GroupMeets}
+use Rattle.host_laws.specs.Calls.{CallsLeavePrefixes, TookByCalls, and_group, and_step, no_call}
+use Rattle.host_laws.proofs.Stepwise.{steps_are_turns}
+use Rattle.host_laws.proofs.Stepping.{after, within}
+use Rattle.host_laws.proofs.Groups.{groups_are_turns}
+
+module _ (room : ℕ) (before : Image) (found : List Op) (opened : HostView) (begun : JustOpened room before found opened) where
+  -- the host stands for the world that the events lead to
+  stands_after : (events : List Event) (told : List Outcome) (old : HostView) → TookByCalls opened events told old
+      → (w : World) × Runs (world_at_opening found room opened.store.end) events told w × IsHost old w
+  stands_after events told old no_call = (world_at_opening found room opened.store.end, refl, begun.stands)
+  stands_after events told old (and_step {mid = mid} {e = e} {o = o} {events = es} {told = os} calls meets) =
+      let at = stands_after es os mid calls in
+      let met = meets at.0 at.2 in
+      (steps_are_turns room opened.store.end before found begun.allowed begun.image begun.ends es os at.0 at.1 e mid old (Ok o) at.2 met.0 met.1).1.0
+  stands_after events told old (and_group {mid = mid} {group = group} {outcomes = outcomes} {events = es} {told = os} calls meets) =
+      let at = stands_after es os mid calls in
+      (groups_are_turns room opened.store.end before found begun.allowed begun.image begun.ends es os at.0 at.1 group mid old (Ok outcomes) at.2 meets).2
+
+  -- a crash within one group more
+  within_group : (events : List Event) (told : List Outcome) (old : HostView) (w : World) → Runs (world_at_opening found room opened.store.end) events told w → IsHost old w
+      → (group : List Event) (answer : Result (Vec Outcome Global) GroupFault) (new : HostView) → GroupMeets group old answer new
+      → CrashesAreTurns room before found (record { events = events ++ group; told = told }) old.store.disk new.store.disk
+  within_group events told old w run is group answer new meets =
+      (groups_are_turns room opened.store.end before found begun.allowed begun.image begun.ends events told w run group old new answer is meets).0
+
+pub calls_leave_prefixes : CallsLeavePrefixes
+calls_leave_prefixes room before found opened begun events told old calls =
+    let at = stands_after room before found opened begun events told old calls in (
+      after room before found opened begun events told old at.0 at.1 at.2,
+      within room before found opened begun events told old at.0 at.1 at.2,
+      within_group room before found opened begun events told old at.0 at.1 at.2,
+    )

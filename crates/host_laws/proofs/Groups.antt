@@ -1,0 +1,119 @@
+-- Groups are parts of turns.
+use Rattle.std.proofs.Common.{◌≡◌, ◌∙◌, ⊎_elim, ℕ, List, [], ◌∷◌, ◌++◌, refl, sym, subst, append-nil, IsTrue}
+use Rattle.std.specs.Prelude.{Result, Ok, Err, IfOk}
+use Rattle.std.specs.declared.alloc.Global.{Global}
+use Rattle.std.specs.declared.vec.Vec.{Vec}
+use Rattle.disk_model.specs.Disk.{DiskView, Image, InModel, Leaves, LeavesOnly, SameDisk}
+use Rattle.disk_model.specs.inside.Moments.{at_end, started, weakens}
+use Rattle.worksheet.specs.declared.op.Op.{Op}
+use Rattle.worksheet.specs.Contents.{Contents}
+use Rattle.worksheet.specs.Ops.{sheet_of}
+use Rattle.worksheet.specs.Checks.{Allowed}
+use Rattle.recovery.specs.Sheets.{IsSheetImage, IsSheetOf}
+use Rattle.host_events.specs.declared.event.Event.{Event}
+use Rattle.host_events.specs.declared.outcome.Outcome.{Outcome}
+use Rattle.session_engine.specs.declared.play.GroupFault.{GroupFault}
+use Rattle.session_engine.specs.declared.play.GroupFault.TheVariants as halt
+use Rattle.session_engine.specs.World.{World, world_at_opening, sheet_in}
+use Rattle.session_engine.specs.Does.{Runs}
+use Rattle.session_engine.specs.Crash.{HasPlayed}
+use Rattle.session_engine.specs.Gathers.{FlushesTo}
+use Rattle.session_engine.specs.Host.{EndsAt, HostView, IsHost}
+use Rattle.host_laws.specs.Turns.{CrashesAreTurns, LeftByTurn}
+use Rattle.host_laws.specs.Together.{GroupMeets, GroupsAreTurns, returned}
+use Rattle.host_laws.proofs.Going.{plays_are_turns, runs_on}
+
+module _ (room end : ℕ) (before : Image) (found : List Op) (allowed : Allowed found) (opens : IsSheetImage (sheet_of found) before) (ends : EndsAt before end) (events : List Event) (told : List Outcome)
+    (w : World) (run : Runs (world_at_opening found room end) events told w) (group : List Event) where
+  -- a turn of the events with the group, which returned these outcomes
+  abbrev IsTurn : List Outcome → Image → Type 0
+  IsTurn outcomes i = LeftByTurn room before found (record { events = events ++ group; told = outcomes }) i
+
+  -- a crash that leaves the worksheet before the group
+  without : (i : Image) → IsSheetImage (sheet_in w) i → IsTurn told i
+  without i image = (plays_are_turns room end before found allowed opens ends events told w run group [] i).0
+      (record { done = []; more = group; split = refl; outcomes = []; later = []; first = refl; leads = w; runs = refl; image = image })
+
+  module _ (rest : List Event) (outcomes : List Outcome) (host : HostView) (played : HasPlayed w group rest outcomes host) where
+    -- one that leaves the worksheet after those of its events that were taken, whose outcomes weren't returned
+    with_some : (i : Image) → IsSheetImage (sheet_in played.leads) i → IsTurn told i
+    with_some i image = (plays_are_turns room end before found allowed opens ends events told w run group outcomes i).0
+        (record { done = played.done; more = rest; split = played.split; outcomes = outcomes; later = []; first = sym (append-nil outcomes); leads = played.leads; runs = played.runs; image = image })
+
+    -- one that leaves it where they were returned
+    returned_some : (i : Image) → IsSheetImage (sheet_in played.leads) i → IsTurn (told ++ outcomes) i
+    returned_some i image = (plays_are_turns room end before found allowed opens ends events told w run group outcomes i).1 rest host played image
+
+  module _ (old new : HostView) (stands : IsHost old w) (real : old.store.real ≡ old.store.disk) (after : new.store.real ≡ new.store.disk) where
+    -- what is known of the disk as it stands, of the disk
+    plain : (v : World) → FlushesTo (sheet_in v) old.store new.store → InModel old.store.disk (LeavesOnly (IsSheetOf (sheet_in w) (sheet_in v)) old.store.disk.history new.store.disk.history)
+    plain v flushes = λ model.
+        subst (λ (d : DiskView). LeavesOnly (IsSheetOf (sheet_in w) (sheet_in v)) old.store.disk.history d.history) after
+        (subst (λ (d : DiskView). LeavesOnly (IsSheetOf (sheet_in w) (sheet_in v)) d.history new.store.real.history) real
+        (flushes model (sheet_in w) (subst (λ (d : DiskView). Leaves (IsSheetImage (sheet_in w)) d.history.now) (sym real) (stands.stands.images model))))
+
+    -- at every moment of the call
+    during : (rest : List Event) (outcomes : List Outcome) (host : HostView) (played : HasPlayed w group rest outcomes host) → FlushesTo (sheet_in played.leads) old.store new.store
+        → CrashesAreTurns room before found (record { events = events ++ group; told = told }) old.store.disk new.store.disk
+    during rest outcomes host played flushes = λ model.
+        weakens (IsSheetOf (sheet_in w) (sheet_in played.leads)) (IsTurn told) old.store.disk.history new.store.disk.history
+        (λ i either. ⊎_elim (without i) (with_some rest outcomes host played i) either)
+        (plain played.leads flushes model)
+
+    -- no event was taken
+    unmoved : FlushesTo (sheet_in w) old.store new.store → CrashesAreTurns room before found (record { events = events ++ group; told = told }) old.store.disk new.store.disk
+    unmoved flushes = λ model.
+        weakens (IsSheetOf (sheet_in w) (sheet_in w)) (IsTurn told) old.store.disk.history new.store.disk.history
+        (λ i either. ⊎_elim (without i) (without i) either) (plain w flushes model)
+
+    stays : new ≡ old → CrashesAreTurns room before found (record { events = events ++ group; told = told }) old.store.disk new.store.disk
+    stays same = subst (λ (h : HostView). InModel old.store.disk (LeavesOnly (IsTurn told) old.store.disk.history h.store.disk.history)) (sym same)
+        (λ model. started (IsTurn told) old.store.disk.history (λ i image. without i (stands.stands.images model i image)))
+
+    -- a crash after a call that returned no outcome
+    silent : SameDisk old.store.disk new.store.disk → CrashesAreTurns room before found (record { events = events ++ group; told = told }) old.store.disk new.store.disk
+        → CrashesAreTurns room before found (record { events = events ++ group; told = told ++ [] }) new.store.disk new.store.disk
+    silent same crashes = λ model. started (IsTurn (told ++ [])) new.store.disk.history
+        (λ i image. subst (λ (os : List Outcome). IsTurn os i) (sym (append-nil told))
+        (at_end (IsTurn told) old.store.disk.history new.store.disk.history (crashes (subst IsTrue same.keeps_model model)) i image))
+
+    -- a crash after one that returned these outcomes
+    spoken : (rest : List Event) (outcomes : List Outcome) (host : HostView) (played : HasPlayed w group rest outcomes host) → InModel new.store.disk (Leaves (IsSheetImage (sheet_in played.leads)) new.store.disk.history.now)
+        → CrashesAreTurns room before found (record { events = events ++ group; told = told ++ outcomes }) new.store.disk new.store.disk
+    spoken rest outcomes host played images = λ model. started (IsTurn (told ++ outcomes)) new.store.disk.history
+        (λ i image. returned_some rest outcomes host played i (images model i image))
+
+    -- where all were taken, their outcomes lead on
+    leads_on : (outcomes : List Outcome) (played : HasPlayed w group [] outcomes new) → Runs (world_at_opening found room end) (events ++ group) (told ++ outcomes) played.leads
+    leads_on outcomes played = subst (λ (es : List Event). Runs (world_at_opening found room end) (events ++ es) (told ++ outcomes) played.leads) (sym (played.split ∙ append-nil played.done))
+        (runs_on (world_at_opening found room end) events told w played.done outcomes played.leads run played.runs)
+
+    -- what the call left, by its answer
+    abbrev Left : Result (Vec Outcome Global) GroupFault → Type 0
+    Left answer = CrashesAreTurns room before found (record { events = events ++ group; told = told }) old.store.disk new.store.disk
+        × CrashesAreTurns room before found (record { events = events ++ group; told = told ++ returned answer }) new.store.disk new.store.disk
+        × IfOk answer (λ outcomes. (v : World) × Runs (world_at_opening found room end) (events ++ group) (told ++ outcomes.items) v × IsHost new v)
+
+    left : (answer : Result (Vec Outcome Global) GroupFault) → GroupMeets group old answer new → Left answer
+    left (Ok outcomes) m =
+        let took = m.took w stands in
+        let p = took.played in
+        (during [] outcomes.items new p took.moments, spoken [] outcomes.items new p p.stands.stands.images, (p.leads, leads_on outcomes.items p, p.stands))
+    left (Err (halt.Stopped outcomes fault)) m =
+        let s = m.halts w stands in
+        let images = subst (λ (sheet : Contents). InModel new.store.disk (Leaves (IsSheetImage sheet) new.store.disk.history.now)) s.contents s.flushed.2 in
+        (during (s.at ∷ s.dropped) outcomes.items s.before s.played s.moments, spoken (s.at ∷ s.dropped) outcomes.items s.before s.played images, tt)
+    left (Err halt.Disk) m =
+        let s = m.halts w stands in
+        let crashes = during s.rest s.untold s.before s.played s.moments in
+        (crashes, silent m.same crashes, tt)
+    left (Err (halt.NoRoom back)) m =
+        let crashes = unmoved (m.halts w stands).moments in
+        (crashes, silent m.same crashes, tt)
+    left (Err (halt.Checkpoint back)) m =
+        let crashes = stays (m.halts w stands).2 in
+        (crashes, silent m.same crashes, tt)
+
+pub groups_are_turns : GroupsAreTurns
+groups_are_turns room end before found allowed opens ends events told w run group old new answer stands m =
+    left room end before found allowed opens ends events told w run group old new stands m.before m.after answer m

@@ -1,0 +1,50 @@
+-- Groups of events that one gate commits, as parts of turns: what a crash within such a play, or after it, leaves. (docs/HOST.md.)
+use Rattle.std.specs.Prelude.{◌≡◌, ℕ, List, [], ◌++◌, Result, Ok, Err, IfOk, IfErr}
+use Rattle.std.specs.declared.alloc.Global.{Global}
+use Rattle.std.specs.declared.vec.Vec.{Vec}
+use Rattle.disk_model.specs.Disk.{Image, SameDisk}
+use Rattle.worksheet.specs.declared.op.Op.{Op}
+use Rattle.worksheet.specs.Ops.{sheet_of}
+use Rattle.worksheet.specs.Checks.{Allowed}
+use Rattle.recovery.specs.Sheets.{IsSheetImage}
+use Rattle.host_events.specs.declared.event.Event.{Event}
+use Rattle.host_events.specs.declared.outcome.Outcome.{Outcome}
+use Rattle.session_engine.specs.declared.play.GroupFault.{GroupFault}
+use Rattle.session_engine.specs.declared.play.GroupFault.TheVariants as halt
+use Rattle.session_engine.specs.World.{World, world_at_opening}
+use Rattle.session_engine.specs.Does.{Runs}
+use Rattle.session_engine.specs.Groups.{HaltsGroup, TookGroup}
+use Rattle.session_engine.specs.Host.{EndsAt, HostView, IsHost}
+use Rattle.host_laws.specs.Turns.{CrashesAreTurns}
+
+-- One call of `play_group`, as its contract has it, between two moments at which nothing is owed to the host's disk: the events, the
+-- host before it, what was returned, and the host after it.
+pub record GroupMeets (group : List Event) (old : HostView) (answer : Result (Vec Outcome Global) GroupFault) (new : HostView) : Type 0 where
+  pub took : (w : World) → IsHost old w → IfOk answer (λ outcomes. TookGroup w group outcomes.items old new)
+  pub halts : (w : World) → IsHost old w → IfErr answer (HaltsGroup w group old new)
+  pub before : old.store.real ≡ old.store.disk
+  pub after : new.store.real ≡ new.store.disk
+  pub same : SameDisk old.store.disk new.store.disk
+
+-- the outcomes that such a call returned
+abbrev pub returned : Result (Vec Outcome Global) GroupFault → List Outcome
+returned (Ok outcomes) = outcomes.items
+returned (Err (halt.Stopped outcomes fault)) = outcomes.items
+returned (Err (halt.Checkpoint back)) = []
+returned (Err (halt.NoRoom back)) = []
+returned (Err halt.Disk) = []
+
+-- A group is a part of a turn, too. A host was opened, took events and returned their outcomes, and stands for the world that they led
+-- to; now it plays a group of events more. A crash at any moment of that, whatever it answers, makes a turn of the events with the group that
+-- returned the earlier outcomes. A crash after it makes a turn that returned the group's outcomes too. Where it answers Ok, the host stands
+-- for the world that the events with the group lead to.
+abbrev pub GroupsAreTurns : Type 0
+GroupsAreTurns = (room end : ℕ) (before : Image) (found : List Op)
+    → Allowed found → IsSheetImage (sheet_of found) before → EndsAt before end
+    → (events : List Event) (told : List Outcome) (w : World)
+    → Runs (world_at_opening found room end) events told w
+    → (group : List Event) (old new : HostView) (answer : Result (Vec Outcome Global) GroupFault)
+    → IsHost old w → GroupMeets group old answer new
+    → CrashesAreTurns room before found (record { events = events ++ group; told = told }) old.store.disk new.store.disk
+    × CrashesAreTurns room before found (record { events = events ++ group; told = told ++ returned answer }) new.store.disk new.store.disk
+    × IfOk answer (λ outcomes. (v : World) × Runs (world_at_opening found room end) (events ++ group) (told ++ outcomes.items) v × IsHost new v)
