@@ -18,6 +18,7 @@ pub mod Groups
 pub mod Stepwise
 pub mod Stepping
 pub mod Calling
+pub mod Again
 pub mod Examples
 pub mod OneThing
 pub mod Totals

@@ -199,3 +199,11 @@ EvaluatedAnew = (found : List Op) (room end : ℕ) (es : List Event) (os : List 
     → (id : ℕ) (o : Outcome) (mid : World) → Gives w (event.Command (command.Eval id)) o mid → mid.ops ≡ w.ops ++ op.Clear id ∷ []
     → (later : List Event) (told : List Outcome) (steps : List HostStep) (v : World) → StepsOf mid later told steps v
     → (f : Field) (answer : Answer) → f.id ≡ id → Has (sheet_in v) f → f.answer ≡ Some answer → AnsweredIn steps f
+
+-- The same of hosts one after another: where one of their steps was an accepted evaluation, what its field shows in the end is what a whole
+-- block answered in a later step, be it of that host or of one after it, or nothing.
+abbrev pub EvaluatedAnewInTurn : Type 0
+EvaluatedAnewInTurn = (room : ℕ) (first : List Op) (before after : Image) (turns : List HostTurn) (left : LeftInTurn room first before after turns) → Allowed first
+    → (earlier later : List HostStep) (s : HostStep) (id : ℕ) → left.steps ≡ earlier ++ s ∷ later
+    → s.event ≡ event.Command (command.Eval id) → s.behind.ops ≡ s.before.ops ++ op.Clear id ∷ []
+    → (f : Field) (answer : Answer) → f.id ≡ id → Has (sheet_of left.kept) f → f.answer ≡ Some answer → AnsweredIn later f

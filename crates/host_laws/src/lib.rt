@@ -6,7 +6,7 @@ ghost use Rattle.host_laws.specs.Apart.{OthersAreSilent, SessionsAreIndependent,
 ghost use Rattle.host_laws.specs.Calls.{CallsLeavePrefixes};
 ghost use Rattle.host_laws.specs.OneHost.{StepsLeavePrefixes};
 ghost use Rattle.host_laws.specs.Together.{GroupsAreTurns};
-ghost use Rattle.host_laws.specs.Turns.{EvaluatedAnew, HostsInTurn, PlaysAreTurns, StepsAreTurns};
+ghost use Rattle.host_laws.specs.Turns.{EvaluatedAnew, EvaluatedAnewInTurn, HostsInTurn, PlaysAreTurns, StepsAreTurns};
 ghost use Rattle.host_laws.specs.Laws.{AnEventDoesOneThing, EachCommandHasAReply, EachEventHasAnOutcome, NothingIsShownInFlight, NothingOfAnEndedLife, NumbersAreGivenOnce, OutcomesLeadToOneWorld};
 
 mod made;
@@ -77,6 +77,11 @@ pub fn calls_leave_prefixes()
 /// nothing.
 pub fn evaluated_anew()
     ensures { EvaluatedAnew }
+{}
+
+/// The same of hosts one after another: what is shown in the end came after the evaluation, in whichever host.
+pub fn evaluated_anew_in_turn()
+    ensures { EvaluatedAnewInTurn }
 {}
 
 /// Every event has an outcome in every world.
