@@ -18,6 +18,7 @@ pub record CheckView : Type 0 where
   pub leave_out : Option Text
   pub timeout : Option Text
   pub accept : Bool
+  pub jobs : Option Text
 
 abbrev pub check_view : CheckWords → CheckView
 check_view words = record {
@@ -27,6 +28,7 @@ check_view words = record {
   leave_out = option_map (λ text. text.now) words.leave_out;
   timeout = option_map (λ text. text.now) words.timeout;
   accept = words.accept;
+  jobs = option_map (λ text. text.now) words.jobs;
 }
 
 -- what the words of `eval` ask for beside its path, as contracts see it
@@ -107,7 +109,7 @@ abbrev pub with_json : Text → App
 with_json name = with_rule (with_path name) json_rule
 
 -- and of the one with options: whether it writes JSON, the format of its report, the session that it is about, the fields that aren't compared, the time that a
--- field may take, and whether answers that differ are accepted
+-- field may take, whether answers that differ are accepted, and how many sessions go side by side
 abbrev pub report_rule : Rule
 report_rule = record (new_rule (codes "format")) { long = Some (codes "format"); value_names = 1 }
 
@@ -135,8 +137,14 @@ with_check_timeout name = with_rule (with_left_out name) timeout_rule
 abbrev pub accept_rule : Rule
 accept_rule = record (new_rule (codes "accept")) { long = Some (codes "accept"); action = Some SetTrue }
 
+abbrev pub with_accept : Text → App
+with_accept name = with_rule (with_check_timeout name) accept_rule
+
+abbrev pub jobs_rule : Rule
+jobs_rule = record (new_rule (codes "jobs")) { long = Some (codes "jobs"); value_names = 1 }
+
 abbrev pub with_check : Text → App
-with_check name = with_rule (with_check_timeout name) accept_rule
+with_check name = with_rule (with_accept name) jobs_rule
 
 -- and of `eval`, with flags, the time that a field may take, the number of the first field, how many sessions go side by side, and numbers of
 -- fields after the path
@@ -163,9 +171,6 @@ from_rule = record (new_rule (codes "from")) { long = Some (codes "from"); value
 
 abbrev pub with_from : Text → App
 with_from name = with_rule (with_keep_going name) from_rule
-
-abbrev pub jobs_rule : Rule
-jobs_rule = record (new_rule (codes "jobs")) { long = Some (codes "jobs"); value_names = 1 }
 
 abbrev pub with_jobs : Text → App
 with_jobs name = with_rule (with_from name) jobs_rule
@@ -233,6 +238,7 @@ check_in rows = record {
   leave_out = first_of (codes "leave-out") rows;
   timeout = first_of (codes "timeout") rows;
   accept = is_set (first_of (codes "accept") rows);
+  jobs = first_of (codes "jobs") rows;
 }
 
 -- the numbers of fields that those of `eval` name

@@ -1,6 +1,6 @@
 //! The command line that words are read by: its subcommands, each with its words.
 ghost use Rattle.std.specs.Prelude.{◌≡◌, ◌<◌, IfOk, false};
-ghost use Rattle.clap.specs.Words.{app_of, new_app, with_subcommand};
+ghost use Rattle.clap.specs.Words.{app_of, new_app, with_rule, with_subcommand};
 ghost use Rattle.clap.specs.declared.builder.command.Command.TheViews.{out-Command as fields_of};
 ghost use Rattle.command_words.specs.Asked.{tmhost};
 ghost use Rattle.command_words.specs.Asked as asked;
@@ -129,8 +129,8 @@ fn with_check_timeout<'a>(alloc: Global, row: Row) -> Result<Command<'a>, AllocE
 }
 
 /// The same, and with the flag that has answers accepted.
-fn with_check<'a>(alloc: Global, row: Row) -> Result<Command<'a>, AllocError>
-    ensures made { IfOk result (λ command. app_of command ≡ asked.with_check row.name.now) }
+fn with_accept<'a>(alloc: Global, row: Row) -> Result<Command<'a>, AllocError>
+    ensures made { IfOk result (λ command. app_of command ≡ asked.with_accept row.name.now) }
     ensures local { IfOk result (λ command. (fields_of command).has_globals ≡ false) }
 {
     let first = with_check_timeout(alloc, row)?;
@@ -140,6 +140,29 @@ fn with_check<'a>(alloc: Global, row: Row) -> Result<Command<'a>, AllocError>
             .help("Put the answers that differ into the worksheet")
             .action(ArgAction::SetTrue),
     )
+}
+
+/// A subcommand, and with how many sessions go side by side.
+fn and_jobs<'a>(alloc: Global, first: Command<'a>) -> Result<Command<'a>, AllocError>
+    requires { (fields_of first).has_globals ≡ false }
+    ensures made { IfOk result (λ command. app_of command ≡ with_rule (app_of first.entry) asked.jobs_rule) }
+    ensures local { IfOk result (λ command. (fields_of command).has_globals ≡ false) }
+{
+    first.arg(
+        Arg::new(alloc, "jobs")
+            .long("jobs")
+            .value_name("N")
+            .help("Evaluate fields of up to so many sessions side by side"),
+    )
+}
+
+/// The same as those, with how many sessions go side by side.
+fn with_check<'a>(alloc: Global, row: Row) -> Result<Command<'a>, AllocError>
+    ensures made { IfOk result (λ command. app_of command ≡ asked.with_check row.name.now) }
+    ensures local { IfOk result (λ command. (fields_of command).has_globals ≡ false) }
+{
+    let first = with_accept(alloc, row)?;
+    and_jobs(alloc, first)
 }
 
 /// A subcommand with a path, and with flags that make it strict and that leave fields out.
@@ -218,12 +241,7 @@ fn with_jobs<'a>(alloc: Global, row: Row) -> Result<Command<'a>, AllocError>
     ensures local { IfOk result (λ command. (fields_of command).has_globals ≡ false) }
 {
     let first = with_from(alloc, row)?;
-    first.arg(
-        Arg::new(alloc, "jobs")
-            .long("jobs")
-            .value_name("N")
-            .help("Evaluate fields of up to so many sessions side by side"),
-    )
+    and_jobs(alloc, first)
 }
 
 /// A subcommand with a path and numbers of fields, and with the flags and the options of `eval`.

@@ -145,6 +145,10 @@ With --accept each answer that differs is put into its field of the worksheet,\n
 which is opened to write. Then its difference is written, with `accepted ID` below,\n\
 and the last line is as `same 4 accepted 1 unanswered 0`. It goes with no format\n\
 but text.\n\n\
+With --jobs N (1 to 64) fields of up to N sessions wait at a time, of each session\n\
+one, as with `eval --jobs`. The report is the same, and nothing of it is written\n\
+until the last answer came. With --timeout the time of fields that wait together\n\
+begins when the last of them was asked. It goes with no --accept.\n\n\
 Status: 0 where all outputs that are compared are the same, or were accepted; 1\n\
 where one differs or didn't come, where the session that --only names has no field\n\
 that shows an answer, or at a fault; 2 where the words are refused.\n\n\

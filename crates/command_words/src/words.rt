@@ -23,6 +23,8 @@ pub struct CheckWords<'a> {
     pub timeout: Option<&'a str>,
     /// Answers that differ are put into the worksheet.
     pub accept: bool,
+    /// In how many sessions fields wait at a time.
+    pub jobs: Option<&'a str>,
 }
 
 /// What the program is asked to do. A path is one of the words.
@@ -185,6 +187,7 @@ fn check_words<'a>(matches: &ArgMatches<'a>) -> CheckWords<'a>
         leave_out: matches.get_str("leave-out"),
         timeout: matches.get_str("timeout"),
         accept: is_set(matches.get_str("accept")),
+        jobs: matches.get_str("jobs"),
     }
 }
 

@@ -7,3 +7,4 @@ pub mod Goings
 pub mod Ends
 pub mod Unsaid
 pub mod Waits
+pub mod LateOnes

@@ -7,4 +7,5 @@ pub mod Broken
 pub mod Evaluation
 pub mod Faults
 pub mod Within
+pub mod Silently
 pub mod inside

@@ -1,3 +1,4 @@
 pub mod Choosing
 pub mod Stepping
 pub mod Beside
+pub mod LateFields

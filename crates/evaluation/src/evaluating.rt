@@ -56,7 +56,7 @@ pub struct Evaluated<D: Disk> {
 }
 
 /// The place where nothing was asked yet.
-fn not_begun() -> Stand
+pub(crate) fn not_begun() -> Stand
     ensures { result ≡ begins }
 {
     Stand {
@@ -133,7 +133,7 @@ fn evaluate_and_stop<D: Disk, S: Sources, T: Tells, W: Write>(
 }
 
 /// A worksheet has few fields.
-fn few_fields<D: Disk>(host: &Host<D>)
+pub(crate) fn few_fields<D: Disk>(host: &Host<D>)
     requires { (w : World) × IsHost host.now w }
     ensures { length host.now.store.sheet.contents.fields < 2 ^ 31 }
 {

@@ -50,7 +50,7 @@ fn asked_last(id: u32, held: Hold) -> Stand
 }
 
 /// The fault of a wait by that of its steps: nothing is written, and a text in memory fails where memory is refused.
-fn wait_fault(fault: RunFault) -> RunFault
+pub(crate) fn wait_fault(fault: RunFault) -> RunFault
     ensures { result ≡ fault_of_wait fault }
 {
     match fault {
