@@ -9,8 +9,7 @@ use Rattle.child_edge.specs.Edge.{Stopped}
 use Rattle.sheet_programs.specs.Told.{StandsOrStopped}
 use Rattle.offline_programs.specs.declared.fault.RunFault.{RunFault}
 use Rattle.offline_programs.specs.declared.fault.RunFault.TheVariants as fault
-use Rattle.live.specs.Saying.{Clock}
-use Rattle.live.specs.Arrivals.{Watch}
+use Rattle.live.specs.Records.{Clock, Watch}
 use Rattle.evaluation.specs.declared.plan.Plan.{Plan}
 use Rattle.evaluation.specs.declared.plan.Stand.{Stand}
 use Rattle.evaluation.specs.Rounds.{asking_order}

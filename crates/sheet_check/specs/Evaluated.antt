@@ -16,8 +16,7 @@ use Rattle.host_events.specs.declared.outcome.HostFault.TheVariants as hosts
 use Rattle.child_edge.specs.Limits.{most_turns}
 use Rattle.child_edge.specs.Faithful.{Relation, At, Beat, Served, Waited}
 use Rattle.child_edge.specs.Told.{told}
-use Rattle.live.specs.Arrivals.{Watch}
-use Rattle.live.specs.Saying.{Clock}
+use Rattle.live.specs.Records.{Clock, Watch}
 use Rattle.evaluation.specs.Steps.{Setting}
 use Rattle.evaluation.specs.Within.{WaitedWithin, waiting}
 use Rattle.offline_programs.specs.declared.fault.RunFault.{RunFault}
