@@ -118,7 +118,7 @@ module _ {C : Type 0} (o : Setting C) (p : EvalPlace C) (stand : Stand) (h g : H
 pub noted_many : {C : Type 0} (o : Setting C) (p : EvalPlace C) (stand : Stand) (h : HostView) (c : C) (a b : Option (List ℕ)) (n : ℕ) (late : List ℕ) → NotedSoFar o p stand h c a b n late → 2 ^ 64 ≤ n + 1 → NotingBroke o p h c a b fault.InputTooLong
 noted_many o p stand h c a b n late noted many = inl (too_many o p stand h c a b n noted.so many)
 
--- What comes of it where nothing is told.
+-- What comes of it where nothing is reported.
 module _ {C : Type 0} (o : Setting C) (s : At C) (h : HostView) (c : C) (a b : Option (List ℕ)) where
   pub silently_done : (late : List ℕ) → NotedThrough o (stands s not_begun) h c a b late → (t : World) × EvaluatedSilently o s late (at t c h.store.disk) × IsHost h t
   silently_done late q = let all = q.1.0 in (

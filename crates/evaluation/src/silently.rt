@@ -35,7 +35,7 @@ fn late_in(ids: &[u32], from: Stand, next: Stand) -> Option<u32>
     }
 }
 
-/// Puts a number, where there is one, behind others.
+/// Puts a number, where there is one, after others.
 fn put_late(late: &mut Vec<u32>, id: Option<u32>) -> Result<(), RunFault>
     ensures ok { OnOk result (late.new.items ≡ late.old.items ++ listed id) }
     ensures err { IfErr result (λ why. why ≡ RunFault.OutOfMemory) }
@@ -98,7 +98,7 @@ fn ids_of_host<D: Disk>(alloc: Global, plan: &Plan, host: &Host<D>) -> Result<Ve
 }
 
 /// Evaluates fields of the worksheet of a host, as [`evaluate`](crate::evaluate) does: one after another, or
-/// with more jobs those of several sessions side by side, within the plan's limit of time. Nothing is told.
+/// with more jobs those of several sessions side by side, within the plan's limit of time. Nothing is reported.
 /// It hands out the numbers of the fields whose time was over, in the order in which that came; what such a
 /// field shows came too late. A number that is asked for and that no field has is passed over. The lives that
 /// go on aren't stopped.

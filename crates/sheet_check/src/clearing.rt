@@ -101,7 +101,7 @@ pub(crate) fn open_cleared(
     }
 }
 
-/// Puts the number of a field that shows an answer behind others.
+/// Puts the number of a field that shows an answer after others.
 fn put_shown(ids: &mut Vec<u32>, shown: Option<&Answer>, id: u32) -> Result<(), AllocError>
     ensures { OnOk result (ids.new.items ≡ ids.old.items ++ together.id_of_shown (option_copied shown.entry) id) }
 {
