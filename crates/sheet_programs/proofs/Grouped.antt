@@ -33,7 +33,7 @@ use Rattle.sheet_text.specs.Texts.{reply_text}
 use Rattle.sheet_text.specs.declared.script.ScriptLine.{ScriptLine}
 use Rattle.sheet_text.specs.declared.script.ScriptLine.TheVariants as line
 use Rattle.sheet_programs.specs.Lines.{beats_text}
-use Rattle.sheet_programs.specs.Together.{Alone, GroupBroke, GroupDone, Joins, LeavesEither, lines_events, line_events, may_join}
+use Rattle.sheet_programs.specs.Together.{Alone, GroupBroke, GroupDone, Joins, LeavesEither, lines_events, line_events, may_join, most_commands}
 use Rattle.sheet_programs.specs.inside.Grouping.{GroupKept, outcome_text, outcomes_text}
 
 -- Such commands have no effect.
@@ -182,10 +182,11 @@ module _ {C : Type 0} (lines : List (List ℕ)) (w : World) (events : List Event
   pub kept_text : outcomes_text p.told ≡ beats_text kept_beats
   kept_text = ap (λ (os : List Outcome). outcomes_text os) (sym (outcomes_from w events p.told p.leads p.runs)) ∙ told_text kept_beats
 
-  pub kept_done : 2 ≤ length events → SameDisk old.store.disk new.store.disk → GroupDone lines (at w c old.store.disk) kept_beats (at p.leads c new.store.disk)
-  kept_done many same = record {
+  pub kept_done : 2 ≤ length events → length events ≤ most_commands → SameDisk old.store.disk new.store.disk → GroupDone lines (at w c old.store.disk) kept_beats (at p.leads c new.store.disk)
+  kept_done many few same = record {
     joins = subst (λ (es : List Event). Joins lines es) (sym (events_from w events p.told p.leads p.runs)) joins;
     many = subst (λ (n : ℕ). 2 ≤ n) (sym (length_from w events p.told p.leads p.runs)) many;
+    few = subst (λ (n : ℕ). n ≤ most_commands) (sym (length_from w events p.told p.leads p.runs)) few;
     runs = subst (λ (es : List Event). Runs w es (outcomes_of kept_beats) p.leads) (sym (events_from w events p.told p.leads p.runs))
         (subst (λ (os : List Outcome). Runs w events os p.leads) (sym (outcomes_from w events p.told p.leads p.runs)) p.runs);
     alone = alone_from w events p.told p.leads (joined_edits lines events joins) p.runs;

@@ -17,7 +17,7 @@ use Rattle.sheet_text.specs.declared.script.ScriptLine.{ScriptLine}
 use Rattle.sheet_text.specs.declared.script.ScriptLine.TheVariants as line
 use Rattle.sheet_programs.specs.Lines.{LineDone, LineSoFar, LinesDone, none, and_line, and_group, beats_text}
 use Rattle.sheet_programs.specs.Run.{GroupBefore}
-use Rattle.sheet_programs.specs.Together.{Joins, lines_events, line_events, may_join}
+use Rattle.sheet_programs.specs.Together.{Joins, lines_events, line_events, may_join, most_commands}
 use Rattle.sheet_programs.specs.Told.{LineFailed, LineWrote}
 use Rattle.sheet_programs.specs.inside.Grouping.{GroupFailed, GroupTook, Standing}
 use Rattle.sheet_programs.specs.inside.Taking.{LineTook, LinesFailed}
@@ -155,11 +155,11 @@ standing R lines s h c a b beats text leads ran stands wrote = record {
 -- What waits was taken together.
 
 module _ {C : Type 0} (R : Relation C) (lines : List (List ℕ)) (events : List Event) (s : At C) (h g : HostView) (c : C) (a b e : Option (List ℕ)) (p : Standing R lines events s h c a b) (many : 2 ≤ length events)
-    (same : SameDisk h.store.disk g.store.disk) where
+    (few : length events ≤ most_commands) (same : SameDisk h.store.disk g.store.disk) where
   pub group_stands : GroupTook p.leads events h g b e → Standing R lines [] s g c a e
   group_stands q =
       let more = kept_beats {C = C} p.held p.leads events h g c p.joins q.0 in
-      let done = and_group p.done p.held s p.beats p.text (at p.leads c h.store.disk) more (at q.0.leads c g.store.disk) p.ran (kept_done p.held p.leads events h g c p.joins q.0 many same) in
+      let done = and_group p.done p.held s p.beats p.text (at p.leads c h.store.disk) more (at q.0.leads c g.store.disk) p.ran (kept_done p.held p.leads events h g c p.joins q.0 many few same) in
       standing R lines s g c a e (p.beats ++ more) (p.text ++ beats_text more) q.0.leads
       (subst (λ (ls : List (List ℕ)). LinesDone R 1 ls s (p.beats ++ more) (p.text ++ beats_text more) (at q.0.leads c g.store.disk)) (sym p.split) done) q.0.stands
       (Appends-trans a b e p.text (beats_text more) p.wrote (subst (Appends b e) (kept_text {C = C} p.held p.leads events h g c p.joins q.0) q.1))
@@ -193,28 +193,28 @@ so_far_at R lines rest first others s h g c a b e w x stands same wrote = (
 )
 
 pub group_fails : {C : Type 0} (R : Relation C) (lines : List (List ℕ)) (events : List Event) (s : At C) (h g : HostView) (c : C) (a b e : Option (List ℕ)) (p : Standing R lines events s h c a b) (many : 2 ≤ length events)
-    (same : SameDisk h.store.disk g.store.disk) (rest : List (List ℕ)) (f : RunFault) → GroupFailed p.held p.leads events h g b e f → LinesFailed R false (lines ++ rest) s g c a e f
-group_fails R lines events s h g c a b e p many same rest (fault.Host f) q =
-    inr (q.0, (p.held, p.beats, p.text, p.leads, h.store.disk, q.1, before R lines events s h g c a b e p many same rest, unchanged R lines events s h g c a b e p many same q.2))
-group_fails R lines [] s h g c a b e p many same rest fault.OutOfMemory q = absurd (omega (arith, many))
-group_fails R lines (x ∷ xs) s h g c a b e p many same rest fault.OutOfMemory q = so_far_at R lines rest x xs s h g c a b e p.leads (at_command R lines s h c a b x xs p) q.0 q.1 q.2
-group_fails {C = C} R lines events s h g c a b e p many same rest fault.Output q = inr (
+    (few : length events ≤ most_commands) (same : SameDisk h.store.disk g.store.disk) (rest : List (List ℕ)) (f : RunFault) → GroupFailed p.held p.leads events h g b e f → LinesFailed R false (lines ++ rest) s g c a e f
+group_fails R lines events s h g c a b e p many few same rest (fault.Host f) q =
+    inr (q.0, (p.held, p.beats, p.text, p.leads, h.store.disk, q.1, before R lines events s h g c a b e p many few same rest, unchanged R lines events s h g c a b e p many few same q.2))
+group_fails R lines [] s h g c a b e p many few same rest fault.OutOfMemory q = absurd (omega (arith, many))
+group_fails R lines (x ∷ xs) s h g c a b e p many few same rest fault.OutOfMemory q = so_far_at R lines rest x xs s h g c a b e p.leads (at_command R lines s h c a b x xs p) q.0 q.1 q.2
+group_fails {C = C} R lines events s h g c a b e p many few same rest fault.Output q = inr (
   q.leads,
   (
     p.held,
     p.beats,
     p.text,
     at p.leads c h.store.disk,
-    before R lines events s h g c a b e p many same rest,
+    before R lines events s h g c a b e p many few same rest,
     kept_beats {C = C} p.held p.leads events h g c p.joins q,
-    kept_done p.held p.leads events h g c p.joins q many same,
+    kept_done p.held p.leads events h g c p.joins q many few same,
   ),
   q.stands,
 )
-group_fails R lines events s h g c a b e p many same rest fault.Input q = absurd q
-group_fails R lines events s h g c a b e p many same rest fault.InputTooLong q = absurd q
-group_fails R lines events s h g c a b e p many same rest (fault.Open why) q = absurd q
-group_fails R lines events s h g c a b e p many same rest fault.InUse q = absurd q
+group_fails R lines events s h g c a b e p many few same rest fault.Input q = absurd q
+group_fails R lines events s h g c a b e p many few same rest fault.InputTooLong q = absurd q
+group_fails R lines events s h g c a b e p many few same rest (fault.Open why) q = absurd q
+group_fails R lines events s h g c a b e p many few same rest fault.InUse q = absurd q
 
 -- A single command was taken.
 

@@ -43,6 +43,10 @@ pub record Joins (lines : List (List ℕ)) (events : List Event) : Type 0 where
   pub each : AllByRecursion (λ l. may_join (line_of l) ≡ true) lines
   pub are : events ≡ lines_events lines
 
+-- the most commands that are taken together
+abbrev pub most_commands : ℕ
+most_commands = 1024
+
 -- an event without an effect, so no child was called
 abbrev pub Alone : Beat → Type 0
 Alone b = (b.outcome.effect ≡ None) × (b.answer ≡ None)
@@ -51,11 +55,12 @@ Alone b = (b.outcome.effect ≡ None) × (b.answer ≡ None)
 abbrev pub LeavesEither : World → World → DiskView → DiskView → Type 0
 LeavesEither w v old new = InModel old (LeavesOnly (IsSheetOf (sheet_in w) (sheet_in v)) old.history new.history)
 
--- Lines with two commands or more were taken together. Their commands went through one after another, and no child was called. What they
+-- Lines with two commands or more, and at most 1,024, were taken together. Their commands went through one after another, and no child was called. What they
 -- gave became durable at once: a crash left the worksheet from before them, or that after all of them.
 pub record GroupDone {C : Type 0} (lines : List (List ℕ)) (s : At C) (beats : List Beat) (t : At C) : Type 0 where
   pub joins : Joins lines (events_of beats)
   pub many : 2 ≤ length beats
+  pub few : length beats ≤ most_commands
   pub runs : Runs s.world (events_of beats) (outcomes_of beats) t.world
   pub alone : AllByRecursion Alone beats
   pub children : t.children ≡ s.children

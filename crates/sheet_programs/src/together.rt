@@ -1,5 +1,5 @@
 //! Lines of a script of which those that only change the worksheet are taken together.
-ghost use Rattle.std.specs.Prelude.{◌≡◌, ◌+◌, ◌<◌, ◌^◌, ◌++◌, ◌∷◌, [], ℕ, List, Option, Some, IfErr, IfOk, OnOk, false, is_some, length, true};
+ghost use Rattle.std.specs.Prelude.{◌≡◌, ◌+◌, ◌<◌, ◌≤◌, ◌^◌, ◌++◌, ◌∷◌, [], ℕ, List, Option, Some, IfErr, IfOk, OnOk, false, is_some, length, true};
 ghost use Rattle.std.specs.Io.KnownBytes.{Appends};
 ghost use Rattle.disk_model.specs.Disk.{SameDisk};
 ghost use Rattle.session_engine.specs.World.{World};
@@ -14,7 +14,7 @@ ghost use Rattle.sheet_text.specs.declared.script.ScriptLine.TheVariants as said
 ghost use Rattle.offline_programs.specs.Memory.{script_lines};
 ghost use Rattle.sheet_programs.specs.Lines.{LinesDone};
 ghost use Rattle.sheet_programs.specs.Told.{LineFailed, LineWrote};
-ghost use Rattle.sheet_programs.specs.Together.{Joins, line_events, may_join};
+ghost use Rattle.sheet_programs.specs.Together.{Joins, line_events, may_join, most_commands};
 ghost use Rattle.sheet_programs.specs.inside.Taking.{LinesFailed};
 ghost use Rattle.sheet_programs.specs.inside.Grouping.{GroupFailed, GroupTook, Standing, outcomes_text};
 
@@ -66,6 +66,7 @@ fn add(events: &mut Vec<Event>, command: Command) -> bool
     ensures added { result ≡ true → (is_some (op_of command) ≡ true)
         × (events.new.items ≡ events.old.items ++ asks.Command command ∷ []) }
     ensures kept { result ≡ false → events.new.items ≡ events.old.items }
+    ensures more { length events.new.items ≤ length events.old.items + 1 }
 {
     is_edit(&command) && events.push(Event::Command(command)).is_ok()
 }
@@ -75,6 +76,7 @@ fn hold(alloc: Global, stretch: &mut Stretch, line: &[u8]) -> bool
     ensures held { result ≡ true → (may_join (line_of line.now) ≡ true)
         × (stretch.new.events.items ≡ stretch.old.events.items ++ line_events (line_of line.now)) }
     ensures kept { result ≡ false → stretch.new.events.items ≡ stretch.old.events.items }
+    ensures more { length stretch.new.events.items ≤ length stretch.old.events.items + 1 }
 {
     stretch.bytes = stretch.bytes.saturating_add(line.len());
     match read_line(alloc, line) {
@@ -97,7 +99,8 @@ fn tell_outcomes<W: Write>(outcomes: &[Outcome], writer: &mut W) -> Result<(), R
     Ok(())
 }
 
-/// Plays events as a group. Between two calls nothing is owed to the host's disk.
+/// Plays events as a group. The two calls of `sheet` are there for what their contracts say, by which nothing
+/// is owed to the host's disk before the call and after it.
 fn play<D: Disk>(host: &mut Host<D>, events: Vec<Event>) -> Result<Vec<Outcome>, GroupFault>
     ensures same { SameDisk host.old.store.real host.new.store.real }
     ensures took { (w : World) → IsHost host.old w
@@ -139,7 +142,7 @@ fn take_group<D: Disk, W: Write>(
             }
         }
         Err(GroupFault::Disk) => Err(RunFault::Host(HostFault::Disk)),
-        // None of them is a checkpoint.
+        // `NoRoom` is memory, for the group or for the outcomes. None of the events is a checkpoint.
         Err(GroupFault::NoRoom(_) | GroupFault::Checkpoint(_)) => Err(RunFault::OutOfMemory),
     }
 }
@@ -176,6 +179,7 @@ fn take_held<D: Disk, C: Children, W: Write>(
     mut events: Vec<Event>,
     writer: &mut W,
 ) -> Result<(), RunFault>
+    requires few { length events.items ≤ most_commands }
     ensures same { SameDisk host.old.store.disk host.new.store.disk }
     ensures ok { (lines : List (List ℕ)) (s : At C) (a : Option (List ℕ))
         → Standing C.after lines events.items s host.old children.old a (W.contents writer.old)
@@ -202,6 +206,7 @@ fn take_all<D: Disk, C: Children, W: Write>(
     stretch: &mut Stretch,
     writer: &mut W,
 ) -> Result<(), RunFault>
+    requires few { length stretch.old.events.items ≤ most_commands }
     ensures same { SameDisk host.old.store.disk host.new.store.disk }
     ensures ok { (lines : List (List ℕ)) (s : At C) (a : Option (List ℕ))
         → Standing C.after lines stretch.old.events.items s host.old children.old a (W.contents writer.old)
@@ -219,7 +224,9 @@ fn take_all<D: Disk, C: Children, W: Write>(
 }
 
 /// Whether a stretch has as many commands, or as many bytes, as are taken together.
-fn is_full(stretch: &Stretch) -> bool {
+fn is_full(stretch: &Stretch) -> bool
+    ensures few { result ≡ false → length stretch.now.events.items < most_commands }
+{
     stretch.events.len() >= MOST_COMMANDS || stretch.bytes >= MOST_BYTES
 }
 
@@ -233,6 +240,7 @@ fn take_line<D: Disk, C: Children, W: Write>(
     number: u64,
     writer: &mut W,
 ) -> Result<(), RunFault>
+    requires few { length stretch.old.events.items < most_commands }
     ensures same { SameDisk host.old.store.disk host.new.store.disk }
     ensures ok { (lines : List (List ℕ)) (s : At C) (a : Option (List ℕ)) → number ≡ length lines + 1
         → Standing C.after lines stretch.old.events.items s host.old children.old a (W.contents writer.old)
@@ -242,6 +250,7 @@ fn take_line<D: Disk, C: Children, W: Write>(
         → Standing C.after lines stretch.old.events.items s host.old children.old a (W.contents writer.old)
         → IfErr result (LinesFailed C.after false (lines ++ line.now ∷ rest) s host.new children.new a
         (W.contents writer.new)) }
+    ensures few { OnOk result (length stretch.new.events.items < most_commands) }
 {
     if hold(alloc, stretch, line) {
         if is_full(stretch) {
@@ -258,8 +267,9 @@ fn take_line<D: Disk, C: Children, W: Write>(
     }
 }
 
-/// Does the lines of a script, one after another. The longest stretches of commands that only change the
-/// worksheet are taken together, up to a bound: a crash leaves all that such a stretch gives, or nothing.
+/// Does the lines of a script, one after another. Commands that only change the worksheet are taken together
+/// while no other line comes between, until they are 1,024, or their lines have 1 MiB: a crash leaves all that
+/// such a stretch gives, or nothing.
 pub(crate) fn run_together<D: Disk, C: Children, W: Write>(
     alloc: Global,
     host: &mut Host<D>,

@@ -11,8 +11,10 @@ use Rattle.sheet_programs.proofs.together.run_together.Goals as goal
 pub loop-line-init : goal.loop-line-init
 loop-line-init g c =
     let all = ap length c.lines-lines.ensures.value in
+    let none = ap length c.new-events.ensures.items in
     record {
       count = omega (arith, all);
+      few = omega (arith, none);
       same = same-at c.args.host.now.store.disk;
       runs = λ w h. none_read g.C.Children.after (script_lines c.args.script.now) _ _ w c.args.host.now c.args.children.now (g.W.Write.contents c.args.writer.now) c.lines-lines.ensures.value c.new-events.ensures.items h;
     }
@@ -22,6 +24,7 @@ loop-line-preserved g c =
     let one = ap length c.in-Some.ensures.steps in
     record {
       count = omega (arith, one, c.loop-line.invariant.count);
+      few = c.in-Ok.ensures.few;
       same = same-on c.args.host.now.store.disk c.loop-line.host.store.disk c.take_line.new.host.store.disk c.loop-line.invariant.same c.in-Ok.ensures.same;
       runs = λ w h.
           let so = c.loop-line.invariant.runs w h in

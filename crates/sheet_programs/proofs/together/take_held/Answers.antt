@@ -8,14 +8,14 @@ pub returns-then-len-gt1-clause-ok : goal.returns-then-len-gt1-clause-ok
 returns-then-len-gt1-clause-ok g c = λ lines s a p.
     let many : 2 ≤ length c.args.events.items = omega (arith, c.if-len-gt1.true, c.len.ensures, c.args.events.ok) in
     on_ok_then c.take_group.result
-    (group_stands g.C.Children.after lines c.args.events.items s c.args.host.now c.take_group.new.host c.args.children.now a (g.W.Write.contents c.args.writer.now) (g.W.Write.contents c.take_group.new.writer) p many c.take_group.ensures.same)
+    (group_stands g.C.Children.after lines c.args.events.items s c.args.host.now c.take_group.new.host c.args.children.now a (g.W.Write.contents c.args.writer.now) (g.W.Write.contents c.take_group.new.writer) p many c.requires.few c.take_group.ensures.same)
     (c.take_group.ensures.ok p.held p.leads p.stands p.joins)
 
 pub returns-then-len-gt1-clause-err : goal.returns-then-len-gt1-clause-err
 returns-then-len-gt1-clause-err g c = λ lines rest s a p.
     let many : 2 ≤ length c.args.events.items = omega (arith, c.if-len-gt1.true, c.len.ensures, c.args.events.ok) in
     if_err_then c.take_group.result _ _
-    (λ f q. group_fails g.C.Children.after lines c.args.events.items s c.args.host.now c.take_group.new.host c.args.children.now a (g.W.Write.contents c.args.writer.now) (g.W.Write.contents c.take_group.new.writer) p many c.take_group.ensures.same rest f q)
+    (λ f q. group_fails g.C.Children.after lines c.args.events.items s c.args.host.now c.take_group.new.host c.args.children.now a (g.W.Write.contents c.args.writer.now) (g.W.Write.contents c.take_group.new.writer) p many c.requires.few c.take_group.ensures.same rest f q)
     (c.take_group.ensures.err p.held p.leads p.stands p.joins)
 
 pub returns-in-Some-clause-ok : goal.returns-in-Some-clause-ok
