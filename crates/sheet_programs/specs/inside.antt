@@ -1,2 +1,4 @@
 pub mod Taking
 pub mod Grouping
+pub mod UpTo
+pub mod Strictly
