@@ -1,23 +1,26 @@
 -- A play of a group that may stop at a refusal.
-use Rattle.std.proofs.Common.{◌≡◌, ◌≤◌, ◌&&◌, ◌||◌, Bool, true, false, List, [], ◌∷◌, ◌++◌, refl, sym, ap, ◌∙◌, append-nil, arith, ℕ, option_map, length}
+use Rattle.std.proofs.Common.{◌≡◌, ◌&&◌, ◌||◌, Bool, true, false, List, [], ◌∷◌, ◌++◌, refl, sym, ap, ◌∙◌, append-nil, arith, ℕ, option_map, length}
 use Rattle.std.proofs.lemmas.Bool.{false≢true}
 use Rattle.std.proofs.lemmas.List.Folds.{list_any-append}
 use Rattle.std.specs.List.{list_any}
-use Rattle.std.specs.declared.vec.Vec.{Vec}
 use Rattle.disk_model.specs.Disk.{Rises, SameDisk}
 use Rattle.host_events.specs.declared.event.Event.{Event}
 use Rattle.host_events.specs.declared.outcome.Outcome.{Outcome}
-use Rattle.host_events.specs.declared.outcome.HostFault.{HostFault}
+use Rattle.session_engine.specs.declared.play.GroupFault.{GroupFault}
 use Rattle.session_engine.specs.declared.play.GroupFault.TheVariants as halt
 use Rattle.session_engine.specs.World.{World, life_of, sheet_in}
 use Rattle.session_engine.specs.Host.{HostView, IsHost, number_in}
 use Rattle.session_engine.specs.Crash.{HasPlayed}
-use Rattle.session_engine.specs.Gathers.{FlushesTo, IsFlushed, is_checkpoint}
-use Rattle.session_engine.specs.Groups.{LastRefused, NoGroup, StopsAtRefusal, StoppedGroup, behind_one, is_refusal, nowhere}
+use Rattle.session_engine.specs.Gathers.{FlushesTo, IsFlushed}
+use Rattle.session_engine.specs.Groups.{HaltsGroup, LastRefused, StopsAtRefusal, behind_one, is_refusal, nowhere}
 use Rattle.session_engine.specs.inside.Until.{EndsWith, HaltsBy, PlayedBy, TookBy}
 use Rattle.session_engine.proofs.Gathering.{failed_group, flushes_after}
 
 -- Where it ends.
+
+pub empty_of : {A : Type 0} (xs : List A) → length xs ≡ 0 → xs ≡ []
+empty_of [] is = refl
+empty_of (x ∷ xs) is = absurd (omega (arith, is))
 
 neither : (x y : Bool) → x ≡ false → y ≡ false → (x || y) ≡ false
 neither x y e f = ap (λ b. b || y) e ∙ f
@@ -27,12 +30,12 @@ pub none_more : (os : List Outcome) (o : Outcome) → list_any is_refusal os ≡
 none_more os o none accepted = list_any-append is_refusal os (o ∷ []) ∙ neither (list_any is_refusal os) (list_any is_refusal (o ∷ [])) none (neither (is_refusal o) false accepted refl)
 
 pub goes_on : (up_to b r : Bool) → r ≡ (up_to && b) → r ≡ false → up_to ≡ true → b ≡ false
-goes_on false b r is no on = absurd (false≢true on)
-goes_on true b r is no on = sym is ∙ no
+goes_on false b r is went on = absurd (false≢true on)
+goes_on true b r is went on = sym is ∙ went
 
 pub ends_behind : (up_to : Bool) (os : List Outcome) (o : Outcome) (rest : List Event) (r : Bool) → r ≡ (up_to && is_refusal o) → r ≡ true → (up_to ≡ true → list_any is_refusal os ≡ false) → EndsWith up_to (os ++ o ∷ []) rest
-ends_behind false os o rest r is yes right = absurd (false≢true (sym is ∙ yes))
-ends_behind true os o rest r is yes right = behind_one os o refl (right refl) (sym is ∙ yes)
+ends_behind false os o rest r is stopped right = absurd (false≢true (sym is ∙ stopped))
+ends_behind true os o rest r is stopped right = behind_one os o refl (right refl) (sym is ∙ stopped)
 
 pub ends_nowhere : (up_to : Bool) (os : List Outcome) → (up_to ≡ true → list_any is_refusal os ≡ false) → EndsWith up_to os []
 ends_nowhere false os right = refl
@@ -70,22 +73,21 @@ module _ (w : World) (events : List Event) (old mid new : HostView) (real : mid.
   pub failed_by : (up_to : Bool) (rest : List Event) (untold : List Outcome) (before : HostView) (p : HasPlayed w events rest untold before) → (up_to ≡ true → LastRefused untold) → mid.store.sheet.contents ≡ sheet_in p.leads
       → ((name : List ℕ) → number_in mid.lives name ≡ option_map (λ l. l.number) (life_of p.leads name)) → new.store.sheet ≡ mid.store.sheet → new.lives ≡ mid.lives
       → new.closed ≡ true → Rises mid.store.real.faults new.store.real.faults → HaltsBy up_to w events old new halt.Disk
-  unfolding failed_group
   failed_by false rest untold before p right is numbers sheet lives closed broke = failed_group w events old mid new real same flushes rest untold before p is numbers sheet lives closed broke
   failed_by true rest untold before p right is numbers sheet lives closed broke = (failed_group w events old mid new real same flushes rest untold before p is numbers sheet lives closed broke, right refl)
 
 -- Why not all were taken.
 
-module _ (w : World) (events : List Event) (old new : HostView) where
-  pub halts_checkpoint : (up_to : Bool) (back : Vec Event) → list_any is_checkpoint events ≡ true → back.items ≡ events → new ≡ old → HaltsBy up_to w events old new (halt.Checkpoint back)
-  halts_checkpoint false back any same still = (any, same, still)
-  halts_checkpoint true back any same still = (any, same, still)
+-- of the outcomes before a fault that isn't the disk's none is a refusal
+abbrev pub StaysRight : GroupFault → Type 0
+StaysRight (halt.Checkpoint back) = Unit {0}
+StaysRight (halt.NoRoom back) = Unit {0}
+StaysRight (halt.Stopped outcomes fault) = list_any is_refusal outcomes.items ≡ false
+StaysRight halt.Disk = ⊥
 
-  pub halts_no_room : (up_to : Bool) (back : Vec Event) → NoGroup w events back.items old new → HaltsBy up_to w events old new (halt.NoRoom back)
-  halts_no_room false back p = p
-  halts_no_room true back p = p
-
-  pub halts_stopped : (up_to : Bool) (outcomes : Vec Outcome) (fault : HostFault) → StoppedGroup w events old new outcomes.items fault → (up_to ≡ true → list_any is_refusal outcomes.items ≡ false)
-      → HaltsBy up_to w events old new (halt.Stopped outcomes fault)
-  halts_stopped false outcomes fault p right = p
-  halts_stopped true outcomes fault p right = (p, right refl)
+pub halts_by : (up_to : Bool) (w : World) (events : List Event) (old new : HostView) (fault : GroupFault) → HaltsGroup w events old new fault → (up_to ≡ true → StaysRight fault) → HaltsBy up_to w events old new fault
+halts_by false w events old new fault p right = p
+halts_by true w events old new (halt.Checkpoint back) p right = p
+halts_by true w events old new (halt.NoRoom back) p right = p
+halts_by true w events old new (halt.Stopped outcomes fault) p right = (p, right refl)
+halts_by true w events old new halt.Disk p right = absurd (right refl)

@@ -1,5 +1,5 @@
 -- Commands of a strict run that are taken together, up to one that is refused.
-use Rattle.std.proofs.Common.{◌≡◌, ◌+◌, ◌≤◌, ℕ, true, false, List, [], ◌∷◌, ◌++◌, Option, Some, None, refl, ap, sym, ◌∙◌, subst, append_assoc, append-nil, length, length-append, arith}
+use Rattle.std.proofs.Common.{◌≡◌, ◌+◌, ◌≤◌, inl, inr, ℕ, true, false, List, [], ◌∷◌, ◌++◌, Option, Some, None, refl, ap, sym, ◌∙◌, subst, append_assoc, append-nil, length, length-append, arith}
 use Rattle.std.proofs.lemmas.Bool.{false≢true}
 use Rattle.std.proofs.lemmas.List.Folds.{list_any-append}
 use Rattle.std.specs.Prelude.{Bool, ◌||◌, not, is_some}
@@ -25,7 +25,7 @@ use Rattle.sheet_text.specs.declared.script.ScriptLine.TheVariants as line
 use Rattle.sheet_programs.specs.Strict.{is_bad, is_wrong}
 use Rattle.sheet_programs.specs.Together.{Joins, lines_events, line_events, may_join}
 use Rattle.sheet_programs.specs.inside.Strictly.{counted_if, is_change}
-use Rattle.sheet_programs.specs.inside.UpTo.{LastRefused, StopsAtRefusal, behind_one, is_refusal, is_refused, nowhere}
+use Rattle.session_engine.specs.Groups.{LastRefused, StopsAtRefusal, behind_one, is_refusal, is_refused, nowhere}
 use Rattle.sheet_programs.proofs.Grouped.{IsEdit, among, beats_from}
 
 -- Such a command goes wrong where it is refused.
@@ -83,7 +83,7 @@ pub record LastRun (w : World) (events : List Event) (before : List Outcome) (la
 pub last_run : (w : World) (events : List Event) (before : List Outcome) (last : Outcome) (v : World) → Runs w events (before ++ last ∷ []) v → LastRun w events before last v
 last_run w [] [] last v runs = absurd runs
 last_run w [] (o ∷ os) last v runs = absurd runs
-last_run w (e ∷ []) [] last v runs = record { front = []; at = e; split = refl; beats = refl; mid = w; runs = refl; gives = subst (λ (x : World). Gives w e last x) runs.2 runs.1; count = refl }
+last_run w (e ∷ []) [] last v runs = record { front = []; at = e; split = refl; beats = refl; mid = w; runs = refl; gives = subst (λ (x : World). Gives w e last x) (sym runs.2) runs.1; count = refl }
 last_run w (e ∷ f ∷ es) [] last v runs = absurd runs.2
 last_run w (e ∷ es) (o ∷ os) last v runs =
     let r = last_run runs.0 es os last v runs.2 in
@@ -104,22 +104,22 @@ abbrev pub AllChange : List (List ℕ) → Type 0
 AllChange lines = AllByRecursion (λ l. is_change (line_of l) ≡ true) lines
 
 pub changes : (x : Option ScriptLine) → is_change x ≡ true → (c : Command) × (x ≡ Some (line.Command c))
-changes None no = absurd (false≢true no)
-changes (Some line.Skip) no = absurd (false≢true no)
-changes (Some (line.Command c)) yes = (c, refl)
-changes (Some line.Wait) no = absurd (false≢true no)
-changes (Some line.Print) no = absurd (false≢true no)
+changes None not_so = absurd (false≢true not_so)
+changes (Some line.Skip) not_so = absurd (false≢true not_so)
+changes (Some (line.Command c)) so = (c, refl)
+changes (Some line.Wait) not_so = absurd (false≢true not_so)
+changes (Some line.Print) not_so = absurd (false≢true not_so)
 
 pub change_joins : (x : Option ScriptLine) → is_change x ≡ true → may_join x ≡ true
-change_joins None no = absurd (false≢true no)
-change_joins (Some line.Skip) no = absurd (false≢true no)
-change_joins (Some (line.Command c)) yes = yes
-change_joins (Some line.Wait) no = absurd (false≢true no)
-change_joins (Some line.Print) no = absurd (false≢true no)
+change_joins None not_so = absurd (false≢true not_so)
+change_joins (Some line.Skip) not_so = absurd (false≢true not_so)
+change_joins (Some (line.Command c)) so = so
+change_joins (Some line.Wait) not_so = absurd (false≢true not_so)
+change_joins (Some line.Print) not_so = absurd (false≢true not_so)
 
 pub change_good : (x : Option ScriptLine) → is_change x ≡ true → not (is_some x) ≡ false
-change_good None no = absurd (false≢true no)
-change_good (Some said) yes = refl
+change_good None not_so = absurd (false≢true not_so)
+change_good (Some said) so = refl
 
 neither : (x y : Bool) → x ≡ false → y ≡ false → (x || y) ≡ false
 neither x y e f = ap (λ b. b || y) e ∙ f
@@ -128,8 +128,8 @@ pub none_bad : (lines : List (List ℕ)) → AllChange lines → list_any is_bad
 none_bad [] each = refl
 none_bad (l ∷ ls) each = neither (is_bad l) (list_any is_bad ls) (change_good (line_of l) each.0) (none_bad ls each.1)
 
-asks_of : (l : List ℕ) (yes : is_change (line_of l) ≡ true) → line_events (line_of l) ≡ event.Command (changes (line_of l) yes).0 ∷ []
-asks_of l yes = ap (λ (x : Option ScriptLine). line_events x) (changes (line_of l) yes).1
+asks_of : (l : List ℕ) (so : is_change (line_of l) ≡ true) → line_events (line_of l) ≡ event.Command (changes (line_of l) so).0 ∷ []
+asks_of l so = ap (λ (x : Option ScriptLine). line_events x) (changes (line_of l) so).1
 
 -- each asks for one event
 pub one_each : (lines : List (List ℕ)) → AllChange lines → length (lines_events lines) ≡ length lines
@@ -221,8 +221,8 @@ or_true false = refl
 or_true true = refl
 
 pub refused_among : (before : List Outcome) (last : Outcome) → is_refusal last ≡ true → list_any is_refusal (before ++ last ∷ []) ≡ true
-refused_among before last yes =
-    list_any-append is_refusal before (last ∷ []) ∙ ap (λ (b : Bool). list_any is_refusal before || (b || false)) yes ∙ or_true (list_any is_refusal before)
+refused_among before last so =
+    list_any-append is_refusal before (last ∷ []) ∙ ap (λ (b : Bool). list_any is_refusal before || (b || false)) so ∙ or_true (list_any is_refusal before)
 
 pub last_of : (told : List Outcome) (rest : List Event) → StopsAtRefusal told rest → LastRefused told
 last_of told rest (nowhere none is) = record { before = told; last = []; split = sym (append-nil told); one = omega arith; accepted = none }

@@ -35,7 +35,7 @@ use Rattle.sheet_text.specs.declared.script.ScriptLine.TheVariants as line
 use Rattle.sheet_programs.specs.Lines.{beats_text}
 use Rattle.sheet_programs.specs.Together.{Alone, GroupBroke, GroupDone, GroupTaken, Joins, LeavesEither, lines_events, line_events, may_join, most_commands}
 use Rattle.sheet_programs.specs.inside.Strictly.{KeptUpTo}
-use Rattle.sheet_programs.specs.inside.UpTo as upto
+use Rattle.session_engine.specs.Groups as upto
 use Rattle.sheet_programs.specs.inside.Grouping.{GroupKept, outcome_text, outcomes_text}
 
 -- Such commands have no effect.

@@ -6,4 +6,4 @@ pub mod Stretches
 pub mod Commands
 pub mod Heard
 pub mod Cuts
-pub mod Strictly
+pub mod Rights

@@ -33,7 +33,7 @@ use Rattle.offline_programs.specs.Memory.{script_lines}
 use Rattle.sheet_programs.specs.Run.{OpenedOn, LinesBefore, LinesUpTo, LinesSoFar, LinesLed, RunOf, RunStopped, RunBroke, RunSoFar, RunLed, RunUnwritten}
 use Rattle.sheet_programs.specs.Told.{LineFailed, LeavesFrontsAnyhow, StandsOrStopped}
 use Rattle.sheet_programs.specs.Strict.{EachRight, LinesTaken, RightIf, goes_wrong}
-use Rattle.sheet_programs.specs.inside.UpTo.{LastRefused}
+use Rattle.session_engine.specs.Groups.{LastRefused}
 use Rattle.sheet_programs.specs.inside.Taking.{LinesBroke, LinesFailed, LinesStopped, LinesUnwritten, TellsBy}
 use Rattle.sheet_programs.proofs.Courses.{Course, course_anyhow, course_on, course_up_to, either_moments, goes_course, group_course, moments_on}
 use Rattle.sheet_programs.proofs.Stricts.{is_strict, none_wrong, right_more, went_wrong}

@@ -17,7 +17,7 @@ use Rattle.sheet_programs.specs.Lines.{LineDone, LinesDone, beats_text}
 use Rattle.sheet_programs.specs.Run.{GroupBefore, LinesBefore, RunBroke, RunLed, RunOf, RunSoFar, RunStopped, RunUnwritten}
 use Rattle.host_events.specs.declared.outcome.HostFault.TheVariants as hosts
 use Rattle.child_edge.specs.Moments.{outcomes_of}
-use Rattle.sheet_programs.specs.inside.UpTo.{LastRefused}
+use Rattle.session_engine.specs.Groups.{LastRefused}
 use Rattle.offline_programs.specs.declared.fault.RunFault.{RunFault}
 use Rattle.offline_programs.specs.declared.fault.RunFault.TheVariants as fault
 

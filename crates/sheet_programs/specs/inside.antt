@@ -1,4 +1,3 @@
 pub mod Taking
 pub mod Grouping
-pub mod UpTo
 pub mod Strictly

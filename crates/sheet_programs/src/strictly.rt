@@ -17,7 +17,7 @@ ghost use Rattle.sheet_programs.specs.Together.{Joins, line_events, most_command
 ghost use Rattle.sheet_programs.specs.inside.Taking.{LineTook, LinesFailed};
 ghost use Rattle.sheet_programs.specs.inside.Strictly as strictly;
 ghost use Rattle.sheet_programs.specs.inside.Strictly.{StandingRight, StandsOrStops, UpToFailed, is_change};
-ghost use Rattle.sheet_programs.specs.inside.UpTo as group;
+ghost use Rattle.session_engine.specs.Groups as group;
 
 use crate::taking::{run_line, take_command};
 use crate::together::{Stretch, add, is_full, tell_outcomes};

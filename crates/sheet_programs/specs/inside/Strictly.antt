@@ -14,7 +14,7 @@ use Rattle.sheet_text.specs.declared.script.ScriptLine.{ScriptLine}
 use Rattle.sheet_text.specs.declared.script.ScriptLine.TheVariants as line
 use Rattle.sheet_programs.specs.Strict.{GoRight, StoppedBehind}
 use Rattle.sheet_programs.specs.Together.{GroupBroke}
-use Rattle.sheet_programs.specs.inside.UpTo.{LastRefused, StopsAtRefusal, is_refusal}
+use Rattle.session_engine.specs.Groups.{LastRefused, StopsAtRefusal, is_refusal}
 use Rattle.sheet_programs.specs.inside.Grouping.{GroupKept, Standing, outcomes_text}
 use Rattle.offline_programs.specs.declared.fault.RunFault.{RunFault}
 use Rattle.offline_programs.specs.declared.fault.RunFault.TheVariants as fault

@@ -14,7 +14,7 @@ use Rattle.child_edge.specs.Seats.{running}
 use Rattle.child_edge.specs.Stops.{Stops}
 use Rattle.sheet_text.specs.declared.script.ScriptLine.{ScriptLine}
 use Rattle.sheet_programs.specs.Lines.{LineDone}
-use Rattle.sheet_programs.specs.inside.UpTo.{LastRefused}
+use Rattle.session_engine.specs.Groups.{LastRefused}
 use Rattle.sheet_programs.specs.Told.{StandsOrStopped}
 use Rattle.sheet_programs.specs.Together.{GroupBroke, GroupTaken}
 use Rattle.sheet_programs.specs.Run.{GroupBefore, LinesUpTo, LinesSoFar, LinesLed, TellsRun}

@@ -1,4 +1,4 @@
-use Rattle.sheet_programs.proofs.Strictly.{next_done, next_fails, next_stops}
+use Rattle.sheet_programs.proofs.Rights.{next_done, next_fails, next_stops}
 use Rattle.sheet_programs.proofs.strictly.do_line.Goals as goal
 
 pub returns-in-Ok-true-clause-ok : goal.returns-in-Ok-true-clause-ok

@@ -6,7 +6,7 @@ use Rattle.offline_programs.specs.Memory.{script_lines}
 use Rattle.sheet_programs.specs.inside.Strictly.{StandsOrStops}
 use Rattle.sheet_programs.specs.inside.Taking.{LinesFailed}
 use Rattle.sheet_programs.proofs.Runs.{if_ok_then}
-use Rattle.sheet_programs.proofs.Strictly.{all_read, none_read, one_read, read_fails, read_stops, strictly_taken}
+use Rattle.sheet_programs.proofs.Rights.{all_read, none_read, one_read, read_fails, read_stops, strictly_taken}
 use Rattle.sheet_programs.proofs.strictly.run_each.Goals as goal
 
 pub loop-line-init : goal.loop-line-init

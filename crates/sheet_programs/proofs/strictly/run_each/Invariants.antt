@@ -6,7 +6,7 @@ use Rattle.session_engine.specs.Host.{IsHost}
 use Rattle.child_edge.specs.Faithful.{at}
 use Rattle.offline_programs.specs.Memory.{script_lines}
 use Rattle.sheet_programs.specs.Together.{most_commands}
-use Rattle.sheet_programs.proofs.Strictly.{ReadRight}
+use Rattle.sheet_programs.proofs.Rights.{ReadRight}
 use Rattle.sheet_programs.proofs.strictly.run_each.Given as goal
 
 abbrev pub invariant-loop-line : goal.invariant-loop-line

@@ -1,8 +1,8 @@
-use Rattle.std.proofs.Common.{[], ◌∷◌, ◌++◌, ◌≡◌, ◌+◌, append_assoc, arith, length, length-append, subst, sym}
+use Rattle.std.proofs.Common.{[], ◌∷◌, ◌++◌, ◌≡◌, ◌+◌, append_assoc, arith, length, length-append, subst, sym, true}
 use Rattle.std.specs.Prelude.{IfErr, IfOk, Some}
 use Rattle.sheet_programs.specs.inside.Strictly.{StandingRight, StandsOrStops}
 use Rattle.sheet_programs.specs.inside.Taking.{LinesFailed}
-use Rattle.sheet_programs.proofs.Strictly.{one_waits, widened}
+use Rattle.sheet_programs.proofs.Rights.{one_waits, widened}
 use Rattle.sheet_programs.proofs.strictly.take_next.Goals as goal
 
 pub returns-then-is_full-clause-ok : goal.returns-then-is_full-clause-ok

@@ -1,18 +1,19 @@
-use Rattle.std.proofs.Common.{ap, length, refl, sym, subst, ◌∙◌}
+use Rattle.std.proofs.Common.{◌≡◌, ap, arith, length, refl, sym, subst, ◌∙◌}
 use Rattle.std.proofs.KnownBytes.{Appends-nil}
 use Rattle.std.specs.Io.KnownBytes.{Appends}
 use Rattle.session_engine.specs.declared.play.GroupFault.{GroupFault}
 use Rattle.sheet_programs.specs.inside.Grouping.{outcomes_text}
 use Rattle.sheet_programs.specs.inside.Strictly.{UpToFailed, stopped_at}
-use Rattle.sheet_programs.specs.inside.UpTo.{HaltsUpTo}
+use Rattle.session_engine.specs.Groups.{HaltsUpTo}
 use Rattle.sheet_programs.proofs.Grouped.{group_broke, kept_up_to, never_stopped}
 use Rattle.sheet_programs.proofs.strictly.take_up_to.Goals as goal
 
 pub returns-in-Ok-tell_outcomes-clause-ok : goal.returns-in-Ok-tell_outcomes-clause-ok
-returns-in-Ok-tell_outcomes-clause-ok g c = λ lines w h joins. (
+returns-in-Ok-tell_outcomes-clause-ok g c = λ lines w h joins.
+    let count : c.len-count.result ≡ length c.args.events.items = omega (arith, c.len-count.ensures, c.args.events.ok) in (
   kept_up_to w c.args.host.now c.play_up_to.new.host c.play_up_to.ensures.before.1 c.play_up_to.ensures.after h c.args.events.items c.in-Ok.outcomes.items (c.in-Ok.ensures.took w h),
   subst (λ x. Appends (g.W.Write.contents c.args.writer.now) (g.W.Write.contents c.tell_outcomes.new.writer) (outcomes_text x)) c.as_slice.ensures.value c.in-Ok-tell_outcomes.ensures.ok,
-  c.stopped_at.ensures ∙ ap (λ x. stopped_at x c.args.read (length c.args.events.items)) c.as_slice-in-Ok-tell_outcomes.ensures.value,
+  c.stopped_at.ensures ∙ ap (λ x. stopped_at x c.args.read c.len-count.result) c.as_slice-in-Ok-tell_outcomes.ensures.value ∙ ap (λ n. stopped_at c.in-Ok.outcomes.items c.args.read n) count,
 )
 
 pub returns-in-Ok-clause-err : goal.returns-in-Ok-clause-err

@@ -8,7 +8,7 @@ use Rattle.session_engine.specs.Crash.{Halts}
 use Rattle.session_engine.specs.Gathers.{OnlyAtOnce}
 use Rattle.session_engine.specs.inside.Until.{NoneRefused}
 use Rattle.session_engine.proofs.Gathering.{broke_by, flushes_after, stopped_group}
-use Rattle.session_engine.proofs.Until.{ends_refused, failed_by, halts_no_room, halts_stopped, none_refused, took_by}
+use Rattle.session_engine.proofs.Until.{ends_refused, failed_by, halts_by, none_refused, took_by}
 use Rattle.session_engine.proofs.Tables.{numbers_are}
 use Rattle.session_engine.proofs.buffered.BufferedHost.play_owed.Goals as goal
 
@@ -53,7 +53,7 @@ returns-in-Ok-flush-2-clause-halts g c = λ w h.
     let halts = subst (λ (x : PlayFault). Halts w c.args.events.items first mid x) c.in-Err-NoRoom.field-0-is (c.in-Err-NoRoom.ensures.halts w host) in
     let stands = subst (λ (v : HostView). IsHost v w) (sym halts.1) host in
     let flush = c.flush-in-Err-NoRoom in
-    halts_no_room w c.args.events.items old flush.new.self c.args.up_to c.in-Err-NoRoom.events
+    halts_by c.args.up_to w c.args.events.items old flush.new.self _
     (record {
       same = halts.0;
       stands = c.in-Ok-flush-2.ensures.goes_on w stands;
@@ -62,6 +62,7 @@ returns-in-Ok-flush-2-clause-halts g c = λ w h.
           c.in-Ok-flush-2.ensures.nothing stands.stands.still_open owed ∙ real;
       moments = flushes_after old.store mid.store flush.new.self.store (sheet_in w) real same stands.stands.contents flush.ensures.any_moment;
     })
+    (λ on. tt)
 
 pub returns-in-Err-flush-clause-halts : goal.returns-in-Err-flush-clause-halts
 returns-in-Err-flush-clause-halts g c = λ w h.
@@ -92,7 +93,7 @@ returns-in-Ok-flush-3-clause-halts g c = λ w h.
     let s = subst (λ (x : PlayFault). Halts w c.args.events.items first mid x) c.in-Err-Stopped.field-0-is (c.in-Err-Stopped.ensures.halts w host) in
     let at_once = subst (λ (x : PlayFault). OnlyAtOnce first.store x) c.in-Err-Stopped.field-0-is (c.in-Err-Stopped.ensures.at_once c.requires.none) in
     let done = c.in-Ok-flush-3.ensures in
-    halts_stopped w c.args.events.items old c.flush-in-Err-Stopped.new.self c.args.up_to c.in-Err-Stopped.outcomes c.in-Err-Stopped.fault
+    halts_by c.args.up_to w c.args.events.items old c.flush-in-Err-Stopped.new.self _
     (stopped_group w c.args.events.items old mid c.flush-in-Err-Stopped.new.self real same c.flush-in-Err-Stopped.ensures.any_moment c.in-Err-Stopped.outcomes.items c.in-Err-Stopped.fault first s
     (λ disk. let bad : true ≡ false = sym gathers ∙ at_once disk in cc) done.sheet done.lives done.stays done.flushed)
     (λ on. subst NoneRefused c.in-Err-Stopped.field-0-is (c.in-Err-Stopped.ensures.right on))

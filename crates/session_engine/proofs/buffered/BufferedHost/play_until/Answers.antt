@@ -11,7 +11,7 @@ use Rattle.session_engine.specs.Crash.{Moments}
 use Rattle.session_engine.specs.Gathers.{NoCheckpoints}
 use Rattle.session_engine.specs.Groups.{is_refusal}
 use Rattle.session_engine.specs.inside.Until.{PlayedBy}
-use Rattle.session_engine.proofs.Until.{ends_behind, ends_nowhere, goes_on, none_more}
+use Rattle.session_engine.proofs.Until.{empty_of, ends_behind, ends_nowhere, goes_on, none_more}
 use Rattle.session_engine.proofs.Gathering.{gathers_on, gathers_self}
 use Rattle.session_engine.proofs.Playing.{PlayedEach, nothing_each, nothing_left, one_more, one_more_each, moments_on, moments_failed, same_on, same_self}
 use Rattle.session_engine.proofs.buffered.BufferedHost.play_until.Goals as goal
@@ -56,7 +56,7 @@ loop-event-preserved g c =
           let took = IfOk-at_ok (Took p.0.leads e at.self c.step.new.self) c.in-Ok.is (c.step.ensures.took p.0.leads p.0.stands) in
           subst (λ (l : List Outcome). Moments w events l first.store.disk c.step.new.self.store.disk) (sym c.add.ensures.items)
           (moments_on w events rest e os at.self p.0 first.store.disk c.step.new.self o inv.same (inv.moments w h) took);
-      right = λ on. subst (λ (l : List Outcome). list_any is_refusal l ≡ false) (sym c.add.ensures.items) (none_more os o (inv.right on) (goes_on c.args.up_to (is_refusal o) c.stops.result c.stops.ensures c.if-stops.false on));
+      right = λ on. subst (λ (l : List Outcome). list_any is_refusal l ≡ false) (sym c.add.ensures.items) (none_more os o (inv.right on) (goes_on c.args.up_to (is_refusal o) c.stops-stops.result c.stops-stops.ensures c.if-stops.false on));
       gathers = λ none.
           let was = inv.gathers none in
           let here = subst NoCheckpoints steps was.1 in
@@ -108,10 +108,13 @@ returns-then-stops-clause-played g c = λ w h.
     let p = subst (λ (l : List Event). PlayedEach w events l os first at.self) steps (inv.played w h) in
     let took = IfOk-at_ok (Took p.0.leads e at.self c.step.new.self) c.in-Ok.is (c.step.ensures.took p.0.leads p.0.stands) in
     subst (λ (l : List Outcome). PlayedBy c.args.up_to w events l c.step.new.self) (sym c.add.ensures.items)
-    (record { rest = rest; played = one_more w events rest e os at.self p.0 c.step.new.self o took; ends = ends_behind c.args.up_to os o rest c.stops.result c.stops.ensures c.if-stops.true inv.right })
+    (record { rest = rest; played = one_more w events rest e os at.self p.0 c.step.new.self o took; ends = ends_behind c.args.up_to os o rest c.stops-stops.result c.stops-stops.ensures c.if-stops.true inv.right })
 
 pub returns-clause-played : goal.returns-clause-played
 returns-clause-played g c = λ w h.
     let at = c.loop-event in
-    let p = subst (λ (l : List Event). PlayedEach w c.args.events.items l at.outcomes.items c.args.self.now at.self) c.in_default.ensures.steps.0 (at.invariant.played w h) in
+    let ended = c.in-None.ensures.steps.0 in
+    let left = at.invariant.left in
+    let done : into_iter_items at.event-iterator ≡ [] = empty_of (into_iter_items at.event-iterator) (omega (arith, ended, left)) in
+    let p = subst (λ (l : List Event). PlayedEach w c.args.events.items l at.outcomes.items c.args.self.now at.self) done (at.invariant.played w h) in
     record { rest = []; played = p.0; ends = ends_nowhere c.args.up_to at.outcomes.items at.invariant.right }

@@ -26,7 +26,7 @@ use Rattle.sheet_programs.specs.Told.{LineFailed}
 use Rattle.sheet_programs.specs.inside.Grouping.{GroupKept, Standing, outcomes_text}
 use Rattle.sheet_programs.specs.inside.Strictly.{KeptUpTo, StandingRight, StandsOrStops, UpToFailed, UpToTook, is_change}
 use Rattle.sheet_programs.specs.inside.Taking.{LineTook, LinesFailed}
-use Rattle.sheet_programs.specs.inside.UpTo.{LastRefused, StopsAtRefusal, behind_one, is_refusal, nowhere}
+use Rattle.session_engine.specs.Groups.{LastRefused, StopsAtRefusal, behind_one, is_refusal, nowhere}
 use Rattle.sheet_programs.proofs.Cuts.{AllChange, Cut, LastRun, OnlyLine, beat_of, change_joins, changes, counted_none, counted_some, cut, edits_front, last_of, last_run, none_bad, none_waits, one_each, only_line, refused_among, wrong_from}
 use Rattle.sheet_programs.proofs.Grouped.{IsEdit, among, beats_from, joined_edits, kept_beats, kept_done, kept_taken, kept_text, outcomes_from}
 use Rattle.sheet_programs.proofs.Runs.{DoneSoFar, all_done, line_stopped, lines_failed, one_done}
@@ -93,7 +93,7 @@ module _ {C : Type 0} (R : Relation C) (lines : List (List ℕ)) (s : At C) (h :
 
   -- one command more waits
   pub one_waits : (events : List Event) (l : List ℕ) (after : List Event) → StandingRight R lines events s h c a b → is_change (line_of l) ≡ true → after ≡ events ++ line_events (line_of l) → StandingRight R (lines ++ l ∷ []) after s h c a b
-  one_waits events l after p yes is = record {
+  one_waits events l after p so is = record {
     all = record {
       done = p.all.done;
       held = p.all.held ++ l ∷ [];
@@ -111,11 +111,11 @@ module _ {C : Type 0} (R : Relation C) (lines : List (List ℕ)) (s : At C) (h :
   }
     where
       join_more : (ls : List (List ℕ)) → AllByRecursion (λ x. may_join (line_of x) ≡ true) ls → AllByRecursion (λ x. may_join (line_of x) ≡ true) (ls ++ l ∷ [])
-      join_more [] all = (change_joins (line_of l) yes, tt)
+      join_more [] all = (change_joins (line_of l) so, tt)
       join_more (x ∷ xs) all = (all.0, join_more xs all.1)
 
       change_more : (ls : List (List ℕ)) → AllChange ls → AllChange (ls ++ l ∷ [])
-      change_more [] all = (yes, tt)
+      change_more [] all = (so, tt)
       change_more (x ∷ xs) all = (all.0, change_more xs all.1)
 
       asked_more : (ls : List (List ℕ)) → lines_events ls ++ line_events (line_of l) ≡ lines_events (ls ++ l ∷ [])
@@ -184,10 +184,10 @@ module _ {C : Type 0} (R : Relation C) (lines : List (List ℕ)) (l : List ℕ) 
 
   pub next_stops : (number : ℕ) (wrong : Bool) → number ≡ length lines + 1 → LineTook R number (line_of l) (at p.all.leads c h.store.disk) g d b e wrong → wrong ≡ true → StandsOrStops R (lines ++ l ∷ []) [] s g d a e (Some number)
   unfolding all_done_so_far
-  next_stops number wrong count q yes =
+  next_stops number wrong count q so =
       subst (λ (n : ℕ). StandsOrStops R (lines ++ l ∷ []) [] s g d a e (Some n)) (sym count)
       (line_stopped R true (lines ++ l ∷ []) (length lines) (l ∷ []) l [] s h c a b g d e q.0 q.1 q.2 wrong refl (so-far [])
-      (subst (λ (n : ℕ). LineDone R n (line_of l) (at p.all.leads c h.store.disk) q.0 q.1 (at q.2 d g.store.disk)) count q.3) q.4 q.5 q.6 yes)
+      (subst (λ (n : ℕ). LineDone R n (line_of l) (at p.all.leads c h.store.disk) q.0 q.1 (at q.2 d g.store.disk)) count q.3) q.4 q.5 q.6 so)
 
   pub next_fails : (rest : List (List ℕ)) (f : RunFault) → LineFailed R (line_of l) (at p.all.leads c h.store.disk) g d b e f → LinesFailed R true (lines ++ l ∷ rest) s g d a e f
   unfolding all_done_so_far
@@ -244,9 +244,9 @@ module _ {C : Type 0} (R : Relation C) (lines : List (List ℕ)) (events : List 
       whole done kept is = subst (λ (es : List Event). (k : GroupKept p.all.leads es h g) → list_any is_refusal k.told ≡ false → Appends b e (outcomes_text k.told) → StandingRight R lines [] s g c a e) (sym is) (whole_group many) kept
 
       go : StopsAtRefusal q.0.kept.told q.0.rest → StandingRight R lines [] s g c a e
-      go (nowhere none is) = whole q.0.done q.0.kept (all_of q.0.done q.0.rest q.0.split is) accepted q.1
-      go (behind_one before last is none refused) =
-          absurd (false≢true (sym accepted ∙ ap (λ (x : List Outcome). list_any is_refusal x) is ∙ refused_among before last refused))
+      go (nowhere fine is) = whole q.0.done q.0.kept (all_of q.0.done q.0.rest q.0.split is) accepted q.1
+      go (behind_one before last is fine refused_last) =
+          absurd (false≢true (sym accepted ∙ ap (λ (x : List Outcome). list_any is_refusal x) is ∙ refused_among before last refused_last))
 
   -- the part of the lines that was taken
   pub record Part (done rest : List Event) (q : GroupKept p.all.leads done h g) (before : List Outcome) (last : Outcome) : Type 0 where
@@ -272,8 +272,8 @@ module _ {C : Type 0} (R : Relation C) (lines : List (List ℕ)) (events : List 
         taken = subst (λ (bs : List Beat). GroupTaken (k.group ++ k.next ∷ []) (at p.all.leads c h.store.disk) bs (at q.leads c g.store.disk)) beats
             (kept_taken (k.group ++ k.next ∷ []) p.all.leads done h g c joins q (few_of done rest split) same);
         text = kept_text {C = C} (k.group ++ k.next ∷ []) p.all.leads done h g c joins q ∙ ap (λ (bs : List Beat). beats_text bs) beats;
-        accepted = λ none. wrong_from p.all.leads ran.front before ran.mid (edits_front ran.front (ran.at ∷ []) edits) ran.runs ∙ none;
-        wrong = λ yes. wrong_from ran.mid (ran.at ∷ []) (last ∷ []) q.leads (among ran.front ran.at [] edits, tt) (q.leads, ran.gives, refl) ∙ ap (λ (x : Bool). x || false) yes;
+        accepted = λ fine. wrong_from p.all.leads ran.front before ran.mid (edits_front ran.front (ran.at ∷ []) edits) ran.runs ∙ fine;
+        wrong = λ hit. wrong_from ran.mid (ran.at ∷ []) (last ∷ []) q.leads (among ran.front ran.at [] edits, tt) (q.leads, ran.gives, refl) ∙ ap (λ (x : Bool). x || false) hit;
         outcomes = ap (λ (bs : List Beat). outcomes_of bs) (sym beats) ∙ outcomes_from p.all.leads done q.told q.leads q.runs;
       }
 
@@ -293,8 +293,8 @@ module _ {C : Type 0} (R : Relation C) (lines : List (List ℕ)) (events : List 
       refused = counted_some (list_any is_refusal q.0.kept.told) (read - (length events - length q.0.kept.told)) number q.2
 
       go : StopsAtRefusal q.0.kept.told q.0.rest → StandsOrStops R lines [] s g c a e (Some number)
-      go (nowhere none is) = absurd (false≢true (sym none ∙ refused.0))
-      go (behind_one before last is none yes) =
+      go (nowhere fine is) = absurd (false≢true (sym fine ∙ refused.0))
+      go (behind_one before last is fine hit) =
           let part = part_of q.0.done q.0.rest q.0.kept before last q.0.split is in
           let beats = beats_from part.ran.front before ++ beat_of part.ran.at last ∷ [] in
           let whole = before-part [] part.ran.front part.ran.at part.cut in
@@ -320,8 +320,8 @@ module _ {C : Type 0} (R : Relation C) (lines : List (List ℕ)) (events : List 
               last = beat_of part.ran.at last;
               ran = part.taken;
               asks = part.cut.asks;
-              none = part.accepted none;
-              wrong = part.wrong yes;
+              none = part.accepted fine;
+              wrong = part.wrong hit;
               took = refl;
               wrote = refl;
             }),
@@ -375,7 +375,7 @@ module _ {C : Type 0} (R : Relation C) (lines : List (List ℕ)) (events : List 
   unwritten rest q = go q.stops
     where
       go : StopsAtRefusal q.kept.told q.rest → LinesFailed R true (lines ++ rest) s g c a e fault.Output
-      go (nowhere none is) =
+      go (nowhere fine is) =
           let joins = subst (λ (es : List Event). Joins p.all.held es) (sym (all_of q.done q.rest q.split is)) p.all.joins in
           inr (
             q.kept.leads,
@@ -390,9 +390,9 @@ module _ {C : Type 0} (R : Relation C) (lines : List (List ℕ)) (events : List 
             ),
             q.kept.stands,
             p.right,
-            subst LastRefused (sym (outcomes_from p.all.leads q.done q.kept.told q.kept.leads q.kept.runs)) (last_of q.kept.told q.rest (nowhere none is)),
+            subst LastRefused (sym (outcomes_from p.all.leads q.done q.kept.told q.kept.leads q.kept.runs)) (last_of q.kept.told q.rest (nowhere fine is)),
           )
-      go (behind_one before last is none yes) =
+      go (behind_one before last is fine hit) =
           let part = part_of q.done q.rest q.kept before last q.split is in
           inr (
             q.kept.leads,
@@ -407,7 +407,7 @@ module _ {C : Type 0} (R : Relation C) (lines : List (List ℕ)) (events : List 
             ),
             q.kept.stands,
             p.right,
-            subst LastRefused (sym part.outcomes) (last_of q.kept.told q.rest (behind_one before last is none yes)),
+            subst LastRefused (sym part.outcomes) (last_of q.kept.told q.rest (behind_one before last is fine hit)),
           )
 
   pub together_fails : (rest : List (List ℕ)) → 2 ≤ length events → (f : RunFault) → UpToFailed p.all.held p.all.leads events h g b e f → LinesFailed R true (lines ++ rest) s g c a e f
@@ -443,13 +443,13 @@ module _ {C : Type 0} (R : Relation C) (lines : List (List ℕ)) (x : Event) (s 
   pub alone_stops : (o : OnlyLine p.all.held x) (wrong : Bool) (read : ℕ) → read ≡ length lines → LineTook R (length p.all.done + 1) (Some (line.Command o.said)) (at p.all.leads c h.store.disk) g d b e wrong → wrong ≡ true
       → StandsOrStops R lines [] s g d a e (Some read)
   unfolding before_alone of_done
-  alone_stops o wrong read all q yes =
+  alone_stops o wrong read all q so =
       let whole = ap length (lines_are o) in
       let number : read ≡ length p.all.done + 1 = omega (arith, all, whole, length-append p.all.done (o.next ∷ [])) in
       subst (λ (ls : List (List ℕ)). StandsOrStops R ls [] s g d a e (Some read)) (sym (lines_are o))
       (subst (λ (n : ℕ). StandsOrStops R (p.all.done ++ o.next ∷ []) [] s g d a e (Some n)) (sym number)
       (next_stops R p.all.done o.next s h g c d a b e before_alone (length p.all.done + 1) wrong refl
-      (subst (λ (l : Option ScriptLine). LineTook R (length p.all.done + 1) l (at p.all.leads c h.store.disk) g d b e wrong) (sym o.says) q) yes))
+      (subst (λ (l : Option ScriptLine). LineTook R (length p.all.done + 1) l (at p.all.leads c h.store.disk) g d b e wrong) (sym o.says) q) so))
 
   pub alone_fails : (o : OnlyLine p.all.held x) (rest : List (List ℕ)) (f : RunFault) → LineFailed R (Some (line.Command o.said)) (at p.all.leads c h.store.disk) g d b e f → LinesFailed R true (lines ++ rest) s g d a e f
   unfolding before_alone of_done
