@@ -5,3 +5,5 @@ pub mod Grouped
 pub mod Stretches
 pub mod Commands
 pub mod Heard
+pub mod Cuts
+pub mod Rights
