@@ -109,7 +109,7 @@ pub record TookUpTo (w : World) (events : List Event) (told : List Outcome) (old
   pub flushed : IsFlushed new
   pub moments : FlushesTo (sheet_in played.leads) old.store new.store
 
--- Why not all events up to a refusal were taken, or none is reported. None was taken behind one that was refused.
+-- Why not all events up to a refusal were taken, or none is reported. None was taken after one that was refused.
 abbrev pub HaltsUpTo : World → List Event → HostView → HostView → GroupFault → Type 0
 HaltsUpTo w events old new (halt.Checkpoint back) = (list_any is_checkpoint events ≡ true) × (back.items ≡ events) × (new ≡ old)
 HaltsUpTo w events old new (halt.NoRoom back) = NoGroup w events back.items old new

@@ -87,7 +87,7 @@ impl<D: Disk> Host<D> {
         self.inner.play_group(events)
     }
 
-    /// Takes events as `play_group` does, but none behind the first one that is refused, whose outcome is the
+    /// Takes events as `play_group` does, but none after the first one that is refused, whose outcome is the
     /// last. The later events are dropped.
     pub fn play_group_up_to(&mut self, events: Vec<Event>) -> Result<Vec<Outcome>, GroupFault>
         ensures same { SameDisk self.old.store.real self.new.store.real }
@@ -153,7 +153,7 @@ impl<D: Disk> BufferedHost<D> {
         self.play_flushed(events, false)
     }
 
-    /// Takes events as `play_group` does, but none behind the first one that is refused.
+    /// Takes events as `play_group` does, but none after the first one that is refused.
     pub fn play_group_up_to(&mut self, events: Vec<Event>) -> Result<Vec<Outcome>, GroupFault>
         ensures same { SameDisk self.old.store.real self.new.store.real }
         ensures took { (w : World) → IsHost self.old w
@@ -281,7 +281,7 @@ fn is_refusal(outcome: &Outcome) -> bool
     }
 }
 
-// Whether a play up to a refusal stops behind this outcome.
+// Whether a play up to a refusal stops after this outcome.
 fn stops(up_to: bool, outcome: &Outcome) -> bool
     ensures { result ≡ (up_to && group.is_refusal outcome.now) }
 {

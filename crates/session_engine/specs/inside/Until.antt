@@ -11,7 +11,7 @@ use Rattle.session_engine.specs.Host.{HostView}
 use Rattle.session_engine.specs.Crash.{HasPlayed}
 use Rattle.session_engine.specs.Groups.{HaltsGroup, HaltsUpTo, StopsAtRefusal, TookGroup, TookUpTo, is_refusal}
 
--- with these outcomes, and these events left, a play ends that goes on behind a refusal, or one that doesn't
+-- with these outcomes, and these events left, a play ends that goes on after a refusal, or one that doesn't
 abbrev pub EndsWith : Bool → List Outcome → List Event → Type 0
 EndsWith false told rest = rest ≡ []
 EndsWith true told rest = StopsAtRefusal told rest
