@@ -13,11 +13,11 @@ use Rattle.session_engine.specs.Does.{Runs}
 use Rattle.session_engine.specs.Host.{HostView, IsHost}
 use Rattle.host_laws.specs.Turns.{CrashesAreTurns}
 use Rattle.host_laws.specs.OneHost.{JustOpened}
-use Rattle.host_laws.specs.Together.{GroupMeets}
-use Rattle.host_laws.specs.Calls.{CallsLeavePrefixes, TookByCalls, and_group, and_step, no_call}
+use Rattle.host_laws.specs.Together.{GroupMeets, UpToMeets, returned}
+use Rattle.host_laws.specs.Calls.{CallsLeavePrefixes, TookByCalls, and_group, and_group_up_to, and_step, no_call}
 use Rattle.host_laws.proofs.Stepwise.{steps_are_turns}
 use Rattle.host_laws.proofs.Stepping.{after, within}
-use Rattle.host_laws.proofs.Groups.{groups_are_turns}
+use Rattle.host_laws.proofs.Groups.{groups_are_turns, groups_up_to_are_turns}
 
 module _ (room : ℕ) (before : Image) (found : List Op) (opened : HostView) (begun : JustOpened room before found opened) where
   -- the host stands for the world that the events lead to
@@ -31,6 +31,18 @@ module _ (room : ℕ) (before : Image) (found : List Op) (opened : HostView) (be
   stands_after events told old (and_group {mid = mid} {group = group} {outcomes = outcomes} {events = es} {told = os} calls meets) =
       let at = stands_after es os mid calls in
       (groups_are_turns room opened.store.end before found begun.allowed begun.image begun.ends es os at.0 at.1 group mid old (Ok outcomes) at.2 meets).2
+  stands_after events told old (and_group_up_to {mid = mid} {group = group} {outcomes = outcomes} {events = es} {told = os} calls meets many) =
+      let at = stands_after es os mid calls in
+      (groups_up_to_are_turns room opened.store.end before found begun.allowed begun.image begun.ends es os at.0 at.1 group mid old (Ok outcomes) at.2 meets).2 many
+
+  -- a crash within one group more that stops at a refusal, and one after it
+  within_up_to : (events : List Event) (told : List Outcome) (old : HostView) (w : World) → Runs (world_at_opening found room opened.store.end) events told w → IsHost old w
+      → (group : List Event) (answer : Result (Vec Outcome Global) GroupFault) (new : HostView) → UpToMeets group old answer new
+      → CrashesAreTurns room before found (record { events = events ++ group; told = told }) old.store.disk new.store.disk
+      × CrashesAreTurns room before found (record { events = events ++ group; told = told ++ returned answer }) new.store.disk new.store.disk
+  within_up_to events told old w run is group answer new meets =
+      let left = groups_up_to_are_turns room opened.store.end before found begun.allowed begun.image begun.ends events told w run group old new answer is meets in
+      (left.0, left.1)
 
   -- a crash within one group more
   within_group : (events : List Event) (told : List Outcome) (old : HostView) (w : World) → Runs (world_at_opening found room opened.store.end) events told w → IsHost old w
@@ -45,4 +57,5 @@ calls_leave_prefixes room before found opened begun events told old calls =
       after room before found opened begun events told old at.0 at.1 at.2,
       within room before found opened begun events told old at.0 at.1 at.2,
       within_group room before found opened begun events told old at.0 at.1 at.2,
+      within_up_to room before found opened begun events told old at.0 at.1 at.2,
     )

@@ -1,5 +1,5 @@
 -- Groups are parts of turns.
-use Rattle.std.proofs.Common.{◌≡◌, ◌∙◌, ⊎_elim, ℕ, List, [], ◌∷◌, ◌++◌, refl, sym, subst, append-nil, IsTrue}
+use Rattle.std.proofs.Common.{◌≡◌, ◌∙◌, ◌+◌, ⊎_elim, ℕ, suc, List, [], ◌∷◌, ◌++◌, length, refl, sym, ap, subst, append-nil, arith, length-append, IsTrue}
 use Rattle.std.specs.Prelude.{Result, Ok, Err, IfOk}
 use Rattle.std.specs.declared.alloc.Global.{Global}
 use Rattle.std.specs.declared.vec.Vec.{Vec}
@@ -20,8 +20,18 @@ use Rattle.session_engine.specs.Crash.{HasPlayed}
 use Rattle.session_engine.specs.Gathers.{FlushesTo}
 use Rattle.session_engine.specs.Host.{EndsAt, HostView, IsHost}
 use Rattle.host_laws.specs.Turns.{CrashesAreTurns, LeftByTurn}
-use Rattle.host_laws.specs.Together.{GroupMeets, GroupsAreTurns, returned}
+use Rattle.host_laws.specs.Together.{GroupMeets, GroupsAreTurns, GroupsUpToAreTurns, UpToMeets, returned}
 use Rattle.host_laws.proofs.Going.{plays_are_turns, runs_on}
+
+runs_length : (w : World) (es : List Event) (os : List Outcome) (v : World) → Runs w es os v → length es ≡ length os
+runs_length w [] [] v run = refl
+runs_length w [] (o ∷ os) v run = absurd run
+runs_length w (e ∷ es) [] v run = absurd run
+runs_length w (e ∷ es) (o ∷ os) v run = ap suc (runs_length run.0 es os v run.2)
+
+none_left : (done rest : List Event) → length rest ≡ 0 → rest ≡ []
+none_left done [] none = refl
+none_left done (e ∷ rest) none = absurd (omega (arith, none))
 
 module _ (room end : ℕ) (before : Image) (found : List Op) (allowed : Allowed found) (opens : IsSheetImage (sheet_of found) before) (ends : EndsAt before end) (events : List Event) (told : List Outcome)
     (w : World) (run : Runs (world_at_opening found room end) events told w) (group : List Event) where
@@ -113,6 +123,48 @@ module _ (room end : ℕ) (before : Image) (found : List Op) (allowed : Allowed 
     left (Err (halt.Checkpoint back)) m =
         let crashes = stays (m.halts w stands).2 in
         (crashes, silent m.same crashes, tt)
+
+    -- the same of one that stops at a refusal
+    abbrev LeftUpTo : Result (Vec Outcome Global) GroupFault → Type 0
+    LeftUpTo answer = CrashesAreTurns room before found (record { events = events ++ group; told = told }) old.store.disk new.store.disk
+        × CrashesAreTurns room before found (record { events = events ++ group; told = told ++ returned answer }) new.store.disk new.store.disk
+        × IfOk answer (λ outcomes. length outcomes.items ≡ length group → (v : World) × Runs (world_at_opening found room end) (events ++ group) (told ++ outcomes.items) v × IsHost new v)
+
+    all_taken : (rest : List Event) (outcomes : List Outcome) (played : HasPlayed w group rest outcomes new) → length outcomes ≡ length group → HasPlayed w group [] outcomes new
+    all_taken rest outcomes played many = record {
+      done = played.done;
+      split = played.split ∙ ap (λ (l : List Event). played.done ++ l) (none_left played.done rest (omega (arith, runs_length w played.done outcomes played.leads played.runs, many, ap length played.split, length-append played.done rest)));
+      leads = played.leads;
+      runs = played.runs;
+      stands = played.stands;
+    }
+
+    left_up_to : (answer : Result (Vec Outcome Global) GroupFault) → UpToMeets group old answer new → LeftUpTo answer
+    left_up_to (Ok outcomes) m =
+        let took = m.took w stands in
+        let p = took.played in (
+          during took.rest outcomes.items new p took.moments,
+          spoken took.rest outcomes.items new p p.stands.stands.images,
+          λ many. let all = all_taken took.rest outcomes.items p many in (all.leads, leads_on outcomes.items all, all.stands),
+        )
+    left_up_to (Err (halt.Stopped outcomes fault)) m =
+        let s = (m.halts w stands).0 in
+        let images = subst (λ (sheet : Contents). InModel new.store.disk (Leaves (IsSheetImage sheet) new.store.disk.history.now)) s.contents s.flushed.2 in
+        (during (s.at ∷ s.dropped) outcomes.items s.before s.played s.moments, spoken (s.at ∷ s.dropped) outcomes.items s.before s.played images, tt)
+    left_up_to (Err halt.Disk) m =
+        let s = (m.halts w stands).0 in
+        let crashes = during s.rest s.untold s.before s.played s.moments in
+        (crashes, silent m.same crashes, tt)
+    left_up_to (Err (halt.NoRoom back)) m =
+        let crashes = unmoved (m.halts w stands).moments in
+        (crashes, silent m.same crashes, tt)
+    left_up_to (Err (halt.Checkpoint back)) m =
+        let crashes = stays (m.halts w stands).2 in
+        (crashes, silent m.same crashes, tt)
+
+pub groups_up_to_are_turns : GroupsUpToAreTurns
+groups_up_to_are_turns room end before found allowed opens ends events told w run group old new answer stands m =
+    left_up_to room end before found allowed opens ends events told w run group old new stands m.before m.after answer m
 
 pub groups_are_turns : GroupsAreTurns
 groups_are_turns room end before found allowed opens ends events told w run group old new answer stands m =

@@ -1,5 +1,5 @@
 -- One host that is given events by steps and by groups, as programs give them: what the contracts of its calls say together. (docs/HOST.md.)
-use Rattle.std.specs.Prelude.{List, [], ◌∷◌, ◌++◌, ℕ, Result, Ok}
+use Rattle.std.specs.Prelude.{◌≡◌, List, [], ◌∷◌, ◌++◌, length, ℕ, Result, Ok}
 use Rattle.std.specs.declared.alloc.Global.{Global}
 use Rattle.std.specs.declared.vec.Vec.{Vec}
 use Rattle.disk_model.specs.Disk.{Image}
@@ -11,7 +11,7 @@ use Rattle.session_engine.specs.declared.play.GroupFault.{GroupFault}
 use Rattle.session_engine.specs.Host.{HostView}
 use Rattle.host_laws.specs.Turns.{CrashesAreTurns}
 use Rattle.host_laws.specs.OneHost.{JustOpened, StepMeets}
-use Rattle.host_laws.specs.Together.{GroupMeets}
+use Rattle.host_laws.specs.Together.{GroupMeets, UpToMeets, returned}
 
 -- The host was given these events, each by a step or in a group, and they returned these outcomes.
 pub data TookByCalls : HostView → List Event → List Outcome → HostView → Type 0 where
@@ -20,9 +20,13 @@ pub data TookByCalls : HostView → List Event → List Outcome → HostView →
       → TookByCalls h events told mid → StepMeets e mid (Ok o) new → TookByCalls h (events ++ e ∷ []) (told ++ o ∷ []) new
   and_group : {h mid new : HostView} {group : List Event} {outcomes : Vec Outcome Global} {events : List Event} {told : List Outcome}
       → TookByCalls h events told mid → GroupMeets group mid (Ok outcomes) new → TookByCalls h (events ++ group) (told ++ outcomes.items) new
+  -- in one that stops at a refusal, which none of them met before the last
+  and_group_up_to : {h mid new : HostView} {group : List Event} {outcomes : Vec Outcome Global} {events : List Event} {told : List Outcome}
+      → TookByCalls h events told mid → UpToMeets group mid (Ok outcomes) new → length outcomes.items ≡ length group → TookByCalls h (events ++ group) (told ++ outcomes.items) new
 
 -- A host was opened, and given events by steps and groups. A crash after the last call leaves the worksheet after a prefix of the events that
--- has each of them, since each was acknowledged; and so does a crash at any moment of one step or one group more, whatever that answers.
+-- has each of them, since each was acknowledged; and so does a crash at any moment of one step or one group more, whatever that answers, and one
+-- after a group that stopped at a refusal.
 abbrev pub CallsLeavePrefixes : Type 0
 CallsLeavePrefixes = (room : ℕ) (before : Image) (found : List Op) (opened : HostView) → JustOpened room before found opened
     → (events : List Event) (told : List Outcome) (old : HostView) → TookByCalls opened events told old
@@ -31,3 +35,6 @@ CallsLeavePrefixes = (room : ℕ) (before : Image) (found : List Op) (opened : H
     → CrashesAreTurns room before found (record { events = events ++ e ∷ []; told = told }) old.store.disk new.store.disk)
     × ((group : List Event) (answer : Result (Vec Outcome Global) GroupFault) (new : HostView) → GroupMeets group old answer new
     → CrashesAreTurns room before found (record { events = events ++ group; told = told }) old.store.disk new.store.disk)
+    × ((group : List Event) (answer : Result (Vec Outcome Global) GroupFault) (new : HostView) → UpToMeets group old answer new
+    → CrashesAreTurns room before found (record { events = events ++ group; told = told }) old.store.disk new.store.disk
+    × CrashesAreTurns room before found (record { events = events ++ group; told = told ++ returned answer }) new.store.disk new.store.disk)

@@ -1,5 +1,5 @@
 -- Groups of events that one gate commits, as parts of turns: what a crash within such a play, or after it, leaves. (docs/HOST.md.)
-use Rattle.std.specs.Prelude.{◌≡◌, ℕ, List, [], ◌++◌, Result, Ok, Err, IfOk, IfErr}
+use Rattle.std.specs.Prelude.{◌≡◌, ℕ, List, [], ◌++◌, length, Result, Ok, Err, IfOk, IfErr}
 use Rattle.std.specs.declared.alloc.Global.{Global}
 use Rattle.std.specs.declared.vec.Vec.{Vec}
 use Rattle.disk_model.specs.Disk.{Image, SameDisk}
@@ -13,7 +13,7 @@ use Rattle.session_engine.specs.declared.play.GroupFault.{GroupFault}
 use Rattle.session_engine.specs.declared.play.GroupFault.TheVariants as halt
 use Rattle.session_engine.specs.World.{World, world_at_opening}
 use Rattle.session_engine.specs.Does.{Runs}
-use Rattle.session_engine.specs.Groups.{HaltsGroup, TookGroup}
+use Rattle.session_engine.specs.Groups.{HaltsGroup, HaltsUpTo, TookGroup, TookUpTo}
 use Rattle.session_engine.specs.Host.{EndsAt, HostView, IsHost}
 use Rattle.host_laws.specs.Turns.{CrashesAreTurns}
 
@@ -22,6 +22,14 @@ use Rattle.host_laws.specs.Turns.{CrashesAreTurns}
 pub record GroupMeets (group : List Event) (old : HostView) (answer : Result (Vec Outcome Global) GroupFault) (new : HostView) : Type 0 where
   pub took : (w : World) → IsHost old w → IfOk answer (λ outcomes. TookGroup w group outcomes.items old new)
   pub halts : (w : World) → IsHost old w → IfErr answer (HaltsGroup w group old new)
+  pub before : old.store.real ≡ old.store.disk
+  pub after : new.store.real ≡ new.store.disk
+  pub same : SameDisk old.store.disk new.store.disk
+
+-- The same of `play_group_up_to`, which takes no event after the first one that is refused.
+pub record UpToMeets (group : List Event) (old : HostView) (answer : Result (Vec Outcome Global) GroupFault) (new : HostView) : Type 0 where
+  pub took : (w : World) → IsHost old w → IfOk answer (λ outcomes. TookUpTo w group outcomes.items old new)
+  pub halts : (w : World) → IsHost old w → IfErr answer (HaltsUpTo w group old new)
   pub before : old.store.real ≡ old.store.disk
   pub after : new.store.real ≡ new.store.disk
   pub same : SameDisk old.store.disk new.store.disk
@@ -48,3 +56,16 @@ GroupsAreTurns = (room end : ℕ) (before : Image) (found : List Op)
     → CrashesAreTurns room before found (record { events = events ++ group; told = told }) old.store.disk new.store.disk
     × CrashesAreTurns room before found (record { events = events ++ group; told = told ++ returned answer }) new.store.disk new.store.disk
     × IfOk answer (λ outcomes. (v : World) × Runs (world_at_opening found room end) (events ++ group) (told ++ outcomes.items) v × IsHost new v)
+
+-- So is one that stops at a refusal. The events after that are of those that were lost. Where it answers Ok, and as many outcomes as there are
+-- events, the host stands for the world that the events with the group lead to.
+abbrev pub GroupsUpToAreTurns : Type 0
+GroupsUpToAreTurns = (room end : ℕ) (before : Image) (found : List Op)
+    → Allowed found → IsSheetImage (sheet_of found) before → EndsAt before end
+    → (events : List Event) (told : List Outcome) (w : World)
+    → Runs (world_at_opening found room end) events told w
+    → (group : List Event) (old new : HostView) (answer : Result (Vec Outcome Global) GroupFault)
+    → IsHost old w → UpToMeets group old answer new
+    → CrashesAreTurns room before found (record { events = events ++ group; told = told }) old.store.disk new.store.disk
+    × CrashesAreTurns room before found (record { events = events ++ group; told = told ++ returned answer }) new.store.disk new.store.disk
+    × IfOk answer (λ outcomes. length outcomes.items ≡ length group → (v : World) × Runs (world_at_opening found room end) (events ++ group) (told ++ outcomes.items) v × IsHost new v)

@@ -5,13 +5,13 @@
 ghost use Rattle.host_laws.specs.Apart.{OthersAreSilent, SessionsAreIndependent, SessionsSeeTheirOwn};
 ghost use Rattle.host_laws.specs.Calls.{CallsLeavePrefixes};
 ghost use Rattle.host_laws.specs.OneHost.{StepsLeavePrefixes};
-ghost use Rattle.host_laws.specs.Together.{GroupsAreTurns};
+ghost use Rattle.host_laws.specs.Together.{GroupsAreTurns, GroupsUpToAreTurns};
 ghost use Rattle.host_laws.specs.Turns.{EvaluatedAnew, EvaluatedAnewInTurn, HostsInTurn, PlaysAreTurns, StepsAreTurns};
 ghost use Rattle.host_laws.specs.Laws.{AnEventDoesOneThing, EachCommandHasAReply, EachEventHasAnOutcome, NothingIsShownInFlight, NothingOfAnEndedLife, NumbersAreGivenOnce, OutcomesLeadToOneWorld};
 
 mod made;
 
-pub use made::{created_disk, opened_host, played_group};
+pub use made::{created_disk, opened_host, played_group, played_group_up_to};
 
 /// The same is reported to a session whatever others' interpreters do. Take two histories without
 /// refusals, from worlds alike for it. Where they agree in the merged list of all commands and this
@@ -60,6 +60,11 @@ pub fn steps_are_turns()
 /// So are groups, which one gate commits: a crash within such a play, and one after it, whatever it answers.
 pub fn groups_are_turns()
     ensures { GroupsAreTurns }
+{}
+
+/// So are groups that stop at a refusal.
+pub fn groups_up_to_are_turns()
+    ensures { GroupsUpToAreTurns }
 {}
 
 /// One host from its opening to a crash, whose caller gives it one event after another: all that the contracts of

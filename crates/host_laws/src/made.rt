@@ -5,7 +5,7 @@ ghost use Rattle.worksheet.specs.declared.op.Op.{Op};
 ghost use Rattle.worksheet.specs.Ops.{sheet_of};
 ghost use Rattle.recovery.specs.Sheets.{IsSheetImage};
 ghost use Rattle.host_laws.specs.OneHost.{JustOpened};
-ghost use Rattle.host_laws.specs.Together.{GroupMeets};
+ghost use Rattle.host_laws.specs.Together.{GroupMeets, UpToMeets};
 
 use disk_model::Disk;
 use host_events::{Event, Outcome};
@@ -40,6 +40,19 @@ pub fn played_group<D: Disk>(
 {
     let _before = host.sheet();
     let played = host.play_group(events);
+    let _after = host.sheet();
+    played
+}
+
+/// The same of a group that stops at a refusal.
+pub fn played_group_up_to<D: Disk>(
+    host: &mut Host<D>,
+    events: Vec<Event>,
+) -> Result<Vec<Outcome>, GroupFault>
+    ensures { UpToMeets events.items host.old result host.new }
+{
+    let _before = host.sheet();
+    let played = host.play_group_up_to(events);
     let _after = host.sheet();
     played
 }
