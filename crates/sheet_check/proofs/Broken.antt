@@ -20,8 +20,8 @@ use Rattle.live.specs.Arrivals.{Watch}
 use Rattle.live.specs.Saying.{Clock}
 use Rattle.evaluation.specs.Within.{WaitFailed, waiting}
 use Rattle.evaluation.proofs.Waits.{up_to_led}
-use Rattle.sheet_check.specs.Evaluated.{way}
-use Rattle.sheet_check.specs.inside.Checking.{AskFailed, WaitBroke, fault_of_cause, fault_on_copy}
+use Rattle.sheet_check.specs.Evaluated.{fault_on_copy, way}
+use Rattle.sheet_check.specs.inside.Checking.{AskFailed, WaitBroke, fault_of_cause}
 
 module _ {C : Type 0} (R : Relation C) (id : ℕ) (w : World) (h g : HostView) (c d : C) (replies : List Reply) (stands : IsHost h w) where
   pub eval_broke : (why : EdgeCause) → CommandBroke R (command.Eval id) w h g c d replies why → AskFailed R id (at w c h.store.disk) g d (fault_of_cause why)

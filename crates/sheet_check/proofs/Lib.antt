@@ -5,3 +5,4 @@ pub mod Broken
 pub mod Showing
 pub mod Accepted
 pub mod Kept
+pub mod Compared

@@ -12,6 +12,7 @@ use Rattle.host_events.specs.declared.event.Event.TheVariants as event
 use Rattle.host_events.specs.declared.reply.Reply.{Reply}
 use Rattle.host_events.specs.declared.reply.Reply.TheVariants as reply
 use Rattle.session_engine.specs.World.{World, sheet_in}
+use Rattle.host_events.specs.declared.outcome.HostFault.TheVariants as hosts
 use Rattle.child_edge.specs.Limits.{most_turns}
 use Rattle.child_edge.specs.Faithful.{Relation, At, Beat, Served, Waited}
 use Rattle.child_edge.specs.Told.{told}
@@ -19,6 +20,8 @@ use Rattle.live.specs.Arrivals.{Watch}
 use Rattle.live.specs.Saying.{Clock}
 use Rattle.evaluation.specs.Steps.{Setting}
 use Rattle.evaluation.specs.Within.{WaitedWithin, waiting}
+use Rattle.offline_programs.specs.declared.fault.RunFault.{RunFault}
+use Rattle.offline_programs.specs.declared.fault.RunFault.TheVariants as fault
 use Rattle.check_report.specs.declared.chosen.Chosen.{Chosen}
 use Rattle.check_report.specs.declared.verdict.Verdict.{Verdict}
 use Rattle.check_report.specs.Chosen.{Judged, shown_by}
@@ -111,3 +114,16 @@ FieldsChecked o chosen [] s cases t = (cases ≡ []) × (t ≡ s)
 FieldsChecked {C = C} o chosen (field ∷ fields) s cases t =
     (mid : At C) × (one : List Case) × (others : List Case) × FieldChecked o chosen field s one mid
     × FieldsChecked o chosen fields mid others t × (cases ≡ one ++ others)
+
+-- the fault of a check by that of a wait or an evaluation on its copy, whose disk lies in memory, so that it fails for lack of that alone
+abbrev pub fault_on_copy : RunFault → RunFault
+fault_on_copy (fault.Host hosts.Disk) = fault.OutOfMemory
+fault_on_copy (fault.Host hosts.OutOfMemory) = fault.Host hosts.OutOfMemory
+fault_on_copy (fault.Host hosts.JournalFull) = fault.Host hosts.JournalFull
+fault_on_copy (fault.Host hosts.Closed) = fault.Host hosts.Closed
+fault_on_copy fault.OutOfMemory = fault.OutOfMemory
+fault_on_copy fault.Input = fault.Input
+fault_on_copy fault.InputTooLong = fault.InputTooLong
+fault_on_copy fault.Output = fault.Output
+fault_on_copy (fault.Open why) = fault.Open why
+fault_on_copy fault.InUse = fault.InUse

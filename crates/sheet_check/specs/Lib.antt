@@ -1,5 +1,6 @@
 pub mod Evaluated
 pub mod Check
+pub mod Together
 pub mod Accept
 pub mod Screen
 pub mod Progress

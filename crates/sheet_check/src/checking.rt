@@ -117,7 +117,7 @@ fn check_field<D: Disk, C: Sources, W: Write, P: Progress>(
 }
 
 /// Writes what stands first in a report.
-fn tell_opening<W: Write>(format: Format, writer: &mut W) -> Result<(), RunFault>
+pub(crate) fn tell_opening<W: Write>(format: Format, writer: &mut W) -> Result<(), RunFault>
     ensures ok { OnOk result (Appends (W.contents writer.old) (W.contents writer.new)
         (opening_text format)) }
     ensures err { IfErr result (λ why. why ≡ RunFault.Output) }

@@ -4,8 +4,8 @@ ghost use Rattle.session_engine.specs.World.{World};
 ghost use Rattle.session_engine.specs.Host.{IsHost};
 ghost use Rattle.child_edge.specs.Faithful.{at, Beat, Served};
 ghost use Rattle.child_edge.specs.Told.{told};
-ghost use Rattle.sheet_check.specs.Evaluated.{Evaluated, WaitedBy, begins_asked, begins_for_memory, came_if, eval_of, is_asked as says_asked, is_for_memory as says_for_memory, shown_in, way};
-ghost use Rattle.sheet_check.specs.inside.Checking.{AskFailed, EvaluationBroke, WaitBroke, fault_of_cause, fault_on_copy};
+ghost use Rattle.sheet_check.specs.Evaluated.{Evaluated, WaitedBy, begins_asked, begins_for_memory, came_if, eval_of, fault_on_copy, is_asked as says_asked, is_for_memory as says_for_memory, shown_in, way};
+ghost use Rattle.sheet_check.specs.inside.Checking.{AskFailed, EvaluationBroke, WaitBroke, fault_of_cause};
 
 use arrivals::Sources;
 use child_edge::{EdgeCause, EdgeFault, serve, wait};
@@ -31,8 +31,8 @@ fn check_fault(cause: EdgeCause) -> RunFault
     }
 }
 
-/// The fault of a check by that of a wait within a limit, on the same disk.
-fn wait_fault(fault: RunFault) -> RunFault
+/// The fault of a check by that of a wait within a limit, or of an evaluation, on the same disk.
+pub(crate) fn wait_fault(fault: RunFault) -> RunFault
     ensures { result ≡ fault_on_copy fault }
 {
     match fault {

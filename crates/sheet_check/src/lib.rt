@@ -4,12 +4,16 @@
 
 mod accepting;
 mod checking;
+mod clearing;
+mod comparing;
 mod copying;
 mod differing;
 mod evaluating;
 mod progress;
 mod telling;
+mod together;
 
 pub use checking::{Checked, check};
 pub use differing::check_accepting;
 pub use progress::{NoProgress, Progress, ProgressLine, Sight};
+pub use together::check_together;

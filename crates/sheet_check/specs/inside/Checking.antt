@@ -42,19 +42,6 @@ fault_of_cause (cause.Host hosts.JournalFull) = fault.Host hosts.JournalFull
 fault_of_cause (cause.Host hosts.Closed) = fault.Host hosts.Closed
 fault_of_cause cause.OutOfMemory = fault.OutOfMemory
 
--- the fault of a check by that of a wait on its copy, whose disk lies in memory
-abbrev pub fault_on_copy : RunFault → RunFault
-fault_on_copy (fault.Host hosts.Disk) = fault.OutOfMemory
-fault_on_copy (fault.Host hosts.OutOfMemory) = fault.Host hosts.OutOfMemory
-fault_on_copy (fault.Host hosts.JournalFull) = fault.Host hosts.JournalFull
-fault_on_copy (fault.Host hosts.Closed) = fault.Host hosts.Closed
-fault_on_copy fault.OutOfMemory = fault.OutOfMemory
-fault_on_copy fault.Input = fault.Input
-fault_on_copy fault.InputTooLong = fault.InputTooLong
-fault_on_copy fault.Output = fault.Output
-fault_on_copy (fault.Open why) = fault.Open why
-fault_on_copy fault.InUse = fault.InUse
-
 -- An `eval` broke off: up to the event at which the host had a fault, or for lack of memory.
 abbrev pub AskFailed : {C : Type 0} → Relation C → ℕ → At C → HostView → C → RunFault → Type 0
 AskFailed R id s h c (fault.Host f) =

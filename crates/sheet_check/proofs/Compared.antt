@@ -1,0 +1,175 @@
+-- Fields that were evaluated together, compared one after another, and where such a check ends.
+use Rattle.std.proofs.Common.{◌≡◌, ◌+◌, inl, inr, ℕ, List, [], ◌∷◌, ◌++◌, Option, Some, None, refl, ap, sym, ◌∙◌, subst, append_assoc, append-nil}
+use Rattle.std.proofs.KnownBytes.{Appends-trans, Appends-nil}
+use Rattle.std.specs.Io.KnownBytes.{Appends}
+use Rattle.worksheet.specs.declared.field.Answer.{Answer}
+use Rattle.worksheet.specs.declared.field.Field.{Field}
+use Rattle.worksheet.specs.Contents.{Contents}
+use Rattle.session_engine.specs.World.{World}
+use Rattle.session_engine.specs.Host.{HostView, IsHost}
+use Rattle.child_edge.specs.Faithful.{At, at}
+use Rattle.child_edge.specs.Seats.{running}
+use Rattle.child_edge.specs.Stops.{Stops}
+use Rattle.offline_programs.specs.declared.fault.RunFault.{RunFault}
+use Rattle.offline_programs.specs.declared.fault.RunFault.TheVariants as fault
+use Rattle.sheet_programs.proofs.Runs.{StopsIn, stops_behind}
+use Rattle.check_report.specs.declared.chosen.Chosen.{Chosen}
+use Rattle.check_report.specs.declared.report.Format.{Format}
+use Rattle.check_report.specs.declared.verdict.Counts.{Counts}
+use Rattle.check_report.specs.declared.verdict.Verdict.{Verdict}
+use Rattle.check_report.specs.Chosen.{Judged, shown_by}
+use Rattle.check_report.specs.Reports.{Case, case, case_text, cases_text, closing_text, opening_text, report_front, verdicts_of}
+use Rattle.check_report.specs.Verdicts.{counts_of, total}
+use Rattle.evaluation.specs.declared.plan.Plan.{Plan}
+use Rattle.evaluation.specs.Evaluation.{not_begun}
+use Rattle.evaluation.specs.Silently.{BrokeSilently, EvaluatedSilently, SilentlyBroke, between, no_memory, of_host, silent_setting, too_long, unwatched}
+use Rattle.sheet_check.specs.Check.{IsCopy}
+use Rattle.sheet_check.specs.Evaluated.{fault_on_copy, reason_shown_in}
+use Rattle.sheet_check.specs.Together as together
+use Rattle.sheet_check.specs.Together.{EvaluatedTogether, FieldCompared, FieldsCompared, Passage, SideBySide, TellsTogether, TogetherChecked, TogetherTells, came_by, checked_ids, checking, checking_plan, cleared, passage}
+use Rattle.sheet_check.specs.inside.Checking.{Untold, counted_on}
+use Rattle.sheet_check.specs.inside.Comparing.{BrokeTogether, CameTogether, Comparing, EndedTogether, FailedTogether, FieldReported, FieldsReported, LeavesReport, ReportBroke, ReportedTogether}
+use Rattle.sheet_check.proofs.Counting.{cases-more, front-more}
+
+-- A field.
+
+pub one_passed : (m : Comparing) (field : Field) (a : Option (List ℕ)) (counts : Counts) → shown_by m.chosen field ≡ None → FieldReported m field a a counts counts
+one_passed m field a counts none = ([], together.passed none, refl, Appends-nil a)
+
+pub one_compared : (m : Comparing) (number : ℕ) (field : Field) (shown : Answer) (a b : Option (List ℕ)) (counts after : Counts) (verdict : Verdict) → shown_by m.chosen field ≡ Some shown
+    → Judged m.chosen field.id shown.output (came_by m.world m.late field.id) verdict
+    → Appends a b (case_text m.format number (case field (came_by m.world m.late field.id) (reason_shown_in m.world field.id) verdict)) → number ≡ total counts + 1 → after ≡ counted_on (verdict ∷ []) counts
+    → FieldReported m field a b counts after
+one_compared m number field shown a b counts after verdict some judged wrote place is =
+    let one = case field (came_by m.world m.late field.id) (reason_shown_in m.world field.id) verdict in
+    let whole : Appends a b (case_text m.format number one ++ []) = subst (Appends a b) (sym (append-nil (case_text m.format number one))) wrote in
+    (one ∷ [], together.compared shown verdict some judged, is, subst (λ n. Appends a b (cases_text m.format n (one ∷ []))) place whole)
+
+-- Fields.
+
+compared-more : (chosen : Chosen) (w : World) (late : List ℕ) (gone : List Field) (field : Field) (cases more : List Case) → FieldsCompared chosen w late gone cases → FieldCompared chosen w late field more
+    → FieldsCompared chosen w late (gone ++ field ∷ []) (cases ++ more)
+compared-more chosen w late [] field cases more h p = (more, [], p, refl, ap (λ x. x ++ more) h ∙ sym (append-nil more))
+compared-more chosen w late (x ∷ xs) field cases more h p =
+    (h.0, h.1 ++ more, h.2, compared-more chosen w late xs field h.1 more h.3 p, ap (λ y. y ++ more) h.4 ∙ append_assoc h.0 h.1 more)
+
+-- The first fields were compared, and these are left.
+pub record ComparedSoFar (m : Comparing) (all left : List Field) (a b : Option (List ℕ)) (counts : Counts) : Type 0 where
+  pub gone : List Field
+  pub cases : List Case
+  pub split : all ≡ gone ++ left
+  pub ran : FieldsCompared m.chosen m.world m.late gone cases
+  pub counted : counts ≡ counts_of (verdicts_of cases)
+  pub wrote : Appends a b (report_front m.format cases)
+
+pub none_compared : (m : Comparing) (all left : List Field) (a b : Option (List ℕ)) (counts : Counts) → left ≡ all → counts ≡ counts_of [] → Appends a b (opening_text m.format) → ComparedSoFar m all left a b counts
+none_compared m all left a b counts e is opened =
+    record { gone = []; cases = []; split = sym e; ran = refl; counted = is; wrote = subst (Appends a b) (sym (append-nil (opening_text m.format))) opened }
+
+module _ (m : Comparing) (all left : List Field) (field : Field) (others : List Field) (a b e : Option (List ℕ)) (counts : Counts) (is : left ≡ field ∷ others) (so : ComparedSoFar m all left a b counts) where
+  pub more_compared : (after : Counts) → FieldReported m field b e counts after → ComparedSoFar m all others a e after
+  more_compared after p = record {
+    gone = so.gone ++ field ∷ [];
+    cases = so.cases ++ p.0;
+    split = so.split ∙ ap (λ x. so.gone ++ x) is ∙ sym (append_assoc so.gone (field ∷ []) others);
+    ran = compared-more m.chosen m.world m.late so.gone field so.cases p.0 so.ran p.1;
+    counted = p.2 ∙ ap (λ x. counted_on (verdicts_of p.0) x) so.counted ∙ sym (cases-more so.cases p.0);
+    wrote = subst (Appends a e) (sym (front-more m.format so.cases p.0 counts so.counted)) (Appends-trans a b e (report_front m.format so.cases) (cases_text m.format (total counts + 1) p.0) so.wrote p.3);
+  }
+
+  leaves : (why : RunFault) → Untold b e why → LeavesReport m.format so.cases a e why
+  leaves fault.OutOfMemory p = inl (refl, subst (Appends a e) (append-nil (report_front m.format so.cases)) (Appends-trans a b e (report_front m.format so.cases) [] so.wrote p))
+  leaves fault.Output p = inr refl
+  leaves (fault.Host why) p = absurd p
+  leaves fault.Input p = absurd p
+  leaves fault.InputTooLong p = absurd p
+  leaves (fault.Open why) p = absurd p
+  leaves fault.InUse p = absurd p
+
+  pub report_broke : (why : RunFault) → Untold b e why → ReportBroke m all a e why
+  report_broke why p = record { gone = so.gone; left = left; split = so.split; cases = so.cases; compared = so.ran; wrote = leaves why p }
+
+pub all_compared : (m : Comparing) (all left : List Field) (a b : Option (List ℕ)) (counts : Counts) → left ≡ [] → ComparedSoFar m all left a b counts → FieldsReported m all a b counts
+all_compared m all left a b counts e so =
+    let same : so.gone ≡ all = sym (so.split ∙ ap (λ x. so.gone ++ x) e ∙ append-nil so.gone) in
+    (so.cases, subst (λ fs. FieldsCompared m.chosen m.world m.late fs so.cases) same so.ran, so.counted, so.wrote)
+
+-- what stands first couldn't be written
+pub unopened_report : (m : Comparing) (all : List Field) (a b : Option (List ℕ)) (why : RunFault) → why ≡ fault.Output → ReportBroke m all a b why
+unopened_report m all a b why is = record { gone = []; left = all; split = refl; cases = []; compared = refl; wrote = inr is }
+
+-- The plan of the evaluation.
+
+module _ {C : Type 0} (o : SideBySide C) (fields : List Field) (s : At C) (h : HostView) (c : C) (plan : Plan) (is : plan ≡ checking_plan (checked_ids o.chosen fields) o.way.limit o.jobs) where
+  pub came_together : (late : List ℕ) → (t : World) × EvaluatedSilently (silent_setting o.way.after o.way.clock o.way.wakes plan s.world) s late (at t c h.store.disk) × IsHost h t → CameTogether o fields s h c late
+  came_together late q = subst (λ (p : Plan). (t : World) × EvaluatedSilently (silent_setting o.way.after o.way.clock o.way.wakes p s.world) s late (at t c h.store.disk) × IsHost h t) is q
+
+  pub broke_together : (f why : RunFault) → why ≡ fault_on_copy f → BrokeSilently (silent_setting o.way.after o.way.clock o.way.wakes plan s.world) s h c f → BrokeTogether o fields s h c why
+  broke_together f why same q = (q.0, q.1, (f, same, subst (λ (p : Plan). SilentlyBroke (silent_setting o.way.after o.way.clock o.way.wakes p s.world) s q.0 h f) is q.2))
+
+-- where there was no memory for the numbers, nothing was done
+pub none_together : {C : Type 0} (o : SideBySide C) (fields : List Field) (w : World) (h : HostView) (c : C) → IsHost h w → BrokeTogether o fields (at w c h.store.disk) h c fault.OutOfMemory
+none_together o fields w h c stands =
+    (at w c h.store.disk, refl, (fault.OutOfMemory, refl, no_memory refl (between [] [] [] not_begun (refl, refl, refl)) (inl (stands, refl))))
+
+-- Where it ends.
+
+module _ {C : Type 0} (o : SideBySide C) (sheet : Contents) (w : World) (h g : HostView) (copied : IsCopy (cleared o.chosen sheet.fields sheet) w h.store.disk) (c m d : C) (a b : Option (List ℕ)) (stops : StopsIn o.way.after g m d) where
+  evaluated : (late : List ℕ) (came : CameTogether o sheet.fields (at w c h.store.disk) g m late) → EvaluatedTogether o sheet c d came.0 late
+  evaluated late came = record {
+    start = w;
+    copy = h.store.disk;
+    copied = copied;
+    came = at came.0 m g.store.disk;
+    world_is = refl;
+    evaluated = came.1;
+    stops = stops.0 came.0 came.2;
+  }
+
+  pub together_ended : (counts : Counts) → ReportedTogether o sheet.fields (at w c h.store.disk) g m a b counts → EndedTogether o sheet (passage c d a b) counts
+  together_ended counts q = let came = q.1.0 in let told = q.1.1 in (came.0, q.0, evaluated q.0 came, (told.0, told.1, told.2, told.3))
+
+  stopped : (t : At C) (why : RunFault) → t.children ≡ m → SilentlyBroke (checking o sheet.fields w) (at w c h.store.disk) t g why → Stops o.way.after (running t.world) t.children d
+  stopped t why is (of_host f e beats text _ cut broke) = subst (λ x. Stops o.way.after (running t.world) x d) (sym is) (stops.1 t.world e t.disk f broke)
+  stopped t why is (no_memory _ some stands) = subst (λ x. Stops o.way.after (running t.world) x d) (sym is) (stops_behind o.way.after g m d t.world t.disk stops stands)
+  stopped t why is (unwatched beats text _ came stands _) = subst (λ x. Stops o.way.after (running t.world) x d) (sym is) (stops.0 t.world stands)
+  stopped t why is (too_long beats text _ came stands _) = subst (λ x. Stops o.way.after (running t.world) x d) (sym is) (stops.0 t.world stands)
+
+  reported-broke : (late : List ℕ) (came : CameTogether o sheet.fields (at w c h.store.disk) g m late) (why : RunFault) (F : Format) (cases : List Case) (gone left : List Field) → sheet.fields ≡ gone ++ left
+      → FieldsCompared o.chosen came.0 late gone cases → LeavesReport o.format cases a b why → TellsTogether o sheet (passage c d a b) ⊥ why
+  reported-broke late came why F cases gone left split compared (inl p) =
+      together.no_memory cases p.0 (record { leads = came.0; late = late; evaluated = evaluated late came; gone = gone; left = left; split = split; compared = compared }) p.1
+  reported-broke late came why F cases gone left split compared (inr p) =
+      together.unwritten cases p (record { leads = came.0; late = late; evaluated = evaluated late came; gone = gone; left = left; split = split; compared = compared })
+
+  pub together_failed : (why : RunFault) → FailedTogether o sheet.fields (at w c h.store.disk) g m a b why → TellsTogether o sheet (passage c d a b) ⊥ why
+  together_failed why (inl q) =
+      let broke = q.0.2 in
+      together.broke
+      (record { start = w; copy = h.store.disk; copied = copied; leads = q.0.0; host = g; cause = broke.0; is = broke.1; broke = broke.2; stops = stopped q.0.0 broke.0 q.0.1 broke.2 })
+      q.1
+  together_failed why (inr q) = let p = q.1.1 in reported-broke q.0 q.1.0 why o.format p.cases p.gone p.left p.split p.compared p.wrote
+
+-- The whole.
+
+module _ {C : Type 0} (o : SideBySide C) (sheet : Contents) (c d : C) (a b : Option (List ℕ)) where
+  pub told_together : (e : Option (List ℕ)) (counts : Counts) → EndedTogether o sheet (passage c d a b) counts → Appends b e (closing_text o.format counts) → TogetherChecked o sheet (passage c d a e) counts
+  told_together e counts q told = let p = q.3 in record {
+    leads = q.0;
+    late = q.1;
+    evaluated = q.2;
+    cases = p.0;
+    compared = p.1;
+    counted = p.2;
+    wrote = Appends-trans a b e (report_front o.format p.0) (closing_text o.format (counts_of (verdicts_of p.0))) p.3 (subst (λ x. Appends b e (closing_text o.format x)) p.2 told);
+  }
+
+  pub counts_unwritten : (e : Option (List ℕ)) (counts : Counts) (nothing : Type 0) (why : RunFault) → EndedTogether o sheet (passage c d a b) counts → why ≡ fault.Output → TellsTogether o sheet (passage c d a e) nothing why
+  counts_unwritten e counts nothing why q is =
+      let p = q.3 in together.unwritten p.0 is (record { leads = q.0; late = q.1; evaluated = q.2; gone = sheet.fields; left = []; split = sym (append-nil sheet.fields); compared = p.1 })
+
+pub tells_on : {C : Type 0} (o : SideBySide C) (sheet : Contents) (q : Passage C) (nothing : Type 0) (why : RunFault) → TellsTogether o sheet q ⊥ why → TellsTogether o sheet q nothing why
+tells_on o sheet q nothing why (together.not_begun is none) = absurd none
+tells_on o sheet q nothing why (together.broke p wrote) = together.broke p wrote
+tells_on o sheet q nothing why (together.no_memory cases is p wrote) = together.no_memory cases is p wrote
+tells_on o sheet q nothing why (together.unwritten cases is p) = together.unwritten cases is p

@@ -1,0 +1,33 @@
+use Rattle.std.proofs.Common.{◌∙◌, ◌+◌, ap, inr, subst, sym}
+use Rattle.std.specs.Option.{option_copied}
+use Rattle.std.specs.Io.KnownBytes.{Appends}
+use Rattle.check_report.specs.Chosen.{Judged}
+use Rattle.check_report.specs.Reports.{case, case_text}
+use Rattle.sheet_check.specs.Evaluated.{came_if, reason_shown_in, shown_in}
+use Rattle.sheet_check.specs.declared.progress.Sight.TheVariants as sight
+use Rattle.sheet_check.specs.inside.Comparing.{comparing}
+use Rattle.sheet_check.proofs.Compared.{one_compared, one_passed}
+use Rattle.sheet_check.proofs.comparing.compare_field.Goals as goal
+
+pub returns-in-None-clause-ok : goal.returns-in-None-clause-ok
+returns-in-None-clause-ok g c = λ w h.
+    one_passed (comparing c.args.request.now.chosen c.args.request.now.format w c.args.late.now) c.args.field.now (g.W.Write.contents c.args.writer.now) c.args.counts (sym c.shown.ensures ∙ ap option_copied c.in-None.is)
+
+pub returns-in-Ok-clause-ok : goal.returns-in-Ok-clause-ok
+returns-in-Ok-clause-ok g c = λ w h.
+    let id = c.args.field.now.id in
+    let told = subst (λ x. Judged c.args.request.now.chosen id c.in-Some.shown.now.output (came_if x (shown_in w id)) c.in-Ok.verdict
+    × Appends (g.W.Write.contents c.args.writer.now) (g.W.Write.contents c.tell_what_came.new.writer)
+    (case_text c.args.request.now.format (c.total-number.result + 1) (case c.args.field.now (came_if x (shown_in w id)) (reason_shown_in w id) c.in-Ok.verdict))) c.is_in_time-in_time.ensures (c.in-Ok.ensures.ok w h) in
+    let m = comparing c.args.request.now.chosen c.args.request.now.format w c.args.late.now in
+    one_compared m (c.total-number.result + 1) c.args.field.now c.in-Some.shown.now (g.W.Write.contents c.args.writer.now) (g.W.Write.contents c.tell_what_came.new.writer) c.args.counts c.show_counts.result c.in-Ok.verdict (sym c.shown.ensures ∙ ap option_copied c.in-Some.is)
+    told.0 told.1 (ap (λ n. n + 1) c.total-number.ensures) (c.show_counts.ensures.same ∙ c.with.ensures)
+
+pub returns-in-Ok-clause-shown : goal.returns-in-Ok-clause-shown
+returns-in-Ok-clause-shown g c = inr (
+  c.in-Ok.verdict,
+  c.tell_what_came.new.progress,
+  c.show_counts.ensures.same ∙ c.with.ensures,
+  c.in-Ok.ensures.room,
+  subst (λ x. g.P.Progress.shows c.tell_what_came.new.progress (sight.Line x c.args.all) c.show_counts.new.progress) (sym c.show_counts.ensures.same) c.show_counts.ensures.shown,
+)

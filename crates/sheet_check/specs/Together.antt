@@ -1,0 +1,174 @@
+-- What a check leaves whose fields are evaluated side by side: an evaluation in silence of those fields on a copy, and then their report in
+-- the worksheet's order. (docs/CHECK.md, "Side by side".)
+use Rattle.std.specs.Prelude.{◌≡◌, ◌==◌, ℕ, Bool, false, true, not, List, [], ◌∷◌, ◌++◌, Option, Some, None, Result, Ok, Err}
+use Rattle.std.specs.List.{list_any}
+use Rattle.std.specs.Io.KnownBytes.{Appends}
+use Rattle.disk_model.specs.Disk.{DiskView, InModel, bytes_on}
+use Rattle.worksheet.specs.declared.field.Answer.{Answer}
+use Rattle.worksheet.specs.declared.field.Field.{Field}
+use Rattle.worksheet.specs.declared.op.Op.TheVariants as op
+use Rattle.worksheet.specs.declared.refusal.Refusal.{Refusal}
+use Rattle.worksheet.specs.Checks.{first_refusal}
+use Rattle.worksheet.specs.Contents.{Contents}
+use Rattle.worksheet.specs.Edits.{edited}
+use Rattle.journal.specs.declared.opening.OpenCause.{OpenCause}
+use Rattle.recovery.specs.Sheets.{IsSheetImage, TellsOfSheet}
+use Rattle.session_engine.specs.Host.{HostView}
+use Rattle.session_engine.specs.World.{World}
+use Rattle.child_edge.specs.Faithful.{At, at}
+use Rattle.child_edge.specs.Seats.{running}
+use Rattle.child_edge.specs.Stops.{Stops}
+use Rattle.offline_programs.specs.declared.fault.RunFault.{RunFault}
+use Rattle.offline_programs.specs.declared.fault.RunFault.TheVariants as fault
+use Rattle.check_report.specs.declared.chosen.Chosen.{Chosen}
+use Rattle.check_report.specs.declared.report.Format.{Format}
+use Rattle.check_report.specs.declared.verdict.Counts.{Counts}
+use Rattle.check_report.specs.declared.verdict.Verdict.{Verdict}
+use Rattle.check_report.specs.Chosen.{Judged, shown_by}
+use Rattle.check_report.specs.Reports.{Case, case, report_front, report_text, verdicts_of}
+use Rattle.check_report.specs.Verdicts.{counts_of}
+use Rattle.evaluation.specs.declared.plan.Plan.{Plan}
+use Rattle.evaluation.specs.declared.plan.Which.TheVariants as which
+use Rattle.evaluation.specs.Steps.{Setting}
+use Rattle.evaluation.specs.Silently.{EvaluatedSilently, SilentlyBroke, silent_setting}
+use Rattle.sheet_check.specs.Check.{IsCopy}
+use Rattle.sheet_check.specs.Evaluated.{Way, came_if, fault_on_copy, reason_shown_in, shown_in}
+
+-- How fields are checked side by side: how they are evaluated, in how many sessions they wait at a time, which they are, and how they are
+-- reported.
+pub record SideBySide (C : Type 0) : Type 1 where
+  pub way : Way C
+  pub jobs : ℕ
+  pub chosen : Chosen
+  pub format : Format
+
+abbrev pub side_by_side : {C : Type 0} → Way C → ℕ → Chosen → Format → SideBySide C
+side_by_side o jobs chosen F = record { way = o; jobs = jobs; chosen = chosen; format = F }
+
+-- From the first of these sources to the last a check ran, and from the first text to the last it wrote.
+pub record Passage (C : Type 0) : Type 0 where
+  pub sources : C
+  pub left : C
+  pub text : Option (List ℕ)
+  pub written : Option (List ℕ)
+
+abbrev pub passage : {C : Type 0} → C → C → Option (List ℕ) → Option (List ℕ) → Passage C
+passage c d a b = record { sources = c; left = d; text = a; written = b }
+
+-- a number, where its field shows an answer
+abbrev pub id_of_shown : Option Answer → ℕ → List ℕ
+id_of_shown None id = []
+id_of_shown (Some shown) id = id ∷ []
+
+-- the numbers of the fields that are checked, in the worksheet's order
+abbrev pub checked_ids : Chosen → List Field → List ℕ
+checked_ids chosen [] = []
+checked_ids chosen (field ∷ fields) = id_of_shown (shown_by chosen field) field.id ++ checked_ids chosen fields
+
+-- a worksheet after the field with this number was cleared, where it has one
+abbrev pub cleared_if : Option Refusal → Contents → ℕ → Contents
+cleared_if None sheet id = edited sheet (op.Clear id)
+cleared_if (Some why) sheet id = sheet
+
+-- why a worksheet refuses to clear the field with this number, where it does
+abbrev pub refusal_of : Contents → ℕ → Option Refusal
+refusal_of sheet id = first_refusal sheet (op.Clear id)
+
+abbrev pub cleared_at : Option Answer → Contents → ℕ → Contents
+cleared_at None sheet id = sheet
+cleared_at (Some shown) sheet id = cleared_if (refusal_of sheet id) sheet id
+
+-- The worksheet after those of these fields that are checked were cleared, one after another, so that they show nothing.
+abbrev pub cleared : Chosen → List Field → Contents → Contents
+cleared chosen [] sheet = sheet
+cleared chosen (field ∷ fields) sheet = cleared chosen fields (cleared_at (shown_by chosen field) sheet field.id)
+
+-- all of these fields, up to the end: a field after one that shows no answer is asked, too
+abbrev pub checking_plan : List ℕ → Option ℕ → ℕ → Plan
+checking_plan ids limit jobs = record { which = which.Named ids; unanswered = false; strict = false; limit = limit; keep_going = true; jobs = jobs }
+
+-- how the fields of a worksheet are evaluated that are checked, on a copy that stands so
+abbrev pub checking : {C : Type 0} → SideBySide C → List Field → World → Setting C
+checking o fields w = silent_setting o.way.after o.way.clock o.way.wakes (checking_plan (checked_ids o.chosen fields) o.way.limit o.jobs) w
+
+-- whether the time of the field with this number was over
+abbrev pub is_late : List ℕ → ℕ → Bool
+is_late late id = list_any (λ one. one == id) late
+
+-- The answer that came to a field: the one that it shows on the copy at the end, and none where its time was over.
+abbrev pub came_by : World → List ℕ → ℕ → Option Answer
+came_by w late id = came_if (not (is_late late id)) (shown_in w id)
+
+-- A field was compared: where it shows an answer, and its session is checked, what came was judged by that answer. The case that this is,
+-- where it is one.
+pub data FieldCompared (chosen : Chosen) (w : World) (late : List ℕ) (field : Field) : List Case → Type 0 where
+  passed : shown_by chosen field ≡ None → FieldCompared chosen w late field []
+  compared : (shown : Answer) (verdict : Verdict) → shown_by chosen field ≡ Some shown → Judged chosen field.id shown.output (came_by w late field.id) verdict
+      → FieldCompared chosen w late field (case field (came_by w late field.id) (reason_shown_in w field.id) verdict ∷ [])
+
+-- fields were compared, one after another
+abbrev pub FieldsCompared : Chosen → World → List ℕ → List Field → List Case → Type 0
+FieldsCompared chosen w late [] cases = cases ≡ []
+FieldsCompared chosen w late (field ∷ fields) cases =
+    (one : List Case) × (others : List Case) × FieldCompared chosen w late field one × FieldsCompared chosen w late fields others × (cases ≡ one ++ others)
+
+-- On a copy of this worksheet, on which the fields that are checked show nothing, these were evaluated up to the end, and then each life that
+-- goes on was stopped.
+pub record EvaluatedTogether {C : Type 0} (o : SideBySide C) (sheet : Contents) (c d : C) (leads : World) (late : List ℕ) : Type 0 where
+  pub start : World
+  pub copy : DiskView
+  pub copied : IsCopy (cleared o.chosen sheet.fields sheet) start copy
+  pub came : At C
+  pub world_is : came.world ≡ leads
+  pub evaluated : EvaluatedSilently (checking o sheet.fields start) (at start c copy) late came
+  pub stops : Stops o.way.after (running leads) came.children d
+
+-- So they were evaluated, and their report was written, in the worksheet's order. These are the counts.
+pub record TogetherChecked {C : Type 0} (o : SideBySide C) (sheet : Contents) (q : Passage C) (counts : Counts) : Type 0 where
+  pub leads : World
+  pub late : List ℕ
+  pub evaluated : EvaluatedTogether o sheet q.sources q.left leads late
+  pub cases : List Case
+  pub compared : FieldsCompared o.chosen leads late sheet.fields cases
+  pub counted : counts ≡ counts_of (verdicts_of cases)
+  pub wrote : Appends q.text q.written (report_text o.format cases)
+
+-- The evaluation broke off, and then each life that goes on was stopped.
+pub record TogetherBroke {C : Type 0} (o : SideBySide C) (sheet : Contents) (c d : C) (why : RunFault) : Type 0 where
+  pub start : World
+  pub copy : DiskView
+  pub copied : IsCopy (cleared o.chosen sheet.fields sheet) start copy
+  pub leads : At C
+  pub host : HostView
+  pub cause : RunFault
+  pub is : why ≡ fault_on_copy cause
+  pub broke : SilentlyBroke (checking o sheet.fields start) (at start c copy) leads host cause
+  pub stops : Stops o.way.after (running leads.world) leads.children d
+
+-- The fields were evaluated, and the first of them were reported, which are these cases.
+pub record TogetherReported {C : Type 0} (o : SideBySide C) (sheet : Contents) (c d : C) (cases : List Case) : Type 0 where
+  pub leads : World
+  pub late : List ℕ
+  pub evaluated : EvaluatedTogether o sheet c d leads late
+  pub gone : List Field
+  pub left : List Field
+  pub split : sheet.fields ≡ gone ++ left
+  pub compared : FieldsCompared o.chosen leads late gone cases
+
+-- What a fault leaves. Nothing is written before the last answer came; where there is no memory for a line what was reported before is; and
+-- where the writer fails a part may have gone out.
+pub data TellsTogether {C : Type 0} (o : SideBySide C) (sheet : Contents) (q : Passage C) (nothing : Type 0) (why : RunFault) : Type 0 where
+  not_begun : why ≡ fault.OutOfMemory → nothing → TellsTogether o sheet q nothing why
+  broke : TogetherBroke o sheet q.sources q.left why → Appends q.text q.written [] → TellsTogether o sheet q nothing why
+  no_memory : (cases : List Case) → why ≡ fault.OutOfMemory → TogetherReported o sheet q.sources q.left cases → Appends q.text q.written (report_front o.format cases) → TellsTogether o sheet q nothing why
+  unwritten : (cases : List Case) → why ≡ fault.Output → TogetherReported o sheet q.sources q.left cases → TellsTogether o sheet q nothing why
+
+-- what becomes of a check of this worksheet
+abbrev pub TogetherTells : {C : Type 0} → SideBySide C → Contents → Passage C → Type 0 → Result Counts RunFault → Type 0
+TogetherTells o sheet q nothing (Ok counts) = TogetherChecked o sheet q counts
+TogetherTells o sheet q nothing (Err why) = TellsTogether o sheet q nothing why
+
+-- What the check answers: that the disk wasn't opened, where nothing was done, or what becomes of a check of the worksheet on it.
+pub data TogetherAnswer {C : Type 0} (o : SideBySide C) (disk : DiskView) (q : Passage C) (nothing : Type 0) (answer : Result Counts RunFault) : Type 0 where
+  unopened : (why : OpenCause) → answer ≡ Err (fault.Open why) → nothing → InModel disk (TellsOfSheet (bytes_on disk) why) → TogetherAnswer o disk q nothing answer
+  opened : (sheet : Contents) → InModel disk (IsSheetImage sheet (bytes_on disk)) → TogetherTells o sheet q nothing answer → TogetherAnswer o disk q nothing answer

@@ -1,0 +1,80 @@
+-- What the functions promise each other that report fields after all were evaluated. No public contract names this.
+use Rattle.std.specs.Prelude.{◌≡◌, ◌+◌, ◌⊎◌, ℕ, List, [], ◌++◌, Option, Result, IfOk, IfErr}
+use Rattle.std.specs.Io.KnownBytes.{Appends}
+use Rattle.worksheet.specs.Contents.{Contents}
+use Rattle.worksheet.specs.declared.field.Field.{Field}
+use Rattle.session_engine.specs.World.{World}
+use Rattle.session_engine.specs.Host.{HostView, IsHost}
+use Rattle.child_edge.specs.Faithful.{At, at}
+use Rattle.offline_programs.specs.declared.fault.RunFault.{RunFault}
+use Rattle.offline_programs.specs.declared.fault.RunFault.TheVariants as fault
+use Rattle.check_report.specs.declared.chosen.Chosen.{Chosen}
+use Rattle.check_report.specs.declared.report.Format.{Format}
+use Rattle.check_report.specs.declared.verdict.Counts.{Counts}
+use Rattle.check_report.specs.Reports.{Case, cases_text, report_front, verdicts_of}
+use Rattle.check_report.specs.Verdicts.{counts_of, total}
+use Rattle.evaluation.specs.Silently.{EvaluatedSilently, SilentlyBroke}
+use Rattle.sheet_check.specs.Evaluated.{fault_on_copy}
+use Rattle.sheet_check.specs.Together.{EvaluatedTogether, FieldCompared, FieldsCompared, Passage, SideBySide, TellsTogether, checking}
+use Rattle.sheet_check.specs.inside.Checking.{counted_on}
+
+-- How fields are compared: which, and how they are reported; where the copy stands, and the fields whose time was over.
+pub record Comparing : Type 0 where
+  pub chosen : Chosen
+  pub format : Format
+  pub world : World
+  pub late : List ℕ
+
+abbrev pub comparing : Chosen → Format → World → List ℕ → Comparing
+comparing chosen F w late = record { chosen = chosen; format = F; world = w; late = late }
+
+-- A field was compared after those that are counted, and what is to be reported is written.
+abbrev pub FieldReported : Comparing → Field → Option (List ℕ) → Option (List ℕ) → Counts → Counts → Type 0
+FieldReported m field a b counts after =
+    (cases : List Case) × FieldCompared m.chosen m.world m.late field cases × (after ≡ counted_on (verdicts_of cases) counts) × Appends a b (cases_text m.format (total counts + 1) cases)
+
+-- These fields were compared, and what is to be reported is written.
+abbrev pub FieldsReported : Comparing → List Field → Option (List ℕ) → Option (List ℕ) → Counts → Type 0
+FieldsReported m fields a b counts =
+    (cases : List Case) × FieldsCompared m.chosen m.world m.late fields cases × (counts ≡ counts_of (verdicts_of cases)) × Appends a b (report_front m.format cases)
+
+-- what a report leaves of the output that broke off after these cases
+abbrev pub LeavesReport : Format → List Case → Option (List ℕ) → Option (List ℕ) → RunFault → Type 0
+LeavesReport F cases a b why = ((why ≡ fault.OutOfMemory) × Appends a b (report_front F cases)) ⊎ (why ≡ fault.Output)
+
+-- The first of these fields were compared, which are these cases; the next one, or what stands first, couldn't be reported.
+pub record ReportBroke (m : Comparing) (fields : List Field) (a b : Option (List ℕ)) (why : RunFault) : Type 0 where
+  pub gone : List Field
+  pub left : List Field
+  pub split : fields ≡ gone ++ left
+  pub cases : List Case
+  pub compared : FieldsCompared m.chosen m.world m.late gone cases
+  pub wrote : LeavesReport m.format cases a b why
+
+-- The fields that are checked were evaluated on a copy from here, and it stands there.
+abbrev pub CameTogether : {C : Type 0} → SideBySide C → List Field → At C → HostView → C → List ℕ → Type 0
+CameTogether o fields s h c late = (t : World) × EvaluatedSilently (checking o fields s.world) s late (at t c h.store.disk) × IsHost h t
+
+-- the evaluation broke off
+abbrev pub BrokeTogether : {C : Type 0} → SideBySide C → List Field → At C → HostView → C → RunFault → Type 0
+BrokeTogether {C = C} o fields s h c why = (t : At C) × (t.children ≡ c) × ((cause : RunFault) × (why ≡ fault_on_copy cause) × SilentlyBroke (checking o fields s.world) s t h cause)
+
+-- They were evaluated, and reported.
+abbrev pub ReportedTogether : {C : Type 0} → SideBySide C → List Field → At C → HostView → C → Option (List ℕ) → Option (List ℕ) → Counts → Type 0
+ReportedTogether o fields s h c a b counts = (late : List ℕ) × ((came : CameTogether o fields s h c late) × FieldsReported (comparing o.chosen o.format came.0 late) fields a b counts)
+
+-- The evaluation broke off, and nothing was written, or the report did.
+abbrev pub FailedTogether : {C : Type 0} → SideBySide C → List Field → At C → HostView → C → Option (List ℕ) → Option (List ℕ) → RunFault → Type 0
+FailedTogether o fields s h c a b why =
+    (BrokeTogether o fields s h c why × Appends a b [])
+    ⊎ ((late : List ℕ) × ((came : CameTogether o fields s h c late) × ReportBroke (comparing o.chosen o.format came.0 late) fields a b why))
+
+-- So they were, and then each life that goes on was stopped.
+abbrev pub EndedTogether : {C : Type 0} → SideBySide C → Contents → Passage C → Counts → Type 0
+EndedTogether o sheet q counts =
+    (leads : World) × (late : List ℕ) × EvaluatedTogether o sheet q.sources q.left leads late
+    × ((cases : List Case) × FieldsCompared o.chosen leads late sheet.fields cases × (counts ≡ counts_of (verdicts_of cases)) × Appends q.text q.written (report_front o.format cases))
+
+-- the same on a copy
+abbrev pub OnCleared : {C : Type 0} → SideBySide C → Contents → Passage C → Result Counts RunFault → Type 0
+OnCleared o sheet q counted = IfOk counted (EndedTogether o sheet q) × IfErr counted (TellsTogether o sheet q ⊥)

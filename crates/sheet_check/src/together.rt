@@ -1,0 +1,278 @@
+//! The check of a worksheet whose fields are evaluated side by side.
+ghost use Rattle.std.specs.Prelude.{◌≡◌, ◌<◌, ◌^◌, [], List, Err, IfErr, IfNone, IfOk, IfSome, length};
+ghost use Rattle.worksheet.specs.declared.op.Op.{Op};
+ghost use Rattle.recovery.specs.Sheets.{Makes};
+ghost use Rattle.session_engine.specs.World.{World};
+ghost use Rattle.session_engine.specs.Host.{IsHost};
+ghost use Rattle.child_edge.specs.Faithful.{at};
+ghost use Rattle.disk_model.specs.Disk.{Rises};
+ghost use Rattle.offline_programs.specs.declared.fault.RunFault.TheVariants as told;
+ghost use Rattle.journal.specs.declared.opening.OpenCause.TheVariants as opens;
+ghost use Rattle.sheet_check.specs.Evaluated.{way};
+ghost use Rattle.sheet_check.specs.Check.{IsCopy, OnlyRead};
+ghost use Rattle.sheet_check.specs.Progress.{CheckShows, FieldsLeft, FieldsShow, SheetShows, answered};
+ghost use Rattle.sheet_check.specs.Together.{TellsTogether, TogetherAnswer, TogetherTells, checking_plan as plan_of_check, cleared, passage, side_by_side};
+ghost use Rattle.sheet_check.specs.inside.Comparing.{BrokeTogether, CameTogether, EndedTogether, FailedTogether, OnCleared, ReportedTogether};
+
+use crate::checking::{Checked, count_answered, tell_closing};
+use crate::clearing::{checked_ids, open_cleared};
+use crate::comparing::compare_fields;
+use crate::evaluating::wait_fault;
+use crate::progress::{Progress, Sight};
+use arrivals::Sources;
+use block_tree::Sequence;
+use check_report::{Counts, Request};
+use child_edge::stop_all;
+use disk_model::Disk;
+use evaluation::{Plan, Which, evaluate_silently};
+use journal::OpenFault;
+use offline_programs::RunFault;
+use recovery::Store;
+use session_engine::Host;
+use std::alloc::Global;
+use std::io::Write;
+use worksheet::Sheet;
+
+/// How the fields with these numbers are evaluated: all of them, up to the end.
+fn checking_plan(ids: Vec<u32>, limit: Option<u32>, jobs: u32) -> Plan
+    ensures { result ≡ plan_of_check ids.items limit jobs }
+{
+    Plan {
+        which: Which::Named(Sequence::from_vec(ids)),
+        unanswered: false,
+        strict: false,
+        limit,
+        keep_going: true,
+        jobs,
+    }
+}
+
+/// Evaluates the fields of a worksheet that are checked, on a copy of it. The numbers of those whose time was
+/// over.
+fn evaluate_checked<D: Disk, C: Sources>(
+    alloc: Global,
+    request: &Request,
+    jobs: u32,
+    sheet: &Sheet,
+    host: &mut Host<D>,
+    sources: &mut C,
+) -> Result<Vec<u32>, RunFault>
+    requires { (w : World) × IsHost host.old w }
+    ensures ok { (w : World) → IsHost host.old w → IfOk result (λ late. CameTogether
+        (side_by_side (way C.after C.clock C.wakes request.now.limit) jobs request.now.chosen request.now.format)
+        sheet.now.contents.fields (at w sources.old host.old.store.disk) host.new sources.new late.items) }
+    ensures err { (w : World) → IsHost host.old w → IfErr result (BrokeTogether
+        (side_by_side (way C.after C.clock C.wakes request.now.limit) jobs request.now.chosen request.now.format)
+        sheet.now.contents.fields (at w sources.old host.old.store.disk) host.new sources.new) }
+{
+    let Ok(ids) = checked_ids(alloc, &request.chosen, sheet) else {
+        return Err(RunFault::OutOfMemory);
+    };
+    let plan = checking_plan(ids, request.limit, jobs);
+    match evaluate_silently(alloc, &plan, host, sources) {
+        Ok(late) => Ok(late),
+        Err(fault) => Err(wait_fault(fault)),
+    }
+}
+
+/// The same, and then compares them with the worksheet, and reports them.
+fn check_together_on<D: Disk, C: Sources, W: Write, P: Progress>(
+    alloc: Global,
+    request: &Request,
+    jobs: u32,
+    sheet: &Sheet,
+    host: &mut Host<D>,
+    sources: &mut C,
+    all: u32,
+    progress: &mut P,
+    writer: &mut W,
+) -> Result<Counts, RunFault>
+    requires few { length sheet.now.contents.fields < 2 ^ 31 }
+    requires stands { (w : World) × IsHost host.old w }
+    ensures ok { (w : World) → IsHost host.old w → IfOk result (ReportedTogether
+        (side_by_side (way C.after C.clock C.wakes request.now.limit) jobs request.now.chosen request.now.format)
+        sheet.now.contents.fields (at w sources.old host.old.store.disk) host.new sources.new
+        (W.contents writer.old) (W.contents writer.new)) }
+    ensures err { (w : World) → IsHost host.old w → IfErr result (FailedTogether
+        (side_by_side (way C.after C.clock C.wakes request.now.limit) jobs request.now.chosen request.now.format)
+        sheet.now.contents.fields (at w sources.old host.old.store.disk) host.new sources.new
+        (W.contents writer.old) (W.contents writer.new)) }
+    ensures shown { IfOk result (λ counts.
+        FieldsShow request.now.format P.shows all progress.old counts progress.new) }
+    ensures left { IfErr result (λ _.
+        FieldsLeft request.now.format P.shows all progress.old progress.new) }
+{
+    match evaluate_checked(alloc, request, jobs, sheet, host, sources) {
+        Ok(late) => compare_fields(
+            alloc,
+            request,
+            sheet,
+            host,
+            late.as_slice(),
+            all,
+            progress,
+            writer,
+        ),
+        Err(fault) => Err(fault),
+    }
+}
+
+/// The same, and then the line of progress is taken away, and each life that goes on is stopped.
+fn check_together_and_stop<D: Disk, C: Sources, W: Write, P: Progress>(
+    alloc: Global,
+    request: &Request,
+    jobs: u32,
+    sheet: &Sheet,
+    host: &mut Host<D>,
+    sources: &mut C,
+    progress: &mut P,
+    writer: &mut W,
+) -> Result<Counts, RunFault>
+    requires few { length sheet.now.contents.fields < 2 ^ 31 }
+    requires stands { (w : World) × IsHost host.old w }
+    ensures ok { (w : World) → IsHost host.old w
+        → IsCopy (cleared request.now.chosen sheet.now.contents.fields sheet.now.contents) w host.old.store.disk
+        → IfOk result (EndedTogether
+        (side_by_side (way C.after C.clock C.wakes request.now.limit) jobs request.now.chosen request.now.format)
+        sheet.now.contents (passage sources.old sources.new (W.contents writer.old) (W.contents writer.new))) }
+    ensures err { (w : World) → IsHost host.old w
+        → IsCopy (cleared request.now.chosen sheet.now.contents.fields sheet.now.contents) w host.old.store.disk
+        → IfErr result (TellsTogether
+        (side_by_side (way C.after C.clock C.wakes request.now.limit) jobs request.now.chosen request.now.format)
+        sheet.now.contents (passage sources.old sources.new (W.contents writer.old) (W.contents writer.new)) ⊥) }
+    ensures shown { SheetShows request.now.format P.shows
+        (answered request.now.chosen sheet.now.contents.fields)
+        progress.old progress.new result }
+{
+    let all = count_answered(&request.chosen, sheet);
+    let counted = check_together_on(
+        alloc, request, jobs, sheet, host, sources, all, progress, writer,
+    );
+    progress.show(Sight::Nothing);
+    stop_all(host, sources);
+    counted
+}
+
+/// Checks a worksheet on a copy of it, whose host ends here. None where there is no memory for the copy.
+fn together_on_copy<C: Sources, W: Write, P: Progress>(
+    alloc: Global,
+    request: &Request,
+    jobs: u32,
+    sheet: &Sheet,
+    sources: &mut C,
+    progress: &mut P,
+    writer: &mut W,
+) -> Option<Result<Counts, RunFault>>
+    requires made { (ops : List Op) × Makes ops sheet.now.contents }
+    requires few { length sheet.now.contents.fields < 2 ^ 31 }
+    ensures none { IfNone result ((sources.new ≡ sources.old) × (writer.new ≡ writer.old)
+        × (progress.new ≡ progress.old)) }
+    ensures some { IfSome result (OnCleared
+        (side_by_side (way C.after C.clock C.wakes request.now.limit) jobs request.now.chosen request.now.format)
+        sheet.now.contents (passage sources.old sources.new (W.contents writer.old) (W.contents writer.new))) }
+    ensures shown { IfSome result (λ counted. SheetShows request.now.format P.shows
+        (answered request.now.chosen sheet.now.contents.fields)
+        progress.old progress.new counted) }
+{
+    match open_cleared(alloc, &request.chosen, sheet) {
+        Some(mut host) => Some(check_together_and_stop(
+            alloc, request, jobs, sheet, &mut host, sources, progress, writer,
+        )),
+        None => None,
+    }
+}
+
+/// Checks a worksheet on a copy of it, and tells the counts.
+fn check_sheet_together<C: Sources, W: Write, P: Progress>(
+    alloc: Global,
+    request: &Request,
+    jobs: u32,
+    sheet: &Sheet,
+    sources: &mut C,
+    progress: &mut P,
+    writer: &mut W,
+) -> Result<Counts, RunFault>
+    requires { (ops : List Op) × Makes ops sheet.now.contents }
+    ensures checked { TogetherTells
+        (side_by_side (way C.after C.clock C.wakes request.now.limit) jobs request.now.chosen request.now.format)
+        sheet.now.contents (passage sources.old sources.new (W.contents writer.old) (W.contents writer.new))
+        ((writer.new ≡ writer.old) × (sources.new ≡ sources.old)) result }
+    ensures shown { SheetShows request.now.format P.shows
+        (answered request.now.chosen sheet.now.contents.fields)
+        progress.old progress.new result }
+{
+    worksheet::laws::ops_make_worksheets();
+    let Some(counted) = together_on_copy(alloc, request, jobs, sheet, sources, progress, writer)
+    else {
+        progress.show(Sight::Nothing);
+        return Err(RunFault::OutOfMemory);
+    };
+    match counted {
+        Ok(counts) => match tell_closing(request.format, counts, writer) {
+            Ok(()) => Ok(counts),
+            Err(fault) => Err(fault),
+        },
+        Err(fault) => Err(fault),
+    }
+}
+
+/// Checks the worksheet on a disk as [`check`](crate::check) does, but evaluates fields of up to `jobs` sessions
+/// side by side, of each session one at a time. The copy has nothing to show for the fields that are checked
+/// until their answers come. What came waits there until the last answer has: then each field is compared and
+/// reported, in the worksheet's order, as by `check`.
+///
+/// With a limit, the time of fields that wait together begins when the last of them was asked. A field whose
+/// time was over is unanswered, whatever came after its interpreter was interrupted, and the fields after it are
+/// checked.
+///
+/// At the end and at a fault each life that goes on is stopped. The disk is only read, and the worksheet there
+/// stays as it is.
+///
+/// `Open` where the disk isn't opened: nothing was done. `OutOfMemory` where there is no memory for the copy,
+/// `OutOfMemory`, `Host`, `Input` and `InputTooLong` where the evaluation has such a fault: nothing was
+/// written. `OutOfMemory` where there is no memory for a line: what was reported before is written. `Output`
+/// where the writer fails: a part of the text may have gone out.
+pub fn check_together<D: Disk, C: Sources, W: Write, P: Progress>(
+    alloc: Global,
+    request: &Request,
+    jobs: u32,
+    disk: D,
+    sources: &mut C,
+    progress: &mut P,
+    writer: &mut W,
+) -> Checked<D>
+    ensures checked { TogetherAnswer
+        (side_by_side (way C.after C.clock C.wakes request.now.limit) jobs request.now.chosen request.now.format)
+        (D.view disk) (passage sources.old sources.new (W.contents writer.old) (W.contents writer.new))
+        ((writer.new ≡ writer.old) × (sources.new ≡ sources.old)) result.answer }
+    ensures read { OnlyRead (D.view disk) (D.view result.disk) }
+
+    ensures shown { CheckShows request.now.format P.shows request.now.chosen (D.view disk)
+        progress.old progress.new result.answer }
+
+    // That the disk failed is reported only where it did.
+    ensures failed { result.answer ≡ Err (told.Open opens.Disk)
+        → Rises (D.view disk).faults (D.view result.disk).faults }
+{
+    match Store::open(alloc, disk) {
+        Ok(store) => {
+            let answer = check_sheet_together(
+                alloc,
+                request,
+                jobs,
+                store.sheet(),
+                sources,
+                progress,
+                writer,
+            );
+            Checked {
+                disk: store.into_disk(),
+                answer,
+            }
+        }
+        Err(OpenFault { cause, disk }) => Checked {
+            disk,
+            answer: Err(RunFault::Open(cause)),
+        },
+    }
+}
