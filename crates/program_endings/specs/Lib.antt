@@ -6,6 +6,7 @@ pub mod Programs
 pub mod RescueProgram
 pub mod CheckProgram
 pub mod AcceptProgram
+pub mod TogetherProgram
 pub mod ExportProgram
 pub mod StrictProgram
 pub mod LiveProgram

@@ -44,7 +44,7 @@ fn is_passed(chosen: &Chosen, counts: Counts) -> bool
 }
 
 /// Ends the program by what it answered: a fault is printed on both streams where the report is JSON.
-fn end_report<W: Write, E: Write>(
+pub(crate) fn end_report<W: Write, E: Write>(
     alloc: Global,
     format: Format,
     answer: Result<bool, RunFault>,
@@ -64,7 +64,7 @@ fn end_report<W: Write, E: Write>(
 }
 
 /// Ends the program by what a check answered.
-fn end_check<W: Write, E: Write>(
+pub(crate) fn end_check<W: Write, E: Write>(
     alloc: Global,
     request: &Request,
     answer: Result<Counts, RunFault>,

@@ -15,6 +15,7 @@ mod programs;
 mod rescue_program;
 mod strict_program;
 mod telling;
+mod together_program;
 
 pub use accept_program::run_accept;
 pub use block_lines::blocks;
@@ -28,3 +29,4 @@ pub use programs::{run_create, run_script, run_show};
 pub use rescue_program::{read_rescued, run_rescue};
 pub use strict_program::run_strictly;
 pub use telling::{create_fault_text, end_unheld};
+pub use together_program::run_check_together;
