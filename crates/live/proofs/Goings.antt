@@ -1,74 +1,67 @@
 -- What came, one after the other.
-use Rattle.std.proofs.Common.{◌≡◌, ◌+◌, inl, inr, ℕ, Bool, true, false, length, arith, List, [], ◌∷◌, ◌++◌, Option, Some, None, refl, ap, sym, ◌∙◌, subst, append_assoc, append-nil}
+use Rattle.std.proofs.Common.{◌≡◌, ◌+◌, inr, ℕ, Bool, true, false, length, arith, List, [], ◌∷◌, ◌++◌, Option, Some, None, refl, ap, sym, ◌∙◌, subst, append_assoc, append-nil}
 use Rattle.std.specs.Prelude.{IfOk, IfSome, Result, Ok, Err}
 use Rattle.std.proofs.KnownBytes.{Appends-nil, Appends-trans}
 use Rattle.std.specs.Io.KnownBytes.{Appends}
 use Rattle.session_engine.specs.World.{World, sheet_in}
 use Rattle.session_engine.specs.Host.{HostView, IsHost}
-use Rattle.child_edge.specs.Faithful.{Relation, at, Beat}
+use Rattle.child_edge.specs.Faithful.{at}
 use Rattle.arrivals.specs.Lines.{InputLine}
-use Rattle.arrivals.specs.declared.sources.Woken.{Woken}
 use Rattle.arrivals.specs.declared.sources.Woken.TheVariants as woken
 use Rattle.offline_programs.specs.declared.fault.RunFault.{RunFault}
 use Rattle.offline_programs.specs.declared.fault.RunFault.TheVariants as fault
 use Rattle.live.specs.declared.stepping.Stand.{Stand}
-use Rattle.live.specs.Saying.{Clock}
-use Rattle.tellings.specs.Voice.{Voice}
-use Rattle.live.specs.Arrivals.{Arrival, LivePlace, Watch, WatchTells, Comes, TakesArrival, Lived, front_text, lines_in, place, woken_at}
+use Rattle.live.specs.Records.{Brought, Edge, Left, Lines, Turn, between, brought, left}
+use Rattle.live.specs.Arrivals.{Arrival, LivePlace, WatchTells, Comes, TakesArrival, Lived, front_text, lines_in, place, woken_at}
 use Rattle.live.specs.Broken.{LivedBefore}
 use Rattle.live.specs.Live.{AreTooMany}
+use Rattle.live.specs.Taking as inside
 use Rattle.live.specs.Taking.{ComingFailed, IsFront, LivedThrough, LivedUnwritten, LivingFailed, Steps, TakesLines, TakingFailed, TookUnwritten, TurnComes, TurnFailed, TurnTook}
 use Rattle.live.proofs.Coming.{comes_by, input_told, lines_on}
 
 -- A step.
 
-module _ {C : Type 0} (V : Voice) (R : Relation C) (K : Clock C) (W : Watch C) (p : LivePlace C) (mid : C) (told : Woken) (is_there : Bool) (h : HostView) (c : C) (out now : Option (List ℕ)) (old new : Option (List InputLine))
-    (turn : TurnComes K W p.held p.run.children is_there mid told) where
-  watched : (there : Bool) → c ≡ mid → told ≡ woken.Input → is_there ≡ there → WatchTells K W p.held p.run.children there (Some woken.Input) c
-  watched there same input is = subst (λ d. WatchTells K W p.held p.run.children there (Some woken.Input) d) (sym same) (input_told K W p.held p.run.children is_there there mid told turn input is)
+module _ {C : Type 0} (o : Edge C) (p : LivePlace C) (mid : C) (it : Turn) (leaves : Left C) (takes : Lines) (comes : TurnComes o.watches p.held p.run.children it mid) where
+  watched : (there : Bool) → leaves.sources ≡ mid → it.woken ≡ woken.Input → it.is_there ≡ there → WatchTells o.watches p.held p.run.children there (Some woken.Input) leaves.sources
+  watched there same input is =
+      subst (λ d. WatchTells o.watches p.held p.run.children there (Some woken.Input) d) (sym same) (input_told o.watches p.held p.run.children there it mid comes input is)
 
-  pub stepped : (next : Option Stand) → TurnTook V R K (woken_at p mid) told is_there h c out now old new next → Steps V R K W p h c out now old new next
-  stepped (Some stand) t = (t.0, mid, comes_by K W p.held p.run.children is_there mid told t.0 turn t.1, t.2, t.3)
+  pub stepped : (next : Option Stand) → TurnTook o (woken_at p mid) it leaves takes next → Steps o p leaves takes next
+  stepped (Some stand) t = (t.0, mid, comes_by o.watches p.held p.run.children it mid t.0 comes t.1, t.2, t.3)
   stepped None t = (t.0, (t.3, watched true t.1 t.4 t.5), t.2)
 
-  pub step_failed : (f : RunFault) → TurnFailed V R K (woken_at p mid) told is_there h c out now old new f → ComingFailed V R K W p h c out now old new f
-  step_failed fault.Input t = (t.0, inr (t.2, watched false t.1 t.3 t.4))
-  step_failed fault.InputTooLong t = absurd t
-  step_failed (fault.Open why) t = absurd t
-  step_failed fault.InUse t = absurd t
-  step_failed (fault.Host f) t = (t.0, mid, comes_by K W p.held p.run.children is_there mid told t.0 turn t.1, t.2, t.3)
-  step_failed fault.OutOfMemory t = (t.0, mid, comes_by K W p.held p.run.children is_there mid told t.0 turn t.1, t.2, t.3)
-  step_failed fault.Output t = (t.0, mid, comes_by K W p.held p.run.children is_there mid told t.0 turn t.1, t.2, t.3)
+  pub step_failed : (f : RunFault) → TurnFailed o (woken_at p mid) it leaves takes f → ComingFailed o p leaves takes f
+  step_failed f (inside.taking a by some failed) = inside.taking a mid (comes_by o.watches p.held p.run.children it mid a comes by) some failed
+  step_failed f (inside.unread is rests same free input there) = inside.unread is rests (inr (free, watched false same input there))
 
 -- One arrival more.
 
-pub lived-more : {C : Type 0} (V : Voice) (R : Relation C) (K : Clock C) (W : Watch C) (p : LivePlace C) (came : List Arrival) (beats : List Beat) (text : List ℕ) (mid : LivePlace C) (a : Arrival) (c : C) (more : List Beat) (last : List ℕ) (q : LivePlace C)
-    → Lived V R K W p came beats text mid → Comes K W mid.held mid.run.children a c → TakesArrival V R K (woken_at mid c) a more last q → Lived V R K W p (came ++ a ∷ []) (beats ++ more) (text ++ last) q
-lived-more V R K W p [] beats text mid a c more last q h comes takes = (
+abbrev pub joined : Brought → Brought → Brought
+joined first rest = brought (first.beats ++ rest.beats) (first.text ++ rest.text)
+
+pub lived-more : {C : Type 0} (o : Edge C) (p : LivePlace C) (came : List Arrival) (it : Brought) (mid : LivePlace C) (a : Arrival) (c : C) (last : Brought) (q : LivePlace C)
+    → Lived o p came it mid → Comes o.watches mid.held mid.run.children a c → TakesArrival o (woken_at mid c) a last q → Lived o p (came ++ a ∷ []) (joined it last) q
+lived-more o p [] it mid a c last q h comes takes = (
   c,
   q,
-  more,
-  [],
   last,
-  [],
-  subst (λ m. Comes K W m.held m.run.children a c) h.2 comes,
-  subst (λ m. TakesArrival V R K (woken_at m c) a more last q) h.2 takes,
+  brought [] [],
+  subst (λ m. Comes o.watches m.held m.run.children a c) h.2 comes,
+  subst (λ m. TakesArrival o (woken_at m c) a last q) h.2 takes,
   (refl, refl, refl),
-  ap (λ x. x ++ more) h.0 ∙ sym (append-nil more),
-  ap (λ x. x ++ last) h.1 ∙ sym (append-nil last),
+  ap (λ x. x ++ last.beats) h.0 ∙ sym (append-nil last.beats),
+  ap (λ x. x ++ last.text) h.1 ∙ sym (append-nil last.text),
 )
-lived-more V R K W p (b ∷ came) beats text mid a c more last q h comes takes = (
+lived-more o p (b ∷ came) it mid a c last q h comes takes = (
   h.0,
   h.1,
   h.2,
-  h.3 ++ more,
+  joined h.3 last,
   h.4,
-  h.5 ++ last,
-  h.6,
-  h.7,
-  lived-more V R K W h.1 came h.3 h.5 mid a c more last q h.8 comes takes,
-  ap (λ y. y ++ more) h.9 ∙ append_assoc h.2 h.3 more,
-  ap (λ y. y ++ last) h.10 ∙ append_assoc h.4 h.5 last,
+  h.5,
+  lived-more o h.1 came h.3 mid a c last q h.6 comes takes,
+  ap (λ y. y ++ last.beats) h.7 ∙ append_assoc h.2.beats h.3.beats last.beats,
+  ap (λ y. y ++ last.text) h.8 ∙ append_assoc h.2.text h.3.text last.text,
 )
 
 -- The lines that came, and those to come.
@@ -76,7 +69,7 @@ lived-more V R K W p (b ∷ came) beats text mid a c more last q h comes takes =
 abbrev pub LinesLeft : Option (List InputLine) → Option (List InputLine) → List Arrival → Type 0
 LinesLeft old new came = IfSome old (λ lines. (rest : List InputLine) × (lines ≡ lines_in came ++ rest) × (new ≡ Some rest))
 
-lines-more : (old new later : Option (List InputLine)) (came : List Arrival) (a : Arrival) → LinesLeft old new came → TakesLines a new later → LinesLeft old later (came ++ a ∷ [])
+lines-more : (old new later : Option (List InputLine)) (came : List Arrival) (a : Arrival) → LinesLeft old new came → TakesLines a (between new later) → LinesLeft old later (came ++ a ∷ [])
 lines-more None new later came a left takes = tt
 lines-more (Some lines) new later came a left takes = lines_on a came lines left.0 new later left.1 left.2 takes
 
@@ -95,122 +88,101 @@ one_more [] a = refl
 one_more (b ∷ came) a = omega (arith, one_more came a)
 
 -- So much came, and all of it was taken.
-pub record LivingSoFar {C : Type 0} (V : Voice) (R : Relation C) (K : Clock C) (W : Watch C) (p : LivePlace C) (stand : Stand) (h : HostView) (c : C) (out now : Option (List ℕ)) (old new : Option (List InputLine)) : Type 0 where
+pub record LivingSoFar {C : Type 0} (o : Edge C) (p : LivePlace C) (stand : Stand) (leaves : Left C) (takes : Lines) : Type 0 where
   pub came : List Arrival
-  pub beats : List Beat
-  pub text : List ℕ
+  pub all : Brought
   pub leads : World
-  pub lived : Lived V R K W p came beats text (place (at leads c h.store.disk) stand.number stand.held)
-  pub stands : IsHost h leads
-  pub wrote : Appends out now text
-  pub lines : LinesLeft old new came
+  pub lived : Lived o p came all (place (at leads leaves.sources leaves.host.store.disk) stand.number stand.held)
+  pub stands : IsHost leaves.host leads
+  pub wrote : Appends leaves.out leaves.now all.text
+  pub lines : LinesLeft takes.old takes.new came
 
-pub none_lived : {C : Type 0} (V : Voice) (R : Relation C) (K : Clock C) (W : Watch C) (w : World) (h : HostView) (c : C) (stand : Stand) (out : Option (List ℕ)) (old : Option (List InputLine)) → IsHost h w
-    → LivingSoFar V R K W (place (at w c h.store.disk) stand.number stand.held) stand h c out out old old
-none_lived V R K W w h c stand out old stands = record { came = []; beats = []; text = []; leads = w; lived = (refl, refl, refl); stands = stands; wrote = Appends-nil out; lines = left old }
+pub none_lived : {C : Type 0} (o : Edge C) (w : World) (h : HostView) (c : C) (stand : Stand) (out : Option (List ℕ)) (old : Option (List InputLine)) → IsHost h w
+    → LivingSoFar o (place (at w c h.store.disk) stand.number stand.held) stand (left h c out out) (between old old)
+none_lived o w h c stand out old stands = record { came = []; all = brought [] []; leads = w; lived = (refl, refl, refl); stands = stands; wrote = Appends-nil out; lines = some old }
   where
-    left : (o : Option (List InputLine)) → LinesLeft o o []
-    left None = tt
-    left (Some lines) = (lines, refl, refl)
+    some : (x : Option (List InputLine)) → LinesLeft x x []
+    some None = tt
+    some (Some lines) = (lines, refl, refl)
 
-pub none_came : {C : Type 0} (V : Voice) (R : Relation C) (K : Clock C) (W : Watch C) (w : World) (h : HostView) (c : C) (stand : Stand) (out : Option (List ℕ)) (old : Option (List InputLine)) (stands : IsHost h w)
-    → length (none_lived V R K W w h c stand out old stands).came ≡ 0
+pub none_came : {C : Type 0} (o : Edge C) (w : World) (h : HostView) (c : C) (stand : Stand) (out : Option (List ℕ)) (old : Option (List InputLine)) (stands : IsHost h w)
+    → length (none_lived o w h c stand out old stands).came ≡ 0
 unfolding none_lived
-none_came V R K W w h c stand out old stands = refl
+none_came o w h c stand out old stands = refl
 
-module _ {C : Type 0} (V : Voice) (R : Relation C) (K : Clock C) (W : Watch C) (p : LivePlace C) (stand : Stand) (h g : HostView) (c d : C) (out now later : Option (List ℕ)) (old new behind : Option (List InputLine)) (so : LivingSoFar V R K W p stand h c out now old new) where
-  pub one_lived : (next : Stand) → Steps V R K W (place (at so.leads c h.store.disk) stand.number stand.held) g d now later new behind (Some next) → LivingSoFar V R K W p next g d out later old behind
+module _ {C : Type 0} (o : Edge C) (p : LivePlace C) (stand : Stand) (h : HostView) (c : C) (out now : Option (List ℕ)) (g : HostView) (d : C) (later : Option (List ℕ)) (old new behind : Option (List InputLine))
+    (so : LivingSoFar o p stand (left h c out now) (between old new)) where
+  -- where it stands, and what is left after a step more
+  abbrev here : LivePlace C
+  here = place (at so.leads c h.store.disk) stand.number stand.held
+
+  abbrev step : Left C
+  step = left g d now later
+
+  abbrev whole : Left C
+  whole = left g d out later
+
+  pub one_lived : (next : Stand) → Steps o here step (between new behind) (Some next) → LivingSoFar o p next whole (between old behind)
   one_lived next t = let took = t.4 in record {
     came = so.came ++ t.0 ∷ [];
-    beats = so.beats ++ took.0;
-    text = so.text ++ took.1;
-    leads = took.2;
-    lived = lived-more V R K W p so.came so.beats so.text (place (at so.leads c h.store.disk) stand.number stand.held) t.0 t.1 took.0 took.1 (place (at took.2 d g.store.disk) next.number next.held) so.lived t.2 took.3;
-    stands = took.4;
-    wrote = Appends-trans out now later so.text took.1 so.wrote took.5;
+    all = joined so.all took.0;
+    leads = took.1;
+    lived = lived-more o p so.came so.all here t.0 t.1 took.0 (place (at took.1 d g.store.disk) next.number next.held) so.lived t.2 took.2;
+    stands = took.3;
+    wrote = Appends-trans out now later so.all.text took.0.text so.wrote took.4;
     lines = lines-more old new behind so.came t.0 so.lines t.3;
   }
 
-  pub one_came : (next : Stand) (t : Steps V R K W (place (at so.leads c h.store.disk) stand.number stand.held) g d now later new behind (Some next)) → length (one_lived next t).came ≡ length so.came + 1
+  pub one_came : (next : Stand) (t : Steps o here step (between new behind) (Some next)) → length (one_lived next t).came ≡ length so.came + 1
   unfolding one_lived
   one_came next t = one_more so.came t.0
 
-  pub all_lived : Steps V R K W (place (at so.leads c h.store.disk) stand.number stand.held) g d now later new behind None → LivedThrough V R K W p g d out later old
-  all_lived t = (
-    so.came,
-    so.beats,
-    so.text,
-    place (at so.leads c h.store.disk) stand.number stand.held,
-    so.lived,
-    t.0.1,
-    sym t.0.0,
-    t.1,
-    subst (Appends out later) (append-nil so.text) (Appends-trans out now later so.text [] so.wrote t.0.2),
-    lines-end old new so.came so.lines t.2,
-  )
+  -- nothing more was written
+  no-more : Appends now later [] → Appends out later so.all.text
+  no-more none = subst (Appends out later) (append-nil so.all.text) (Appends-trans out now later so.all.text [] so.wrote none)
 
-  before : (a : Arrival) (mid : C) → Comes K W stand.held c a mid → LivedBefore V R K W p (so.came ++ a ∷ []) a so.beats so.text (woken_at (place (at so.leads c h.store.disk) stand.number stand.held) mid)
-  before a mid comes = record { before = so.came; mid = place (at so.leads c h.store.disk) stand.number stand.held; sources = mid; are = refl; lived = so.lived; comes = comes; here = refl }
+  pub all_lived : Steps o here step (between new behind) None → LivedThrough o p whole old
+  all_lived t = (so.came, so.all, here, (so.lived, t.0.1, sym t.0.0, no-more t.0.2), t.1, lines-end old new so.came so.lines t.2)
 
-  unwritten : (a : Arrival) (mid : C) → Comes K W stand.held c a mid → TakesLines a new behind → TookUnwritten V R K (woken_at (place (at so.leads c h.store.disk) stand.number stand.held) mid) a g d → LivedUnwritten V R K W p g d old
-  unwritten a mid comes lines failed = (
+  before : (a : Arrival) (mid : C) → Comes o.watches stand.held c a mid → LivedBefore o p (so.came ++ a ∷ []) a so.all (woken_at here mid)
+  before a mid comes = record { before = so.came; mid = here; sources = mid; are = refl; lived = so.lived; comes = comes; here = refl }
+
+  -- with one more the lines are still the first ones
+  front : (a : Arrival) → TakesLines a (between new behind) → IsFront old (so.came ++ a ∷ [])
+  front a takes = lines-front old behind (so.came ++ a ∷ []) (lines-more old new behind so.came a so.lines takes)
+
+  unwritten : (a : Arrival) (mid : C) → Comes o.watches stand.held c a mid → TakesLines a (between new behind) → TookUnwritten o (woken_at here mid) a step → LivedUnwritten o p whole old
+  unwritten a mid comes takes failed = (
     so.came ++ a ∷ [],
     failed.0,
     failed.1,
-    record { last = a; earlier = so.beats; first = so.text; mid = woken_at (place (at so.leads c h.store.disk) stand.number stand.held) mid; before = before a mid comes; led = failed.2 },
+    record { last = a; earlier = so.all; mid = woken_at here mid; before = before a mid comes; led = failed.2 },
     failed.3,
-    lines-front old behind (so.came ++ a ∷ []) (lines-more old new behind so.came a so.lines lines),
+    front a takes,
   )
 
-  pub living_failed : (f : RunFault) → ComingFailed V R K W (place (at so.leads c h.store.disk) stand.number stand.held) g d now later new behind f → LivingFailed V R K W p g d out later old f
-  living_failed fault.Input t = (
-    so.came,
-    so.beats,
-    so.text,
-    place (at so.leads c h.store.disk) stand.number stand.held,
-    so.lived,
-    t.0.1,
-    sym t.0.0,
-    t.1,
-    subst (Appends out later) (append-nil so.text) (Appends-trans out now later so.text [] so.wrote t.0.2),
-    lines-front old new so.came so.lines,
-  )
-  living_failed fault.InputTooLong t = absurd t
-  living_failed (fault.Open why) t = absurd t
-  living_failed fault.InUse t = absurd t
-  living_failed (fault.Host f) t = let failed = t.4 in (
-    so.came ++ t.0 ∷ [],
-    so.beats ++ failed.0,
-    so.text ++ front_text V stand.number t.0 (sheet_in failed.2) failed.0,
-    failed.1,
-    failed.2,
-    failed.3,
-    record { last = t.0; earlier = so.beats; first = so.text; mid = woken_at (place (at so.leads c h.store.disk) stand.number stand.held) t.1; beats = failed.0; before = before t.0 t.1 t.2; broke = failed.4; took = refl; wrote = refl },
-    failed.5,
-    Appends-trans out now later so.text (front_text V stand.number t.0 (sheet_in failed.2) failed.0) so.wrote failed.6,
-    lines-front old behind (so.came ++ t.0 ∷ []) (lines-more old new behind so.came t.0 so.lines t.3),
-  )
-  living_failed fault.OutOfMemory t = go t.4
+  pub living_failed : (f : RunFault) → ComingFailed o here step (between new behind) f → LivingFailed o p whole old f
+  living_failed f (inside.taking a mid comes takes failed) = go f failed
     where
-      go : TakingFailed V R K (woken_at (place (at so.leads c h.store.disk) stand.number stand.held) t.1) t.0 g d now later fault.OutOfMemory → LivingFailed V R K W p g d out later old fault.OutOfMemory
-      go (inl failed) = inl (
-        so.came ++ t.0 ∷ [],
-        so.beats ++ failed.0,
-        so.text ++ front_text V stand.number t.0 (sheet_in failed.1) failed.0,
-        failed.1,
-        record { last = t.0; earlier = so.beats; first = so.text; mid = woken_at (place (at so.leads c h.store.disk) stand.number stand.held) t.1; beats = failed.0; before = before t.0 t.1 t.2; broke = failed.2; took = refl; wrote = refl },
-        failed.3,
-        Appends-trans out now later so.text (front_text V stand.number t.0 (sheet_in failed.1) failed.0) so.wrote failed.4,
-        lines-front old behind (so.came ++ t.0 ∷ []) (lines-more old new behind so.came t.0 so.lines t.3),
-      )
-      go (inr failed) = inr (failed.0, unwritten t.0 t.1 t.2 t.3 failed.1)
-  living_failed fault.Output t = unwritten t.0 t.1 t.2 t.3 t.4
+      go : (f : RunFault) → TakingFailed o (woken_at here mid) a step f → LivingFailed o p whole old f
+      go f (inside.stopped e beats failed t x broke stopped wrote) = let text = front_text o.voice stand.number a (sheet_in t) beats in
+          inside.stopped e (so.came ++ a ∷ []) (joined so.all (brought beats text)) failed t x
+          (record { last = a; earlier = so.all; mid = woken_at here mid; beats = beats; before = before a mid comes; broke = broke; took = refl; wrote = refl })
+          stopped (Appends-trans out now later so.all.text text so.wrote wrote) (front a takes)
+      go f (inside.refused beats t broke stands wrote) = let text = front_text o.voice stand.number a (sheet_in t) beats in
+          inside.refused (so.came ++ a ∷ []) (joined so.all (brought beats text)) t
+          (record { last = a; earlier = so.all; mid = woken_at here mid; beats = beats; before = before a mid comes; broke = broke; took = refl; wrote = refl })
+          stands (Appends-trans out now later so.all.text text so.wrote wrote) (front a takes)
+      go f (inside.untold why q) = inside.untold why (unwritten a mid comes takes q)
+      go f (inside.unwritten q) = inside.unwritten (unwritten a mid comes takes q)
+  living_failed f (inside.unread is rests none) =
+      subst (LivingFailed o p whole old) (sym is) (inside.unread so.came so.all here (so.lived, rests.1, sym rests.0, no-more rests.2) none (lines-front old new so.came so.lines))
 
 -- as many came as are counted
-pub too_many : {C : Type 0} (V : Voice) (R : Relation C) (K : Clock C) (W : Watch C) (p : LivePlace C) (stand : Stand) (h : HostView) (c : C) (out now : Option (List ℕ)) (old new : Option (List InputLine)) → (so : LivingSoFar V R K W p stand h c out now old new)
-    → AreTooMany so.came → LivingFailed V R K W p h c out now old fault.InputTooLong
-too_many V R K W p stand h c out now old new so many =
-    (so.came, so.beats, so.text, place (at so.leads c h.store.disk) stand.number stand.held, so.lived, so.stands, refl, refl, so.wrote, lines-front old new so.came so.lines, many)
+pub came_too_many : {C : Type 0} (o : Edge C) (p : LivePlace C) (stand : Stand) (leaves : Left C) (takes : Lines) → (so : LivingSoFar o p stand leaves takes)
+    → AreTooMany so.came → LivingFailed o p leaves takes.old fault.InputTooLong
+came_too_many o p stand leaves takes so many =
+    inside.too_many so.came so.all (place (at so.leads leaves.sources leaves.host.store.disk) stand.number stand.held) (so.lived, so.stands, refl, so.wrote) refl (lines-front takes.old takes.new so.came so.lines) many
 
 pub if_ok_then : {T E : Type 0} (r : Result T E) (P Q : T → Type 0) → ((x : T) → P x → Q x) → IfOk r P → IfOk r Q
 if_ok_then (Ok x) P Q f p = f x p

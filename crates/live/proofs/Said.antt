@@ -9,18 +9,18 @@ use Rattle.child_edge.specs.declared.serving.EdgeCause.{EdgeCause}
 use Rattle.child_edge.specs.declared.serving.EdgeCause.TheVariants as cause
 use Rattle.session_engine.specs.Host.{HostView, IsHost}
 use Rattle.host_events.specs.declared.command.Command.{Command}
-use Rattle.child_edge.specs.Faithful.{Relation, At, at, Beat, Served, ServedUpTo}
+use Rattle.child_edge.specs.Faithful.{At, at, Served, ServedUpTo}
 use Rattle.sheet_text.specs.LiveLines.{live_line_of, script_or_form}
 use Rattle.sheet_text.specs.Script.{line_of, wants_memory}
 use Rattle.sheet_text.specs.declared.script.ScriptLine.{ScriptLine}
 use Rattle.sheet_text.specs.declared.script.ScriptLine.TheVariants as line
 use Rattle.sheet_text.specs.declared.live_line.LiveLine.{LiveLine}
 use Rattle.sheet_text.specs.declared.live_line.LiveLine.TheVariants as live
-use Rattle.sheet_programs.specs.Told.{StandsOrStopped, fault_of_cause}
+use Rattle.sheet_programs.specs.Told.{fault_of_cause}
 use Rattle.child_edge.specs.Edge.{ByCause, Ran}
 use Rattle.child_edge.specs.Moments.{BrokeFrom}
 use Rattle.child_edge.specs.Told.{told}
-use Rattle.tellings.specs.Voice.{IsUntold, Voice, replied_text}
+use Rattle.tellings.specs.Voice.{IsUntold, replied_text}
 use Rattle.tellings.specs.declared.note.Note.TheVariants as note
 use Rattle.offline_programs.specs.declared.fault.RunFault.{RunFault}
 use Rattle.offline_programs.specs.declared.fault.RunFault.TheVariants as fault
@@ -28,8 +28,9 @@ use Rattle.live.specs.declared.holding.Hold.{Hold}
 use Rattle.live.specs.declared.holding.Hold.TheVariants as hold
 use Rattle.child_edge.specs.Interrupts.{Interrupts}
 use Rattle.child_edge.specs.declared.interrupting.Interrupted.{Interrupted}
-use Rattle.live.specs.Saying.{Clock, IsCommand, SaidDone, Begins}
-use Rattle.live.specs.Taking.{Said, SaidLed, SaidUnwritten, SayingFailed, all, up_to, none}
+use Rattle.live.specs.Records.{Edge, brought, left}
+use Rattle.live.specs.Saying.{IsCommand, SaidDone, Begins}
+use Rattle.live.specs.Taking.{Said, SaidUnwritten, SayingFailed, all, up_to, none, refused, stopped, untold, unwritten}
 
 -- memory is wanted for a line that says a command
 pub wants_command : (bytes : List ℕ) → wants_memory (line_of bytes) ≡ true → IsCommand (live_line_of bytes)
@@ -38,16 +39,16 @@ wants_command bytes wants = go (line_of bytes) wants
     go : (l : Option ScriptLine) → wants_memory l ≡ true → IsCommand (script_or_form l bytes)
     go None e = absurd (true≢false (sym e))
     go (Some line.Skip) e = absurd (true≢false (sym e))
-    go (Some (line.Command told)) e = tt
+    go (Some (line.Command told)) e = (told, refl)
     go (Some line.Wait) e = absurd (true≢false (sym e))
     go (Some line.Print) e = absurd (true≢false (sym e))
 
-module _ {C : Type 0} (V : Voice) (R : Relation C) (K : Clock C) where
+module _ {C : Type 0} (o : Edge C) where
   -- what couldn't be printed
   pub said_untold : (number : ℕ) (l : Option LiveLine) (s : At C) (h : HostView) (c : C) (a b : Option (List ℕ)) (f : RunFault)
-      → IsUntold V f → SaidUnwritten V R K l s h c → SayingFailed V R K number l s h c a b f
-  said_untold number l s h c a b fault.Output why p = p
-  said_untold number l s h c a b fault.OutOfMemory why p = inr (why, p)
+      → IsUntold o.voice f → SaidUnwritten o l s (left h c a b) → SayingFailed o number l s (left h c a b) f
+  said_untold number l s h c a b fault.Output why p = unwritten p
+  said_untold number l s h c a b fault.OutOfMemory why p = untold why p
   said_untold number l s h c a b fault.Input why p = absurd why
   said_untold number l s h c a b fault.InputTooLong why p = absurd why
   said_untold number l s h c a b (fault.Open x) why p = absurd why
@@ -56,84 +57,77 @@ module _ {C : Type 0} (V : Voice) (R : Relation C) (K : Clock C) where
 
   -- a line that no event comes of
   pub said_still : (number : ℕ) (l : Option LiveLine) (w : World) (h : HostView) (c : C) (a b : Option (List ℕ)) (begun : Hold) (text : List ℕ)
-      → SaidDone V R number l (at w c h.store.disk) [] text (at w c h.store.disk) → Begins K c l begun → IsHost h w → Appends a b text
-      → Said V R K number l (at w c h.store.disk) h c a b begun
-  said_still number l w h c a b begun text done begins stands wrote = ([], text, w, done, begins, stands, wrote)
+      → SaidDone o number l (at w c h.store.disk) (brought [] text) (at w c h.store.disk) → Begins o.watches.clock c l begun → IsHost h w → Appends a b text
+      → Said o number l (at w c h.store.disk) (left h c a b) begun
+  said_still number l w h c a b begun text done begins stands wrote = (brought [] text, w, done, begins, stands, wrote)
 
   -- one that couldn't be printed
   pub still_unwritten : (number : ℕ) (l : Option LiveLine) (w : World) (h : HostView) (c : C) (a b : Option (List ℕ)) (begun : Hold) (f : RunFault)
-      → Begins K c l begun → ((line : ℕ) → (text : List ℕ) × SaidDone V R line l (at w c h.store.disk) [] text (at w c h.store.disk)) → IsHost h w → IsUntold V f
-      → SayingFailed V R K number l (at w c h.store.disk) h c a b f
+      → Begins o.watches.clock c l begun → ((line : ℕ) → (text : List ℕ) × SaidDone o line l (at w c h.store.disk) (brought [] text) (at w c h.store.disk)) → IsHost h w → IsUntold o.voice f
+      → SayingFailed o number l (at w c h.store.disk) (left h c a b) f
   still_unwritten number l w h c a b begun f begins done stands is =
       said_untold number l (at w c h.store.disk) h c a b f is
-      (w, h.store.disk, all begun begins (λ line. ([], (done line).0, (done line).1)), inl (stands, refl))
+      (w, h.store.disk, all begun begins (λ line. (brought [] (done line).0, (done line).1)), inl (stands, refl))
 
   -- an interrupt, of which no event comes
   pub said_interrupt : (number : ℕ) (name : List ℕ) (came : Interrupted) (w : World) (h : HostView) (c d : C) (a b : Option (List ℕ))
-      → Interrupts R w name c came d → IsHost h w → Appends a b (V.note (note.Interrupted number name came))
-      → Said V R K number (Some (live.Interrupt name)) (at w c h.store.disk) h d a b hold.Free
+      → Interrupts o.after w name c came d → IsHost h w → Appends a b (o.voice.note (note.Interrupted number name came))
+      → Said o number (Some (live.Interrupt name)) (at w c h.store.disk) (left h d a b) hold.Free
   said_interrupt number name came w h c d a b done stands wrote =
-      ([], V.note (note.Interrupted number name came), w, (refl, (came, done, refl), refl), refl, stands, wrote)
+      (brought [] (o.voice.note (note.Interrupted number name came)), w, (refl, (came, done, refl), refl), refl, stands, wrote)
 
   -- one that couldn't be printed
   pub interrupt_unwritten : (number : ℕ) (name : List ℕ) (came : Interrupted) (w : World) (h : HostView) (c d : C) (a b : Option (List ℕ)) (f : RunFault)
-      → Interrupts R w name c came d → IsHost h w → IsUntold V f
-      → SayingFailed V R K number (Some (live.Interrupt name)) (at w c h.store.disk) h d a b f
+      → Interrupts o.after w name c came d → IsHost h w → IsUntold o.voice f
+      → SayingFailed o number (Some (live.Interrupt name)) (at w c h.store.disk) (left h d a b) f
   interrupt_unwritten number name came w h c d a b f done stands is =
       said_untold number (Some (live.Interrupt name)) (at w c h.store.disk) h d a b f is
-      (w, h.store.disk, all hold.Free refl (λ line. ([], V.note (note.Interrupted line name came), (refl, (came, done, refl), refl))), inl (stands, refl))
+      (w, h.store.disk, all hold.Free refl (λ line. (brought [] (o.voice.note (note.Interrupted line name came)), (refl, (came, done, refl), refl))), inl (stands, refl))
 
   -- A command, and all that came of it.
 
   pub said_command : (number : ℕ) (c : Command) (w : World) (h g : HostView) (x d : C) (replies : List Reply) (a b : Option (List ℕ))
-      → Ran (Served R (at w x h.store.disk) (event.Command c)) [] g d replies → Appends a b (replied_text V number g.store.sheet.contents replies)
-      → Said V R K number (Some (live.Script (line.Command c))) (at w x h.store.disk) g d a b hold.Free
+      → Ran (Served o.after (at w x h.store.disk) (event.Command c)) [] g d replies → Appends a b (replied_text o.voice number g.store.sheet.contents replies)
+      → Said o number (Some (live.Script (line.Command c))) (at w x h.store.disk) (left g d a b) hold.Free
   said_command number c w h g x d replies a b p wrote = (
-    p.beats,
-    replied_text V number (sheet_in p.leads) (told p.beats),
+    brought p.beats (replied_text o.voice number (sheet_in p.leads) (told p.beats)),
     p.leads,
     (p.form, refl),
     refl,
     p.stands,
-    subst (λ (s : Contents). Appends a b (replied_text V number s (told p.beats))) p.stands.stands.contents (subst (λ (rs : List Reply). Appends a b (replied_text V number g.store.sheet.contents rs)) p.replied wrote),
+    subst (λ (s : Contents). Appends a b (replied_text o.voice number s (told p.beats))) p.stands.stands.contents (subst (λ (rs : List Reply). Appends a b (replied_text o.voice number g.store.sheet.contents rs)) p.replied wrote),
   )
 
   pub command_untold : (number : ℕ) (c : Command) (w : World) (h g : HostView) (x d : C) (replies : List Reply) (a b : Option (List ℕ)) (f : RunFault)
-      → Ran (Served R (at w x h.store.disk) (event.Command c)) [] g d replies → IsUntold V f
-      → SayingFailed V R K number (Some (live.Script (line.Command c))) (at w x h.store.disk) g d a b f
+      → Ran (Served o.after (at w x h.store.disk) (event.Command c)) [] g d replies → IsUntold o.voice f
+      → SayingFailed o number (Some (live.Script (line.Command c))) (at w x h.store.disk) (left g d a b) f
   command_untold number c w h g x d replies a b f p is =
       said_untold number (Some (live.Script (line.Command c))) (at w x h.store.disk) g d a b f is
-      (p.leads, g.store.disk, all hold.Free refl (λ n. (p.beats, replied_text V n (sheet_in p.leads) (told p.beats), (p.form, refl))), inl (p.stands, refl))
+      (p.leads, g.store.disk, all hold.Free refl (λ n. (brought p.beats (replied_text o.voice n (sheet_in p.leads) (told p.beats)), (p.form, refl))), inl (p.stands, refl))
 
   -- one that broke off
   abbrev pub CommandBroke : Command → World → HostView → HostView → C → C → List Reply → EdgeCause → Type 0
   CommandBroke c w h g x d replies why =
-      ByCause why (BrokeFrom (at w x h.store.disk) (λ s. ServedUpTo R s (event.Command c)) g d replies) ((g ≡ h) × (d ≡ x) × (replies ≡ []))
+      ByCause why (BrokeFrom (at w x h.store.disk) (λ s. ServedUpTo o.after s (event.Command c)) g d replies) ((g ≡ h) × (d ≡ x) × (replies ≡ []))
 
   as-before : (w : World) (h g : HostView) (x d : C) → g ≡ h → d ≡ x → at w d g.store.disk ≡ at w x h.store.disk
   as-before w h g x d p q = subst (λ (y : C). at w y g.store.disk ≡ at w x h.store.disk) (sym q) (ap (λ (y : HostView). at w x y.store.disk) p)
 
   pub command_broke : (number : ℕ) (c : Command) (w : World) (h g : HostView) (x d : C) (replies : List Reply) (a b : Option (List ℕ)) (why : EdgeCause)
-      → IsHost h w → CommandBroke c w h g x d replies why → Appends a b (replied_text V number g.store.sheet.contents replies)
-      → SayingFailed V R K number (Some (live.Script (line.Command c))) (at w x h.store.disk) g d a b (fault_of_cause why)
-  command_broke number c w h g x d replies a b (cause.Host f) stands p wrote = (
-    p.broke.beats,
-    p.broke.failed,
-    p.broke.leads,
-    p.broke.disk,
-    p.broke.form,
-    p.broke.stopped,
-    subst (λ (s : Contents). Appends a b (replied_text V number s (told p.broke.beats))) p.broke.stopped.contents (subst (λ (rs : List Reply). Appends a b (replied_text V number g.store.sheet.contents rs)) p.broke.replied wrote),
-  )
+      → IsHost h w → CommandBroke c w h g x d replies why → Appends a b (replied_text o.voice number g.store.sheet.contents replies)
+      → SayingFailed o number (Some (live.Script (line.Command c))) (at w x h.store.disk) (left g d a b) (fault_of_cause why)
+  command_broke number c w h g x d replies a b (cause.Host f) stands p wrote =
+      stopped f p.broke.beats p.broke.failed p.broke.leads p.broke.disk (c, refl, p.broke.form) p.broke.stopped
+      (subst (λ (s : Contents). Appends a b (replied_text o.voice number s (told p.broke.beats))) p.broke.stopped.contents (subst (λ (rs : List Reply). Appends a b (replied_text o.voice number g.store.sheet.contents rs)) p.broke.replied wrote))
   command_broke number c w h g x d replies a b cause.OutOfMemory stands p wrote =
-      inl (tt, w, as-before w h g x d p.0 p.1, subst (λ (y : HostView). IsHost y w) (sym p.0) stands, subst (λ (rs : List Reply). Appends a b (replied_text V number g.store.sheet.contents rs)) p.2 wrote)
+      refused (c, refl) w (as-before w h g x d p.0 p.1) (subst (λ (y : HostView). IsHost y w) (sym p.0) stands) (subst (λ (rs : List Reply). Appends a b (replied_text o.voice number g.store.sheet.contents rs)) p.2 wrote)
 
   pub command_broke_untold : (number : ℕ) (c : Command) (w : World) (h g : HostView) (x d : C) (replies : List Reply) (a b : Option (List ℕ)) (why : EdgeCause) (f : RunFault)
-      → IsHost h w → CommandBroke c w h g x d replies why → IsUntold V f
-      → SayingFailed V R K number (Some (live.Script (line.Command c))) (at w x h.store.disk) g d a b f
+      → IsHost h w → CommandBroke c w h g x d replies why → IsUntold o.voice f
+      → SayingFailed o number (Some (live.Script (line.Command c))) (at w x h.store.disk) (left g d a b) f
   command_broke_untold number c w h g x d replies a b why f stands p is =
       said_untold number (Some (live.Script (line.Command c))) (at w x h.store.disk) g d a b f is (go why p)
     where
-      go : (why : EdgeCause) → CommandBroke c w h g x d replies why → SaidUnwritten V R K (Some (live.Script (line.Command c))) (at w x h.store.disk) g d
-      go (cause.Host e) q = (q.broke.leads, q.broke.disk, up_to q.broke.beats q.broke.failed q.broke.form, inr (q.broke.failed, e, q.broke.stopped))
-      go cause.OutOfMemory q = (w, g.store.disk, none tt (as-before w h g x d q.0 q.1), inl (subst (λ (y : HostView). IsHost y w) (sym q.0) stands, refl))
+      go : (why : EdgeCause) → CommandBroke c w h g x d replies why → SaidUnwritten o (Some (live.Script (line.Command c))) (at w x h.store.disk) (left g d a b)
+      go (cause.Host e) q = (q.broke.leads, q.broke.disk, up_to q.broke.beats q.broke.failed (c, refl, q.broke.form), inr (q.broke.failed, e, q.broke.stopped))
+      go cause.OutOfMemory q = (w, g.store.disk, none (c, refl) (as-before w h g x d q.0 q.1), inl (subst (λ (y : HostView). IsHost y w) (sym q.0) stands, refl))

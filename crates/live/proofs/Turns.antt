@@ -3,7 +3,6 @@ use Rattle.std.proofs.Common.{◌≡◌, ◌+◌, ◌<◌, inl, inr, ℕ, suc, t
 use Rattle.std.specs.Prelude.{Result, Ok, Err, OnOk, IfErr, IfOk, slice_get}
 use Rattle.std.proofs.KnownBytes.{Appends-trans}
 use Rattle.std.specs.Io.KnownBytes.{Appends}
-use Rattle.host_events.specs.declared.event.Event.{Event}
 use Rattle.host_events.specs.declared.reply.Reply.{Reply}
 use Rattle.session_engine.specs.World.{World, sheet_in}
 use Rattle.worksheet.specs.Contents.{Contents}
@@ -17,14 +16,15 @@ use Rattle.child_edge.proofs.Chains.{told-append}
 use Rattle.child_edge.specs.Edge.{BrokeOff, ByCause, Ran}
 use Rattle.child_edge.specs.Seats.{waits}
 use Rattle.child_edge.specs.Told.{told}
-use Rattle.tellings.specs.Voice.{IsUntold, Voice, came_text}
+use Rattle.tellings.specs.Voice.{IsUntold, came_text}
 use Rattle.tellings.specs.declared.note.Note.TheVariants as note
 use Rattle.sheet_programs.specs.Told.{fault_of_cause}
 use Rattle.offline_programs.specs.declared.fault.RunFault.{RunFault}
 use Rattle.offline_programs.specs.declared.fault.RunFault.TheVariants as fault
 use Rattle.live.specs.declared.holding.Hold.{Hold}
 use Rattle.live.specs.declared.holding.Hold.TheVariants as hold
-use Rattle.live.specs.Saying.{Begins, Clock, SaidDone, WaitGoesOn, IsTimed, over_text}
+use Rattle.live.specs.Records.{Brought, Edge, brought, left}
+use Rattle.live.specs.Saying.{Begins, SaidDone, WaitGoesOn, IsTimed, over_text}
 use Rattle.arrivals.specs.Lines.{InputLine}
 use Rattle.live.specs.Arrivals.{Arrival, line, life, time_over, LivePlace, place, said_by}
 use Rattle.live.specs.Broken.{TakesLed}
@@ -41,37 +41,37 @@ abbrev pub TurnGave : {C : Type 0} → Relation C → Seat → World → HostVie
 TurnGave R seat w h g c d before replies r =
     OnOk r (Ran (Taken R true None seat (at w c h.store.disk)) before g d replies) × IfErr r (TurnBroke R seat w h g c d before replies)
 
-module _ {C : Type 0} (V : Voice) (R : Relation C) (seat : Seat) (w : World) (h g : HostView) (c d : C) (replies : List Reply) (a b : Option (List ℕ)) (stands : IsHost h w) where
+module _ {C : Type 0} (o : Edge C) (seat : Seat) (w : World) (h g : HostView) (c d : C) (replies : List Reply) (a b : Option (List ℕ)) (stands : IsHost h w) where
   as-before : g ≡ h → d ≡ c → at w d g.store.disk ≡ at w c h.store.disk
   as-before p q = subst (λ (x : C). at w x g.store.disk ≡ at w c h.store.disk) (sym q) (ap (λ (x : HostView). at w c x.store.disk) p)
 
   -- what is written is the text of the worksheet of this world
-  told-of : (t : World) (bs : List Beat) → g.store.sheet.contents ≡ sheet_in t → replies ≡ told bs → Appends a b (came_text V g.store.sheet.contents replies) → Appends a b (came_text V (sheet_in t) (told bs))
+  told-of : (t : World) (bs : List Beat) → g.store.sheet.contents ≡ sheet_in t → replies ≡ told bs → Appends a b (came_text o.voice g.store.sheet.contents replies) → Appends a b (came_text o.voice (sheet_in t) (told bs))
   told-of t bs is are wrote =
-      subst (λ (s : Contents). Appends a b (came_text V s (told bs))) is (subst (λ (l : List Reply). Appends a b (came_text V g.store.sheet.contents l)) are wrote)
+      subst (λ (s : Contents). Appends a b (came_text o.voice s (told bs))) is (subst (λ (l : List Reply). Appends a b (came_text o.voice g.store.sheet.contents l)) are wrote)
 
-  pub heard : Ran (Taken R true None seat (at w c h.store.disk)) [] g d replies → Appends a b (came_text V g.store.sheet.contents replies) → Heard V R seat (at w c h.store.disk) g d a b
+  pub heard : Ran (Taken o.after true None seat (at w c h.store.disk)) [] g d replies → Appends a b (came_text o.voice g.store.sheet.contents replies) → Heard o seat (at w c h.store.disk) (left g d a b)
   heard p wrote = (p.beats, p.leads, p.form, p.stands, told-of p.leads p.beats p.stands.stands.contents p.replied wrote)
 
-  pub heard_failed : (why : EdgeCause) → TurnBroke R seat w h g c d [] replies why
-      → Appends a b (came_text V g.store.sheet.contents replies) → HearingFailed V R seat (at w c h.store.disk) g d a b (fault_of_cause why)
-  heard_failed (cause.Host f) p wrote = (p.beats, p.failed, p.leads, p.disk, p.form, p.stopped, told-of p.leads p.beats p.stopped.contents p.replied wrote)
+  pub heard_failed : (why : EdgeCause) → TurnBroke o.after seat w h g c d [] replies why
+      → Appends a b (came_text o.voice g.store.sheet.contents replies) → HearingFailed o seat (at w c h.store.disk) (left g d a b) (fault_of_cause why)
+  heard_failed (cause.Host f) p wrote = inside.stopped f p.beats p.failed p.leads p.disk p.form p.stopped (told-of p.leads p.beats p.stopped.contents p.replied wrote)
   heard_failed cause.OutOfMemory p wrote =
-      inl (w, as-before p.0 p.1, subst (λ (x : HostView). IsHost x w) (sym p.0) stands, subst (λ (l : List Reply). Appends a b (came_text V g.store.sheet.contents l)) p.2 wrote)
+      inside.refused w (as-before p.0 p.1) (subst (λ (x : HostView). IsHost x w) (sym p.0) stands) (subst (λ (l : List Reply). Appends a b (came_text o.voice g.store.sheet.contents l)) p.2 wrote)
 
-  heard-untold : (f : RunFault) → IsUntold V f → HeardUnwritten R seat (at w c h.store.disk) g d → HearingFailed V R seat (at w c h.store.disk) g d a b f
-  heard-untold fault.Output why p = p
-  heard-untold fault.OutOfMemory why p = inr (why, p)
+  heard-untold : (f : RunFault) → IsUntold o.voice f → HeardUnwritten o seat (at w c h.store.disk) (left g d a b) → HearingFailed o seat (at w c h.store.disk) (left g d a b) f
+  heard-untold fault.Output why p = inside.unwritten p
+  heard-untold fault.OutOfMemory why p = inside.untold why p
   heard-untold fault.Input why p = absurd why
   heard-untold fault.InputTooLong why p = absurd why
   heard-untold (fault.Open x) why p = absurd why
   heard-untold fault.InUse why p = absurd why
   heard-untold (fault.Host x) why p = absurd why
 
-  pub heard_unwritten : (r : Result (Unit {0}) EdgeCause) (f : RunFault) → TurnGave R seat w h g c d [] replies r → IsUntold V f → HearingFailed V R seat (at w c h.store.disk) g d a b f
+  pub heard_unwritten : (r : Result (Unit {0}) EdgeCause) (f : RunFault) → TurnGave o.after seat w h g c d [] replies r → IsUntold o.voice f → HearingFailed o seat (at w c h.store.disk) (left g d a b) f
   heard_unwritten r f gave is = heard-untold f is (go r gave)
     where
-      go : (x : Result (Unit {0}) EdgeCause) → TurnGave R seat w h g c d [] replies x → HeardUnwritten R seat (at w c h.store.disk) g d
+      go : (x : Result (Unit {0}) EdgeCause) → TurnGave o.after seat w h g c d [] replies x → HeardUnwritten o seat (at w c h.store.disk) (left g d a b)
       go (Ok u) p = (p.0.leads, g.store.disk, inside.all p.0.beats p.0.form, inl (p.0.stands, refl))
       go (Err (cause.Host f)) p = (p.1.leads, p.1.disk, inside.up_to p.1.beats p.1.failed p.1.form, inr (p.1.failed, f, p.1.stopped))
       go (Err cause.OutOfMemory) p = (w, g.store.disk, inside.none (as-before p.1.0 p.1.1), inl (subst (λ (x : HostView). IsHost x w) (sym p.1.0) stands, refl))
@@ -84,78 +84,70 @@ goes_on_somehow held w = go (waits w) refl
     go [] e = (hold.Free, inl (e, refl))
     go (s ∷ ss) e = (held, inr (λ none. let wrong : s ∷ ss ≡ [] = sym e ∙ none in absurd cc, refl))
 
-module _ {C : Type 0} (V : Voice) (R : Relation C) (K : Clock C) (p : LivePlace C) (h : HostView) (c : C) (a b : Option (List ℕ)) where
+module _ {C : Type 0} (o : Edge C) (p : LivePlace C) (h : HostView) (c : C) (a b : Option (List ℕ)) where
   -- what came of an arrival and couldn't be printed
-  pub took_untold : (x : Arrival) (f : RunFault) → IsUntold V f → TookUnwritten V R K p x h c → TakingFailed V R K p x h c a b f
-  took_untold x fault.Output why q = q
-  took_untold x fault.OutOfMemory why q = inr (why, q)
+  pub took_untold : (x : Arrival) (f : RunFault) → IsUntold o.voice f → TookUnwritten o p x (left h c a b) → TakingFailed o p x (left h c a b) f
+  took_untold x fault.Output why q = inside.unwritten q
+  took_untold x fault.OutOfMemory why q = inside.untold why q
   took_untold x fault.Input why q = absurd why
   took_untold x fault.InputTooLong why q = absurd why
   took_untold x (fault.Open y) why q = absurd why
   took_untold x fault.InUse why q = absurd why
   took_untold x (fault.Host y) why q = absurd why
 
-  life-all : (seat : Seat) (beats : List Beat) (t : At C) → Taken R true None seat p.run beats t → TakesLed V R K p (life seat) t
+  life-all : (seat : Seat) (beats : List Beat) (t : At C) → Taken o.after true None seat p.run beats t → TakesLed o p (life seat) t
   life-all seat beats t q =
       let on = goes_on_somehow p.held t.world in
-      broken.all beats (came_text V (sheet_in t.world) (told beats) ++ over_text V p.number p.held on.0) (place t p.number on.0) (refl, q, refl, on.1) refl
+      broken.all (brought beats (came_text o.voice (sheet_in t.world) (told beats) ++ over_text o.voice p.number p.held on.0)) (place t p.number on.0) (refl, q, refl, on.1) refl
 
-  led-life : (seat : Seat) (t : At C) → HeardLed R seat p.run t → TakesLed V R K p (life seat) t
+  led-life : (seat : Seat) (t : At C) → HeardLed o.after seat p.run t → TakesLed o p (life seat) t
   led-life seat t (inside.all beats q) = life-all seat beats t q
-  led-life seat t (inside.up_to beats e q) = broken.up_to beats e q
-  led-life seat t (inside.none q) = broken.so_far [] (refl, q)
+  led-life seat t (inside.up_to beats e q) = broken.up_to beats e (broken.life_up_to seat q)
+  led-life seat t (inside.none q) = broken.so_far [] (broken.life_so_far seat refl q)
 
-  life-unwritten : (seat : Seat) → HeardUnwritten R seat p.run h c → TookUnwritten V R K p (life seat) h c
+  life-unwritten : (seat : Seat) → HeardUnwritten o seat p.run (left h c a b) → TookUnwritten o p (life seat) (left h c a b)
   life-unwritten seat q = (q.0, q.1, led-life seat (at q.0 c q.1) q.2, q.3)
 
-  pub life_failed : (seat : Seat) (f : RunFault) → HearingFailed V R seat p.run h c a b f → TakingFailed V R K p (life seat) h c a b f
-  life_failed seat (fault.Host f) q = q
-  life_failed seat fault.OutOfMemory (inl q) = inl ([], q.0, (refl, q.1), q.2, q.3)
-  life_failed seat fault.OutOfMemory (inr q) = inr (q.0, life-unwritten seat q.1)
-  life_failed seat fault.Output q = life-unwritten seat q
-  life_failed seat fault.Input q = absurd q
-  life_failed seat fault.InputTooLong q = absurd q
-  life_failed seat (fault.Open why) q = absurd q
-  life_failed seat fault.InUse q = absurd q
+  pub life_failed : (seat : Seat) (f : RunFault) → HearingFailed o seat p.run (left h c a b) f → TakingFailed o p (life seat) (left h c a b) f
+  life_failed seat f (inside.stopped e beats failed t d q stopped wrote) = inside.stopped e beats failed t d (broken.life_up_to seat q) stopped wrote
+  life_failed seat f (inside.refused t q stands wrote) = inside.refused [] t (broken.life_so_far seat refl q) stands wrote
+  life_failed seat f (inside.untold why q) = inside.untold why (life-unwritten seat q)
+  life_failed seat f (inside.unwritten q) = inside.unwritten (life-unwritten seat q)
 
   -- a life was taken, and that a wait is over couldn't be printed
-  pub life_untold : (seat : Seat) (f : RunFault) (mid : Option (List ℕ)) → Heard V R seat p.run h c a mid → IsUntold V f → TakingFailed V R K p (life seat) h c a b f
+  pub life_untold : (seat : Seat) (f : RunFault) (mid : Option (List ℕ)) → Heard o seat p.run (left h c a mid) → IsUntold o.voice f → TakingFailed o p (life seat) (left h c a b) f
   life_untold seat f mid q is = took_untold (life seat) f is (q.1, h.store.disk, life-all seat q.0 (at q.1 c h.store.disk) q.2, inl (q.3, refl))
 
-  pub life_took : (seat : Seat) (mid : Option (List ℕ)) (held : Hold) (q : Heard V R seat p.run h c a mid) → WaitGoesOn p.held q.1 held → Appends mid b (over_text V p.number p.held held)
-      → TookArrival V R K p (life seat) h c a b p.number held
+  pub life_took : (seat : Seat) (mid : Option (List ℕ)) (held : Hold) (q : Heard o seat p.run (left h c a mid)) → WaitGoesOn p.held q.1 held → Appends mid b (over_text o.voice p.number p.held held)
+      → TookArrival o p (life seat) (left h c a b) p.number held
   life_took seat mid held q on wrote =
-      (q.0, came_text V (sheet_in q.1) (told q.0) ++ over_text V p.number p.held held, q.1, (refl, q.2, refl, on), q.3, Appends-trans a mid b (came_text V (sheet_in q.1) (told q.0)) (over_text V p.number p.held held) q.4 wrote)
+      (brought q.0 (came_text o.voice (sheet_in q.1) (told q.0) ++ over_text o.voice p.number p.held held), q.1, (refl, q.2, refl, on), q.3, Appends-trans a mid b (came_text o.voice (sheet_in q.1) (told q.0)) (over_text o.voice p.number p.held held) q.4 wrote)
 
-  time-all : (timed : IsTimed p.held) (beats : List Beat) (t : At C) → EachOf (Taken R false None) (waits p.run.world) p.run beats t → TakesLed V R K p time_over t
-  time-all timed beats t q = broken.all beats (came_text V (sheet_in t.world) (told beats) ++ V.note (note.Waited p.number true)) (place t p.number hold.Free) (timed, refl, q, refl, refl) refl
+  time-all : (timed : IsTimed p.held) (beats : List Beat) (t : At C) → EachOf (Taken o.after false None) (waits p.run.world) p.run beats t → TakesLed o p time_over t
+  time-all timed beats t q = broken.all (brought beats (came_text o.voice (sheet_in t.world) (told beats) ++ o.voice.note (note.Waited p.number true))) (place t p.number hold.Free) (timed, refl, q, refl, refl) refl
 
-  led-time : (timed : IsTimed p.held) (t : At C) → StallingLed R (waits p.run.world) p.run t → TakesLed V R K p time_over t
+  led-time : (timed : IsTimed p.held) (t : At C) → StallingLed o.after (waits p.run.world) p.run t → TakesLed o p time_over t
   led-time timed t (inside.each beats q) = time-all timed beats t q
-  led-time timed t (inside.first beats q) = broken.so_far beats (timed, q)
-  led-time timed t (inside.up_to beats e q) = broken.up_to beats e (timed, q)
+  led-time timed t (inside.first beats q) = broken.so_far beats (broken.time_so_far timed q)
+  led-time timed t (inside.up_to beats e q) = broken.up_to beats e (broken.time_up_to timed q)
 
-  time-unwritten : IsTimed p.held → StalledUnwritten R (waits p.run.world) p.run h c → TookUnwritten V R K p time_over h c
+  time-unwritten : IsTimed p.held → StalledUnwritten o (waits p.run.world) p.run (left h c a b) → TookUnwritten o p time_over (left h c a b)
   time-unwritten timed q = (q.0, q.1, led-time timed (at q.0 c q.1) q.2, q.3)
 
-  pub time_failed : IsTimed p.held → (f : RunFault) → StallingFailed V R (waits p.run.world) p.run h c a b f → TakingFailed V R K p time_over h c a b f
-  time_failed timed (fault.Host f) q = (q.0, q.1, q.2, q.3, (timed, q.4), q.5, q.6)
-  time_failed timed fault.OutOfMemory (inl q) = inl (q.0, q.1, (timed, q.2), q.3, q.4)
-  time_failed timed fault.OutOfMemory (inr q) = inr (q.0, time-unwritten timed q.1)
-  time_failed timed fault.Output q = time-unwritten timed q
-  time_failed timed fault.Input q = absurd q
-  time_failed timed fault.InputTooLong q = absurd q
-  time_failed timed (fault.Open why) q = absurd q
-  time_failed timed fault.InUse q = absurd q
+  pub time_failed : IsTimed p.held → (f : RunFault) → StallingFailed o (waits p.run.world) p.run (left h c a b) f → TakingFailed o p time_over (left h c a b) f
+  time_failed timed f (inside.stopped e beats failed t d q stopped wrote) = inside.stopped e beats failed t d (broken.time_up_to timed q) stopped wrote
+  time_failed timed f (inside.refused beats t q stands wrote) = inside.refused beats t (broken.time_so_far timed q) stands wrote
+  time_failed timed f (inside.untold why q) = inside.untold why (time-unwritten timed q)
+  time_failed timed f (inside.unwritten q) = inside.unwritten (time-unwritten timed q)
 
   -- each life that waits stalled, and that the wait is over couldn't be printed
-  pub time_untold : IsTimed p.held → (f : RunFault) (mid : Option (List ℕ)) → Stalled V R (waits p.run.world) p.run h c a mid → IsUntold V f → TakingFailed V R K p time_over h c a b f
+  pub time_untold : IsTimed p.held → (f : RunFault) (mid : Option (List ℕ)) → Stalled o (waits p.run.world) p.run (left h c a mid) → IsUntold o.voice f → TakingFailed o p time_over (left h c a b) f
   time_untold timed f mid q is = took_untold time_over f is (q.1, h.store.disk, time-all timed q.0 (at q.1 c h.store.disk) q.2, inl (q.3, refl))
 
-  pub time_took : IsTimed p.held → (mid : Option (List ℕ)) → Stalled V R (waits p.run.world) p.run h c a mid → Appends mid b (V.note (note.Waited p.number true))
-      → TookArrival V R K p time_over h c a b p.number hold.Free
+  pub time_took : IsTimed p.held → (mid : Option (List ℕ)) → Stalled o (waits p.run.world) p.run (left h c a mid) → Appends mid b (o.voice.note (note.Waited p.number true))
+      → TookArrival o p time_over (left h c a b) p.number hold.Free
   time_took timed mid q wrote =
-      (q.0, came_text V (sheet_in q.1) (told q.0) ++ V.note (note.Waited p.number true), q.1, (timed, refl, q.2, refl, refl), q.3, Appends-trans a mid b (came_text V (sheet_in q.1) (told q.0)) (V.note (note.Waited p.number true)) q.4 wrote)
+      (brought q.0 (came_text o.voice (sheet_in q.1) (told q.0) ++ o.voice.note (note.Waited p.number true)), q.1, (timed, refl, q.2, refl, refl), q.3, Appends-trans a mid b (came_text o.voice (sheet_in q.1) (told q.0)) (o.voice.note (note.Waited p.number true)) q.4 wrote)
 
 -- Lives that count as stalled, one after another.
 
@@ -211,71 +203,67 @@ StallingBroke R seats s g d replies why = ByCause why (BrokeOff (TurnStopped R f
 abbrev pub StallingGave : {C : Type 0} → Relation C → List Seat → At C → HostView → C → List Reply → Result (Unit {0}) EdgeCause → Type 0
 StallingGave R seats s g d replies r = OnOk r (Ran (EachOf (Taken R false None) seats s) [] g d replies) × IfErr r (StallingBroke R seats s g d replies)
 
-module _ {C : Type 0} (V : Voice) (R : Relation C) (seats : List Seat) (s : At C) (g : HostView) (d : C) (replies : List Reply) (a b : Option (List ℕ)) where
-  told-at : (t : World) (bs : List Beat) → g.store.sheet.contents ≡ sheet_in t → replies ≡ told bs → Appends a b (came_text V g.store.sheet.contents replies) → Appends a b (came_text V (sheet_in t) (told bs))
+module _ {C : Type 0} (o : Edge C) (seats : List Seat) (s : At C) (g : HostView) (d : C) (replies : List Reply) (a b : Option (List ℕ)) where
+  told-at : (t : World) (bs : List Beat) → g.store.sheet.contents ≡ sheet_in t → replies ≡ told bs → Appends a b (came_text o.voice g.store.sheet.contents replies) → Appends a b (came_text o.voice (sheet_in t) (told bs))
   told-at t bs is are wrote =
-      subst (λ (x : Contents). Appends a b (came_text V x (told bs))) is (subst (λ (l : List Reply). Appends a b (came_text V g.store.sheet.contents l)) are wrote)
+      subst (λ (x : Contents). Appends a b (came_text o.voice x (told bs))) is (subst (λ (l : List Reply). Appends a b (came_text o.voice g.store.sheet.contents l)) are wrote)
 
-  pub stalled : Ran (EachOf (Taken R false None) seats s) [] g d replies → Appends a b (came_text V g.store.sheet.contents replies) → Stalled V R seats s g d a b
+  pub stalled : Ran (EachOf (Taken o.after false None) seats s) [] g d replies → Appends a b (came_text o.voice g.store.sheet.contents replies) → Stalled o seats s (left g d a b)
   stalled p wrote = (p.beats, p.leads, p.form, p.stands, told-at p.leads p.beats p.stands.stands.contents p.replied wrote)
 
-  pub stalling_failed : (why : EdgeCause) → StallingBroke R seats s g d replies why → Appends a b (came_text V g.store.sheet.contents replies) → StallingFailed V R seats s g d a b (fault_of_cause why)
-  stalling_failed (cause.Host f) p wrote = (p.beats, p.failed, p.leads, p.disk, p.form, p.stopped, told-at p.leads p.beats p.stopped.contents p.replied wrote)
-  stalling_failed cause.OutOfMemory p wrote = inl (p.beats, p.leads, p.form, p.stands, told-at p.leads p.beats p.stands.stands.contents p.replied wrote)
+  pub stalling_failed : (why : EdgeCause) → StallingBroke o.after seats s g d replies why → Appends a b (came_text o.voice g.store.sheet.contents replies) → StallingFailed o seats s (left g d a b) (fault_of_cause why)
+  stalling_failed (cause.Host f) p wrote = inside.stopped f p.beats p.failed p.leads p.disk p.form p.stopped (told-at p.leads p.beats p.stopped.contents p.replied wrote)
+  stalling_failed cause.OutOfMemory p wrote = inside.refused p.beats p.leads p.form p.stands (told-at p.leads p.beats p.stands.stands.contents p.replied wrote)
 
-  stalled-untold : (f : RunFault) → IsUntold V f → StalledUnwritten R seats s g d → StallingFailed V R seats s g d a b f
-  stalled-untold fault.Output why p = p
-  stalled-untold fault.OutOfMemory why p = inr (why, p)
+  stalled-untold : (f : RunFault) → IsUntold o.voice f → StalledUnwritten o seats s (left g d a b) → StallingFailed o seats s (left g d a b) f
+  stalled-untold fault.Output why p = inside.unwritten p
+  stalled-untold fault.OutOfMemory why p = inside.untold why p
   stalled-untold fault.Input why p = absurd why
   stalled-untold fault.InputTooLong why p = absurd why
   stalled-untold (fault.Open x) why p = absurd why
   stalled-untold fault.InUse why p = absurd why
   stalled-untold (fault.Host x) why p = absurd why
 
-  pub stalling_unwritten : (r : Result (Unit {0}) EdgeCause) (f : RunFault) → StallingGave R seats s g d replies r → IsUntold V f → StallingFailed V R seats s g d a b f
+  pub stalling_unwritten : (r : Result (Unit {0}) EdgeCause) (f : RunFault) → StallingGave o.after seats s g d replies r → IsUntold o.voice f → StallingFailed o seats s (left g d a b) f
   stalling_unwritten r f gave is = stalled-untold f is (go r gave)
     where
-      go : (x : Result (Unit {0}) EdgeCause) → StallingGave R seats s g d replies x → StalledUnwritten R seats s g d
+      go : (x : Result (Unit {0}) EdgeCause) → StallingGave o.after seats s g d replies x → StalledUnwritten o seats s (left g d a b)
       go (Ok u) p = (p.0.leads, g.store.disk, inside.each p.0.beats p.0.form, inl (p.0.stands, refl))
       go (Err (cause.Host f)) p = (p.1.leads, p.1.disk, inside.up_to p.1.beats p.1.failed p.1.form, inr (p.1.failed, f, p.1.stopped))
       go (Err cause.OutOfMemory) p = (p.1.leads, g.store.disk, inside.first p.1.beats p.1.form, inl (p.1.stands, refl))
 
 -- A line.
 
-module _ {C : Type 0} (V : Voice) (R : Relation C) (K : Clock C) (s : At C) (before : ℕ) (h : HostView) (c : C) (a b : Option (List ℕ)) where
-  line-all : (l : InputLine) (begun : Hold) (beats : List Beat) (said : List ℕ) (t : At C) → Begins K s.children (said_by l) begun → SaidDone V R (before + 1) (said_by l) s beats said t → TakesLed V R K (place s before hold.Free) (line l) t
-  line-all l begun beats said t begins done =
+module _ {C : Type 0} (o : Edge C) (s : At C) (before : ℕ) (h : HostView) (c : C) (a b : Option (List ℕ)) where
+  line-all : (l : InputLine) (begun : Hold) (said : Brought) (t : At C) → Begins o.watches.clock s.children (said_by l) begun → SaidDone o (before + 1) (said_by l) s said t → TakesLed o (place s before hold.Free) (line l) t
+  line-all l begun said t begins done =
       let on = goes_on_somehow begun t.world in
-      broken.all beats (said ++ over_text V (before + 1) begun on.0) (place t (before + 1) on.0) (refl, refl, (said, done, (begun, begins, on.1, refl))) refl
+      broken.all (brought said.beats (said.text ++ over_text o.voice (before + 1) begun on.0)) (place t (before + 1) on.0) (refl, refl, (said.text, done, (begun, begins, on.1, refl))) refl
 
-  led-line : (l : InputLine) (t : At C) → SaidLed V R K (said_by l) s t → TakesLed V R K (place s before hold.Free) (line l) t
-  led-line l t (inside.all begun begins done) = let said = done (before + 1) in line-all l begun said.0 said.1 t begins said.2
-  led-line l t (inside.up_to beats e q) = broken.up_to beats e q
-  led-line l t (inside.none is q) = broken.so_far [] (is, refl, q)
+  led-line : (l : InputLine) (t : At C) → SaidLed o (said_by l) s t → TakesLed o (place s before hold.Free) (line l) t
+  led-line l t (inside.all begun begins done) = let said = done (before + 1) in line-all l begun said.0 t begins said.1
+  led-line l t (inside.up_to beats e q) = broken.up_to beats e (broken.line_up_to l q)
+  led-line l t (inside.none is q) = broken.so_far [] (broken.line_so_far l is refl q)
 
-  line-unwritten : (l : InputLine) → SaidUnwritten V R K (said_by l) s h c → TookUnwritten V R K (place s before hold.Free) (line l) h c
+  line-unwritten : (l : InputLine) → SaidUnwritten o (said_by l) s (left h c a b) → TookUnwritten o (place s before hold.Free) (line l) (left h c a b)
   line-unwritten l q = (q.0, q.1, led-line l (at q.0 c q.1) q.2, q.3)
 
-  pub line_failed : (l : InputLine) (f : RunFault) → SayingFailed V R K (before + 1) (said_by l) s h c a b f → TakingFailed V R K (place s before hold.Free) (line l) h c a b f
-  line_failed l (fault.Host f) q = q
-  line_failed l fault.OutOfMemory (inl q) = inl ([], q.1, (q.0, refl, q.2), q.3, q.4)
-  line_failed l fault.OutOfMemory (inr q) = inr (q.0, line-unwritten l q.1)
-  line_failed l fault.Output q = line-unwritten l q
-  line_failed l fault.Input q = absurd q
-  line_failed l fault.InputTooLong q = absurd q
-  line_failed l (fault.Open why) q = absurd q
-  line_failed l fault.InUse q = absurd q
+  pub line_failed : (l : InputLine) (f : RunFault) → SayingFailed o (before + 1) (said_by l) s (left h c a b) f → TakingFailed o (place s before hold.Free) (line l) (left h c a b) f
+  line_failed l f (inside.stopped e beats failed t d q stopped wrote) = inside.stopped e beats failed t d (broken.line_up_to l q) stopped wrote
+  line_failed l f (inside.refused is t q stands wrote) = inside.refused [] t (broken.line_so_far l is refl q) stands wrote
+  line_failed l f (inside.untold why q) = inside.untold why (line-unwritten l q)
+  line_failed l f (inside.unwritten q) = inside.unwritten (line-unwritten l q)
 
   -- a line was done, and that its wait is over already couldn't be printed
-  pub line_untold : (l : InputLine) (f : RunFault) (mid : Option (List ℕ)) (begun : Hold) → Said V R K (before + 1) (said_by l) s h c a mid begun → IsUntold V f
-      → TakingFailed V R K (place s before hold.Free) (line l) h c a b f
+  pub line_untold : (l : InputLine) (f : RunFault) (mid : Option (List ℕ)) (begun : Hold) → Said o (before + 1) (said_by l) s (left h c a mid) begun → IsUntold o.voice f
+      → TakingFailed o (place s before hold.Free) (line l) (left h c a b) f
   line_untold l f mid begun q is =
-      took_untold V R K (place s before hold.Free) h c a b (line l) f is (q.2, h.store.disk, line-all l begun q.0 q.1 (at q.2 c h.store.disk) q.4 q.3, inl (q.5, refl))
+      took_untold o (place s before hold.Free) h c a b (line l) f is (q.1, h.store.disk, line-all l begun q.0 (at q.1 c h.store.disk) q.3 q.2, inl (q.4, refl))
 
-  pub line_took : (l : InputLine) (mid : Option (List ℕ)) (begun held : Hold) (q : Said V R K (before + 1) (said_by l) s h c a mid begun) → WaitGoesOn begun q.2 held → Appends mid b (over_text V (before + 1) begun held)
-      → TookArrival V R K (place s before hold.Free) (line l) h c a b (before + 1) held
+  pub line_took : (l : InputLine) (mid : Option (List ℕ)) (begun held : Hold) (q : Said o (before + 1) (said_by l) s (left h c a mid) begun) → WaitGoesOn begun q.1 held → Appends mid b (over_text o.voice (before + 1) begun held)
+      → TookArrival o (place s before hold.Free) (line l) (left h c a b) (before + 1) held
   line_took l mid begun held q on wrote =
-      (q.0, q.1 ++ over_text V (before + 1) begun held, q.2, (refl, refl, (q.1, q.3, (begun, q.4, on, refl))), q.5, Appends-trans a mid b q.1 (over_text V (before + 1) begun held) q.6 wrote)
+      (brought q.0.beats (q.0.text ++ over_text o.voice (before + 1) begun held), q.1, (refl, refl, (q.0.text, q.2, (begun, q.3, on, refl))), q.4, Appends-trans a mid b q.0.text (over_text o.voice (before + 1) begun held) q.5 wrote)
 
 -- of one result
 pub if_ok_both : {T E : Type 0} (r : Result T E) (P Q S : T → Type 0) → ((x : T) → P x → Q x → S x) → IfOk r P → IfOk r Q → IfOk r S

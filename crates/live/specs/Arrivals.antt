@@ -1,10 +1,10 @@
 -- What came to a live worksheet, one after the other, and what came of it. (docs/EDGE.md, "Live".)
-use Rattle.std.specs.Prelude.{◌≡◌, ◌⊎◌, ℕ, ◌+◌, ◌-◌, ◌≤◌, Bool, false, true, List, [], ◌∷◌, ◌++◌, Option, Some, None}
+use Rattle.std.specs.Prelude.{◌≡◌, ◌⊎◌, ℕ, ◌+◌, ◌-◌, ◌≤◌, Bool, false, true, List, [], ◌∷◌, ◌++◌, Option, Some, None, IsSomeAnd}
 use Rattle.child_calls.specs.declared.seat.Seat.{Seat}
-use Rattle.child_edge.specs.Faithful.{Relation, At, at, Beat, Taken, OneTurn}
+use Rattle.child_edge.specs.Faithful.{At, at, Beat, Taken, OneTurn}
 use Rattle.child_edge.specs.Seats.{waits}
 use Rattle.arrivals.specs.Lines.{InputLine, whole, too_long}
-use Rattle.arrivals.specs.Watching.{Asked, asked}
+use Rattle.arrivals.specs.Watching.{asked}
 use Rattle.arrivals.specs.declared.sources.Input.{Input}
 use Rattle.arrivals.specs.declared.sources.Input.TheVariants as input
 use Rattle.arrivals.specs.declared.sources.Woken.{Woken}
@@ -18,7 +18,8 @@ use Rattle.tellings.specs.declared.note.Note.TheVariants as note
 use Rattle.worksheet.specs.Contents.{Contents}
 use Rattle.live.specs.declared.holding.Hold.{Hold}
 use Rattle.live.specs.declared.holding.Hold.TheVariants as hold
-use Rattle.live.specs.Saying.{Clock, SaidDone, IsTimed, Begins, WaitGoesOn, over_text}
+use Rattle.live.specs.Records.{Brought, Edge, Watches, brought}
+use Rattle.live.specs.Saying.{SaidDone, IsTimed, Begins, WaitGoesOn, over_text, time_of}
 
 -- what came
 pub data Arrival : Type 0 where
@@ -57,10 +58,6 @@ place run number held = record { run = run; number = number; held = held }
 abbrev pub woken_at : {C : Type 0} → LivePlace C → C → LivePlace C
 woken_at p c = place (at p.run.world c p.run.disk) p.number p.held
 
--- The relation of a watch: the sources before it, what it was asked, what it returned, and the sources after it.
-abbrev pub Watch : Type 0 → Type 1
-Watch C = C → Asked → Option Woken → C → Type 0
-
 -- How the input stands where a line is there or not: a wait holds it back.
 abbrev pub input_at : Hold → Bool → Input
 input_at hold.Free true = input.Ready
@@ -76,37 +73,36 @@ patience_at (hold.Until end) now = Some (end - now)
 
 -- a wait has a time, and it is over where the clock reads this
 abbrev pub IsOver : Hold → ℕ → Type 0
-IsOver hold.Free now = ⊥
-IsOver hold.Wait now = ⊥
-IsOver (hold.Until end) now = end ≤ now
+IsOver held now = IsSomeAnd (time_of held) (λ end. end ≤ now)
 
 -- A watch returned this (none: a fault) while this wait held the lines back. The clock was read before it, and no time was over there;
 -- what the watch was asked follows from the wait, from that reading, and from whether a line was there already.
-abbrev pub WatchTells : {C : Type 0} → Clock C → Watch C → Hold → C → Bool → Option Woken → C → Type 0
-WatchTells K W held c is_there told d =
-    (now : ℕ) × K c now × (IsOver held now → ⊥) × W c (asked (input_at held is_there) (patience_at held now)) told d
+abbrev pub WatchTells : {C : Type 0} → Watches C → Hold → C → Bool → Option Woken → C → Type 0
+WatchTells m held c is_there told d =
+    (now : ℕ) × m.clock c now × (IsOver held now → ⊥) × m.wakes c (asked (input_at held is_there) (patience_at held now)) told d
 
 -- This came while this wait held the lines back, and these are the sources after the watch that returned it: a line where one was there,
 -- and a part of one where none was. That a time is over is known from a watch, or from the clock, which is read before each of them.
-abbrev pub Comes : {C : Type 0} → Clock C → Watch C → Hold → C → Arrival → C → Type 0
-Comes K W held c (line l) d = WatchTells K W held c true (Some woken.Input) d
-Comes K W held c part d = WatchTells K W held c false (Some woken.Input) d
-Comes K W held c (life seat) d = (is_there : Bool) × WatchTells K W held c is_there (Some (woken.Life seat)) d
-Comes K W held c time_over d =
-    ((is_there : Bool) × WatchTells K W held c is_there (Some woken.TimeOver) d) ⊎ ((now : ℕ) × K c now × IsOver held now × (d ≡ c))
+abbrev pub Comes : {C : Type 0} → Watches C → Hold → C → Arrival → C → Type 0
+Comes m held c (line l) d = WatchTells m held c true (Some woken.Input) d
+Comes m held c part d = WatchTells m held c false (Some woken.Input) d
+Comes m held c (life seat) d = (is_there : Bool) × WatchTells m held c is_there (Some (woken.Life seat)) d
+Comes m held c time_over d =
+    ((is_there : Bool) × WatchTells m held c is_there (Some woken.TimeOver) d) ⊎ ((now : ℕ) × m.clock c now × IsOver held now × (d ≡ c))
 
--- What came of an arrival, by what it is: the entries, what is written of them, and the place after it.
-abbrev pub TakesArrival : {C : Type 0} → Voice → Relation C → Clock C → LivePlace C → Arrival → List Beat → List ℕ → LivePlace C → Type 0
-TakesArrival V R K p (line l) beats text q =
-    (p.held ≡ hold.Free) × (q.number ≡ p.number + 1) × ((said : List ℕ) × SaidDone V R q.number (said_by l) p.run beats said q.run
-    × ((begun : Hold) × Begins K p.run.children (said_by l) begun × WaitGoesOn begun q.run.world q.held × (text ≡ said ++ over_text V q.number begun q.held)))
-TakesArrival V R K p part beats text q = (p.held ≡ hold.Free) × (beats ≡ []) × (text ≡ []) × (q ≡ p)
-TakesArrival V R K p (life seat) beats text q =
-    (q.number ≡ p.number) × Taken R true None seat p.run beats q.run
-    × (text ≡ came_text V (sheet_in q.run.world) (told beats) ++ over_text V q.number p.held q.held) × WaitGoesOn p.held q.run.world q.held
-TakesArrival V R K p time_over beats text q =
-    IsTimed p.held × (q.number ≡ p.number) × OneTurn R false (waits p.run.world) p.run beats q.run
-    × (text ≡ came_text V (sheet_in q.run.world) (told beats) ++ V.note (note.Waited q.number true)) × (q.held ≡ hold.Free)
+-- What came of an arrival, by what it is: what it brought, and the place after it.
+abbrev pub TakesArrival : {C : Type 0} → Edge C → LivePlace C → Arrival → Brought → LivePlace C → Type 0
+TakesArrival o p (line l) it q =
+    (p.held ≡ hold.Free) × (q.number ≡ p.number + 1) × ((said : List ℕ) × SaidDone o q.number (said_by l) p.run (brought it.beats said) q.run
+    × ((begun : Hold) × Begins o.watches.clock p.run.children (said_by l) begun × WaitGoesOn begun q.run.world q.held
+    × (it.text ≡ said ++ over_text o.voice q.number begun q.held)))
+TakesArrival o p part it q = (p.held ≡ hold.Free) × (it.beats ≡ []) × (it.text ≡ []) × (q ≡ p)
+TakesArrival o p (life seat) it q =
+    (q.number ≡ p.number) × Taken o.after true None seat p.run it.beats q.run
+    × (it.text ≡ came_text o.voice (sheet_in q.run.world) (told it.beats) ++ over_text o.voice q.number p.held q.held) × WaitGoesOn p.held q.run.world q.held
+TakesArrival o p time_over it q =
+    IsTimed p.held × (q.number ≡ p.number) × OneTurn o.after false (waits p.run.world) p.run it.beats q.run
+    × (it.text ≡ came_text o.voice (sheet_in q.run.world) (told it.beats) ++ o.voice.note (note.Waited q.number true)) × (q.held ≡ hold.Free)
 
 -- What is printed of those entries of an arrival that came before a fault, where so many lines were taken before it and this is the
 -- worksheet after them.
@@ -117,9 +113,9 @@ front_text V number (life seat) sheet beats = came_text V sheet (told beats)
 front_text V number time_over sheet beats = came_text V sheet (told beats)
 
 -- These came, one after the other, and each was taken when it came.
-abbrev pub Lived : {C : Type 0} → Voice → Relation C → Clock C → Watch C → LivePlace C → List Arrival → List Beat → List ℕ → LivePlace C → Type 0
-Lived V R K W p [] beats text q = (beats ≡ []) × (text ≡ []) × (q ≡ p)
-Lived {C = C} V R K W p (a ∷ came) beats text q =
-    (c : C) × (mid : LivePlace C) × (before : List Beat) × (behind : List Beat) × (first : List ℕ) × (rest : List ℕ)
-    × Comes K W p.held p.run.children a c × TakesArrival V R K (woken_at p c) a before first mid × Lived V R K W mid came behind rest q
-    × (beats ≡ before ++ behind) × (text ≡ first ++ rest)
+abbrev pub Lived : {C : Type 0} → Edge C → LivePlace C → List Arrival → Brought → LivePlace C → Type 0
+Lived o p [] it q = (it.beats ≡ []) × (it.text ≡ []) × (q ≡ p)
+Lived {C = C} o p (a ∷ came) it q =
+    (c : C) × (mid : LivePlace C) × (first : Brought) × (rest : Brought)
+    × Comes o.watches p.held p.run.children a c × TakesArrival o (woken_at p c) a first mid × Lived o mid came rest q
+    × (it.beats ≡ first.beats ++ rest.beats) × (it.text ≡ first.text ++ rest.text)

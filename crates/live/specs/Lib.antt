@@ -1,3 +1,4 @@
+pub mod Records
 pub mod Saying
 pub mod Arrivals
 pub mod Broken

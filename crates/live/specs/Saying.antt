@@ -1,5 +1,6 @@
 -- What comes of one line of a live input. (docs/SCRIPT.md, "Live".)
-use Rattle.std.specs.Prelude.{◌≡◌, ◌≢◌, ◌⊎◌, ℕ, ◌+◌, ◌-◌, ◌*◌, ◌^◌, ◌&&◌, not, min, Bool, true, false, List, [], Option, Some, None, if◌then◌else◌}
+use Rattle.std.specs.Prelude.{◌≡◌, ◌≢◌, ◌⊎◌, ℕ, ◌+◌, ◌-◌, ◌*◌, ◌^◌, ◌&&◌, not, min, Bool, true, false, List, [], Option, Some, None, IsSome, if◌then◌else◌}
+use Rattle.host_events.specs.declared.command.Command.{Command}
 use Rattle.host_events.specs.declared.event.Event.{Event}
 use Rattle.host_events.specs.declared.event.Event.TheVariants as event
 use Rattle.session_engine.specs.World.{World, sheet_in}
@@ -11,56 +12,44 @@ use Rattle.child_edge.specs.Told.{told}
 use Rattle.sheet_text.specs.declared.script.ScriptLine.TheVariants as line
 use Rattle.sheet_text.specs.declared.live_line.LiveLine.{LiveLine}
 use Rattle.sheet_text.specs.declared.live_line.LiveLine.TheVariants as live
-use Rattle.tellings.specs.Voice.{Voice, came_text, replied_text}
+use Rattle.tellings.specs.Voice.{Voice, replied_text}
 use Rattle.tellings.specs.declared.note.Note.TheVariants as note
 use Rattle.live.specs.declared.holding.Hold.{Hold}
 use Rattle.live.specs.declared.holding.Hold.TheVariants as hold
+use Rattle.live.specs.Records.{Brought, Clock, Edge}
 
--- The line with this number was done: the entries that came of it, what is written of it, and where the run stands after it. Of a
--- wait nothing comes at once: it holds back the lines after it. No event comes of an interrupt, and all but the children stays.
-abbrev pub SaidDone : {C : Type 0} → Voice → Relation C → ℕ → Option LiveLine → At C → List Beat → List ℕ → At C → Type 0
-SaidDone V R number None s beats text t = (beats ≡ []) × (text ≡ V.note (note.Bad number)) × (t ≡ s)
-SaidDone V R number (Some (live.Script line.Skip)) s beats text t = (beats ≡ []) × (text ≡ V.note (note.Nothing number)) × (t ≡ s)
-SaidDone V R number (Some (live.Script (line.Command c))) s beats text t = Served R s (event.Command c) beats t × (text ≡ replied_text V number (sheet_in t.world) (told beats))
-SaidDone V R number (Some (live.Script line.Wait)) s beats text t = (beats ≡ []) × (text ≡ []) × (t ≡ s)
-SaidDone V R number (Some (live.Script line.Print)) s beats text t = (beats ≡ []) × (text ≡ V.sheet number s.world) × (t ≡ s)
-SaidDone V R number (Some (live.PrintField id)) s beats text t = (beats ≡ []) × (text ≡ V.field number id s.world) × (t ≡ s)
-SaidDone V R number (Some (live.WaitFor seconds)) s beats text t = (beats ≡ []) × (text ≡ []) × (t ≡ s)
-SaidDone V R number (Some (live.Interrupt name)) s beats text t =
-    (beats ≡ []) × ((came : Interrupted) × Interrupts R s.world name s.children came t.children × (text ≡ V.note (note.Interrupted number name came)))
+-- The line with this number was done: what it brought, and where the run stands after it. Of a wait nothing comes at once: it holds back
+-- the lines after it. No event comes of an interrupt, and all but the children stays.
+abbrev pub SaidDone : {C : Type 0} → Edge C → ℕ → Option LiveLine → At C → Brought → At C → Type 0
+SaidDone o number None s it t = (it.beats ≡ []) × (it.text ≡ o.voice.note (note.Bad number)) × (t ≡ s)
+SaidDone o number (Some (live.Script line.Skip)) s it t = (it.beats ≡ []) × (it.text ≡ o.voice.note (note.Nothing number)) × (t ≡ s)
+SaidDone o number (Some (live.Script (line.Command c))) s it t =
+    Served o.after s (event.Command c) it.beats t × (it.text ≡ replied_text o.voice number (sheet_in t.world) (told it.beats))
+SaidDone o number (Some (live.Script line.Wait)) s it t = (it.beats ≡ []) × (it.text ≡ []) × (t ≡ s)
+SaidDone o number (Some (live.Script line.Print)) s it t = (it.beats ≡ []) × (it.text ≡ o.voice.sheet number s.world) × (t ≡ s)
+SaidDone o number (Some (live.PrintField id)) s it t = (it.beats ≡ []) × (it.text ≡ o.voice.field number id s.world) × (t ≡ s)
+SaidDone o number (Some (live.WaitFor seconds)) s it t = (it.beats ≡ []) × (it.text ≡ []) × (t ≡ s)
+SaidDone o number (Some (live.Interrupt name)) s it t =
+    (it.beats ≡ []) × ((came : Interrupted) × Interrupts o.after s.world name s.children came t.children × (it.text ≡ o.voice.note (note.Interrupted number name came)))
     × (t ≡ at s.world t.children s.disk)
 
--- The line came up to this event, at which the host had a fault: these entries of it came before.
+-- The line says a command, and it came up to this event, at which the host had a fault: these entries of it came before.
 abbrev pub SaidUpTo : {C : Type 0} → Relation C → Option LiveLine → At C → List Beat → Event → At C → Type 0
-SaidUpTo R None s beats e t = ⊥
-SaidUpTo R (Some (live.Script line.Skip)) s beats e t = ⊥
-SaidUpTo R (Some (live.Script (line.Command c))) s beats e t = ServedUpTo R s (event.Command c) beats e t
-SaidUpTo R (Some (live.Script line.Wait)) s beats e t = ⊥
-SaidUpTo R (Some (live.Script line.Print)) s beats e t = ⊥
-SaidUpTo R (Some (live.PrintField id)) s beats e t = ⊥
-SaidUpTo R (Some (live.WaitFor seconds)) s beats e t = ⊥
-SaidUpTo R (Some (live.Interrupt name)) s beats e t = ⊥
+SaidUpTo R l s beats e t = (c : Command) × (l ≡ Some (live.Script (line.Command c))) × ServedUpTo R s (event.Command c) beats e t
 
 -- a line that says a command of the host
 abbrev pub IsCommand : Option LiveLine → Type 0
-IsCommand None = ⊥
-IsCommand (Some (live.Script line.Skip)) = ⊥
-IsCommand (Some (live.Script (line.Command c))) = Unit {0}
-IsCommand (Some (live.Script line.Wait)) = ⊥
-IsCommand (Some (live.Script line.Print)) = ⊥
-IsCommand (Some (live.PrintField id)) = ⊥
-IsCommand (Some (live.WaitFor seconds)) = ⊥
-IsCommand (Some (live.Interrupt name)) = ⊥
+IsCommand l = (c : Command) × (l ≡ Some (live.Script (line.Command c)))
+
+-- the moment at which a wait ends by its time, where it has one
+abbrev pub time_of : Hold → Option ℕ
+time_of hold.Free = None
+time_of hold.Wait = None
+time_of (hold.Until end) = Some end
 
 -- a wait that ends by its time
 abbrev pub IsTimed : Hold → Type 0
-IsTimed hold.Free = ⊥
-IsTimed hold.Wait = ⊥
-IsTimed (hold.Until millis) = Unit {0}
-
--- The relation of a clock: the sources, and what it may read while they stand so, in milliseconds.
-abbrev pub Clock : Type 0 → Type 1
-Clock C = C → ℕ → Type 0
+IsTimed held = IsSome (time_of held)
 
 -- the moment so many seconds after this one, or the last one that a clock can read
 abbrev pub seconds_behind : ℕ → ℕ → ℕ

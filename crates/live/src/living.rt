@@ -8,6 +8,7 @@ ghost use Rattle.offline_programs.specs.Faults.{Untouched};
 ghost use Rattle.offline_programs.specs.declared.fault.RunFault.TheVariants as told;
 ghost use Rattle.journal.specs.declared.opening.OpenCause.TheVariants as opens;
 ghost use Rattle.host_events.specs.declared.outcome.HostFault.TheVariants as hosts;
+ghost use Rattle.live.specs.Records.{edge, left, outside};
 ghost use Rattle.live.specs.Live.{LiveDone, TellsLive, begin_at};
 ghost use Rattle.live.specs.Taking.{Ended, EndedBy, LivedThrough, LivingFailed};
 
@@ -33,13 +34,13 @@ fn live_on<R: Read, D: Disk, S: Sources, T: Tells, W: Write>(
     writer: &mut W,
 ) -> Result<(), RunFault>
     ensures same { SameDisk host.old.store.disk host.new.store.disk }
-    ensures ok { (w : World) → IsHost host.old w → OnOk result (LivedThrough T.voice S.after S.clock S.wakes
-        (begin_at w sources.old host.old.store.disk) host.new sources.new
-        (W.contents writer.old) (W.contents writer.new)
+    ensures ok { (w : World) → IsHost host.old w → OnOk result (LivedThrough (edge T.voice S.after S.clock S.wakes)
+        (begin_at w sources.old host.old.store.disk)
+        (left host.new sources.new (W.contents writer.old) (W.contents writer.new))
         (to_come lines.old.held (R.remaining lines.old.reader))) }
-    ensures err { (w : World) → IsHost host.old w → IfErr result (LivingFailed T.voice S.after S.clock S.wakes
-        (begin_at w sources.old host.old.store.disk) host.new sources.new
-        (W.contents writer.old) (W.contents writer.new)
+    ensures err { (w : World) → IsHost host.old w → IfErr result (LivingFailed (edge T.voice S.after S.clock S.wakes)
+        (begin_at w sources.old host.old.store.disk)
+        (left host.new sources.new (W.contents writer.old) (W.contents writer.new))
         (to_come lines.old.held (R.remaining lines.old.reader))) }
 {
     let mut stand = Stand {
@@ -66,13 +67,13 @@ fn live_and_stop<R: Read, D: Disk, S: Sources, T: Tells, W: Write>(
     writer: &mut W,
 ) -> Result<(), RunFault>
     ensures same { SameDisk host.old.store.disk host.new.store.disk }
-    ensures ok { (w : World) → IsHost host.old w → OnOk result (Ended T.voice S.after S.clock S.wakes
-        (begin_at w sources.old host.old.store.disk) host.new sources.new
-        (W.contents writer.old) (W.contents writer.new)
+    ensures ok { (w : World) → IsHost host.old w → OnOk result (Ended (edge T.voice S.after S.clock S.wakes)
+        (begin_at w sources.old host.old.store.disk)
+        (left host.new sources.new (W.contents writer.old) (W.contents writer.new))
         (to_come lines.old.held (R.remaining lines.old.reader))) }
-    ensures err { (w : World) → IsHost host.old w → IfErr result (EndedBy T.voice S.after S.clock S.wakes
-        (begin_at w sources.old host.old.store.disk) host.new sources.new
-        (W.contents writer.old) (W.contents writer.new)
+    ensures err { (w : World) → IsHost host.old w → IfErr result (EndedBy (edge T.voice S.after S.clock S.wakes)
+        (begin_at w sources.old host.old.store.disk)
+        (left host.new sources.new (W.contents writer.old) (W.contents writer.new))
         (to_come lines.old.held (R.remaining lines.old.reader))) }
 {
     let done = live_on(alloc, host, sources, lines, tells, writer);
@@ -112,12 +113,13 @@ pub fn live<R: Read, W: Write, D: Disk, S: Sources, T: Tells>(
 ) -> LiveEnd<D>
 where
     R: Drop,
-    ensures lived { OnOk result.answer (LiveDone T.voice S.after S.clock S.wakes (R.remaining reader) (D.view disk)
-        sources.old sources.new (W.contents writer.old) (W.contents writer.new) (D.view result.disk)) }
+    ensures lived { OnOk result.answer (LiveDone (edge T.voice S.after S.clock S.wakes) (R.remaining reader)
+        (outside (D.view disk) sources.old (W.contents writer.old))
+        (outside (D.view result.disk) sources.new (W.contents writer.new))) }
     ensures same { SameDisk (D.view disk) (D.view result.disk) }
-    ensures fault { IfErr result.answer (TellsLive T.voice S.after S.clock S.wakes (R.remaining reader)
-        (D.view disk) (D.view result.disk) sources.old sources.new
-        (W.contents writer.old) (W.contents writer.new)
+    ensures fault { IfErr result.answer (TellsLive (edge T.voice S.after S.clock S.wakes) (R.remaining reader)
+        (outside (D.view disk) sources.old (W.contents writer.old))
+        (outside (D.view result.disk) sources.new (W.contents writer.new))
         (((writer.new ≡ writer.old) × (sources.new ≡ sources.old))
         × Untouched (D.view disk) (D.view result.disk))) }
 

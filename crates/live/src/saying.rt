@@ -8,6 +8,7 @@ ghost use Rattle.child_edge.specs.Faithful.{at};
 ghost use Rattle.sheet_text.specs.LiveLines.{live_line_of};
 ghost use Rattle.arrivals.specs.Lines.{whole};
 ghost use Rattle.tellings.specs.Voice.{IsUntold};
+ghost use Rattle.live.specs.Records.{edge, left};
 ghost use Rattle.live.specs.Saying.{WaitGoesOn, seconds_behind};
 ghost use Rattle.live.specs.Arrivals.{line as the_line, place};
 ghost use Rattle.live.specs.Taking.{Said, SayingFailed, TakingFailed, TookArrival};
@@ -36,12 +37,12 @@ fn say_interrupt<D: Disk, S: Sources, T: Tells, W: Write>(
     writer: &mut W,
 ) -> Result<Hold, RunFault>
     ensures same { SameDisk host.old.store.disk host.new.store.disk }
-    ensures ok { (w : World) → IsHost host.old w → IfOk result (Said T.voice S.after S.clock number
-        (Some (LiveLine.Interrupt name)) (at w sources.old host.old.store.disk) host.new sources.new
-        (W.contents writer.old) (W.contents writer.new)) }
-    ensures err { (w : World) → IsHost host.old w → IfErr result (SayingFailed T.voice S.after S.clock number
-        (Some (LiveLine.Interrupt name)) (at w sources.old host.old.store.disk) host.new sources.new
-        (W.contents writer.old) (W.contents writer.new)) }
+    ensures ok { (w : World) → IsHost host.old w → IfOk result (Said (edge T.voice S.after S.clock S.wakes)
+        number (Some (LiveLine.Interrupt name)) (at w sources.old host.old.store.disk)
+        (left host.new sources.new (W.contents writer.old) (W.contents writer.new))) }
+    ensures err { (w : World) → IsHost host.old w → IfErr result (SayingFailed (edge T.voice S.after S.clock S.wakes)
+        number (Some (LiveLine.Interrupt name)) (at w sources.old host.old.store.disk)
+        (left host.new sources.new (W.contents writer.old) (W.contents writer.new))) }
 {
     let told = interrupt(host, sources, name);
     match tells.note(Note::Interrupted(number, name, told), writer) {
@@ -72,12 +73,12 @@ pub fn say_command<D: Disk, S: Sources, T: Tells, W: Write>(
     writer: &mut W,
 ) -> Result<Hold, RunFault>
     ensures same { SameDisk host.old.store.disk host.new.store.disk }
-    ensures ok { (w : World) → IsHost host.old w → IfOk result (Said T.voice S.after S.clock number
-        (Some (LiveLine.Script (ScriptLine.Command command))) (at w sources.old host.old.store.disk) host.new sources.new
-        (W.contents writer.old) (W.contents writer.new)) }
-    ensures err { (w : World) → IsHost host.old w → IfErr result (SayingFailed T.voice S.after S.clock number
-        (Some (LiveLine.Script (ScriptLine.Command command))) (at w sources.old host.old.store.disk) host.new sources.new
-        (W.contents writer.old) (W.contents writer.new)) }
+    ensures ok { (w : World) → IsHost host.old w → IfOk result (Said (edge T.voice S.after S.clock S.wakes)
+        number (Some (LiveLine.Script (ScriptLine.Command command))) (at w sources.old host.old.store.disk)
+        (left host.new sources.new (W.contents writer.old) (W.contents writer.new))) }
+    ensures err { (w : World) → IsHost host.old w → IfErr result (SayingFailed (edge T.voice S.after S.clock S.wakes)
+        number (Some (LiveLine.Script (ScriptLine.Command command))) (at w sources.old host.old.store.disk)
+        (left host.new sources.new (W.contents writer.old) (W.contents writer.new))) }
 {
     match serve(alloc, host, sources, command) {
         Ok(replies) => match tells.replies(number, host.sheet(), replies.as_slice(), writer) {
@@ -104,12 +105,12 @@ fn say_script<D: Disk, S: Sources, T: Tells, W: Write>(
     writer: &mut W,
 ) -> Result<Hold, RunFault>
     ensures same { SameDisk host.old.store.disk host.new.store.disk }
-    ensures ok { (w : World) → IsHost host.old w → IfOk result (Said T.voice S.after S.clock number
-        (Some (LiveLine.Script said)) (at w sources.old host.old.store.disk) host.new sources.new
-        (W.contents writer.old) (W.contents writer.new)) }
-    ensures err { (w : World) → IsHost host.old w → IfErr result (SayingFailed T.voice S.after S.clock number
-        (Some (LiveLine.Script said)) (at w sources.old host.old.store.disk) host.new sources.new
-        (W.contents writer.old) (W.contents writer.new)) }
+    ensures ok { (w : World) → IsHost host.old w → IfOk result (Said (edge T.voice S.after S.clock S.wakes)
+        number (Some (LiveLine.Script said)) (at w sources.old host.old.store.disk)
+        (left host.new sources.new (W.contents writer.old) (W.contents writer.new))) }
+    ensures err { (w : World) → IsHost host.old w → IfErr result (SayingFailed (edge T.voice S.after S.clock S.wakes)
+        number (Some (LiveLine.Script said)) (at w sources.old host.old.store.disk)
+        (left host.new sources.new (W.contents writer.old) (W.contents writer.new))) }
 {
     match said {
         ScriptLine::Skip => match tells.note(Note::Nothing(number), writer) {
@@ -138,12 +139,12 @@ fn say<D: Disk, S: Sources, T: Tells, W: Write>(
     writer: &mut W,
 ) -> Result<Hold, RunFault>
     ensures same { SameDisk host.old.store.disk host.new.store.disk }
-    ensures ok { (w : World) → IsHost host.old w → IfOk result (Said T.voice S.after S.clock number
-        (Some said) (at w sources.old host.old.store.disk) host.new sources.new
-        (W.contents writer.old) (W.contents writer.new)) }
-    ensures err { (w : World) → IsHost host.old w → IfErr result (SayingFailed T.voice S.after S.clock number
-        (Some said) (at w sources.old host.old.store.disk) host.new sources.new
-        (W.contents writer.old) (W.contents writer.new)) }
+    ensures ok { (w : World) → IsHost host.old w → IfOk result (Said (edge T.voice S.after S.clock S.wakes)
+        number (Some said) (at w sources.old host.old.store.disk)
+        (left host.new sources.new (W.contents writer.old) (W.contents writer.new))) }
+    ensures err { (w : World) → IsHost host.old w → IfErr result (SayingFailed (edge T.voice S.after S.clock S.wakes)
+        number (Some said) (at w sources.old host.old.store.disk)
+        (left host.new sources.new (W.contents writer.old) (W.contents writer.new))) }
 {
     match said {
         LiveLine::Script(said) => say_script(alloc, host, sources, said, number, tells, writer),
@@ -167,12 +168,12 @@ fn say_line<D: Disk, S: Sources, T: Tells, W: Write>(
     writer: &mut W,
 ) -> Result<Hold, RunFault>
     ensures same { SameDisk host.old.store.disk host.new.store.disk }
-    ensures ok { (w : World) → IsHost host.old w → IfOk result (Said T.voice S.after S.clock number
-        (live_line_of line.now) (at w sources.old host.old.store.disk) host.new sources.new
-        (W.contents writer.old) (W.contents writer.new)) }
-    ensures err { (w : World) → IsHost host.old w → IfErr result (SayingFailed T.voice S.after S.clock number
-        (live_line_of line.now) (at w sources.old host.old.store.disk) host.new sources.new
-        (W.contents writer.old) (W.contents writer.new)) }
+    ensures ok { (w : World) → IsHost host.old w → IfOk result (Said (edge T.voice S.after S.clock S.wakes)
+        number (live_line_of line.now) (at w sources.old host.old.store.disk)
+        (left host.new sources.new (W.contents writer.old) (W.contents writer.new))) }
+    ensures err { (w : World) → IsHost host.old w → IfErr result (SayingFailed (edge T.voice S.after S.clock S.wakes)
+        number (live_line_of line.now) (at w sources.old host.old.store.disk)
+        (left host.new sources.new (W.contents writer.old) (W.contents writer.new))) }
 {
     match read_live_line(alloc, line) {
         Ok(said) => say(alloc, host, sources, said, number, tells, writer),
@@ -196,12 +197,12 @@ pub(crate) fn take_line<D: Disk, S: Sources, T: Tells, W: Write>(
 ) -> Result<Hold, RunFault>
     requires { before + 1 < 2 ^ 64 }
     ensures same { SameDisk host.old.store.disk host.new.store.disk }
-    ensures ok { (w : World) → IsHost host.old w → IfOk result (TookArrival T.voice S.after S.clock
+    ensures ok { (w : World) → IsHost host.old w → IfOk result (TookArrival (edge T.voice S.after S.clock S.wakes)
         (place (at w sources.old host.old.store.disk) before Hold.Free) (the_line (whole line.now))
-        host.new sources.new (W.contents writer.old) (W.contents writer.new) (before + 1)) }
-    ensures err { (w : World) → IsHost host.old w → IfErr result (TakingFailed T.voice S.after S.clock
+        (left host.new sources.new (W.contents writer.old) (W.contents writer.new)) (before + 1)) }
+    ensures err { (w : World) → IsHost host.old w → IfErr result (TakingFailed (edge T.voice S.after S.clock S.wakes)
         (place (at w sources.old host.old.store.disk) before Hold.Free) (the_line (whole line.now))
-        host.new sources.new (W.contents writer.old) (W.contents writer.new)) }
+        (left host.new sources.new (W.contents writer.old) (W.contents writer.new))) }
 {
     match say_line(alloc, host, sources, line, before + 1, tells, writer) {
         Ok(begun) => tell_over(begun, before + 1, host, tells, writer),

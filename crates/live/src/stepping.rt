@@ -5,6 +5,7 @@ ghost use Rattle.session_engine.specs.World.{World};
 ghost use Rattle.session_engine.specs.Host.{IsHost};
 ghost use Rattle.child_edge.specs.Faithful.{at};
 ghost use Rattle.arrivals.specs.Held.{Readiness, to_come};
+ghost use Rattle.live.specs.Records.{between, edge, left, turn, watches};
 ghost use Rattle.live.specs.Arrivals.{WatchTells, place};
 ghost use Rattle.live.specs.Taking.{ComingFailed, MayTurn, Steps, TurnFailed, TurnTook, TurnComes};
 
@@ -39,17 +40,17 @@ fn take_input<R: Read, D: Disk, S: Sources, T: Tells, W: Write>(
     requires { number + 1 < 2 ^ 64 }
     ensures same { SameDisk host.old.store.disk host.new.store.disk }
     ensures ok { (is_there : Bool) (w : World) → Readiness lines.old.held is_there → IsHost host.old w
-        → IfOk result (TurnTook T.voice S.after S.clock
-        (place (at w sources.old host.old.store.disk) number Hold.Free) Woken.Input is_there host.new sources.new
-        (W.contents writer.old) (W.contents writer.new)
-        (to_come lines.old.held (R.remaining lines.old.reader))
-        (to_come lines.new.held (R.remaining lines.new.reader))) }
+        → IfOk result (TurnTook (edge T.voice S.after S.clock S.wakes)
+        (place (at w sources.old host.old.store.disk) number Hold.Free) (turn Woken.Input is_there)
+        (left host.new sources.new (W.contents writer.old) (W.contents writer.new))
+        (between (to_come lines.old.held (R.remaining lines.old.reader))
+        (to_come lines.new.held (R.remaining lines.new.reader)))) }
     ensures err { (is_there : Bool) (w : World) → Readiness lines.old.held is_there → IsHost host.old w
-        → IfErr result (TurnFailed T.voice S.after S.clock
-        (place (at w sources.old host.old.store.disk) number Hold.Free) Woken.Input is_there host.new sources.new
-        (W.contents writer.old) (W.contents writer.new)
-        (to_come lines.old.held (R.remaining lines.old.reader))
-        (to_come lines.new.held (R.remaining lines.new.reader))) }
+        → IfErr result (TurnFailed (edge T.voice S.after S.clock S.wakes)
+        (place (at w sources.old host.old.store.disk) number Hold.Free) (turn Woken.Input is_there)
+        (left host.new sources.new (W.contents writer.old) (W.contents writer.new))
+        (between (to_come lines.old.held (R.remaining lines.old.reader))
+        (to_come lines.new.held (R.remaining lines.new.reader)))) }
     ensures count { IfOk result (λ next. IfSome next (λ stand. stand.number ≤ number + 1)) }
 {
     match lines.next() {
@@ -95,17 +96,17 @@ fn take_turn<R: Read, D: Disk, S: Sources, T: Tells, W: Write>(
     requires turn { MayTurn stand.held woken }
     ensures same { SameDisk host.old.store.disk host.new.store.disk }
     ensures ok { (is_there : Bool) (w : World) → Readiness lines.old.held is_there → IsHost host.old w
-        → IfOk result (TurnTook T.voice S.after S.clock
-        (place (at w sources.old host.old.store.disk) stand.number stand.held) woken is_there host.new sources.new
-        (W.contents writer.old) (W.contents writer.new)
-        (to_come lines.old.held (R.remaining lines.old.reader))
-        (to_come lines.new.held (R.remaining lines.new.reader))) }
+        → IfOk result (TurnTook (edge T.voice S.after S.clock S.wakes)
+        (place (at w sources.old host.old.store.disk) stand.number stand.held) (turn woken is_there)
+        (left host.new sources.new (W.contents writer.old) (W.contents writer.new))
+        (between (to_come lines.old.held (R.remaining lines.old.reader))
+        (to_come lines.new.held (R.remaining lines.new.reader)))) }
     ensures err { (is_there : Bool) (w : World) → Readiness lines.old.held is_there → IsHost host.old w
-        → IfErr result (TurnFailed T.voice S.after S.clock
-        (place (at w sources.old host.old.store.disk) stand.number stand.held) woken is_there host.new sources.new
-        (W.contents writer.old) (W.contents writer.new)
-        (to_come lines.old.held (R.remaining lines.old.reader))
-        (to_come lines.new.held (R.remaining lines.new.reader))) }
+        → IfErr result (TurnFailed (edge T.voice S.after S.clock S.wakes)
+        (place (at w sources.old host.old.store.disk) stand.number stand.held) (turn woken is_there)
+        (left host.new sources.new (W.contents writer.old) (W.contents writer.new))
+        (between (to_come lines.old.held (R.remaining lines.old.reader))
+        (to_come lines.new.held (R.remaining lines.new.reader)))) }
     ensures count { IfOk result (λ next. IfSome next (λ after. after.number ≤ stand.number + 1)) }
 {
     let Stand { number, held } = stand;
@@ -133,8 +134,9 @@ pub fn next_turn<S: Sources>(
     held: Hold,
     is_ready: bool,
 ) -> Result<Woken, WatchFault>
-    ensures ok { IfOk result (TurnComes S.clock S.wakes held sources.old is_ready sources.new) }
-    ensures err { OnErr result (WatchTells S.clock S.wakes held sources.old is_ready None sources.new) }
+    ensures ok { IfOk result (λ woken. TurnComes (watches S.clock S.wakes) held sources.old
+        (turn woken is_ready) sources.new) }
+    ensures err { OnErr result (WatchTells (watches S.clock S.wakes) held sources.old is_ready None sources.new) }
 {
     let now = sources.now();
     if is_over(held, now) {
@@ -155,16 +157,16 @@ pub(crate) fn step<R: Read, D: Disk, S: Sources, T: Tells, W: Write>(
 ) -> Result<Option<Stand>, RunFault>
     requires { stand.number + 1 < 2 ^ 64 }
     ensures same { SameDisk host.old.store.disk host.new.store.disk }
-    ensures ok { (w : World) → IsHost host.old w → IfOk result (Steps T.voice S.after S.clock S.wakes
-        (place (at w sources.old host.old.store.disk) stand.number stand.held) host.new sources.new
-        (W.contents writer.old) (W.contents writer.new)
-        (to_come lines.old.held (R.remaining lines.old.reader))
-        (to_come lines.new.held (R.remaining lines.new.reader))) }
-    ensures err { (w : World) → IsHost host.old w → IfErr result (ComingFailed T.voice S.after S.clock S.wakes
-        (place (at w sources.old host.old.store.disk) stand.number stand.held) host.new sources.new
-        (W.contents writer.old) (W.contents writer.new)
-        (to_come lines.old.held (R.remaining lines.old.reader))
-        (to_come lines.new.held (R.remaining lines.new.reader))) }
+    ensures ok { (w : World) → IsHost host.old w → IfOk result (Steps (edge T.voice S.after S.clock S.wakes)
+        (place (at w sources.old host.old.store.disk) stand.number stand.held)
+        (left host.new sources.new (W.contents writer.old) (W.contents writer.new))
+        (between (to_come lines.old.held (R.remaining lines.old.reader))
+        (to_come lines.new.held (R.remaining lines.new.reader)))) }
+    ensures err { (w : World) → IsHost host.old w → IfErr result (ComingFailed (edge T.voice S.after S.clock S.wakes)
+        (place (at w sources.old host.old.store.disk) stand.number stand.held)
+        (left host.new sources.new (W.contents writer.old) (W.contents writer.new))
+        (between (to_come lines.old.held (R.remaining lines.old.reader))
+        (to_come lines.new.held (R.remaining lines.new.reader)))) }
     ensures count { IfOk result (λ next. IfSome next (λ after. after.number ≤ stand.number + 1)) }
 {
     match next_turn(sources, stand.held, lines.is_ready()) {

@@ -6,6 +6,7 @@ ghost use Rattle.session_engine.specs.Host.{IsHost};
 ghost use Rattle.child_edge.specs.Broken.{TurnSoFar, TurnStopped};
 ghost use Rattle.child_edge.specs.Edge.{BrokeOff, ByCause, Ran};
 ghost use Rattle.child_edge.specs.Faithful.{at, EachOf, Taken};
+ghost use Rattle.live.specs.Records.{edge, left};
 ghost use Rattle.live.specs.Saying.{IsTimed};
 ghost use Rattle.live.specs.Arrivals.{life, place, time_over};
 ghost use Rattle.live.specs.Taking.{Heard, HearingFailed, Stalled, StallingFailed, TakingFailed, TookArrival};
@@ -36,12 +37,12 @@ pub fn hear<D: Disk, S: Sources, T: Tells, W: Write>(
     writer: &mut W,
 ) -> Result<(), RunFault>
     ensures same { SameDisk host.old.store.disk host.new.store.disk }
-    ensures ok { (w : World) → IsHost host.old w → OnOk result (Heard T.voice S.after seat
-        (at w sources.old host.old.store.disk) host.new sources.new
-        (W.contents writer.old) (W.contents writer.new)) }
-    ensures err { (w : World) → IsHost host.old w → IfErr result (HearingFailed T.voice S.after seat
-        (at w sources.old host.old.store.disk) host.new sources.new
-        (W.contents writer.old) (W.contents writer.new)) }
+    ensures ok { (w : World) → IsHost host.old w → OnOk result (Heard (edge T.voice S.after S.clock S.wakes)
+        seat (at w sources.old host.old.store.disk)
+        (left host.new sources.new (W.contents writer.old) (W.contents writer.new))) }
+    ensures err { (w : World) → IsHost host.old w → IfErr result (HearingFailed (edge T.voice S.after S.clock S.wakes)
+        seat (at w sources.old host.old.store.disk)
+        (left host.new sources.new (W.contents writer.old) (W.contents writer.new))) }
 {
     let mut replies = Vec::new(alloc);
     let taken = listen(host, sources, seat, &mut replies);
@@ -65,12 +66,12 @@ pub(crate) fn take_life<D: Disk, S: Sources, T: Tells, W: Write>(
     writer: &mut W,
 ) -> Result<Hold, RunFault>
     ensures same { SameDisk host.old.store.disk host.new.store.disk }
-    ensures ok { (w : World) → IsHost host.old w → IfOk result (TookArrival T.voice S.after S.clock
-        (place (at w sources.old host.old.store.disk) stand.number stand.held) (life seat) host.new sources.new
-        (W.contents writer.old) (W.contents writer.new) stand.number) }
-    ensures err { (w : World) → IsHost host.old w → IfErr result (TakingFailed T.voice S.after S.clock
-        (place (at w sources.old host.old.store.disk) stand.number stand.held) (life seat) host.new sources.new
-        (W.contents writer.old) (W.contents writer.new)) }
+    ensures ok { (w : World) → IsHost host.old w → IfOk result (TookArrival (edge T.voice S.after S.clock S.wakes)
+        (place (at w sources.old host.old.store.disk) stand.number stand.held) (life seat)
+        (left host.new sources.new (W.contents writer.old) (W.contents writer.new)) stand.number) }
+    ensures err { (w : World) → IsHost host.old w → IfErr result (TakingFailed (edge T.voice S.after S.clock S.wakes)
+        (place (at w sources.old host.old.store.disk) stand.number stand.held) (life seat)
+        (left host.new sources.new (W.contents writer.old) (W.contents writer.new))) }
 {
     match hear(alloc, host, sources, seat, tells, writer) {
         Ok(()) => tell_over(stand.held, stand.number, host, tells, writer),
@@ -115,12 +116,12 @@ pub fn tell_stalled<D: Disk, S: Sources, T: Tells, W: Write>(
     writer: &mut W,
 ) -> Result<(), RunFault>
     ensures same { SameDisk host.old.store.disk host.new.store.disk }
-    ensures ok { (w : World) → IsHost host.old w → OnOk result (Stalled T.voice S.after seats.now
-        (at w sources.old host.old.store.disk) host.new sources.new
-        (W.contents writer.old) (W.contents writer.new)) }
-    ensures err { (w : World) → IsHost host.old w → IfErr result (StallingFailed T.voice S.after seats.now
-        (at w sources.old host.old.store.disk) host.new sources.new
-        (W.contents writer.old) (W.contents writer.new)) }
+    ensures ok { (w : World) → IsHost host.old w → OnOk result (Stalled (edge T.voice S.after S.clock S.wakes)
+        seats.now (at w sources.old host.old.store.disk)
+        (left host.new sources.new (W.contents writer.old) (W.contents writer.new))) }
+    ensures err { (w : World) → IsHost host.old w → IfErr result (StallingFailed (edge T.voice S.after S.clock S.wakes)
+        seats.now (at w sources.old host.old.store.disk)
+        (left host.new sources.new (W.contents writer.old) (W.contents writer.new))) }
 {
     let mut replies = Vec::new(alloc);
     let taken = stall_each(host, sources, seats, &mut replies);
@@ -143,12 +144,12 @@ pub(crate) fn end_wait<D: Disk, S: Sources, T: Tells, W: Write>(
     writer: &mut W,
 ) -> Result<(), RunFault>
     ensures same { SameDisk host.old.store.disk host.new.store.disk }
-    ensures ok { (held : Hold) (w : World) → IsTimed held → IsHost host.old w → OnOk result (TookArrival T.voice S.after S.clock
-        (place (at w sources.old host.old.store.disk) number held) time_over host.new sources.new
-        (W.contents writer.old) (W.contents writer.new) number Hold.Free) }
-    ensures err { (held : Hold) (w : World) → IsTimed held → IsHost host.old w → IfErr result (TakingFailed T.voice S.after S.clock
-        (place (at w sources.old host.old.store.disk) number held) time_over host.new sources.new
-        (W.contents writer.old) (W.contents writer.new)) }
+    ensures ok { (held : Hold) (w : World) → IsTimed held → IsHost host.old w → OnOk result (TookArrival (edge T.voice S.after S.clock S.wakes)
+        (place (at w sources.old host.old.store.disk) number held) time_over
+        (left host.new sources.new (W.contents writer.old) (W.contents writer.new)) number Hold.Free) }
+    ensures err { (held : Hold) (w : World) → IsTimed held → IsHost host.old w → IfErr result (TakingFailed (edge T.voice S.after S.clock S.wakes)
+        (place (at w sources.old host.old.store.disk) number held) time_over
+        (left host.new sources.new (W.contents writer.old) (W.contents writer.new))) }
 {
     let Ok(seats) = waiting_lives(alloc, host) else {
         return Err(RunFault::OutOfMemory);

@@ -1,4 +1,4 @@
-use Rattle.std.proofs.Common.{inl, refl, sym, subst}
+use Rattle.std.proofs.Common.{refl, sym, subst}
 use Rattle.std.proofs.lemmas.Result.{on_ok_weaker}
 use Rattle.session_engine.specs.World.{world_at_opening}
 use Rattle.host_events.specs.declared.outcome.HostFault.TheVariants as hosts
@@ -9,7 +9,8 @@ use Rattle.arrivals.specs.Held.{to_come}
 use Rattle.offline_programs.proofs.Shows.{untouched}
 use Rattle.offline_programs.specs.declared.fault.RunFault.TheVariants as told
 use Rattle.sheet_programs.proofs.Runs.{opened_on, if_err_is, if_err_then}
-use Rattle.live.specs.Live.{begin_at}
+use Rattle.live.specs.Records.{edge, left}
+use Rattle.live.specs.Live.{begin_at, not_begun, unopened}
 use Rattle.live.proofs.Ends.{live_done, live_failed, live_failed_since, ended_open}
 use Rattle.live.proofs.living.live.Goals as goal
 
@@ -17,7 +18,10 @@ pub returns-in_default-clause-same : goal.returns-in_default-clause-same
 returns-in_default-clause-same g c = same-at (g.D.Disk.view c.args.disk)
 
 pub returns-in_default-clause-fault : goal.returns-in_default-clause-fault
-returns-in_default-clause-fault g c = inl ((refl, refl), untouched (g.D.Disk.view c.args.disk))
+returns-in_default-clause-fault g c = not_begun ((refl, refl), untouched (g.D.Disk.view c.args.disk))
+
+pub returns-in-Err-clause-fault : goal.returns-in-Err-clause-fault
+returns-in-Err-clause-fault g c = unopened c.in-Err.field-0.cause ((refl, refl), c.in-Err.ensures.looks) c.in-Err.ensures.fault
 
 pub returns-clause-lived : goal.returns-clause-lived
 returns-clause-lived g c =
@@ -25,10 +29,10 @@ returns-clause-lived g c =
     let disk = g.D.Disk.view c.args.disk in
     let start = world_at_opening o.0 disk.room c.in-Ok-open.host.store.end in
     on_ok_weaker c.live_and_stop-answer.result
-    (λ t. live_done g.T.Tells.voice g.S.Children.after g.S.Sources.clock g.S.Sources.wakes (g.R.Read.remaining c.args.reader) disk c.in-Ok-open.host.store.disk c.args.sources.now c.live_and_stop-answer.new.sources
+    (λ t. live_done (edge g.T.Tells.voice g.S.Children.after g.S.Sources.clock g.S.Sources.wakes) (g.R.Read.remaining c.args.reader) disk c.in-Ok-open.host.store.disk c.args.sources.now c.live_and_stop-answer.new.sources
     (g.W.Write.contents c.args.writer.now) (g.W.Write.contents c.live_and_stop-answer.new.writer) start c.live_and_stop-answer.new.host (to_come c.in-Ok.lines.held (g.R.Read.remaining c.in-Ok.lines.reader))
     (opened_on disk c.in-Ok-open.host o.0 o.1 c.in-Ok-open.ensures.found c.in-Ok-open.ensures.ends c.in-Ok-open.ensures.looks) o.1.stands.images c.in-Ok.ensures.lines
-    (g.D.Disk.view c.close.result) t c.close.ensures)
+    (g.D.Disk.view c.close.result) c.close.ensures t)
     (c.live_and_stop-answer.ensures.ok start o.1)
 
 pub returns-clause-same : goal.returns-clause-same
@@ -42,7 +46,7 @@ returns-clause-fault g c =
     let disk = g.D.Disk.view c.args.disk in
     let start = world_at_opening o.0 disk.room c.in-Ok-open.host.store.end in
     if_err_then c.live_and_stop-answer.result _ _
-    (λ f t. live_failed g.T.Tells.voice g.S.Children.after g.S.Sources.clock g.S.Sources.wakes (g.R.Read.remaining c.args.reader) disk c.in-Ok-open.host.store.disk c.args.sources.now c.live_and_stop-answer.new.sources
+    (λ f t. live_failed (edge g.T.Tells.voice g.S.Children.after g.S.Sources.clock g.S.Sources.wakes) (g.R.Read.remaining c.args.reader) disk c.in-Ok-open.host.store.disk c.args.sources.now c.live_and_stop-answer.new.sources
     (g.W.Write.contents c.args.writer.now) (g.W.Write.contents c.live_and_stop-answer.new.writer) start c.live_and_stop-answer.new.host (to_come c.in-Ok.lines.held (g.R.Read.remaining c.in-Ok.lines.reader))
     (opened_on disk c.in-Ok-open.host o.0 o.1 c.in-Ok-open.ensures.found c.in-Ok-open.ensures.ends c.in-Ok-open.ensures.looks) o.1.stands.images c.in-Ok.ensures.lines
     (g.D.Disk.view c.close.result) c.close.ensures _ f t)
@@ -53,9 +57,8 @@ returns-clause-unopened g c = λ e.
     let o = c.in-Ok-open.ensures.opens in
     let disk = g.D.Disk.view c.args.disk in
     let start = world_at_opening o.0 disk.room c.in-Ok-open.host.store.end in
-    absurd (ended_open g.T.Tells.voice g.S.Children.after g.S.Sources.clock g.S.Sources.wakes (begin_at start c.args.sources.now c.in-Ok-open.host.store.disk) c.live_and_stop-answer.new.host c.live_and_stop-answer.new.sources
-    (g.W.Write.contents c.args.writer.now) (g.W.Write.contents c.live_and_stop-answer.new.writer) (to_come c.in-Ok.lines.held (g.R.Read.remaining c.in-Ok.lines.reader)) (told.Open opens.Disk) opens.Disk
-    (if_err_is c.live_and_stop-answer.result _ (told.Open opens.Disk) e (c.live_and_stop-answer.ensures.err start o.1)) refl)
+    absurd (ended_open (edge g.T.Tells.voice g.S.Children.after g.S.Sources.clock g.S.Sources.wakes) (begin_at start c.args.sources.now c.in-Ok-open.host.store.disk) (left c.live_and_stop-answer.new.host c.live_and_stop-answer.new.sources (g.W.Write.contents c.args.writer.now) (g.W.Write.contents c.live_and_stop-answer.new.writer)) (to_come c.in-Ok.lines.held (g.R.Read.remaining c.in-Ok.lines.reader)) opens.Disk
+    (if_err_is c.live_and_stop-answer.result _ (told.Open opens.Disk) e (c.live_and_stop-answer.ensures.err start o.1)))
 
 pub returns-clause-failed : goal.returns-clause-failed
 returns-clause-failed g c = λ e.
@@ -64,6 +67,5 @@ returns-clause-failed g c = λ e.
     let host = c.live_and_stop-answer.new.host in
     let start = world_at_opening o.0 disk.room c.in-Ok-open.host.store.end in
     subst (λ (v : DiskView). Rises disk.faults v.faults) (sym c.close.ensures)
-    (live_failed_since g.T.Tells.voice g.S.Children.after g.S.Sources.clock g.S.Sources.wakes disk c.in-Ok-open.host.store.disk start c.args.sources.now c.live_and_stop-answer.new.sources host
-    (g.W.Write.contents c.args.writer.now) (g.W.Write.contents c.live_and_stop-answer.new.writer) (to_come c.in-Ok.lines.held (g.R.Read.remaining c.in-Ok.lines.reader)) (told.Host hosts.Disk) c.in-Ok-open.ensures.same
-    (if_err_is c.live_and_stop-answer.result _ (told.Host hosts.Disk) e (c.live_and_stop-answer.ensures.err start o.1)) refl)
+    (live_failed_since (edge g.T.Tells.voice g.S.Children.after g.S.Sources.clock g.S.Sources.wakes) disk c.in-Ok-open.host.store.disk start c.args.sources.now (left host c.live_and_stop-answer.new.sources (g.W.Write.contents c.args.writer.now) (g.W.Write.contents c.live_and_stop-answer.new.writer)) (to_come c.in-Ok.lines.held (g.R.Read.remaining c.in-Ok.lines.reader)) c.in-Ok-open.ensures.same
+    (if_err_is c.live_and_stop-answer.result _ (told.Host hosts.Disk) e (c.live_and_stop-answer.ensures.err start o.1)))
