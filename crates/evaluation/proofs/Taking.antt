@@ -1,10 +1,12 @@
 -- What came of a step.
 use Rattle.std.proofs.Common.{◌≡◌, ◌+◌, inl, inr, ℕ, true, false, List, [], Option, Some, None, refl, sym, subst}
 use Rattle.host_events.specs.declared.command.Command.TheVariants as command
+use Rattle.host_events.specs.declared.event.Event.{Event}
+use Rattle.host_events.specs.declared.event.Event.TheVariants as event
 use Rattle.session_engine.specs.World.{sheet_in}
 use Rattle.session_engine.specs.Host.{HostView}
 use Rattle.child_calls.specs.declared.seat.Seat.{Seat}
-use Rattle.child_edge.specs.Faithful.{At, at, Beat, EachOf, Taken}
+use Rattle.child_edge.specs.Faithful.{At, at, Beat, EachOf, ServedUpTo, Taken}
 use Rattle.child_edge.specs.Seats.{waits}
 use Rattle.child_edge.specs.Told.{told}
 use Rattle.arrivals.specs.declared.sources.Woken.{Woken}
@@ -17,14 +19,15 @@ use Rattle.offline_programs.specs.declared.fault.RunFault.TheVariants as fault
 use Rattle.tellings.specs.Voice.{IsUntold, came_text}
 use Rattle.live.specs.declared.holding.Hold.{Hold}
 use Rattle.live.specs.declared.holding.Hold.TheVariants as hold
-use Rattle.live.specs.Saying.{WaitGoesOn}
+use Rattle.live.specs.Records.{left, turn}
+use Rattle.live.specs.Saying.{SaidUpTo, WaitGoesOn}
 use Rattle.live.specs.Arrivals.{time_over}
 use Rattle.live.specs.Taking.{TurnComes, Heard, HeardLed, HeardUnwritten, HearingFailed, Said, SaidLed, SaidUnwritten, SayingFailed, Stalled, StallingLed, StalledUnwritten, StallingFailed}
 use Rattle.live.specs.Taking as lives
 use Rattle.live.proofs.Coming.{comes_by, told_life}
 use Rattle.evaluation.specs.declared.plan.Stand.{Stand}
 use Rattle.evaluation.specs.Meant.{IsAsked, line_behind}
-use Rattle.evaluation.specs.Steps.{Setting, EvalPlace, Step, ask, heard, over, stalled, LimitBegins, StepComes, WatchesAt, asked_at, fields_at, held_at, woken_in}
+use Rattle.evaluation.specs.Steps.{Setting, EvalPlace, Step, ask, heard, over, stalled, LimitBegins, StepComes, WatchesAt, asked_at, edge_of, fields_at, held_at, watches_of, woken_in}
 use Rattle.evaluation.specs.Broken.{StepLed, StepSoFar, StepUpTo}
 use Rattle.evaluation.specs.Broken as broken
 use Rattle.evaluation.specs.inside.Stepping.{IsOf, IsTimeOf, StepFailed, StepTook, TakingFailed, Took, TookUnwritten, TurnFailed, Turned}
@@ -51,20 +54,16 @@ module _ {C : Type 0} (o : Setting C) (p : EvalPlace C) (h : HostView) (c : C) (
   led-life seat t (lives.up_to beats e q) = (beats, broken.up_to e q)
   led-life seat t (lives.none q) = ([], broken.so_far (refl, q))
 
-  life-unwritten : (seat : Seat) → HeardUnwritten o.after seat p.run h c → TookUnwritten o p (heard seat) h c
+  life-unwritten : (seat : Seat) → HeardUnwritten (edge_of o) seat p.run (left h c a b) → TookUnwritten o p (heard seat) h c
   life-unwritten seat q = let led = led-life seat (at q.0 c q.1) q.2 in (led.0, q.0, q.1, led.1, q.3)
 
-  pub life_failed : (seat : Seat) (f : RunFault) → HearingFailed o.voice o.after seat p.run h c a b f → TakingFailed o p (heard seat) h c a b f
-  life_failed seat (fault.Host f) q = q
-  life_failed seat fault.OutOfMemory (inl q) = inl ([], q.0, (refl, q.1), q.2, q.3)
-  life_failed seat fault.OutOfMemory (inr q) = inr (q.0, life-unwritten seat q.1)
-  life_failed seat fault.Output q = life-unwritten seat q
-  life_failed seat fault.Input q = absurd q
-  life_failed seat fault.InputTooLong q = absurd q
-  life_failed seat (fault.Open why) q = absurd q
-  life_failed seat fault.InUse q = absurd q
+  pub life_failed : (seat : Seat) (f : RunFault) → HearingFailed (edge_of o) seat p.run (left h c a b) f → TakingFailed o p (heard seat) h c a b f
+  life_failed seat f (lives.stopped why beats e t x q stopped wrote) = (beats, e, t, x, q, stopped, wrote)
+  life_failed seat f (lives.refused t q stands wrote) = inl ([], t, (refl, q), stands, wrote)
+  life_failed seat f (lives.untold why q) = inr (why, life-unwritten seat q)
+  life_failed seat f (lives.unwritten q) = life-unwritten seat q
 
-  pub life_took : (seat : Seat) (held : Hold) (stand : Stand) (q : Heard o.voice o.after seat p.run h c a b) → WaitGoesOn p.stand.held q.1 held → stand ≡ held_at p.stand held → Took o p (heard seat) h c a b stand
+  pub life_took : (seat : Seat) (held : Hold) (stand : Stand) (q : Heard (edge_of o) seat p.run (left h c a b)) → WaitGoesOn p.stand.held q.1 held → stand ≡ held_at p.stand held → Took o p (heard seat) h c a b stand
   life_took seat held stand q on is = (q.0, came_text o.voice (sheet_in q.1) (told q.0), q.1, ((q.2, refl), (held, on, is)), q.3, q.4)
 
   -- The two seconds of an interrupted one.
@@ -77,20 +76,16 @@ module _ {C : Type 0} (o : Setting C) (p : EvalPlace C) (h : HostView) (c : C) (
   led-grace t (lives.first beats q) = (beats, broken.so_far q)
   led-grace t (lives.up_to beats e q) = (beats, broken.up_to e q)
 
-  grace-unwritten : StalledUnwritten o.after (waits p.run.world) p.run h c → TookUnwritten o p stalled h c
+  grace-unwritten : StalledUnwritten (edge_of o) (waits p.run.world) p.run (left h c a b) → TookUnwritten o p stalled h c
   grace-unwritten q = let led = led-grace (at q.0 c q.1) q.2 in (led.0, q.0, q.1, led.1, q.3)
 
-  pub grace_failed : (f : RunFault) → StallingFailed o.voice o.after (waits p.run.world) p.run h c a b f → TakingFailed o p stalled h c a b f
-  grace_failed (fault.Host f) q = q
-  grace_failed fault.OutOfMemory (inl q) = inl q
-  grace_failed fault.OutOfMemory (inr q) = inr (q.0, grace-unwritten q.1)
-  grace_failed fault.Output q = grace-unwritten q
-  grace_failed fault.Input q = absurd q
-  grace_failed fault.InputTooLong q = absurd q
-  grace_failed (fault.Open why) q = absurd q
-  grace_failed fault.InUse q = absurd q
+  pub grace_failed : (f : RunFault) → StallingFailed (edge_of o) (waits p.run.world) p.run (left h c a b) f → TakingFailed o p stalled h c a b f
+  grace_failed f (lives.stopped why beats e t x q stopped wrote) = (beats, e, t, x, q, stopped, wrote)
+  grace_failed f (lives.refused beats t q stands wrote) = inl (beats, t, q, stands, wrote)
+  grace_failed f (lives.untold why q) = inr (why, grace-unwritten q)
+  grace_failed f (lives.unwritten q) = grace-unwritten q
 
-  pub grace_took : (stand : Stand) (q : Stalled o.voice o.after (waits p.run.world) p.run h c a b) → stand ≡ held_at p.stand hold.Free → Took o p stalled h c a b stand
+  pub grace_took : (stand : Stand) (q : Stalled (edge_of o) (waits p.run.world) p.run (left h c a b)) → stand ≡ held_at p.stand hold.Free → Took o p stalled h c a b stand
   grace_took stand q is = (q.0, came_text o.voice (sheet_in q.1) (told q.0), q.1, ((q.2, refl), is), q.3, q.4)
 
   -- A field that is asked.
@@ -99,44 +94,46 @@ module _ {C : Type 0} (o : Setting C) (p : EvalPlace C) (h : HostView) (c : C) (
     abbrev its-line : Option LiveLine
     its-line = Some (live.Script (line.Command (command.Eval id)))
 
-    led-ask : (t : At C) → SaidLed o.voice o.after o.clock its-line p.run t → (beats : List Beat) × StepLed o p (ask k id) beats t
-    led-ask t (lives.all begun begins done) = let said = done (line_behind (k + 1)) in (said.0, broken.whole said.1 (is, said.2.0, said.2.1))
-    led-ask t (lives.up_to beats e q) = (beats, broken.up_to e (is, q))
+    -- the command is the one that is asked
+    its-command : (beats : List Beat) (e : Event) (t : At C) → SaidUpTo o.after its-line p.run beats e t → ServedUpTo o.after p.run (event.Command (command.Eval id)) beats e t
+    its-command beats e t q =
+        let same : command.Eval id ≡ q.0 = cc in
+        subst (λ c. ServedUpTo o.after p.run (event.Command c) beats e t) (sym same) q.2
+
+    led-ask : (t : At C) → SaidLed (edge_of o) its-line p.run t → (beats : List Beat) × StepLed o p (ask k id) beats t
+    led-ask t (lives.all begun begins done) = let said = done (line_behind (k + 1)) in (said.0.beats, broken.whole said.0.text (is, said.1.0, said.1.1))
+    led-ask t (lives.up_to beats e q) = (beats, broken.up_to e (is, its-command beats e t q))
     led-ask t (lives.none command q) = ([], broken.so_far (is, refl, q))
 
-    ask-unwritten : SaidUnwritten o.voice o.after o.clock its-line p.run h c → TookUnwritten o p (ask k id) h c
+    ask-unwritten : SaidUnwritten (edge_of o) its-line p.run (left h c a b) → TookUnwritten o p (ask k id) h c
     ask-unwritten q = let led = led-ask (at q.0 c q.1) q.2 in (led.0, q.0, q.1, led.1, q.3)
 
-    pub ask_failed : (f : RunFault) → SayingFailed o.voice o.after o.clock (line_behind (k + 1)) its-line p.run h c a b f → TakingFailed o p (ask k id) h c a b f
-    ask_failed (fault.Host f) q = (q.0, q.1, q.2, q.3, (is, q.4), q.5, q.6)
-    ask_failed fault.OutOfMemory (inl q) = inl ([], q.1, (is, refl, q.2), q.3, q.4)
-    ask_failed fault.OutOfMemory (inr q) = inr (q.0, ask-unwritten q.1)
-    ask_failed fault.Output q = ask-unwritten q
-    ask_failed fault.Input q = absurd q
-    ask_failed fault.InputTooLong q = absurd q
-    ask_failed (fault.Open why) q = absurd q
-    ask_failed fault.InUse q = absurd q
+    pub ask_failed : (f : RunFault) → SayingFailed (edge_of o) (line_behind (k + 1)) its-line p.run (left h c a b) f → TakingFailed o p (ask k id) h c a b f
+    ask_failed f (lives.stopped why beats e t x q stopped wrote) = (beats, e, t, x, (is, its-command beats e (at t c x) q), stopped, wrote)
+    ask_failed f (lives.refused command t q stands wrote) = inl ([], t, (is, refl, q), stands, wrote)
+    ask_failed f (lives.untold why q) = inr (why, ask-unwritten q)
+    ask_failed f (lives.unwritten q) = ask-unwritten q
 
-    pub ask_took : (free begun held : Hold) (stand : Stand) (q : Said o.voice o.after o.clock (line_behind (k + 1)) its-line p.run h c a b free) → LimitBegins o.clock c o.plan.limit begun → WaitGoesOn begun q.2 held
+    pub ask_took : (free begun held : Hold) (stand : Stand) (q : Said (edge_of o) (line_behind (k + 1)) its-line p.run (left h c a b) free) → LimitBegins o.clock c o.plan.limit begun → WaitGoesOn begun q.1 held
         → stand ≡ asked_at p.stand k id held → Took o p (ask k id) h c a b stand
-    ask_took none begun held stand q limits on is-stand = (q.0, q.1, q.2, ((is, q.3.0, q.3.1), (begun, held, limits, on, is-stand)), q.5, q.6)
+    ask_took none begun held stand q limits on is-stand = (q.0.beats, q.0.text, q.1, ((is, q.2.0, q.2.1), (begun, held, limits, on, is-stand)), q.4, q.5)
 
 -- A turn.
 
 module _ {C : Type 0} (o : Setting C) (p : EvalPlace C) (d : C) where
   abbrev pub TurnsTo : Woken → Type 0
-  TurnsTo told_of = TurnComes o.clock o.wakes p.stand.held p.run.children false d told_of
+  TurnsTo told_of = TurnComes (watches_of o) p.stand.held p.run.children (turn told_of false) d
 
   time-comes : (s : Step) → WatchesAt o p → TurnsTo woken.TimeOver → IsTimeOf o (woken_in p d) s → StepComes o p s d
   time-comes (ask k id) due turn is = absurd is
   time-comes (heard seat) due turn is = absurd is
-  time-comes (over n id) due turn is = inl (is.0, due, is.1, turn.0, comes_by o.clock o.wakes p.stand.held p.run.children false d woken.TimeOver time_over turn tt)
-  time-comes stalled due turn is = (is, due, turn.0, comes_by o.clock o.wakes p.stand.held p.run.children false d woken.TimeOver time_over turn tt)
+  time-comes (over n id) due comes is = inl (is.0, due, is.1, comes.0, comes_by (watches_of o) p.stand.held p.run.children (turn woken.TimeOver false) d time_over comes refl)
+  time-comes stalled due comes is = (is, due, comes.0, comes_by (watches_of o) p.stand.held p.run.children (turn woken.TimeOver false) d time_over comes refl)
 
   pub comes_of : (told_of : Woken) (s : Step) → WatchesAt o p → TurnsTo told_of → IsOf o (woken_in p d) told_of s → StepComes o p s d
   comes_of woken.Input s due turn is = absurd is
-  comes_of (woken.Life seat) s due turn is =
-      subst (λ (x : Step). StepComes o p x d) (sym is) (due, told_life o.clock o.wakes p.stand.held p.run.children false d seat turn.1)
+  comes_of (woken.Life seat) s due comes is =
+      subst (λ (x : Step). StepComes o p x d) (sym is) (due, told_life (watches_of o) p.stand.held p.run.children false d seat comes.1)
   comes_of woken.TimeOver s due turn is = time-comes s due turn is
 
   module _ (h : HostView) (c : C) (a b : Option (List ℕ)) where

@@ -8,8 +8,8 @@ use Rattle.child_edge.specs.Faithful.{Relation, At, at, Beat}
 use Rattle.offline_programs.specs.declared.fault.RunFault.{RunFault}
 use Rattle.offline_programs.specs.declared.fault.RunFault.TheVariants as fault
 use Rattle.live.specs.declared.holding.Hold.{Hold}
-use Rattle.live.specs.Saying.{Clock, WaitGoesOn}
-use Rattle.live.specs.Arrivals.{Watch}
+use Rattle.live.specs.Records.{Clock, Watch}
+use Rattle.live.specs.Saying.{WaitGoesOn}
 use Rattle.evaluation.specs.declared.plan.Plan.{Plan}
 use Rattle.evaluation.specs.declared.plan.Stand.{Stand}
 use Rattle.evaluation.specs.Steps.{Setting, EvalPlace, LimitBegins, setting, stands}

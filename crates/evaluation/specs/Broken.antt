@@ -9,7 +9,7 @@ use Rattle.child_edge.specs.Broken.{TurnStopped, TurnSoFar}
 use Rattle.child_edge.specs.Seats.{waits}
 use Rattle.live.specs.Arrivals.{WatchTells}
 use Rattle.evaluation.specs.Meant.{IsAsked}
-use Rattle.evaluation.specs.Steps.{Setting, EvalPlace, Step, ask, heard, over, stalled, StepComes, StepDone, StepsTaken, fields_at, step_text, woken_in}
+use Rattle.evaluation.specs.Steps.{Setting, EvalPlace, Step, ask, heard, over, stalled, StepComes, StepDone, StepsTaken, fields_at, step_text, woken_in, watches_of}
 
 -- A step came up to this event, at which the host had a fault: these entries of it came before.
 abbrev pub StepUpTo : {C : Type 0} → Setting C → Event → EvalPlace C → Step → List Beat → At C → Type 0
@@ -50,7 +50,7 @@ pub record Cut {C : Type 0} (o : Setting C) (p : EvalPlace C) (Last : EvalPlace 
 -- All that came was taken, and then the sources couldn't be watched any more.
 abbrev pub Unwatched : {C : Type 0} → Setting C → EvalPlace C → List Beat → List ℕ → At C → Type 0
 Unwatched {C = C} o p beats text t =
-    (steps : List Step) × (q : EvalPlace C) × StepsTaken o p steps beats text q × WatchTells o.clock o.wakes q.stand.held q.run.children false None t.children
+    (steps : List Step) × (q : EvalPlace C) × StepsTaken o p steps beats text q × WatchTells (watches_of o) q.stand.held q.run.children false None t.children
     × (t ≡ at q.run.world t.children q.run.disk)
 
 -- As many steps were taken as are counted.

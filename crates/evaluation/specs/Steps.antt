@@ -18,8 +18,9 @@ use Rattle.tellings.specs.Voice.{Voice, came_text, replied_text}
 use Rattle.tellings.specs.declared.note.Note.TheVariants as note
 use Rattle.live.specs.declared.holding.Hold.{Hold}
 use Rattle.live.specs.declared.holding.Hold.TheVariants as hold
-use Rattle.live.specs.Saying.{Clock, IsTimed, WaitGoesOn, is_held, seconds_behind}
-use Rattle.live.specs.Arrivals.{Watch, WatchTells, Comes, time_over}
+use Rattle.live.specs.Records.{Clock, Edge, Watch, Watches, edge, watches}
+use Rattle.live.specs.Saying.{IsTimed, WaitGoesOn, is_held, seconds_behind}
+use Rattle.live.specs.Arrivals.{WatchTells, Comes, time_over}
 use Rattle.evaluation.specs.declared.plan.Plan.{Plan}
 use Rattle.evaluation.specs.declared.plan.Stand.{Stand}
 use Rattle.evaluation.specs.Meant.{IsAsked, line_behind}
@@ -36,6 +37,14 @@ pub record Setting (C : Type 0) : Type 1 where
 
 abbrev pub setting : {C : Type 0} → Voice → Relation C → Clock C → Watch C → Plan → List ℕ → Setting C
 setting V R K W plan meant = record { voice = V; after = R; clock = K; wakes = W; plan = plan; meant = meant }
+
+-- how the sources are watched
+abbrev pub watches_of : {C : Type 0} → Setting C → Watches C
+watches_of o = watches o.clock o.wakes
+
+-- what is the same for each line that is said
+abbrev pub edge_of : {C : Type 0} → Setting C → Edge C
+edge_of o = edge o.voice o.after o.clock o.wakes
 
 -- Where an evaluation stands.
 pub record EvalPlace (C : Type 0) : Type 0 where
@@ -74,16 +83,16 @@ WatchesAt o p = IsWatchDue o.plan p.run.world o.meant p.stand
 -- The time of this field is over here: that of a first one by the clock, and then, before any watch, that of each other that waits.
 abbrev pub OverComes : {C : Type 0} → Setting C → EvalPlace C → ℕ → ℕ → C → Type 0
 OverComes o p n id d =
-    ((p.stand.warned ≡ false) × WatchesAt o p × IsLate p.run.world o.meant p.stand n id × IsTimed p.stand.held × Comes o.clock o.wakes p.stand.held p.run.children time_over d)
+    ((p.stand.warned ≡ false) × WatchesAt o p × IsLate p.run.world o.meant p.stand n id × IsTimed p.stand.held × Comes (watches_of o) p.stand.held p.run.children time_over d)
     ⊎ ((p.stand.warned ≡ true) × (p.stand.held ≢ hold.Free) × IsFirstWaiting p.run.world o.meant p.stand n id × (d ≡ p.run.children))
 
 -- The step is due, and these are the sources after the watch that reported it. While no item waits the next field is asked. While one does,
 -- so is one that joins those that wait; else sources are watched, and the clock is read before each watch.
 abbrev pub StepComes : {C : Type 0} → Setting C → EvalPlace C → Step → C → Type 0
 StepComes o p (ask k id) d = MayAsk o p k id × (d ≡ p.run.children)
-StepComes o p (heard seat) d = WatchesAt o p × WatchTells o.clock o.wakes p.stand.held p.run.children false (Some (woken.Life seat)) d
+StepComes o p (heard seat) d = WatchesAt o p × WatchTells (watches_of o) p.stand.held p.run.children false (Some (woken.Life seat)) d
 StepComes o p (over n id) d = OverComes o p n id d
-StepComes o p stalled d = (p.stand.warned ≡ true) × WatchesAt o p × IsTimed p.stand.held × Comes o.clock o.wakes p.stand.held p.run.children time_over d
+StepComes o p stalled d = (p.stand.warned ≡ true) × WatchesAt o p × IsTimed p.stand.held × Comes (watches_of o) p.stand.held p.run.children time_over d
 
 -- the fields of the worksheet where it stands so
 abbrev pub fields_at : {C : Type 0} → EvalPlace C → List Field

@@ -13,8 +13,8 @@ use Rattle.offline_programs.specs.declared.fault.RunFault.TheVariants as fault
 use Rattle.tellings.specs.Voice.{Voice}
 use Rattle.live.specs.declared.holding.Hold.{Hold}
 use Rattle.live.specs.declared.holding.Hold.TheVariants as hold
-use Rattle.live.specs.Saying.{Clock, WaitGoesOn}
-use Rattle.live.specs.Arrivals.{Watch}
+use Rattle.live.specs.Records.{Clock, Watch}
+use Rattle.live.specs.Saying.{WaitGoesOn}
 use Rattle.evaluation.specs.declared.plan.Plan.{Plan}
 use Rattle.evaluation.specs.declared.plan.Stand.{Stand}
 use Rattle.evaluation.specs.declared.plan.Which.TheVariants as which

@@ -23,8 +23,7 @@ use Rattle.host_cli.specs.Plans.{AsksNoPlan, AsksPlan, limit_asked}
 use Rattle.host_cli.specs.Refused.{RefusesPlan, RefusesRequest, RefusesWith, ShowsText, no_check_seconds_text, no_format_text}
 use Rattle.host_cli.specs.declared.outside.Outside.{Outside}
 use Rattle.host_cli.specs.declared.plans.PlanFault.{PlanFault}
-use Rattle.live.specs.Arrivals.{Watch}
-use Rattle.live.specs.Saying.{Clock}
+use Rattle.live.specs.Records.{Clock, Watch}
 use Rattle.offline_programs.specs.declared.fault.RunFault.{RunFault}
 use Rattle.offline_programs.specs.declared.fault.RunFault.TheVariants as fault
 use Rattle.program_endings.specs.AcceptProgram.{AcceptEnds}

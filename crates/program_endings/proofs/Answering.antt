@@ -8,8 +8,7 @@ use Rattle.recovery.specs.Sheets.{IsSheetImage}
 use Rattle.journal.specs.declared.opening.OpenCause.TheVariants as opens
 use Rattle.host_events.specs.declared.outcome.HostFault.TheVariants as hosts
 use Rattle.child_edge.specs.Faithful.{Relation}
-use Rattle.live.specs.Arrivals.{Watch}
-use Rattle.live.specs.Saying.{Clock}
+use Rattle.live.specs.Records.{Clock, Watch, edge, outside}
 use Rattle.live.specs.Live.{LiveDone, TellsLive}
 use Rattle.offline_programs.specs.Faults.{TellsShow, Untouched}
 use Rattle.offline_programs.specs.Input.{longest_standard_input}
@@ -85,8 +84,8 @@ module _ {D C : Type 0} (k : Closable D) (R : Relation C) (stream : Option (List
   }
 
 module _ {D C : Type 0} (V : Voice) (k : Closable D) (R : Relation C) (K : Clock C) (W : Watch C) (stream : Option (List ℕ)) (disk later : D) (c d : C) (a b : Option (List ℕ)) (nothing : Type 0) (closed : k.closed later) (same : SameDisk (k.view disk) (k.view later)) where
-  pub live_answered : (r : Result Unit RunFault) → OnOk r (LiveDone V R K W stream (k.view disk) c d a b (k.view later))
-      → IfErr r (TellsLive V R K W stream (k.view disk) (k.view later) c d a b (nothing × Untouched (k.view disk) (k.view later))) → (IsErrOf r (fault.Open opens.Disk) → Rises (k.view disk).faults (k.view later).faults)
+  pub live_answered : (r : Result Unit RunFault) → OnOk r (LiveDone (edge V R K W) stream (outside (k.view disk) c a) (outside (k.view later) d b))
+      → IfErr r (TellsLive (edge V R K W) stream (outside (k.view disk) c a) (outside (k.view later) d b) (nothing × Untouched (k.view disk) (k.view later))) → (IsErrOf r (fault.Open opens.Disk) → Rises (k.view disk).faults (k.view later).faults)
       → (IsErrOf r (fault.Host hosts.Disk) → Rises (k.view disk).faults (k.view later).faults) → LivesOn V k R K W stream disk c d a b nothing (answer_of r)
   live_answered (Ok done) lived told unopened failed = record {
     later = later;

@@ -5,8 +5,7 @@ use Rattle.disk_model.specs.Disk.{Rises, SameDisk}
 use Rattle.journal.specs.declared.opening.OpenCause.TheVariants as opens
 use Rattle.host_events.specs.declared.outcome.HostFault.TheVariants as hosts
 use Rattle.child_edge.specs.Faithful.{Relation}
-use Rattle.live.specs.Arrivals.{Watch}
-use Rattle.live.specs.Saying.{Clock}
+use Rattle.live.specs.Records.{Clock, Watch, edge, outside}
 use Rattle.live.specs.Live.{LiveDone, TellsLive}
 use Rattle.offline_programs.specs.Faults.{Untouched}
 use Rattle.offline_programs.specs.declared.fault.RunFault.{RunFault}
@@ -26,11 +25,11 @@ pub record LivesOn {D C : Type 0} (V : Voice) (k : Closable D) (R : Relation C) 
   pub later : D
   pub closed : k.closed later
   pub same : SameDisk (k.view disk) (k.view later)
-  pub lived : IfOk answer (λ whole. (whole ≡ true) × LiveDone V R K W stream (k.view disk) c d a b (k.view later))
+  pub lived : IfOk answer (λ whole. (whole ≡ true) × LiveDone (edge V R K W) stream (outside (k.view disk) c a) (outside (k.view later) d b))
   -- that the disk failed, at the opening or later, is reported only where it did
   pub unopened : IsErrOf answer (fault.Open opens.Disk) → Rises (k.view disk).faults (k.view later).faults
   pub failed : IsErrOf answer (fault.Host hosts.Disk) → Rises (k.view disk).faults (k.view later).faults
-  pub fault : IfErr answer (TellsLive V R K W stream (k.view disk) (k.view later) c d a b (nothing × Untouched (k.view disk) (k.view later)))
+  pub fault : IfErr answer (TellsLive (edge V R K W) stream (outside (k.view disk) c a) (outside (k.view later) d b) (nothing × Untouched (k.view disk) (k.view later)))
 
 -- this frame was written, where the voice has one
 abbrev pub Framed : {O : Type 0} → Voice → (O → Option (List ℕ)) → Frame → O → O → Type 0

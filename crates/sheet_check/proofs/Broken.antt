@@ -16,8 +16,7 @@ use Rattle.offline_programs.specs.declared.fault.RunFault.{RunFault}
 use Rattle.offline_programs.specs.declared.fault.RunFault.TheVariants as fault
 use Rattle.sheet_programs.specs.Lines.{up_to, so_far}
 use Rattle.sheet_programs.proofs.Commands.{CommandBroke, command_broke_unwritten}
-use Rattle.live.specs.Arrivals.{Watch}
-use Rattle.live.specs.Saying.{Clock}
+use Rattle.live.specs.Records.{Clock, Watch}
 use Rattle.evaluation.specs.Within.{WaitFailed, waiting}
 use Rattle.evaluation.proofs.Waits.{up_to_led}
 use Rattle.sheet_check.specs.Evaluated.{way}

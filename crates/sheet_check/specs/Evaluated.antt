@@ -15,8 +15,7 @@ use Rattle.session_engine.specs.World.{World, sheet_in}
 use Rattle.child_edge.specs.Limits.{most_turns}
 use Rattle.child_edge.specs.Faithful.{Relation, At, Beat, Served, Waited}
 use Rattle.child_edge.specs.Told.{told}
-use Rattle.live.specs.Arrivals.{Watch}
-use Rattle.live.specs.Saying.{Clock}
+use Rattle.live.specs.Records.{Clock, Watch}
 use Rattle.evaluation.specs.Steps.{Setting}
 use Rattle.evaluation.specs.Within.{WaitedWithin, waiting}
 use Rattle.check_report.specs.declared.chosen.Chosen.{Chosen}

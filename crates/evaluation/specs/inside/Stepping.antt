@@ -15,7 +15,7 @@ use Rattle.offline_programs.specs.declared.fault.RunFault.{RunFault}
 use Rattle.offline_programs.specs.declared.fault.RunFault.TheVariants as fault
 use Rattle.evaluation.specs.declared.plan.Stand.{Stand}
 use Rattle.evaluation.specs.Beside.{IsLate}
-use Rattle.evaluation.specs.Steps.{Setting, EvalPlace, Step, ask, heard, over, stalled, StepComes, TakesStep, StepsTaken, stands, step_text, woken_in}
+use Rattle.evaluation.specs.Steps.{Setting, EvalPlace, Step, ask, heard, over, stalled, StepComes, TakesStep, StepsTaken, stands, step_text, woken_in, watches_of}
 use Rattle.evaluation.specs.Broken.{Cut, StepUpTo, StepSoFar, StepLed, Unwatched, TooMany}
 use Rattle.evaluation.specs.Evaluation.{Ends, Short}
 
@@ -84,7 +84,7 @@ abbrev pub StepFailed : {C : Type 0} → Setting C → EvalPlace C → HostView 
 StepFailed o p h c a b (fault.Host f) = CameFailed o p h c a b (fault.Host f)
 StepFailed o p h c a b fault.OutOfMemory = CameFailed o p h c a b fault.OutOfMemory
 StepFailed o p h c a b fault.Output = CameFailed o p h c a b fault.Output
-StepFailed o p h c a b fault.Input = Rests p h a b × WatchTells o.clock o.wakes p.stand.held p.run.children false None c
+StepFailed o p h c a b fault.Input = Rests p h a b × WatchTells (watches_of o) p.stand.held p.run.children false None c
 StepFailed o p h c a b fault.InputTooLong = ⊥
 StepFailed o p h c a b (fault.Open why) = ⊥
 StepFailed o p h c a b fault.InUse = ⊥
