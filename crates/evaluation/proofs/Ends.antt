@@ -22,6 +22,7 @@ use Rattle.offline_programs.specs.declared.fault.RunFault.TheVariants as fault
 use Rattle.tellings.specs.Voice.{IsUntold}
 use Rattle.tellings.specs.declared.note.Counts.{Counts}
 use Rattle.tellings.specs.declared.note.Note.TheVariants as note
+use Rattle.live.specs.Records.{left, outside}
 use Rattle.live.proofs.Ends.{stalled-goes, turn-stopped-goes}
 use Rattle.evaluation.specs.declared.plan.Stand.{Stand}
 use Rattle.evaluation.specs.Meant.{evaluation_counts, stop_line}
@@ -37,7 +38,7 @@ abbrev pub StoppedBehind : {C : Type 0} → Relation C → C → At C → Type 0
 StoppedBehind R d t = Stops R (running t.world) t.children d
 
 module _ {C : Type 0} (o : Setting C) (p : EvalPlace C) (h : HostView) (c d : C) (a b : Option (List ℕ)) (stops : StopsIn o.after h c d) where
-  pub through_and : (stand : Stand) → Through o p h c a b stand → ThroughAnd o p (StoppedBehind o.after d) h a b stand
+  pub through_and : (stand : Stand) → Through o p (left h c a b) stand → ThroughAnd o p (StoppedBehind o.after d) (left h d a b) stand
   through_and stand t = (t.0, t.1, t.2, at t.3 c h.store.disk, t.4, t.5, refl, t.6, t.7, stops.0 t.3 t.5)
 
   so-far : (Came : List Beat → List ℕ → At C → Type 0) → CameSoFar Came (λ t. t.children ≡ c) h a b → CameSoFar Came (StoppedBehind o.after d) h a b
@@ -46,7 +47,7 @@ module _ {C : Type 0} (o : Setting C) (p : EvalPlace C) (h : HostView) (c d : C)
   unwritten : CameUnwritten o p (λ t. t.children ≡ c) h → CameUnwritten o p (StoppedBehind o.after d) h
   unwritten t = (t.0, t.1, t.2, t.3, t.4, subst (λ x. Stops o.after (running t.2.world) x d) (sym t.5) (stops_behind o.after h c d t.2.world t.2.disk stops t.4))
 
-  pub broke_and : (f : RunFault) → BrokeOff o p (λ t. t.children ≡ c) h a b f → BrokeOff o p (StoppedBehind o.after d) h a b f
+  pub broke_and : (f : RunFault) → BrokeOff o p (λ t. t.children ≡ c) (left h c a b) f → BrokeOff o p (StoppedBehind o.after d) (left h d a b) f
   broke_and (fault.Host f) t = (t.0, t.1, t.2, t.3, t.4, t.5, subst (λ x. Stops o.after (running t.3.world) x d) (sym t.6) (stops.1 t.3.world t.2 t.3.disk f t.5), t.7)
   broke_and fault.OutOfMemory (inl t) = inl (so-far (Short o p) t)
   broke_and fault.OutOfMemory (inr t) = inr (t.0, unwritten t.1)
@@ -109,7 +110,7 @@ short-goes o p beats text t q = cut-goes o p (StepSoFar o) beats text t (λ r s 
 
 module _ {C : Type 0} (o : Setting C) (disk now : DiskView) (c d : C) (a b : Option (List ℕ)) (start : World) (h : HostView) (opened : OpenedFor o disk start now) (held : HoldsSheet start now) where
   so-far-of : (back : DiskView) → back ≡ h.store.disk → (Came : Setting C → EvalPlace C → List Beat → List ℕ → At C → Type 0) → ((beats : List Beat) (text : List ℕ) (t : At C) → Came (meaning o start) (stands (at start c now) not_begun) beats text t → Goes start now beats t.world t.disk)
-      → CameSoFar (Came (meaning o start) (stands (at start c now) not_begun)) (StoppedBehind o.after d) h a b → SoFarOf o disk back c d a b Came
+      → CameSoFar (Came (meaning o start) (stands (at start c now) not_begun)) (StoppedBehind o.after d) h a b → SoFarOf o (outside disk c a) (outside back d b) Came
   so-far-of back same Came goes t = record {
     start = start;
     now = now;
@@ -139,7 +140,7 @@ module _ {C : Type 0} (o : Setting C) (disk now : DiskView) (c d : C) (a b : Opt
     stops = t.5;
   }
 
-  pub evaluation_failed : (back : DiskView) → back ≡ h.store.disk → (nothing : Type 0) (f : RunFault) → BrokeOff (meaning o start) (stands (at start c now) not_begun) (StoppedBehind o.after d) h a b f → TellsEvaluation o disk back c d a b nothing f
+  pub evaluation_failed : (back : DiskView) → back ≡ h.store.disk → (nothing : Type 0) (f : RunFault) → BrokeOff (meaning o start) (stands (at start c now) not_begun) (StoppedBehind o.after d) (left h d a b) f → TellsEvaluation o (outside disk c a) (outside back d b) nothing f
   evaluation_failed back same nothing fault.Input t = so-far-of back same Unwatched (λ beats text x q. unwatched-goes (meaning o start) (stands (at start c now) not_begun) beats text x q) t
   evaluation_failed back same nothing fault.InputTooLong t = so-far-of back same TooMany (λ beats text x q. too-many-goes (meaning o start) (stands (at start c now) not_begun) beats text x q) t
   evaluation_failed back same nothing (fault.Open why) t = absurd t
@@ -164,9 +165,9 @@ module _ {C : Type 0} (o : Setting C) (disk now : DiskView) (c d : C) (a b : Opt
   evaluation_failed back same nothing fault.OutOfMemory (inr t) = inr (inr (t.0, inl (led-of back same t.1)))
   evaluation_failed back same nothing fault.Output t = inl (led-of back same t)
 
-  module _ (stand : Stand) (t : ThroughAnd (meaning o start) (stands (at start c now) not_begun) (StoppedBehind o.after d) h a b stand) where
+  module _ (stand : Stand) (t : ThroughAnd (meaning o start) (stands (at start c now) not_begun) (StoppedBehind o.after d) (left h d a b) stand) where
     pub evaluation_done : (e : Option (List ℕ)) (back : DiskView) (stopped : Option ℕ) (counts : Counts) → back ≡ h.store.disk → stopped ≡ stop_line o.plan.strict (sheet_in t.3.world).fields stand
-        → counts ≡ evaluation_counts o.plan (length (meaning o start).meant) (sheet_in t.3.world).fields stand → Appends b e (o.voice.note (note.Counted counts)) → EvaluationDone o disk c d a e back stopped counts
+        → counts ≡ evaluation_counts o.plan (length (meaning o start).meant) (sheet_in t.3.world).fields stand → Appends b e (o.voice.note (note.Counted counts)) → EvaluationDone o (outside disk c a) (outside back d e) stopped counts
     evaluation_done e back stopped counts same is counted told = record {
       start = start;
       now = now;
@@ -208,7 +209,7 @@ module _ {C : Type 0} (o : Setting C) (disk now : DiskView) (c d : C) (a b : Opt
       stops = t.9;
     }
 
-    pub counts_untold : (back : DiskView) → back ≡ h.store.disk → (e : Option (List ℕ)) (nothing : Type 0) (f : RunFault) → IsUntold o.voice f → TellsEvaluation o disk back c d a e nothing f
+    pub counts_untold : (back : DiskView) → back ≡ h.store.disk → (e : Option (List ℕ)) (nothing : Type 0) (f : RunFault) → IsUntold o.voice f → TellsEvaluation o (outside disk c a) (outside back d e) nothing f
     counts_untold back same e nothing fault.Output why = inr (uncounted back same)
     counts_untold back same e nothing fault.OutOfMemory why = inr (inr (why, inr (uncounted back same)))
     counts_untold back same e nothing fault.Input why = absurd why
@@ -219,8 +220,8 @@ module _ {C : Type 0} (o : Setting C) (disk now : DiskView) (c d : C) (a b : Opt
 
 -- A disk that failed at the end has failed since the beginning.
 pub evaluation_failed_since : {C : Type 0} (o : Setting C) (disk now : DiskView) (start : World) (c d : C) (h : HostView) (a b : Option (List ℕ)) (f : RunFault)
-    → SameDisk disk now → BrokeOff o (stands (at start c now) not_begun) (StoppedBehind o.after d) h a b f → f ≡ fault.Host hosts.Disk → Rises disk.faults h.store.disk.faults
+    → SameDisk disk now → BrokeOff o (stands (at start c now) not_begun) (StoppedBehind o.after d) (left h d a b) f → f ≡ fault.Host hosts.Disk → Rises disk.faults h.store.disk.faults
 evaluation_failed_since o disk now start c d h a b f same p e =
-    let q = subst (λ x. BrokeOff o (stands (at start c now) not_begun) (StoppedBehind o.after d) h a b x) e p in
+    let q = subst (λ x. BrokeOff o (stands (at start c now) not_begun) (StoppedBehind o.after d) (left h d a b) x) e p in
     let goes = goes_same start now q.0 q.3.world q.3.disk (cut-goes o (stands (at start c now) not_begun) (StepUpTo o q.2) q.0 q.1 q.3 (λ r s l x. step-up-to-goes o q.2 r s l q.3 x) q.4) in
     min_since greatest_count disk.faults q.3.disk.faults h.store.disk.faults (omega (arith, same.later, goes.later)) q.5.cause.0

@@ -7,6 +7,7 @@ use Rattle.session_engine.specs.Host.{HostView, IsHost}
 use Rattle.child_edge.specs.Faithful.{At, at, Beat}
 use Rattle.offline_programs.specs.declared.fault.RunFault.{RunFault}
 use Rattle.offline_programs.specs.declared.fault.RunFault.TheVariants as fault
+use Rattle.live.specs.Records.{left}
 use Rattle.evaluation.specs.declared.plan.Stand.{Stand}
 use Rattle.evaluation.specs.Steps.{Setting, EvalPlace, Step, StepComes, TakesStep, StepsTaken, stands, step_text, woken_in}
 use Rattle.evaluation.specs.Broken.{Cut, StepLed, StepSoFar, StepUpTo}
@@ -41,7 +42,7 @@ evaluated-more o p (r ∷ steps) beats text mid s c more last q h comes takes = 
   ap (λ y. y ++ last) h.10 ∙ append_assoc h.4 h.5 last,
 )
 
-pub one-more : (steps : List Step) (s : Step) → length (steps ++ s ∷ []) ≡ length steps + 1
+one-more : (steps : List Step) (s : Step) → length (steps ++ s ∷ []) ≡ length steps + 1
 one-more [] s = refl
 one-more (r ∷ steps) s = omega (arith, one-more steps s)
 
@@ -60,7 +61,7 @@ pub none_taken : {C : Type 0} (o : Setting C) (w : World) (h : HostView) (c : C)
 none_taken o w h c stand a is = record { steps = []; beats = []; text = []; leads = w; evaluated = (refl, refl, refl); stands = is; wrote = Appends-nil a; counted = refl }
 
 module _ {C : Type 0} (o : Setting C) (p : EvalPlace C) (stand : Stand) (h g : HostView) (c d : C) (a b e : Option (List ℕ)) (n : ℕ) (so : SoFar o p stand h c a b n) where
-  unfoldable pub one_taken : (next : Stand) → StepGave o (stands (at so.leads c h.store.disk) stand) g d b e (Some next) → SoFar o p next g d a e (n + 1)
+  pub one_taken : (next : Stand) → StepGave o (stands (at so.leads c h.store.disk) stand) (left g d b e) (Some next) → SoFar o p next g d a e (n + 1)
   one_taken next t = let took = t.3 in record {
     steps = so.steps ++ t.0 ∷ [];
     beats = so.beats ++ took.0;
@@ -72,7 +73,7 @@ module _ {C : Type 0} (o : Setting C) (p : EvalPlace C) (stand : Stand) (h g : H
     counted = one-more so.steps t.0 ∙ ap (λ k. k + 1) so.counted;
   }
 
-  unfoldable pub all_taken : StepGave o (stands (at so.leads c h.store.disk) stand) g d b e None → Through o p g d a e stand
+  pub all_taken : StepGave o (stands (at so.leads c h.store.disk) stand) (left g d b e) None → Through o p (left g d a e) stand
   all_taken t = (
     so.steps,
     so.beats,
@@ -101,11 +102,11 @@ module _ {C : Type 0} (o : Setting C) (p : EvalPlace C) (stand : Stand) (h g : H
     wrote = refl;
   }
 
-  unwritten : (s : Step) (x : C) → StepComes o (stands (at so.leads c h.store.disk) stand) s x → TookUnwritten o (woken_in (stands (at so.leads c h.store.disk) stand) x) s g d → CameUnwritten o p (λ t. t.children ≡ d) g
+  unwritten : (s : Step) (x : C) → StepComes o (stands (at so.leads c h.store.disk) stand) s x → TookUnwritten o (woken_in (stands (at so.leads c h.store.disk) stand) x) s (left g d b e) → CameUnwritten o p (λ t. t.children ≡ d) g
   unwritten s x comes q =
       (so.beats ++ q.0, so.text ++ step_text o.voice s (sheet_in q.1) q.0, at q.1 d q.2, cut (StepLed o) s x q.0 (at q.1 d q.2) comes q.3, q.4, refl)
 
-  pub broke_off : (f : RunFault) → StepFailed o (stands (at so.leads c h.store.disk) stand) g d b e f → BrokeOff o p (λ t. t.children ≡ d) g a e f
+  pub broke_off : (f : RunFault) → StepFailed o (stands (at so.leads c h.store.disk) stand) (left g d b e) f → BrokeOff o p (λ t. t.children ≡ d) (left g d a e) f
   broke_off (fault.Host f) t = let q = t.3 in (
     so.beats ++ q.0,
     so.text ++ step_text o.voice t.0 (sheet_in q.2) q.0,
@@ -118,7 +119,7 @@ module _ {C : Type 0} (o : Setting C) (p : EvalPlace C) (stand : Stand) (h g : H
   )
   broke_off fault.OutOfMemory t = go t.3
     where
-      go : TakingFailed o (woken_in (stands (at so.leads c h.store.disk) stand) t.1) t.0 g d b e fault.OutOfMemory → BrokeOff o p (λ t. t.children ≡ d) g a e fault.OutOfMemory
+      go : TakingFailed o (woken_in (stands (at so.leads c h.store.disk) stand) t.1) t.0 (left g d b e) fault.OutOfMemory → BrokeOff o p (λ t. t.children ≡ d) (left g d a e) fault.OutOfMemory
       go (inl q) = inl (
         so.beats ++ q.0,
         so.text ++ step_text o.voice t.0 (sheet_in q.1) q.0,
@@ -146,6 +147,6 @@ module _ {C : Type 0} (o : Setting C) (p : EvalPlace C) (stand : Stand) (h g : H
   broke_off fault.InUse t = absurd t
 
 -- as many came as are counted
-pub too_many : {C : Type 0} (o : Setting C) (p : EvalPlace C) (stand : Stand) (h : HostView) (c : C) (a b : Option (List ℕ)) (n : ℕ) (so : SoFar o p stand h c a b n) → 2 ^ 64 ≤ n + 1 → BrokeOff o p (λ t. t.children ≡ c) h a b fault.InputTooLong
+pub too_many : {C : Type 0} (o : Setting C) (p : EvalPlace C) (stand : Stand) (h : HostView) (c : C) (a b : Option (List ℕ)) (n : ℕ) (so : SoFar o p stand h c a b n) → 2 ^ 64 ≤ n + 1 → BrokeOff o p (λ t. t.children ≡ c) (left h c a b) fault.InputTooLong
 too_many o p stand h c a b n so many =
     (so.beats, so.text, at so.leads c h.store.disk, (so.steps, stands (at so.leads c h.store.disk) stand, so.evaluated, omega (arith, so.counted, many), refl), so.stands, refl, refl, so.wrote)

@@ -8,6 +8,7 @@ use Rattle.session_engine.specs.World.{World, sheet_in}
 use Rattle.sheet_programs.specs.Run.{OpenedOn}
 use Rattle.offline_programs.specs.declared.fault.RunFault.{RunFault}
 use Rattle.offline_programs.specs.declared.fault.RunFault.TheVariants as fault
+use Rattle.live.specs.Records.{outside}
 use Rattle.evaluation.specs.declared.fault.EvalFault.{EvalFault}
 use Rattle.evaluation.specs.declared.fault.EvalFault.TheVariants as evals
 use Rattle.evaluation.specs.declared.plan.Which.{Which}
@@ -16,9 +17,9 @@ use Rattle.evaluation.specs.Evaluation.{TellsEvalFault, TellsEvaluation}
 use Rattle.evaluation.specs.inside.Choosing.{AsksInVain}
 
 pub in_vain : {C : Type 0} (o : Setting C) (disk back now : DiskView) (c d : C) (a b : Option (List ℕ)) (start : World) (nothing : Type 0) (why : EvalFault)
-    → nothing → OpenedOn disk start now → AsksInVain o.plan.which (sheet_in start).fields why → TellsEvalFault o disk back c d a b nothing why
+    → nothing → OpenedOn disk start now → AsksInVain o.plan.which (sheet_in start).fields why → TellsEvalFault o (outside disk c a) (outside back d b) nothing why
 in_vain o disk back now c d a b start nothing (evals.NoField id) none opened is = (none, (start, now, opened, is))
-in_vain o disk back now c d a b start nothing (evals.Run why) none opened is = subst (TellsEvaluation o disk back c d a b nothing) (sym is) (inl none)
+in_vain o disk back now c d a b start nothing (evals.Run why) none opened is = subst (TellsEvaluation o (outside disk c a) (outside back d b) nothing) (sym is) (inl none)
 
 abbrev run_or : RunFault → EvalFault → RunFault
 run_or other (evals.NoField id) = other

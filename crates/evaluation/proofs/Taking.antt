@@ -34,7 +34,7 @@ use Rattle.evaluation.specs.inside.Stepping.{IsOf, IsTimeOf, StepFailed, StepToo
 
 module _ {C : Type 0} (o : Setting C) (p : EvalPlace C) (h : HostView) (c : C) (a b : Option (List ℕ)) where
   -- what came of a step and couldn't be written
-  pub took_untold : (s : Step) (f : RunFault) → IsUntold o.voice f → TookUnwritten o p s h c → TakingFailed o p s h c a b f
+  pub took_untold : (s : Step) (f : RunFault) → IsUntold o.voice f → TookUnwritten o p s (left h c a b) → TakingFailed o p s (left h c a b) f
   took_untold s fault.Output why q = q
   took_untold s fault.OutOfMemory why q = inr (why, q)
   took_untold s fault.Input why q = absurd why
@@ -54,16 +54,16 @@ module _ {C : Type 0} (o : Setting C) (p : EvalPlace C) (h : HostView) (c : C) (
   led-life seat t (lives.up_to beats e q) = (beats, broken.up_to e q)
   led-life seat t (lives.none q) = ([], broken.so_far (refl, q))
 
-  life-unwritten : (seat : Seat) → HeardUnwritten (edge_of o) seat p.run (left h c a b) → TookUnwritten o p (heard seat) h c
+  life-unwritten : (seat : Seat) → HeardUnwritten (edge_of o) seat p.run (left h c a b) → TookUnwritten o p (heard seat) (left h c a b)
   life-unwritten seat q = let led = led-life seat (at q.0 c q.1) q.2 in (led.0, q.0, q.1, led.1, q.3)
 
-  pub life_failed : (seat : Seat) (f : RunFault) → HearingFailed (edge_of o) seat p.run (left h c a b) f → TakingFailed o p (heard seat) h c a b f
+  pub life_failed : (seat : Seat) (f : RunFault) → HearingFailed (edge_of o) seat p.run (left h c a b) f → TakingFailed o p (heard seat) (left h c a b) f
   life_failed seat f (lives.stopped why beats e t x q stopped wrote) = (beats, e, t, x, q, stopped, wrote)
   life_failed seat f (lives.refused t q stands wrote) = inl ([], t, (refl, q), stands, wrote)
   life_failed seat f (lives.untold why q) = inr (why, life-unwritten seat q)
   life_failed seat f (lives.unwritten q) = life-unwritten seat q
 
-  pub life_took : (seat : Seat) (held : Hold) (stand : Stand) (q : Heard (edge_of o) seat p.run (left h c a b)) → WaitGoesOn p.stand.held q.1 held → stand ≡ held_at p.stand held → Took o p (heard seat) h c a b stand
+  pub life_took : (seat : Seat) (held : Hold) (stand : Stand) (q : Heard (edge_of o) seat p.run (left h c a b)) → WaitGoesOn p.stand.held q.1 held → stand ≡ held_at p.stand held → Took o p (heard seat) (left h c a b) stand
   life_took seat held stand q on is = (q.0, came_text o.voice (sheet_in q.1) (told q.0), q.1, ((q.2, refl), (held, on, is)), q.3, q.4)
 
   -- The two seconds of an interrupted one.
@@ -76,16 +76,16 @@ module _ {C : Type 0} (o : Setting C) (p : EvalPlace C) (h : HostView) (c : C) (
   led-grace t (lives.first beats q) = (beats, broken.so_far q)
   led-grace t (lives.up_to beats e q) = (beats, broken.up_to e q)
 
-  grace-unwritten : StalledUnwritten (edge_of o) (waits p.run.world) p.run (left h c a b) → TookUnwritten o p stalled h c
+  grace-unwritten : StalledUnwritten (edge_of o) (waits p.run.world) p.run (left h c a b) → TookUnwritten o p stalled (left h c a b)
   grace-unwritten q = let led = led-grace (at q.0 c q.1) q.2 in (led.0, q.0, q.1, led.1, q.3)
 
-  pub grace_failed : (f : RunFault) → StallingFailed (edge_of o) (waits p.run.world) p.run (left h c a b) f → TakingFailed o p stalled h c a b f
+  pub grace_failed : (f : RunFault) → StallingFailed (edge_of o) (waits p.run.world) p.run (left h c a b) f → TakingFailed o p stalled (left h c a b) f
   grace_failed f (lives.stopped why beats e t x q stopped wrote) = (beats, e, t, x, q, stopped, wrote)
   grace_failed f (lives.refused beats t q stands wrote) = inl (beats, t, q, stands, wrote)
   grace_failed f (lives.untold why q) = inr (why, grace-unwritten q)
   grace_failed f (lives.unwritten q) = grace-unwritten q
 
-  pub grace_took : (stand : Stand) (q : Stalled (edge_of o) (waits p.run.world) p.run (left h c a b)) → stand ≡ held_at p.stand hold.Free → Took o p stalled h c a b stand
+  pub grace_took : (stand : Stand) (q : Stalled (edge_of o) (waits p.run.world) p.run (left h c a b)) → stand ≡ held_at p.stand hold.Free → Took o p stalled (left h c a b) stand
   grace_took stand q is = (q.0, came_text o.voice (sheet_in q.1) (told q.0), q.1, ((q.2, refl), is), q.3, q.4)
 
   -- A field that is asked.
@@ -105,17 +105,17 @@ module _ {C : Type 0} (o : Setting C) (p : EvalPlace C) (h : HostView) (c : C) (
     led-ask t (lives.up_to beats e q) = (beats, broken.up_to e (is, its-command beats e t q))
     led-ask t (lives.none command q) = ([], broken.so_far (is, refl, q))
 
-    ask-unwritten : SaidUnwritten (edge_of o) its-line p.run (left h c a b) → TookUnwritten o p (ask k id) h c
+    ask-unwritten : SaidUnwritten (edge_of o) its-line p.run (left h c a b) → TookUnwritten o p (ask k id) (left h c a b)
     ask-unwritten q = let led = led-ask (at q.0 c q.1) q.2 in (led.0, q.0, q.1, led.1, q.3)
 
-    pub ask_failed : (f : RunFault) → SayingFailed (edge_of o) (line_behind (k + 1)) its-line p.run (left h c a b) f → TakingFailed o p (ask k id) h c a b f
+    pub ask_failed : (f : RunFault) → SayingFailed (edge_of o) (line_behind (k + 1)) its-line p.run (left h c a b) f → TakingFailed o p (ask k id) (left h c a b) f
     ask_failed f (lives.stopped why beats e t x q stopped wrote) = (beats, e, t, x, (is, its-command beats e (at t c x) q), stopped, wrote)
     ask_failed f (lives.refused command t q stands wrote) = inl ([], t, (is, refl, q), stands, wrote)
     ask_failed f (lives.untold why q) = inr (why, ask-unwritten q)
     ask_failed f (lives.unwritten q) = ask-unwritten q
 
     pub ask_took : (free begun held : Hold) (stand : Stand) (q : Said (edge_of o) (line_behind (k + 1)) its-line p.run (left h c a b) free) → LimitBegins o.clock c o.plan.limit begun → WaitGoesOn begun q.1 held
-        → stand ≡ asked_at p.stand k id held → Took o p (ask k id) h c a b stand
+        → stand ≡ asked_at p.stand k id held → Took o p (ask k id) (left h c a b) stand
     ask_took none begun held stand q limits on is-stand = (q.0.beats, q.0.text, q.1, ((is, q.2.0, q.2.1), (begun, held, limits, on, is-stand)), q.4, q.5)
 
 -- A turn.
@@ -137,7 +137,7 @@ module _ {C : Type 0} (o : Setting C) (p : EvalPlace C) (d : C) where
   comes_of woken.TimeOver s due turn is = time-comes s due turn is
 
   module _ (h : HostView) (c : C) (a b : Option (List ℕ)) where
-    pub came_failed : (s : Step) (f : RunFault) → StepComes o p s d → TakingFailed o (woken_in p d) s h c a b f → StepFailed o p h c a b f
+    pub came_failed : (s : Step) (f : RunFault) → StepComes o p s d → TakingFailed o (woken_in p d) s (left h c a b) f → StepFailed o p (left h c a b) f
     came_failed s (fault.Host f) comes q = (s, d, comes, q)
     came_failed s fault.OutOfMemory comes q = (s, d, comes, q)
     came_failed s fault.Output comes q = (s, d, comes, q)
@@ -146,8 +146,8 @@ module _ {C : Type 0} (o : Setting C) (p : EvalPlace C) (d : C) where
     came_failed s (fault.Open why) comes q = absurd q
     came_failed s fault.InUse comes q = absurd q
 
-    pub turn_took : (told_of : Woken) (stand : Stand) → WatchesAt o p → TurnsTo told_of → Turned o (woken_in p d) told_of h c a b stand → StepTook o p h c a b stand
+    pub turn_took : (told_of : Woken) (stand : Stand) → WatchesAt o p → TurnsTo told_of → Turned o (woken_in p d) told_of (left h c a b) stand → StepTook o p (left h c a b) stand
     turn_took told_of stand due turn t = (t.0, d, comes_of told_of t.0 due turn t.1, t.2)
 
-    pub turn_failed : (told_of : Woken) (f : RunFault) → WatchesAt o p → TurnsTo told_of → TurnFailed o (woken_in p d) told_of h c a b f → StepFailed o p h c a b f
+    pub turn_failed : (told_of : Woken) (f : RunFault) → WatchesAt o p → TurnsTo told_of → TurnFailed o (woken_in p d) told_of (left h c a b) f → StepFailed o p (left h c a b) f
     turn_failed told_of f due turn t = came_failed t.0 f (comes_of told_of t.0 due turn t.1) t.2

@@ -8,7 +8,7 @@ use Rattle.child_edge.specs.Faithful.{Relation, At, at, Beat}
 use Rattle.offline_programs.specs.declared.fault.RunFault.{RunFault}
 use Rattle.offline_programs.specs.declared.fault.RunFault.TheVariants as fault
 use Rattle.live.specs.declared.holding.Hold.{Hold}
-use Rattle.live.specs.Records.{Clock, Watch}
+use Rattle.live.specs.Records.{Clock, Watch, left}
 use Rattle.live.specs.Saying.{WaitGoesOn}
 use Rattle.evaluation.specs.declared.plan.Plan.{Plan}
 use Rattle.evaluation.specs.declared.plan.Stand.{Stand}
@@ -18,7 +18,7 @@ use Rattle.evaluation.specs.Within.{WaitBegins, WaitFailed, WaitInPart, WaitUpTo
 use Rattle.evaluation.specs.inside.Stepping.{BrokeOff, CameSoFar, CameUnwritten, Through, fault_of_wait}
 
 module _ {C : Type 0} (o : Setting C) (id : ℕ) (s : At C) (p : EvalPlace C) (begins : WaitBegins o id s p) (h : HostView) (c : C) (a b : Option (List ℕ)) where
-  pub wait_ended : (stand : Stand) (in_time : Bool) → in_time ≡ (stand.overs == 0) → Through o p h c a b stand → (t : World) × WaitedWithin o id s in_time (at t c h.store.disk) × IsHost h t
+  pub wait_ended : (stand : Stand) (in_time : Bool) → in_time ≡ (stand.overs == 0) → Through o p (left h c a b) stand → (t : World) × WaitedWithin o id s in_time (at t c h.store.disk) × IsHost h t
   wait_ended stand in_time is q = (
     q.3,
     record {
@@ -60,7 +60,7 @@ module _ {C : Type 0} (o : Setting C) (id : ℕ) (s : At C) (p : EvalPlace C) (b
   came-here : (Came : List Beat → List ℕ → At C → Type 0) → (q : CameSoFar Came (λ t. t.children ≡ c) h a b) → Came q.0 q.1 (at q.2.world c h.store.disk)
   came-here Came q = subst (λ x. Came q.0 q.1 (at q.2.world c x)) q.5 (subst (λ x. Came q.0 q.1 (at q.2.world x q.2.disk)) q.6 q.3)
 
-  pub wait_failed : (f : RunFault) → BrokeOff o p (λ t. t.children ≡ c) h a b f → WaitFailed o id s h c (fault_of_wait f)
+  pub wait_failed : (f : RunFault) → BrokeOff o p (λ t. t.children ≡ c) (left h c a b) f → WaitFailed o id s h c (fault_of_wait f)
   wait_failed (fault.Host f) q = (
     q.2,
     q.3.world,
@@ -112,9 +112,9 @@ module _ {C : Type 0} (R : Relation C) (K : Clock C) (W : Watch C) (seconds id :
   on P q = subst (λ (x : Stand). P (waiting R K W seconds) (stands s x)) is-from
       (subst (λ (x : List ℕ). P (setting silent R K W (waiting_plan seconds) x) (stands s from)) no-ids (subst (λ (x : Plan). P (setting silent R K W x ids) (stands s from)) is-plan q))
 
-  pub waited_within : (stand : Stand) → Through (setting silent R K W plan ids) (stands s from) h c a b stand → (t : World) × WaitedWithin (waiting R K W seconds) id s (stand.overs == 0) (at t c h.store.disk) × IsHost h t
-  waited_within stand q = wait_ended (waiting R K W seconds) id s (stands s (asked_one id held)) begins-here h c a b stand (stand.overs == 0) refl (on (λ o p. Through o p h c a b stand) q)
+  pub waited_within : (stand : Stand) → Through (setting silent R K W plan ids) (stands s from) (left h c a b) stand → (t : World) × WaitedWithin (waiting R K W seconds) id s (stand.overs == 0) (at t c h.store.disk) × IsHost h t
+  waited_within stand q = wait_ended (waiting R K W seconds) id s (stands s (asked_one id held)) begins-here h c a b stand (stand.overs == 0) refl (on (λ o p. Through o p (left h c a b) stand) q)
 
-  pub broke_within : (f why : RunFault) → why ≡ fault_of_wait f → BrokeOff (setting silent R K W plan ids) (stands s from) (λ t. t.children ≡ c) h a b f → WaitFailed (waiting R K W seconds) id s h c why
+  pub broke_within : (f why : RunFault) → why ≡ fault_of_wait f → BrokeOff (setting silent R K W plan ids) (stands s from) (λ t. t.children ≡ c) (left h c a b) f → WaitFailed (waiting R K W seconds) id s h c why
   broke_within f why is q = subst (WaitFailed (waiting R K W seconds) id s h c) (sym is)
-      (wait_failed (waiting R K W seconds) id s (stands s (asked_one id held)) begins-here h c a b f (on (λ o p. BrokeOff o p (λ t. t.children ≡ c) h a b f) q))
+      (wait_failed (waiting R K W seconds) id s (stands s (asked_one id held)) begins-here h c a b f (on (λ o p. BrokeOff o p (λ t. t.children ≡ c) (left h c a b) f) q))

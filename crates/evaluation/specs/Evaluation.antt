@@ -21,6 +21,7 @@ use Rattle.evaluation.specs.declared.fault.EvalFault.TheVariants as evals
 use Rattle.tellings.specs.declared.note.Counts.{Counts}
 use Rattle.tellings.specs.declared.note.Note.TheVariants as note
 use Rattle.live.specs.declared.holding.Hold.TheVariants as hold
+use Rattle.live.specs.Records.{Brought, Outside, brought}
 use Rattle.evaluation.specs.declared.plan.Stand.{Stand}
 use Rattle.evaluation.specs.Meant.{EndsHere, evaluation_counts, missing_in}
 use Rattle.evaluation.specs.Rounds.{asking_order}
@@ -48,51 +49,52 @@ abbrev pub Ends : {C : Type 0} → Setting C → EvalPlace C → Option ℕ → 
 Ends o p stopped = (p.stand.held ≡ hold.Free) × EndsHere o.plan (fields_at p) o.meant p.stand stopped
 
 -- Each field that is asked for is there, they were evaluated up to the end, and then the counts were reported.
-pub record Counted {C : Type 0} (o : Setting C) (stopped : Option ℕ) (counts : Counts) (s : At C) (beats : List Beat) (text : List ℕ) (t : At C) : Type 0 where
+pub record Counted {C : Type 0} (o : Setting C) (stopped : Option ℕ) (counts : Counts) (s : At C) (it : Brought) (t : At C) : Type 0 where
   pub there : HasThem o s.world
   pub steps : List Step
   pub stand : Stand
   pub first : List ℕ
-  pub evaluated : StepsTaken (meaning o s.world) (stands s not_begun) steps beats first (stands t stand)
+  pub evaluated : StepsTaken (meaning o s.world) (stands s not_begun) steps it.beats first (stands t stand)
   pub ends : Ends (meaning o s.world) (stands t stand) stopped
   pub counted : counts ≡ evaluation_counts o.plan (length (meaning o s.world).meant) (sheet_in t.world).fields stand
-  pub wrote : text ≡ first ++ o.voice.note (note.Counted counts)
+  pub wrote : it.text ≡ first ++ o.voice.note (note.Counted counts)
 
 -- What an evaluation leaves that had no fault.
-abbrev pub EvaluationDone : {C : Type 0} → Setting C → DiskView → C → C → Option (List ℕ) → Option (List ℕ) → DiskView → Option ℕ → Counts → Type 0
-EvaluationDone o disk c d a b back stopped counts = RunOf o.after (Counted o stopped counts) disk c d a b back
+abbrev pub EvaluationDone : {C : Type 0} → Setting C → Outside C → Outside C → Option ℕ → Counts → Type 0
+EvaluationDone o first last stopped counts =
+    RunOf o.after (λ s beats text t. Counted o stopped counts s (brought beats text) t) first.disk first.sources last.sources first.written last.written last.disk
 
 -- At an event the host had this fault, which says how its disk, which is given back, was left. What was reported before is written, and
 -- each life that goes on was stopped.
-pub record StoppedOf {C : Type 0} (o : Setting C) (disk back : DiskView) (c d : C) (a b : Option (List ℕ)) (f : HostFault) : Type 0 where
+pub record StoppedOf {C : Type 0} (o : Setting C) (first last : Outside C) (f : HostFault) : Type 0 where
   pub start : World
   pub now : DiskView
-  pub opened : OpenedFor o disk start now
+  pub opened : OpenedFor o first.disk start now
   pub beats : List Beat
   pub text : List ℕ
   pub failed : Event
   pub leads : At C
-  pub cut : Cut (meaning o start) (stands (at start c now) not_begun) (StepUpTo (meaning o start) failed) beats text leads
+  pub cut : Cut (meaning o start) (stands (at start first.sources now) not_begun) (StepUpTo (meaning o start) failed) beats text leads
   pub host : HostView
-  pub back_is : back ≡ host.store.disk
+  pub back_is : last.disk ≡ host.store.disk
   pub stopped : Stopped leads.disk host leads.world failed f
   pub moments : LeavesFrontsUpTo start beats failed f now host.store.disk
-  pub stops : Stops o.after (running leads.world) leads.children d
-  pub wrote : Appends a b text
+  pub stops : Stops o.after (running leads.world) leads.children last.sources
+  pub wrote : Appends first.written last.written text
 
 -- So far it came. What was reported is written, and each life that goes on was stopped.
-pub record SoFarOf {C : Type 0} (o : Setting C) (disk back : DiskView) (c d : C) (a b : Option (List ℕ)) (Came : Setting C → EvalPlace C → List Beat → List ℕ → At C → Type 0) : Type 0 where
+pub record SoFarOf {C : Type 0} (o : Setting C) (first last : Outside C) (Came : Setting C → EvalPlace C → List Beat → List ℕ → At C → Type 0) : Type 0 where
   pub start : World
   pub now : DiskView
-  pub opened : OpenedFor o disk start now
+  pub opened : OpenedFor o first.disk start now
   pub beats : List Beat
   pub text : List ℕ
   pub leads : At C
-  pub came : Came (meaning o start) (stands (at start c now) not_begun) beats text leads
-  pub back_is : back ≡ leads.disk
-  pub moments : LeavesFronts start beats now back
-  pub stops : Stops o.after (running leads.world) leads.children d
-  pub wrote : Appends a b text
+  pub came : Came (meaning o start) (stands (at start first.sources now) not_begun) beats text leads
+  pub back_is : last.disk ≡ leads.disk
+  pub moments : LeavesFronts start beats now last.disk
+  pub stops : Stops o.after (running leads.world) leads.children last.sources
+  pub wrote : Appends first.written last.written text
 
 -- The writer failed. What came until then is on the disk as ever, and each life that goes on was stopped.
 pub record LedOf {C : Type 0} (o : Setting C) (disk back : DiskView) (c d : C) : Type 0 where
@@ -133,17 +135,19 @@ Untold o disk back c d = LedOf o disk back c d ⊎ Uncounted o disk back c d
 
 -- What a fault tells, with the disk that is given back: where the disk wasn't opened nothing was done. A voice that takes memory may have none
 -- for a line: then it is as where the writer failed.
-abbrev pub TellsEvaluation : {C : Type 0} → Setting C → DiskView → DiskView → C → C → Option (List ℕ) → Option (List ℕ) → Type 0 → RunFault → Type 0
-TellsEvaluation o disk back c d a b nothing fault.Input = SoFarOf o disk back c d a b Unwatched
-TellsEvaluation o disk back c d a b nothing fault.InputTooLong = SoFarOf o disk back c d a b TooMany
-TellsEvaluation o disk back c d a b nothing (fault.Open why) = nothing × InModel disk (TellsOfSheet (bytes_on disk) why)
-TellsEvaluation o disk back c d a b nothing fault.InUse = ⊥
-TellsEvaluation o disk back c d a b nothing (fault.Host f) = StoppedOf o disk back c d a b f
-TellsEvaluation o disk back c d a b nothing fault.OutOfMemory = nothing ⊎ (SoFarOf o disk back c d a b Short ⊎ ((o.voice.takes_memory ≡ true) × Untold o disk back c d))
-TellsEvaluation o disk back c d a b nothing fault.Output = Untold o disk back c d
+abbrev pub TellsEvaluation : {C : Type 0} → Setting C → Outside C → Outside C → Type 0 → RunFault → Type 0
+TellsEvaluation o first last nothing fault.Input = SoFarOf o first last Unwatched
+TellsEvaluation o first last nothing fault.InputTooLong = SoFarOf o first last TooMany
+TellsEvaluation o first last nothing (fault.Open why) = nothing × InModel first.disk (TellsOfSheet (bytes_on first.disk) why)
+TellsEvaluation o first last nothing fault.InUse = ⊥
+TellsEvaluation o first last nothing (fault.Host f) = StoppedOf o first last f
+TellsEvaluation o first last nothing fault.OutOfMemory =
+    nothing ⊎ (SoFarOf o first last Short ⊎ ((o.voice.takes_memory ≡ true) × Untold o first.disk last.disk first.sources last.sources))
+TellsEvaluation o first last nothing fault.Output = Untold o first.disk last.disk first.sources last.sources
 
 -- What a fault of it says where that may be a field that isn't there: then this is the first number that no field of the worksheet found
 -- on the disk has, and nothing was done.
-abbrev pub TellsEvalFault : {C : Type 0} → Setting C → DiskView → DiskView → C → C → Option (List ℕ) → Option (List ℕ) → Type 0 → EvalFault → Type 0
-TellsEvalFault o disk back c d a b nothing (evals.NoField id) = nothing × ((start : World) × (now : DiskView) × OpenedOn disk start now × (missing_in o.plan.which (sheet_in start).fields ≡ Some id))
-TellsEvalFault o disk back c d a b nothing (evals.Run why) = TellsEvaluation o disk back c d a b nothing why
+abbrev pub TellsEvalFault : {C : Type 0} → Setting C → Outside C → Outside C → Type 0 → EvalFault → Type 0
+TellsEvalFault o first last nothing (evals.NoField id) =
+    nothing × ((start : World) × (now : DiskView) × OpenedOn first.disk start now × (missing_in o.plan.which (sheet_in start).fields ≡ Some id))
+TellsEvalFault o first last nothing (evals.Run why) = TellsEvaluation o first last nothing why

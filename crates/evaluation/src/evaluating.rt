@@ -7,6 +7,7 @@ ghost use Rattle.child_edge.specs.Faithful.{at};
 ghost use Rattle.child_edge.specs.Seats.{running};
 ghost use Rattle.child_edge.specs.Stops.{Stops};
 ghost use Rattle.offline_programs.specs.Faults.{Untouched};
+ghost use Rattle.live.specs.Records.{left, outside};
 ghost use Rattle.evaluation.specs.Meant as meant;
 ghost use Rattle.evaluation.specs.Rounds.{asking_order};
 ghost use Rattle.evaluation.specs.Steps.{setting, stands};
@@ -89,10 +90,10 @@ pub(crate) fn evaluate_on<D: Disk, S: Sources, T: Tells, W: Write>(
     ensures same { SameDisk host.old.store.disk host.new.store.disk }
     ensures ok { (w : World) → IsHost host.old w → IfOk result (Through
         (setting T.voice S.after S.clock S.wakes plan.now ids.now) (stands (at w sources.old host.old.store.disk) from)
-        host.new sources.new (W.contents writer.old) (W.contents writer.new)) }
+        (left host.new sources.new (W.contents writer.old) (W.contents writer.new))) }
     ensures err { (w : World) → IsHost host.old w → IfErr result (BrokeOff
-        (setting T.voice S.after S.clock S.wakes plan.now ids.now) (stands (at w sources.old host.old.store.disk) from)
-        (λ t. t.children ≡ sources.new) host.new (W.contents writer.old) (W.contents writer.new)) }
+        (setting T.voice S.after S.clock S.wakes plan.now ids.now) (stands (at w sources.old host.old.store.disk) from) (λ t. t.children ≡ sources.new)
+        (left host.new sources.new (W.contents writer.old) (W.contents writer.new))) }
     ensures taken { IfOk result (λ stand. stand.taken ≤ length ids.now) }
 {
     let mut stand = from;
@@ -120,11 +121,11 @@ fn evaluate_and_stop<D: Disk, S: Sources, T: Tells, W: Write>(
     requires few { length ids.now < 2 ^ 31 }
     ensures same { SameDisk host.old.store.disk host.new.store.disk }
     ensures ok { (w : World) → IsHost host.old w → IfOk result (ThroughAnd
-        (setting T.voice S.after S.clock S.wakes plan.now ids.now) (stands (at w sources.old host.old.store.disk) begins)
-        (λ t. Stops S.after (running t.world) t.children sources.new) host.new (W.contents writer.old) (W.contents writer.new)) }
+        (setting T.voice S.after S.clock S.wakes plan.now ids.now) (stands (at w sources.old host.old.store.disk) begins) (λ t. Stops S.after (running t.world) t.children sources.new)
+        (left host.new sources.new (W.contents writer.old) (W.contents writer.new))) }
     ensures err { (w : World) → IsHost host.old w → IfErr result (BrokeOff
-        (setting T.voice S.after S.clock S.wakes plan.now ids.now) (stands (at w sources.old host.old.store.disk) begins)
-        (λ t. Stops S.after (running t.world) t.children sources.new) host.new (W.contents writer.old) (W.contents writer.new)) }
+        (setting T.voice S.after S.clock S.wakes plan.now ids.now) (stands (at w sources.old host.old.store.disk) begins) (λ t. Stops S.after (running t.world) t.children sources.new)
+        (left host.new sources.new (W.contents writer.old) (W.contents writer.new))) }
     ensures taken { IfOk result (λ stand. stand.taken ≤ length ids.now) }
 {
     let done = evaluate_on(alloc, host, sources, plan, ids, not_begun(), tells, writer);
@@ -209,13 +210,15 @@ pub fn evaluate<W: Write, D: Disk, S: Sources, T: Tells>(
     disk: D,
     sources: &mut S,
 ) -> Evaluated<D>
-    ensures evaluated { IfOk result.answer (λ end. EvaluationDone (setting T.voice S.after S.clock S.wakes plan.now [])
-        (D.view disk) sources.old sources.new (W.contents writer.old) (W.contents writer.new)
-        (D.view result.disk) end.stopped_at end.counts) }
+    ensures evaluated { IfOk result.answer (λ end. EvaluationDone
+        (setting T.voice S.after S.clock S.wakes plan.now [])
+        (outside (D.view disk) sources.old (W.contents writer.old))
+        (outside (D.view result.disk) sources.new (W.contents writer.new)) end.stopped_at end.counts) }
     ensures same { SameDisk (D.view disk) (D.view result.disk) }
-    ensures fault { IfErr result.answer (TellsEvalFault (setting T.voice S.after S.clock S.wakes plan.now [])
-        (D.view disk) (D.view result.disk) sources.old sources.new
-        (W.contents writer.old) (W.contents writer.new)
+    ensures fault { IfErr result.answer (TellsEvalFault
+        (setting T.voice S.after S.clock S.wakes plan.now [])
+        (outside (D.view disk) sources.old (W.contents writer.old))
+        (outside (D.view result.disk) sources.new (W.contents writer.new))
         (((writer.new ≡ writer.old) × (sources.new ≡ sources.old))
         × Untouched (D.view disk) (D.view result.disk))) }
 

@@ -4,6 +4,7 @@ ghost use Rattle.disk_model.specs.Disk.{SameDisk};
 ghost use Rattle.session_engine.specs.World.{World, sheet_in};
 ghost use Rattle.session_engine.specs.Host.{IsHost};
 ghost use Rattle.child_edge.specs.Faithful.{at};
+ghost use Rattle.live.specs.Records.{left};
 ghost use Rattle.evaluation.specs.declared.plan.Plan.{Plan};
 ghost use Rattle.evaluation.specs.Beside.{IsWatchDue, NoneJoins};
 ghost use Rattle.evaluation.specs.Meant.{IsAsked};
@@ -85,10 +86,10 @@ fn ask_field<D: Disk, S: Sources, T: Tells, W: Write>(
     ensures same { SameDisk host.old.store.disk host.new.store.disk }
     ensures ok { (meant : List ℕ) (w : World) → IsHost host.old w → IsAsked plan.now (sheet_in w).fields meant stand place id → IfOk result (Took
         (setting T.voice S.after S.clock S.wakes plan.now meant) (stands (at w sources.old host.old.store.disk) stand) (ask place id)
-        host.new sources.new (W.contents writer.old) (W.contents writer.new)) }
+        (left host.new sources.new (W.contents writer.old) (W.contents writer.new))) }
     ensures err { (meant : List ℕ) (w : World) → IsHost host.old w → IsAsked plan.now (sheet_in w).fields meant stand place id → IfErr result (TakingFailed
         (setting T.voice S.after S.clock S.wakes plan.now meant) (stands (at w sources.old host.old.store.disk) stand) (ask place id)
-        host.new sources.new (W.contents writer.old) (W.contents writer.new)) }
+        (left host.new sources.new (W.contents writer.old) (W.contents writer.new))) }
     ensures taken { IfOk result (λ next. next.taken ≡ place + 1) }
     ensures counts { IfOk result (λ next. (next.asked ≡ stand.asked + 1) × (next.overs ≡ stand.overs)) }
 {
@@ -122,10 +123,10 @@ fn take_life<D: Disk, S: Sources, T: Tells, W: Write>(
     ensures same { SameDisk host.old.store.disk host.new.store.disk }
     ensures ok { (plan : Plan) (meant : List ℕ) (w : World) → IsHost host.old w → IfOk result (Took
         (setting T.voice S.after S.clock S.wakes plan meant) (stands (at w sources.old host.old.store.disk) stand) (heard seat)
-        host.new sources.new (W.contents writer.old) (W.contents writer.new)) }
+        (left host.new sources.new (W.contents writer.old) (W.contents writer.new))) }
     ensures err { (plan : Plan) (meant : List ℕ) (w : World) → IsHost host.old w → IfErr result (TakingFailed
         (setting T.voice S.after S.clock S.wakes plan meant) (stands (at w sources.old host.old.store.disk) stand) (heard seat)
-        host.new sources.new (W.contents writer.old) (W.contents writer.new)) }
+        (left host.new sources.new (W.contents writer.old) (W.contents writer.new))) }
     ensures taken { IfOk result (λ next. next.taken ≡ stand.taken) }
     ensures counts { IfOk result (λ next. (next.asked ≡ stand.asked) × (next.overs ≡ stand.overs)) }
 {
@@ -155,10 +156,10 @@ fn take_woken<D: Disk, S: Sources, T: Tells, W: Write>(
     ensures same { SameDisk host.old.store.disk host.new.store.disk }
     ensures ok { (w : World) → IsHost host.old w → IfOk result (Turned
         (setting T.voice S.after S.clock S.wakes plan.now ids.now) (stands (at w sources.old host.old.store.disk) stand) woken
-        host.new sources.new (W.contents writer.old) (W.contents writer.new)) }
+        (left host.new sources.new (W.contents writer.old) (W.contents writer.new))) }
     ensures err { (w : World) → IsHost host.old w → IfErr result (TurnFailed
         (setting T.voice S.after S.clock S.wakes plan.now ids.now) (stands (at w sources.old host.old.store.disk) stand) woken
-        host.new sources.new (W.contents writer.old) (W.contents writer.new)) }
+        (left host.new sources.new (W.contents writer.old) (W.contents writer.new))) }
     ensures taken { IfOk result (λ next. next.taken ≡ stand.taken) }
     ensures counts { IfOk result (λ next. (next.asked ≡ stand.asked) × (next.overs ≤ stand.overs + 1)) }
 {
@@ -188,10 +189,10 @@ fn take_turn<D: Disk, S: Sources, T: Tells, W: Write>(
     ensures same { SameDisk host.old.store.disk host.new.store.disk }
     ensures ok { (w : World) → IsHost host.old w → IfOk result (StepTook
         (setting T.voice S.after S.clock S.wakes plan.now ids.now) (stands (at w sources.old host.old.store.disk) stand)
-        host.new sources.new (W.contents writer.old) (W.contents writer.new)) }
+        (left host.new sources.new (W.contents writer.old) (W.contents writer.new))) }
     ensures err { (w : World) → IsHost host.old w → IfErr result (StepFailed
         (setting T.voice S.after S.clock S.wakes plan.now ids.now) (stands (at w sources.old host.old.store.disk) stand)
-        host.new sources.new (W.contents writer.old) (W.contents writer.new)) }
+        (left host.new sources.new (W.contents writer.old) (W.contents writer.new))) }
     ensures taken { IfOk result (λ next. next.taken ≡ stand.taken) }
     ensures counts { IfOk result (λ next. (next.asked ≡ stand.asked) × (next.overs ≤ stand.overs + 1)) }
 {
@@ -221,10 +222,10 @@ fn take_late_or_turn<D: Disk, S: Sources, T: Tells, W: Write>(
     ensures same { SameDisk host.old.store.disk host.new.store.disk }
     ensures ok { (w : World) → IsHost host.old w → IfOk result (StepTook
         (setting T.voice S.after S.clock S.wakes plan.now ids.now) (stands (at w sources.old host.old.store.disk) stand)
-        host.new sources.new (W.contents writer.old) (W.contents writer.new)) }
+        (left host.new sources.new (W.contents writer.old) (W.contents writer.new))) }
     ensures err { (w : World) → IsHost host.old w → IfErr result (StepFailed
         (setting T.voice S.after S.clock S.wakes plan.now ids.now) (stands (at w sources.old host.old.store.disk) stand)
-        host.new sources.new (W.contents writer.old) (W.contents writer.new)) }
+        (left host.new sources.new (W.contents writer.old) (W.contents writer.new))) }
     ensures taken { IfOk result (λ next. next.taken ≡ stand.taken) }
     ensures counts { IfOk result (λ next. (next.asked ≡ stand.asked) × (next.overs ≤ stand.overs + 1)) }
 {
@@ -254,10 +255,10 @@ fn ask_at<D: Disk, S: Sources, T: Tells, W: Write>(
     ensures same { SameDisk host.old.store.disk host.new.store.disk }
     ensures ok { (w : World) → IsHost host.old w → IfOk result (StepTook
         (setting T.voice S.after S.clock S.wakes plan.now ids.now) (stands (at w sources.old host.old.store.disk) stand)
-        host.new sources.new (W.contents writer.old) (W.contents writer.new)) }
+        (left host.new sources.new (W.contents writer.old) (W.contents writer.new))) }
     ensures err { (w : World) → IsHost host.old w → IfErr result (StepFailed
         (setting T.voice S.after S.clock S.wakes plan.now ids.now) (stands (at w sources.old host.old.store.disk) stand)
-        host.new sources.new (W.contents writer.old) (W.contents writer.new)) }
+        (left host.new sources.new (W.contents writer.old) (W.contents writer.new))) }
     ensures taken { IfOk result (λ next. next.taken ≤ length ids.now) }
     ensures counts { IfOk result (λ next. (next.asked ≡ stand.asked + 1) × (next.overs ≡ stand.overs)) }
 {
@@ -283,10 +284,10 @@ fn take_beside<D: Disk, S: Sources, T: Tells, W: Write>(
     ensures same { SameDisk host.old.store.disk host.new.store.disk }
     ensures ok { (w : World) → IsHost host.old w → IfOk result (StepTook
         (setting T.voice S.after S.clock S.wakes plan.now ids.now) (stands (at w sources.old host.old.store.disk) stand)
-        host.new sources.new (W.contents writer.old) (W.contents writer.new)) }
+        (left host.new sources.new (W.contents writer.old) (W.contents writer.new))) }
     ensures err { (w : World) → IsHost host.old w → IfErr result (StepFailed
         (setting T.voice S.after S.clock S.wakes plan.now ids.now) (stands (at w sources.old host.old.store.disk) stand)
-        host.new sources.new (W.contents writer.old) (W.contents writer.new)) }
+        (left host.new sources.new (W.contents writer.old) (W.contents writer.new))) }
     ensures taken { IfOk result (λ next. next.taken ≤ length ids.now) }
     ensures counts { IfOk result (λ next.
         (next.asked ≤ stand.asked + 1) × (next.overs ≤ stand.overs + 1)) }
@@ -315,10 +316,10 @@ fn take_next<D: Disk, S: Sources, T: Tells, W: Write>(
     ensures same { SameDisk host.old.store.disk host.new.store.disk }
     ensures ok { (w : World) → IsHost host.old w → IfOk result (StepGave
         (setting T.voice S.after S.clock S.wakes plan.now ids.now) (stands (at w sources.old host.old.store.disk) stand)
-        host.new sources.new (W.contents writer.old) (W.contents writer.new)) }
+        (left host.new sources.new (W.contents writer.old) (W.contents writer.new))) }
     ensures err { (w : World) → IsHost host.old w → IfErr result (StepFailed
         (setting T.voice S.after S.clock S.wakes plan.now ids.now) (stands (at w sources.old host.old.store.disk) stand)
-        host.new sources.new (W.contents writer.old) (W.contents writer.new)) }
+        (left host.new sources.new (W.contents writer.old) (W.contents writer.new))) }
     ensures taken { IfOk result (λ next. IfSome next (λ after. after.taken ≤ length ids.now)) }
     ensures counts { IfOk result (λ next. IfSome next (λ after.
         (after.asked ≤ stand.asked + 1) × (after.overs ≤ stand.overs + 1))) }
@@ -352,10 +353,10 @@ pub(crate) fn step<D: Disk, S: Sources, T: Tells, W: Write>(
     ensures same { SameDisk host.old.store.disk host.new.store.disk }
     ensures ok { (w : World) → IsHost host.old w → IfOk result (StepGave
         (setting T.voice S.after S.clock S.wakes plan.now ids.now) (stands (at w sources.old host.old.store.disk) stand)
-        host.new sources.new (W.contents writer.old) (W.contents writer.new)) }
+        (left host.new sources.new (W.contents writer.old) (W.contents writer.new))) }
     ensures err { (w : World) → IsHost host.old w → IfErr result (StepFailed
         (setting T.voice S.after S.clock S.wakes plan.now ids.now) (stands (at w sources.old host.old.store.disk) stand)
-        host.new sources.new (W.contents writer.old) (W.contents writer.new)) }
+        (left host.new sources.new (W.contents writer.old) (W.contents writer.new))) }
     ensures taken { IfOk result (λ next. IfSome next (λ after. after.taken ≤ length ids.now)) }
     ensures counts { IfOk result (λ next. IfSome next (λ after.
         (after.asked ≤ stand.asked + 1) × (after.overs ≤ stand.overs + 1))) }

@@ -5,6 +5,7 @@ ghost use Rattle.worksheet.specs.Checks.{field_in};
 ghost use Rattle.session_engine.specs.World.{World, sheet_in};
 ghost use Rattle.session_engine.specs.Host.{IsHost};
 ghost use Rattle.child_edge.specs.Faithful.{at};
+ghost use Rattle.live.specs.Records.{left};
 ghost use Rattle.evaluation.specs.declared.plan.Plan.{Plan};
 ghost use Rattle.evaluation.specs.Steps.{InterruptsFor, LimitBegins, over, setting, stalled, stands};
 ghost use Rattle.evaluation.specs.inside.Stepping.{TakingFailed, TimeFailed, TimeTook, Took};
@@ -59,10 +60,10 @@ pub(crate) fn end_time<D: Disk, S: Sources, T: Tells, W: Write>(
     requires counted { stand.overs + 1 < 2 ^ 64 }
     ensures ok { (plan : Plan) (meant : List ℕ) (w : World) → IsHost host.now w → IfOk result (Took
         (setting T.voice S.after S.clock S.wakes plan meant) (stands (at w sources.old host.now.store.disk) stand) (over late.place late.id)
-        host.now sources.new (W.contents writer.old) (W.contents writer.new)) }
+        (left host.now sources.new (W.contents writer.old) (W.contents writer.new))) }
     ensures err { (plan : Plan) (meant : List ℕ) (w : World) → IsHost host.now w → IfErr result (TakingFailed
         (setting T.voice S.after S.clock S.wakes plan meant) (stands (at w sources.old host.now.store.disk) stand) (over late.place late.id)
-        host.now sources.new (W.contents writer.old) (W.contents writer.new)) }
+        (left host.now sources.new (W.contents writer.old) (W.contents writer.new))) }
     ensures taken { IfOk result (λ next. next.taken ≡ stand.taken) }
     ensures counts { IfOk result (λ next. (next.asked ≡ stand.asked) × (next.overs ≡ stand.overs + 1)) }
 {
@@ -85,10 +86,10 @@ fn end_grace<D: Disk, S: Sources, T: Tells, W: Write>(
     ensures same { SameDisk host.old.store.disk host.new.store.disk }
     ensures ok { (plan : Plan) (meant : List ℕ) (w : World) → IsHost host.old w → IfOk result (Took
         (setting T.voice S.after S.clock S.wakes plan meant) (stands (at w sources.old host.old.store.disk) stand) stalled
-        host.new sources.new (W.contents writer.old) (W.contents writer.new)) }
+        (left host.new sources.new (W.contents writer.old) (W.contents writer.new))) }
     ensures err { (plan : Plan) (meant : List ℕ) (w : World) → IsHost host.old w → IfErr result (TakingFailed
         (setting T.voice S.after S.clock S.wakes plan meant) (stands (at w sources.old host.old.store.disk) stand) stalled
-        host.new sources.new (W.contents writer.old) (W.contents writer.new)) }
+        (left host.new sources.new (W.contents writer.old) (W.contents writer.new))) }
     ensures taken { IfOk result (λ next. next.taken ≡ stand.taken) }
     ensures counts { IfOk result (λ next. (next.asked ≡ stand.asked) × (next.overs ≡ stand.overs)) }
 {
@@ -118,10 +119,10 @@ pub(crate) fn take_time<D: Disk, S: Sources, T: Tells, W: Write>(
     ensures same { SameDisk host.old.store.disk host.new.store.disk }
     ensures ok { (w : World) → IsHost host.old w → IfOk result (TimeTook
         (setting T.voice S.after S.clock S.wakes plan.now ids.now) (stands (at w sources.old host.old.store.disk) stand)
-        host.new sources.new (W.contents writer.old) (W.contents writer.new)) }
+        (left host.new sources.new (W.contents writer.old) (W.contents writer.new))) }
     ensures err { (w : World) → IsHost host.old w → IfErr result (TimeFailed
         (setting T.voice S.after S.clock S.wakes plan.now ids.now) (stands (at w sources.old host.old.store.disk) stand)
-        host.new sources.new (W.contents writer.old) (W.contents writer.new)) }
+        (left host.new sources.new (W.contents writer.old) (W.contents writer.new))) }
     ensures taken { IfOk result (λ next. next.taken ≡ stand.taken) }
     ensures counts { IfOk result (λ next. (next.asked ≡ stand.asked) × (next.overs ≤ stand.overs + 1)) }
 {

@@ -52,6 +52,7 @@ pub data HearingFailed {C : Type 0} (o : Edge C) (seat : Seat) (s : At C) (left 
   stopped : (f : HostFault) (beats : List Beat) (e : Event) (t : World) (d : DiskView) → TakenUpTo o.after true seat s beats e (at t left.sources d) → Stopped d left.host t e f
       → Appends left.out left.now (came_text o.voice (sheet_in t) (told beats)) → HearingFailed o seat s left (fault.Host f)
   refused : (t : World) → at t left.sources left.host.store.disk ≡ s → IsHost left.host t → Appends left.out left.now [] → HearingFailed o seat s left fault.OutOfMemory
+  -- a voice that takes memory had none for what is written
   untold : o.voice.takes_memory ≡ true → HeardUnwritten o seat s left → HearingFailed o seat s left fault.OutOfMemory
   unwritten : HeardUnwritten o seat s left → HearingFailed o seat s left fault.Output
 
@@ -212,17 +213,19 @@ pub data LivingFailed {C : Type 0} (o : Edge C) (p : LivePlace C) (left : Left C
   untold : o.voice.takes_memory ≡ true → LivedUnwritten o p left old → LivingFailed o p left old fault.OutOfMemory
   unwritten : LivedUnwritten o p left old → LivingFailed o p left old fault.Output
 
--- The same, and each life that goes on was stopped after it.
+-- All came and was taken, up to the end of the input, and each life that goes on was stopped after it.
 abbrev pub Ended : {C : Type 0} → Edge C → LivePlace C → Left C → Option (List InputLine) → Type 0
 Ended {C = C} o p left old =
     (came : List Arrival) × (it : Brought) × (q : LivePlace C) × (c : C) × LivedTo o p left came it q
     × EndComes o.watches q.held q.run.children c × IfSome old (λ lines. lines ≡ lines_in came) × Stops o.after (running q.run.world) c left.sources
 
+-- What came last couldn't be written, and each life that goes on was stopped after it.
 abbrev pub EndedUnwritten : {C : Type 0} → Edge C → LivePlace C → Left C → Option (List InputLine) → Type 0
 EndedUnwritten {C = C} o p left old =
     (came : List Arrival) × (t : At C) × LivedLed o p came t × StandsOrStopped left.host t.world t.disk × IsFront old came
     × Stops o.after (running t.world) t.children left.sources
 
+-- What a fault leaves where each life that goes on was stopped after it.
 pub data EndedBy {C : Type 0} (o : Edge C) (p : LivePlace C) (left : Left C) (old : Option (List InputLine)) : RunFault → Type 0 where
   unread : (came : List Arrival) (it : Brought) (q : LivePlace C) (c : C) → LivedTo o p left came it q → NoMoreComes o.watches q.held q.run.children c
       → IsFront old came → Stops o.after (running q.run.world) c left.sources → EndedBy o p left old fault.Input

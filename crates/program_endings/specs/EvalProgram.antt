@@ -11,6 +11,7 @@ use Rattle.tellings.specs.Voice.{IsUntold, Voice}
 use Rattle.tellings.specs.declared.note.Counts.{Counts}
 use Rattle.tellings.specs.declared.note.Frame.TheVariants as frame
 use Rattle.tellings.specs.declared.note.Overs.{Overs}
+use Rattle.live.specs.Records.{outside}
 use Rattle.evaluation.specs.Steps.{Setting}
 use Rattle.evaluation.specs.Evaluation.{EvaluationDone, TellsEvalFault}
 use Rattle.evaluation.specs.Faults.{eval_fault_text}
@@ -62,11 +63,11 @@ pub record EvaluatesTo {D C : Type 0} (o : Setting C) (k : Closable D) (disk : D
   pub later : D
   pub closed : k.closed later
   pub same : SameDisk (k.view disk) (k.view later)
-  pub evaluated : IfOk answer (λ end. EvaluationDone o (k.view disk) c d a b (k.view later) end.stopped_at end.counts)
+  pub evaluated : IfOk answer (λ end. EvaluationDone o (outside (k.view disk) c a) (outside (k.view later) d b) end.stopped_at end.counts)
   -- that the disk failed, at the opening or later, is reported only where it did
   pub unopened : IsErrOf answer (evals.Run (fault.Open opens.Disk)) → Rises (k.view disk).faults (k.view later).faults
   pub failed : IsErrOf answer (evals.Run (fault.Host hosts.Disk)) → Rises (k.view disk).faults (k.view later).faults
-  pub fault : IfErr answer (TellsEvalFault o (k.view disk) (k.view later) c d a b (nothing × Untouched (k.view disk) (k.view later)))
+  pub fault : IfErr answer (TellsEvalFault o (outside (k.view disk) c a) (outside (k.view later) d b) (nothing × Untouched (k.view disk) (k.view later)))
 
 -- What `eval` answers on a disk, and what it has written and done then.
 pub data EvalAnswer {D C O : Type 0} (o : Setting C) (k : Closable D) (disk : D) (c d : C) (contents : O → Option (List ℕ)) (old new : O) (answer : EvaluationAnswer) : Type 0 where

@@ -9,6 +9,7 @@ use Rattle.child_edge.specs.Faithful.{At, at, Beat}
 use Rattle.child_edge.specs.Edge.{Stopped}
 use Rattle.arrivals.specs.declared.sources.Woken.{Woken}
 use Rattle.arrivals.specs.declared.sources.Woken.TheVariants as woken
+use Rattle.live.specs.Records.{Left}
 use Rattle.live.specs.Arrivals.{WatchTells}
 use Rattle.sheet_programs.specs.Told.{StandsOrStopped}
 use Rattle.offline_programs.specs.declared.fault.RunFault.{RunFault}
@@ -27,33 +28,36 @@ IsTimeOf o p (over n id) = (p.stand.warned ≡ false) × IsLate p.run.world o.me
 IsTimeOf o p stalled = p.stand.warned ≡ true
 
 -- A step was taken, and what came of it is written; the host and the children stand there.
-abbrev pub Took : {C : Type 0} → Setting C → EvalPlace C → Step → HostView → C → Option (List ℕ) → Option (List ℕ) → Stand → Type 0
-Took o p s h c a b stand =
-    (beats : List Beat) × (text : List ℕ) × (w : World) × TakesStep o p s beats text (stands (at w c h.store.disk) stand) × IsHost h w × Appends a b text
+abbrev pub Took : {C : Type 0} → Setting C → EvalPlace C → Step → Left C → Stand → Type 0
+Took o p s left stand =
+    (beats : List Beat) × (text : List ℕ) × (w : World) × TakesStep o p s beats text (stands (at w left.sources left.host.store.disk) stand) × IsHost left.host w
+    × Appends left.out left.now text
 
 -- what came of it couldn't be written
-abbrev pub TookUnwritten : {C : Type 0} → Setting C → EvalPlace C → Step → HostView → C → Type 0
-TookUnwritten o p s h c = (beats : List Beat) × (w : World) × (x : DiskView) × StepLed o p s beats (at w c x) × StandsOrStopped h w x
+abbrev pub TookUnwritten : {C : Type 0} → Setting C → EvalPlace C → Step → Left C → Type 0
+TookUnwritten o p s left = (beats : List Beat) × (w : World) × (x : DiskView) × StepLed o p s beats (at w left.sources x) × StandsOrStopped left.host w x
 
 -- what a fault of that leaves
-abbrev pub TakingFailed : {C : Type 0} → Setting C → EvalPlace C → Step → HostView → C → Option (List ℕ) → Option (List ℕ) → RunFault → Type 0
-TakingFailed o p s h c a b (fault.Host f) =
-    (beats : List Beat) × (e : Event) × (w : World) × (x : DiskView) × StepUpTo o e p s beats (at w c x) × Stopped x h w e f × Appends a b (step_text o.voice s (sheet_in w) beats)
-TakingFailed o p s h c a b fault.OutOfMemory =
-    ((beats : List Beat) × (w : World) × StepSoFar o p s beats (at w c h.store.disk) × IsHost h w × Appends a b (step_text o.voice s (sheet_in w) beats))
-    ⊎ ((o.voice.takes_memory ≡ true) × TookUnwritten o p s h c)
-TakingFailed o p s h c a b fault.Output = TookUnwritten o p s h c
-TakingFailed o p s h c a b fault.Input = ⊥
-TakingFailed o p s h c a b fault.InputTooLong = ⊥
-TakingFailed o p s h c a b (fault.Open why) = ⊥
-TakingFailed o p s h c a b fault.InUse = ⊥
+abbrev pub TakingFailed : {C : Type 0} → Setting C → EvalPlace C → Step → Left C → RunFault → Type 0
+TakingFailed o p s left (fault.Host f) =
+    (beats : List Beat) × (e : Event) × (w : World) × (x : DiskView) × StepUpTo o e p s beats (at w left.sources x) × Stopped x left.host w e f
+    × Appends left.out left.now (step_text o.voice s (sheet_in w) beats)
+TakingFailed o p s left fault.OutOfMemory =
+    ((beats : List Beat) × (w : World) × StepSoFar o p s beats (at w left.sources left.host.store.disk) × IsHost left.host w
+    × Appends left.out left.now (step_text o.voice s (sheet_in w) beats))
+    ⊎ ((o.voice.takes_memory ≡ true) × TookUnwritten o p s left)
+TakingFailed o p s left fault.Output = TookUnwritten o p s left
+TakingFailed o p s left fault.Input = ⊥
+TakingFailed o p s left fault.InputTooLong = ⊥
+TakingFailed o p s left (fault.Open why) = ⊥
+TakingFailed o p s left fault.InUse = ⊥
 
 -- the step of a time that is over was taken
-abbrev pub TimeTook : {C : Type 0} → Setting C → EvalPlace C → HostView → C → Option (List ℕ) → Option (List ℕ) → Stand → Type 0
-TimeTook o p h c a b stand = (s : Step) × IsTimeOf o p s × Took o p s h c a b stand
+abbrev pub TimeTook : {C : Type 0} → Setting C → EvalPlace C → Left C → Stand → Type 0
+TimeTook o p left stand = (s : Step) × IsTimeOf o p s × Took o p s left stand
 
-abbrev pub TimeFailed : {C : Type 0} → Setting C → EvalPlace C → HostView → C → Option (List ℕ) → Option (List ℕ) → RunFault → Type 0
-TimeFailed o p h c a b f = (s : Step) × IsTimeOf o p s × TakingFailed o p s h c a b f
+abbrev pub TimeFailed : {C : Type 0} → Setting C → EvalPlace C → Left C → RunFault → Type 0
+TimeFailed o p left f = (s : Step) × IsTimeOf o p s × TakingFailed o p s left f
 
 -- the step that comes of this turn
 abbrev pub IsOf : {C : Type 0} → Setting C → EvalPlace C → Woken → Step → Type 0
@@ -62,49 +66,49 @@ IsOf o p (woken.Life seat) s = s ≡ heard seat
 IsOf o p woken.TimeOver s = IsTimeOf o p s
 
 -- whoever's turn it was had it
-abbrev pub Turned : {C : Type 0} → Setting C → EvalPlace C → Woken → HostView → C → Option (List ℕ) → Option (List ℕ) → Stand → Type 0
-Turned o p told h c a b stand = (s : Step) × IsOf o p told s × Took o p s h c a b stand
+abbrev pub Turned : {C : Type 0} → Setting C → EvalPlace C → Woken → Left C → Stand → Type 0
+Turned o p told left stand = (s : Step) × IsOf o p told s × Took o p s left stand
 
-abbrev pub TurnFailed : {C : Type 0} → Setting C → EvalPlace C → Woken → HostView → C → Option (List ℕ) → Option (List ℕ) → RunFault → Type 0
-TurnFailed o p told h c a b f = (s : Step) × IsOf o p told s × TakingFailed o p s h c a b f
+abbrev pub TurnFailed : {C : Type 0} → Setting C → EvalPlace C → Woken → Left C → RunFault → Type 0
+TurnFailed o p told left f = (s : Step) × IsOf o p told s × TakingFailed o p s left f
 
 -- a step came and was taken
-abbrev pub StepTook : {C : Type 0} → Setting C → EvalPlace C → HostView → C → Option (List ℕ) → Option (List ℕ) → Stand → Type 0
-StepTook {C = C} o p h c a b stand = (s : Step) × (d : C) × StepComes o p s d × Took o (woken_in p d) s h c a b stand
+abbrev pub StepTook : {C : Type 0} → Setting C → EvalPlace C → Left C → Stand → Type 0
+StepTook {C = C} o p left stand = (s : Step) × (d : C) × StepComes o p s d × Took o (woken_in p d) s left stand
 
-abbrev pub CameFailed : {C : Type 0} → Setting C → EvalPlace C → HostView → C → Option (List ℕ) → Option (List ℕ) → RunFault → Type 0
-CameFailed {C = C} o p h c a b f = (s : Step) × (d : C) × StepComes o p s d × TakingFailed o (woken_in p d) s h c a b f
+abbrev pub CameFailed : {C : Type 0} → Setting C → EvalPlace C → Left C → RunFault → Type 0
+CameFailed {C = C} o p left f = (s : Step) × (d : C) × StepComes o p s d × TakingFailed o (woken_in p d) s left f
 
 -- nothing was done
-abbrev pub Rests : {C : Type 0} → EvalPlace C → HostView → Option (List ℕ) → Option (List ℕ) → Type 0
-Rests p h a b = (h.store.disk ≡ p.run.disk) × IsHost h p.run.world × Appends a b []
+abbrev pub Rests : {C : Type 0} → EvalPlace C → Left C → Type 0
+Rests p left = (left.host.store.disk ≡ p.run.disk) × IsHost left.host p.run.world × Appends left.out left.now []
 
 -- what a fault at a step leaves
-abbrev pub StepFailed : {C : Type 0} → Setting C → EvalPlace C → HostView → C → Option (List ℕ) → Option (List ℕ) → RunFault → Type 0
-StepFailed o p h c a b (fault.Host f) = CameFailed o p h c a b (fault.Host f)
-StepFailed o p h c a b fault.OutOfMemory = CameFailed o p h c a b fault.OutOfMemory
-StepFailed o p h c a b fault.Output = CameFailed o p h c a b fault.Output
-StepFailed o p h c a b fault.Input = Rests p h a b × WatchTells (watches_of o) p.stand.held p.run.children false None c
-StepFailed o p h c a b fault.InputTooLong = ⊥
-StepFailed o p h c a b (fault.Open why) = ⊥
-StepFailed o p h c a b fault.InUse = ⊥
+abbrev pub StepFailed : {C : Type 0} → Setting C → EvalPlace C → Left C → RunFault → Type 0
+StepFailed o p left (fault.Host f) = CameFailed o p left (fault.Host f)
+StepFailed o p left fault.OutOfMemory = CameFailed o p left fault.OutOfMemory
+StepFailed o p left fault.Output = CameFailed o p left fault.Output
+StepFailed o p left fault.Input = Rests p left × WatchTells (watches_of o) p.stand.held p.run.children false None left.sources
+StepFailed o p left fault.InputTooLong = ⊥
+StepFailed o p left (fault.Open why) = ⊥
+StepFailed o p left fault.InUse = ⊥
 
 -- one step more, or the end, where nothing was done
-abbrev pub StepGave : {C : Type 0} → Setting C → EvalPlace C → HostView → C → Option (List ℕ) → Option (List ℕ) → Option Stand → Type 0
-StepGave o p h c a b (Some stand) = StepTook o p h c a b stand
-StepGave o p h c a b None = Rests p h a b × (c ≡ p.run.children) × ((stopped : Option ℕ) × Ends o p stopped)
+abbrev pub StepGave : {C : Type 0} → Setting C → EvalPlace C → Left C → Option Stand → Type 0
+StepGave o p left (Some stand) = StepTook o p left stand
+StepGave o p left None = Rests p left × (left.sources ≡ p.run.children) × ((stopped : Option ℕ) × Ends o p stopped)
 
 -- All steps up to the end were taken.
-abbrev pub Through : {C : Type 0} → Setting C → EvalPlace C → HostView → C → Option (List ℕ) → Option (List ℕ) → Stand → Type 0
-Through o p h c a b stand =
-    (steps : List Step) × (beats : List Beat) × (text : List ℕ) × (w : World) × StepsTaken o p steps beats text (stands (at w c h.store.disk) stand)
-    × IsHost h w × Appends a b text × ((stopped : Option ℕ) × Ends o (stands (at w c h.store.disk) stand) stopped)
+abbrev pub Through : {C : Type 0} → Setting C → EvalPlace C → Left C → Stand → Type 0
+Through o p left stand =
+    (steps : List Step) × (beats : List Beat) × (text : List ℕ) × (w : World) × StepsTaken o p steps beats text (stands (at w left.sources left.host.store.disk) stand)
+    × IsHost left.host w × Appends left.out left.now text × ((stopped : Option ℕ) × Ends o (stands (at w left.sources left.host.store.disk) stand) stopped)
 
 -- The same; the children are so after where it stands.
-abbrev pub ThroughAnd : {C : Type 0} → Setting C → EvalPlace C → (At C → Type 0) → HostView → Option (List ℕ) → Option (List ℕ) → Stand → Type 0
-ThroughAnd {C = C} o p Behind h a b stand =
+abbrev pub ThroughAnd : {C : Type 0} → Setting C → EvalPlace C → (At C → Type 0) → Left C → Stand → Type 0
+ThroughAnd {C = C} o p Behind left stand =
     (steps : List Step) × (beats : List Beat) × (text : List ℕ) × (t : At C) × StepsTaken o p steps beats text (stands t stand)
-    × IsHost h t.world × (t.disk ≡ h.store.disk) × Appends a b text × ((stopped : Option ℕ) × Ends o (stands t stand) stopped) × Behind t
+    × IsHost left.host t.world × (t.disk ≡ left.host.store.disk) × Appends left.out left.now text × ((stopped : Option ℕ) × Ends o (stands t stand) stopped) × Behind t
 
 -- So far it came, and what was reported is written.
 abbrev pub CameSoFar : {C : Type 0} → (List Beat → List ℕ → At C → Type 0) → (At C → Type 0) → HostView → Option (List ℕ) → Option (List ℕ) → Type 0
@@ -115,15 +119,17 @@ abbrev pub CameUnwritten : {C : Type 0} → Setting C → EvalPlace C → (At C 
 CameUnwritten {C = C} o p Behind h = (beats : List Beat) × (text : List ℕ) × (t : At C) × Cut o p (StepLed o) beats text t × StandsOrStopped h t.world t.disk × Behind t
 
 -- What a fault of an evaluation leaves; the children are so after where it stands.
-abbrev pub BrokeOff : {C : Type 0} → Setting C → EvalPlace C → (At C → Type 0) → HostView → Option (List ℕ) → Option (List ℕ) → RunFault → Type 0
-BrokeOff {C = C} o p Behind h a b (fault.Host f) =
-    (beats : List Beat) × (text : List ℕ) × (e : Event) × (t : At C) × Cut o p (StepUpTo o e) beats text t × Stopped t.disk h t.world e f × Behind t × Appends a b text
-BrokeOff o p Behind h a b fault.OutOfMemory = CameSoFar (Short o p) Behind h a b ⊎ ((o.voice.takes_memory ≡ true) × CameUnwritten o p Behind h)
-BrokeOff o p Behind h a b fault.Output = CameUnwritten o p Behind h
-BrokeOff o p Behind h a b fault.Input = CameSoFar (Unwatched o p) Behind h a b
-BrokeOff o p Behind h a b fault.InputTooLong = CameSoFar (TooMany o p) Behind h a b
-BrokeOff o p Behind h a b (fault.Open why) = ⊥
-BrokeOff o p Behind h a b fault.InUse = ⊥
+abbrev pub BrokeOff : {C : Type 0} → Setting C → EvalPlace C → (At C → Type 0) → Left C → RunFault → Type 0
+BrokeOff {C = C} o p Behind left (fault.Host f) =
+    (beats : List Beat) × (text : List ℕ) × (e : Event) × (t : At C) × Cut o p (StepUpTo o e) beats text t × Stopped t.disk left.host t.world e f × Behind t
+    × Appends left.out left.now text
+BrokeOff o p Behind left fault.OutOfMemory =
+    CameSoFar (Short o p) Behind left.host left.out left.now ⊎ ((o.voice.takes_memory ≡ true) × CameUnwritten o p Behind left.host)
+BrokeOff o p Behind left fault.Output = CameUnwritten o p Behind left.host
+BrokeOff o p Behind left fault.Input = CameSoFar (Unwatched o p) Behind left.host left.out left.now
+BrokeOff o p Behind left fault.InputTooLong = CameSoFar (TooMany o p) Behind left.host left.out left.now
+BrokeOff o p Behind left (fault.Open why) = ⊥
+BrokeOff o p Behind left fault.InUse = ⊥
 
 -- the fault of a wait by that of its steps, which write to a text in memory
 abbrev pub fault_of_wait : RunFault → RunFault

@@ -9,6 +9,7 @@ use Rattle.offline_programs.specs.declared.fault.RunFault.TheVariants as told
 use Rattle.journal.specs.declared.opening.OpenCause.TheVariants as opens
 use Rattle.host_events.specs.declared.outcome.HostFault.TheVariants as hosts
 use Rattle.sheet_programs.proofs.Runs.{opened_on, if_err_is, if_ok_is, err_same}
+use Rattle.live.specs.Records.{left}
 use Rattle.evaluation.specs.Meant.{evaluation_counts, stop_line}
 use Rattle.evaluation.specs.Steps.{setting, stands}
 use Rattle.evaluation.specs.Evaluation.{not_begun}
@@ -25,7 +26,7 @@ returns-in-Ok-note-clause-evaluated g c =
     let start = world_at_opening o.0 disk.room c.in-Ok.host.store.end in
     let found = c.in-Ok-ids_in.ensures.ids start o.1 in
     let is = c.as_slice.ensures.value ∙ found.1 in
-    let t = subst (λ m. ThroughAnd (setting g.T.Tells.voice g.S.Children.after g.S.Sources.clock g.S.Sources.wakes c.args.plan.now m) (stands (at start c.args.sources.now c.in-Ok.host.store.disk) not_begun) (StoppedBehind g.S.Children.after c.evaluate_and_stop-done.new.sources) c.evaluate_and_stop-done.new.host (g.W.Write.contents c.args.writer.now) (g.W.Write.contents c.evaluate_and_stop-done.new.writer) c.in-Ok-done.stand) is (if_ok_is c.evaluate_and_stop-done.result _ c.in-Ok-done.stand c.in-Ok-done.is (c.evaluate_and_stop-done.ensures.ok start o.1)) in
+    let t = subst (λ m. ThroughAnd (setting g.T.Tells.voice g.S.Children.after g.S.Sources.clock g.S.Sources.wakes c.args.plan.now m) (stands (at start c.args.sources.now c.in-Ok.host.store.disk) not_begun) (StoppedBehind g.S.Children.after c.evaluate_and_stop-done.new.sources) (left c.evaluate_and_stop-done.new.host c.evaluate_and_stop-done.new.sources (g.W.Write.contents c.args.writer.now) (g.W.Write.contents c.evaluate_and_stop-done.new.writer)) c.in-Ok-done.stand) is (if_ok_is c.evaluate_and_stop-done.result _ c.in-Ok-done.stand c.in-Ok-done.is (c.evaluate_and_stop-done.ensures.ok start o.1)) in
     evaluation_done (setting g.T.Tells.voice g.S.Children.after g.S.Sources.clock g.S.Sources.wakes c.args.plan.now []) disk c.in-Ok.host.store.disk c.args.sources.now c.evaluate_and_stop-done.new.sources (g.W.Write.contents c.args.writer.now) (g.W.Write.contents c.evaluate_and_stop-done.new.writer) start c.evaluate_and_stop-done.new.host
     ((opened_on disk c.in-Ok.host o.0 o.1 c.in-Ok.ensures.found c.in-Ok.ensures.ends c.in-Ok.ensures.looks), found.0) o.1.stands.images c.in-Ok-done.stand t
     (g.W.Write.contents c.note.new.writer) (g.D.Disk.view c.close-disk.result) c.stop_line-stopped_at.result c.counts_in-counts.result c.close-disk.ensures
@@ -40,7 +41,7 @@ returns-in-Ok-done-clause-fault g c =
     let start = world_at_opening o.0 disk.room c.in-Ok.host.store.end in
     let found = c.in-Ok-ids_in.ensures.ids start o.1 in
     let is = c.as_slice.ensures.value ∙ found.1 in
-    let t = subst (λ m. ThroughAnd (setting g.T.Tells.voice g.S.Children.after g.S.Sources.clock g.S.Sources.wakes c.args.plan.now m) (stands (at start c.args.sources.now c.in-Ok.host.store.disk) not_begun) (StoppedBehind g.S.Children.after c.evaluate_and_stop-done.new.sources) c.evaluate_and_stop-done.new.host (g.W.Write.contents c.args.writer.now) (g.W.Write.contents c.evaluate_and_stop-done.new.writer) c.in-Ok-done.stand) is (if_ok_is c.evaluate_and_stop-done.result _ c.in-Ok-done.stand c.in-Ok-done.is (c.evaluate_and_stop-done.ensures.ok start o.1)) in
+    let t = subst (λ m. ThroughAnd (setting g.T.Tells.voice g.S.Children.after g.S.Sources.clock g.S.Sources.wakes c.args.plan.now m) (stands (at start c.args.sources.now c.in-Ok.host.store.disk) not_begun) (StoppedBehind g.S.Children.after c.evaluate_and_stop-done.new.sources) (left c.evaluate_and_stop-done.new.host c.evaluate_and_stop-done.new.sources (g.W.Write.contents c.args.writer.now) (g.W.Write.contents c.evaluate_and_stop-done.new.writer)) c.in-Ok-done.stand) is (if_ok_is c.evaluate_and_stop-done.result _ c.in-Ok-done.stand c.in-Ok-done.is (c.evaluate_and_stop-done.ensures.ok start o.1)) in
     counts_untold (setting g.T.Tells.voice g.S.Children.after g.S.Sources.clock g.S.Sources.wakes c.args.plan.now []) disk c.in-Ok.host.store.disk c.args.sources.now c.evaluate_and_stop-done.new.sources (g.W.Write.contents c.args.writer.now) (g.W.Write.contents c.evaluate_and_stop-done.new.writer) start c.evaluate_and_stop-done.new.host
     ((opened_on disk c.in-Ok.host o.0 o.1 c.in-Ok.ensures.found c.in-Ok.ensures.ends c.in-Ok.ensures.looks), found.0) o.1.stands.images c.in-Ok-done.stand t
     (g.D.Disk.view c.close-disk.result) c.close-disk.ensures (g.W.Write.contents c.note.new.writer) _ c.in-Err-note.fault c.in-Err-note.ensures.err
@@ -76,14 +77,14 @@ returns-clause-fault g c =
     let is = c.as_slice.ensures.value ∙ found.1 in
     evaluation_failed (setting g.T.Tells.voice g.S.Children.after g.S.Sources.clock g.S.Sources.wakes c.args.plan.now []) disk c.in-Ok.host.store.disk c.args.sources.now c.evaluate_and_stop-done.new.sources (g.W.Write.contents c.args.writer.now) (g.W.Write.contents c.evaluate_and_stop-done.new.writer) start c.evaluate_and_stop-done.new.host
     ((opened_on disk c.in-Ok.host o.0 o.1 c.in-Ok.ensures.found c.in-Ok.ensures.ends c.in-Ok.ensures.looks), found.0) o.1.stands.images (g.D.Disk.view c.close-in-Err-done.result) c.close-in-Err-done.ensures _ c.in-Err-done.fault
-    (subst (λ m. BrokeOff (setting g.T.Tells.voice g.S.Children.after g.S.Sources.clock g.S.Sources.wakes c.args.plan.now m) (stands (at start c.args.sources.now c.in-Ok.host.store.disk) not_begun) (StoppedBehind g.S.Children.after c.evaluate_and_stop-done.new.sources) c.evaluate_and_stop-done.new.host (g.W.Write.contents c.args.writer.now) (g.W.Write.contents c.evaluate_and_stop-done.new.writer) c.in-Err-done.fault) is (if_err_is c.evaluate_and_stop-done.result _ c.in-Err-done.fault c.in-Err-done.is (c.evaluate_and_stop-done.ensures.err start o.1)))
+    (subst (λ m. BrokeOff (setting g.T.Tells.voice g.S.Children.after g.S.Sources.clock g.S.Sources.wakes c.args.plan.now m) (stands (at start c.args.sources.now c.in-Ok.host.store.disk) not_begun) (StoppedBehind g.S.Children.after c.evaluate_and_stop-done.new.sources) (left c.evaluate_and_stop-done.new.host c.evaluate_and_stop-done.new.sources (g.W.Write.contents c.args.writer.now) (g.W.Write.contents c.evaluate_and_stop-done.new.writer)) c.in-Err-done.fault) is (if_err_is c.evaluate_and_stop-done.result _ c.in-Err-done.fault c.in-Err-done.is (c.evaluate_and_stop-done.ensures.err start o.1)))
 
 pub returns-clause-unopened : goal.returns-clause-unopened
 returns-clause-unopened g c = λ e.
     let o = c.in-Ok.ensures.opens in
     let disk = g.D.Disk.view c.args.disk in
     let start = world_at_opening o.0 disk.room c.in-Ok.host.store.end in
-    absurd (subst (BrokeOff (setting g.T.Tells.voice g.S.Children.after g.S.Sources.clock g.S.Sources.wakes c.args.plan.now c.as_slice.result.now) (stands (at start c.args.sources.now c.in-Ok.host.store.disk) not_begun) (StoppedBehind g.S.Children.after c.evaluate_and_stop-done.new.sources) c.evaluate_and_stop-done.new.host (g.W.Write.contents c.args.writer.now) (g.W.Write.contents c.evaluate_and_stop-done.new.writer))
+    absurd (subst (BrokeOff (setting g.T.Tells.voice g.S.Children.after g.S.Sources.clock g.S.Sources.wakes c.args.plan.now c.as_slice.result.now) (stands (at start c.args.sources.now c.in-Ok.host.store.disk) not_begun) (StoppedBehind g.S.Children.after c.evaluate_and_stop-done.new.sources) (left c.evaluate_and_stop-done.new.host c.evaluate_and_stop-done.new.sources (g.W.Write.contents c.args.writer.now) (g.W.Write.contents c.evaluate_and_stop-done.new.writer)))
     (same_run c.in-Err-done.fault (told.Open opens.Disk) (err_same _ (evals.Run c.in-Err-done.fault) (evals.Run (told.Open opens.Disk)) refl e)) (if_err_is c.evaluate_and_stop-done.result _ c.in-Err-done.fault c.in-Err-done.is (c.evaluate_and_stop-done.ensures.err start o.1)))
 
 pub returns-clause-failed : goal.returns-clause-failed

@@ -2,6 +2,7 @@ use Rattle.std.proofs.Common.{◌≡◌, subst}
 use Rattle.std.specs.Prelude.{IfErr, IfOk}
 use Rattle.child_edge.specs.Faithful.{at}
 use Rattle.sheet_programs.proofs.Runs.{if_err_then, if_ok_then}
+use Rattle.live.specs.Records.{left}
 use Rattle.evaluation.specs.declared.plan.Stand.{Stand}
 use Rattle.evaluation.specs.Steps.{setting, stands}
 use Rattle.evaluation.specs.Evaluation.{not_begun}
@@ -17,7 +18,7 @@ returns-clause-ok g c = λ w h.
     let b = g.W.Write.contents c.evaluate_on-done.new.writer in
     if_ok_then c.evaluate_on-done.result _ _
     (λ stand t. through_and o (stands s not_begun) c.evaluate_on-done.new.host c.evaluate_on-done.new.sources c.stop_all.new.children a b (c.stop_all.ensures.working, c.stop_all.ensures.stopped) stand t)
-    (subst (λ (from : Stand). IfOk c.evaluate_on-done.result (Through o (stands s from) c.evaluate_on-done.new.host c.evaluate_on-done.new.sources a b)) c.not_begun.ensures (c.evaluate_on-done.ensures.ok w h))
+    (subst (λ (from : Stand). IfOk c.evaluate_on-done.result (Through o (stands s from) (left c.evaluate_on-done.new.host c.evaluate_on-done.new.sources a b))) c.not_begun.ensures (c.evaluate_on-done.ensures.ok w h))
 
 pub returns-clause-err : goal.returns-clause-err
 returns-clause-err g c = λ w h.
@@ -27,4 +28,4 @@ returns-clause-err g c = λ w h.
     let b = g.W.Write.contents c.evaluate_on-done.new.writer in
     if_err_then c.evaluate_on-done.result _ _
     (λ f t. broke_and o (stands s not_begun) c.evaluate_on-done.new.host c.evaluate_on-done.new.sources c.stop_all.new.children a b (c.stop_all.ensures.working, c.stop_all.ensures.stopped) f t)
-    (subst (λ (from : Stand). IfErr c.evaluate_on-done.result (BrokeOff o (stands s from) (λ t. t.children ≡ c.evaluate_on-done.new.sources) c.evaluate_on-done.new.host a b)) c.not_begun.ensures (c.evaluate_on-done.ensures.err w h))
+    (subst (λ (from : Stand). IfErr c.evaluate_on-done.result (BrokeOff o (stands s from) (λ t. t.children ≡ c.evaluate_on-done.new.sources) (left c.evaluate_on-done.new.host c.evaluate_on-done.new.sources a b))) c.not_begun.ensures (c.evaluate_on-done.ensures.err w h))

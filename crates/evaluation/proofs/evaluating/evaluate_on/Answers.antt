@@ -2,6 +2,7 @@ use Rattle.std.proofs.Common.{◌+◌, ◌≤◌, arith, length, subst}
 use Rattle.std.specs.Prelude.{IfSome}
 use Rattle.child_edge.specs.Faithful.{at}
 use Rattle.child_edge.proofs.Faulting.{same-at, same-on}
+use Rattle.live.specs.Records.{left}
 use Rattle.evaluation.specs.Steps.{setting, stands}
 use Rattle.evaluation.specs.inside.Stepping.{StepGave}
 use Rattle.evaluation.proofs.Goings.{all_taken, broke_off, none_taken, one_taken, too_many}
@@ -24,7 +25,7 @@ returns-in-Ok-None-clause-ok g c = λ w h.
     let so = c.loop.invariant.runs w h in
     all_taken (setting g.T.Tells.voice g.S.Children.after g.S.Sources.clock g.S.Sources.wakes c.args.plan.now c.args.ids.now) (stands (at w c.args.sources.now c.args.host.now.store.disk) c.args.from) c.loop.stand c.loop.host c.step.new.host c.loop.sources c.step.new.sources
     (g.W.Write.contents c.args.writer.now) (g.W.Write.contents c.loop.writer) (g.W.Write.contents c.step.new.writer) _ so
-    (subst (StepGave (setting g.T.Tells.voice g.S.Children.after g.S.Sources.clock g.S.Sources.wakes c.args.plan.now c.args.ids.now) (stands (at so.leads c.loop.sources c.loop.host.store.disk) c.loop.stand) c.step.new.host c.step.new.sources (g.W.Write.contents c.loop.writer) (g.W.Write.contents c.step.new.writer)) c.in-Ok-None.field-0-is (c.in-Ok-None.ensures.ok so.leads so.stands))
+    (subst (StepGave (setting g.T.Tells.voice g.S.Children.after g.S.Sources.clock g.S.Sources.wakes c.args.plan.now c.args.ids.now) (stands (at so.leads c.loop.sources c.loop.host.store.disk) c.loop.stand) (left c.step.new.host c.step.new.sources (g.W.Write.contents c.loop.writer) (g.W.Write.contents c.step.new.writer))) c.in-Ok-None.field-0-is (c.in-Ok-None.ensures.ok so.leads so.stands))
 
 pub returns-in-Err-clause-same : goal.returns-in-Err-clause-same
 returns-in-Err-clause-same g c = same-on c.args.host.now.store.disk c.loop.host.store.disk c.step.new.host.store.disk c.loop.invariant.same c.in-Err.ensures.same
@@ -45,7 +46,7 @@ loop-preserved g c = record {
       let so = c.loop.invariant.runs w h in
       one_taken (setting g.T.Tells.voice g.S.Children.after g.S.Sources.clock g.S.Sources.wakes c.args.plan.now c.args.ids.now) (stands (at w c.args.sources.now c.args.host.now.store.disk) c.args.from) c.loop.stand c.loop.host c.step.new.host c.loop.sources c.step.new.sources
       (g.W.Write.contents c.args.writer.now) (g.W.Write.contents c.loop.writer) (g.W.Write.contents c.step.new.writer) _ so c.in-Ok-Some.next
-      (subst (StepGave (setting g.T.Tells.voice g.S.Children.after g.S.Sources.clock g.S.Sources.wakes c.args.plan.now c.args.ids.now) (stands (at so.leads c.loop.sources c.loop.host.store.disk) c.loop.stand) c.step.new.host c.step.new.sources (g.W.Write.contents c.loop.writer) (g.W.Write.contents c.step.new.writer)) c.in-Ok-Some.field-0-is (c.in-Ok-Some.ensures.ok so.leads so.stands));
+      (subst (StepGave (setting g.T.Tells.voice g.S.Children.after g.S.Sources.clock g.S.Sources.wakes c.args.plan.now c.args.ids.now) (stands (at so.leads c.loop.sources c.loop.host.store.disk) c.loop.stand) (left c.step.new.host c.step.new.sources (g.W.Write.contents c.loop.writer) (g.W.Write.contents c.step.new.writer))) c.in-Ok-Some.field-0-is (c.in-Ok-Some.ensures.ok so.leads so.stands));
 }
 
 pub returns-clause-err : goal.returns-clause-err
