@@ -1,5 +1,5 @@
 -- Commands of a strict run that are taken together, up to one that is refused.
-use Rattle.std.proofs.Common.{◌≡◌, ◌+◌, ◌≤◌, inl, inr, ℕ, true, false, List, [], ◌∷◌, ◌++◌, Option, Some, None, refl, ap, sym, ◌∙◌, subst, append_assoc, append-nil, length, length-append, arith}
+use Rattle.std.proofs.Common.{◌≡◌, inl, inr, ℕ, true, false, List, [], ◌∷◌, ◌++◌, Option, Some, None, refl, ap, sym, ◌∙◌, subst, append-nil, length, arith}
 use Rattle.std.proofs.lemmas.Bool.{false≢true}
 use Rattle.std.proofs.lemmas.List.Folds.{list_any-append}
 use Rattle.std.specs.Prelude.{Bool, ◌||◌, not, is_some}
@@ -26,7 +26,7 @@ use Rattle.sheet_programs.specs.Strict.{is_bad, is_wrong}
 use Rattle.sheet_programs.specs.Together.{Joins, lines_events, line_events, may_join}
 use Rattle.sheet_programs.specs.inside.Strictly.{counted_if, is_change}
 use Rattle.session_engine.specs.Groups.{LastRefused, StopsAtRefusal, behind_one, is_refusal, is_refused, nowhere}
-use Rattle.sheet_programs.proofs.Grouped.{IsEdit, among, beats_from}
+use Rattle.sheet_programs.proofs.Grouped.{IsEdit, beats_from}
 
 -- Such a command goes wrong where it is refused.
 

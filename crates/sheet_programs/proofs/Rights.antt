@@ -13,22 +13,22 @@ use Rattle.session_engine.specs.World.{World}
 use Rattle.session_engine.specs.Does.{Runs}
 use Rattle.session_engine.specs.Host.{HostView, IsHost}
 use Rattle.child_edge.specs.Faithful.{Relation, At, at, Beat}
-use Rattle.child_edge.specs.Moments.{events_of, outcomes_of}
+use Rattle.child_edge.specs.Moments.{outcomes_of}
 use Rattle.child_edge.specs.Told.{told}
 use Rattle.sheet_text.specs.Script.{line_of}
 use Rattle.sheet_text.specs.declared.script.ScriptLine.{ScriptLine}
 use Rattle.sheet_text.specs.declared.script.ScriptLine.TheVariants as line
-use Rattle.sheet_programs.specs.Lines.{LineDone, LineSoFar, LinesDone, none, and_line, and_group, beats_text}
+use Rattle.sheet_programs.specs.Lines.{LineDone, LineSoFar, LinesDone, none, and_group, beats_text}
 use Rattle.sheet_programs.specs.Run.{GroupBefore}
 use Rattle.sheet_programs.specs.Strict.{GoRight, LinesTaken, StoppedBehind, is_bad, is_wrong}
 use Rattle.sheet_programs.specs.Together.{GroupTaken, Joins, lines_events, line_events, may_join, most_commands}
 use Rattle.sheet_programs.specs.Told.{LineFailed}
-use Rattle.sheet_programs.specs.inside.Grouping.{GroupKept, Standing, outcomes_text}
+use Rattle.sheet_programs.specs.inside.Grouping.{GroupKept, outcomes_text}
 use Rattle.sheet_programs.specs.inside.Strictly.{KeptUpTo, StandingRight, StandsOrStops, UpToFailed, UpToTook, is_change}
 use Rattle.sheet_programs.specs.inside.Taking.{LineTook, LinesFailed}
 use Rattle.session_engine.specs.Groups.{LastRefused, StopsAtRefusal, behind_one, is_refusal, nowhere}
 use Rattle.sheet_programs.proofs.Cuts.{AllChange, Cut, LastRun, OnlyLine, beat_of, change_joins, changes, counted_none, counted_some, cut, edits_front, last_of, last_run, none_bad, none_waits, one_each, only_line, refused_among, wrong_from}
-use Rattle.sheet_programs.proofs.Grouped.{IsEdit, among, beats_from, joined_edits, kept_beats, kept_done, kept_taken, kept_text, outcomes_from}
+use Rattle.sheet_programs.proofs.Grouped.{among, beats_from, joined_edits, kept_done, kept_taken, kept_text, outcomes_from}
 use Rattle.sheet_programs.proofs.Runs.{DoneSoFar, all_done, line_stopped, lines_failed, one_done}
 use Rattle.sheet_programs.proofs.Stricts.{none_wrong, wrong_on}
 use Rattle.offline_programs.specs.declared.fault.RunFault.{RunFault}

@@ -1,5 +1,5 @@
 -- What the functions that take commands of a strict run together promise each other. No public contract names this.
-use Rattle.std.specs.Prelude.{◌≡◌, ◌-◌, ℕ, Bool, List, [], ◌∷◌, ◌++◌, Option, Some, None, true, false, is_some, length}
+use Rattle.std.specs.Prelude.{◌≡◌, ◌-◌, ℕ, Bool, List, [], ◌++◌, Option, Some, None, true, false, is_some, length}
 use Rattle.std.specs.List.{AllByRecursion, list_any}
 use Rattle.std.specs.Io.KnownBytes.{Appends}
 use Rattle.host_events.specs.Commands.{op_of}

@@ -1,5 +1,5 @@
-use Rattle.std.proofs.Common.{[], ◌∷◌, ◌++◌, ◌≡◌, ◌+◌, append_assoc, arith, length, length-append, subst, sym, true}
-use Rattle.std.specs.Prelude.{IfErr, IfOk, Some}
+use Rattle.std.proofs.Common.{[], ◌∷◌, ◌++◌, ◌≡◌, append_assoc, arith, length, length-append, subst, sym, true}
+use Rattle.std.specs.Prelude.{IfErr, IfOk}
 use Rattle.sheet_programs.specs.inside.Strictly.{StandingRight, StandsOrStops}
 use Rattle.sheet_programs.specs.inside.Taking.{LinesFailed}
 use Rattle.sheet_programs.proofs.Rights.{one_waits, widened}

@@ -1,4 +1,4 @@
-use Rattle.std.proofs.Common.{◌+◌, ◌≤◌, [], arith, length, subst}
+use Rattle.std.proofs.Common.{◌+◌, ◌≤◌, arith, length, subst}
 use Rattle.sheet_programs.specs.inside.Strictly.{StandingRight}
 use Rattle.sheet_programs.proofs.Runs.{if_err_then, if_ok_then}
 use Rattle.sheet_programs.proofs.Stretches.{only_one}
