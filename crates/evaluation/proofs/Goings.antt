@@ -42,7 +42,7 @@ evaluated-more o p (r ∷ steps) beats text mid s c more last q h comes takes = 
   ap (λ y. y ++ last) h.10 ∙ append_assoc h.4 h.5 last,
 )
 
-one-more : (steps : List Step) (s : Step) → length (steps ++ s ∷ []) ≡ length steps + 1
+pub one-more : (steps : List Step) (s : Step) → length (steps ++ s ∷ []) ≡ length steps + 1
 one-more [] s = refl
 one-more (r ∷ steps) s = omega (arith, one-more steps s)
 
@@ -61,7 +61,7 @@ pub none_taken : {C : Type 0} (o : Setting C) (w : World) (h : HostView) (c : C)
 none_taken o w h c stand a is = record { steps = []; beats = []; text = []; leads = w; evaluated = (refl, refl, refl); stands = is; wrote = Appends-nil a; counted = refl }
 
 module _ {C : Type 0} (o : Setting C) (p : EvalPlace C) (stand : Stand) (h g : HostView) (c d : C) (a b e : Option (List ℕ)) (n : ℕ) (so : SoFar o p stand h c a b n) where
-  pub one_taken : (next : Stand) → StepGave o (stands (at so.leads c h.store.disk) stand) (left g d b e) (Some next) → SoFar o p next g d a e (n + 1)
+  unfoldable pub one_taken : (next : Stand) → StepGave o (stands (at so.leads c h.store.disk) stand) (left g d b e) (Some next) → SoFar o p next g d a e (n + 1)
   one_taken next t = let took = t.3 in record {
     steps = so.steps ++ t.0 ∷ [];
     beats = so.beats ++ took.0;
@@ -73,7 +73,7 @@ module _ {C : Type 0} (o : Setting C) (p : EvalPlace C) (stand : Stand) (h g : H
     counted = one-more so.steps t.0 ∙ ap (λ k. k + 1) so.counted;
   }
 
-  pub all_taken : StepGave o (stands (at so.leads c h.store.disk) stand) (left g d b e) None → Through o p (left g d a e) stand
+  unfoldable pub all_taken : StepGave o (stands (at so.leads c h.store.disk) stand) (left g d b e) None → Through o p (left g d a e) stand
   all_taken t = (
     so.steps,
     so.beats,

@@ -9,7 +9,7 @@ use Rattle.offline_programs.specs.declared.fault.RunFault.{RunFault}
 use Rattle.offline_programs.specs.declared.fault.RunFault.TheVariants as fault
 use Rattle.live.specs.declared.holding.Hold.{Hold}
 use Rattle.live.specs.declared.holding.Hold.TheVariants as hold
-use Rattle.live.specs.Records.{Clock, Watch}
+use Rattle.live.specs.Records.{Clock, Watch, left}
 use Rattle.evaluation.specs.declared.plan.Plan.{Plan}
 use Rattle.evaluation.specs.declared.plan.Stand.{Stand}
 use Rattle.evaluation.specs.Beside.{IsLate}
@@ -82,36 +82,36 @@ none_noted o w h c stand a late is none = record {
 }
 
 module _ {C : Type 0} (o : Setting C) (p : EvalPlace C) (stand : Stand) (h g : HostView) (c d : C) (a b e : Option (List ℕ)) (n : ℕ) (late : List ℕ) (noted : NotedSoFar o p stand h c a b n late) where
-  steps-then : (next : Stand) (t : StepGave o (stands (at noted.so.leads c h.store.disk) stand) g d b e (Some next)) → (one_taken o p stand h g c d a b e n noted.so next t).steps ≡ noted.so.steps ++ t.0 ∷ []
+  steps-then : (next : Stand) (t : StepGave o (stands (at noted.so.leads c h.store.disk) stand) (left g d b e) (Some next)) → (one_taken o p stand h g c d a b e n noted.so next t).steps ≡ noted.so.steps ++ t.0 ∷ []
   unfolding one_taken
   steps-then next t = refl
 
-  found-in : (next : Stand) → IsLastTaken o.meant p.stand → (t : StepGave o (stands (at noted.so.leads c h.store.disk) stand) g d b e (Some next)) → listed (late_between o.meant stand next) ≡ late_in t.0
+  found-in : (next : Stand) → IsLastTaken o.meant p.stand → (t : StepGave o (stands (at noted.so.leads c h.store.disk) stand) (left g d b e) (Some next)) → listed (late_between o.meant stand next) ≡ late_in t.0
   found-in next begins t = late_found o (stands (at noted.so.leads c h.store.disk) stand) (stands (at t.3.2 d g.store.disk) next) t.1 t.3.0 t.3.1
       (last-taken o p noted.so.steps noted.so.beats noted.so.text (stands (at noted.so.leads c h.store.disk) stand) noted.so.evaluated begins) t.0 t.2 t.3.3
 
-  late-then : (next : Stand) (more : List ℕ) → IsLastTaken o.meant p.stand → (t : StepGave o (stands (at noted.so.leads c h.store.disk) stand) g d b e (Some next)) → more ≡ late ++ listed (late_between o.meant stand next)
+  late-then : (next : Stand) (more : List ℕ) → IsLastTaken o.meant p.stand → (t : StepGave o (stands (at noted.so.leads c h.store.disk) stand) (left g d b e) (Some next)) → more ≡ late ++ listed (late_between o.meant stand next)
       → more ≡ late_of (noted.so.steps ++ t.0 ∷ [])
   late-then next more begins t is = is ∙ ap (λ x. x ++ listed (late_between o.meant stand next)) noted.late_is ∙ ap (λ x. late_of noted.so.steps ++ x) (found-in next begins t) ∙ sym (late-more noted.so.steps t.0)
 
-  pub one_noted : (next : Stand) (more : List ℕ) → IsLastTaken o.meant p.stand → StepGave o (stands (at noted.so.leads c h.store.disk) stand) g d b e (Some next) → more ≡ late ++ listed (late_between o.meant stand next)
+  pub one_noted : (next : Stand) (more : List ℕ) → IsLastTaken o.meant p.stand → StepGave o (stands (at noted.so.leads c h.store.disk) stand) (left g d b e) (Some next) → more ≡ late ++ listed (late_between o.meant stand next)
       → NotedSoFar o p next g d a e (n + 1) more
   one_noted next more begins t is = record {
     so = one_taken o p stand h g c d a b e n noted.so next t;
     late_is = late-then next more begins t is ∙ ap late_of (sym (steps-then next t));
   }
 
-  pub not_noted : (next : Stand) → StepGave o (stands (at noted.so.leads c h.store.disk) stand) g d b e (Some next) → NotingBroke o p g d a e fault.OutOfMemory
+  pub not_noted : (next : Stand) → StepGave o (stands (at noted.so.leads c h.store.disk) stand) (left g d b e) (Some next) → NotingBroke o p g d a e fault.OutOfMemory
   not_noted next t = let so = one_taken o p stand h g c d a b e n noted.so next t in inr (refl, (so.steps, so.beats, so.text, so.leads, next, so.evaluated, so.stands))
 
-  steps-all : (t : StepGave o (stands (at noted.so.leads c h.store.disk) stand) g d b e None) → (all_taken o p stand h g c d a b e n noted.so t).0 ≡ noted.so.steps
+  steps-all : (t : StepGave o (stands (at noted.so.leads c h.store.disk) stand) (left g d b e) None) → (all_taken o p stand h g c d a b e n noted.so t).0 ≡ noted.so.steps
   unfolding all_taken
   steps-all t = refl
 
-  pub all_noted : StepGave o (stands (at noted.so.leads c h.store.disk) stand) g d b e None → NotedThrough o p g d a e late
+  pub all_noted : StepGave o (stands (at noted.so.leads c h.store.disk) stand) (left g d b e) None → NotedThrough o p g d a e late
   all_noted t = (stand, (all_taken o p stand h g c d a b e n noted.so t, noted.late_is ∙ ap late_of (sym (steps-all t))))
 
-  pub noting_broke : (f : RunFault) → StepFailed o (stands (at noted.so.leads c h.store.disk) stand) g d b e f → NotingBroke o p g d a e f
+  pub noting_broke : (f : RunFault) → StepFailed o (stands (at noted.so.leads c h.store.disk) stand) (left g d b e) f → NotingBroke o p g d a e f
   noting_broke f t = inl (broke_off o p stand h g c d a b e n noted.so f t)
 
 -- as many steps came as are counted
@@ -149,7 +149,7 @@ module _ {C : Type 0} (o : Setting C) (s : At C) (h : HostView) (c : C) (a b : O
   unwritten : CameUnwritten o (stands s not_begun) (λ t. t.children ≡ c) h → BrokeSilently o s h c fault.OutOfMemory
   unwritten q = (q.2, q.5, silently.no_memory refl (silently.within q.0 q.1 q.3) q.4)
 
-  broke : (f : RunFault) → BrokeOff o (stands s not_begun) (λ t. t.children ≡ c) h a b f → BrokeSilently o s h c (fault_of_wait f)
+  broke : (f : RunFault) → BrokeOff o (stands s not_begun) (λ t. t.children ≡ c) (left h c a b) f → BrokeSilently o s h c (fault_of_wait f)
   broke (fault.Host f) q = (q.3, q.6, silently.of_host f q.2 q.0 q.1 refl q.4 q.5)
   broke fault.OutOfMemory (inl q) = short q
   broke fault.OutOfMemory (inr q) = unwritten q.1

@@ -2,6 +2,7 @@ use Rattle.std.proofs.Common.{◌+◌, ◌++◌, ◌≡◌, ◌≤◌, ◌∙◌
 use Rattle.std.specs.Prelude.{IfSome}
 use Rattle.child_edge.specs.Faithful.{at}
 use Rattle.child_edge.proofs.Faulting.{same-at, same-on}
+use Rattle.live.specs.Records.{left}
 use Rattle.evaluation.specs.declared.plan.Stand.{Stand}
 use Rattle.evaluation.specs.Evaluation.{not_begun}
 use Rattle.evaluation.specs.Steps.{setting, stands}
@@ -32,7 +33,7 @@ returns-in-Ok-None-clause-ok g c = λ w h.
     let so = noted.so in
     all_noted (setting g.T.Tells.voice g.S.Children.after g.S.Sources.clock g.S.Sources.wakes c.args.plan.now c.args.ids.now) (stands (at w c.args.sources.now c.args.host.now.store.disk) not_begun) c.loop.stand c.loop.host c.step.new.host c.loop.sources c.step.new.sources
     (g.W.Write.contents c.args.writer.now) (g.W.Write.contents c.loop.writer) (g.W.Write.contents c.step.new.writer) _ c.loop.late.items noted
-    (subst (StepGave (setting g.T.Tells.voice g.S.Children.after g.S.Sources.clock g.S.Sources.wakes c.args.plan.now c.args.ids.now) (stands (at so.leads c.loop.sources c.loop.host.store.disk) c.loop.stand) c.step.new.host c.step.new.sources (g.W.Write.contents c.loop.writer) (g.W.Write.contents c.step.new.writer)) c.in-Ok-None.field-0-is (c.in-Ok-None.ensures.ok so.leads so.stands))
+    (subst (StepGave (setting g.T.Tells.voice g.S.Children.after g.S.Sources.clock g.S.Sources.wakes c.args.plan.now c.args.ids.now) (stands (at so.leads c.loop.sources c.loop.host.store.disk) c.loop.stand) (left c.step.new.host c.step.new.sources (g.W.Write.contents c.loop.writer) (g.W.Write.contents c.step.new.writer))) c.in-Ok-None.field-0-is (c.in-Ok-None.ensures.ok so.leads so.stands))
 
 pub returns-in-Err-clause-same : goal.returns-in-Err-clause-same
 returns-in-Err-clause-same g c = same-on c.args.host.now.store.disk c.loop.host.store.disk c.step.new.host.store.disk c.loop.invariant.same c.in-Err.ensures.same
@@ -59,7 +60,7 @@ loop-preserved g c = record {
       let so = noted.so in
       one_noted (setting g.T.Tells.voice g.S.Children.after g.S.Sources.clock g.S.Sources.wakes c.args.plan.now c.args.ids.now) (stands (at w c.args.sources.now c.args.host.now.store.disk) not_begun) c.loop.stand c.loop.host c.step.new.host c.loop.sources c.step.new.sources
       (g.W.Write.contents c.args.writer.now) (g.W.Write.contents c.loop.writer) (g.W.Write.contents c.step.new.writer) _ c.loop.late.items noted c.in-Ok-Some.next c.put_late.new.late.items (inl refl)
-      (subst (StepGave (setting g.T.Tells.voice g.S.Children.after g.S.Sources.clock g.S.Sources.wakes c.args.plan.now c.args.ids.now) (stands (at so.leads c.loop.sources c.loop.host.store.disk) c.loop.stand) c.step.new.host c.step.new.sources (g.W.Write.contents c.loop.writer) (g.W.Write.contents c.step.new.writer)) c.in-Ok-Some.field-0-is (c.in-Ok-Some.ensures.ok so.leads so.stands))
+      (subst (StepGave (setting g.T.Tells.voice g.S.Children.after g.S.Sources.clock g.S.Sources.wakes c.args.plan.now c.args.ids.now) (stands (at so.leads c.loop.sources c.loop.host.store.disk) c.loop.stand) (left c.step.new.host c.step.new.sources (g.W.Write.contents c.loop.writer) (g.W.Write.contents c.step.new.writer))) c.in-Ok-Some.field-0-is (c.in-Ok-Some.ensures.ok so.leads so.stands))
       (c.in-Ok.ensures.ok ∙ ap (λ x. c.loop.late.items ++ listed x) c.late_in.ensures);
 }
 
@@ -74,4 +75,4 @@ returns-in-Err-put_late-clause-err g c = λ w h.
     (sym c.in-Err-put_late.ensures.err)
     (not_noted (setting g.T.Tells.voice g.S.Children.after g.S.Sources.clock g.S.Sources.wakes c.args.plan.now c.args.ids.now) (stands (at w c.args.sources.now c.args.host.now.store.disk) not_begun) c.loop.stand c.loop.host c.step.new.host c.loop.sources c.step.new.sources
     (g.W.Write.contents c.args.writer.now) (g.W.Write.contents c.loop.writer) (g.W.Write.contents c.step.new.writer) _ c.loop.late.items noted c.in-Ok-Some.next
-    (subst (StepGave (setting g.T.Tells.voice g.S.Children.after g.S.Sources.clock g.S.Sources.wakes c.args.plan.now c.args.ids.now) (stands (at so.leads c.loop.sources c.loop.host.store.disk) c.loop.stand) c.step.new.host c.step.new.sources (g.W.Write.contents c.loop.writer) (g.W.Write.contents c.step.new.writer)) c.in-Ok-Some.field-0-is (c.in-Ok-Some.ensures.ok so.leads so.stands)))
+    (subst (StepGave (setting g.T.Tells.voice g.S.Children.after g.S.Sources.clock g.S.Sources.wakes c.args.plan.now c.args.ids.now) (stands (at so.leads c.loop.sources c.loop.host.store.disk) c.loop.stand) (left c.step.new.host c.step.new.sources (g.W.Write.contents c.loop.writer) (g.W.Write.contents c.step.new.writer))) c.in-Ok-Some.field-0-is (c.in-Ok-Some.ensures.ok so.leads so.stands)))
