@@ -75,7 +75,7 @@ module _ (w : World) (events : List Event) (old mid new : HostView) (real : mid.
     moments = flushes_after old.store mid.store new.store (sheet_in s.played.leads) real same s.failed.contents flushes;
   }
 
-  pub failed_group : (rest : List Event) (untold : List Outcome) (before : HostView) (p : HasPlayed w events rest untold before) → mid.store.sheet.contents ≡ sheet_in p.leads
+  abbrev pub failed_group : (rest : List Event) (untold : List Outcome) (before : HostView) (p : HasPlayed w events rest untold before) → mid.store.sheet.contents ≡ sheet_in p.leads
       → ((name : List ℕ) → number_in mid.lives name ≡ option_map (λ l. l.number) (life_of p.leads name)) → new.store.sheet ≡ mid.store.sheet → new.lives ≡ mid.lives
       → new.closed ≡ true → Rises mid.store.real.faults new.store.real.faults → FailedGroup w events old new
   failed_group rest untold before p is numbers sheet lives closed broke = record {

@@ -12,3 +12,4 @@ pub mod Gathering
 pub mod Committing
 pub mod Losing
 pub mod Losses
+pub mod Until

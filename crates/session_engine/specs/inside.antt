@@ -4,3 +4,4 @@ pub mod Parts
 pub mod Tables
 pub mod Engines
 pub mod Commits
+pub mod Until

@@ -1,5 +1,5 @@
 //! Events in order.
-ghost use Rattle.std.specs.Prelude.{◌≡◌, ◌≤◌, ◌<◌, ◌+◌, ◌++◌, ◌∷◌, [], false, true, List, IfOk, IfErr, vec_len, vec_capacity};
+ghost use Rattle.std.specs.Prelude.{◌≡◌, ◌≤◌, ◌<◌, ◌+◌, ◌++◌, ◌∷◌, ◌&&◌, [], false, true, List, IfOk, IfErr, vec_len, vec_capacity};
 ghost use Rattle.std.specs.List.{list_any};
 ghost use Rattle.disk_model.specs.Disk.{SameDisk};
 ghost use Rattle.session_engine.specs.World.{World};
@@ -7,11 +7,13 @@ ghost use Rattle.session_engine.specs.Host.{IsHost};
 ghost use Rattle.session_engine.specs.Crash.{Halts, HasPlayed, Moments, PlaysClosed, TookEach};
 ghost use Rattle.recovery.specs.Sheets.{GathersOn};
 ghost use Rattle.session_engine.specs.Gathers.{NoCheckpoints, OnlyAtOnce, is_checkpoint};
-ghost use Rattle.session_engine.specs.Groups.{HaltsGroup, PlaysGroupClosed, TookGroup};
+ghost use Rattle.session_engine.specs.Groups.{HaltsGroup, HaltsUpTo, PlaysGroupClosed, TookGroup, TookUpTo};
+ghost use Rattle.session_engine.specs.Groups as group;
+ghost use Rattle.session_engine.specs.inside.Until.{HaltsBy, NoneRefused, PlayedBy, TookBy};
 
 use crate::{BufferedHost, Host};
 use disk_model::Disk;
-use host_events::{Command, Event, HostFault, Outcome};
+use host_events::{Command, Event, HostFault, Outcome, Reply};
 use journal::Group;
 
 /// Why not all events were taken.
@@ -84,6 +86,20 @@ impl<D: Disk> Host<D> {
     {
         self.inner.play_group(events)
     }
+
+    /// Takes events as `play_group` does, but none behind the first one that is refused, whose outcome is the
+    /// last. The later events are dropped.
+    pub fn play_group_up_to(&mut self, events: Vec<Event>) -> Result<Vec<Outcome>, GroupFault>
+        ensures same { SameDisk self.old.store.real self.new.store.real }
+        ensures took { (w : World) → IsHost self.old w
+            → IfOk result (λ outcomes. TookUpTo w events.items outcomes.items self.old self.new) }
+        ensures halts { (w : World) → IsHost self.old w
+            → IfErr result (HaltsUpTo w events.items self.old self.new) }
+        ensures closed { self.old.closed ≡ true → PlaysGroupClosed result }
+        ensures still { self.old.closed ≡ true → self.new ≡ self.old }
+    {
+        self.inner.play_group_up_to(events)
+    }
 }
 
 impl<D: Disk> BufferedHost<D> {
@@ -134,6 +150,34 @@ impl<D: Disk> BufferedHost<D> {
         ensures still { self.old.closed ≡ true → self.new ≡ self.old }
         ensures written { self.old.store.gathers ≡ false → self.new.store.gathers ≡ false }
     {
+        self.play_flushed(events, false)
+    }
+
+    /// Takes events as `play_group` does, but none behind the first one that is refused.
+    pub fn play_group_up_to(&mut self, events: Vec<Event>) -> Result<Vec<Outcome>, GroupFault>
+        ensures same { SameDisk self.old.store.real self.new.store.real }
+        ensures took { (w : World) → IsHost self.old w
+            → IfOk result (λ outcomes. TookUpTo w events.items outcomes.items self.old self.new) }
+        ensures halts { (w : World) → IsHost self.old w
+            → IfErr result (HaltsUpTo w events.items self.old self.new) }
+        ensures closed { self.old.closed ≡ true → PlaysGroupClosed result }
+        ensures still { self.old.closed ≡ true → self.new ≡ self.old }
+        ensures written { self.old.store.gathers ≡ false → self.new.store.gathers ≡ false }
+    {
+        self.play_flushed(events, true)
+    }
+
+    // Takes events, or those up to a refusal, in a group of their own, and flushes it.
+    fn play_flushed(&mut self, events: Vec<Event>, up_to: bool) -> Result<Vec<Outcome>, GroupFault>
+        ensures same { SameDisk self.old.store.real self.new.store.real }
+        ensures took { (w : World) → IsHost self.old w
+            → IfOk result (λ outcomes. TookBy up_to w events.items outcomes.items self.old self.new) }
+        ensures halts { (w : World) → IsHost self.old w
+            → IfErr result (HaltsBy up_to w events.items self.old self.new) }
+        ensures closed { self.old.closed ≡ true → PlaysGroupClosed result }
+        ensures still { self.old.closed ≡ true → self.new ≡ self.old }
+        ensures written { self.old.store.gathers ≡ false → self.new.store.gathers ≡ false }
+    {
         if self.closed {
             return Err(GroupFault::Stopped {
                 outcomes: Vec::new(self.engine.alloc),
@@ -146,25 +190,30 @@ impl<D: Disk> BufferedHost<D> {
         // Called for its contract alone: it says that the store isn't closed.
         let _sheet = self.sheet();
         match Group::new(self.engine.alloc) {
-            Ok(group) => self.play_owed(group, events),
+            Ok(group) => self.play_owed(group, events, up_to),
             Err(_) => Err(GroupFault::NoRoom(events)),
         }
     }
 
-    // Takes events, in this group, and flushes it.
-    fn play_owed(&mut self, group: Group, events: Vec<Event>) -> Result<Vec<Outcome>, GroupFault>
+    // Takes events, or those up to a refusal, in this group, and flushes it.
+    fn play_owed(
+        &mut self,
+        group: Group,
+        events: Vec<Event>,
+        up_to: bool,
+    ) -> Result<Vec<Outcome>, GroupFault>
         requires group { group.payloads ≡ [] }
         requires none { NoCheckpoints events.items }
         requires open { self.old.store.closed ≡ false }
         ensures same { SameDisk self.old.store.real self.new.store.real }
         ensures took { (w : World) → IsHost self.old w
-            → IfOk result (λ outcomes. TookGroup w events.items outcomes.items self.old self.new) }
+            → IfOk result (λ outcomes. TookBy up_to w events.items outcomes.items self.old self.new) }
         ensures halts { (w : World) → IsHost self.old w
-            → IfErr result (HaltsGroup w events.items self.old self.new) }
+            → IfErr result (HaltsBy up_to w events.items self.old self.new) }
         ensures written { self.new.store.gathers ≡ false }
     {
         self.gather(group);
-        match self.play(events) {
+        match self.play_until(events, up_to) {
             Ok(outcomes) => match self.flush() {
                 Ok(()) => Ok(outcomes),
                 Err(_) => Err(GroupFault::Disk),
@@ -179,6 +228,38 @@ impl<D: Disk> BufferedHost<D> {
             },
         }
     }
+
+    // Takes events in order, up to the first one that has a fault, or, where that is asked for, is refused.
+    fn play_until(&mut self, events: Vec<Event>, up_to: bool) -> Result<Vec<Outcome>, PlayFault>
+        ensures same { SameDisk self.old.store.disk self.new.store.disk }
+        ensures played { (w : World) → IsHost self.old w
+            → IfOk result (λ outcomes. PlayedBy up_to w events.items outcomes.items self.new) }
+        ensures halts { (w : World) → IsHost self.old w
+            → IfErr result (Halts w events.items self.old self.new) }
+        ensures right { up_to ≡ true → IfErr result NoneRefused }
+        ensures gathers { NoCheckpoints events.items → GathersOn self.old.store self.new.store }
+        ensures at_once { NoCheckpoints events.items → IfErr result (OnlyAtOnce self.old.store) }
+    {
+        let mut outcomes = Vec::new(self.engine.alloc);
+        if outcomes.reserve_exact(events.len()).is_err() {
+            return Err(PlayFault::NoRoom(events));
+        }
+        for event in events {
+            match self.step(event) {
+                Ok(outcome) => {
+                    let stops = stops(up_to, &outcome);
+                    add(&mut outcomes, outcome);
+                    if stops {
+                        return Ok(outcomes);
+                    }
+                }
+                Err(fault) => {
+                    return Err(PlayFault::Stopped { outcomes, fault });
+                }
+            }
+        }
+        Ok(outcomes)
+    }
 }
 
 fn asks_for_checkpoint(event: &Event) -> bool
@@ -191,6 +272,22 @@ fn has_checkpoint(events: &[Event]) -> bool
     ensures { result ≡ list_any is_checkpoint events.now }
 {
     events.iter().any(asks_for_checkpoint)
+}
+
+fn is_refusal(outcome: &Outcome) -> bool
+    ensures { result ≡ group.is_refusal outcome.now }
+{
+    match &outcome.reply {
+        Reply::Refused(_) => true,
+        Reply::Done | Reply::Field(_) | Reply::Asked(_) | Reply::Child(_) | Reply::Nothing => false,
+    }
+}
+
+// Whether a play up to a refusal stops behind this outcome.
+fn stops(up_to: bool, outcome: &Outcome) -> bool
+    ensures { result ≡ (up_to && group.is_refusal outcome.now) }
+{
+    up_to && is_refusal(outcome)
 }
 
 fn add(outcomes: &mut Vec<Outcome>, outcome: Outcome)

@@ -1,0 +1,36 @@
+-- What a play of a group promises that may stop at a refusal. No public contract names this.
+use Rattle.std.specs.Prelude.{◌≡◌, Bool, List, [], true, false}
+use Rattle.std.specs.List.{list_any}
+use Rattle.host_events.specs.declared.event.Event.{Event}
+use Rattle.host_events.specs.declared.outcome.Outcome.{Outcome}
+use Rattle.session_engine.specs.declared.play.PlayFault.{PlayFault}
+use Rattle.session_engine.specs.declared.play.PlayFault.TheVariants as stop
+use Rattle.session_engine.specs.declared.play.GroupFault.{GroupFault}
+use Rattle.session_engine.specs.World.{World}
+use Rattle.session_engine.specs.Host.{HostView}
+use Rattle.session_engine.specs.Crash.{HasPlayed}
+use Rattle.session_engine.specs.Groups.{HaltsGroup, HaltsUpTo, StopsAtRefusal, TookGroup, TookUpTo, is_refusal}
+
+-- with these outcomes, and these events left, a play ends that goes on behind a refusal, or one that doesn't
+abbrev pub EndsWith : Bool → List Outcome → List Event → Type 0
+EndsWith false told rest = rest ≡ []
+EndsWith true told rest = StopsAtRefusal told rest
+
+-- all events were taken, or those up to a refusal
+pub record PlayedBy (up_to : Bool) (w : World) (events : List Event) (told : List Outcome) (host : HostView) : Type 0 where
+  pub rest : List Event
+  pub played : HasPlayed w events rest told host
+  pub ends : EndsWith up_to told rest
+
+-- none of the outcomes before a fault is a refusal
+abbrev pub NoneRefused : PlayFault → Type 0
+NoneRefused (stop.NoRoom back) = Unit {0}
+NoneRefused (stop.Stopped outcomes fault) = list_any is_refusal outcomes.items ≡ false
+
+abbrev pub TookBy : Bool → World → List Event → List Outcome → HostView → HostView → Type 0
+TookBy false w events told old new = TookGroup w events told old new
+TookBy true w events told old new = TookUpTo w events told old new
+
+abbrev pub HaltsBy : Bool → World → List Event → HostView → HostView → GroupFault → Type 0
+HaltsBy false w events old new fault = HaltsGroup w events old new fault
+HaltsBy true w events old new fault = HaltsUpTo w events old new fault
