@@ -18,7 +18,7 @@ use Rattle.child_edge.specs.Edge.{Stopped}
 use Rattle.child_edge.specs.Moments.{events_of, outcomes_of, LeavesFronts, LeavesFrontsUpTo}
 use Rattle.child_edge.proofs.Faulting.{same-at, same-on}
 use Rattle.child_edge.proofs.Timeline.{Goes, goes_holds, goes_leaves, goes_up_to}
-use Rattle.sheet_programs.specs.Together.{GroupDone, LeavesEither}
+use Rattle.sheet_programs.specs.Together.{GroupTaken, LeavesEither}
 use Rattle.sheet_programs.specs.Told.{LeavesFrontsAnyhow, StandsOrStopped}
 
 -- From this world and disk these entries led to those. At every moment each image was one of the worksheet after some of the first of
@@ -120,7 +120,7 @@ pub goes_course : (w : World) (d : DiskView) (bs : List Beat) (v : World) (f : D
 goes_course w d bs v f p =
     record { runs = goes_runs w d bs v f p; same = keeps_disk w d bs v f p; moments = λ held. goes_leaves w d bs v f held p; holds = λ held. goes_holds w d bs v f held p }
 
-pub group_course : {C : Type 0} (lines : List (List ℕ)) (s : At C) (bs : List Beat) (t : At C) → GroupDone lines s bs t → Course s.world s.disk bs t.world t.disk
+pub group_course : {C : Type 0} (lines : List (List ℕ)) (s : At C) (bs : List Beat) (t : At C) → GroupTaken lines s bs t → Course s.world s.disk bs t.world t.disk
 group_course lines s bs t p =
     record { runs = p.runs; same = p.same; moments = λ held. either_moments s.world (events_of bs) (outcomes_of bs) t.world s.disk t.disk p.runs p.moments; holds = λ held. p.holds }
 

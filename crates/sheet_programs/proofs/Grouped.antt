@@ -33,13 +33,15 @@ use Rattle.sheet_text.specs.Texts.{reply_text}
 use Rattle.sheet_text.specs.declared.script.ScriptLine.{ScriptLine}
 use Rattle.sheet_text.specs.declared.script.ScriptLine.TheVariants as line
 use Rattle.sheet_programs.specs.Lines.{beats_text}
-use Rattle.sheet_programs.specs.Together.{Alone, GroupBroke, GroupDone, Joins, LeavesEither, lines_events, line_events, may_join, most_commands}
+use Rattle.sheet_programs.specs.Together.{Alone, GroupBroke, GroupDone, GroupTaken, Joins, LeavesEither, lines_events, line_events, may_join, most_commands}
+use Rattle.sheet_programs.specs.inside.Strictly.{KeptUpTo}
+use Rattle.session_engine.specs.Groups as upto
 use Rattle.sheet_programs.specs.inside.Grouping.{GroupKept, outcome_text, outcomes_text}
 
 -- Such commands have no effect.
 
 -- an event of such a command
-abbrev IsEdit : Event → Type 0
+abbrev pub IsEdit : Event → Type 0
 IsEdit (event.Command c) = is_some (op_of c) ≡ true
 IsEdit (event.Child name number e) = ⊥
 
@@ -77,7 +79,7 @@ edits_in (l ∷ ls) all = go (line_of l) all.0 (edits_in ls all.1)
 pub joined_edits : (lines : List (List ℕ)) (events : List Event) → Joins lines events → AllByRecursion IsEdit events
 joined_edits lines events joins = subst (λ (es : List Event). AllByRecursion IsEdit es) (sym joins.are) (edits_in lines joins.each)
 
-among : (done : List Event) (e : Event) (more : List Event) → AllByRecursion IsEdit (done ++ e ∷ more) → IsEdit e
+pub among : (done : List Event) (e : Event) (more : List Event) → AllByRecursion IsEdit (done ++ e ∷ more) → IsEdit e
 among [] e more all = all.0
 among (x ∷ xs) e more all = among xs e more all.1
 
@@ -115,7 +117,7 @@ module _ (w : World) (old new : HostView) (before : old.store.real ≡ old.store
     moments = plain p.played.leads p.moments;
   }
 
-  pub group_broke : (lines : List (List ℕ)) (events : List Event) → Joins lines events → SameDisk old.store.real new.store.real → FailedGroup w events old new → GroupBroke lines w old.store.disk new
+  abbrev pub group_broke : (lines : List (List ℕ)) (events : List Event) → Joins lines events → SameDisk old.store.real new.store.real → FailedGroup w events old new → GroupBroke lines w old.store.disk new
   group_broke lines events joins same p = record {
     taken = p.played.done;
     dropped = p.rest;
@@ -129,6 +131,15 @@ module _ (w : World) (old new : HostView) (before : old.store.real ≡ old.store
     same = same_plain same;
     failed = subst (λ (d : DiskView). Rises old.store.disk.faults d.faults) after (subst (λ (d : DiskView). Rises d.faults new.store.real.faults) before p.broke);
     moments = plain p.played.leads p.moments;
+  }
+
+  abbrev pub kept_up_to : (events : List Event) (outcomes : List Outcome) → upto.TookUpTo w events outcomes old new → KeptUpTo w events old new
+  kept_up_to events outcomes p = record {
+    done = p.played.done;
+    rest = p.rest;
+    split = p.played.split;
+    kept = record { told = outcomes; leads = p.played.leads; runs = p.played.runs; stands = p.played.stands; moments = plain p.played.leads p.moments };
+    stops = p.stops;
   }
 
   pub no_group_disk : (events back : List Event) → old.store.owed ≡ [] → NoGroup w events back old new → new.store.disk ≡ old.store.disk
@@ -182,10 +193,9 @@ module _ {C : Type 0} (lines : List (List ℕ)) (w : World) (events : List Event
   pub kept_text : outcomes_text p.told ≡ beats_text kept_beats
   kept_text = ap (λ (os : List Outcome). outcomes_text os) (sym (outcomes_from w events p.told p.leads p.runs)) ∙ told_text kept_beats
 
-  pub kept_done : 2 ≤ length events → length events ≤ most_commands → SameDisk old.store.disk new.store.disk → GroupDone lines (at w c old.store.disk) kept_beats (at p.leads c new.store.disk)
-  kept_done many few same = record {
+  pub kept_taken : length events ≤ most_commands → SameDisk old.store.disk new.store.disk → GroupTaken lines (at w c old.store.disk) kept_beats (at p.leads c new.store.disk)
+  kept_taken few same = record {
     joins = subst (λ (es : List Event). Joins lines es) (sym (events_from w events p.told p.leads p.runs)) joins;
-    many = subst (λ (n : ℕ). 2 ≤ n) (sym (length_from w events p.told p.leads p.runs)) many;
     few = subst (λ (n : ℕ). n ≤ most_commands) (sym (length_from w events p.told p.leads p.runs)) few;
     runs = subst (λ (es : List Event). Runs w es (outcomes_of kept_beats) p.leads) (sym (events_from w events p.told p.leads p.runs))
         (subst (λ (os : List Outcome). Runs w events os p.leads) (sym (outcomes_from w events p.told p.leads p.runs)) p.runs);
@@ -195,3 +205,9 @@ module _ {C : Type 0} (lines : List (List ℕ)) (w : World) (events : List Event
     moments = p.moments;
     holds = p.stands.stands.images;
   }
+
+  pub kept_many : 2 ≤ length events → 2 ≤ length kept_beats
+  kept_many many = subst (λ (n : ℕ). 2 ≤ n) (sym (length_from w events p.told p.leads p.runs)) many
+
+  pub kept_done : 2 ≤ length events → length events ≤ most_commands → SameDisk old.store.disk new.store.disk → GroupDone lines (at w c old.store.disk) kept_beats (at p.leads c new.store.disk)
+  kept_done many few same = record { taken = kept_taken few same; many = kept_many many }

@@ -5,3 +5,6 @@ pub mod Grouped
 pub mod Stretches
 pub mod Commands
 pub mod Heard
+pub mod Cuts
+pub mod Rights
+pub mod Refusals

@@ -33,7 +33,8 @@ use Rattle.offline_programs.specs.Memory.{script_lines}
 use Rattle.sheet_programs.specs.Run.{OpenedOn, LinesBefore, LinesUpTo, LinesSoFar, LinesLed, RunOf, RunStopped, RunBroke, RunSoFar, RunLed, RunUnwritten}
 use Rattle.sheet_programs.specs.Told.{LineFailed, LeavesFrontsAnyhow, StandsOrStopped}
 use Rattle.sheet_programs.specs.Strict.{EachRight, LinesTaken, RightIf, goes_wrong}
-use Rattle.sheet_programs.specs.inside.Taking.{LinesBroke, LinesFailed, LinesStopped, LinesUnwritten, TellsBy, UnlessStrict}
+use Rattle.session_engine.specs.Groups.{LastRefused}
+use Rattle.sheet_programs.specs.inside.Taking.{LinesBroke, LinesFailed, LinesStopped, LinesUnwritten, TellsBy}
 use Rattle.sheet_programs.proofs.Courses.{Course, course_anyhow, course_on, course_up_to, either_moments, goes_course, group_course, moments_on}
 use Rattle.sheet_programs.proofs.Stricts.{is_strict, none_wrong, right_more, went_wrong}
 use Rattle.offline_programs.specs.declared.fault.RunFault.{RunFault}
@@ -72,7 +73,7 @@ none_done R strict all left w h c a e stands = record { done = []; beats = []; t
 
     right : (x : Bool) → RightIf x begun
     right false = tt
-    right true = (none_wrong, tt)
+    right true = none_wrong
 
 pub one_done : {C : Type 0} (R : Relation C) (strict : Bool) (all : List (List ℕ)) (number : ℕ) (left : List (List ℕ)) (line : List ℕ) (others : List (List ℕ)) (s : At C) (h : HostView) (c : C) (a b : Option (List ℕ))
     (g : HostView) (d : C) (e : Option (List ℕ)) (more : List Beat) (last : List ℕ) (t : World) (wrong : Bool)
@@ -100,7 +101,7 @@ one_done R strict all number left line others s h c a b g d e more last t wrong 
     right : (x : Bool) → RightIf x so.ran → (x && wrong) ≡ false
         → RightIf x (and_line so.done line s so.beats so.text (at so.leads c h.store.disk) more last (at t d g.store.disk) so.ran numbered)
     right false before e = tt
-    right true before e = (right_more wrong so.done line so.beats more before.0 e goes, before.1)
+    right true before e = right_more wrong so.done line so.beats more before e goes
 
     length-snoc : {A : Type 0} (xs : List A) (x : A) → length (xs ++ x ∷ []) ≡ length xs + 1
     length-snoc [] x = refl
@@ -134,7 +135,7 @@ line_stopped R strict all number left line others s h c a b g d e more last t wr
   where
     taken : (x : Bool) → x ≡ true → RightIf x so.ran → LinesTaken R x all (Some (number + 1)) s (so.beats ++ more) (so.text ++ last) (at t d g.store.disk)
     taken false e right = absurd (false≢true e)
-    taken true e right = record {
+    taken true e right = inl (record {
       line = line;
       mid = at so.leads c h.store.disk;
       earlier = so.beats;
@@ -148,7 +149,7 @@ line_stopped R strict all number left line others s h c a b g d e more last t wr
       wrong = sym goes ∙ went_wrong strict wrong stops;
       took = refl;
       wrote = refl;
-    }
+    })
 
 pub lines_failed : {C : Type 0} (R : Relation C) (strict : Bool) (all : List (List ℕ)) (number : ℕ) (left : List (List ℕ)) (line : List ℕ) (others : List (List ℕ)) (s : At C) (h : HostView) (c : C) (a b : Option (List ℕ))
     (g : HostView) (d : C) (e : Option (List ℕ)) (f : RunFault)
@@ -195,23 +196,13 @@ pub stops_behind : {C : Type 0} (R : Relation C) (h : HostView) (c d : C) (t : W
 stops_behind R h c d t disk stops (inl stands) = stops.0 t stands.0
 stops_behind R h c d t disk stops (inr p) = stops.1 t p.0 disk p.1 p.2
 
-broke_stopped : {C : Type 0} (R : Relation C) (strict : Bool) (lines : List (List ℕ)) (s : At C) (h : HostView) (c d : C) (a b : Option (List ℕ)) (f : HostFault) → StopsNumbered R h c d
-    → UnlessStrict strict ((f ≡ hosts.Disk) × LinesBroke R lines s h c a b) → UnlessStrict strict ((f ≡ hosts.Disk) × ((k : C) × (p : LinesBroke R lines s h k a b) × Stops R (running p.5.leads) k d))
-broke_stopped R false lines s h c d a b f stops p = (p.0, (c, p.1, stops p.1.5.leads p.1.5.contents p.1.5.numbers))
-broke_stopped R true lines s h c d a b f stops p = p
-
-unwritten_stopped : {C : Type 0} (R : Relation C) (strict : Bool) (lines : List (List ℕ)) (s : At C) (h : HostView) (c d : C) → StopsIn R h c d
-    → UnlessStrict strict ((t : World) × LinesUnwritten R lines s (at t c h.store.disk) × IsHost h t) → UnlessStrict strict ((t : At C) × LinesUnwritten R lines s t × (t.disk ≡ h.store.disk) × Stops R (running t.world) t.children d)
-unwritten_stopped R false lines s h c d stops p = (at p.0 c h.store.disk, p.1, refl, stops.0 p.0 p.2)
-unwritten_stopped R true lines s h c d stops p = p
-
 pub lines_stopped : {C : Type 0} (R : Relation C) (strict : Bool) (lines : List (List ℕ)) (s : At C) (h : HostView) (c d : C) (a b : Option (List ℕ)) (f : RunFault)
     → StopsIn R h c d → StopsNumbered R h c d → LinesFailed R strict lines s h c a b f → LinesStopped R strict lines s h d a b f
 lines_stopped R strict lines s h c d a b (fault.Host f) stops numbered (inl p) = inl (p.0, p.1, p.2, at p.3 c p.4, p.5, p.6, stops.1 p.3 p.2 p.4 f p.6, p.7, p.8)
-lines_stopped R strict lines s h c d a b (fault.Host f) stops numbered (inr p) = inr (broke_stopped R strict lines s h c d a b f numbered p)
+lines_stopped R strict lines s h c d a b (fault.Host f) stops numbered (inr p) = inr (p.0, c, p.1, numbered p.1.5.leads p.1.5.contents p.1.5.numbers, p.2, p.3)
 lines_stopped R strict lines s h c d a b fault.OutOfMemory stops numbered p = (p.0, p.1, at p.2 c h.store.disk, p.3, p.4, refl, stops.0 p.2 p.4, p.5, p.6)
 lines_stopped R strict lines s h c d a b fault.Output stops numbered (inl p) = inl (at p.0 c p.1, p.2, p.3, stops_behind R h c d p.0 p.1 stops p.3, p.4)
-lines_stopped R strict lines s h c d a b fault.Output stops numbered (inr p) = inr (unwritten_stopped R strict lines s h c d stops p)
+lines_stopped R strict lines s h c d a b fault.Output stops numbered (inr p) = inr (at p.0 c h.store.disk, p.1, refl, stops.0 p.0 p.2, p.3, p.4)
 lines_stopped R strict lines s h c d a b fault.Input stops numbered p = absurd p
 lines_stopped R strict lines s h c d a b fault.InputTooLong stops numbered p = absurd p
 lines_stopped R strict lines s h c d a b (fault.Open why) stops numbered p = absurd p
@@ -249,7 +240,7 @@ lines-course R number (and_line lines line s before first mid last rest t done r
     course_on s.world s.disk before mid.world mid.disk last t.world t.disk (lines-course R number done)
     (goes_course mid.world mid.disk last t.world t.disk (line-goes R (number + length lines) (line_of line) mid last rest t ran))
 lines-course R number (and_group lines group s before first mid last t done ran) =
-    course_on s.world s.disk before mid.world mid.disk last t.world t.disk (lines-course R number done) (group_course group mid last t ran)
+    course_on s.world s.disk before mid.world mid.disk last t.world t.disk (lines-course R number done) (group_course group mid last t ran.taken)
 
 pub lines-up-to-course : {C : Type 0} (R : Relation C) (lines : List (List ℕ)) (s : At C) (beats : List Beat) (text : List ℕ) (e : Event) (t : At C) → LinesUpTo R lines s beats text e t → Course s.world s.disk beats t.world t.disk
 lines-up-to-course R lines s beats text e t p =
@@ -295,13 +286,9 @@ failed_since {C = C} R strict lines disk now start c d h a b f same p e = go (su
     later : (v : DiskView) → SameDisk now v → Rises v.faults h.store.disk.faults → Rises disk.faults h.store.disk.faults
     later v goes rises = min_since greatest_count disk.faults v.faults h.store.disk.faults (omega (arith, same.later, goes.later)) rises
 
-    broke : (x : Bool) → UnlessStrict x ((hosts.Disk ≡ hosts.Disk) × ((k : C) × (p : LinesBroke R lines (at start c now) h k a b) × Stops R (running p.5.leads) k d)) → Rises disk.faults h.store.disk.faults
-    broke false q = later q.1.1.4 (lines-course R 1 q.1.1.6.ran).same q.1.1.5.failed
-    broke true q = absurd q
-
     go : LinesStopped R strict lines (at start c now) h d a b (fault.Host hosts.Disk) → Rises disk.faults h.store.disk.faults
     go (inl q) = later q.3.disk (lines-up-to-course R lines (at start c now) q.0 q.1 q.2 q.3 q.4).same q.5.cause.0
-    go (inr q) = broke strict q
+    go (inr q) = later q.2.4 (lines-course R 1 q.2.6.ran).same q.2.5.failed
 
 -- What is known of a result, where it is known which it is.
 
@@ -352,10 +339,14 @@ pub taken-course : {C : Type 0} (R : Relation C) (strict : Bool) (lines : List (
     → Course s.world s.disk beats t.world t.disk
 taken-course R false lines stopped s beats text t p = lines-course R 1 p
 taken-course R true lines None s beats text t p = lines-course R 1 p.0
-taken-course R true lines (Some number) s beats text t p =
+taken-course R true lines (Some number) s beats text t (inl p) =
     subst (λ (bs : List Beat). Course s.world s.disk bs t.world t.disk) (sym p.took)
     (course_on s.world s.disk p.earlier p.mid.world p.mid.disk p.last t.world t.disk (lines-course R 1 p.before.ran)
     (goes_course p.mid.world p.mid.disk p.last t.world t.disk (line-goes R number (line_of p.line) p.mid p.last p.rest t p.ran)))
+taken-course R true lines (Some number) s beats text t (inr p) =
+    subst (λ (bs : List Beat). Course s.world s.disk bs t.world t.disk) (sym p.took)
+    (course_on s.world s.disk p.earlier p.mid.world p.mid.disk (p.accepted ++ p.last ∷ []) t.world t.disk (lines-course R 1 p.before.ran)
+    (group_course (p.group ++ p.line ∷ []) p.mid (p.accepted ++ p.last ∷ []) t p.ran))
 
 pub done_run : {C : Type 0} (R : Relation C) (strict : Bool) (stopped : Option ℕ) (stream : Option (List ℕ)) (disk now : DiskView) (c d : C) (a b : Option (List ℕ)) (back : DiskView) (script : List ℕ) (start : World) (beats : List Beat) (text : List ℕ) (t : At C) (h : HostView)
     → IfSome stream (λ bytes. script ≡ bytes) → OpenedOn disk start now → HoldsSheet start now → LinesTaken R strict (script_lines script) stopped (at start c now) beats text t → Stops R (running t.world) t.children d → IsHost h t.world
@@ -495,24 +486,31 @@ told-of stream script P is p = IfSome_then stream is (λ bytes e. subst P e p)
 
 module _ {C : Type 0} (R : Relation C) (stream : Option (List ℕ)) (disk now : DiskView) (c d : C) (a b : Option (List ℕ)) (nothing : Type 0) (script : List ℕ) (start : World) (h : HostView)
     (is : IfSome stream (λ bytes. script ≡ bytes)) (short : length script ≤ longest_standard_input) (opened : OpenedOn disk start now) (held : HoldsSheet start now) (back : DiskView) (same : back ≡ h.store.disk) where
+  abbrev StrictHost : HostFault → List ℕ → Type 0
+  StrictHost f s = ((q : RunStopped R s disk back c d a b f) × EachRight q.lines.before.ran) ⊎ ((f ≡ hosts.Disk) × (q : RunBroke R s disk back c d a b) × EachRight q.before.ran × LastRefused q.broke.untold)
+
+  abbrev StrictOutput : List ℕ → Type 0
+  StrictOutput s = (length s ≤ longest_standard_input)
+      × (((q : RunLed R s disk back c d) × EachRight q.lines.before.ran) ⊎ ((q : RunUnwritten R s disk back c d) × EachRight q.before.ran × LastRefused (outcomes_of q.beats)))
+
   pub broken_run : (strict : Bool) (f : RunFault) → LinesStopped R strict (script_lines script) (at start c now) h d a b f → TellsBy strict R stream disk back c d a b nothing f
   broken_run false (fault.Host f) (inl p) =
       told-of stream script (λ s. RunStopped R s disk back c d a b f ⊎ ((f ≡ hosts.Disk) × RunBroke R s disk back c d a b)) is (inl (run-stopped R disk now c d a b script start h opened held back same false f p))
   broken_run false (fault.Host f) (inr p) =
-      told-of stream script (λ s. RunStopped R s disk back c d a b f ⊎ ((f ≡ hosts.Disk) × RunBroke R s disk back c d a b)) is (inr (p.0, run-broke R disk now c d a b script start h opened held back same false p.1.0 p.1.1 p.1.2))
+      told-of stream script (λ s. RunStopped R s disk back c d a b f ⊎ ((f ≡ hosts.Disk) × RunBroke R s disk back c d a b)) is (inr (p.0, run-broke R disk now c d a b script start h opened held back same false p.1 p.2 p.3))
   broken_run false fault.OutOfMemory p = inr (told-of stream script (λ s. RunSoFar R s disk back c d a b) is (run-so-far R disk now c d a b script start h opened held back same false p))
   broken_run false fault.Output (inl p) =
-      told-of stream script (λ s. (length s ≤ longest_standard_input) × (RunLed R s disk back c d ⊎ RunUnwritten R s disk back c d)) is (short, inl (run-led R disk now c d a b script start h opened held back same false p))
+      told-of stream script (λ s. (length s ≤ longest_standard_input) × (RunLed R s disk back c d ⊎ ((q : RunUnwritten R s disk back c d) × (2 ≤ length q.beats)))) is
+      (short, inl (run-led R disk now c d a b script start h opened held back same false p))
   broken_run false fault.Output (inr p) =
-      told-of stream script (λ s. (length s ≤ longest_standard_input) × (RunLed R s disk back c d ⊎ RunUnwritten R s disk back c d)) is (short, inr (run-unwritten R disk now c d a b script start h opened held back same false p.0 p.1 p.2 p.3))
-  broken_run true (fault.Host f) (inl p) =
-      told-of stream script (λ s. (q : RunStopped R s disk back c d a b f) × EachRight q.lines.before.ran) is (run-stopped R disk now c d a b script start h opened held back same true f p, p.8)
-  broken_run true (fault.Host f) (inr p) = absurd p
+      told-of stream script (λ s. (length s ≤ longest_standard_input) × (RunLed R s disk back c d ⊎ ((q : RunUnwritten R s disk back c d) × (2 ≤ length q.beats)))) is
+      (short, inr (run-unwritten R disk now c d a b script start h opened held back same false p.0 p.1 p.2 p.3, p.5))
+  broken_run true (fault.Host f) (inl p) = told-of stream script (StrictHost f) is (inl (run-stopped R disk now c d a b script start h opened held back same true f p, p.8))
+  broken_run true (fault.Host f) (inr p) = told-of stream script (StrictHost f) is (inr (p.0, run-broke R disk now c d a b script start h opened held back same true p.1 p.2 p.3, p.4, p.5))
   broken_run true fault.OutOfMemory p =
       inr (told-of stream script (λ s. (q : RunSoFar R s disk back c d a b) × EachRight q.lines.before.ran) is (run-so-far R disk now c d a b script start h opened held back same true p, p.8))
-  broken_run true fault.Output (inl p) =
-      told-of stream script (λ s. (length s ≤ longest_standard_input) × ((q : RunLed R s disk back c d) × EachRight q.lines.before.ran)) is (short, (run-led R disk now c d a b script start h opened held back same true p, p.4))
-  broken_run true fault.Output (inr p) = absurd p
+  broken_run true fault.Output (inl p) = told-of stream script StrictOutput is (short, inl (run-led R disk now c d a b script start h opened held back same true p, p.4))
+  broken_run true fault.Output (inr p) = told-of stream script StrictOutput is (short, inr (run-unwritten R disk now c d a b script start h opened held back same true p.0 p.1 p.2 p.3, p.4, p.5))
   broken_run false fault.Input p = absurd p
   broken_run false fault.InputTooLong p = absurd p
   broken_run false (fault.Open why) p = absurd p

@@ -21,7 +21,7 @@ use Rattle.sheet_programs.specs.Together.{Joins, lines_events, line_events, may_
 use Rattle.sheet_programs.specs.Told.{LineFailed, LineWrote}
 use Rattle.sheet_programs.specs.inside.Grouping.{GroupFailed, GroupTook, Standing}
 use Rattle.sheet_programs.specs.inside.Taking.{LineTook, LinesFailed}
-use Rattle.sheet_programs.proofs.Grouped.{kept_beats, kept_done, kept_text}
+use Rattle.sheet_programs.proofs.Grouped.{kept_beats, kept_done, kept_many, kept_taken, kept_text}
 use Rattle.sheet_programs.proofs.Runs.{lines_failed}
 use Rattle.offline_programs.specs.declared.fault.RunFault.{RunFault}
 use Rattle.offline_programs.specs.declared.fault.RunFault.TheVariants as fault
@@ -195,7 +195,7 @@ so_far_at R lines rest first others s h g c a b e w x stands same wrote = (
 pub group_fails : {C : Type 0} (R : Relation C) (lines : List (List ℕ)) (events : List Event) (s : At C) (h g : HostView) (c : C) (a b e : Option (List ℕ)) (p : Standing R lines events s h c a b) (many : 2 ≤ length events)
     (few : length events ≤ most_commands) (same : SameDisk h.store.disk g.store.disk) (rest : List (List ℕ)) (f : RunFault) → GroupFailed p.held p.leads events h g b e f → LinesFailed R false (lines ++ rest) s g c a e f
 group_fails R lines events s h g c a b e p many few same rest (fault.Host f) q =
-    inr (q.0, (p.held, p.beats, p.text, p.leads, h.store.disk, q.1, before R lines events s h g c a b e p many few same rest, unchanged R lines events s h g c a b e p many few same q.2))
+    inr (q.0, (p.held, p.beats, p.text, p.leads, h.store.disk, q.1, before R lines events s h g c a b e p many few same rest, unchanged R lines events s h g c a b e p many few same q.2), tt, tt)
 group_fails R lines [] s h g c a b e p many few same rest fault.OutOfMemory q = absurd (omega (arith, many))
 group_fails R lines (x ∷ xs) s h g c a b e p many few same rest fault.OutOfMemory q = so_far_at R lines rest x xs s h g c a b e p.leads (at_command R lines s h c a b x xs p) q.0 q.1 q.2
 group_fails {C = C} R lines events s h g c a b e p many few same rest fault.Output q = inr (
@@ -207,9 +207,11 @@ group_fails {C = C} R lines events s h g c a b e p many few same rest fault.Outp
     at p.leads c h.store.disk,
     before R lines events s h g c a b e p many few same rest,
     kept_beats {C = C} p.held p.leads events h g c p.joins q,
-    kept_done p.held p.leads events h g c p.joins q many few same,
+    kept_taken p.held p.leads events h g c p.joins q few same,
   ),
   q.stands,
+  tt,
+  kept_many {C = C} p.held p.leads events h g c p.joins q many,
 )
 group_fails R lines events s h g c a b e p many few same rest fault.Input q = absurd q
 group_fails R lines events s h g c a b e p many few same rest fault.InputTooLong q = absurd q

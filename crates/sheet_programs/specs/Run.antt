@@ -21,7 +21,7 @@ use Rattle.sheet_text.specs.Script.{line_of}
 use Rattle.offline_programs.specs.Input.{longest_standard_input}
 use Rattle.offline_programs.specs.Memory.{script_lines}
 use Rattle.sheet_programs.specs.Lines.{LinesDone, LineUpTo, LineSoFar, LineLed, beats_text, led_beats}
-use Rattle.sheet_programs.specs.Together.{GroupBroke, GroupDone}
+use Rattle.sheet_programs.specs.Together.{GroupBroke, GroupTaken}
 use Rattle.sheet_programs.specs.Told.{LeavesFrontsAnyhow}
 use Rattle.offline_programs.specs.declared.fault.RunFault.{RunFault}
 use Rattle.offline_programs.specs.declared.fault.RunFault.TheVariants as fault
@@ -178,7 +178,7 @@ pub record RunUnwritten {C : Type 0} (R : Relation C) (script : List ℕ) (disk 
   pub before : GroupBefore R (script_lines script) group (at start c now) earlier first mid
   pub beats : List Beat
   pub leads : At C
-  pub done : GroupDone group mid beats leads
+  pub done : GroupTaken group mid beats leads
   pub back_is : back ≡ leads.disk
   pub moments : LeavesFronts start (earlier ++ beats) now back
   pub stops : Stops R (running leads.world) leads.children d
@@ -192,4 +192,4 @@ TellsRun R stream disk back c d a b nothing (fault.Open why) = nothing × InMode
 TellsRun R stream disk back c d a b nothing fault.InUse = ⊥
 TellsRun R stream disk back c d a b nothing (fault.Host f) = IfSome stream (λ script. RunStopped R script disk back c d a b f ⊎ ((f ≡ hosts.Disk) × RunBroke R script disk back c d a b))
 TellsRun R stream disk back c d a b nothing fault.OutOfMemory = nothing ⊎ IfSome stream (λ script. RunSoFar R script disk back c d a b)
-TellsRun R stream disk back c d a b nothing fault.Output = IfSome stream (λ script. (length script ≤ longest_standard_input) × (RunLed R script disk back c d ⊎ RunUnwritten R script disk back c d))
+TellsRun R stream disk back c d a b nothing fault.Output = IfSome stream (λ script. (length script ≤ longest_standard_input) × (RunLed R script disk back c d ⊎ ((p : RunUnwritten R script disk back c d) × (2 ≤ length p.beats))))

@@ -1,5 +1,5 @@
 -- A strict run of a script: it stops after the first line that goes wrong. (docs/SCRIPT.md, "Strict runs".)
-use Rattle.std.specs.Prelude.{◌≡◌, ◌+◌, ◌==◌, ◌≤◌, ◌<◌, ◌⊎◌, ℕ, Bool, true, false, not, List, ◌++◌, Option, Some, None, IfSome, is_some, length}
+use Rattle.std.specs.Prelude.{◌≡◌, ◌+◌, ◌==◌, ◌≤◌, ◌<◌, ◌⊎◌, ℕ, Bool, true, false, not, List, [], ◌∷◌, ◌++◌, Option, Some, None, IfSome, is_some, length}
 use Rattle.std.specs.List.{list_any}
 use Rattle.disk_model.specs.Disk.{DiskView, InModel, bytes_on}
 use Rattle.plugin_core.specs.declared.step.Ended.{Ended}
@@ -12,8 +12,12 @@ use Rattle.sheet_text.specs.Script.{line_of}
 use Rattle.sheet_text.specs.declared.script.ScriptLine.{ScriptLine}
 use Rattle.offline_programs.specs.Input.{longest_standard_input}
 use Rattle.offline_programs.specs.Memory.{script_lines}
-use Rattle.sheet_programs.specs.Lines.{LineDone, LinesDone, none, and_line, and_group}
-use Rattle.sheet_programs.specs.Run.{LinesBefore, RunOf, RunStopped, RunSoFar, RunLed}
+use Rattle.sheet_programs.specs.Together.{GroupTaken, line_events}
+use Rattle.sheet_programs.specs.Lines.{LineDone, LinesDone, beats_text}
+use Rattle.sheet_programs.specs.Run.{GroupBefore, LinesBefore, RunBroke, RunLed, RunOf, RunSoFar, RunStopped, RunUnwritten}
+use Rattle.host_events.specs.declared.outcome.HostFault.TheVariants as hosts
+use Rattle.child_edge.specs.Moments.{outcomes_of}
+use Rattle.session_engine.specs.Groups.{LastRefused}
 use Rattle.offline_programs.specs.declared.fault.RunFault.{RunFault}
 use Rattle.offline_programs.specs.declared.fault.RunFault.TheVariants as fault
 
@@ -43,18 +47,12 @@ is_bad line = not (is_some (line_of line))
 abbrev pub GoRight : List (List ℕ) → List Beat → Type 0
 GoRight lines beats = (list_any is_bad lines ≡ false) × (list_any is_wrong (told beats) ≡ false)
 
--- Each of these lines was done by itself: none was taken together with others.
-abbrev pub Singly : {C : Type 0} {R : Relation C} {number : ℕ} {lines : List (List ℕ)} {s : At C} {beats : List Beat} {text : List ℕ} {t : At C} → LinesDone R number lines s beats text t → Type 0
-Singly (none s) = Unit {0}
-Singly (and_line lines line s before first mid last rest t done ran) = Singly done
-Singly (and_group lines group s before first mid last t done ran) = ⊥
-
--- Each was, and none went wrong.
+-- They were done so.
 abbrev pub EachRight : {C : Type 0} {R : Relation C} {number : ℕ} {lines : List (List ℕ)} {s : At C} {beats : List Beat} {text : List ℕ} {t : At C} → LinesDone R number lines s beats text t → Type 0
-EachRight {lines = lines} {beats = beats} done = GoRight lines beats × Singly done
+EachRight {lines = lines} {beats = beats} done = GoRight lines beats
 
--- The lines were done up to the one with this number, the first that went wrong.
-pub record StoppedBehind {C : Type 0} (R : Relation C) (lines : List (List ℕ)) (s : At C) (beats : List Beat) (text : List ℕ) (t : At C) (number : ℕ) : Type 0 where
+-- The lines were done up to the one with this number, the first that went wrong, which was done by itself.
+pub record StoppedAtLine {C : Type 0} (R : Relation C) (lines : List (List ℕ)) (s : At C) (beats : List Beat) (text : List ℕ) (t : At C) (number : ℕ) : Type 0 where
   pub line : List ℕ
   pub mid : At C
   pub earlier : List Beat
@@ -69,12 +67,35 @@ pub record StoppedBehind {C : Type 0} (R : Relation C) (lines : List (List ℕ))
   pub took : beats ≡ earlier ++ last
   pub wrote : text ≡ first ++ rest
 
+-- The lines were done up to the one with this number, the first that went wrong, whose command was the last that was taken of a group.
+pub record StoppedInGroup {C : Type 0} (R : Relation C) (lines : List (List ℕ)) (s : At C) (beats : List Beat) (text : List ℕ) (t : At C) (number : ℕ) : Type 0 where
+  pub group : List (List ℕ)
+  pub line : List ℕ
+  pub mid : At C
+  pub earlier : List Beat
+  pub first : List ℕ
+  pub before : GroupBefore R lines (group ++ line ∷ []) s earlier first mid
+  pub right : EachRight before.ran
+  pub count : number ≡ length before.done + length group + 1
+  pub accepted : List Beat
+  pub last : Beat
+  pub ran : GroupTaken (group ++ line ∷ []) mid (accepted ++ last ∷ []) t
+  pub asks : line_events (line_of line) ≡ last.event ∷ []
+  pub none : list_any is_wrong (told accepted) ≡ false
+  pub wrong : list_any is_wrong (told (last ∷ [])) ≡ true
+  pub took : beats ≡ earlier ++ (accepted ++ last ∷ [])
+  pub wrote : text ≡ first ++ beats_text (accepted ++ last ∷ [])
+
+-- The lines were done up to the one with this number, the first that went wrong.
+abbrev pub StoppedBehind : {C : Type 0} → Relation C → List (List ℕ) → At C → List Beat → List ℕ → At C → ℕ → Type 0
+StoppedBehind R lines s beats text t number = StoppedAtLine R lines s beats text t number ⊎ StoppedInGroup R lines s beats text t number
+
 -- All lines were done, and none went wrong; or they were done up to the first one that did, which has this number.
 abbrev pub StrictLines : {C : Type 0} → Relation C → List (List ℕ) → Option ℕ → At C → List Beat → List ℕ → At C → Type 0
 StrictLines R lines None s beats text t = (done : LinesDone R 1 lines s beats text t) × EachRight done
 StrictLines R lines (Some number) s beats text t = StoppedBehind R lines s beats text t number
 
--- In a strict run each of these lines was done by itself, and none went wrong.
+-- In a strict run none of these lines went wrong.
 abbrev pub RightIf : {C : Type 0} {R : Relation C} {number : ℕ} {lines : List (List ℕ)} {s : At C} {beats : List Beat} {text : List ℕ} {t : At C} → Bool → LinesDone R number lines s beats text t → Type 0
 RightIf false done = Unit {0}
 RightIf true done = EachRight done
@@ -96,8 +117,10 @@ TellsStrict R stream disk back c d a b nothing fault.InputTooLong = nothing × I
 TellsStrict R stream disk back c d a b nothing (fault.Open why) = nothing × InModel disk (TellsOfSheet (bytes_on disk) why)
 TellsStrict R stream disk back c d a b nothing fault.InUse = ⊥
 TellsStrict R stream disk back c d a b nothing (fault.Host f) =
-    IfSome stream (λ script. (p : RunStopped R script disk back c d a b f) × EachRight p.lines.before.ran)
+    IfSome stream (λ script. ((p : RunStopped R script disk back c d a b f) × EachRight p.lines.before.ran)
+    ⊎ ((f ≡ hosts.Disk) × (p : RunBroke R script disk back c d a b) × EachRight p.before.ran × LastRefused p.broke.untold))
 TellsStrict R stream disk back c d a b nothing fault.OutOfMemory =
     nothing ⊎ IfSome stream (λ script. (p : RunSoFar R script disk back c d a b) × EachRight p.lines.before.ran)
 TellsStrict R stream disk back c d a b nothing fault.Output =
-    IfSome stream (λ script. (length script ≤ longest_standard_input) × ((p : RunLed R script disk back c d) × EachRight p.lines.before.ran))
+    IfSome stream (λ script. (length script ≤ longest_standard_input) × (((p : RunLed R script disk back c d) × EachRight p.lines.before.ran)
+    ⊎ ((p : RunUnwritten R script disk back c d) × EachRight p.before.ran × LastRefused (outcomes_of p.beats))))

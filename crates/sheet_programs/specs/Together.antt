@@ -55,11 +55,10 @@ Alone b = (b.outcome.effect ≡ None) × (b.answer ≡ None)
 abbrev pub LeavesEither : World → World → DiskView → DiskView → Type 0
 LeavesEither w v old new = InModel old (LeavesOnly (IsSheetOf (sheet_in w) (sheet_in v)) old.history new.history)
 
--- Lines with two commands or more, and at most 1,024, were taken together. Their commands went through one after another, and no child was called. What they
+-- Lines with at most 1,024 commands were taken together. Their commands went through one after another, and no child was called. What they
 -- gave became durable at once: a crash left the worksheet from before them, or that after all of them.
-pub record GroupDone {C : Type 0} (lines : List (List ℕ)) (s : At C) (beats : List Beat) (t : At C) : Type 0 where
+pub record GroupTaken {C : Type 0} (lines : List (List ℕ)) (s : At C) (beats : List Beat) (t : At C) : Type 0 where
   pub joins : Joins lines (events_of beats)
-  pub many : 2 ≤ length beats
   pub few : length beats ≤ most_commands
   pub runs : Runs s.world (events_of beats) (outcomes_of beats) t.world
   pub alone : AllByRecursion Alone beats
@@ -67,6 +66,11 @@ pub record GroupDone {C : Type 0} (lines : List (List ℕ)) (s : At C) (beats : 
   pub same : SameDisk s.disk t.disk
   pub moments : LeavesEither s.world t.world s.disk t.disk
   pub holds : HoldsSheet t.world t.disk
+
+-- They were, and there were two commands or more.
+pub record GroupDone {C : Type 0} (lines : List (List ℕ)) (s : At C) (beats : List Beat) (t : At C) : Type 0 where
+  pub taken : GroupTaken lines s beats t
+  pub many : 2 ≤ length beats
 
 -- The disk failed while lines were taken together. The first of their commands were taken, and of none anything is reported: a crash left
 -- the worksheet from before them, or that after those. The host is closed; in its memory the worksheet and the lives are as after them.

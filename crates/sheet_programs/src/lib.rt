@@ -3,6 +3,7 @@
 #![tactic(auto)]
 
 mod running;
+mod strictly;
 mod taking;
 mod together;
 

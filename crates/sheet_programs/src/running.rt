@@ -17,7 +17,7 @@ ghost use Rattle.offline_programs.specs.declared.fault.RunFault.TheVariants as t
 ghost use Rattle.journal.specs.declared.opening.OpenCause.TheVariants as opens;
 ghost use Rattle.host_events.specs.declared.outcome.HostFault.TheVariants as hosts;
 
-use crate::taking::run_each;
+use crate::strictly::run_each;
 use crate::together::run_together;
 use child_calls::Children;
 use child_edge::stop_all;
@@ -37,8 +37,8 @@ pub struct Ran<D: Disk> {
     pub answer: Result<Option<u64>, RunFault>,
 }
 
-/// Does the lines of a script. A strict run takes each by itself, and stops after the first one that goes
-/// wrong, of which it gives the number.
+/// Does the lines of a script. A strict run stops after the first one that goes wrong, of which it gives the
+/// number.
 fn run_lines<D: Disk, C: Children, W: Write>(
     alloc: Global,
     host: &mut Host<D>,
@@ -196,9 +196,9 @@ pub fn run<R: Read, W: Write, D: Disk, C: Children>(
     run_script(alloc, reader, writer, disk, children, false)
 }
 
-/// Runs a script as `run` does, but each line by itself, and stops after the first line that goes wrong:
-/// one that isn't known, one that is refused, and one by which lines or requests were lost, since an
-/// interpreter ended. What that line gives is written, and what was reported is on the disk.
+/// Runs a script as `run` does, and stops after the first line that goes wrong: one that isn't known, one that
+/// is refused, and one by which lines or requests were lost, since an interpreter ended. No line behind it is
+/// taken. What that line gives is written, and what was reported is on the disk.
 ///
 /// Faults are those of `run`.
 pub fn run_strict<R: Read, W: Write, D: Disk, C: Children>(

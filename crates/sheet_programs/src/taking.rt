@@ -72,7 +72,7 @@ fn goes_wrong(already: bool, replies: &[Reply]) -> bool
 }
 
 /// Takes a command and all that comes of it, and writes and flushes the replies. Whether it went wrong.
-fn take_command<D: Disk, C: Children, W: Write>(
+pub(crate) fn take_command<D: Disk, C: Children, W: Write>(
     alloc: Global,
     host: &mut Host<D>,
     children: &mut C,
@@ -214,38 +214,4 @@ pub fn run_line<D: Disk, C: Children, W: Write>(
         },
         Err(LineFault::OutOfMemory) => Err(RunFault::OutOfMemory),
     }
-}
-
-/// Does the lines of a script, one after another, up to the first one that goes wrong, and gives its number.
-pub(crate) fn run_each<D: Disk, C: Children, W: Write>(
-    alloc: Global,
-    host: &mut Host<D>,
-    children: &mut C,
-    script: &[u8],
-    writer: &mut W,
-) -> Result<Option<u64>, RunFault>
-    requires { length (script_lines script.now) < 2 ^ 32 }
-    ensures same { SameDisk host.old.store.disk host.new.store.disk }
-    ensures ok { (w : World) → IsHost host.old w → IfOk result (λ stopped. (beats : List Beat) × (text : List ℕ)
-        × (t : World) × LinesTaken C.after true (script_lines script.now) stopped
-        (at w children.old host.old.store.disk) beats text (at t children.new host.new.store.disk)
-        × IsHost host.new t × Appends (W.contents writer.old) (W.contents writer.new) text) }
-    ensures err { (w : World) → IsHost host.old w → IfErr result (LinesFailed C.after true
-        (script_lines script.now) (at w children.old host.old.store.disk) host.new
-        children.new (W.contents writer.old) (W.contents writer.new)) }
-{
-    let mut lines = script.lines();
-    let mut number: u64 = 0;
-    while let Some(line) = lines.next() {
-        number += 1;
-        match run_line(alloc, host, children, line, number, writer) {
-            Ok(wrong) => {
-                if wrong {
-                    return Ok(Some(number));
-                }
-            }
-            Err(fault) => return Err(fault),
-        }
-    }
-    Ok(None)
 }

@@ -38,9 +38,9 @@ const MOST_BYTES: usize = 1_048_576;
 
 /// The commands of lines that were read and are still to be taken.
 #[derive(Drop)]
-struct Stretch {
-    events: Vec<Event>,
-    bytes: usize,
+pub(crate) struct Stretch {
+    pub(crate) events: Vec<Event>,
+    pub(crate) bytes: usize,
 }
 
 /// Whether a command only changes the worksheet.
@@ -62,7 +62,7 @@ fn is_edit(command: &Command) -> bool
 }
 
 /// Adds a command that only changes the worksheet, where there is memory for it. Whether it did.
-fn add(events: &mut Vec<Event>, command: Command) -> bool
+pub(crate) fn add(events: &mut Vec<Event>, command: Command) -> bool
     ensures added { result ≡ true → (is_some (op_of command) ≡ true)
         × (events.new.items ≡ events.old.items ++ asks.Command command ∷ []) }
     ensures kept { result ≡ false → events.new.items ≡ events.old.items }
@@ -87,7 +87,7 @@ fn hold(alloc: Global, stretch: &mut Stretch, line: &[u8]) -> bool
 }
 
 /// Writes the replies of outcomes, and flushes them.
-fn tell_outcomes<W: Write>(outcomes: &[Outcome], writer: &mut W) -> Result<(), RunFault>
+pub(crate) fn tell_outcomes<W: Write>(outcomes: &[Outcome], writer: &mut W) -> Result<(), RunFault>
     ensures ok { OnOk result
         (Appends (W.contents writer.old) (W.contents writer.new) (outcomes_text outcomes.now)) }
     ensures err { IfErr result (λ fault. fault ≡ RunFault.Output) }
@@ -224,7 +224,7 @@ fn take_all<D: Disk, C: Children, W: Write>(
 }
 
 /// Whether a stretch has as many commands, or as many bytes, as are taken together.
-fn is_full(stretch: &Stretch) -> bool
+pub(crate) fn is_full(stretch: &Stretch) -> bool
     ensures few { result ≡ false → length stretch.now.events.items < most_commands }
 {
     stretch.events.len() >= MOST_COMMANDS || stretch.bytes >= MOST_BYTES

@@ -1,19 +1,22 @@
 -- What the functions of a script's run promise each other. No public contract names this.
-use Rattle.std.specs.Prelude.{◌≡◌, ◌⊎◌, ℕ, Bool, true, false, List, Option}
+use Rattle.std.specs.Prelude.{◌≡◌, ◌≤◌, ◌⊎◌, ℕ, Bool, true, false, List, Option, length}
 use Rattle.std.specs.Io.KnownBytes.{Appends}
 use Rattle.disk_model.specs.Disk.{DiskView}
 use Rattle.host_events.specs.declared.event.Event.{Event}
 use Rattle.host_events.specs.declared.outcome.HostFault.TheVariants as hosts
+use Rattle.host_events.specs.declared.outcome.Outcome.{Outcome}
 use Rattle.session_engine.specs.World.{World}
 use Rattle.session_engine.specs.Host.{HostView, IsHost}
 use Rattle.child_edge.specs.Faithful.{Relation, At, at, Beat}
 use Rattle.child_edge.specs.Edge.{Stopped}
+use Rattle.child_edge.specs.Moments.{outcomes_of}
 use Rattle.child_edge.specs.Seats.{running}
 use Rattle.child_edge.specs.Stops.{Stops}
 use Rattle.sheet_text.specs.declared.script.ScriptLine.{ScriptLine}
 use Rattle.sheet_programs.specs.Lines.{LineDone}
+use Rattle.session_engine.specs.Groups.{LastRefused}
 use Rattle.sheet_programs.specs.Told.{StandsOrStopped}
-use Rattle.sheet_programs.specs.Together.{GroupBroke, GroupDone}
+use Rattle.sheet_programs.specs.Together.{GroupBroke, GroupTaken}
 use Rattle.sheet_programs.specs.Run.{GroupBefore, LinesUpTo, LinesSoFar, LinesLed, TellsRun}
 use Rattle.sheet_programs.specs.Strict.{RightIf, TellsStrict, goes_wrong}
 use Rattle.offline_programs.specs.declared.fault.RunFault.{RunFault}
@@ -29,10 +32,15 @@ abbrev pub TellsBy : {C : Type 0} → Bool → Relation C → Option (List ℕ) 
 TellsBy false R stream disk back c d a b nothing f = TellsRun R stream disk back c d a b nothing f
 TellsBy true R stream disk back c d a b nothing f = TellsStrict R stream disk back c d a b nothing f
 
--- only a run that isn't strict takes lines together
-abbrev pub UnlessStrict : Bool → Type 0 → Type 0
-UnlessStrict false P = P
-UnlessStrict true P = ⊥
+-- in a strict run none of these outcomes but the last is a refusal
+abbrev pub LastIf : Bool → List Outcome → Type 0
+LastIf false outcomes = Unit {0}
+LastIf true outcomes = LastRefused outcomes
+
+-- A group has two entries or more; in a strict run it ends behind the first that was refused.
+abbrev pub GroupBy : Bool → List Beat → Type 0
+GroupBy false beats = 2 ≤ length beats
+GroupBy true beats = LastRefused (outcomes_of beats)
 
 -- The disk failed in a group of the lines. What the lines before it gave is written.
 abbrev pub LinesBroke : {C : Type 0} → Relation C → List (List ℕ) → At C → HostView → C → Option (List ℕ) → Option (List ℕ) → Type 0
@@ -42,20 +50,20 @@ LinesBroke R lines s h c a b =
 -- A group of the lines was done, and is not written.
 abbrev pub LinesUnwritten : {C : Type 0} → Relation C → List (List ℕ) → At C → At C → Type 0
 LinesUnwritten {C = C} R lines s t =
-    (group : List (List ℕ)) × (beats : List Beat) × (text : List ℕ) × (mid : At C) × GroupBefore R lines group s beats text mid × (last : List Beat) × GroupDone group mid last t
+    (group : List (List ℕ)) × (beats : List Beat) × (text : List ℕ) × (mid : At C) × GroupBefore R lines group s beats text mid × (last : List Beat) × GroupTaken group mid last t
 
 -- What a fault of the lines of a script leaves.
 abbrev pub LinesFailed : {C : Type 0} → Relation C → Bool → List (List ℕ) → At C → HostView → C → Option (List ℕ) → Option (List ℕ) → RunFault → Type 0
 LinesFailed R strict lines s h c a b (fault.Host f) =
     ((beats : List Beat) × (text : List ℕ) × (e : Event) × (t : World) × (d : DiskView) × (p : LinesUpTo R lines s beats text e (at t c d)) × Stopped d h t e f × Appends a b text
     × RightIf strict p.before.ran)
-    ⊎ UnlessStrict strict ((f ≡ hosts.Disk) × LinesBroke R lines s h c a b)
+    ⊎ ((f ≡ hosts.Disk) × (p : LinesBroke R lines s h c a b) × RightIf strict p.6.ran × LastIf strict p.5.untold)
 LinesFailed R strict lines s h c a b fault.OutOfMemory =
     (beats : List Beat) × (text : List ℕ) × (t : World) × (p : LinesSoFar R lines s beats text (at t c h.store.disk)) × IsHost h t × Appends a b text
     × RightIf strict p.before.ran
 LinesFailed R strict lines s h c a b fault.Output =
     ((t : World) × (d : DiskView) × (p : LinesLed R lines s (at t c d)) × StandsOrStopped h t d × RightIf strict p.before.ran)
-    ⊎ UnlessStrict strict ((t : World) × LinesUnwritten R lines s (at t c h.store.disk) × IsHost h t)
+    ⊎ ((t : World) × (p : LinesUnwritten R lines s (at t c h.store.disk)) × IsHost h t × RightIf strict p.4.ran × GroupBy strict p.5)
 LinesFailed R strict lines s h c a b fault.Input = ⊥
 LinesFailed R strict lines s h c a b fault.InputTooLong = ⊥
 LinesFailed R strict lines s h c a b (fault.Open why) = ⊥
@@ -66,13 +74,13 @@ abbrev pub LinesStopped : {C : Type 0} → Relation C → Bool → List (List �
 LinesStopped {C = C} R strict lines s h d a b (fault.Host f) =
     ((beats : List Beat) × (text : List ℕ) × (e : Event) × (t : At C) × (p : LinesUpTo R lines s beats text e t) × Stopped t.disk h t.world e f × Stops R (running t.world) t.children d × Appends a b text
     × RightIf strict p.before.ran)
-    ⊎ UnlessStrict strict ((f ≡ hosts.Disk) × ((c : C) × (p : LinesBroke R lines s h c a b) × Stops R (running p.5.leads) c d))
+    ⊎ ((f ≡ hosts.Disk) × (c : C) × (p : LinesBroke R lines s h c a b) × Stops R (running p.5.leads) c d × RightIf strict p.6.ran × LastIf strict p.5.untold)
 LinesStopped {C = C} R strict lines s h d a b fault.OutOfMemory =
     (beats : List Beat) × (text : List ℕ) × (t : At C) × (p : LinesSoFar R lines s beats text t) × IsHost h t.world × (t.disk ≡ h.store.disk) × Stops R (running t.world) t.children d × Appends a b text
     × RightIf strict p.before.ran
 LinesStopped {C = C} R strict lines s h d a b fault.Output =
     ((t : At C) × (p : LinesLed R lines s t) × StandsOrStopped h t.world t.disk × Stops R (running t.world) t.children d × RightIf strict p.before.ran)
-    ⊎ UnlessStrict strict ((t : At C) × LinesUnwritten R lines s t × (t.disk ≡ h.store.disk) × Stops R (running t.world) t.children d)
+    ⊎ ((t : At C) × (p : LinesUnwritten R lines s t) × (t.disk ≡ h.store.disk) × Stops R (running t.world) t.children d × RightIf strict p.4.ran × GroupBy strict p.5)
 LinesStopped R strict lines s h d a b fault.Input = ⊥
 LinesStopped R strict lines s h d a b fault.InputTooLong = ⊥
 LinesStopped R strict lines s h d a b (fault.Open why) = ⊥
