@@ -253,7 +253,9 @@ impl<D: Disk> BufferedHost<D> {
                         return Ok(outcomes);
                     }
                 }
-                Err(fault) => return Err(PlayFault::Stopped { outcomes, fault }),
+                Err(fault) => {
+                    return Err(PlayFault::Stopped { outcomes, fault });
+                }
             }
         }
         Ok(outcomes)

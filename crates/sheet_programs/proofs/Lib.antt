@@ -7,3 +7,4 @@ pub mod Commands
 pub mod Heard
 pub mod Cuts
 pub mod Rights
+pub mod Refusals

@@ -197,7 +197,7 @@ pub fn run<R: Read, W: Write, D: Disk, C: Children>(
 }
 
 /// Runs a script as `run` does, and stops after the first line that goes wrong: one that isn't known, one that
-/// is refused, and one by which lines or requests were lost, since an interpreter ended. No line behind it is
+/// is refused, and one by which lines or requests were lost, since an interpreter ended. No line after it is
 /// taken. What that line gives is written, and what was reported is on the disk.
 ///
 /// Faults are those of `run`.

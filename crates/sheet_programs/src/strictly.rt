@@ -262,7 +262,14 @@ fn take_next<D: Disk, C: Children, W: Write>(
         }
         return Ok(None);
     }
-    match take_stretch(alloc, host, children, stretch, number.saturating_sub(1), writer) {
+    match take_stretch(
+        alloc,
+        host,
+        children,
+        stretch,
+        number.saturating_sub(1),
+        writer,
+    ) {
         Ok(None) => do_line(alloc, host, children, line, number, writer),
         Ok(Some(stopped)) => Ok(Some(stopped)),
         Err(fault) => Err(fault),
@@ -270,7 +277,7 @@ fn take_next<D: Disk, C: Children, W: Write>(
 }
 
 /// Does the lines of a script, one after another, up to the first one that goes wrong, and gives its number.
-/// Commands that only change the worksheet are taken together as `run_together` does, none behind one that was
+/// Commands that only change the worksheet are taken together as `run_together` does, none after one that was
 /// refused.
 pub(crate) fn run_each<D: Disk, C: Children, W: Write>(
     alloc: Global,

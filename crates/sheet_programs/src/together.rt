@@ -267,9 +267,8 @@ fn take_line<D: Disk, C: Children, W: Write>(
     }
 }
 
-/// Does the lines of a script, one after another. Commands that only change the worksheet are taken together
-/// while no other line comes between, until they are 1,024, or their lines have 1 MiB: a crash leaves all that
-/// such a stretch gives, or nothing.
+/// Does the lines of a script, one after another. Commands that only change the worksheet, one after another, are
+/// taken together, 1,024 or 1 MiB of lines at a time: a crash leaves all that such a stretch gives, or nothing.
 pub(crate) fn run_together<D: Disk, C: Children, W: Write>(
     alloc: Global,
     host: &mut Host<D>,

@@ -45,7 +45,7 @@ pub record KeptUpTo (w : World) (events : List Event) (old new : HostView) : Typ
   pub kept : GroupKept w done old new
   pub stops : StopsAtRefusal kept.told rest
 
--- They were, their replies are written, and this says behind which line it stopped.
+-- They were, their replies are written, and this says after which line it stopped.
 abbrev pub UpToTook : World → List Event → HostView → HostView → Option (List ℕ) → Option (List ℕ) → ℕ → Option ℕ → Type 0
 UpToTook w events old new a b read stopped = (p : KeptUpTo w events old new) × Appends a b (outcomes_text p.kept.told) × (stopped ≡ stopped_at p.kept.told read (length events))
 
@@ -65,7 +65,7 @@ pub record StandingRight {C : Type 0} (R : Relation C) (lines : List (List ℕ))
   pub right : GoRight all.done all.beats
   pub each : AllByRecursion (λ l. is_change (line_of l) ≡ true) all.held
 
--- The lines stand so; or the run stopped in them, behind the one with this number.
+-- The lines stand so; or the run stopped in them, after the one with this number.
 abbrev pub StandsOrStops : {C : Type 0} → Relation C → List (List ℕ) → List Event → At C → HostView → C → Option (List ℕ) → Option (List ℕ) → Option ℕ → Type 0
 StandsOrStops R lines events s h c a b None = StandingRight R lines events s h c a b
 StandsOrStops R lines events s h c a b (Some number) =

@@ -37,7 +37,7 @@ abbrev pub LastIf : Bool → List Outcome → Type 0
 LastIf false outcomes = Unit {0}
 LastIf true outcomes = LastRefused outcomes
 
--- A group has two entries or more; in a strict run it ends behind the first that was refused.
+-- A group has two entries or more; in a strict run it ends after the first that was refused.
 abbrev pub GroupBy : Bool → List Beat → Type 0
 GroupBy false beats = 2 ≤ length beats
 GroupBy true beats = LastRefused (outcomes_of beats)

@@ -2,7 +2,8 @@ use Rattle.std.proofs.Common.{◌+◌, ◌≤◌, arith, length, subst}
 use Rattle.sheet_programs.specs.inside.Strictly.{StandingRight}
 use Rattle.sheet_programs.proofs.Runs.{if_err_then, if_ok_then}
 use Rattle.sheet_programs.proofs.Stretches.{only_one}
-use Rattle.sheet_programs.proofs.Rights.{alone_done, alone_fails, alone_stops, alone_waits, goes_or_stops, together_fails}
+use Rattle.sheet_programs.proofs.Refusals.{goes_or_stops, together_fails}
+use Rattle.sheet_programs.proofs.Rights.{alone_done, alone_fails, alone_stops, alone_waits}
 use Rattle.sheet_programs.proofs.strictly.take_right.Goals as goal
 
 pub returns-then-len-gt1-clause-ok : goal.returns-then-len-gt1-clause-ok

@@ -11,10 +11,10 @@ use Rattle.sheet_programs.proofs.strictly.take_up_to.Goals as goal
 pub returns-in-Ok-tell_outcomes-clause-ok : goal.returns-in-Ok-tell_outcomes-clause-ok
 returns-in-Ok-tell_outcomes-clause-ok g c = λ lines w h joins.
     let count : c.len-count.result ≡ length c.args.events.items = omega (arith, c.len-count.ensures, c.args.events.ok) in (
-  kept_up_to w c.args.host.now c.play_up_to.new.host c.play_up_to.ensures.before.1 c.play_up_to.ensures.after h c.args.events.items c.in-Ok.outcomes.items (c.in-Ok.ensures.took w h),
-  subst (λ x. Appends (g.W.Write.contents c.args.writer.now) (g.W.Write.contents c.tell_outcomes.new.writer) (outcomes_text x)) c.as_slice.ensures.value c.in-Ok-tell_outcomes.ensures.ok,
-  c.stopped_at.ensures ∙ ap (λ x. stopped_at x c.args.read c.len-count.result) c.as_slice-in-Ok-tell_outcomes.ensures.value ∙ ap (λ n. stopped_at c.in-Ok.outcomes.items c.args.read n) count,
-)
+      kept_up_to w c.args.host.now c.play_up_to.new.host c.play_up_to.ensures.before.1 c.play_up_to.ensures.after h c.args.events.items c.in-Ok.outcomes.items (c.in-Ok.ensures.took w h),
+      subst (λ x. Appends (g.W.Write.contents c.args.writer.now) (g.W.Write.contents c.tell_outcomes.new.writer) (outcomes_text x)) c.as_slice.ensures.value c.in-Ok-tell_outcomes.ensures.ok,
+      c.stopped_at.ensures ∙ ap (λ x. stopped_at x c.args.read c.len-count.result) c.as_slice-in-Ok-tell_outcomes.ensures.value ∙ ap (λ n. stopped_at c.in-Ok.outcomes.items c.args.read n) count,
+    )
 
 pub returns-in-Ok-clause-err : goal.returns-in-Ok-clause-err
 returns-in-Ok-clause-err g c = λ lines w h joins.
@@ -33,8 +33,7 @@ returns-in-Err-Stopped-clause-err g c = λ lines w h joins.
 
 pub returns-in-Err-Disk-clause-err : goal.returns-in-Err-Disk-clause-err
 returns-in-Err-Disk-clause-err g c = λ lines w h joins.
-    let failed = subst (λ (x : GroupFault). HaltsUpTo w c.args.events.items c.args.host.now c.play_up_to.new.host x) c.in-Err-Disk.field-0-is (c.in-Err-Disk.ensures.halts w h) in
-    (
+    let failed = subst (λ (x : GroupFault). HaltsUpTo w c.args.events.items c.args.host.now c.play_up_to.new.host x) c.in-Err-Disk.field-0-is (c.in-Err-Disk.ensures.halts w h) in (
       refl,
       group_broke w c.args.host.now c.play_up_to.new.host c.play_up_to.ensures.before.1 c.play_up_to.ensures.after h lines c.args.events.items joins c.play_up_to.ensures.same failed.0,
       failed.1,
