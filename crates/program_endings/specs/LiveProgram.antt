@@ -1,5 +1,5 @@
 -- How the program `live` ends: what becomes of the disk, what is written on which stream, and the exit status.
-use Rattle.std.specs.Prelude.{◌≡◌, ℕ, Bool, true, false, List, Option, Ok, Err, IfOk, IfErr, IsErrOf}
+use Rattle.std.specs.Prelude.{◌≡◌, ℕ, Bool, true, false, List, Option, Result, Ok, Err, IfOk, IfErr, IsErrOf}
 use Rattle.std.specs.Io.KnownBytes.{Appends}
 use Rattle.disk_model.specs.Disk.{Rises, SameDisk}
 use Rattle.journal.specs.declared.opening.OpenCause.TheVariants as opens

@@ -234,6 +234,10 @@ done
 for seconds in 0 1000001 x '' 1.5; do
     reports "no time: $seconds" 2 "error: this is no time: SECONDS is a number from 1 to 1000000$help" --timeout "$seconds"
 done
+for jobs in 0 65 x '' 1.5; do
+    reports "no number of jobs: $jobs" 2 "error: this is no number of jobs: N is a number from 1 to 64$help" --jobs "$jobs"
+done
+reports 'side by side, and accepted' 2 "error: --jobs goes with no --accept$help" --jobs 2 --accept
 compare 'words that ask for no check' "$(cat sent 2>/dev/null)" ''
 
 # In JUnit's XML: outputs that look like tags are texts, and what XML can't have is replaced.
@@ -366,6 +370,43 @@ objects 'the same that stalls, as JSON' 1 --timeout 2 --only l <<'END_OF_JSON'
 END_OF_JSON
 reports 'one session within its time' 1 '#3 a\na] differs\n- differs\n+ another\nsame 0 differ 1 unanswered 0\n' --timeout 1000000 --only a
 
+# Sessions side by side: the same report, in each format, of the same fields.
+made "$a"'session b plain sh suite.sh b\nnew 0 a x\nnew 1 b differs\nnew 2 a hangs\nnew 3 a tags\nnew 4 b tagged\nnew 5 b not evaluated\neval 1\neval 2\neval 3\neval 4\neval 5\nwait\n'
+for flags in '' '--format tap' '--format junit' '--json' '--only b' '--leave-out 2,4' '--timeout 60' '--only nothing'; do
+    compare "side by side as one after another, $flags" "$(answer check --jobs 4 $flags sheet </dev/null)" "$(answer check $flags sheet </dev/null)"
+done
+rm -f sent lives
+reports 'side by side' 1 '#2 b\n> differs\n- differs\n+ another\n#3 a\na] hangs\n- hangs\n+ ?\n#4 a\na] tags\n- tags\n+ </failure><b a="&">\n#5 b\nb] tagged\n- tagged\n+ $x$\nsame 1 differ 3 unanswered 1\n' --jobs 2
+compare 'side by side, no field that shows none' "$(grep -c 'not evaluated' sent)" 0
+ended 'side by side' 3
+made "$a"'session b plain ./nothing\nnew 0 a x\nnew 1 a differs\neval 1\neval 2\nwait\n'
+reports 'side by side, one session alone' 1 '#2 a\na] differs\n- differs\n+ another\nsame 1 differ 1 unanswered 0\n' --jobs 64
+
+# An interpreter that answers a line once that of the other session has its line of the same name too.
+cat >meets.sh <<'END_OF_CHILD'
+printf '\002verbatim:\005'
+while IFS= read -r line; do
+    : >"met.$1.$line"
+    until [ -e "met.$2.$line" ]; do sleep 0.02; done
+    printf '\002verbatim:%s\005' "$line"
+done
+END_OF_CHILD
+rm -f met.*
+made 'session a plain env --default-signal=INT sh meets.sh a b\nsession b plain env --default-signal=INT sh meets.sh b a\nnew 0 b x\nnew 1 a x\nnew 2 a y\nnew 3 b y\neval 1\neval 2\neval 3\neval 4\nwait\n'
+rm -f met.*
+reports 'two that wait for each other' 0 'same 4 differ 0 unanswered 0\n' --jobs 2
+rm -f met.*
+reports 'two that wait for each other, one after another' 1 '#1 b\n> x\n- x\n+ ?\n#3 a\n> y\n- y\n+ ?\nsame 2 differ 0 unanswered 2\n' --jobs 1 --timeout 1
+
+# What came after its time is none, and the fields after it are checked.
+made "$l"'session k plain env --default-signal=INT sh loops.sh\nnew 0 l x\nnew 1 l loop\nnew 2 k late\nnew 3 l y\nnew 4 k differs\neval 1\neval 2\neval 3\neval 4\neval 5\nwait\n'
+reports 'side by side, an answer after its time is none' 1 '#2 l\n> loop\n- loop\n+ ?\n#3 k\n> late\n- late\n+ ?\n#5 k\n> differs\n- differs\n+ another\nsame 2 differ 1 unanswered 2\n' --jobs 2 --timeout 1
+
+# Nothing is written before the last answer came.
+made "$a"'session b plain sh suite.sh b\nnew 0 a differs\nnew 1 b kills\neval 1\neval 2\nwait\n'
+(exec "$tmhost" check --jobs 2 --format tap sheet >text 2>errors) 2>/dev/null
+compare 'side by side, a check that is killed' "$? $(cat text errors)" '137 '
+
 # A report that is cut off has no plan, and isn't well-formed.
 made "$a"'new 0 a x\nnew 1 a kills\neval 1\neval 2\nwait\n'
 (exec "$tmhost" check --format tap sheet >text 2>errors) 2>/dev/null
@@ -409,6 +450,6 @@ rm -f sheet sheet.alt again
 "$tmhost" run sheet <many >/dev/null
 touch again
 checks 'a thousand fields' 1 '#999 a\na] differs\n- differs\n+ another\nsame 999 differ 1 unanswered 0\n'
-rm -f again sent lives many other report wanted cases.py
+rm -f again sent lives many other report wanted cases.py met.*
 
 counted checks
