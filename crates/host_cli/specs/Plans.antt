@@ -7,6 +7,8 @@ use Rattle.sheet_text.specs.Script.{number_written}
 use Rattle.evaluation.specs.declared.plan.Plan.{Plan}
 use Rattle.evaluation.specs.declared.plan.Which.{Which}
 use Rattle.evaluation.specs.declared.plan.Which.TheVariants as which
+use Rattle.host_cli.specs.declared.plans.JobsFault.{JobsFault}
+use Rattle.host_cli.specs.declared.plans.JobsFault.TheVariants as jobs_fault
 use Rattle.host_cli.specs.declared.plans.PlanFault.{PlanFault}
 use Rattle.host_cli.specs.declared.plans.PlanFault.TheVariants as plans
 
@@ -36,6 +38,20 @@ jobs_if (Some jobs) strict = jobs_by (nat_le 1 jobs && nat_le jobs 64) strict jo
 abbrev pub jobs_asked : Option Text → Bool → Result ℕ PlanFault
 jobs_asked None strict = Ok 1
 jobs_asked (Some text) strict = jobs_if (number_written text) strict
+
+-- The same of a check, where it goes with no acceptance.
+abbrev pub check_jobs_by : Bool → Bool → ℕ → Result ℕ JobsFault
+check_jobs_by true true jobs = Err jobs_fault.Accepting
+check_jobs_by true false jobs = Ok jobs
+check_jobs_by false accept jobs = Err jobs_fault.Number
+
+abbrev pub check_jobs_if : Option ℕ → Bool → Result ℕ JobsFault
+check_jobs_if None accept = Err jobs_fault.Number
+check_jobs_if (Some jobs) accept = check_jobs_by (nat_le 1 jobs && nat_le jobs 64) accept jobs
+
+abbrev pub check_jobs_asked : Option Text → Bool → Result ℕ JobsFault
+check_jobs_asked None accept = Ok 1
+check_jobs_asked (Some text) accept = check_jobs_if (number_written text) accept
 
 -- the numbers that words write, where each of them writes one
 abbrev pub with_id : Option ℕ → Option (List ℕ) → Option (List ℕ)

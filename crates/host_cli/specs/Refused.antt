@@ -4,6 +4,8 @@ use Rattle.std.specs.Io.KnownBytes.{Appends}
 use Rattle.check_report.specs.declared.request.RequestFault.{RequestFault}
 use Rattle.check_report.specs.declared.request.RequestFault.TheVariants as request
 use Rattle.offline_programs.specs.declared.fault.RunFault.TheVariants as fault
+use Rattle.host_cli.specs.declared.plans.JobsFault.{JobsFault}
+use Rattle.host_cli.specs.declared.plans.JobsFault.TheVariants as jobs_fault
 use Rattle.host_cli.specs.declared.plans.PlanFault.{PlanFault}
 use Rattle.host_cli.specs.declared.plans.PlanFault.TheVariants as plans
 use Rattle.program_endings.specs.Ending.{TellsFault}
@@ -56,6 +58,13 @@ no_ids_text = codes "error: these are no fields: IDS are numbers and ranges of t
 abbrev pub no_acceptance_text : List ℕ
 no_acceptance_text = codes "error: --accept goes with no FORMAT but text\n\nFor more information, try 'tmhost check --help'.\n"
 
+-- and of a number of sessions that go side by side, or of one where answers are accepted
+abbrev pub no_check_jobs_text : List ℕ
+no_check_jobs_text = codes "error: this is no number of jobs: N is a number from 1 to 64\n\nFor more information, try 'tmhost check --help'.\n"
+
+abbrev pub accept_jobs_text : List ℕ
+accept_jobs_text = codes "error: --jobs goes with no --accept\n\nFor more information, try 'tmhost check --help'.\n"
+
 -- the words are refused with this text
 abbrev pub RefusesWith : {E : Type 0} → List ℕ → (E → Option (List ℕ)) → E → E → Ending → Type 0
 RefusesWith text said old new ending = (ending.status ≡ 2) × (ending.told ≡ true → Appends (said old) (said new) text)
@@ -77,3 +86,8 @@ RefusesRequest request.Ids said old new ending = RefusesWith no_ids_text said ol
 RefusesRequest request.Accepting said old new ending = RefusesWith no_acceptance_text said old new ending
 RefusesRequest request.Both said old new ending = RefusesWith two_formats_text said old new ending
 RefusesRequest request.OutOfMemory said old new ending = (ending.status ≡ 1) × TellsFault said old new ending.told (Err fault.OutOfMemory)
+
+-- how the program ends where they name no number of sessions
+abbrev pub RefusesJobs : {E : Type 0} → JobsFault → (E → Option (List ℕ)) → E → E → Ending → Type 0
+RefusesJobs jobs_fault.Number said old new ending = RefusesWith no_check_jobs_text said old new ending
+RefusesJobs jobs_fault.Accepting said old new ending = RefusesWith accept_jobs_text said old new ending

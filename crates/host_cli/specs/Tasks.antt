@@ -19,15 +19,17 @@ use Rattle.check_report.specs.declared.request.RequestFault.{RequestFault}
 use Rattle.command_words.specs.Asked.{CheckView, EvalView, TaskView, asked_by, task_view, tmhost}
 use Rattle.command_words.specs.declared.words.Task.{Task}
 use Rattle.command_words.specs.Asked as asked
-use Rattle.host_cli.specs.Plans.{AsksNoPlan, AsksPlan, limit_asked}
-use Rattle.host_cli.specs.Refused.{RefusesPlan, RefusesRequest, RefusesWith, ShowsText, no_check_seconds_text, no_format_text}
+use Rattle.host_cli.specs.Plans.{AsksNoPlan, AsksPlan, check_jobs_asked, limit_asked}
+use Rattle.host_cli.specs.Refused.{RefusesJobs, RefusesPlan, RefusesRequest, RefusesWith, ShowsText, no_check_seconds_text, no_format_text}
 use Rattle.host_cli.specs.declared.outside.Outside.{Outside}
+use Rattle.host_cli.specs.declared.plans.JobsFault.{JobsFault}
 use Rattle.host_cli.specs.declared.plans.PlanFault.{PlanFault}
 use Rattle.live.specs.Records.{Clock, Watch}
 use Rattle.offline_programs.specs.declared.fault.RunFault.{RunFault}
 use Rattle.offline_programs.specs.declared.fault.RunFault.TheVariants as fault
 use Rattle.program_endings.specs.AcceptProgram.{AcceptEnds}
 use Rattle.program_endings.specs.CheckProgram.{CheckEnds}
+use Rattle.program_endings.specs.TogetherProgram.{TogetherEnds}
 use Rattle.program_endings.specs.Ending.{BlocksAnswer, ProgramAnswer, TellsFault, status_of}
 use Rattle.program_endings.specs.BlocksProgram.{ObjectsAnswer}
 use Rattle.program_endings.specs.EvalProgram.{EvaluationEnded}
@@ -51,6 +53,7 @@ use Rattle.sheet_files.specs.declared.files_fault.HoldFault.{HoldFault}
 use Rattle.sheet_files.specs.declared.files_fault.MakeFault.{MakeFault}
 use Rattle.sheet_files.specs.declared.places.Places as places
 use Rattle.sheet_check.specs.Evaluated.{way}
+use Rattle.sheet_check.specs.Together.{side_by_side}
 use Rattle.evaluation.specs.Steps.{setting}
 use Rattle.evaluation.specs.declared.plan.Plan.{Plan}
 
@@ -136,6 +139,20 @@ module _ {Y D P S I W E Q : Type 0} (o : OutsideView D P S I W E) where
       HeldFirst old new (λ why. (new.sources ≡ old.sources) × EndsWith old new ending (Err why)) (λ held. (files : Result D FilesFault) × o.places.reads held path files new.places
       × CheckEnds o.disks (way o.after o.clock o.wakes request.limit) request.chosen request.format files old.sources new.sources o.written old.output new.output o.said old.errors new.errors ending)
 
+  -- `check --jobs` of the same
+  abbrev pub TogetherAs : Outside Y D P S I W E Q → Outside Y D P S I W E Q → Ending → Text → Request → ℕ → Type 0
+  TogetherAs old new ending path request jobs =
+      HeldFirst old new (λ why. (new.sources ≡ old.sources) × EndsWith old new ending (Err why)) (λ held. (files : Result D FilesFault) × o.places.reads held path files new.places
+      × TogetherEnds o.disks (side_by_side (way o.after o.clock o.wakes request.limit) jobs request.chosen request.format) files old.sources new.sources o.written old.output new.output o.said old.errors new.errors ending)
+
+  -- one field after another, or those of so many sessions side by side
+  abbrev pub ChecksBeside : Bool → Outside Y D P S I W E Q → Outside Y D P S I W E Q → Ending → Text → Request → ℕ → Type 0
+  ChecksBeside true old new ending path request jobs = ChecksAs old new ending path request
+  ChecksBeside false old new ending path request jobs = TogetherAs old new ending path request jobs
+
+  abbrev pub ComparesBy : Outside Y D P S I W E Q → Outside Y D P S I W E Q → Ending → Text → Request → ℕ → Type 0
+  ComparesBy old new ending path request jobs = ChecksBeside (nat_le jobs 1) old new ending path request jobs
+
   -- `check --accept` of what they open to write
   abbrev pub AcceptsAs : Outside Y D P S I W E Q → Outside Y D P S I W E Q → Ending → Text → Request → Type 0
   AcceptsAs old new ending path request =
@@ -143,15 +160,15 @@ module _ {Y D P S I W E Q : Type 0} (o : OutsideView D P S I W E) where
       × AcceptEnds o.disks (way o.after o.clock o.wakes request.limit) request.chosen files old.sources new.sources o.written old.output new.output o.said old.errors new.errors ending)
 
   -- the one or the other
-  abbrev pub ChecksIn : Report → Outside Y D P S I W E Q → Outside Y D P S I W E Q → Ending → Text → Request → Type 0
-  ChecksIn report.Text old new ending path request = ChecksAs old new ending path request
-  ChecksIn report.Tap old new ending path request = ChecksAs old new ending path request
-  ChecksIn report.Junit old new ending path request = ChecksAs old new ending path request
-  ChecksIn report.Json old new ending path request = ChecksAs old new ending path request
-  ChecksIn report.Accepting old new ending path request = AcceptsAs old new ending path request
+  abbrev pub ChecksIn : Report → Outside Y D P S I W E Q → Outside Y D P S I W E Q → Ending → Text → ℕ → Request → Type 0
+  ChecksIn report.Text old new ending path jobs request = ComparesBy old new ending path request jobs
+  ChecksIn report.Tap old new ending path jobs request = ComparesBy old new ending path request jobs
+  ChecksIn report.Junit old new ending path jobs request = ComparesBy old new ending path request jobs
+  ChecksIn report.Json old new ending path jobs request = ComparesBy old new ending path request jobs
+  ChecksIn report.Accepting old new ending path jobs request = AcceptsAs old new ending path request
 
-  abbrev pub ChecksBy : Outside Y D P S I W E Q → Outside Y D P S I W E Q → Ending → Text → Request → Type 0
-  ChecksBy old new ending path request = ChecksIn request.format old new ending path request
+  abbrev pub ChecksBy : Outside Y D P S I W E Q → Outside Y D P S I W E Q → Ending → Text → ℕ → Request → Type 0
+  ChecksBy old new ending path jobs request = ChecksIn request.format old new ending path jobs request
 
   -- where the words ask for no check they are refused, and nothing is done
   abbrev pub ChecksNone : Outside Y D P S I W E Q → Outside Y D P S I W E Q → Ending → RequestFault → Type 0
@@ -163,15 +180,23 @@ module _ {Y D P S I W E Q : Type 0} (o : OutsideView D P S I W E) where
   ChecksNoTime old new ending = (new.places ≡ old.places) × (new.sources ≡ old.sources) × (new.output ≡ old.output) × (new.progress ≡ old.progress)
       × RefusesWith no_check_seconds_text o.said old.errors new.errors ending
 
-  -- `check` by what its words name, within this limit of time, where there is one
-  abbrev pub ChecksWithin : Outside Y D P S I W E Q → Outside Y D P S I W E Q → Ending → Text → CheckView → Option ℕ → Type 0
-  ChecksWithin old new ending path words limit = (read : Result Request RequestFault) × IfOk read (Asks words.accept words.json words.format words.only words.leave_out)
+  -- where they name no number of sessions
+  abbrev pub ChecksNoJobs : Outside Y D P S I W E Q → Outside Y D P S I W E Q → Ending → JobsFault → Type 0
+  ChecksNoJobs old new ending why = (new.places ≡ old.places) × (new.sources ≡ old.sources) × (new.output ≡ old.output) × (new.progress ≡ old.progress)
+      × RefusesJobs why o.said old.errors new.errors ending
+
+  -- `check` by what its words name, within this limit of time, where there is one, with so many sessions side by side
+  abbrev pub ChecksWithin : Outside Y D P S I W E Q → Outside Y D P S I W E Q → Ending → Text → CheckView → Option ℕ → ℕ → Type 0
+  ChecksWithin old new ending path words limit jobs = (read : Result Request RequestFault) × IfOk read (Asks words.accept words.json words.format words.only words.leave_out)
       × IfOk read (λ request. request.limit ≡ limit)
-      × IfErr read (AsksFor words.accept words.json words.format words.only words.leave_out) × MatchResult read (ChecksBy old new ending path) (ChecksNone old new ending)
+      × IfErr read (AsksFor words.accept words.json words.format words.only words.leave_out) × MatchResult read (ChecksBy old new ending path jobs) (ChecksNone old new ending)
+
+  abbrev pub ChecksJobs : Outside Y D P S I W E Q → Outside Y D P S I W E Q → Ending → Text → CheckView → Option ℕ → Type 0
+  ChecksJobs old new ending path words limit = MatchResult (check_jobs_asked words.jobs words.accept) (ChecksWithin old new ending path words limit) (ChecksNoJobs old new ending)
 
   -- `check` as its words ask for it
   abbrev pub DoesCheck : Outside Y D P S I W E Q → Outside Y D P S I W E Q → Ending → Text → CheckView → Type 0
-  DoesCheck old new ending path words = MatchOption (limit_asked words.timeout) (ChecksNoTime old new ending) (ChecksWithin old new ending path words)
+  DoesCheck old new ending path words = MatchOption (limit_asked words.timeout) (ChecksNoTime old new ending) (ChecksJobs old new ending path words)
 
   -- files that weren't opened: nothing is read or written, and no child is called
   abbrev pub Unopened : Outside Y D P S I W E Q → Outside Y D P S I W E Q → Ending → FilesFault → Type 0

@@ -1,7 +1,7 @@
 //! What the words of `eval` ask for.
 ghost use Rattle.std.specs.Prelude.{◌≡◌, Err, IfErr, IfOk, Ok, map, option_map, true};
 ghost use Rattle.command_words.specs.Asked.{eval_view};
-ghost use Rattle.host_cli.specs.Plans.{AsksNoPlan, AsksPlan, from_asked, jobs_asked, jobs_by, limit_asked, named_asked, numbers_in, which_asked};
+ghost use Rattle.host_cli.specs.Plans.{AsksNoPlan, AsksPlan, check_jobs_asked, check_jobs_by, from_asked, jobs_asked, jobs_by, limit_asked, named_asked, numbers_in, which_asked};
 ghost use Rattle.host_cli.specs.inside.Reading.{IsWhy};
 
 use block_tree::{OutOfMemory, Sequence};
@@ -31,6 +31,15 @@ pub enum PlanFault {
     Strict,
     /// There was no memory for them.
     OutOfMemory,
+}
+
+/// Why the words of `check` name no number of sessions.
+#[derive(Clone, Copy, Debug, PartialEq, Eq)]
+pub enum JobsFault {
+    /// They name no number from 1 to 64.
+    Number,
+    /// Answers that differ are to be accepted, too.
+    Accepting,
 }
 
 /// The time that a field may take, where there is a limit. None where the words name no time.
@@ -79,6 +88,37 @@ fn allow_jobs(jobs: u32, strict: bool) -> Result<u32, PlanFault>
         Err(PlanFault::Strict)
     } else {
         Ok(jobs)
+    }
+}
+
+/// So many of a check, where it accepts nothing.
+fn allow_check_jobs(jobs: u32, accept: bool) -> Result<u32, JobsFault>
+    ensures { result ≡ check_jobs_by true accept jobs }
+{
+    if accept {
+        Err(JobsFault::Accepting)
+    } else {
+        Ok(jobs)
+    }
+}
+
+/// In how many sessions fields of a check may wait at a time, where these words write that. One at a time without
+/// them.
+pub(crate) fn read_check_jobs(text: Option<&str>, accept: bool) -> Result<u32, JobsFault>
+    ensures { result ≡ check_jobs_asked (option_map (λ text. text.now) text.entry) accept }
+{
+    let Some(text) = text else {
+        return Ok(1);
+    };
+    match read_number(text.as_bytes()) {
+        None => Err(JobsFault::Number),
+        Some(jobs) => {
+            if 1 <= jobs && jobs <= MOST_JOBS {
+                allow_check_jobs(jobs, accept)
+            } else {
+                Err(JobsFault::Number)
+            }
+        }
     }
 }
 

@@ -4,11 +4,11 @@ ghost use Rattle.std.specs.Io.KnownBytes.{Appends};
 ghost use Rattle.std.specs.declared.io.ErrorKind.TheVariants as io_kind;
 ghost use Rattle.clap.specs.Words.{kind_of};
 ghost use Rattle.clap.specs.declared.error.kind.ErrorKind.TheVariants as kind;
-ghost use Rattle.host_cli.specs.Refused.{RefusesPlan, RefusesRequest, RefusesWith, ShowsText, no_acceptance_text, no_both_text, no_check_seconds_text, no_format_text, no_id_text, no_ids_text, no_report_text, no_seconds_text, no_session_text};
+ghost use Rattle.host_cli.specs.Refused.{RefusesJobs, RefusesPlan, RefusesRequest, RefusesWith, ShowsText, no_acceptance_text, no_both_text, no_check_seconds_text, no_format_text, no_id_text, no_ids_text, no_report_text, no_seconds_text, no_session_text};
 ghost use Rattle.program_endings.specs.Ending.{TellsFault};
 ghost use Rattle.offline_programs.specs.declared.fault.RunFault.TheVariants as fault;
 
-use crate::plans::PlanFault;
+use crate::plans::{JobsFault, PlanFault};
 use check_report::RequestFault;
 use clap::error::ErrorKind;
 use offline_programs::RunFault;
@@ -139,6 +139,24 @@ pub(crate) fn refuse_check_limit<E: Write>(errors: &mut E) -> Ending
         For more information, try 'tmhost check --help'.\n",
         errors,
     )
+}
+
+/// Refuses words of `check` that name no number of sessions.
+pub(crate) fn refuse_jobs<E: Write>(why: JobsFault, errors: &mut E) -> Ending
+    ensures { RefusesJobs why E.contents errors.old errors.new result }
+{
+    match why {
+        JobsFault::Number => refuse_with(
+            b"error: this is no number of jobs: N is a number from 1 to 64\n\n\
+            For more information, try 'tmhost check --help'.\n",
+            errors,
+        ),
+        JobsFault::Accepting => refuse_with(
+            b"error: --jobs goes with no --accept\n\n\
+            For more information, try 'tmhost check --help'.\n",
+            errors,
+        ),
+    }
 }
 
 /// Ends the program where the words of `check` ask for none.
