@@ -72,6 +72,7 @@ SPOKEN: list[tuple[str, str]] = [
 # What follows the sentence of a definition.
 REMARKS: dict[Key, str] = {
     ("disk_model.Disk", "area_of"): "the bytes of an area",
+    ("session_engine.Groups", "is_refusal"): "the reply of an outcome is a refusal",
     ("journal.Area", "closed_gate"): "as which a closed gate is written",
     ("session_engine.Host", "IsHost"): "Any invariant with these contracts would do in its place: `open` establishes it ([stands](#open.stands)), `step` and `play` "
     "need it and keep it for the world after the events, and other clauses say what is claimed of replies, worksheet and disk.",

@@ -26,7 +26,7 @@ use Rattle.session_engine.specs.Does.{replies, refused}
 use Rattle.host_laws.specs.inside.Given.{Commanded, stops, outcome_of, after, GivesByParts}
 use Rattle.session_engine.specs.inside.Parts.{without_life, with_item, asks}
 use Rattle.session_engine.specs.Refused.{command_refusals}
-use Rattle.host_laws.specs.Apart.{AreAlike, named, commanded, concerns, begins, number_if, is_refusal, added, but_reasons}
+use Rattle.host_laws.specs.Apart.{AreAlike, named, commanded, concerns, begins, number_if, is_refusal_reply, added, but_reasons}
 use Rattle.host_laws.proofs.ApartLives.{same_name, is_itself, replaced_other, without_other, named-push, first_has}
 use Rattle.session_engine.proofs.Losing.{if_stopped, op_if_lives}
 use Rattle.host_laws.proofs.ApartOps.{commanded-push, next_alike, sessions_alike, session_of_alike, input_of_alike}
@@ -198,18 +198,18 @@ accepted_same n w x (command.Complete id cursor) a e =
     }
 
 -- what isn't refused is accepted
-passed : (w : World) (c : Command) (o : Outcome) (v : World) → GivesByParts w (event.Command c) o v → is_refusal o.reply ≡ false → (o ≡ outcome_of w c) × (v ≡ after w c)
+passed : (w : World) (c : Command) (o : Outcome) (v : World) → GivesByParts w (event.Command c) o v → is_refusal_reply o.reply ≡ false → (o ≡ outcome_of w c) × (v ≡ after w c)
 passed w c o v g h = go (first_of (command_refusals w c)) g
   where
     never : (r : Refusal) → o ≡ refused r → (o ≡ outcome_of w c) × (v ≡ after w c)
-    never r e = let bad : true ≡ false = sym (ap (λ (q : Outcome). is_refusal q.reply) e) ∙ h in absurd (let f : true ≡ false = bad in cc)
+    never r e = let bad : true ≡ false = sym (ap (λ (q : Outcome). is_refusal_reply q.reply) e) ∙ h in absurd (let f : true ≡ false = bad in cc)
 
     go : (r : Option Refusal) → Commanded w c r o v → (o ≡ outcome_of w c) × (v ≡ after w c)
     go (Some r) g = never r g.0
     go None g = ⊎_elim (λ done. done) (λ spent. never refusal.OutOfMemory spent.1) g
 
 pub command_same : (n : List ℕ) (w x : World) (c : Command) (o p : Outcome) (v u : World) → AreAlike n w x → GivesByParts w (event.Command c) o v → GivesByParts x (event.Command c) p u
-    → is_refusal o.reply ≡ false → is_refusal p.reply ≡ false → begins n w (event.Command c) ≡ begins n x (event.Command c) → Same n w x (event.Command c) o p v u
+    → is_refusal_reply o.reply ≡ false → is_refusal_reply p.reply ≡ false → begins n w (event.Command c) ≡ begins n x (event.Command c) → Same n w x (event.Command c) o p v u
 command_same n w x c o p v u a g h q r e =
     let here = passed w c o v g q in
     let there = passed x c p u h r in

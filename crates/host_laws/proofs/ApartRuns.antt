@@ -8,7 +8,7 @@ use Rattle.host_events.specs.declared.event.Event.TheVariants as event
 use Rattle.host_events.specs.declared.outcome.Outcome.{Outcome}
 use Rattle.session_engine.specs.World.{World}
 use Rattle.session_engine.specs.Does.{Gives, Runs}
-use Rattle.host_laws.specs.Apart.{AreAlike, SessionsAreIndependent, Told, told_to, session_tells, life_numbers, NoneRefused, kept, is_kept, concerns, begins, is_refusal, added}
+use Rattle.host_laws.specs.Apart.{AreAlike, SessionsAreIndependent, Told, told_to, session_tells, life_numbers, NoneRefused, kept, is_kept, concerns, begins, is_refusal_reply, added}
 use Rattle.host_laws.proofs.ByParts.{by_parts}
 use Rattle.host_laws.proofs.ApartLives.{same_name}
 use Rattle.host_laws.proofs.ApartSteps.{alike_back, alike_on, other_child, own_child}
@@ -25,7 +25,7 @@ begins_not n w (event.Child m number c) k = refl
 
 -- an event that both have
 both : OneReading → (n : List ℕ) (w x : World) (e : Event) (o p : Outcome) (v u : World) → is_kept n e ≡ true → AreAlike n w x → Gives w e o v → Gives x e p u
-    → is_refusal o.reply ≡ false → is_refusal p.reply ≡ false → begins n w e ≡ begins n x e → Same n w x e o p v u
+    → is_refusal_reply o.reply ≡ false → is_refusal_reply p.reply ≡ false → begins n w e ≡ begins n x e → Same n w x e o p v u
 both one n w x (event.Command c) o p v u k a g h q r b = command_same n w x c o p v u a (by_parts w (event.Command c) o v g) (by_parts x (event.Command c) p u h) q r b
 both one n w x (event.Child m number c) o p v u k a g h q r b =
     let s : n ≡ m = sym (same_name m n k) in

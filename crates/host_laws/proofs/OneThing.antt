@@ -25,7 +25,7 @@ use Rattle.session_engine.specs.World.{World, Going, life_of, session_of_field, 
 use Rattle.session_engine.specs.inside.Words.{line_of_field, request_of_field}
 use Rattle.session_engine.specs.Refused.{command_refusals, command_takes_memory}
 use Rattle.session_engine.specs.Does.{Does, MayDo, ChildDoes, CommandDoes, Gives, Runs, behind, does, ends_life, asks_item, steps, tells}
-use Rattle.host_laws.specs.Apart.{is_refusal}
+use Rattle.host_laws.specs.Apart.{is_refusal_reply}
 use Rattle.host_laws.specs.Laws.{EachEventHasAnOutcome, AnEventDoesOneThing, OutcomesLeadToOneWorld, lacks_memory, may_want}
 
 -- Every event does something.
@@ -96,7 +96,7 @@ an_event_does_one_thing one w e d f a b = one_does one w e d f a b
 
 module _ (one : OneReading) (w : World) where
   -- what is accepted isn't reported as refused
-  accepts : (c : Command) → is_refusal (does w c).told.reply ≡ false
+  accepts : (c : Command) → is_refusal_reply (does w c).told.reply ≡ false
   accepts (command.Session name tab words) = refl
   accepts (command.New after session input) = refl
   accepts (command.Set id input) = refl
@@ -105,17 +105,17 @@ module _ (one : OneReading) (w : World) where
   accepts (command.Clear id) = refl
   accepts (command.Eval id) = go (life_of w (session_of_field w id))
     where
-      go : (l : Option Going) → is_refusal (asks_item w (line_of_field w id) (Some (op.Clear id)) (session_of_field w id) l).told.reply ≡ false
+      go : (l : Option Going) → is_refusal_reply (asks_item w (line_of_field w id) (Some (op.Clear id)) (session_of_field w id) l).told.reply ≡ false
       go None = refl
       go (Some l) = refl
   accepts (command.Complete id cursor) = go (life_of w (session_of_field w id))
     where
-      go : (l : Option Going) → is_refusal (asks_item w (request_of_field w id cursor) None (session_of_field w id) l).told.reply ≡ false
+      go : (l : Option Going) → is_refusal_reply (asks_item w (request_of_field w id cursor) None (session_of_field w id) l).told.reply ≡ false
       go None = refl
       go (Some l) = refl
   accepts (command.Stop name) = go (life_of w name)
     where
-      go : (l : Option Going) → is_refusal (ends_life w reason.Stopped true l reply.Done).told.reply ≡ false
+      go : (l : Option Going) → is_refusal_reply (ends_life w reason.Stopped true l reply.Done).told.reply ≡ false
       go None = refl
       go (Some l) = refl
   accepts command.Checkpoint = refl
@@ -123,7 +123,7 @@ module _ (one : OneReading) (w : World) where
   differs : (c : Command) (d f : Does) → d ≡ does w c → f ≡ lacks_memory w → d.told ≡ f.told → ⊥
   differs c d f a b same =
       let t : (does w c).told ≡ (lacks_memory w).told = ap (λ (x : Does). x.told) (sym a) ∙ same ∙ ap (λ (x : Does). x.told) b in
-      let no : false ≡ true = sym (accepts c) ∙ ap (λ (o : Outcome). is_refusal o.reply) t in
+      let no : false ≡ true = sym (accepts c) ∙ ap (λ (o : Outcome). is_refusal_reply o.reply) t in
       cc
 
   told_apart : (c : Command) (r : Option Refusal) (d f : Does) → CommandDoes w c r d → CommandDoes w c r f → d.told ≡ f.told → d ≡ f

@@ -69,17 +69,17 @@ life_numbers name w (e ∷ es) (o ∷ os) v run = begins name w e ++ life_number
 life_numbers name w [] (o ∷ os) v run = []
 life_numbers name w (e ∷ es) [] v run = []
 
-abbrev pub is_refusal : Reply → Bool
-is_refusal reply.Done = false
-is_refusal (reply.Field id) = false
-is_refusal (reply.Asked number) = false
-is_refusal (reply.Refused r) = true
-is_refusal (reply.Child c) = false
-is_refusal reply.Nothing = false
+abbrev pub is_refusal_reply : Reply → Bool
+is_refusal_reply reply.Done = false
+is_refusal_reply (reply.Field id) = false
+is_refusal_reply (reply.Asked number) = false
+is_refusal_reply (reply.Refused r) = true
+is_refusal_reply (reply.Child c) = false
+is_refusal_reply reply.Nothing = false
 
 -- no event was answered by a refusal
 abbrev pub NoneRefused : List Outcome → Type 0
-NoneRefused os = AllByRecursion (λ o. is_refusal o.reply ≡ false) os
+NoneRefused os = AllByRecursion (λ o. is_refusal_reply o.reply ≡ false) os
 
 -- What is reported of an event: what it gave, where it is of the session, and the ops that it added.
 pub record Told : Type 0 where
