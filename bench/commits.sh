@@ -32,7 +32,7 @@ def timed(words, given=None, expected=b""):
         assert text.read() == expected
     return took
 
-def ours(begin, lines, expected, added):
+def ours(begin, lines, expected, added, *words):
     with open(script, "w") as out:
         out.write(lines)
     for path in (sheet, sheet + ".alt"):
@@ -42,7 +42,7 @@ def ours(begin, lines, expected, added):
     subprocess.run([program, "run", sheet], input=begin, stdout=subprocess.DEVNULL, check=True)
     before = os.path.getsize(sheet)
     with open(script, "rb") as given:
-        took = timed([program, "run", sheet], given, expected)
+        took = timed([program, "run", *words, sheet], given, expected)
     assert os.path.getsize(sheet) - before == added, "the records have another length"
     return took
 
@@ -56,14 +56,14 @@ def plain(count, each):
 def singly():
     return ours(b"session a plain p\nnew 0 a x\n", f"set 1 {text}\nwait\n" * records, b"ok\n" * records, records * length)
 
-def together():
+def together(*words):
     told = b"".join(b"field %d\n" % number for number in range(1, fields + 1))
-    return ours(b"session a plain p\n", f"new 0 a {text}\n" * fields, told, fields * field_length)
+    return ours(b"session a plain p\n", f"new 0 a {text}\n" * fields, told, fields * field_length, *words)
 
 results = [(singly(), plain(records, length)) for _ in range(runs)]
 rates = [records / statistics.median(result[i] for result in results) for i in (0, 1)]
 ratio = statistics.median(theirs / our for our, theirs in results)
 print(f"durable commands a second: tmhost {rates[0]:.0f}, plain {rates[1]:.0f}, ratio of the pairs {ratio:.2f}")
-our, theirs = together(), plain(fields, field_length)
-print(f"new fields a second: tmhost {fields / our:.0f}, plain {fields / theirs:.0f}, {theirs / our:.0f} times as many")
+our, strict, theirs = together(), together("--strict"), plain(fields, field_length)
+print(f"new fields a second: tmhost {fields / our:.0f}, plain {fields / theirs:.0f}, {theirs / our:.0f} times as many; strict {fields / strict:.0f}, {theirs / strict:.0f} times as many")
 PYTHON

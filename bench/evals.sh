@@ -3,7 +3,7 @@
 # 1,000 and 10,000 fields, and how long such a worksheet takes to open: the best of RUNS runs (3 where it isn't set). 500 fields, spread
 # over the worksheet, are evaluated, each with a `wait` after it. Beside it `tmhost live` does the same, and the ratio of their rates is
 # printed. Then it prints how many times as many evaluations `live` does with eight interpreters that take 50 ms a line each as with one, and
-# the processor time that it takes while nothing comes. The files lie in FOLDER, or where none is given in the current one.
+# the processor time that it takes while nothing comes; and how long `check --jobs 8` takes with eight of them beside `check` with one. The files lie in FOLDER, or where none is given in the current one.
 set -euo pipefail
 folder=$(readlink -f "${1:-.}")
 root=$(dirname "$(dirname "$(readlink -f "${BASH_SOURCE[0]}")")")
@@ -84,4 +84,20 @@ one, _ = evaluations(1, 40)
 eight, idle = evaluations(8, 40)
 print(f"live, interpreters of 50 ms a line: one {one:.1f} evals/s, eight {eight:.1f}, {eight / one:.2f} times as many")
 print(f"live, three seconds in which nothing comes: {1000 * idle / os.sysconf('SC_CLK_TCK'):.0f} ms of processor time")
+
+def checked(sessions, *words):
+    """The seconds that a check takes of a worksheet with so many sessions of these interpreters, each of 20 fields."""
+    sheet = f"{work}/{sessions}.suite"
+    if not os.path.exists(sheet):
+        subprocess.run([program, "create", sheet], check=True)
+        made = "".join(f"session s{n} plain python3 {slow}\n" for n in range(sessions)) + "".join(f"new 0 s{n} {i}\n" for n in range(sessions) for i in range(20))
+        run(sheet, made)
+        subprocess.run([program, "eval", "--jobs", "64", sheet], stdout=subprocess.DEVNULL, check=True)
+    begun = time.perf_counter()
+    told = subprocess.run([program, "check", *words, sheet], stdout=subprocess.PIPE, check=True).stdout
+    assert told == f"same {20 * sessions} differ 0 unanswered 0\n".encode(), told
+    return time.perf_counter() - begun
+
+one, eight, jobs = checked(1), checked(8), checked(8, "--jobs", "8")
+print(f"check, sessions of 20 fields of 50 ms: one {one:.2f} s, eight {eight:.2f} s, eight with --jobs 8 {jobs:.2f} s, {jobs / one:.2f} times as long as one")
 PYTHON

@@ -61,6 +61,11 @@ class Checks(Case):
         self.assertEqual(told[-1], Compared(2, 0, 0, 2))
         self.assertEqual(list(check(self.path, only="b", program=PROGRAM)), [Compared(0, 0, 0, 0)])
 
+    def test_side_by_side(self) -> None:
+        self.made()
+        self.assertEqual(list(check(self.path, program=PROGRAM, jobs=8)), list(check(self.path, program=PROGRAM)))
+        self.assertRaises(Died, list, check(self.path, program=PROGRAM, jobs=65))
+
     def test_faults(self) -> None:
         with self.assertRaises(Died) as told:
             list(check(self.path, program=PROGRAM))

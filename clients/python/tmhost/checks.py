@@ -71,7 +71,7 @@ def read(line: bytes) -> "Union[Checked, Compared, Told, None]":
     return OTHERS[kind](told) if kind in OTHERS else None
 
 
-def words_of_check(program: Program, path: str, only: Optional[str], leave_out: Sequence[int], timeout: Optional[int]) -> List[str]:
+def words_of_check(program: Program, path: str, only: Optional[str], leave_out: Sequence[int], timeout: Optional[int], jobs: int) -> List[str]:
     words = [*words_of_program(program), "check", "--json"]
     if only is not None:
         words.append(f"--only={only}")
@@ -79,6 +79,8 @@ def words_of_check(program: Program, path: str, only: Optional[str], leave_out: 
         words.append("--leave-out=" + ",".join(str(id) for id in leave_out))
     if timeout is not None:
         words.append(f"--timeout={timeout}")
+    if jobs != 1:
+        words.append(f"--jobs={jobs}")
     return [*words, path]
 
 
@@ -125,14 +127,16 @@ def check(
     leave_out: Sequence[int] = (),
     timeout: Optional[int] = None,
     program: Program = None,
+    jobs: int = 1,
 ) -> "Generator[Union[Checked, Compared], None, None]":
     """Evaluates each field of a worksheet that shows an answer again, on a copy, with interpreters of its own; the worksheet stays as it is.
 
     Gives a `Checked` for each field, in order and as soon as it is known, and at last a `Compared`. `only` names the one session whose
-    fields are evaluated; those of `leave_out` aren't compared; a field may take `timeout` seconds. Raises InUse, or Died for another
+    fields are evaluated; those of `leave_out` aren't compared; a field may take `timeout` seconds. Fields of up to `jobs` sessions (at most
+    64) are evaluated side by side; with more than one, all are given when the last is known. Raises InUse, or Died for another
     fault or a death of the program. To stop early, close the iterator: the program is ended then.
     """
-    child = Child(words_of_check(program, path_word(path), only, leave_out, timeout))
+    child = Child(words_of_check(program, path_word(path), only, leave_out, timeout, jobs))
     try:
         yield from told_by(child)
     finally:
