@@ -376,7 +376,7 @@ for flags in '' '--format tap' '--format junit' '--json' '--only b' '--leave-out
     compare "side by side as one after another, $flags" "$(answer check --jobs 4 $flags sheet </dev/null)" "$(answer check $flags sheet </dev/null)"
 done
 rm -f sent lives
-reports 'side by side' 1 '#2 b\n> differs\n- differs\n+ another\n#3 a\na] hangs\n- hangs\n+ ?\n#4 a\na] tags\n- tags\n+ </failure><b a="&">\n#5 b\nb] tagged\n- tagged\n+ $x$\nsame 1 differ 3 unanswered 1\n' --jobs 2
+reports 'side by side' 1 '#2 b\nb] differs\n- differs\n+ another\n#3 a\na] hangs\n- hangs\n+ ?\n#4 a\na] tags\n- tags\n+ </failure><b a="&">\n#5 b\nb] tagged\n- tagged\n+ {latex:$x$}\nsame 1 differ 3 unanswered 1\n' --jobs 2
 compare 'side by side, no field that shows none' "$(grep -c 'not evaluated' sent)" 0
 ended 'side by side' 3
 made "$a"'session b plain ./nothing\nnew 0 a x\nnew 1 a differs\neval 1\neval 2\nwait\n'

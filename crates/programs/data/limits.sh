@@ -90,7 +90,7 @@ filled() {
     compare "$1 on a full disk, shown" "$(answer show sheet </dev/null)" "$(ending "#1 a\n> $3\n?\n" 0)"
 }
 filled run 'fault 21 Disk\n' x
-filled 'run --strict' 'ok\nfault 21 Disk\n' y
+filled 'run --strict' 'fault 21 Disk\n' x
 filled live 'ok\nfault 21 Disk\n' y
 filled 'live --json' '{"format":1,"program":"tmhost","protocol":2,"type":"hello","version":"0.1.0"}\n{"line":1,"type":"done"}\n{"name":"Disk","number":21,"type":"fault"}\nfault 21 Disk\n' y
 interpreter p "$banner" "\\002verbatim:$(long 1000)\\005"
