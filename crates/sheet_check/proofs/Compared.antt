@@ -23,10 +23,10 @@ use Rattle.check_report.specs.Verdicts.{counts_of, total}
 use Rattle.evaluation.specs.declared.plan.Plan.{Plan}
 use Rattle.evaluation.specs.Evaluation.{not_begun}
 use Rattle.evaluation.specs.Silently.{BrokeSilently, EvaluatedSilently, SilentlyBroke, between, no_memory, of_host, silent_setting, too_long, unwatched}
-use Rattle.sheet_check.specs.Check.{IsCopy}
+use Rattle.sheet_check.specs.Check.{IsCopy, Passage, passage}
 use Rattle.sheet_check.specs.Evaluated.{fault_on_copy, reason_shown_in}
 use Rattle.sheet_check.specs.Together as together
-use Rattle.sheet_check.specs.Together.{EvaluatedTogether, FieldCompared, FieldsCompared, Passage, SideBySide, TellsTogether, TogetherChecked, TogetherTells, came_by, checked_ids, checking, checking_plan, cleared, passage}
+use Rattle.sheet_check.specs.Together.{EvaluatedTogether, FieldCompared, FieldsCompared, SideBySide, TellsTogether, TogetherChecked, came_by, checked_ids, checking, checking_plan, cleared}
 use Rattle.sheet_check.specs.inside.Checking.{Untold, counted_on}
 use Rattle.sheet_check.specs.inside.Comparing.{BrokeTogether, CameTogether, Comparing, EndedTogether, FailedTogether, FieldReported, FieldsReported, LeavesReport, ReportBroke, ReportedTogether}
 use Rattle.sheet_check.proofs.Counting.{cases-more, front-more}

@@ -15,7 +15,8 @@ use Rattle.check_report.specs.Reports.{Case, cases_text, report_front, verdicts_
 use Rattle.check_report.specs.Verdicts.{counts_of, total}
 use Rattle.evaluation.specs.Silently.{EvaluatedSilently, SilentlyBroke}
 use Rattle.sheet_check.specs.Evaluated.{fault_on_copy}
-use Rattle.sheet_check.specs.Together.{EvaluatedTogether, FieldCompared, FieldsCompared, Passage, SideBySide, TellsTogether, checking}
+use Rattle.sheet_check.specs.Check.{Passage}
+use Rattle.sheet_check.specs.Together.{EvaluatedTogether, FieldCompared, FieldsCompared, SideBySide, TellsTogether, checking}
 use Rattle.sheet_check.specs.inside.Checking.{counted_on}
 
 -- How fields are compared: which, and how they are reported; where the copy stands, and the fields whose time was over.
