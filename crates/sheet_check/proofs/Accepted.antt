@@ -38,6 +38,7 @@ use Rattle.sheet_check.specs.Evaluated.{Evaluated, FieldsChecked, Way, came_if, 
 use Rattle.sheet_check.specs.declared.accepting.Finding.{Finding}
 use Rattle.sheet_check.specs.Accept.{accepted, accepted_answer, accepted_of, answer_ops, to_accept}
 use Rattle.sheet_check.specs.inside.Accepting.{FieldBroke, FieldLast, FieldsBroke, FieldsTook, FieldsUpTo, Finds, GoesOn, NotPut, NotTaken, PutAll, ShownTook, broken, early, fault_of_acceptance, full, storing, unwritten}
+use Rattle.sheet_check.specs.inside.Accepting as inside
 use Rattle.sheet_check.specs.inside.Checking.{AskFailed, EvaluationBroke, FieldFailed, FieldWrote, FirstFailed, WaitBroke, counted_on, question}
 use Rattle.sheet_check.proofs.Counting.{cases-more, front-more}
 use Rattle.sheet_check.proofs.Fields.{FieldsSoFar, fields-more, leaves-on}
@@ -115,13 +116,19 @@ short_in law h w host asked id v = short-accepted v (came_if asked (shown_in w i
 -- Why an answer wasn't accepted.
 
 pub not_taken : (ops more : List Op) (disk : DiskView) (ones : List Op) (new : StoreView) (a : Option (List ℕ)) (why : AcceptFault) → NotPut (storing ops more disk new) ones why → NotTaken (storing ops more disk new) ones a a (fault_of_acceptance why)
-not_taken ops more disk ones new a refused.Full p = (p.0, p.1, p.2, p.3, refl)
-not_taken ops more disk ones new a refused.OutOfMemory p = (p, refl)
-not_taken ops more disk ones new a refused.Disk p = (p.0, p.1, p.2, refl)
+not_taken ops more disk ones new a refused.Full p = inside.full p.0 refl p.1 p.2 p.3 refl
+not_taken ops more disk ones new a refused.OutOfMemory p = inside.unremembered refl p refl
+not_taken ops more disk ones new a refused.Disk p = inside.broken p.0 refl p.1 p.2 refl
 
 evaluation-told : {C : Type 0} (o : Way C) (id : ℕ) (s : At C) (h : HostView) (c : C) (why : RunFault) → EvaluationBroke o id s h c why → why ≡ fault.Output → ⊥
-evaluation-told o id s h c why (inl p) e = subst (AskFailed o.after id s h c) e p
-evaluation-told o id s h c why (inr p) e = subst (WaitBroke o id p.1 h c) e p.3
+evaluation-told o id s h c why (inl p) e = asked (subst (AskFailed o.after id s h c) e p)
+  where
+    asked : AskFailed o.after id s h c fault.Output → ⊥
+    asked t = elim t [ ]
+evaluation-told o id s h c why (inr p) e = waited (subst (WaitBroke o id p.1 h c) e p.3)
+  where
+    waited : WaitBroke o id p.1 h c fault.Output → ⊥
+    waited t = elim t [ ]
 
 module _ {C : Type 0} (o : Way C) (chosen : Chosen) (field : Field) (s : At C) (h : HostView) (c : C) (a : Option (List ℕ)) (ops more : List Op) (disk : DiskView) (store : StoreView) where
   -- the evaluation broke off
@@ -135,17 +142,12 @@ module _ {C : Type 0} (o : Way C) (chosen : Chosen) (field : Field) (s : At C) (
   -- what came wasn't accepted, or not reported
   pub take_broke : (last : Case) (ones : List Op) (b : Option (List ℕ)) (why : RunFault) → FieldFailed (to_accept o chosen) field s (records.left h c a a) fault.OutOfMemory → FieldLast (to_accept o chosen) field s h c last → ones ≡ accepted_of last
       → NotTaken (storing ops more disk store) ones a b why → FieldBroke (to_accept o chosen) field s (records.left h c a b) (storing ops more disk store) why
-  take_broke last ones b (fault.Host hosts.JournalFull) failed came is p = full last p.0 refl came (sym is ∙ p.1) p.4 p.2 p.3
-  take_broke last ones b (fault.Host hosts.Disk) failed came is p = broken last p.0 refl came (sym is ∙ p.1) p.3 p.2
-  take_broke last ones b fault.OutOfMemory failed came is p =
-      subst (λ (b : Option (List ℕ)). FieldBroke (to_accept o chosen) field s (records.left h c a b) (storing ops more disk store) fault.OutOfMemory) (sym p.1) (memory_broke failed p.0)
-  take_broke last ones b fault.Output failed came is p = unwritten last refl came (subst (λ (os : List Op). Stores ops (more ++ os) disk store) is p)
-  take_broke last ones b (fault.Host hosts.OutOfMemory) failed came is p = absurd p
-  take_broke last ones b (fault.Host hosts.Closed) failed came is p = absurd p
-  take_broke last ones b fault.Input failed came is p = absurd p
-  take_broke last ones b fault.InputTooLong failed came is p = absurd p
-  take_broke last ones b (fault.Open x) failed came is p = absurd p
-  take_broke last ones b fault.InUse failed came is p = absurd p
+  take_broke last ones b why failed came is (inside.full one full-is put stores place same) = full last one full-is came (sym is ∙ put) same stores place
+  take_broke last ones b why failed came is (inside.broken one disk-is put holds same) = broken last one disk-is came (sym is ∙ put) same holds
+  take_broke last ones b why failed came is (inside.unremembered memory-is stores same) =
+      subst (FieldBroke (to_accept o chosen) field s (records.left h c a b) (storing ops more disk store)) (sym memory-is)
+      (subst (λ (b : Option (List ℕ)). FieldBroke (to_accept o chosen) field s (records.left h c a b) (storing ops more disk store) fault.OutOfMemory) (sym same) (memory_broke failed stores))
+  take_broke last ones b why failed came is (inside.unwritten output-is stores) = unwritten last output-is came (subst (λ (os : List Op). Stores ops (more ++ os) disk store) is stores)
 
 -- A field.
 

@@ -27,7 +27,7 @@ use Rattle.sheet_check.specs.Check.{IsCopy, Passage, passage}
 use Rattle.sheet_check.specs.Evaluated.{fault_on_copy, reason_shown_in}
 use Rattle.sheet_check.specs.Together as together
 use Rattle.sheet_check.specs.Together.{EvaluatedTogether, FieldCompared, FieldsCompared, SideBySide, TellsTogether, TogetherChecked, came_by, checked_ids, checking, checking_plan, cleared}
-use Rattle.sheet_check.specs.inside.Checking.{Untold, counted_on}
+use Rattle.sheet_check.specs.inside.Checking.{Untold, counted_on, unremembered, unwritten}
 use Rattle.sheet_check.specs.inside.Comparing.{BrokeTogether, CameTogether, Comparing, EndedTogether, FailedTogether, FieldReported, FieldsReported, LeavesReport, ReportBroke, ReportedTogether}
 use Rattle.sheet_check.proofs.Counting.{cases-more, front-more}
 
@@ -78,13 +78,8 @@ module _ (m : Comparing) (all left : List Field) (field : Field) (others : List 
   }
 
   leaves : (why : RunFault) → Untold b e why → LeavesReport m.format so.cases a e why
-  leaves fault.OutOfMemory p = inl (refl, subst (Appends a e) (append-nil (report_front m.format so.cases)) (Appends-trans a b e (report_front m.format so.cases) [] so.wrote p))
-  leaves fault.Output p = inr refl
-  leaves (fault.Host why) p = absurd p
-  leaves fault.Input p = absurd p
-  leaves fault.InputTooLong p = absurd p
-  leaves (fault.Open why) p = absurd p
-  leaves fault.InUse p = absurd p
+  leaves why (unremembered is p) = inl (is, subst (Appends a e) (append-nil (report_front m.format so.cases)) (Appends-trans a b e (report_front m.format so.cases) [] so.wrote p))
+  leaves why (unwritten is) = inr is
 
   pub report_broke : (why : RunFault) → Untold b e why → ReportBroke m all a e why
   report_broke why p = record { gone = so.gone; left = left; split = so.split; cases = so.cases; compared = so.ran; wrote = leaves why p }

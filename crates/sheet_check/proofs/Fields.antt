@@ -19,6 +19,7 @@ use Rattle.live.specs.Records as records
 use Rattle.sheet_check.specs.Evaluated.{Evaluated, FieldChecked, FieldsChecked, OneByOne, WaitedBy, checked, eval_of, passed, reason_shown_in}
 use Rattle.sheet_check.specs.Check.{FirstLed, FirstShows, WaitLedBy, asking, in_eval, in_wait, still, waiting}
 use Rattle.sheet_check.specs.inside.Checking.{AskFailed, EvaluationBroke, FieldFailed, FieldWrote, FieldsFailed, FieldsWrote, FirstFailed, LeavesText, ShownWrote, Untold, WaitBroke, counted_on, question}
+use Rattle.sheet_check.specs.inside.Checking as inside
 use Rattle.sheet_check.proofs.Counting.{cases-more, front-more}
 
 -- A field.
@@ -98,8 +99,8 @@ unopened_failed o all w h c a b why stands is =
       cases = [];
       mid = at w c h.store.disk;
       checked = (refl, refl);
-      failed = (w, h.store.disk, still refl, inl (stands, refl));
-      wrote = tt;
+      failed = inside.unwritten w h.store.disk (still refl) (inl (stands, refl));
+      wrote = inl refl;
     })
 
 module _ {C : Type 0} (o : OneByOne C) (all left : List Field) (field : Field) (others : List Field) (s : At C) (h : HostView) (c : C) (a b : Option (List ℕ)) (counts : Counts) (g : HostView) (d : C)
@@ -117,13 +118,8 @@ module _ {C : Type 0} (o : OneByOne C) (all left : List Field) (field : Field) (
   }
 
   pub leaves-on : (why : RunFault) → LeavesText b e [] why → LeavesText a e (report_front o.format so.cases) why
-  leaves-on (fault.Host why) p = subst (Appends a e) (append-nil (report_front o.format so.cases)) (Appends-trans a b e (report_front o.format so.cases) [] so.wrote p)
-  leaves-on fault.OutOfMemory p = subst (Appends a e) (append-nil (report_front o.format so.cases)) (Appends-trans a b e (report_front o.format so.cases) [] so.wrote p)
-  leaves-on fault.Output p = tt
-  leaves-on fault.Input p = subst (Appends a e) (append-nil (report_front o.format so.cases)) (Appends-trans a b e (report_front o.format so.cases) [] so.wrote p)
-  leaves-on fault.InputTooLong p = subst (Appends a e) (append-nil (report_front o.format so.cases)) (Appends-trans a b e (report_front o.format so.cases) [] so.wrote p)
-  leaves-on (fault.Open why) p = absurd p
-  leaves-on fault.InUse p = absurd p
+  leaves-on why (inl is) = inl is
+  leaves-on why (inr p) = inr (subst (Appends a e) (append-nil (report_front o.format so.cases)) (Appends-trans a b e (report_front o.format so.cases) [] so.wrote p))
 
   pub fields_failed : (why : RunFault) → FieldFailed o field (at so.leads c h.store.disk) (records.left g d b e) why → FieldsFailed o all s (records.left g d a e) why
   fields_failed why p = record {
@@ -150,40 +146,21 @@ module _ {C : Type 0} (o : OneByOne C) (field : Field) (shown : Answer) (shows :
   first others = record { others = others; is = refl; shown = shown; shows = shows }
 
   ask-first : (others : List Field) (why : RunFault) → AskFailed o.way.after field.id s h c why → FirstFailed o (field ∷ others) s h c why
-  ask-first others (fault.Host f) p = (p.1, p.2, p.3, in_eval field p.0 (first others) p.4, p.5, p.6)
-  ask-first others fault.OutOfMemory p = (p.0, p.1, asking field (first others) p.2, p.3)
-  ask-first others fault.Output p = absurd p
-  ask-first others fault.Input p = absurd p
-  ask-first others fault.InputTooLong p = absurd p
-  ask-first others (fault.Open why) p = absurd p
-  ask-first others fault.InUse p = absurd p
+  ask-first others why (inside.stopped f beats e t d up broke other) = inside.stopped f e t d (in_eval field beats (first others) up) broke other
+  ask-first others why (inside.unremembered t d led stands) = inside.unremembered t d (asking field (first others) led) stands
 
   wait-first : (beats : List Beat) (mid : At C) → Served o.way.after s (eval_of field.id) beats mid → (others : List Field) (why : RunFault) → WaitBroke o.way field.id mid h c why → FirstFailed o (field ∷ others) s h c why
-  wait-first beats mid served others (fault.Host f) p = (p.0, p.1, p.2, in_wait field beats mid (first others) served p.3, p.4, p.5)
-  wait-first beats mid served others fault.OutOfMemory p = (p.0, p.1, waiting field beats mid (first others) served p.2, p.3)
-  wait-first beats mid served others fault.Input p = (p.0, (field, beats, mid, first others, served, p.1), p.2)
-  wait-first beats mid served others fault.InputTooLong p = (p.0, (field, beats, mid, first others, served, p.1), p.2)
-  wait-first beats mid served others fault.Output p = absurd p
-  wait-first beats mid served others (fault.Open why) p = absurd p
-  wait-first beats mid served others fault.InUse p = absurd p
+  wait-first beats mid served others why (inside.stopped f e t d up broke other) = inside.stopped f e t d (in_wait field beats mid (first others) served up) broke other
+  wait-first beats mid served others why (inside.unremembered t d led stands) = inside.unremembered t d (waiting field beats mid (first others) served led) stands
+  wait-first beats mid served others why (inside.unwatched t left stands) = inside.unwatched t (field, beats, mid, first others, served, left) stands
+  wait-first beats mid served others why (inside.too_long t left stands) = inside.too_long t (field, beats, mid, first others, served, left) stands
 
   broke-first : (others : List Field) (why : RunFault) → EvaluationBroke o.way field.id s h c why → FirstFailed o (field ∷ others) s h c why
   broke-first others why (inl p) = ask-first others why p
   broke-first others why (inr p) = wait-first p.0 p.1 p.2 others why p.3
 
-  nothing-written : (a : Option (List ℕ)) (why : RunFault) → EvaluationBroke o.way field.id s h c why → LeavesText a a [] why
-  nothing-written a (fault.Host f) p = Appends-nil a
-  nothing-written a fault.OutOfMemory p = Appends-nil a
-  nothing-written a fault.Input p = Appends-nil a
-  nothing-written a fault.InputTooLong p = Appends-nil a
-  nothing-written a fault.Output p = tt
-  nothing-written a (fault.Open why) (inl p) = absurd p
-  nothing-written a (fault.Open why) (inr p) = absurd p.3
-  nothing-written a fault.InUse (inl p) = absurd p
-  nothing-written a fault.InUse (inr p) = absurd p.3
-
   pub evaluation_failed : (a : Option (List ℕ)) (why : RunFault) → EvaluationBroke o.way field.id s h c why → FieldFailed o field s (records.left h c a a) why
-  evaluation_failed a why p = ((λ others. broke-first others why p), nothing-written a why p)
+  evaluation_failed a why p = ((λ others. broke-first others why p), inr (Appends-nil a))
 
   waited-led : (limit : Option ℕ) (mid : At C) (in_time : Bool) (t : At C) → WaitedBy limit o.way field.id mid in_time t → WaitLedBy limit o.way field.id mid t
   waited-led None mid in_time t p = whole 0 p.0 (beats_text p.0) (p.1, refl)
@@ -191,16 +168,11 @@ module _ {C : Type 0} (o : OneByOne C) (field : Field) (shown : Answer) (shows :
 
   -- the field was evaluated, and what came of it couldn't be reported
   pub tell_failed : (came : Option Answer) (t : World) → Evaluated o.way field.id s came (at t c h.store.disk) → IsHost h t → (a b : Option (List ℕ)) (why : RunFault) → Untold a b why → FieldFailed o field s (records.left h c a b) why
-  tell_failed came t e stands a b why p = go why p
+  tell_failed came t e stands a b why p = go p
     where
       led : (others : List Field) → FirstLed o.way o.chosen (field ∷ others) s (at t c h.store.disk)
       led others = waiting field e.first e.asked (first others) e.served (waited-led o.way.limit e.asked e.in_time (at t c h.store.disk) e.waited)
 
-      go : (x : RunFault) → Untold a b x → FieldFailed o field s (records.left h c a b) x
-      go fault.OutOfMemory q = ((λ others. (t, h.store.disk, led others, inl (stands, refl))), q)
-      go fault.Output q = ((λ others. (t, h.store.disk, led others, inl (stands, refl))), tt)
-      go (fault.Host f) q = absurd q
-      go fault.Input q = absurd q
-      go fault.InputTooLong q = absurd q
-      go (fault.Open x) q = absurd q
-      go fault.InUse q = absurd q
+      go : Untold a b why → FieldFailed o field s (records.left h c a b) why
+      go (inside.unremembered is wrote) = subst (FieldFailed o field s (records.left h c a b)) (sym is) ((λ others. inside.unremembered t h.store.disk (led others) (inl (stands, refl))), inr wrote)
+      go (inside.unwritten is) = subst (FieldFailed o field s (records.left h c a b)) (sym is) ((λ others. inside.unwritten t h.store.disk (led others) (inl (stands, refl))), inl refl)

@@ -14,7 +14,10 @@ use Rattle.recovery.specs.Sheets.{IsSheetImage, Makes, StoreView}
 use Rattle.acceptance.specs.Kept.{IsAmong, Stores}
 use Rattle.session_engine.specs.World.{World, sheet_in}
 use Rattle.session_engine.specs.Host.{HostView, IsHost}
-use Rattle.child_edge.specs.Faithful.{at}
+use Rattle.child_edge.specs.Faithful.{At, at}
+use Rattle.child_edge.specs.Seats.{running}
+use Rattle.child_edge.specs.Stops.{Stops}
+use Rattle.worksheet.specs.declared.field.Field.{Field}
 use Rattle.journal.specs.declared.opening.OpenCause.{OpenCause}
 use Rattle.host_events.specs.declared.outcome.HostFault.TheVariants as hosts
 use Rattle.offline_programs.specs.declared.fault.RunFault.{RunFault}
@@ -28,11 +31,12 @@ use Rattle.check_report.specs.Verdicts.{counts_of}
 use Rattle.live.specs.Records as records
 use Rattle.sheet_check.specs.Accept.{AcceptLeft, FoundOn, SheetAccepts, accepted, filing, to_accept}
 use Rattle.sheet_check.specs.Accept as ends
-use Rattle.sheet_check.specs.Check.{FirstLed, IsCopy, SheetLed, passage, still}
+use Rattle.sheet_check.specs.Check.{FirstLed, FirstTooLong, FirstUnwatched, IsCopy, SheetLed, passage, still}
 use Rattle.sheet_check.specs.Evaluated.{Way}
 use Rattle.sheet_check.specs.inside.Accepting.{FieldsBroke, FieldsTook, FieldsUpTo, PutAll, broken, early, full, storing, unwritten}
-use Rattle.sheet_check.specs.inside.Checking.{FieldsEnded, FieldsFailed}
-use Rattle.sheet_check.proofs.Ends.{first-stopped}
+use Rattle.sheet_check.specs.inside.Checking.{FieldsEnded, FieldsFailed, FirstStopped}
+use Rattle.sheet_check.specs.inside.Checking as inside
+use Rattle.sheet_check.proofs.Ends.{first-stopped, text_left}
 
 module _ {C : Type 0} (o : Way C) (chosen : Chosen) (sheet : Contents) (w : World) (copy : DiskView) (h : HostView) (c mid d : C) (a b : Option (List ℕ)) (ops : List Op) (disk : DiskView) (store : StoreView) (stops : StopsIn o.after h mid d) where
   pub took_ended : (counts : Counts) → FieldsTook (to_accept o chosen) sheet.fields (at w c copy) (records.left h mid a b) (storing ops [] disk store) counts
@@ -56,45 +60,36 @@ module _ {C : Type 0} (o : Way C) (chosen : Chosen) (sheet : Contents) (w : Worl
 
   early-left : IsCopy sheet w copy → (why : RunFault) → (p : FieldsFailed (to_accept o chosen) sheet.fields (at w c copy) (records.left h mid a b) why) → (why ≡ fault.Output → ⊥) → Stores ops (accepted p.cases) disk store
       → AcceptLeft (to_accept o chosen) sheet (passage c d a b) (filing ops disk store.disk) why
-  early-left copied (fault.Host f) p untold stores =
-      let q = first-stopped (to_accept o chosen) p.left p.mid h mid d stops (fault.Host f) p.failed in
-      ends.stopped p.cases f refl
-      (record {
-        start = w;
-        copy = copy;
-        copied = copied;
-        gone = p.gone;
-        left = p.left;
-        split = p.split;
-        mid = p.mid;
-        checked = p.checked;
-        failed = q.0;
-        leads = q.1;
-        led = q.3;
-        host = q.2;
-        stopped = q.4;
-        not_of_disk = q.5;
-        stops = q.6;
-      })
-      p.wrote stores.disk
-  early-left copied fault.OutOfMemory p untold stores =
-      let q = first-stopped (to_accept o chosen) p.left p.mid h mid d stops fault.OutOfMemory p.failed in
-      ends.unremembered p.cases refl
-      (record { start = w; copy = copy; copied = copied; gone = p.gone; left = p.left; split = p.split; mid = p.mid; checked = p.checked; leads = q.0; led = q.1; stops = q.2 })
-      p.wrote stores.disk
-  early-left copied fault.Output p untold stores = absurd (untold refl)
-  early-left copied fault.Input p untold stores =
-      let q = first-stopped (to_accept o chosen) p.left p.mid h mid d stops fault.Input p.failed in
-      ends.unwatched p.cases refl
-      (record { start = w; copy = copy; copied = copied; gone = p.gone; left = p.left; split = p.split; mid = p.mid; checked = p.checked; leads = q.0; led = q.1; stops = q.2 })
-      p.wrote stores.disk
-  early-left copied fault.InputTooLong p untold stores =
-      let q = first-stopped (to_accept o chosen) p.left p.mid h mid d stops fault.InputTooLong p.failed in
-      ends.too_long p.cases refl
-      (record { start = w; copy = copy; copied = copied; gone = p.gone; left = p.left; split = p.split; mid = p.mid; checked = p.checked; leads = q.0; led = q.1; stops = q.2 })
-      p.wrote stores.disk
-  early-left copied (fault.Open x) p untold stores = absurd p.wrote
-  early-left copied fault.InUse p untold stores = absurd p.wrote
+  early-left copied why p untold stores = left-by why (first-stopped (to_accept o chosen) p.left p.mid h mid d stops why p.failed) (text_left a b (report_front format.Accepting p.cases) why p.wrote untold) untold
+    where
+      led-to : (Led : List Field → At C → At C → Type 0) (t : At C) → Led p.left p.mid t → Stops o.after (running t.world) t.children d → SheetLed (to_accept o chosen) sheet c d p.cases Led
+      led-to Led t so stopped =
+          record { start = w; copy = copy; copied = copied; gone = p.gone; left = p.left; split = p.split; mid = p.mid; checked = p.checked; leads = t; led = so; stops = stopped }
+
+      left-by : (x : RunFault) → FirstStopped (to_accept o chosen) p.left p.mid d x → Appends a b (report_front format.Accepting p.cases) → (x ≡ fault.Output → ⊥) → AcceptLeft (to_accept o chosen) sheet (passage c d a b) (filing ops disk store.disk) x
+      left-by x (inside.stopped f e t k up broke other stopped) wrote told = ends.stopped p.cases f refl
+          (record {
+            start = w;
+            copy = copy;
+            copied = copied;
+            gone = p.gone;
+            left = p.left;
+            split = p.split;
+            mid = p.mid;
+            checked = p.checked;
+            failed = e;
+            leads = t;
+            led = up;
+            host = k;
+            stopped = broke;
+            not_of_disk = other;
+            stops = stopped;
+          })
+          wrote stores.disk
+      left-by x (inside.unremembered t so stopped) wrote told = ends.unremembered p.cases refl (led-to (FirstLed o chosen) t so stopped) wrote stores.disk
+      left-by x (inside.unwritten t so stopped) wrote told = absurd (told refl)
+      left-by x (inside.unwatched t so stopped) wrote told = ends.unwatched p.cases refl (led-to (FirstUnwatched o chosen) t so stopped) wrote stores.disk
+      left-by x (inside.too_long t so stopped) wrote told = ends.too_long p.cases refl (led-to (FirstTooLong o chosen) t so stopped) wrote stores.disk
 
   pub broke_left : IsCopy sheet w copy → (why : RunFault) → FieldsBroke (to_accept o chosen) sheet.fields (at w c copy) (records.left h mid a b) (storing ops [] disk store) why → AcceptLeft (to_accept o chosen) sheet (passage c d a b) (filing ops disk store.disk) why
   broke_left copied why (early failed untold stores) = early-left copied why failed untold stores

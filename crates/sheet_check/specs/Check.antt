@@ -85,13 +85,11 @@ WaitUpToBy (Some seconds) o id s e t = WaitUpTo (limited o seconds) id s e t
 
 -- the same up to where the sources couldn't be watched any more, which a limit of time wants
 abbrev pub UnwatchedBy : {C : Type 0} → Option ℕ → Way C → ℕ → At C → At C → Type 0
-UnwatchedBy None o id s t = ⊥
-UnwatchedBy (Some seconds) o id s t = WaitUnwatched (limited o seconds) id s t
+UnwatchedBy limit o id s t = (seconds : ℕ) × (limit ≡ Some seconds) × WaitUnwatched (limited o seconds) id s t
 
 -- the same with a limit, for as many steps as are counted
 abbrev pub TooLongBy : {C : Type 0} → Option ℕ → Way C → ℕ → At C → At C → Type 0
-TooLongBy None o id s t = ⊥
-TooLongBy (Some seconds) o id s t = WaitTooLong (limited o seconds) id s t
+TooLongBy limit o id s t = (seconds : ℕ) × (limit ≡ Some seconds) × WaitTooLong (limited o seconds) id s t
 
 -- The first of these fields, which shows an answer, was evaluated up to here: nothing was done, or its `eval`, or the wait for its answer,
 -- in whole or in part.
@@ -160,15 +158,20 @@ pub record SheetStopped {C : Type 0} (o : OneByOne C) (sheet : Contents) (c d : 
 
 -- What a fault of a check of this worksheet leaves: what was reported is written, but where the writer failed. A lack of memory may be
 -- reported before the copy is there.
-abbrev pub TellsCheck : {C : Type 0} → OneByOne C → Contents → Passage C → Type 0 → RunFault → Type 0
-TellsCheck o sheet q nothing (fault.Host why) = (cases : List Case) × SheetStopped o sheet q.sources q.left cases why × Appends q.text q.written (report_front o.format cases)
-TellsCheck o sheet q nothing fault.OutOfMemory =
-    nothing ⊎ ((cases : List Case) × SheetLed o sheet q.sources q.left cases (FirstLed o.way o.chosen) × Appends q.text q.written (report_front o.format cases))
-TellsCheck o sheet q nothing fault.Output = (cases : List Case) × SheetLed o sheet q.sources q.left cases (FirstLed o.way o.chosen)
-TellsCheck o sheet q nothing fault.Input = (cases : List Case) × SheetLed o sheet q.sources q.left cases (FirstUnwatched o.way o.chosen) × Appends q.text q.written (report_front o.format cases)
-TellsCheck o sheet q nothing fault.InputTooLong = (cases : List Case) × SheetLed o sheet q.sources q.left cases (FirstTooLong o.way o.chosen) × Appends q.text q.written (report_front o.format cases)
-TellsCheck o sheet q nothing (fault.Open why) = ⊥
-TellsCheck o sheet q nothing fault.InUse = ⊥
+pub data TellsCheck {C : Type 0} (o : OneByOne C) (sheet : Contents) (q : Passage C) (nothing : Type 0) (why : RunFault) : Type 0 where
+  not_begun : why ≡ fault.OutOfMemory → nothing → TellsCheck o sheet q nothing why
+  -- the host of the copy had a fault
+  stopped : (cases : List Case) (f : HostFault) → why ≡ fault.Host f → SheetStopped o sheet q.sources q.left cases f → Appends q.text q.written (report_front o.format cases) → TellsCheck o sheet q nothing why
+  -- memory was refused
+  unremembered : (cases : List Case) → why ≡ fault.OutOfMemory → SheetLed o sheet q.sources q.left cases (FirstLed o.way o.chosen)
+      → Appends q.text q.written (report_front o.format cases) → TellsCheck o sheet q nothing why
+  -- the sources couldn't be watched any more, or as many steps came of one field as are counted
+  unwatched : (cases : List Case) → why ≡ fault.Input → SheetLed o sheet q.sources q.left cases (FirstUnwatched o.way o.chosen)
+      → Appends q.text q.written (report_front o.format cases) → TellsCheck o sheet q nothing why
+  too_long : (cases : List Case) → why ≡ fault.InputTooLong → SheetLed o sheet q.sources q.left cases (FirstTooLong o.way o.chosen)
+      → Appends q.text q.written (report_front o.format cases) → TellsCheck o sheet q nothing why
+  -- the writer failed at the text of the last field, or at the counts
+  unwritten : (cases : List Case) → why ≡ fault.Output → SheetLed o sheet q.sources q.left cases (FirstLed o.way o.chosen) → TellsCheck o sheet q nothing why
 
 -- what becomes of a check of this worksheet
 abbrev pub SheetAnswer : {C : Type 0} → OneByOne C → Contents → Passage C → Type 0 → Result Counts RunFault → Type 0

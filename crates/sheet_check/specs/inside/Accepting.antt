@@ -68,17 +68,11 @@ NotPut x ones refused.Disk = (one : Op) × (ones ≡ one ∷ []) × HoldsBut x.o
 
 -- What a fault leaves where these are to be put after the others, and a text is to be written: nothing of either, or the disk failed, or
 -- the writer did.
-abbrev pub NotTaken : Storing → List Op → Option (List ℕ) → Option (List ℕ) → RunFault → Type 0
-NotTaken x ones a b (fault.Host hosts.JournalFull) = (one : Op) × (ones ≡ one ∷ []) × PutNone x × NoPlace one x.store.disk × (b ≡ a)
-NotTaken x ones a b (fault.Host hosts.Disk) = (one : Op) × (ones ≡ one ∷ []) × HoldsBut x.ops x.more one x.disk x.store.disk × (b ≡ a)
-NotTaken x ones a b fault.OutOfMemory = PutNone x × (b ≡ a)
-NotTaken x ones a b fault.Output = PutAll x ones
-NotTaken x ones a b (fault.Host hosts.OutOfMemory) = ⊥
-NotTaken x ones a b (fault.Host hosts.Closed) = ⊥
-NotTaken x ones a b fault.Input = ⊥
-NotTaken x ones a b fault.InputTooLong = ⊥
-NotTaken x ones a b (fault.Open why) = ⊥
-NotTaken x ones a b fault.InUse = ⊥
+pub data NotTaken (x : Storing) (ones : List Op) (a b : Option (List ℕ)) (why : RunFault) : Type 0 where
+  full : (one : Op) → why ≡ fault.Host hosts.JournalFull → ones ≡ one ∷ [] → PutNone x → NoPlace one x.store.disk → b ≡ a → NotTaken x ones a b why
+  broken : (one : Op) → why ≡ fault.Host hosts.Disk → ones ≡ one ∷ [] → HoldsBut x.ops x.more one x.disk x.store.disk → b ≡ a → NotTaken x ones a b why
+  unremembered : why ≡ fault.OutOfMemory → PutNone x → b ≡ a → NotTaken x ones a b why
+  unwritten : why ≡ fault.Output → PutAll x ones → NotTaken x ones a b why
 
 -- A store goes on after the ops of this worksheet and what was accepted of some fields.
 pub record GoesOn (sheet : Contents) (store : StoreView) : Type 0 where

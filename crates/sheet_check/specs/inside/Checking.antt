@@ -1,6 +1,7 @@
 -- What the functions of a check promise each other. No public contract names this.
 use Rattle.std.specs.Prelude.{◌≡◌, ◌+◌, ◌⊎◌, ℕ, List, [], ◌∷◌, ◌++◌, Option, Some, Result, IfOk, IfErr}
 use Rattle.host_events.specs.declared.event.Event.{Event}
+use Rattle.host_events.specs.declared.outcome.HostFault.{HostFault}
 use Rattle.host_events.specs.declared.outcome.HostFault.TheVariants as hosts
 use Rattle.child_edge.specs.declared.serving.EdgeCause.{EdgeCause}
 use Rattle.child_edge.specs.declared.serving.EdgeCause.TheVariants as cause
@@ -41,25 +42,17 @@ fault_of_cause (cause.Host hosts.Closed) = fault.Host hosts.Closed
 fault_of_cause cause.OutOfMemory = fault.OutOfMemory
 
 -- An `eval` broke off: up to the event at which the host had a fault, or for lack of memory.
-abbrev pub AskFailed : {C : Type 0} → Relation C → ℕ → At C → HostView → C → RunFault → Type 0
-AskFailed R id s h c (fault.Host f) =
-    (beats : List Beat) × (e : Event) × (t : World) × (d : DiskView) × ServedUpTo R s (eval_of id) beats e (at t c d) × Stopped d h t e f × NotOfDisk f
-AskFailed R id s h c fault.OutOfMemory = (t : World) × (d : DiskView) × LineLed R (Some (line.Command (command.Eval id))) s (at t c d) × StandsOrStopped h t d
-AskFailed R id s h c fault.Output = ⊥
-AskFailed R id s h c fault.Input = ⊥
-AskFailed R id s h c fault.InputTooLong = ⊥
-AskFailed R id s h c (fault.Open why) = ⊥
-AskFailed R id s h c fault.InUse = ⊥
+pub data AskFailed {C : Type 0} (R : Relation C) (id : ℕ) (s : At C) (h : HostView) (c : C) : RunFault → Type 0 where
+  stopped : (f : HostFault) (beats : List Beat) (e : Event) (t : World) (d : DiskView) → ServedUpTo R s (eval_of id) beats e (at t c d) → Stopped d h t e f → NotOfDisk f
+      → AskFailed R id s h c (fault.Host f)
+  unremembered : (t : World) (d : DiskView) → LineLed R (Some (line.Command (command.Eval id))) s (at t c d) → StandsOrStopped h t d → AskFailed R id s h c fault.OutOfMemory
 
 -- The wait for an answer broke off in the same ways, or the sources couldn't be watched, or as many steps came as are counted.
-abbrev pub WaitBroke : {C : Type 0} → Way C → ℕ → At C → HostView → C → RunFault → Type 0
-WaitBroke o id s h c (fault.Host f) = (e : Event) × (t : World) × (d : DiskView) × WaitUpToBy o.limit o id s e (at t c d) × Stopped d h t e f × NotOfDisk f
-WaitBroke o id s h c fault.OutOfMemory = (t : World) × (d : DiskView) × WaitLedBy o.limit o id s (at t c d) × StandsOrStopped h t d
-WaitBroke o id s h c fault.Input = (t : World) × UnwatchedBy o.limit o id s (at t c h.store.disk) × IsHost h t
-WaitBroke o id s h c fault.InputTooLong = (t : World) × TooLongBy o.limit o id s (at t c h.store.disk) × IsHost h t
-WaitBroke o id s h c fault.Output = ⊥
-WaitBroke o id s h c (fault.Open why) = ⊥
-WaitBroke o id s h c fault.InUse = ⊥
+pub data WaitBroke {C : Type 0} (o : Way C) (id : ℕ) (s : At C) (h : HostView) (c : C) : RunFault → Type 0 where
+  stopped : (f : HostFault) (e : Event) (t : World) (d : DiskView) → WaitUpToBy o.limit o id s e (at t c d) → Stopped d h t e f → NotOfDisk f → WaitBroke o id s h c (fault.Host f)
+  unremembered : (t : World) (d : DiskView) → WaitLedBy o.limit o id s (at t c d) → StandsOrStopped h t d → WaitBroke o id s h c fault.OutOfMemory
+  unwatched : (t : World) → UnwatchedBy o.limit o id s (at t c h.store.disk) → IsHost h t → WaitBroke o id s h c fault.Input
+  too_long : (t : World) → TooLongBy o.limit o id s (at t c h.store.disk) → IsHost h t → WaitBroke o id s h c fault.InputTooLong
 
 -- An evaluation broke off, in its `eval` or in the wait after it.
 abbrev pub EvaluationBroke : {C : Type 0} → Way C → ℕ → At C → HostView → C → RunFault → Type 0
@@ -67,24 +60,13 @@ EvaluationBroke {C = C} o id s h c why =
     AskFailed o.after id s h c why ⊎ ((beats : List Beat) × (mid : At C) × Served o.after s (eval_of id) beats mid × WaitBroke o id mid h c why)
 
 -- What a field came to couldn't be reported: there was no memory for it, and nothing was written, or the writer failed.
-abbrev pub Untold : Option (List ℕ) → Option (List ℕ) → RunFault → Type 0
-Untold a b fault.OutOfMemory = Appends a b []
-Untold a b fault.Output = Unit {0}
-Untold a b (fault.Host why) = ⊥
-Untold a b fault.Input = ⊥
-Untold a b fault.InputTooLong = ⊥
-Untold a b (fault.Open why) = ⊥
-Untold a b fault.InUse = ⊥
+pub data Untold (a b : Option (List ℕ)) (why : RunFault) : Type 0 where
+  unremembered : why ≡ fault.OutOfMemory → Appends a b [] → Untold a b why
+  unwritten : why ≡ fault.Output → Untold a b why
 
--- What a fault that comes after the opening leaves of the output: this text, but where the writer failed.
+-- What a fault leaves of the output: this text, but where the writer failed.
 abbrev pub LeavesText : Option (List ℕ) → Option (List ℕ) → List ℕ → RunFault → Type 0
-LeavesText a b text (fault.Host why) = Appends a b text
-LeavesText a b text fault.OutOfMemory = Appends a b text
-LeavesText a b text fault.Output = Unit {0}
-LeavesText a b text fault.Input = Appends a b text
-LeavesText a b text fault.InputTooLong = Appends a b text
-LeavesText a b text (fault.Open why) = ⊥
-LeavesText a b text fault.InUse = ⊥
+LeavesText a b text why = (why ≡ fault.Output) ⊎ Appends a b text
 
 -- What is to be evaluated and told: a field, the answer that it shows, and the number of the case that it is.
 pub record Question : Type 0 where
@@ -113,25 +95,21 @@ FieldWrote o field s l counts after = (cases : List Case) × (t : World) × Fiel
 
 -- The first of these fields was evaluated up to the event at which the host had a fault, or to where the host stands, or has stopped; of
 -- it nothing is written.
-abbrev pub FirstFailed : {C : Type 0} → OneByOne C → List Field → At C → HostView → C → RunFault → Type 0
-FirstFailed o fields s h c (fault.Host f) = (e : Event) × (t : World) × (d : DiskView) × FirstUpTo o.way o.chosen fields s e (at t c d) × Stopped d h t e f × NotOfDisk f
-FirstFailed o fields s h c fault.OutOfMemory = (t : World) × (d : DiskView) × FirstLed o.way o.chosen fields s (at t c d) × StandsOrStopped h t d
-FirstFailed o fields s h c fault.Output = (t : World) × (d : DiskView) × FirstLed o.way o.chosen fields s (at t c d) × StandsOrStopped h t d
-FirstFailed o fields s h c fault.Input = (t : World) × FirstUnwatched o.way o.chosen fields s (at t c h.store.disk) × IsHost h t
-FirstFailed o fields s h c fault.InputTooLong = (t : World) × FirstTooLong o.way o.chosen fields s (at t c h.store.disk) × IsHost h t
-FirstFailed o fields s h c (fault.Open why) = ⊥
-FirstFailed o fields s h c fault.InUse = ⊥
+pub data FirstFailed {C : Type 0} (o : OneByOne C) (fields : List Field) (s : At C) (h : HostView) (c : C) : RunFault → Type 0 where
+  stopped : (f : HostFault) (e : Event) (t : World) (d : DiskView) → FirstUpTo o.way o.chosen fields s e (at t c d) → Stopped d h t e f → NotOfDisk f → FirstFailed o fields s h c (fault.Host f)
+  unremembered : (t : World) (d : DiskView) → FirstLed o.way o.chosen fields s (at t c d) → StandsOrStopped h t d → FirstFailed o fields s h c fault.OutOfMemory
+  unwritten : (t : World) (d : DiskView) → FirstLed o.way o.chosen fields s (at t c d) → StandsOrStopped h t d → FirstFailed o fields s h c fault.Output
+  unwatched : (t : World) → FirstUnwatched o.way o.chosen fields s (at t c h.store.disk) → IsHost h t → FirstFailed o fields s h c fault.Input
+  too_long : (t : World) → FirstTooLong o.way o.chosen fields s (at t c h.store.disk) → IsHost h t → FirstFailed o fields s h c fault.InputTooLong
 
 -- The same, and each life that goes on was stopped.
-abbrev pub FirstStopped : {C : Type 0} → OneByOne C → List Field → At C → C → RunFault → Type 0
-FirstStopped {C = C} o fields s d (fault.Host f) = (e : Event) × (t : At C) × (h : HostView) × FirstUpTo o.way o.chosen fields s e t
-    × Stopped t.disk h t.world e f × NotOfDisk f × Stops o.way.after (running t.world) t.children d
-FirstStopped {C = C} o fields s d fault.OutOfMemory = (t : At C) × FirstLed o.way o.chosen fields s t × Stops o.way.after (running t.world) t.children d
-FirstStopped {C = C} o fields s d fault.Output = (t : At C) × FirstLed o.way o.chosen fields s t × Stops o.way.after (running t.world) t.children d
-FirstStopped {C = C} o fields s d fault.Input = (t : At C) × FirstUnwatched o.way o.chosen fields s t × Stops o.way.after (running t.world) t.children d
-FirstStopped {C = C} o fields s d fault.InputTooLong = (t : At C) × FirstTooLong o.way o.chosen fields s t × Stops o.way.after (running t.world) t.children d
-FirstStopped o fields s d (fault.Open why) = ⊥
-FirstStopped o fields s d fault.InUse = ⊥
+pub data FirstStopped {C : Type 0} (o : OneByOne C) (fields : List Field) (s : At C) (d : C) : RunFault → Type 0 where
+  stopped : (f : HostFault) (e : Event) (t : At C) (h : HostView) → FirstUpTo o.way o.chosen fields s e t → Stopped t.disk h t.world e f → NotOfDisk f
+      → Stops o.way.after (running t.world) t.children d → FirstStopped o fields s d (fault.Host f)
+  unremembered : (t : At C) → FirstLed o.way o.chosen fields s t → Stops o.way.after (running t.world) t.children d → FirstStopped o fields s d fault.OutOfMemory
+  unwritten : (t : At C) → FirstLed o.way o.chosen fields s t → Stops o.way.after (running t.world) t.children d → FirstStopped o fields s d fault.Output
+  unwatched : (t : At C) → FirstUnwatched o.way o.chosen fields s t → Stops o.way.after (running t.world) t.children d → FirstStopped o fields s d fault.Input
+  too_long : (t : At C) → FirstTooLong o.way o.chosen fields s t → Stops o.way.after (running t.world) t.children d → FirstStopped o fields s d fault.InputTooLong
 
 -- The check of a field failed, whatever fields come after it, and of it nothing is written.
 abbrev pub FieldFailed : {C : Type 0} → OneByOne C → Field → At C → Left C → RunFault → Type 0
