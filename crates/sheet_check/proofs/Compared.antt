@@ -23,6 +23,7 @@ use Rattle.check_report.specs.Verdicts.{counts_of, total}
 use Rattle.evaluation.specs.declared.plan.Plan.{Plan}
 use Rattle.evaluation.specs.Evaluation.{not_begun}
 use Rattle.evaluation.specs.Silently.{BrokeSilently, EvaluatedSilently, SilentlyBroke, between, no_memory, of_host, silent_setting, too_long, unwatched}
+use Rattle.live.specs.Records as records
 use Rattle.sheet_check.specs.Check.{IsCopy, Passage, passage}
 use Rattle.sheet_check.specs.Evaluated.{fault_on_copy, reason_shown_in}
 use Rattle.sheet_check.specs.Together as together
@@ -121,7 +122,7 @@ module _ {C : Type 0} (o : SideBySide C) (sheet : Contents) (w : World) (h g : H
     stops = stops.0 came.0 came.2;
   }
 
-  pub together_ended : (counts : Counts) → ReportedTogether o sheet.fields (at w c h.store.disk) g m a b counts → EndedTogether o sheet (passage c d a b) counts
+  pub together_ended : (counts : Counts) → ReportedTogether o sheet.fields (at w c h.store.disk) (records.left g m a b) counts → EndedTogether o sheet (passage c d a b) counts
   together_ended counts q = let came = q.1.0 in let told = q.1.1 in (came.0, q.0, evaluated q.0 came, (told.0, told.1, told.2, told.3))
 
   stopped : (t : At C) (why : RunFault) → t.children ≡ m → SilentlyBroke (checking o sheet.fields w) (at w c h.store.disk) t g why → Stops o.way.after (running t.world) t.children d
@@ -137,7 +138,7 @@ module _ {C : Type 0} (o : SideBySide C) (sheet : Contents) (w : World) (h g : H
   reported-broke late came why F cases gone left split compared (inr p) =
       together.unwritten cases p (record { leads = came.0; late = late; evaluated = evaluated late came; gone = gone; left = left; split = split; compared = compared })
 
-  pub together_failed : (why : RunFault) → FailedTogether o sheet.fields (at w c h.store.disk) g m a b why → TellsTogether o sheet (passage c d a b) ⊥ why
+  pub together_failed : (why : RunFault) → FailedTogether o sheet.fields (at w c h.store.disk) (records.left g m a b) why → TellsTogether o sheet (passage c d a b) ⊥ why
   together_failed why (inl q) =
       let broke = q.0.2 in
       together.broke

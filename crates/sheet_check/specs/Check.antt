@@ -132,10 +132,7 @@ pub data FirstUpTo {C : Type 0} (o : Way C) (chosen : Chosen) (fields : List Fie
 
 -- a fault that isn't one of the disk: the copy lies in memory, and that its disk failed is reported as lack of memory
 abbrev pub NotOfDisk : HostFault → Type 0
-NotOfDisk hosts.Disk = ⊥
-NotOfDisk hosts.OutOfMemory = Unit {0}
-NotOfDisk hosts.JournalFull = Unit {0}
-NotOfDisk hosts.Closed = Unit {0}
+NotOfDisk f = f ≡ hosts.Disk → ⊥
 
 -- The first fields were checked, which are these cases, and the next one up to this event, at which the host had this fault. Then each
 -- life that goes on was stopped.

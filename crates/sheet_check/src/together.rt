@@ -8,6 +8,7 @@ ghost use Rattle.child_edge.specs.Faithful.{at};
 ghost use Rattle.disk_model.specs.Disk.{Rises};
 ghost use Rattle.offline_programs.specs.declared.fault.RunFault.TheVariants as told;
 ghost use Rattle.journal.specs.declared.opening.OpenCause.TheVariants as opens;
+ghost use Rattle.live.specs.Records.{left};
 ghost use Rattle.sheet_check.specs.Evaluated.{way};
 ghost use Rattle.sheet_check.specs.Check.{IsCopy, OnlyRead, passage};
 ghost use Rattle.sheet_check.specs.Progress.{CheckShows, FieldsLeft, FieldsShow, SheetShows, answered, display};
@@ -91,12 +92,12 @@ fn check_together_on<D: Disk, C: Sources, W: Write, P: Progress>(
     requires stands { (w : World) × IsHost host.old w }
     ensures ok { (w : World) → IsHost host.old w → IfOk result (ReportedTogether
         (side_by_side (way C.after C.clock C.wakes request.now.limit) jobs request.now.chosen request.now.format)
-        sheet.now.contents.fields (at w sources.old host.old.store.disk) host.new sources.new
-        (W.contents writer.old) (W.contents writer.new)) }
+        sheet.now.contents.fields (at w sources.old host.old.store.disk)
+        (left host.new sources.new (W.contents writer.old) (W.contents writer.new))) }
     ensures err { (w : World) → IsHost host.old w → IfErr result (FailedTogether
         (side_by_side (way C.after C.clock C.wakes request.now.limit) jobs request.now.chosen request.now.format)
-        sheet.now.contents.fields (at w sources.old host.old.store.disk) host.new sources.new
-        (W.contents writer.old) (W.contents writer.new)) }
+        sheet.now.contents.fields (at w sources.old host.old.store.disk)
+        (left host.new sources.new (W.contents writer.old) (W.contents writer.new))) }
     ensures shown { IfOk result (λ counts.
         FieldsShow (display request.now.format P.shows) all progress.old counts progress.new) }
     ensures left { IfErr result (λ _.

@@ -121,8 +121,8 @@ pub data FieldsBroke {C : Type 0} (o : OneByOne C) (fields : List Field) (s : At
       → Appends l.out l.now (report_front o.format cases) → HoldsBut x.ops (x.more ++ accepted cases) one x.disk x.store.disk → FieldsBroke o fields s l x why
   unwritten : (cases : List Case) → why ≡ fault.Output → FieldsUpTo o fields s l.host l.sources cases → PutAll x (accepted cases) → FieldsBroke o fields s l x why
 
--- The fields of a worksheet were checked on a copy of it, each life that goes on was stopped, and what is accepted is on the disk; or
--- that ended early.
+-- The fields of a worksheet were checked on a copy of it, each life that goes on was stopped, and what is accepted is put in a store in
+-- which nothing was put before; or that ended early.
 abbrev pub OnCopy : {C : Type 0} → OneByOne C → Contents → Passage C → Storing → Result Counts RunFault → Type 0
 OnCopy o sheet q x counted = (w : World) × (copy : DiskView) × IsCopy sheet w copy
     × IfOk counted (λ counts. (ended : FieldsEnded o sheet.fields w copy q counts) × PutAll x (accepted ended.0))

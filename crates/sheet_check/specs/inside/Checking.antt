@@ -68,7 +68,7 @@ pub data Untold (a b : Option (List ℕ)) (why : RunFault) : Type 0 where
 abbrev pub LeavesText : Option (List ℕ) → Option (List ℕ) → List ℕ → RunFault → Type 0
 LeavesText a b text why = (why ≡ fault.Output) ⊎ Appends a b text
 
--- What is to be evaluated and told: a field, the answer that it shows, and the number of the case that it is.
+-- What is to be evaluated and reported: a field, the answer that it shows, and the number of the case that it is.
 pub record Question : Type 0 where
   pub number : ℕ
   pub field : Field
@@ -111,7 +111,7 @@ pub data FirstStopped {C : Type 0} (o : OneByOne C) (fields : List Field) (s : A
   unwatched : (t : At C) → FirstUnwatched o.way o.chosen fields s t → Stops o.way.after (running t.world) t.children d → FirstStopped o fields s d fault.Input
   too_long : (t : At C) → FirstTooLong o.way o.chosen fields s t → Stops o.way.after (running t.world) t.children d → FirstStopped o fields s d fault.InputTooLong
 
--- The check of a field failed, whatever fields come after it, and of it nothing is written.
+-- The check of a field ended early, whatever fields come after it, and of it nothing is written, but where the writer failed.
 abbrev pub FieldFailed : {C : Type 0} → OneByOne C → Field → At C → Left C → RunFault → Type 0
 FieldFailed o field s l why = ((others : List Field) → FirstFailed o (field ∷ others) s l.host l.sources why) × LeavesText l.out l.now [] why
 
