@@ -2,7 +2,8 @@
 use Rattle.std.specs.Prelude.{◌≡◌, ◌==◌, ◌&&◌, ℕ, Bool, List, Option, Result, Ok, Err, IfErr, IfOk}
 use Rattle.disk_model.specs.Disk.{Rises}
 use Rattle.journal.specs.declared.opening.OpenCause.TheVariants as opens
-use Rattle.sheet_check.specs.Accept.{AcceptAnswer}
+use Rattle.sheet_check.specs.Accept.{AcceptAnswer, to_accept}
+use Rattle.sheet_check.specs.Check.{passage}
 use Rattle.sheet_check.specs.Evaluated.{Way}
 use Rattle.check_report.specs.declared.chosen.Chosen.{Chosen}
 use Rattle.check_report.specs.declared.verdict.Counts.{Counts}
@@ -32,7 +33,7 @@ pub record AcceptDone {D C W E : Type 0} (k : Closable D) (o : Way C) (chosen : 
   pub later : D
   pub closed : k.closed later
   pub answer : Result Counts RunFault
-  pub accepted : AcceptAnswer o chosen (k.view disk) (k.view later) c d (written a) (written b) ((b ≡ a) × (d ≡ c)) answer
+  pub accepted : AcceptAnswer (to_accept o chosen) (k.view disk) (k.view later) (passage c d (written a) (written b)) ((b ≡ a) × (d ≡ c)) answer
   -- that the disk failed at the opening is reported only where it did
   pub failed : answer ≡ Err (fault.Open opens.Disk) → Rises (k.view disk).faults (k.view later).faults
   pub status : ending.status ≡ status_of (answer_of_acceptance chosen answer)

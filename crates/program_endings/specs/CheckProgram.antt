@@ -2,8 +2,8 @@
 use Rattle.std.specs.Prelude.{◌≡◌, ◌==◌, ◌&&◌, ℕ, Bool, true, nat_lt, List, Option, Some, None, Result, Ok, Err, IfErr, IfOk}
 use Rattle.disk_model.specs.Disk.{Rises}
 use Rattle.journal.specs.declared.opening.OpenCause.TheVariants as opens
-use Rattle.sheet_check.specs.Check.{CheckAnswer, OnlyRead}
-use Rattle.sheet_check.specs.Evaluated.{Way}
+use Rattle.sheet_check.specs.Check.{CheckAnswer, OnlyRead, passage}
+use Rattle.sheet_check.specs.Evaluated.{Way, one_by_one}
 use Rattle.check_report.specs.declared.chosen.Chosen.{Chosen}
 use Rattle.check_report.specs.declared.report.Format.{Format}
 use Rattle.check_report.specs.declared.report.Format.TheVariants as format
@@ -56,7 +56,7 @@ pub record CheckDone {D C W E : Type 0} (k : Closable D) (o : Way C) (chosen : C
   pub closed : k.closed later
   pub answer : Result Counts RunFault
   pub mid : W
-  pub checked : CheckAnswer o chosen F (k.view disk) c d (written a) (written mid) ((mid ≡ a) × (d ≡ c)) answer
+  pub checked : CheckAnswer (one_by_one o chosen F) (k.view disk) (passage c d (written a) (written mid)) ((mid ≡ a) × (d ≡ c)) answer
   pub last_told : LastOfCheck F written mid b ending.told (answer_of_check chosen answer)
   pub read : OnlyRead (k.view disk) (k.view later)
   -- that the disk failed is reported only where it did

@@ -3,8 +3,8 @@
 use Rattle.std.specs.Prelude.{◌≡◌, List, Option, ℕ, Result, Err, IfErr, IfOk}
 use Rattle.disk_model.specs.Disk.{Rises}
 use Rattle.journal.specs.declared.opening.OpenCause.TheVariants as opens
-use Rattle.sheet_check.specs.Check.{OnlyRead}
-use Rattle.sheet_check.specs.Together.{SideBySide, TogetherAnswer, passage}
+use Rattle.sheet_check.specs.Check.{OnlyRead, passage}
+use Rattle.sheet_check.specs.Together.{SideBySide, TogetherAnswer}
 use Rattle.check_report.specs.declared.verdict.Counts.{Counts}
 use Rattle.offline_programs.specs.declared.fault.RunFault.{RunFault}
 use Rattle.offline_programs.specs.declared.fault.RunFault.TheVariants as fault

@@ -33,11 +33,13 @@ use Rattle.check_report.specs.declared.verdict.Verdict.TheVariants as verdict
 use Rattle.check_report.specs.Chosen.{shown_by}
 use Rattle.check_report.specs.Reports.{Case, case, case_text, cases_text, report_front, verdicts_of}
 use Rattle.check_report.specs.Verdicts.{counts_of, total}
+use Rattle.live.specs.Records as records
 use Rattle.sheet_check.specs.Evaluated.{Evaluated, FieldsChecked, Way, came_if, checked, passed, reason_shown_in, shown_in}
 use Rattle.sheet_check.specs.declared.accepting.Finding.{Finding}
-use Rattle.sheet_check.specs.Accept.{accepted, accepted_answer, accepted_of, answer_ops}
-use Rattle.sheet_check.specs.inside.Accepting.{FieldBroke, FieldLast, FieldTook, FieldsBroke, FieldsTook, FieldsUpTo, Finds, GoesOn, NotPut, NotTaken, ShownTook, broken, early, fault_of_acceptance, full, unwritten}
-use Rattle.sheet_check.specs.inside.Checking.{AskFailed, EvaluationBroke, FieldFailed, FirstFailed, WaitBroke, counted_on}
+use Rattle.sheet_check.specs.Accept.{accepted, accepted_answer, accepted_of, answer_ops, to_accept}
+use Rattle.sheet_check.specs.inside.Accepting.{FieldBroke, FieldLast, FieldsBroke, FieldsTook, FieldsUpTo, Finds, GoesOn, NotPut, NotTaken, PutAll, ShownTook, broken, early, fault_of_acceptance, full, storing, unwritten}
+use Rattle.sheet_check.specs.inside.Accepting as inside
+use Rattle.sheet_check.specs.inside.Checking.{AskFailed, EvaluationBroke, FieldFailed, FieldWrote, FirstFailed, WaitBroke, counted_on, question}
 use Rattle.sheet_check.proofs.Counting.{cases-more, front-more}
 use Rattle.sheet_check.proofs.Fields.{FieldsSoFar, fields-more, leaves-on}
 
@@ -113,58 +115,59 @@ short_in law h w host asked id v = short-accepted v (came_if asked (shown_in w i
 
 -- Why an answer wasn't accepted.
 
-pub not_taken : (ops more : List Op) (disk : DiskView) (ones : List Op) (new : StoreView) (a : Option (List ℕ)) (why : AcceptFault) → NotPut ops more disk ones new why → NotTaken ops more disk ones new a a (fault_of_acceptance why)
-not_taken ops more disk ones new a refused.Full p = (p.0, p.1, p.2, p.3, refl)
-not_taken ops more disk ones new a refused.OutOfMemory p = (p, refl)
-not_taken ops more disk ones new a refused.Disk p = (p.0, p.1, p.2, refl)
+pub not_taken : (ops more : List Op) (disk : DiskView) (ones : List Op) (new : StoreView) (a : Option (List ℕ)) (why : AcceptFault) → NotPut (storing ops more disk new) ones why → NotTaken (storing ops more disk new) ones a a (fault_of_acceptance why)
+not_taken ops more disk ones new a refused.Full p = inside.full p.0 refl p.1 p.2 p.3 refl
+not_taken ops more disk ones new a refused.OutOfMemory p = inside.unremembered refl p refl
+not_taken ops more disk ones new a refused.Disk p = inside.broken p.0 refl p.1 p.2 refl
 
 evaluation-told : {C : Type 0} (o : Way C) (id : ℕ) (s : At C) (h : HostView) (c : C) (why : RunFault) → EvaluationBroke o id s h c why → why ≡ fault.Output → ⊥
-evaluation-told o id s h c why (inl p) e = subst (AskFailed o.after id s h c) e p
-evaluation-told o id s h c why (inr p) e = subst (WaitBroke o id p.1 h c) e p.3
+evaluation-told o id s h c why (inl p) e = asked (subst (AskFailed o.after id s h c) e p)
+  where
+    asked : AskFailed o.after id s h c fault.Output → ⊥
+    asked t = elim t [ ]
+evaluation-told o id s h c why (inr p) e = waited (subst (WaitBroke o id p.1 h c) e p.3)
+  where
+    waited : WaitBroke o id p.1 h c fault.Output → ⊥
+    waited t = elim t [ ]
 
 module _ {C : Type 0} (o : Way C) (chosen : Chosen) (field : Field) (s : At C) (h : HostView) (c : C) (a : Option (List ℕ)) (ops more : List Op) (disk : DiskView) (store : StoreView) where
   -- the evaluation broke off
-  pub evaluation_broke : (why : RunFault) → EvaluationBroke o field.id s h c why → FieldFailed o chosen field s h c a a why → Stores ops more disk store → FieldBroke o chosen field s h c a a ops more disk store why
+  pub evaluation_broke : (why : RunFault) → EvaluationBroke o field.id s h c why → FieldFailed (to_accept o chosen) field s (records.left h c a a) why → Stores ops more disk store → FieldBroke (to_accept o chosen) field s (records.left h c a a) (storing ops more disk store) why
   evaluation_broke why broke failed stores = early failed (evaluation-told o field.id s h c why broke) stores
 
   -- there was no memory for what came
-  pub memory_broke : FieldFailed o chosen field s h c a a fault.OutOfMemory → Stores ops more disk store → FieldBroke o chosen field s h c a a ops more disk store fault.OutOfMemory
+  pub memory_broke : FieldFailed (to_accept o chosen) field s (records.left h c a a) fault.OutOfMemory → Stores ops more disk store → FieldBroke (to_accept o chosen) field s (records.left h c a a) (storing ops more disk store) fault.OutOfMemory
   memory_broke failed stores = early failed (λ e. let no : fault.OutOfMemory ≡ fault.Output = e in cc) stores
 
   -- what came wasn't accepted, or not reported
-  pub take_broke : (last : Case) (ones : List Op) (b : Option (List ℕ)) (why : RunFault) → FieldFailed o chosen field s h c a a fault.OutOfMemory → FieldLast o chosen field s h c last → ones ≡ accepted_of last
-      → NotTaken ops more disk ones store a b why → FieldBroke o chosen field s h c a b ops more disk store why
-  take_broke last ones b (fault.Host hosts.JournalFull) failed came is p = full last p.0 refl came (sym is ∙ p.1) p.4 p.2 p.3
-  take_broke last ones b (fault.Host hosts.Disk) failed came is p = broken last p.0 refl came (sym is ∙ p.1) p.3 p.2
-  take_broke last ones b fault.OutOfMemory failed came is p =
-      subst (λ (b : Option (List ℕ)). FieldBroke o chosen field s h c a b ops more disk store fault.OutOfMemory) (sym p.1) (memory_broke failed p.0)
-  take_broke last ones b fault.Output failed came is p = unwritten last refl came (subst (λ (os : List Op). Stores ops (more ++ os) disk store) is p)
-  take_broke last ones b (fault.Host hosts.OutOfMemory) failed came is p = absurd p
-  take_broke last ones b (fault.Host hosts.Closed) failed came is p = absurd p
-  take_broke last ones b fault.Input failed came is p = absurd p
-  take_broke last ones b fault.InputTooLong failed came is p = absurd p
-  take_broke last ones b (fault.Open x) failed came is p = absurd p
-  take_broke last ones b fault.InUse failed came is p = absurd p
+  pub take_broke : (last : Case) (ones : List Op) (b : Option (List ℕ)) (why : RunFault) → FieldFailed (to_accept o chosen) field s (records.left h c a a) fault.OutOfMemory → FieldLast (to_accept o chosen) field s h c last → ones ≡ accepted_of last
+      → NotTaken (storing ops more disk store) ones a b why → FieldBroke (to_accept o chosen) field s (records.left h c a b) (storing ops more disk store) why
+  take_broke last ones b why failed came is (inside.full one full-is put stores place same) = full last one full-is came (sym is ∙ put) same stores place
+  take_broke last ones b why failed came is (inside.broken one disk-is put holds same) = broken last one disk-is came (sym is ∙ put) same holds
+  take_broke last ones b why failed came is (inside.unremembered memory-is stores same) =
+      subst (FieldBroke (to_accept o chosen) field s (records.left h c a b) (storing ops more disk store)) (sym memory-is)
+      (subst (λ (b : Option (List ℕ)). FieldBroke (to_accept o chosen) field s (records.left h c a b) (storing ops more disk store) fault.OutOfMemory) (sym same) (memory_broke failed stores))
+  take_broke last ones b why failed came is (inside.unwritten output-is stores) = unwritten last output-is came (subst (λ (os : List Op). Stores ops (more ++ os) disk store) is stores)
 
 -- A field.
 
 pub shown_took : {C : Type 0} (o : Way C) (chosen : Chosen) (field : Field) (shown : Answer) (s : At C) (h : HostView) (c : C) (a b : Option (List ℕ)) (ops more : List Op) (disk : DiskView) (store : StoreView)
     (came : Option Answer) (t : World) (found : Finding) (v : Verdict) → Evaluated o field.id s came (at t c h.store.disk) → IsHost h t → Finds chosen field shown came found → v ≡ found.verdict
-    → Stores ops (more ++ answer_ops field.id found.answer) disk store → Appends a b found.text.items → ShownTook o chosen field shown s h c a b (λ took. Stores ops (more ++ took) disk store) v
+    → Stores ops (more ++ answer_ops field.id found.answer) disk store → Appends a b found.text.items → ShownTook (to_accept o chosen) (question 0 field shown) s (records.left h c a b) (storing ops more disk store) v
 shown_took o chosen field shown s h c a b ops more disk store came t found v evaluated stands f is stores wrote =
-    subst (ShownTook o chosen field shown s h c a b (λ took. Stores ops (more ++ took) disk store)) (sym is) (
+    subst (ShownTook (to_accept o chosen) (question 0 field shown) s (records.left h c a b) (storing ops more disk store)) (sym is) (
       (came, t, evaluated, stands, f.judged, subst (Appends a b) f.told wrote),
       subst (λ (x : Option Answer). Stores ops (more ++ answer_ops field.id x) disk store) f.taken stores,
     )
 
 pub passed_took : {C : Type 0} (o : Way C) (chosen : Chosen) (field : Field) (w : World) (h : HostView) (c : C) (a : Option (List ℕ)) (ops more : List Op) (disk : DiskView) (store : StoreView) (counts : Counts)
-    → shown_by chosen field ≡ None → IsHost h w → Stores ops more disk store → FieldTook o chosen field (at w c h.store.disk) h c a a (λ took. Stores ops (more ++ took) disk store) counts counts
+    → shown_by chosen field ≡ None → IsHost h w → Stores ops more disk store → (wrote : FieldWrote (to_accept o chosen) field (at w c h.store.disk) (records.left h c a a) counts counts) × PutAll (storing ops more disk store) (accepted wrote.0)
 passed_took o chosen field w h c a ops more disk store counts none stands stores =
     (([], w, passed none, stands, refl, Appends-nil a), subst (λ (os : List Op). Stores ops os disk store) (sym (append-nil more)) stores)
 
 pub checked_took : {C : Type 0} (o : Way C) (chosen : Chosen) (field : Field) (shown : Answer) (s : At C) (h : HostView) (c : C) (a b : Option (List ℕ)) (ops more : List Op) (disk : DiskView) (store : StoreView)
-    (counts after : Counts) (v : Verdict) → shown_by chosen field ≡ Some shown → ShownTook o chosen field shown s h c a b (λ took. Stores ops (more ++ took) disk store) v → after ≡ counted_on (v ∷ []) counts
-    → FieldTook o chosen field s h c a b (λ took. Stores ops (more ++ took) disk store) counts after
+    (counts after : Counts) (v : Verdict) → shown_by chosen field ≡ Some shown → ShownTook (to_accept o chosen) (question 0 field shown) s (records.left h c a b) (storing ops more disk store) v → after ≡ counted_on (v ∷ []) counts
+    → (wrote : FieldWrote (to_accept o chosen) field s (records.left h c a b) counts after) × PutAll (storing ops more disk store) (accepted wrote.0)
 checked_took o chosen field shown s h c a b ops more disk store counts after v some p is =
     let q = p.0 in
     let one = case field q.0 (reason_shown_in q.1 field.id) v in (
@@ -176,7 +179,7 @@ checked_took o chosen field shown s h c a b ops more disk store counts after v s
 
 -- some of the first fields were checked and what differs of them accepted, and these are left
 pub record TookSoFar {C : Type 0} (o : Way C) (chosen : Chosen) (all left : List Field) (s : At C) (h : HostView) (c : C) (a b : Option (List ℕ)) (ops : List Op) (disk : DiskView) (store : StoreView) (counts : Counts) : Type 0 where
-  pub so : FieldsSoFar o chosen format.Accepting all left s h c a b counts
+  pub so : FieldsSoFar (to_accept o chosen) all left s h c a b counts
   pub kept : Stores ops (accepted so.cases) disk store
 
 pub none_took : {C : Type 0} (o : Way C) (chosen : Chosen) (all left : List Field) (w : World) (h : HostView) (c : C) (a : Option (List ℕ)) (ops : List Op) (disk : DiskView) (store : StoreView) (counts : Counts) → left ≡ all → counts ≡ counts_of [] → IsHost h w
@@ -200,13 +203,13 @@ goes_further sheet store new on cases stores = record {
 
 module _ {C : Type 0} (o : Way C) (chosen : Chosen) (all left : List Field) (field : Field) (others : List Field) (s : At C) (h : HostView) (c : C) (a b : Option (List ℕ)) (ops : List Op) (disk : DiskView) (store : StoreView)
     (counts : Counts) (g : HostView) (d : C) (e : Option (List ℕ)) (new : StoreView) (is : left ≡ field ∷ others) (taken : TookSoFar o chosen all left s h c a b ops disk store counts) where
-  so : FieldsSoFar o chosen format.Accepting all left s h c a b counts
+  so : FieldsSoFar (to_accept o chosen) all left s h c a b counts
   so = taken.so
 
   split-on : all ≡ (taken.so.gone ++ field ∷ []) ++ others
   split-on = taken.so.split ∙ ap (λ x. taken.so.gone ++ x) is ∙ sym (append_assoc taken.so.gone (field ∷ []) others)
 
-  pub one_took : (after : Counts) → FieldTook o chosen field (at taken.so.leads c h.store.disk) g d b e (λ took. Stores ops (accepted taken.so.cases ++ took) disk new) counts after
+  pub one_took : (after : Counts) → (wrote : FieldWrote (to_accept o chosen) field (at taken.so.leads c h.store.disk) (records.left g d b e) counts after) × PutAll (storing ops (accepted taken.so.cases) disk new) (accepted wrote.0)
       → TookSoFar o chosen all others s g d a e ops disk new after
   one_took after q =
       let p = q.0 in
@@ -216,7 +219,7 @@ module _ {C : Type 0} (o : Way C) (chosen : Chosen) (all left : List Field) (fie
           cases = taken.so.cases ++ p.0;
           leads = p.1;
           split = split-on;
-          ran = fields-more o chosen taken.so.gone field s taken.so.cases (at taken.so.leads c h.store.disk) p.0 (at p.1 d g.store.disk) taken.so.ran p.2;
+          ran = fields-more (to_accept o chosen) taken.so.gone field s taken.so.cases (at taken.so.leads c h.store.disk) p.0 (at p.1 d g.store.disk) taken.so.ran p.2;
           stands = p.3;
           counted = p.4 ∙ ap (λ x. counted_on (verdicts_of p.0) x) taken.so.counted ∙ sym (cases-more taken.so.cases p.0);
           wrote = subst (Appends a e) (sym (front-more format.Accepting taken.so.cases p.0 counts taken.so.counted))
@@ -225,20 +228,20 @@ module _ {C : Type 0} (o : Way C) (chosen : Chosen) (all left : List Field) (fie
         kept = subst (λ (os : List Op). Stores ops os disk new) (accepted-more taken.so.cases p.0) q.1;
       }
 
-  up-to : (last : Case) → FieldLast o chosen field (at taken.so.leads c h.store.disk) g d last → FieldsUpTo o chosen all s g d (taken.so.cases ++ last ∷ [])
+  up-to : (last : Case) → FieldLast (to_accept o chosen) field (at taken.so.leads c h.store.disk) g d last → FieldsUpTo (to_accept o chosen) all s g d (taken.so.cases ++ last ∷ [])
   up-to last p = record {
     gone = taken.so.gone ++ field ∷ [];
     left = others;
     split = split-on;
     leads = p.0;
-    checked = fields-more o chosen taken.so.gone field s taken.so.cases (at taken.so.leads c h.store.disk) (last ∷ []) (at p.0 d g.store.disk) taken.so.ran p.1;
+    checked = fields-more (to_accept o chosen) taken.so.gone field s taken.so.cases (at taken.so.leads c h.store.disk) (last ∷ []) (at p.0 d g.store.disk) taken.so.ran p.1;
     stands = p.2;
   }
 
   told-so : e ≡ b → Appends a e (report_front format.Accepting taken.so.cases)
   told-so same = subst (λ (x : Option (List ℕ)). Appends a x (report_front format.Accepting taken.so.cases)) (sym same) taken.so.wrote
 
-  pub one_broke : (why : RunFault) → FieldBroke o chosen field (at taken.so.leads c h.store.disk) g d b e ops (accepted taken.so.cases) disk new why → FieldsBroke o chosen all s g d a e ops disk new why
+  pub one_broke : (why : RunFault) → FieldBroke (to_accept o chosen) field (at taken.so.leads c h.store.disk) (records.left g d b e) (storing ops (accepted taken.so.cases) disk new) why → FieldsBroke (to_accept o chosen) all s (records.left g d a e) (storing ops [] disk new) why
   one_broke why (early failed untold stores) = early
       (record {
         gone = taken.so.gone;
@@ -247,8 +250,8 @@ module _ {C : Type 0} (o : Way C) (chosen : Chosen) (all left : List Field) (fie
         cases = taken.so.cases;
         mid = at taken.so.leads c h.store.disk;
         checked = taken.so.ran;
-        failed = subst (λ x. FirstFailed o chosen x (at taken.so.leads c h.store.disk) g d why) (sym is) (failed.0 others);
-        wrote = leaves-on o chosen format.Accepting all left field others s h c a b counts g d e is taken.so why failed.1;
+        failed = subst (λ x. FirstFailed (to_accept o chosen) x (at taken.so.leads c h.store.disk) g d why) (sym is) (failed.0 others);
+        wrote = leaves-on (to_accept o chosen) all left field others s h c a b counts g d e is taken.so why failed.1;
       })
       untold stores
   one_broke why (full last one is-full came taken-is same stores place) = full taken.so.cases last one is-full (up-to last came) taken-is (told-so same) stores place
@@ -257,7 +260,7 @@ module _ {C : Type 0} (o : Way C) (chosen : Chosen) (all left : List Field) (fie
       (subst (λ (os : List Op). Stores ops os disk new) (ap (λ (os : List Op). accepted taken.so.cases ++ os) (sym (append-nil (accepted_of last))) ∙ accepted-more taken.so.cases (last ∷ [])) stores)
 
 pub all_took : {C : Type 0} (o : Way C) (chosen : Chosen) (all left : List Field) (s : At C) (h : HostView) (c : C) (a b : Option (List ℕ)) (ops : List Op) (disk : DiskView) (store : StoreView) (counts : Counts) → left ≡ []
-    → TookSoFar o chosen all left s h c a b ops disk store counts → FieldsTook o chosen all s h c a b (λ took. Stores ops took disk store) counts
+    → TookSoFar o chosen all left s h c a b ops disk store counts → FieldsTook (to_accept o chosen) all s (records.left h c a b) (storing ops [] disk store) counts
 all_took o chosen all left s h c a b ops disk store counts e taken =
     let same : taken.so.gone ≡ all = sym (taken.so.split ∙ ap (λ x. taken.so.gone ++ x) e ∙ append-nil taken.so.gone) in (
       (taken.so.cases, taken.so.leads, subst (λ fs. FieldsChecked o chosen fs s taken.so.cases (at taken.so.leads c h.store.disk)) same taken.so.ran, taken.so.stands, taken.so.counted, taken.so.wrote),

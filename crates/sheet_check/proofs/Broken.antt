@@ -1,5 +1,5 @@
 -- An `eval` and a wait for its answer that broke off.
-use Rattle.std.proofs.Common.{inl, inr, ℕ, List, None, Some, refl}
+use Rattle.std.proofs.Common.{◌≡◌, inl, inr, ℕ, List, None, Some, refl}
 use Rattle.session_engine.specs.World.{World}
 use Rattle.session_engine.specs.Host.{HostView, IsHost}
 use Rattle.host_events.specs.declared.command.Command.TheVariants as command
@@ -21,34 +21,37 @@ use Rattle.evaluation.specs.Within.{WaitFailed, waiting}
 use Rattle.evaluation.proofs.Waits.{up_to_led}
 use Rattle.sheet_check.specs.Evaluated.{fault_on_copy, way}
 use Rattle.sheet_check.specs.inside.Checking.{AskFailed, WaitBroke, fault_of_cause}
+use Rattle.sheet_check.specs.inside.Checking as inside
 
 module _ {C : Type 0} (R : Relation C) (id : ℕ) (w : World) (h g : HostView) (c d : C) (replies : List Reply) (stands : IsHost h w) where
   pub eval_broke : (why : EdgeCause) → CommandBroke R (command.Eval id) w h g c d replies why → AskFailed R id (at w c h.store.disk) g d (fault_of_cause why)
-  eval_broke (cause.Host hosts.Disk) q = (q.broke.leads, q.broke.disk, up_to q.broke.beats q.broke.failed q.broke.form, inr (q.broke.failed, hosts.Disk, q.broke.stopped))
-  eval_broke (cause.Host hosts.OutOfMemory) q = (q.broke.beats, q.broke.failed, q.broke.leads, q.broke.disk, q.broke.form, q.broke.stopped, tt)
-  eval_broke (cause.Host hosts.JournalFull) q = (q.broke.beats, q.broke.failed, q.broke.leads, q.broke.disk, q.broke.form, q.broke.stopped, tt)
-  eval_broke (cause.Host hosts.Closed) q = (q.broke.beats, q.broke.failed, q.broke.leads, q.broke.disk, q.broke.form, q.broke.stopped, tt)
-  eval_broke cause.OutOfMemory q = command_broke_unwritten R (command.Eval id) w h g c d replies None None cause.OutOfMemory fault.Output stands q refl
+  eval_broke (cause.Host hosts.Disk) q = inside.unremembered q.broke.leads q.broke.disk (up_to q.broke.beats q.broke.failed q.broke.form) (inr (q.broke.failed, hosts.Disk, q.broke.stopped))
+  eval_broke (cause.Host hosts.OutOfMemory) q = inside.stopped hosts.OutOfMemory q.broke.beats q.broke.failed q.broke.leads q.broke.disk q.broke.form q.broke.stopped (λ e. let no : hosts.OutOfMemory ≡ hosts.Disk = e in cc)
+  eval_broke (cause.Host hosts.JournalFull) q = inside.stopped hosts.JournalFull q.broke.beats q.broke.failed q.broke.leads q.broke.disk q.broke.form q.broke.stopped (λ e. let no : hosts.JournalFull ≡ hosts.Disk = e in cc)
+  eval_broke (cause.Host hosts.Closed) q = inside.stopped hosts.Closed q.broke.beats q.broke.failed q.broke.leads q.broke.disk q.broke.form q.broke.stopped (λ e. let no : hosts.Closed ≡ hosts.Disk = e in cc)
+  eval_broke cause.OutOfMemory q =
+      let p = command_broke_unwritten R (command.Eval id) w h g c d replies None None cause.OutOfMemory fault.Output stands q refl in
+      inside.unremembered p.0 p.1 p.2 p.3
 
 module _ {C : Type 0} (R : Relation C) (K : Clock C) (W : Watch C) (id : ℕ) (s : At C) (g : HostView) (d : C) where
   -- without a limit
   pub wait_broke : (replies : List Reply) (why : EdgeCause) → ByCause why (BrokeFrom s (WaitStopped R most_turns) g d replies) (RanFrom s (WaitSoFar R most_turns) g d replies)
       → WaitBroke (way R K W None) id s g d (fault_of_cause why)
-  wait_broke replies (cause.Host hosts.Disk) q = (q.broke.leads, q.broke.disk, up_to q.broke.beats q.broke.failed q.broke.form, inr (q.broke.failed, hosts.Disk, q.broke.stopped))
-  wait_broke replies (cause.Host hosts.OutOfMemory) q = (q.broke.failed, q.broke.leads, q.broke.disk, (q.broke.beats, q.broke.form), q.broke.stopped, tt)
-  wait_broke replies (cause.Host hosts.JournalFull) q = (q.broke.failed, q.broke.leads, q.broke.disk, (q.broke.beats, q.broke.form), q.broke.stopped, tt)
-  wait_broke replies (cause.Host hosts.Closed) q = (q.broke.failed, q.broke.leads, q.broke.disk, (q.broke.beats, q.broke.form), q.broke.stopped, tt)
-  wait_broke replies cause.OutOfMemory q = (q.ran.leads, g.store.disk, so_far q.ran.beats q.ran.form, inl (q.ran.stands, refl))
+  wait_broke replies (cause.Host hosts.Disk) q = inside.unremembered q.broke.leads q.broke.disk (up_to q.broke.beats q.broke.failed q.broke.form) (inr (q.broke.failed, hosts.Disk, q.broke.stopped))
+  wait_broke replies (cause.Host hosts.OutOfMemory) q = inside.stopped hosts.OutOfMemory q.broke.failed q.broke.leads q.broke.disk (q.broke.beats, q.broke.form) q.broke.stopped (λ e. let no : hosts.OutOfMemory ≡ hosts.Disk = e in cc)
+  wait_broke replies (cause.Host hosts.JournalFull) q = inside.stopped hosts.JournalFull q.broke.failed q.broke.leads q.broke.disk (q.broke.beats, q.broke.form) q.broke.stopped (λ e. let no : hosts.JournalFull ≡ hosts.Disk = e in cc)
+  wait_broke replies (cause.Host hosts.Closed) q = inside.stopped hosts.Closed q.broke.failed q.broke.leads q.broke.disk (q.broke.beats, q.broke.form) q.broke.stopped (λ e. let no : hosts.Closed ≡ hosts.Disk = e in cc)
+  wait_broke replies cause.OutOfMemory q = inside.unremembered q.ran.leads g.store.disk (so_far q.ran.beats q.ran.form) (inl (q.ran.stands, refl))
 
   -- with one
   pub limit_broke : (seconds : ℕ) (why : RunFault) → WaitFailed (waiting R K W seconds) id s g d why → WaitBroke (way R K W (Some seconds)) id s g d (fault_on_copy why)
-  limit_broke seconds (fault.Host hosts.Disk) q = (q.1, q.2, inr (up_to_led (waiting R K W seconds) id s q.0 (at q.1 d q.2) q.3), inr (q.0, hosts.Disk, q.4))
-  limit_broke seconds (fault.Host hosts.OutOfMemory) q = (q.0, q.1, q.2, q.3, q.4, tt)
-  limit_broke seconds (fault.Host hosts.JournalFull) q = (q.0, q.1, q.2, q.3, q.4, tt)
-  limit_broke seconds (fault.Host hosts.Closed) q = (q.0, q.1, q.2, q.3, q.4, tt)
-  limit_broke seconds fault.OutOfMemory q = (q.0, q.1, inr q.2, q.3)
-  limit_broke seconds fault.Input q = q
-  limit_broke seconds fault.InputTooLong q = q
+  limit_broke seconds (fault.Host hosts.Disk) q = inside.unremembered q.1 q.2 (inr (up_to_led (waiting R K W seconds) id s q.0 (at q.1 d q.2) q.3)) (inr (q.0, hosts.Disk, q.4))
+  limit_broke seconds (fault.Host hosts.OutOfMemory) q = inside.stopped hosts.OutOfMemory q.0 q.1 q.2 q.3 q.4 (λ e. let no : hosts.OutOfMemory ≡ hosts.Disk = e in cc)
+  limit_broke seconds (fault.Host hosts.JournalFull) q = inside.stopped hosts.JournalFull q.0 q.1 q.2 q.3 q.4 (λ e. let no : hosts.JournalFull ≡ hosts.Disk = e in cc)
+  limit_broke seconds (fault.Host hosts.Closed) q = inside.stopped hosts.Closed q.0 q.1 q.2 q.3 q.4 (λ e. let no : hosts.Closed ≡ hosts.Disk = e in cc)
+  limit_broke seconds fault.OutOfMemory q = inside.unremembered q.0 q.1 (inr q.2) q.3
+  limit_broke seconds fault.Input q = inside.unwatched q.0 (seconds, refl, q.1) q.2
+  limit_broke seconds fault.InputTooLong q = inside.too_long q.0 (seconds, refl, q.1) q.2
   limit_broke seconds fault.Output q = absurd q
   limit_broke seconds (fault.Open why) q = absurd q
   limit_broke seconds fault.InUse q = absurd q

@@ -23,11 +23,12 @@ use Rattle.check_report.specs.Verdicts.{counts_of, total}
 use Rattle.evaluation.specs.declared.plan.Plan.{Plan}
 use Rattle.evaluation.specs.Evaluation.{not_begun}
 use Rattle.evaluation.specs.Silently.{BrokeSilently, EvaluatedSilently, SilentlyBroke, between, no_memory, of_host, silent_setting, too_long, unwatched}
-use Rattle.sheet_check.specs.Check.{IsCopy}
+use Rattle.live.specs.Records as records
+use Rattle.sheet_check.specs.Check.{IsCopy, Passage, passage}
 use Rattle.sheet_check.specs.Evaluated.{fault_on_copy, reason_shown_in}
 use Rattle.sheet_check.specs.Together as together
-use Rattle.sheet_check.specs.Together.{EvaluatedTogether, FieldCompared, FieldsCompared, Passage, SideBySide, TellsTogether, TogetherChecked, TogetherTells, came_by, checked_ids, checking, checking_plan, cleared, passage}
-use Rattle.sheet_check.specs.inside.Checking.{Untold, counted_on}
+use Rattle.sheet_check.specs.Together.{EvaluatedTogether, FieldCompared, FieldsCompared, SideBySide, TellsTogether, TogetherChecked, came_by, checked_ids, checking, checking_plan, cleared}
+use Rattle.sheet_check.specs.inside.Checking.{Untold, counted_on, unremembered, unwritten}
 use Rattle.sheet_check.specs.inside.Comparing.{BrokeTogether, CameTogether, Comparing, EndedTogether, FailedTogether, FieldReported, FieldsReported, LeavesReport, ReportBroke, ReportedTogether}
 use Rattle.sheet_check.proofs.Counting.{cases-more, front-more}
 
@@ -78,13 +79,8 @@ module _ (m : Comparing) (all left : List Field) (field : Field) (others : List 
   }
 
   leaves : (why : RunFault) → Untold b e why → LeavesReport m.format so.cases a e why
-  leaves fault.OutOfMemory p = inl (refl, subst (Appends a e) (append-nil (report_front m.format so.cases)) (Appends-trans a b e (report_front m.format so.cases) [] so.wrote p))
-  leaves fault.Output p = inr refl
-  leaves (fault.Host why) p = absurd p
-  leaves fault.Input p = absurd p
-  leaves fault.InputTooLong p = absurd p
-  leaves (fault.Open why) p = absurd p
-  leaves fault.InUse p = absurd p
+  leaves why (unremembered is p) = inl (is, subst (Appends a e) (append-nil (report_front m.format so.cases)) (Appends-trans a b e (report_front m.format so.cases) [] so.wrote p))
+  leaves why (unwritten is) = inr is
 
   pub report_broke : (why : RunFault) → Untold b e why → ReportBroke m all a e why
   report_broke why p = record { gone = so.gone; left = left; split = so.split; cases = so.cases; compared = so.ran; wrote = leaves why p }
@@ -126,7 +122,7 @@ module _ {C : Type 0} (o : SideBySide C) (sheet : Contents) (w : World) (h g : H
     stops = stops.0 came.0 came.2;
   }
 
-  pub together_ended : (counts : Counts) → ReportedTogether o sheet.fields (at w c h.store.disk) g m a b counts → EndedTogether o sheet (passage c d a b) counts
+  pub together_ended : (counts : Counts) → ReportedTogether o sheet.fields (at w c h.store.disk) (records.left g m a b) counts → EndedTogether o sheet (passage c d a b) counts
   together_ended counts q = let came = q.1.0 in let told = q.1.1 in (came.0, q.0, evaluated q.0 came, (told.0, told.1, told.2, told.3))
 
   stopped : (t : At C) (why : RunFault) → t.children ≡ m → SilentlyBroke (checking o sheet.fields w) (at w c h.store.disk) t g why → Stops o.way.after (running t.world) t.children d
@@ -142,7 +138,7 @@ module _ {C : Type 0} (o : SideBySide C) (sheet : Contents) (w : World) (h g : H
   reported-broke late came why F cases gone left split compared (inr p) =
       together.unwritten cases p (record { leads = came.0; late = late; evaluated = evaluated late came; gone = gone; left = left; split = split; compared = compared })
 
-  pub together_failed : (why : RunFault) → FailedTogether o sheet.fields (at w c h.store.disk) g m a b why → TellsTogether o sheet (passage c d a b) ⊥ why
+  pub together_failed : (why : RunFault) → FailedTogether o sheet.fields (at w c h.store.disk) (records.left g m a b) why → TellsTogether o sheet (passage c d a b) ⊥ why
   together_failed why (inl q) =
       let broke = q.0.2 in
       together.broke

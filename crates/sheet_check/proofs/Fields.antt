@@ -10,73 +10,73 @@ use Rattle.child_edge.specs.Faithful.{At, at, Beat, Served}
 use Rattle.sheet_programs.specs.Lines.{beats_text, whole}
 use Rattle.offline_programs.specs.declared.fault.RunFault.{RunFault}
 use Rattle.offline_programs.specs.declared.fault.RunFault.TheVariants as fault
-use Rattle.check_report.specs.declared.chosen.Chosen.{Chosen}
-use Rattle.check_report.specs.declared.report.Format.{Format}
 use Rattle.check_report.specs.declared.verdict.Counts.{Counts}
 use Rattle.check_report.specs.declared.verdict.Verdict.{Verdict}
 use Rattle.check_report.specs.Chosen.{shown_by}
 use Rattle.check_report.specs.Reports.{Case, case, case_text, cases_text, opening_text, report_front, verdicts_of}
 use Rattle.check_report.specs.Verdicts.{counts_of, total}
-use Rattle.sheet_check.specs.Evaluated.{Evaluated, FieldChecked, FieldsChecked, WaitedBy, Way, eval_of, passed, checked, reason_shown_in}
+use Rattle.live.specs.Records as records
+use Rattle.sheet_check.specs.Evaluated.{Evaluated, FieldChecked, FieldsChecked, OneByOne, WaitedBy, checked, eval_of, passed, reason_shown_in}
 use Rattle.sheet_check.specs.Check.{FirstLed, FirstShows, WaitLedBy, asking, in_eval, in_wait, still, waiting}
-use Rattle.sheet_check.specs.inside.Checking.{AskFailed, EvaluationBroke, FieldFailed, FieldWrote, FieldsFailed, FieldsWrote, FirstFailed, LeavesText, ShownWrote, Untold, WaitBroke, counted_on}
+use Rattle.sheet_check.specs.inside.Checking.{AskFailed, EvaluationBroke, FieldFailed, FieldWrote, FieldsFailed, FieldsWrote, FirstFailed, LeavesText, ShownWrote, Untold, WaitBroke, counted_on, question}
+use Rattle.sheet_check.specs.inside.Checking as inside
 use Rattle.sheet_check.proofs.Counting.{cases-more, front-more}
 
 -- A field.
 
-pub field_passed : {C : Type 0} (o : Way C) (chosen : Chosen) (F : Format) (field : Field) (w : World) (h : HostView) (c : C) (a : Option (List ℕ)) (counts : Counts) → shown_by chosen field ≡ None → IsHost h w
-    → FieldWrote o chosen F field (at w c h.store.disk) h c a a counts counts
-field_passed o chosen F field w h c a counts none stands = ([], w, passed none, stands, refl, Appends-nil a)
+pub field_passed : {C : Type 0} (o : OneByOne C) (field : Field) (w : World) (h : HostView) (c : C) (a : Option (List ℕ)) (counts : Counts) → shown_by o.chosen field ≡ None → IsHost h w
+    → FieldWrote o field (at w c h.store.disk) (records.left h c a a) counts counts
+field_passed o field w h c a counts none stands = ([], w, passed none, stands, refl, Appends-nil a)
 
-pub field_checked : {C : Type 0} (o : Way C) (chosen : Chosen) (F : Format) (number : ℕ) (field : Field) (shown : Answer) (s : At C) (h : HostView) (c : C) (a b : Option (List ℕ)) (counts after : Counts)
-    (verdict : Verdict) → shown_by chosen field ≡ Some shown → ShownWrote o chosen F number field shown s h c a b verdict → number ≡ total counts + 1 → after ≡ counted_on (verdict ∷ []) counts
-    → FieldWrote o chosen F field s h c a b counts after
-field_checked o chosen F number field shown s h c a b counts after verdict some p place is =
+pub field_checked : {C : Type 0} (o : OneByOne C) (number : ℕ) (field : Field) (shown : Answer) (s : At C) (h : HostView) (c : C) (a b : Option (List ℕ)) (counts after : Counts)
+    (verdict : Verdict) → shown_by o.chosen field ≡ Some shown → ShownWrote o (question number field shown) s (records.left h c a b) verdict → number ≡ total counts + 1 → after ≡ counted_on (verdict ∷ []) counts
+    → FieldWrote o field s (records.left h c a b) counts after
+field_checked o number field shown s h c a b counts after verdict some p place is =
     let one = case field p.0 (reason_shown_in p.1 field.id) verdict in
-    let wrote : Appends a b (case_text F number one ++ []) = subst (Appends a b) (sym (append-nil (case_text F number one))) p.5 in (
+    let wrote : Appends a b (case_text o.format number one ++ []) = subst (Appends a b) (sym (append-nil (case_text o.format number one))) p.5 in (
       one ∷ [],
       p.1,
       checked shown p.0 verdict (at p.1 c h.store.disk) some p.2 p.4,
       p.3,
       is,
-      subst (λ n. Appends a b (cases_text F n (one ∷ []))) place wrote,
+      subst (λ n. Appends a b (cases_text o.format n (one ∷ []))) place wrote,
     )
 
 -- Fields.
 
-pub fields-more : {C : Type 0} (o : Way C) (chosen : Chosen) (gone : List Field) (field : Field) (s : At C) (cases : List Case) (mid : At C) (more : List Case) (t : At C)
-    → FieldsChecked o chosen gone s cases mid → FieldChecked o chosen field mid more t → FieldsChecked o chosen (gone ++ field ∷ []) s (cases ++ more) t
-fields-more o chosen [] field s cases mid more t h p = (
+pub fields-more : {C : Type 0} (o : OneByOne C) (gone : List Field) (field : Field) (s : At C) (cases : List Case) (mid : At C) (more : List Case) (t : At C)
+    → FieldsChecked o.way o.chosen gone s cases mid → FieldChecked o.way o.chosen field mid more t → FieldsChecked o.way o.chosen (gone ++ field ∷ []) s (cases ++ more) t
+fields-more o [] field s cases mid more t h p = (
   t,
   more,
   [],
-  subst (λ m. FieldChecked o chosen field m more t) h.1 p,
+  subst (λ m. FieldChecked o.way o.chosen field m more t) h.1 p,
   (refl, refl),
   ap (λ x. x ++ more) h.0 ∙ sym (append-nil more),
 )
-fields-more o chosen (x ∷ xs) field s cases mid more t h p = (
+fields-more o (x ∷ xs) field s cases mid more t h p = (
   h.0,
   h.1,
   h.2 ++ more,
   h.3,
-  fields-more o chosen xs field h.0 h.2 mid more t h.4 p,
+  fields-more o xs field h.0 h.2 mid more t h.4 p,
   ap (λ y. y ++ more) h.5 ∙ append_assoc h.1 h.2 more,
 )
 
 -- The first fields were checked, and these are left.
-pub record FieldsSoFar {C : Type 0} (o : Way C) (chosen : Chosen) (F : Format) (all left : List Field) (s : At C) (h : HostView) (c : C) (a b : Option (List ℕ)) (counts : Counts) : Type 0 where
+pub record FieldsSoFar {C : Type 0} (o : OneByOne C) (all left : List Field) (s : At C) (h : HostView) (c : C) (a b : Option (List ℕ)) (counts : Counts) : Type 0 where
   pub gone : List Field
   pub cases : List Case
   pub leads : World
   pub split : all ≡ gone ++ left
-  pub ran : FieldsChecked o chosen gone s cases (at leads c h.store.disk)
+  pub ran : FieldsChecked o.way o.chosen gone s cases (at leads c h.store.disk)
   pub stands : IsHost h leads
   pub counted : counts ≡ counts_of (verdicts_of cases)
-  pub wrote : Appends a b (report_front F cases)
+  pub wrote : Appends a b (report_front o.format cases)
 
-pub none_checked : {C : Type 0} (o : Way C) (chosen : Chosen) (F : Format) (all left : List Field) (w : World) (h : HostView) (c : C) (a b : Option (List ℕ)) (counts : Counts) → left ≡ all → counts ≡ counts_of [] → IsHost h w
-    → Appends a b (opening_text F) → FieldsSoFar o chosen F all left (at w c h.store.disk) h c a b counts
-none_checked o chosen F all left w h c a b counts e is stands opened = record {
+pub none_checked : {C : Type 0} (o : OneByOne C) (all left : List Field) (w : World) (h : HostView) (c : C) (a b : Option (List ℕ)) (counts : Counts) → left ≡ all → counts ≡ counts_of [] → IsHost h w
+    → Appends a b (opening_text o.format) → FieldsSoFar o all left (at w c h.store.disk) h c a b counts
+none_checked o all left w h c a b counts e is stands opened = record {
   gone = [];
   cases = [];
   leads = w;
@@ -84,14 +84,14 @@ none_checked o chosen F all left w h c a b counts e is stands opened = record {
   ran = (refl, refl);
   stands = stands;
   counted = is;
-  wrote = subst (Appends a b) (sym (append-nil (opening_text F))) opened;
+  wrote = subst (Appends a b) (sym (append-nil (opening_text o.format))) opened;
 }
 
 -- what stands first couldn't be written
-pub unopened_failed : {C : Type 0} (o : Way C) (chosen : Chosen) (F : Format) (all : List Field) (w : World) (h : HostView) (c : C) (a b : Option (List ℕ)) (why : RunFault) → IsHost h w → why ≡ fault.Output
-    → FieldsFailed o chosen F all (at w c h.store.disk) h c a b why
-unopened_failed o chosen F all w h c a b why stands is =
-    subst (FieldsFailed o chosen F all (at w c h.store.disk) h c a b) (sym is)
+pub unopened_failed : {C : Type 0} (o : OneByOne C) (all : List Field) (w : World) (h : HostView) (c : C) (a b : Option (List ℕ)) (why : RunFault) → IsHost h w → why ≡ fault.Output
+    → FieldsFailed o all (at w c h.store.disk) (records.left h c a b) why
+unopened_failed o all w h c a b why stands is =
+    subst (FieldsFailed o all (at w c h.store.disk) (records.left h c a b)) (sym is)
     (record {
       gone = [];
       left = all;
@@ -99,34 +99,29 @@ unopened_failed o chosen F all w h c a b why stands is =
       cases = [];
       mid = at w c h.store.disk;
       checked = (refl, refl);
-      failed = (w, h.store.disk, still refl, inl (stands, refl));
-      wrote = tt;
+      failed = inside.unwritten w h.store.disk (still refl) (inl (stands, refl));
+      wrote = inl refl;
     })
 
-module _ {C : Type 0} (o : Way C) (chosen : Chosen) (F : Format) (all left : List Field) (field : Field) (others : List Field) (s : At C) (h : HostView) (c : C) (a b : Option (List ℕ)) (counts : Counts) (g : HostView) (d : C)
-    (e : Option (List ℕ)) (is : left ≡ field ∷ others) (so : FieldsSoFar o chosen F all left s h c a b counts) where
-  pub one_checked : (after : Counts) → FieldWrote o chosen F field (at so.leads c h.store.disk) g d b e counts after → FieldsSoFar o chosen F all others s g d a e after
+module _ {C : Type 0} (o : OneByOne C) (all left : List Field) (field : Field) (others : List Field) (s : At C) (h : HostView) (c : C) (a b : Option (List ℕ)) (counts : Counts) (g : HostView) (d : C)
+    (e : Option (List ℕ)) (is : left ≡ field ∷ others) (so : FieldsSoFar o all left s h c a b counts) where
+  pub one_checked : (after : Counts) → FieldWrote o field (at so.leads c h.store.disk) (records.left g d b e) counts after → FieldsSoFar o all others s g d a e after
   one_checked after p = record {
     gone = so.gone ++ field ∷ [];
     cases = so.cases ++ p.0;
     leads = p.1;
     split = so.split ∙ ap (λ x. so.gone ++ x) is ∙ sym (append_assoc so.gone (field ∷ []) others);
-    ran = fields-more o chosen so.gone field s so.cases (at so.leads c h.store.disk) p.0 (at p.1 d g.store.disk) so.ran p.2;
+    ran = fields-more o so.gone field s so.cases (at so.leads c h.store.disk) p.0 (at p.1 d g.store.disk) so.ran p.2;
     stands = p.3;
     counted = p.4 ∙ ap (λ x. counted_on (verdicts_of p.0) x) so.counted ∙ sym (cases-more so.cases p.0);
-    wrote = subst (Appends a e) (sym (front-more F so.cases p.0 counts so.counted)) (Appends-trans a b e (report_front F so.cases) (cases_text F (total counts + 1) p.0) so.wrote p.5);
+    wrote = subst (Appends a e) (sym (front-more o.format so.cases p.0 counts so.counted)) (Appends-trans a b e (report_front o.format so.cases) (cases_text o.format (total counts + 1) p.0) so.wrote p.5);
   }
 
-  pub leaves-on : (why : RunFault) → LeavesText b e [] why → LeavesText a e (report_front F so.cases) why
-  leaves-on (fault.Host why) p = subst (Appends a e) (append-nil (report_front F so.cases)) (Appends-trans a b e (report_front F so.cases) [] so.wrote p)
-  leaves-on fault.OutOfMemory p = subst (Appends a e) (append-nil (report_front F so.cases)) (Appends-trans a b e (report_front F so.cases) [] so.wrote p)
-  leaves-on fault.Output p = tt
-  leaves-on fault.Input p = subst (Appends a e) (append-nil (report_front F so.cases)) (Appends-trans a b e (report_front F so.cases) [] so.wrote p)
-  leaves-on fault.InputTooLong p = subst (Appends a e) (append-nil (report_front F so.cases)) (Appends-trans a b e (report_front F so.cases) [] so.wrote p)
-  leaves-on (fault.Open why) p = absurd p
-  leaves-on fault.InUse p = absurd p
+  pub leaves-on : (why : RunFault) → LeavesText b e [] why → LeavesText a e (report_front o.format so.cases) why
+  leaves-on why (inl is) = inl is
+  leaves-on why (inr p) = inr (subst (Appends a e) (append-nil (report_front o.format so.cases)) (Appends-trans a b e (report_front o.format so.cases) [] so.wrote p))
 
-  pub fields_failed : (why : RunFault) → FieldFailed o chosen field (at so.leads c h.store.disk) g d b e why → FieldsFailed o chosen F all s g d a e why
+  pub fields_failed : (why : RunFault) → FieldFailed o field (at so.leads c h.store.disk) (records.left g d b e) why → FieldsFailed o all s (records.left g d a e) why
   fields_failed why p = record {
     gone = so.gone;
     left = left;
@@ -134,74 +129,50 @@ module _ {C : Type 0} (o : Way C) (chosen : Chosen) (F : Format) (all left : Lis
     cases = so.cases;
     mid = at so.leads c h.store.disk;
     checked = so.ran;
-    failed = subst (λ x. FirstFailed o chosen x (at so.leads c h.store.disk) g d why) (sym is) (p.0 others);
+    failed = subst (λ x. FirstFailed o x (at so.leads c h.store.disk) g d why) (sym is) (p.0 others);
     wrote = leaves-on why p.1;
   }
 
-pub all_checked : {C : Type 0} (o : Way C) (chosen : Chosen) (F : Format) (all left : List Field) (s : At C) (h : HostView) (c : C) (a b : Option (List ℕ)) (counts : Counts) → left ≡ []
-    → FieldsSoFar o chosen F all left s h c a b counts → FieldsWrote o chosen F all s h c a b counts
-all_checked o chosen F all left s h c a b counts e so =
+pub all_checked : {C : Type 0} (o : OneByOne C) (all left : List Field) (s : At C) (h : HostView) (c : C) (a b : Option (List ℕ)) (counts : Counts) → left ≡ []
+    → FieldsSoFar o all left s h c a b counts → FieldsWrote o all s (records.left h c a b) counts
+all_checked o all left s h c a b counts e so =
     let same : so.gone ≡ all = sym (so.split ∙ ap (λ x. so.gone ++ x) e ∙ append-nil so.gone) in
-    (so.cases, so.leads, subst (λ fs. FieldsChecked o chosen fs s so.cases (at so.leads c h.store.disk)) same so.ran, so.stands, so.counted, so.wrote)
+    (so.cases, so.leads, subst (λ fs. FieldsChecked o.way o.chosen fs s so.cases (at so.leads c h.store.disk)) same so.ran, so.stands, so.counted, so.wrote)
 
 -- Where a field's evaluation broke off, or couldn't be reported.
 
-module _ {C : Type 0} (o : Way C) (chosen : Chosen) (field : Field) (shown : Answer) (shows : shown_by chosen field ≡ Some shown) (s : At C) (h : HostView) (c : C) where
-  first : (others : List Field) → FirstShows chosen (field ∷ others) field
+module _ {C : Type 0} (o : OneByOne C) (field : Field) (shown : Answer) (shows : shown_by o.chosen field ≡ Some shown) (s : At C) (h : HostView) (c : C) where
+  first : (others : List Field) → FirstShows o.chosen (field ∷ others) field
   first others = record { others = others; is = refl; shown = shown; shows = shows }
 
-  ask-first : (others : List Field) (why : RunFault) → AskFailed o.after field.id s h c why → FirstFailed o chosen (field ∷ others) s h c why
-  ask-first others (fault.Host f) p = (p.1, p.2, p.3, in_eval field p.0 (first others) p.4, p.5, p.6)
-  ask-first others fault.OutOfMemory p = (p.0, p.1, asking field (first others) p.2, p.3)
-  ask-first others fault.Output p = absurd p
-  ask-first others fault.Input p = absurd p
-  ask-first others fault.InputTooLong p = absurd p
-  ask-first others (fault.Open why) p = absurd p
-  ask-first others fault.InUse p = absurd p
+  ask-first : (others : List Field) (why : RunFault) → AskFailed o.way.after field.id s h c why → FirstFailed o (field ∷ others) s h c why
+  ask-first others why (inside.stopped f beats e t d up broke other) = inside.stopped f e t d (in_eval field beats (first others) up) broke other
+  ask-first others why (inside.unremembered t d led stands) = inside.unremembered t d (asking field (first others) led) stands
 
-  wait-first : (beats : List Beat) (mid : At C) → Served o.after s (eval_of field.id) beats mid → (others : List Field) (why : RunFault) → WaitBroke o field.id mid h c why → FirstFailed o chosen (field ∷ others) s h c why
-  wait-first beats mid served others (fault.Host f) p = (p.0, p.1, p.2, in_wait field beats mid (first others) served p.3, p.4, p.5)
-  wait-first beats mid served others fault.OutOfMemory p = (p.0, p.1, waiting field beats mid (first others) served p.2, p.3)
-  wait-first beats mid served others fault.Input p = (p.0, (field, beats, mid, first others, served, p.1), p.2)
-  wait-first beats mid served others fault.InputTooLong p = (p.0, (field, beats, mid, first others, served, p.1), p.2)
-  wait-first beats mid served others fault.Output p = absurd p
-  wait-first beats mid served others (fault.Open why) p = absurd p
-  wait-first beats mid served others fault.InUse p = absurd p
+  wait-first : (beats : List Beat) (mid : At C) → Served o.way.after s (eval_of field.id) beats mid → (others : List Field) (why : RunFault) → WaitBroke o.way field.id mid h c why → FirstFailed o (field ∷ others) s h c why
+  wait-first beats mid served others why (inside.stopped f e t d up broke other) = inside.stopped f e t d (in_wait field beats mid (first others) served up) broke other
+  wait-first beats mid served others why (inside.unremembered t d led stands) = inside.unremembered t d (waiting field beats mid (first others) served led) stands
+  wait-first beats mid served others why (inside.unwatched t left stands) = inside.unwatched t (field, beats, mid, first others, served, left) stands
+  wait-first beats mid served others why (inside.too_long t left stands) = inside.too_long t (field, beats, mid, first others, served, left) stands
 
-  broke-first : (others : List Field) (why : RunFault) → EvaluationBroke o field.id s h c why → FirstFailed o chosen (field ∷ others) s h c why
+  broke-first : (others : List Field) (why : RunFault) → EvaluationBroke o.way field.id s h c why → FirstFailed o (field ∷ others) s h c why
   broke-first others why (inl p) = ask-first others why p
   broke-first others why (inr p) = wait-first p.0 p.1 p.2 others why p.3
 
-  nothing-written : (a : Option (List ℕ)) (why : RunFault) → EvaluationBroke o field.id s h c why → LeavesText a a [] why
-  nothing-written a (fault.Host f) p = Appends-nil a
-  nothing-written a fault.OutOfMemory p = Appends-nil a
-  nothing-written a fault.Input p = Appends-nil a
-  nothing-written a fault.InputTooLong p = Appends-nil a
-  nothing-written a fault.Output p = tt
-  nothing-written a (fault.Open why) (inl p) = absurd p
-  nothing-written a (fault.Open why) (inr p) = absurd p.3
-  nothing-written a fault.InUse (inl p) = absurd p
-  nothing-written a fault.InUse (inr p) = absurd p.3
+  pub evaluation_failed : (a : Option (List ℕ)) (why : RunFault) → EvaluationBroke o.way field.id s h c why → FieldFailed o field s (records.left h c a a) why
+  evaluation_failed a why p = ((λ others. broke-first others why p), inr (Appends-nil a))
 
-  pub evaluation_failed : (a : Option (List ℕ)) (why : RunFault) → EvaluationBroke o field.id s h c why → FieldFailed o chosen field s h c a a why
-  evaluation_failed a why p = ((λ others. broke-first others why p), nothing-written a why p)
-
-  waited-led : (limit : Option ℕ) (mid : At C) (in_time : Bool) (t : At C) → WaitedBy limit o field.id mid in_time t → WaitLedBy limit o field.id mid t
+  waited-led : (limit : Option ℕ) (mid : At C) (in_time : Bool) (t : At C) → WaitedBy limit o.way field.id mid in_time t → WaitLedBy limit o.way field.id mid t
   waited-led None mid in_time t p = whole 0 p.0 (beats_text p.0) (p.1, refl)
   waited-led (Some seconds) mid in_time t p = inl (in_time, p)
 
   -- the field was evaluated, and what came of it couldn't be reported
-  pub tell_failed : (came : Option Answer) (t : World) → Evaluated o field.id s came (at t c h.store.disk) → IsHost h t → (a b : Option (List ℕ)) (why : RunFault) → Untold a b why → FieldFailed o chosen field s h c a b why
-  tell_failed came t e stands a b why p = go why p
+  pub tell_failed : (came : Option Answer) (t : World) → Evaluated o.way field.id s came (at t c h.store.disk) → IsHost h t → (a b : Option (List ℕ)) (why : RunFault) → Untold a b why → FieldFailed o field s (records.left h c a b) why
+  tell_failed came t e stands a b why p = go p
     where
-      led : (others : List Field) → FirstLed o chosen (field ∷ others) s (at t c h.store.disk)
-      led others = waiting field e.first e.asked (first others) e.served (waited-led o.limit e.asked e.in_time (at t c h.store.disk) e.waited)
+      led : (others : List Field) → FirstLed o.way o.chosen (field ∷ others) s (at t c h.store.disk)
+      led others = waiting field e.first e.asked (first others) e.served (waited-led o.way.limit e.asked e.in_time (at t c h.store.disk) e.waited)
 
-      go : (x : RunFault) → Untold a b x → FieldFailed o chosen field s h c a b x
-      go fault.OutOfMemory q = ((λ others. (t, h.store.disk, led others, inl (stands, refl))), q)
-      go fault.Output q = ((λ others. (t, h.store.disk, led others, inl (stands, refl))), tt)
-      go (fault.Host f) q = absurd q
-      go fault.Input q = absurd q
-      go fault.InputTooLong q = absurd q
-      go (fault.Open x) q = absurd q
-      go fault.InUse q = absurd q
+      go : Untold a b why → FieldFailed o field s (records.left h c a b) why
+      go (inside.unremembered is wrote) = subst (FieldFailed o field s (records.left h c a b)) (sym is) ((λ others. inside.unremembered t h.store.disk (led others) (inl (stands, refl))), inr wrote)
+      go (inside.unwritten is) = subst (FieldFailed o field s (records.left h c a b)) (sym is) ((λ others. inside.unwritten t h.store.disk (led others) (inl (stands, refl))), inl refl)

@@ -14,7 +14,10 @@ use Rattle.recovery.specs.Sheets.{IsSheetImage, Makes, StoreView}
 use Rattle.acceptance.specs.Kept.{IsAmong, Stores}
 use Rattle.session_engine.specs.World.{World, sheet_in}
 use Rattle.session_engine.specs.Host.{HostView, IsHost}
-use Rattle.child_edge.specs.Faithful.{at}
+use Rattle.child_edge.specs.Faithful.{At, at}
+use Rattle.child_edge.specs.Seats.{running}
+use Rattle.child_edge.specs.Stops.{Stops}
+use Rattle.worksheet.specs.declared.field.Field.{Field}
 use Rattle.journal.specs.declared.opening.OpenCause.{OpenCause}
 use Rattle.host_events.specs.declared.outcome.HostFault.TheVariants as hosts
 use Rattle.offline_programs.specs.declared.fault.RunFault.{RunFault}
@@ -25,19 +28,22 @@ use Rattle.check_report.specs.declared.report.Format.TheVariants as format
 use Rattle.check_report.specs.declared.verdict.Counts.{Counts}
 use Rattle.check_report.specs.Reports.{Case, closing_text, report_front, verdicts_of}
 use Rattle.check_report.specs.Verdicts.{counts_of}
-use Rattle.sheet_check.specs.Accept.{AcceptLeft, FoundOn, SheetAccepts, accepted}
+use Rattle.live.specs.Records as records
+use Rattle.sheet_check.specs.Accept.{AcceptLeft, FoundOn, SheetAccepts, accepted, filing, to_accept}
 use Rattle.sheet_check.specs.Accept as ends
-use Rattle.sheet_check.specs.Check.{FirstLed, IsCopy, SheetLed, still}
+use Rattle.sheet_check.specs.Check.{FirstLed, FirstTooLong, FirstUnwatched, IsCopy, SheetLed, passage, still}
 use Rattle.sheet_check.specs.Evaluated.{Way}
-use Rattle.sheet_check.specs.inside.Accepting.{CopyTook, FieldsBroke, FieldsTook, FieldsUpTo, broken, early, full, unwritten}
-use Rattle.sheet_check.specs.inside.Checking.{FieldsFailed}
-use Rattle.sheet_check.proofs.Ends.{first-stopped}
+use Rattle.sheet_check.specs.inside.Accepting.{FieldsBroke, FieldsTook, FieldsUpTo, PutAll, broken, early, full, storing, unwritten}
+use Rattle.sheet_check.specs.inside.Checking.{FieldsEnded, FieldsFailed, FirstStopped}
+use Rattle.sheet_check.specs.inside.Checking as inside
+use Rattle.sheet_check.proofs.Ends.{first-stopped, text_left}
 
 module _ {C : Type 0} (o : Way C) (chosen : Chosen) (sheet : Contents) (w : World) (copy : DiskView) (h : HostView) (c mid d : C) (a b : Option (List ℕ)) (ops : List Op) (disk : DiskView) (store : StoreView) (stops : StopsIn o.after h mid d) where
-  pub took_ended : (counts : Counts) → FieldsTook o chosen sheet.fields (at w c copy) h mid a b (λ took. Stores ops took disk store) counts → CopyTook o chosen sheet w copy c d a b ops disk store counts
+  pub took_ended : (counts : Counts) → FieldsTook (to_accept o chosen) sheet.fields (at w c copy) (records.left h mid a b) (storing ops [] disk store) counts
+      → (ended : FieldsEnded (to_accept o chosen) sheet.fields w copy (passage c d a b) counts) × PutAll (storing ops [] disk store) (accepted ended.0)
   took_ended counts p = ((p.0.0, at p.0.1 mid h.store.disk, p.0.2, stops.0 p.0.1 p.0.3, p.0.4, p.0.5), p.1)
 
-  led-so : IsCopy sheet w copy → (cases : List Case) → FieldsUpTo o chosen sheet.fields (at w c copy) h mid cases → SheetLed o chosen sheet c d cases (FirstLed o chosen)
+  led-so : IsCopy sheet w copy → (cases : List Case) → FieldsUpTo (to_accept o chosen) sheet.fields (at w c copy) h mid cases → SheetLed (to_accept o chosen) sheet c d cases (FirstLed o chosen)
   led-so copied cases p = record {
     start = w;
     copy = copy;
@@ -52,49 +58,40 @@ module _ {C : Type 0} (o : Way C) (chosen : Chosen) (sheet : Contents) (w : Worl
     stops = stops.0 p.leads p.stands;
   }
 
-  early-left : IsCopy sheet w copy → (why : RunFault) → (p : FieldsFailed o chosen format.Accepting sheet.fields (at w c copy) h mid a b why) → (why ≡ fault.Output → ⊥) → Stores ops (accepted p.cases) disk store
-      → AcceptLeft o chosen sheet c d a b ops disk store.disk why
-  early-left copied (fault.Host f) p untold stores =
-      let q = first-stopped o chosen p.left p.mid h mid d stops (fault.Host f) p.failed in
-      ends.stopped p.cases f refl
-      (record {
-        start = w;
-        copy = copy;
-        copied = copied;
-        gone = p.gone;
-        left = p.left;
-        split = p.split;
-        mid = p.mid;
-        checked = p.checked;
-        failed = q.0;
-        leads = q.1;
-        led = q.3;
-        host = q.2;
-        stopped = q.4;
-        not_of_disk = q.5;
-        stops = q.6;
-      })
-      p.wrote stores.disk
-  early-left copied fault.OutOfMemory p untold stores =
-      let q = first-stopped o chosen p.left p.mid h mid d stops fault.OutOfMemory p.failed in
-      ends.unremembered p.cases refl
-      (record { start = w; copy = copy; copied = copied; gone = p.gone; left = p.left; split = p.split; mid = p.mid; checked = p.checked; leads = q.0; led = q.1; stops = q.2 })
-      p.wrote stores.disk
-  early-left copied fault.Output p untold stores = absurd (untold refl)
-  early-left copied fault.Input p untold stores =
-      let q = first-stopped o chosen p.left p.mid h mid d stops fault.Input p.failed in
-      ends.unwatched p.cases refl
-      (record { start = w; copy = copy; copied = copied; gone = p.gone; left = p.left; split = p.split; mid = p.mid; checked = p.checked; leads = q.0; led = q.1; stops = q.2 })
-      p.wrote stores.disk
-  early-left copied fault.InputTooLong p untold stores =
-      let q = first-stopped o chosen p.left p.mid h mid d stops fault.InputTooLong p.failed in
-      ends.too_long p.cases refl
-      (record { start = w; copy = copy; copied = copied; gone = p.gone; left = p.left; split = p.split; mid = p.mid; checked = p.checked; leads = q.0; led = q.1; stops = q.2 })
-      p.wrote stores.disk
-  early-left copied (fault.Open x) p untold stores = absurd p.wrote
-  early-left copied fault.InUse p untold stores = absurd p.wrote
+  early-left : IsCopy sheet w copy → (why : RunFault) → (p : FieldsFailed (to_accept o chosen) sheet.fields (at w c copy) (records.left h mid a b) why) → (why ≡ fault.Output → ⊥) → Stores ops (accepted p.cases) disk store
+      → AcceptLeft (to_accept o chosen) sheet (passage c d a b) (filing ops disk store.disk) why
+  early-left copied why p untold stores = left-by why (first-stopped (to_accept o chosen) p.left p.mid h mid d stops why p.failed) (text_left a b (report_front format.Accepting p.cases) why p.wrote untold) untold
+    where
+      led-to : (Led : List Field → At C → At C → Type 0) (t : At C) → Led p.left p.mid t → Stops o.after (running t.world) t.children d → SheetLed (to_accept o chosen) sheet c d p.cases Led
+      led-to Led t so stopped =
+          record { start = w; copy = copy; copied = copied; gone = p.gone; left = p.left; split = p.split; mid = p.mid; checked = p.checked; leads = t; led = so; stops = stopped }
 
-  pub broke_left : IsCopy sheet w copy → (why : RunFault) → FieldsBroke o chosen sheet.fields (at w c copy) h mid a b ops disk store why → AcceptLeft o chosen sheet c d a b ops disk store.disk why
+      left-by : (x : RunFault) → FirstStopped (to_accept o chosen) p.left p.mid d x → Appends a b (report_front format.Accepting p.cases) → (x ≡ fault.Output → ⊥) → AcceptLeft (to_accept o chosen) sheet (passage c d a b) (filing ops disk store.disk) x
+      left-by x (inside.stopped f e t k up broke other stopped) wrote told = ends.stopped p.cases f refl
+          (record {
+            start = w;
+            copy = copy;
+            copied = copied;
+            gone = p.gone;
+            left = p.left;
+            split = p.split;
+            mid = p.mid;
+            checked = p.checked;
+            failed = e;
+            leads = t;
+            led = up;
+            host = k;
+            stopped = broke;
+            not_of_disk = other;
+            stops = stopped;
+          })
+          wrote stores.disk
+      left-by x (inside.unremembered t so stopped) wrote told = ends.unremembered p.cases refl (led-to (FirstLed o chosen) t so stopped) wrote stores.disk
+      left-by x (inside.unwritten t so stopped) wrote told = absurd (told refl)
+      left-by x (inside.unwatched t so stopped) wrote told = ends.unwatched p.cases refl (led-to (FirstUnwatched o chosen) t so stopped) wrote stores.disk
+      left-by x (inside.too_long t so stopped) wrote told = ends.too_long p.cases refl (led-to (FirstTooLong o chosen) t so stopped) wrote stores.disk
+
+  pub broke_left : IsCopy sheet w copy → (why : RunFault) → FieldsBroke (to_accept o chosen) sheet.fields (at w c copy) (records.left h mid a b) (storing ops [] disk store) why → AcceptLeft (to_accept o chosen) sheet (passage c d a b) (filing ops disk store.disk) why
   broke_left copied why (early failed untold stores) = early-left copied why failed untold stores
   broke_left copied why (full cases last one is checked taken wrote stores place) = ends.full cases last one is (led-so copied (cases ++ last ∷ []) checked) taken wrote stores.disk place
   broke_left copied why (broken cases last one is checked taken wrote holds) = ends.broken cases last one is (led-so copied (cases ++ last ∷ []) checked) taken wrote holds
@@ -102,8 +99,8 @@ module _ {C : Type 0} (o : Way C) (chosen : Chosen) (sheet : Contents) (w : Worl
 
 -- The counts are reported, or not.
 module _ {C : Type 0} (o : Way C) (chosen : Chosen) (sheet : Contents) (w : World) (copy : DiskView) (copied : IsCopy sheet w copy) (c d : C) (a b e : Option (List ℕ)) (ops : List Op) (disk : DiskView) (store : StoreView) (nothing : Type 0) (counts : Counts)
-    (p : CopyTook o chosen sheet w copy c d a b ops disk store counts) where
-  pub counts_told : Appends b e (closing_text format.Accepting counts) → SheetAccepts o chosen sheet c d a e nothing ops disk store.disk (Ok counts)
+    (p : (ended : FieldsEnded (to_accept o chosen) sheet.fields w copy (passage c d a b) counts) × PutAll (storing ops [] disk store) (accepted ended.0)) where
+  pub counts_told : Appends b e (closing_text format.Accepting counts) → SheetAccepts (to_accept o chosen) sheet (passage c d a e) nothing (filing ops disk store.disk) (Ok counts)
   counts_told told = (
     record {
       start = w;
@@ -119,7 +116,7 @@ module _ {C : Type 0} (o : Way C) (chosen : Chosen) (sheet : Contents) (w : Worl
     p.1.disk,
   )
 
-  pub counts_kept_back : (why : RunFault) → why ≡ fault.Output → AcceptLeft o chosen sheet c d a e ops disk store.disk why
+  pub counts_kept_back : (why : RunFault) → why ≡ fault.Output → AcceptLeft (to_accept o chosen) sheet (passage c d a e) (filing ops disk store.disk) why
   counts_kept_back why is = ends.unwritten p.0.0 is
       (record {
         start = w;
@@ -167,7 +164,7 @@ module _ (disk : DiskView) (store : StoreView) (ops : List Op) (makes : Makes op
 
 -- A worksheet that was opened isn't reported as one that wasn't.
 module _ {C : Type 0} (o : Way C) (chosen : Chosen) (sheet : Contents) (c d : C) (a b : Option (List ℕ)) (ops : List Op) (now back : DiskView) (x : OpenCause) where
-  left_opened : (why : RunFault) → why ≡ fault.Open x → AcceptLeft o chosen sheet c d a b ops now back why → ⊥
+  left_opened : (why : RunFault) → why ≡ fault.Open x → AcceptLeft (to_accept o chosen) sheet (passage c d a b) (filing ops now back) why → ⊥
   left_opened why e (ends.stopped cases f is led wrote holds) = let no : fault.Host f ≡ fault.Open x = sym is ∙ e in cc
   left_opened why e (ends.unremembered cases is led wrote holds) = let no : fault.OutOfMemory ≡ fault.Open x = sym is ∙ e in cc
   left_opened why e (ends.unwatched cases is led wrote holds) = let no : fault.Input ≡ fault.Open x = sym is ∙ e in cc
@@ -176,6 +173,6 @@ module _ {C : Type 0} (o : Way C) (chosen : Chosen) (sheet : Contents) (c d : C)
   left_opened why e (ends.broken cases last one is led taken wrote holds) = let no : fault.Host hosts.Disk ≡ fault.Open x = sym is ∙ e in cc
   left_opened why e (ends.unwritten cases is led holds) = let no : fault.Output ≡ fault.Open x = sym is ∙ e in cc
 
-  pub was_opened : (nothing : Type 0) → SheetAccepts o chosen sheet c d a b nothing ops now back (Err (fault.Open x)) → ⊥
+  pub was_opened : (nothing : Type 0) → SheetAccepts (to_accept o chosen) sheet (passage c d a b) nothing (filing ops now back) (Err (fault.Open x)) → ⊥
   was_opened nothing (inl p) = let no : fault.Open x ≡ fault.OutOfMemory = p.0 in cc
   was_opened nothing (inr left) = left_opened (fault.Open x) refl left

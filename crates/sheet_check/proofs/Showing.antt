@@ -7,20 +7,20 @@ use Rattle.check_report.specs.declared.verdict.Counts.{Counts}
 use Rattle.sheet_check.specs.declared.progress.Sight.{Sight}
 use Rattle.sheet_check.specs.declared.progress.Sight.TheVariants as sight
 use Rattle.check_report.specs.Verdicts.{counts_of}
-use Rattle.sheet_check.specs.Progress.{FieldsLeft, FieldsShow, LeavesLine, SheetShows, TakesLine, more, none}
+use Rattle.sheet_check.specs.Progress.{FieldsLeft, FieldsShow, LeavesLine, SheetShows, TakesLine, display, more, none}
 use Rattle.sheet_check.specs.inside.Checking.{FieldShown}
 
 module _ {P : Type 0} (F : Format) (S : P → Sight → P → Type 0) (all : ℕ) (p : P) where
-  pub none_shown : (counts : Counts) → counts ≡ counts_of [] → FieldsShow F S all p counts p
-  none_shown counts is = subst (λ c. FieldsShow F S all p c p) (sym is) none
+  pub none_shown : (counts : Counts) → counts ≡ counts_of [] → FieldsShow (display F S) all p counts p
+  none_shown counts is = subst (λ c. FieldsShow (display F S) all p c p) (sym is) none
 
-  pub one_shown : (counts after : Counts) (mid q : P) → FieldsShow F S all p counts mid → FieldShown F S all counts after mid q → FieldsShow F S all p after q
-  one_shown counts after mid q shown (inl (same, still)) = subst (λ c. FieldsShow F S all p c q) (sym same) (subst (FieldsShow F S all p counts) (sym still) shown)
+  pub one_shown : (counts after : Counts) (mid q : P) → FieldsShow (display F S) all p counts mid → FieldShown (display F S) all counts after mid q → FieldsShow (display F S) all p after q
+  one_shown counts after mid q shown (inl (same, still)) = subst (λ c. FieldsShow (display F S) all p c q) (sym same) (subst (FieldsShow (display F S) all p counts) (sym still) shown)
   one_shown counts after mid q shown (inr (one, free, is, room, line)) =
-      subst (λ c. FieldsShow F S all p c q) (sym is) (more one counts mid free q shown room (subst (λ c. S free (sight.Line c all) q) is line))
+      subst (λ c. FieldsShow (display F S) all p c q) (sym is) (more one counts mid free q shown room (subst (λ c. S free (sight.Line c all) q) is line))
 
-  pub sheet_shows : (answer : Result Counts RunFault) (mid q : P) → IfOk answer (λ counts. FieldsShow F S all p counts mid) → IfErr answer (λ _. FieldsLeft F S all p mid) → S mid sight.Nothing q
-      → SheetShows F S all p q answer
+  pub sheet_shows : (answer : Result Counts RunFault) (mid q : P) → IfOk answer (λ counts. FieldsShow (display F S) all p counts mid) → IfErr answer (λ _. FieldsLeft (display F S) all p mid) → S mid sight.Nothing q
+      → SheetShows (display F S) all p q answer
   sheet_shows (Ok counts) mid q shown left gone = (mid, shown, gone)
   sheet_shows (Err why) mid q shown left gone = (mid, left, gone)
 

@@ -20,8 +20,12 @@ use Rattle.check_report.specs.declared.verdict.Counts.{Counts}
 use Rattle.check_report.specs.declared.verdict.Verdict.{Verdict}
 use Rattle.check_report.specs.declared.verdict.Verdict.TheVariants as verdict
 use Rattle.check_report.specs.Reports.{Case, report_front}
-use Rattle.sheet_check.specs.Check.{FirstLed, FirstTooLong, FirstUnwatched, OnlyRead, SheetChecked, SheetLed, SheetStopped}
-use Rattle.sheet_check.specs.Evaluated.{Way}
+use Rattle.sheet_check.specs.Check.{FirstLed, FirstTooLong, FirstUnwatched, OnlyRead, Passage, SheetChecked, SheetLed, SheetStopped}
+use Rattle.sheet_check.specs.Evaluated.{OneByOne, Way, one_by_one}
+
+-- how fields are checked one after another, and reported with what is accepted
+abbrev pub to_accept : {C : Type 0} → Way C → Chosen → OneByOne C
+to_accept o chosen = one_by_one o chosen format.Accepting
 
 -- the answer that is accepted, of the one that came: where its output differs, that one
 abbrev pub accepted_answer : Option Answer → Verdict → Option Answer
@@ -52,41 +56,51 @@ pub record FoundOn (disk : DiskView) (sheet : Contents) (ops : List Op) (now : D
   pub found : InModel disk (IsSheetImage sheet (bytes_on disk))
   pub looks : InModel disk (Looks disk.history now.history)
 
+-- Answers are put after these ops on a disk: the disk before that, and after it.
+pub record Filing : Type 0 where
+  pub ops : List Op
+  pub before : DiskView
+  pub after : DiskView
+
+abbrev pub filing : List Op → DiskView → DiskView → Filing
+filing ops before after = record { ops = ops; before = before; after = after }
+
+-- on the disk is what is accepted of these cases, and no more
+abbrev pub FiledAll : Filing → List Case → Type 0
+FiledAll x cases = HoldsAll x.ops (accepted cases) x.before x.after
+
 -- Why it ended early, and what that leaves from one disk to the other. What was reported is on the disk, and but for the last two no more.
-pub data AcceptLeft {C : Type 0} (o : Way C) (chosen : Chosen) (sheet : Contents) (c d : C) (a b : Option (List ℕ)) (ops : List Op) (now back : DiskView) (why : RunFault) : Type 0 where
+pub data AcceptLeft {C : Type 0} (o : OneByOne C) (sheet : Contents) (q : Passage C) (x : Filing) (why : RunFault) : Type 0 where
   -- the host of the copy had a fault
-  stopped : (cases : List Case) (f : HostFault) → why ≡ fault.Host f → SheetStopped o chosen sheet c d cases f → Appends a b (report_front format.Accepting cases)
-      → HoldsAll ops (accepted cases) now back → AcceptLeft o chosen sheet c d a b ops now back why
+  stopped : (cases : List Case) (f : HostFault) → why ≡ fault.Host f → SheetStopped o sheet q.sources q.left cases f
+      → Appends q.text q.written (report_front o.format cases) → FiledAll x cases → AcceptLeft o sheet q x why
   -- memory was refused
-  unremembered : (cases : List Case) → why ≡ fault.OutOfMemory → SheetLed o chosen sheet c d cases (FirstLed o chosen) → Appends a b (report_front format.Accepting cases)
-      → HoldsAll ops (accepted cases) now back → AcceptLeft o chosen sheet c d a b ops now back why
+  unremembered : (cases : List Case) → why ≡ fault.OutOfMemory → SheetLed o sheet q.sources q.left cases (FirstLed o.way o.chosen)
+      → Appends q.text q.written (report_front o.format cases) → FiledAll x cases → AcceptLeft o sheet q x why
   -- the sources couldn't be watched any more, or as many steps came of one field as are counted
-  unwatched : (cases : List Case) → why ≡ fault.Input → SheetLed o chosen sheet c d cases (FirstUnwatched o chosen) → Appends a b (report_front format.Accepting cases)
-      → HoldsAll ops (accepted cases) now back → AcceptLeft o chosen sheet c d a b ops now back why
-  too_long : (cases : List Case) → why ≡ fault.InputTooLong → SheetLed o chosen sheet c d cases (FirstTooLong o chosen) → Appends a b (report_front format.Accepting cases)
-      → HoldsAll ops (accepted cases) now back → AcceptLeft o chosen sheet c d a b ops now back why
+  unwatched : (cases : List Case) → why ≡ fault.Input → SheetLed o sheet q.sources q.left cases (FirstUnwatched o.way o.chosen)
+      → Appends q.text q.written (report_front o.format cases) → FiledAll x cases → AcceptLeft o sheet q x why
+  too_long : (cases : List Case) → why ≡ fault.InputTooLong → SheetLed o sheet q.sources q.left cases (FirstTooLong o.way o.chosen)
+      → Appends q.text q.written (report_front o.format cases) → FiledAll x cases → AcceptLeft o sheet q x why
   -- the answer to the last field doesn't fit
-  full : (cases : List Case) (last : Case) (one : Op) → why ≡ fault.Host hosts.JournalFull → SheetLed o chosen sheet c d (cases ++ last ∷ []) (FirstLed o chosen) → accepted_of last ≡ one ∷ []
-      → Appends a b (report_front format.Accepting cases) → HoldsAll ops (accepted cases) now back → NoPlace one back → AcceptLeft o chosen sheet c d a b ops now back why
+  full : (cases : List Case) (last : Case) (one : Op) → why ≡ fault.Host hosts.JournalFull → SheetLed o sheet q.sources q.left (cases ++ last ∷ []) (FirstLed o.way o.chosen)
+      → accepted_of last ≡ one ∷ [] → Appends q.text q.written (report_front o.format cases) → FiledAll x cases → NoPlace one x.after → AcceptLeft o sheet q x why
   -- the disk failed at the answer to the last field
-  broken : (cases : List Case) (last : Case) (one : Op) → why ≡ fault.Host hosts.Disk → SheetLed o chosen sheet c d (cases ++ last ∷ []) (FirstLed o chosen) → accepted_of last ≡ one ∷ []
-      → Appends a b (report_front format.Accepting cases) → HoldsBut ops (accepted cases) one now back → AcceptLeft o chosen sheet c d a b ops now back why
+  broken : (cases : List Case) (last : Case) (one : Op) → why ≡ fault.Host hosts.Disk → SheetLed o sheet q.sources q.left (cases ++ last ∷ []) (FirstLed o.way o.chosen)
+      → accepted_of last ≡ one ∷ [] → Appends q.text q.written (report_front o.format cases) → HoldsBut x.ops (accepted cases) one x.before x.after → AcceptLeft o sheet q x why
   -- the writer failed at the text of the last field, or at the counts
-  unwritten : (cases : List Case) → why ≡ fault.Output → SheetLed o chosen sheet c d cases (FirstLed o chosen) → HoldsAll ops (accepted cases) now back
-      → AcceptLeft o chosen sheet c d a b ops now back why
+  unwritten : (cases : List Case) → why ≡ fault.Output → SheetLed o sheet q.sources q.left cases (FirstLed o.way o.chosen) → FiledAll x cases → AcceptLeft o sheet q x why
 
 -- What becomes of the check of a worksheet whose answers that differ are accepted: the report of them is written, and exactly those
 -- answers are put after its ops. A lack of memory may be reported before the copy is there.
-abbrev pub SheetAccepts : {C : Type 0} → Way C → Chosen → Contents → C → C → Option (List ℕ) → Option (List ℕ) → Type 0 → List Op → DiskView → DiskView → Result Counts RunFault → Type 0
-SheetAccepts o chosen sheet c d a b nothing ops now back (Ok counts) =
-    (checked : SheetChecked o chosen format.Accepting sheet c d a b counts) × HoldsAll ops (accepted checked.cases) now back
-SheetAccepts o chosen sheet c d a b nothing ops now back (Err why) =
-    ((why ≡ fault.OutOfMemory) × nothing × HoldsAll ops [] now back) ⊎ AcceptLeft o chosen sheet c d a b ops now back why
+abbrev pub SheetAccepts : {C : Type 0} → OneByOne C → Contents → Passage C → Type 0 → Filing → Result Counts RunFault → Type 0
+SheetAccepts o sheet q nothing x (Ok counts) = (checked : SheetChecked o sheet q counts) × FiledAll x checked.cases
+SheetAccepts o sheet q nothing x (Err why) = ((why ≡ fault.OutOfMemory) × nothing × FiledAll x []) ⊎ AcceptLeft o sheet q x why
 
 -- What is answered: that the disk wasn't opened, where nothing was done and no byte of it was changed, or what becomes of the worksheet
 -- on it.
-pub data AcceptAnswer {C : Type 0} (o : Way C) (chosen : Chosen) (disk back : DiskView) (c d : C) (a b : Option (List ℕ)) (nothing : Type 0) (answer : Result Counts RunFault) : Type 0 where
+pub data AcceptAnswer {C : Type 0} (o : OneByOne C) (disk back : DiskView) (q : Passage C) (nothing : Type 0) (answer : Result Counts RunFault) : Type 0 where
   unopened : (why : OpenCause) → answer ≡ Err (fault.Open why) → nothing → InModel disk (TellsOfSheet (bytes_on disk) why) → OnlyRead disk back
-      → AcceptAnswer o chosen disk back c d a b nothing answer
-  opened : (sheet : Contents) (ops : List Op) (now : DiskView) → FoundOn disk sheet ops now → SheetAccepts o chosen sheet c d a b nothing ops now back answer
-      → AcceptAnswer o chosen disk back c d a b nothing answer
+      → AcceptAnswer o disk back q nothing answer
+  opened : (sheet : Contents) (ops : List Op) (now : DiskView) → FoundOn disk sheet ops now → SheetAccepts o sheet q nothing (filing ops now back) answer
+      → AcceptAnswer o disk back q nothing answer

@@ -26,13 +26,22 @@ use Rattle.sheet_programs.specs.Run.{OpenedOn}
 use Rattle.offline_programs.specs.declared.fault.RunFault.{RunFault}
 use Rattle.offline_programs.specs.declared.fault.RunFault.TheVariants as fault
 use Rattle.check_report.specs.declared.chosen.Chosen.{Chosen}
-use Rattle.check_report.specs.declared.report.Format.{Format}
 use Rattle.check_report.specs.declared.verdict.Counts.{Counts}
 use Rattle.check_report.specs.Chosen.{shown_by}
 use Rattle.check_report.specs.Reports.{Case, report_front, report_text, verdicts_of}
 use Rattle.check_report.specs.Verdicts.{counts_of}
 use Rattle.evaluation.specs.Within.{WaitInPart, WaitTooLong, WaitUnwatched, WaitUpTo, WaitedWithin}
-use Rattle.sheet_check.specs.Evaluated.{FieldsChecked, Way, eval_of, limited}
+use Rattle.sheet_check.specs.Evaluated.{FieldsChecked, OneByOne, Way, eval_of, limited}
+
+-- From the first of these sources to the last a check ran, and from the first text to the last it wrote.
+pub record Passage (C : Type 0) : Type 0 where
+  pub sources : C
+  pub left : C
+  pub text : Option (List ℕ)
+  pub written : Option (List ℕ)
+
+abbrev pub passage : {C : Type 0} → C → C → Option (List ℕ) → Option (List ℕ) → Passage C
+passage c d a b = record { sources = c; left = d; text = a; written = b }
 
 -- A disk that keeps the model and has as much room as one may have was made an image of this worksheet, and a host was opened on it: this
 -- is its world, in which no life goes on, and its disk.
@@ -46,16 +55,16 @@ pub record IsCopy (sheet : Contents) (w : World) (copy : DiskView) : Type 0 wher
 
 -- All fields of the worksheet were checked on a copy of it, in their order, and then each life that goes on was stopped. Their report was
 -- written, and these are the counts.
-pub record SheetChecked {C : Type 0} (o : Way C) (chosen : Chosen) (F : Format) (sheet : Contents) (c d : C) (a b : Option (List ℕ)) (counts : Counts) : Type 0 where
+pub record SheetChecked {C : Type 0} (o : OneByOne C) (sheet : Contents) (q : Passage C) (counts : Counts) : Type 0 where
   pub start : World
   pub copy : DiskView
   pub copied : IsCopy sheet start copy
   pub cases : List Case
   pub leads : At C
-  pub checked : FieldsChecked o chosen sheet.fields (at start c copy) cases leads
-  pub stops : Stops o.after (running leads.world) leads.children d
+  pub checked : FieldsChecked o.way o.chosen sheet.fields (at start q.sources copy) cases leads
+  pub stops : Stops o.way.after (running leads.world) leads.children q.left
   pub counted : counts ≡ counts_of (verdicts_of cases)
-  pub wrote : Appends a b (report_text F cases)
+  pub wrote : Appends q.text q.written (report_text o.format cases)
 
 -- The first of these fields shows an answer, and its session is checked.
 pub record FirstShows (chosen : Chosen) (fields : List Field) (field : Field) : Type 0 where
@@ -76,13 +85,11 @@ WaitUpToBy (Some seconds) o id s e t = WaitUpTo (limited o seconds) id s e t
 
 -- the same up to where the sources couldn't be watched any more, which a limit of time wants
 abbrev pub UnwatchedBy : {C : Type 0} → Option ℕ → Way C → ℕ → At C → At C → Type 0
-UnwatchedBy None o id s t = ⊥
-UnwatchedBy (Some seconds) o id s t = WaitUnwatched (limited o seconds) id s t
+UnwatchedBy limit o id s t = (seconds : ℕ) × (limit ≡ Some seconds) × WaitUnwatched (limited o seconds) id s t
 
 -- the same with a limit, for as many steps as are counted
 abbrev pub TooLongBy : {C : Type 0} → Option ℕ → Way C → ℕ → At C → At C → Type 0
-TooLongBy None o id s t = ⊥
-TooLongBy (Some seconds) o id s t = WaitTooLong (limited o seconds) id s t
+TooLongBy limit o id s t = (seconds : ℕ) × (limit ≡ Some seconds) × WaitTooLong (limited o seconds) id s t
 
 -- The first of these fields, which shows an answer, was evaluated up to here: nothing was done, or its `eval`, or the wait for its answer,
 -- in whole or in part.
@@ -104,7 +111,7 @@ abbrev pub FirstTooLong : {C : Type 0} → Way C → Chosen → List Field → A
 FirstTooLong o chosen fields s t = FirstWaits o chosen fields s (λ id mid. TooLongBy o.limit o id mid t)
 
 -- The first fields were checked, which are these cases, and then the next one led on so far. Then each life that goes on was stopped.
-pub record SheetLed {C : Type 0} (o : Way C) (chosen : Chosen) (sheet : Contents) (c d : C) (cases : List Case) (Led : List Field → At C → At C → Type 0) : Type 0 where
+pub record SheetLed {C : Type 0} (o : OneByOne C) (sheet : Contents) (c d : C) (cases : List Case) (Led : List Field → At C → At C → Type 0) : Type 0 where
   pub start : World
   pub copy : DiskView
   pub copied : IsCopy sheet start copy
@@ -112,10 +119,10 @@ pub record SheetLed {C : Type 0} (o : Way C) (chosen : Chosen) (sheet : Contents
   pub left : List Field
   pub split : sheet.fields ≡ gone ++ left
   pub mid : At C
-  pub checked : FieldsChecked o chosen gone (at start c copy) cases mid
+  pub checked : FieldsChecked o.way o.chosen gone (at start c copy) cases mid
   pub leads : At C
   pub led : Led left mid leads
-  pub stops : Stops o.after (running leads.world) leads.children d
+  pub stops : Stops o.way.after (running leads.world) leads.children d
 
 -- The first of these fields, which shows an answer, was evaluated up to this event, which its `eval` or the wait for its answer came to.
 pub data FirstUpTo {C : Type 0} (o : Way C) (chosen : Chosen) (fields : List Field) (s : At C) (e : Event) (t : At C) : Type 0 where
@@ -125,14 +132,11 @@ pub data FirstUpTo {C : Type 0} (o : Way C) (chosen : Chosen) (fields : List Fie
 
 -- a fault that isn't one of the disk: the copy lies in memory, and that its disk failed is reported as lack of memory
 abbrev pub NotOfDisk : HostFault → Type 0
-NotOfDisk hosts.Disk = ⊥
-NotOfDisk hosts.OutOfMemory = Unit {0}
-NotOfDisk hosts.JournalFull = Unit {0}
-NotOfDisk hosts.Closed = Unit {0}
+NotOfDisk f = f ≡ hosts.Disk → ⊥
 
 -- The first fields were checked, which are these cases, and the next one up to this event, at which the host had this fault. Then each
 -- life that goes on was stopped.
-pub record SheetStopped {C : Type 0} (o : Way C) (chosen : Chosen) (sheet : Contents) (c d : C) (cases : List Case) (f : HostFault) : Type 0 where
+pub record SheetStopped {C : Type 0} (o : OneByOne C) (sheet : Contents) (c d : C) (cases : List Case) (f : HostFault) : Type 0 where
   pub start : World
   pub copy : DiskView
   pub copied : IsCopy sheet start copy
@@ -140,37 +144,41 @@ pub record SheetStopped {C : Type 0} (o : Way C) (chosen : Chosen) (sheet : Cont
   pub left : List Field
   pub split : sheet.fields ≡ gone ++ left
   pub mid : At C
-  pub checked : FieldsChecked o chosen gone (at start c copy) cases mid
+  pub checked : FieldsChecked o.way o.chosen gone (at start c copy) cases mid
   pub failed : Event
   pub leads : At C
-  pub led : FirstUpTo o chosen left mid failed leads
+  pub led : FirstUpTo o.way o.chosen left mid failed leads
   pub host : HostView
   pub stopped : Stopped leads.disk host leads.world failed f
   pub not_of_disk : NotOfDisk f
-  pub stops : Stops o.after (running leads.world) leads.children d
+  pub stops : Stops o.way.after (running leads.world) leads.children d
 
 -- What a fault of a check of this worksheet leaves: what was reported is written, but where the writer failed. A lack of memory may be
 -- reported before the copy is there.
-abbrev pub TellsCheck : {C : Type 0} → Way C → Chosen → Format → Contents → C → C → Option (List ℕ) → Option (List ℕ) → Type 0 → RunFault → Type 0
-TellsCheck o chosen F sheet c d a b nothing (fault.Host why) = (cases : List Case) × SheetStopped o chosen sheet c d cases why × Appends a b (report_front F cases)
-TellsCheck o chosen F sheet c d a b nothing fault.OutOfMemory = nothing ⊎ ((cases : List Case) × SheetLed o chosen sheet c d cases (FirstLed o chosen) × Appends a b (report_front F cases))
-TellsCheck o chosen F sheet c d a b nothing fault.Output = (cases : List Case) × SheetLed o chosen sheet c d cases (FirstLed o chosen)
-TellsCheck o chosen F sheet c d a b nothing fault.Input = (cases : List Case) × SheetLed o chosen sheet c d cases (FirstUnwatched o chosen) × Appends a b (report_front F cases)
-TellsCheck o chosen F sheet c d a b nothing fault.InputTooLong = (cases : List Case) × SheetLed o chosen sheet c d cases (FirstTooLong o chosen) × Appends a b (report_front F cases)
-TellsCheck o chosen F sheet c d a b nothing (fault.Open why) = ⊥
-TellsCheck o chosen F sheet c d a b nothing fault.InUse = ⊥
+pub data TellsCheck {C : Type 0} (o : OneByOne C) (sheet : Contents) (q : Passage C) (nothing : Type 0) (why : RunFault) : Type 0 where
+  not_begun : why ≡ fault.OutOfMemory → nothing → TellsCheck o sheet q nothing why
+  -- the host of the copy had a fault
+  stopped : (cases : List Case) (f : HostFault) → why ≡ fault.Host f → SheetStopped o sheet q.sources q.left cases f → Appends q.text q.written (report_front o.format cases) → TellsCheck o sheet q nothing why
+  -- memory was refused
+  unremembered : (cases : List Case) → why ≡ fault.OutOfMemory → SheetLed o sheet q.sources q.left cases (FirstLed o.way o.chosen)
+      → Appends q.text q.written (report_front o.format cases) → TellsCheck o sheet q nothing why
+  -- the sources couldn't be watched any more, or as many steps came of one field as are counted
+  unwatched : (cases : List Case) → why ≡ fault.Input → SheetLed o sheet q.sources q.left cases (FirstUnwatched o.way o.chosen)
+      → Appends q.text q.written (report_front o.format cases) → TellsCheck o sheet q nothing why
+  too_long : (cases : List Case) → why ≡ fault.InputTooLong → SheetLed o sheet q.sources q.left cases (FirstTooLong o.way o.chosen)
+      → Appends q.text q.written (report_front o.format cases) → TellsCheck o sheet q nothing why
+  -- the writer failed at the text of the last field, or at the counts
+  unwritten : (cases : List Case) → why ≡ fault.Output → SheetLed o sheet q.sources q.left cases (FirstLed o.way o.chosen) → TellsCheck o sheet q nothing why
 
 -- what becomes of a check of this worksheet
-abbrev pub SheetAnswer : {C : Type 0} → Way C → Chosen → Format → Contents → C → C → Option (List ℕ) → Option (List ℕ) → Type 0 → Result Counts RunFault → Type 0
-SheetAnswer o chosen F sheet c d a b nothing (Ok counts) = SheetChecked o chosen F sheet c d a b counts
-SheetAnswer o chosen F sheet c d a b nothing (Err why) = TellsCheck o chosen F sheet c d a b nothing why
+abbrev pub SheetAnswer : {C : Type 0} → OneByOne C → Contents → Passage C → Type 0 → Result Counts RunFault → Type 0
+SheetAnswer o sheet q nothing (Ok counts) = SheetChecked o sheet q counts
+SheetAnswer o sheet q nothing (Err why) = TellsCheck o sheet q nothing why
 
 -- What a check answers: that the disk wasn't opened, where nothing was done, or what becomes of a check of the worksheet on it.
-pub data CheckAnswer {C : Type 0} (o : Way C) (chosen : Chosen) (F : Format) (disk : DiskView) (c d : C) (a b : Option (List ℕ)) (nothing : Type 0) (answer : Result Counts RunFault) : Type 0 where
-  unopened : (why : OpenCause) → answer ≡ Err (fault.Open why) → nothing → InModel disk (TellsOfSheet (bytes_on disk) why)
-      → CheckAnswer o chosen F disk c d a b nothing answer
-  opened : (sheet : Contents) → InModel disk (IsSheetImage sheet (bytes_on disk)) → SheetAnswer o chosen F sheet c d a b nothing answer
-      → CheckAnswer o chosen F disk c d a b nothing answer
+pub data CheckAnswer {C : Type 0} (o : OneByOne C) (disk : DiskView) (q : Passage C) (nothing : Type 0) (answer : Result Counts RunFault) : Type 0 where
+  unopened : (why : OpenCause) → answer ≡ Err (fault.Open why) → nothing → InModel disk (TellsOfSheet (bytes_on disk) why) → CheckAnswer o disk q nothing answer
+  opened : (sheet : Contents) → InModel disk (IsSheetImage sheet (bytes_on disk)) → SheetAnswer o sheet q nothing answer → CheckAnswer o disk q nothing answer
 
 -- The disk afterwards: reads alone were made on it, or syncs, which change no byte of it and leave no image that is new.
 pub record OnlyRead (old new : DiskView) : Type 0 where

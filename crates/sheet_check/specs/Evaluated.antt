@@ -22,6 +22,7 @@ use Rattle.evaluation.specs.Within.{WaitedWithin, waiting}
 use Rattle.offline_programs.specs.declared.fault.RunFault.{RunFault}
 use Rattle.offline_programs.specs.declared.fault.RunFault.TheVariants as fault
 use Rattle.check_report.specs.declared.chosen.Chosen.{Chosen}
+use Rattle.check_report.specs.declared.report.Format.{Format}
 use Rattle.check_report.specs.declared.verdict.Verdict.{Verdict}
 use Rattle.check_report.specs.Chosen.{Judged, shown_by}
 use Rattle.check_report.specs.Reports.{Case, case}
@@ -36,6 +37,15 @@ pub record Way (C : Type 0) : Type 1 where
 
 abbrev pub way : {C : Type 0} → Relation C → Clock C → Watch C → Option ℕ → Way C
 way R K W limit = record { after = R; clock = K; wakes = W; limit = limit }
+
+-- How fields are checked one after another: how they are evaluated, which they are, and how they are reported.
+pub record OneByOne (C : Type 0) : Type 1 where
+  pub way : Way C
+  pub chosen : Chosen
+  pub format : Format
+
+abbrev pub one_by_one : {C : Type 0} → Way C → Chosen → Format → OneByOne C
+one_by_one o chosen F = record { way = o; chosen = chosen; format = F }
 
 -- how an answer is waited for within so many seconds
 abbrev pub limited : {C : Type 0} → Way C → ℕ → Setting C

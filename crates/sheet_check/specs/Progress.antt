@@ -31,26 +31,34 @@ TakesLine false S p q = q ≡ p
 abbrev pub MakesRoom : {P : Type 0} → Format → (P → Sight → P → Type 0) → Verdict → P → P → Type 0
 MakesRoom F S verdict p q = TakesLine (is_written F verdict) S p q
 
+-- How a check is shown: in which format its fields are reported, and what it is to show a sight.
+pub record Display (P : Type 0) : Type 1 where
+  pub format : Format
+  pub shows : P → Sight → P → Type 0
+
+abbrev pub display : {P : Type 0} → Format → (P → Sight → P → Type 0) → Display P
+display F S = record { format = F; shows = S }
+
 -- Fields came to these counts, one after another: after each the line stands with the counts so far, of so many fields in all.
-pub data FieldsShow {P : Type 0} (F : Format) (S : P → Sight → P → Type 0) (all : ℕ) (p : P) : Counts → P → Type 0 where
-  none : FieldsShow F S all p (counts_of []) p
-  more : (one : Verdict) (counts : Counts) (before free q : P) → FieldsShow F S all p counts before → MakesRoom F S one before free
-      → S free (sight.Line (counted_with one counts) all) q → FieldsShow F S all p (counted_with one counts) q
+pub data FieldsShow {P : Type 0} (m : Display P) (all : ℕ) (p : P) : Counts → P → Type 0 where
+  none : FieldsShow m all p (counts_of []) p
+  more : (one : Verdict) (counts : Counts) (before free q : P) → FieldsShow m all p counts before → MakesRoom m.format m.shows one before free
+      → m.shows free (sight.Line (counted_with one counts) all) q → FieldsShow m all p (counted_with one counts) q
 
 -- A field that wasn't counted leaves what was shown, or took the line away for what couldn't be reported.
 abbrev pub LeavesLine : {P : Type 0} → (P → Sight → P → Type 0) → P → P → Type 0
 LeavesLine S p q = (q ≡ p) ⊎ S p sight.Nothing q
 
 -- Some fields were shown so, and the next one wasn't counted.
-abbrev pub FieldsLeft : {P : Type 0} → Format → (P → Sight → P → Type 0) → ℕ → P → P → Type 0
-FieldsLeft {P = P} F S all p q = (counts : Counts) × (last : P) × FieldsShow F S all p counts last × LeavesLine S last q
+abbrev pub FieldsLeft : {P : Type 0} → Display P → ℕ → P → P → Type 0
+FieldsLeft {P = P} m all p q = (counts : Counts) × (last : P) × FieldsShow m all p counts last × LeavesLine m.shows last q
 
 -- The fields were shown so up to the counts, or to a fault. Then the line is taken away.
-abbrev pub SheetShows : {P : Type 0} → Format → (P → Sight → P → Type 0) → ℕ → P → P → Result Counts RunFault → Type 0
-SheetShows {P = P} F S all p q (Ok counts) = (last : P) × FieldsShow F S all p counts last × S last sight.Nothing q
-SheetShows {P = P} F S all p q (Err why) = (last : P) × FieldsLeft F S all p last × S last sight.Nothing q
+abbrev pub SheetShows : {P : Type 0} → Display P → ℕ → P → P → Result Counts RunFault → Type 0
+SheetShows {P = P} m all p q (Ok counts) = (last : P) × FieldsShow m all p counts last × m.shows last sight.Nothing q
+SheetShows {P = P} m all p q (Err why) = (last : P) × FieldsLeft m all p last × m.shows last sight.Nothing q
 
 -- What a check shows: nothing where the disk wasn't opened, else the fields of the worksheet on it that are checked.
-pub data CheckShows {P : Type 0} (F : Format) (S : P → Sight → P → Type 0) (chosen : Chosen) (disk : DiskView) (p q : P) (answer : Result Counts RunFault) : Type 0 where
-  unopened : (why : OpenCause) → answer ≡ Err (fault.Open why) → q ≡ p → CheckShows F S chosen disk p q answer
-  opened : (sheet : Contents) → InModel disk (IsSheetImage sheet (bytes_on disk)) → SheetShows F S (answered chosen sheet.fields) p q answer → CheckShows F S chosen disk p q answer
+pub data CheckShows {P : Type 0} (m : Display P) (chosen : Chosen) (disk : DiskView) (p q : P) (answer : Result Counts RunFault) : Type 0 where
+  unopened : (why : OpenCause) → answer ≡ Err (fault.Open why) → q ≡ p → CheckShows m chosen disk p q answer
+  opened : (sheet : Contents) → InModel disk (IsSheetImage sheet (bytes_on disk)) → SheetShows m (answered chosen sheet.fields) p q answer → CheckShows m chosen disk p q answer

@@ -31,7 +31,7 @@ use Rattle.evaluation.specs.declared.plan.Plan.{Plan}
 use Rattle.evaluation.specs.declared.plan.Which.TheVariants as which
 use Rattle.evaluation.specs.Steps.{Setting}
 use Rattle.evaluation.specs.Silently.{EvaluatedSilently, SilentlyBroke, silent_setting}
-use Rattle.sheet_check.specs.Check.{IsCopy}
+use Rattle.sheet_check.specs.Check.{IsCopy, Passage}
 use Rattle.sheet_check.specs.Evaluated.{Way, came_if, fault_on_copy, reason_shown_in, shown_in}
 
 -- How fields are checked side by side: how they are evaluated, in how many sessions they wait at a time, which they are, and how they are
@@ -44,16 +44,6 @@ pub record SideBySide (C : Type 0) : Type 1 where
 
 abbrev pub side_by_side : {C : Type 0} → Way C → ℕ → Chosen → Format → SideBySide C
 side_by_side o jobs chosen F = record { way = o; jobs = jobs; chosen = chosen; format = F }
-
--- From the first of these sources to the last a check ran, and from the first text to the last it wrote.
-pub record Passage (C : Type 0) : Type 0 where
-  pub sources : C
-  pub left : C
-  pub text : Option (List ℕ)
-  pub written : Option (List ℕ)
-
-abbrev pub passage : {C : Type 0} → C → C → Option (List ℕ) → Option (List ℕ) → Passage C
-passage c d a b = record { sources = c; left = d; text = a; written = b }
 
 -- a number, where its field shows an answer
 abbrev pub id_of_shown : Option Answer → ℕ → List ℕ

@@ -12,7 +12,7 @@ ghost use Rattle.check_report.specs.declared.report.Format.TheVariants as format
 ghost use Rattle.sheet_check.specs.Accept.{accepted_answer, answer_ops};
 ghost use Rattle.sheet_check.specs.Evaluated.{came_if, shown_in};
 ghost use Rattle.sheet_check.specs.Progress.{LeavesLine, MakesRoom};
-ghost use Rattle.sheet_check.specs.inside.Accepting.{Finds, NotPut, NotTaken, fault_of_acceptance};
+ghost use Rattle.sheet_check.specs.inside.Accepting.{Finds, NotPut, NotTaken, fault_of_acceptance, storing};
 
 use crate::progress::Progress;
 use crate::telling::make_room;
@@ -135,7 +135,7 @@ fn put<D: Disk>(store: &mut Store<D>, id: u32, answer: Option<Answer>) -> Result
     ensures ok { (ops more : List Op) → (disk : DiskView) → Stores ops more disk store.old
         → OnOk result (Stores ops (more ++ answer_ops id answer) disk store.new) }
     ensures err { (ops more : List Op) → (disk : DiskView) → Stores ops more disk store.old
-        → IfErr result (NotPut ops more disk (answer_ops id answer) store.new) }
+        → IfErr result (NotPut (storing ops more disk store.new) (answer_ops id answer)) }
 {
     match answer {
         None => Ok(()),
@@ -175,7 +175,7 @@ pub(crate) fn take<D: Disk, W: Write, P: Progress>(
         × Stores ops (more ++ answer_ops id found.answer) disk store.new
         × Appends (W.contents writer.old) (W.contents writer.new) found.text.items) }
     ensures err { (ops more : List Op) → (disk : DiskView) → Stores ops more disk store.old
-        → IfErr result (NotTaken ops more disk (answer_ops id found.answer) store.new
+        → IfErr result (NotTaken (storing ops more disk store.new) (answer_ops id found.answer)
         (W.contents writer.old) (W.contents writer.new)) }
     ensures room { IfOk result (λ verdict.
         MakesRoom formats.Accepting P.shows verdict progress.old progress.new) }

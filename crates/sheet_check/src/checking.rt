@@ -12,11 +12,12 @@ ghost use Rattle.journal.specs.declared.opening.OpenCause.TheVariants as opens;
 ghost use Rattle.check_report.specs.Chosen.{shown_by};
 ghost use Rattle.check_report.specs.Reports.{closing_text, opening_text};
 ghost use Rattle.check_report.specs.Verdicts.{total};
-ghost use Rattle.sheet_check.specs.Evaluated.{way};
-ghost use Rattle.sheet_check.specs.Check.{CheckAnswer, OnlyRead, SheetAnswer};
-ghost use Rattle.sheet_check.specs.Progress.{CheckShows, FieldsLeft, FieldsShow, LeavesLine, MakesRoom, SheetShows, answered};
+ghost use Rattle.sheet_check.specs.Evaluated.{one_by_one, way};
+ghost use Rattle.sheet_check.specs.Check.{CheckAnswer, OnlyRead, SheetAnswer, passage};
+ghost use Rattle.sheet_check.specs.Progress.{CheckShows, FieldsLeft, FieldsShow, LeavesLine, MakesRoom, SheetShows, answered, display};
 ghost use Rattle.sheet_check.specs.declared.progress.Sight.TheVariants as sight;
-ghost use Rattle.sheet_check.specs.inside.Checking.{FieldFailed, FieldShown, FieldWrote, FieldsEnded, FieldsFailed, FieldsStopped, FieldsWrote, OnCopy, ShownWrote};
+ghost use Rattle.sheet_check.specs.inside.Checking.{FieldFailed, FieldShown, FieldWrote, FieldsEnded, FieldsFailed, FieldsStopped, FieldsWrote, OnCopy, ShownWrote, question};
+ghost use Rattle.live.specs.Records.{left};
 
 use crate::copying::open_copy;
 use crate::evaluating::evaluate;
@@ -47,14 +48,14 @@ fn check_shown<D: Disk, C: Sources, W: Write, P: Progress>(
     writer: &mut W,
 ) -> Result<Verdict, RunFault>
     requires { shown_by request.now.chosen field.now ≡ Some shown.now }
-    ensures ok { (w : World) → IsHost host.old w → IfOk result (ShownWrote (way C.after C.clock C.wakes request.now.limit)
-        request.now.chosen request.now.format number field.now shown.now
-        (at w sources.old host.old.store.disk) host.new sources.new
-        (W.contents writer.old) (W.contents writer.new)) }
-    ensures err { (w : World) → IsHost host.old w → IfErr result (FieldFailed (way C.after C.clock C.wakes request.now.limit)
-        request.now.chosen field.now
-        (at w sources.old host.old.store.disk) host.new sources.new
-        (W.contents writer.old) (W.contents writer.new)) }
+    ensures ok { (w : World) → IsHost host.old w → IfOk result (ShownWrote
+        (one_by_one (way C.after C.clock C.wakes request.now.limit) request.now.chosen request.now.format)
+        (question number field.now shown.now) (at w sources.old host.old.store.disk)
+        (left host.new sources.new (W.contents writer.old) (W.contents writer.new))) }
+    ensures err { (w : World) → IsHost host.old w → IfErr result (FieldFailed
+        (one_by_one (way C.after C.clock C.wakes request.now.limit) request.now.chosen request.now.format)
+        field.now (at w sources.old host.old.store.disk)
+        (left host.new sources.new (W.contents writer.old) (W.contents writer.new))) }
     ensures room { IfOk result (λ verdict.
         MakesRoom request.now.format P.shows verdict progress.old progress.new) }
     ensures left { IfErr result (λ _. LeavesLine P.shows progress.old progress.new) }
@@ -91,17 +92,17 @@ fn check_field<D: Disk, C: Sources, W: Write, P: Progress>(
     writer: &mut W,
 ) -> Result<Counts, RunFault>
     requires { total counts < 2 ^ 31 }
-    ensures ok { (w : World) → IsHost host.old w → IfOk result (FieldWrote (way C.after C.clock C.wakes request.now.limit)
-        request.now.chosen request.now.format field.now
-        (at w sources.old host.old.store.disk) host.new sources.new
-        (W.contents writer.old) (W.contents writer.new) counts) }
+    ensures ok { (w : World) → IsHost host.old w → IfOk result (FieldWrote
+        (one_by_one (way C.after C.clock C.wakes request.now.limit) request.now.chosen request.now.format)
+        field.now (at w sources.old host.old.store.disk)
+        (left host.new sources.new (W.contents writer.old) (W.contents writer.new)) counts) }
     ensures bound { IfOk result (λ after. total after ≤ total counts + 1) }
-    ensures err { (w : World) → IsHost host.old w → IfErr result (FieldFailed (way C.after C.clock C.wakes request.now.limit)
-        request.now.chosen field.now
-        (at w sources.old host.old.store.disk) host.new sources.new
-        (W.contents writer.old) (W.contents writer.new)) }
+    ensures err { (w : World) → IsHost host.old w → IfErr result (FieldFailed
+        (one_by_one (way C.after C.clock C.wakes request.now.limit) request.now.chosen request.now.format)
+        field.now (at w sources.old host.old.store.disk)
+        (left host.new sources.new (W.contents writer.old) (W.contents writer.new))) }
     ensures shown { IfOk result (λ after.
-        FieldShown request.now.format P.shows all counts after progress.old progress.new) }
+        FieldShown (display request.now.format P.shows) all counts after progress.old progress.new) }
     ensures left { IfErr result (λ _. LeavesLine P.shows progress.old progress.new) }
 {
     let number = counts.total() + 1;
@@ -150,16 +151,18 @@ fn check_fields<D: Disk, C: Sources, W: Write, P: Progress>(
     writer: &mut W,
 ) -> Result<Counts, RunFault>
     requires { length sheet.now.contents.fields < 2 ^ 31 }
-    ensures ok { (w : World) → IsHost host.old w → IfOk result (FieldsWrote (way C.after C.clock C.wakes request.now.limit)
-        request.now.chosen request.now.format sheet.now.contents.fields (at w sources.old host.old.store.disk) host.new sources.new
-        (W.contents writer.old) (W.contents writer.new)) }
-    ensures err { (w : World) → IsHost host.old w → IfErr result (FieldsFailed (way C.after C.clock C.wakes request.now.limit)
-        request.now.chosen request.now.format sheet.now.contents.fields (at w sources.old host.old.store.disk) host.new sources.new
-        (W.contents writer.old) (W.contents writer.new)) }
+    ensures ok { (w : World) → IsHost host.old w → IfOk result (FieldsWrote
+        (one_by_one (way C.after C.clock C.wakes request.now.limit) request.now.chosen request.now.format)
+        sheet.now.contents.fields (at w sources.old host.old.store.disk)
+        (left host.new sources.new (W.contents writer.old) (W.contents writer.new))) }
+    ensures err { (w : World) → IsHost host.old w → IfErr result (FieldsFailed
+        (one_by_one (way C.after C.clock C.wakes request.now.limit) request.now.chosen request.now.format)
+        sheet.now.contents.fields (at w sources.old host.old.store.disk)
+        (left host.new sources.new (W.contents writer.old) (W.contents writer.new))) }
     ensures shown { IfOk result (λ counts.
-        FieldsShow request.now.format P.shows all progress.old counts progress.new) }
+        FieldsShow (display request.now.format P.shows) all progress.old counts progress.new) }
     ensures left { IfErr result (λ _.
-        FieldsLeft request.now.format P.shows all progress.old progress.new) }
+        FieldsLeft (display request.now.format P.shows) all progress.old progress.new) }
 {
     if let Err(fault) = tell_opening(request.format, writer) {
         return Err(fault);
@@ -203,13 +206,15 @@ fn check_and_stop<D: Disk, C: Sources, W: Write, P: Progress>(
     writer: &mut W,
 ) -> Result<Counts, RunFault>
     requires { length sheet.now.contents.fields < 2 ^ 31 }
-    ensures ok { (w : World) → IsHost host.old w → IfOk result (FieldsEnded (way C.after C.clock C.wakes request.now.limit)
-        request.now.chosen request.now.format sheet.now.contents.fields (at w sources.old host.old.store.disk) sources.new
-        (W.contents writer.old) (W.contents writer.new)) }
-    ensures err { (w : World) → IsHost host.old w → IfErr result (FieldsStopped (way C.after C.clock C.wakes request.now.limit)
-        request.now.chosen request.now.format sheet.now.contents.fields (at w sources.old host.old.store.disk) sources.new
-        (W.contents writer.old) (W.contents writer.new)) }
-    ensures shown { SheetShows request.now.format P.shows
+    ensures ok { (w : World) → IsHost host.old w → IfOk result (FieldsEnded
+        (one_by_one (way C.after C.clock C.wakes request.now.limit) request.now.chosen request.now.format)
+        sheet.now.contents.fields w host.old.store.disk
+        (passage sources.old sources.new (W.contents writer.old) (W.contents writer.new))) }
+    ensures err { (w : World) → IsHost host.old w → IfErr result (FieldsStopped
+        (one_by_one (way C.after C.clock C.wakes request.now.limit) request.now.chosen request.now.format)
+        sheet.now.contents.fields w host.old.store.disk
+        (passage sources.old sources.new (W.contents writer.old) (W.contents writer.new))) }
+    ensures shown { SheetShows (display request.now.format P.shows)
         (answered request.now.chosen sheet.now.contents.fields)
         progress.old progress.new result }
 {
@@ -233,10 +238,11 @@ fn checked_on_copy<C: Sources, W: Write, P: Progress>(
     requires few { length sheet.now.contents.fields < 2 ^ 31 }
     ensures none { IfNone result ((sources.new ≡ sources.old) × (writer.new ≡ writer.old)
         × (progress.new ≡ progress.old)) }
-    ensures some { IfSome result (λ counted. OnCopy (way C.after C.clock C.wakes request.now.limit)
-        request.now.chosen request.now.format sheet.now.contents sources.old sources.new
-        (W.contents writer.old) (W.contents writer.new) counted) }
-    ensures shown { IfSome result (λ counted. SheetShows request.now.format P.shows
+    ensures some { IfSome result (λ counted. OnCopy
+        (one_by_one (way C.after C.clock C.wakes request.now.limit) request.now.chosen request.now.format)
+        sheet.now.contents
+        (passage sources.old sources.new (W.contents writer.old) (W.contents writer.new)) counted) }
+    ensures shown { IfSome result (λ counted. SheetShows (display request.now.format P.shows)
         (answered request.now.chosen sheet.now.contents.fields)
         progress.old progress.new counted) }
 {
@@ -258,11 +264,11 @@ fn check_sheet<C: Sources, W: Write, P: Progress>(
     writer: &mut W,
 ) -> Result<Counts, RunFault>
     requires { (ops : List Op) × Makes ops sheet.now.contents }
-    ensures checked { SheetAnswer (way C.after C.clock C.wakes request.now.limit)
-        request.now.chosen request.now.format sheet.now.contents sources.old sources.new
-        (W.contents writer.old) (W.contents writer.new)
+    ensures checked { SheetAnswer
+        (one_by_one (way C.after C.clock C.wakes request.now.limit) request.now.chosen request.now.format)
+        sheet.now.contents (passage sources.old sources.new (W.contents writer.old) (W.contents writer.new))
         ((writer.new ≡ writer.old) × (sources.new ≡ sources.old)) result }
-    ensures shown { SheetShows request.now.format P.shows
+    ensures shown { SheetShows (display request.now.format P.shows)
         (answered request.now.chosen sheet.now.contents.fields)
         progress.old progress.new result }
 {
@@ -317,13 +323,13 @@ pub fn check<D: Disk, C: Sources, W: Write, P: Progress>(
     progress: &mut P,
     writer: &mut W,
 ) -> Checked<D>
-    ensures checked { CheckAnswer (way C.after C.clock C.wakes request.now.limit)
-        request.now.chosen request.now.format (D.view disk) sources.old sources.new
-        (W.contents writer.old) (W.contents writer.new)
+    ensures checked { CheckAnswer
+        (one_by_one (way C.after C.clock C.wakes request.now.limit) request.now.chosen request.now.format)
+        (D.view disk) (passage sources.old sources.new (W.contents writer.old) (W.contents writer.new))
         ((writer.new ≡ writer.old) × (sources.new ≡ sources.old)) result.answer }
     ensures read { OnlyRead (D.view disk) (D.view result.disk) }
 
-    ensures shown { CheckShows request.now.format P.shows request.now.chosen (D.view disk)
+    ensures shown { CheckShows (display request.now.format P.shows) request.now.chosen (D.view disk)
         progress.old progress.new result.answer }
 
     // That the disk failed is reported only where it did.

@@ -3,7 +3,7 @@ ghost use Rattle.std.specs.Prelude.{◌≡◌, ◌+◌, ◌≤◌, ◌<◌, ◌^
 ghost use Rattle.session_engine.specs.World.{World};
 ghost use Rattle.session_engine.specs.Host.{IsHost};
 ghost use Rattle.check_report.specs.Verdicts.{total};
-ghost use Rattle.sheet_check.specs.Progress.{FieldsLeft, FieldsShow, LeavesLine};
+ghost use Rattle.sheet_check.specs.Progress.{FieldsLeft, FieldsShow, LeavesLine, display};
 ghost use Rattle.sheet_check.specs.Together.{is_late as says_late};
 ghost use Rattle.sheet_check.specs.inside.Checking.{FieldShown, Untold};
 ghost use Rattle.sheet_check.specs.inside.Comparing.{FieldReported, FieldsReported, ReportBroke, comparing};
@@ -53,7 +53,7 @@ fn compare_field<D: Disk, W: Write, P: Progress>(
     ensures bound { IfOk result (λ after. total after ≤ total counts + 1) }
     ensures err { IfErr result (Untold (W.contents writer.old) (W.contents writer.new)) }
     ensures shown { IfOk result (λ after.
-        FieldShown request.now.format P.shows all counts after progress.old progress.new) }
+        FieldShown (display request.now.format P.shows) all counts after progress.old progress.new) }
     ensures left { IfErr result (λ _. LeavesLine P.shows progress.old progress.new) }
 {
     let number = counts.total() + 1;
@@ -88,9 +88,9 @@ pub(crate) fn compare_fields<D: Disk, W: Write, P: Progress>(
         (comparing request.now.chosen request.now.format w late.now) sheet.now.contents.fields
         (W.contents writer.old) (W.contents writer.new)) }
     ensures shown { IfOk result (λ counts.
-        FieldsShow request.now.format P.shows all progress.old counts progress.new) }
+        FieldsShow (display request.now.format P.shows) all progress.old counts progress.new) }
     ensures left { IfErr result (λ _.
-        FieldsLeft request.now.format P.shows all progress.old progress.new) }
+        FieldsLeft (display request.now.format P.shows) all progress.old progress.new) }
 {
     if let Err(fault) = tell_opening(request.format, writer) {
         return Err(fault);

@@ -1,6 +1,5 @@
 //! The check of a worksheet whose answers that differ are accepted.
 ghost use Rattle.std.specs.Prelude.{◌≡◌, ◌+◌, ◌++◌, ◌≤◌, ◌<◌, ◌^◌, [], List, Err, IfErr, IfNone, IfOk, IfSome, Some, false, length, true};
-ghost use Rattle.std.specs.Io.KnownBytes.{Appends};
 ghost use Rattle.disk_model.specs.Disk.{DiskView, Rises};
 ghost use Rattle.worksheet.specs.declared.field.Field.{Field};
 ghost use Rattle.worksheet.specs.declared.op.Op.{Op};
@@ -15,13 +14,14 @@ ghost use Rattle.journal.specs.declared.opening.OpenCause.TheVariants as opens;
 ghost use Rattle.check_report.specs.Chosen.{shown_by};
 ghost use Rattle.check_report.specs.Verdicts.{total};
 ghost use Rattle.check_report.specs.declared.report.Format.TheVariants as formats;
-ghost use Rattle.sheet_check.specs.Accept.{AcceptAnswer, AcceptLeft, SheetAccepts, accepted};
+ghost use Rattle.sheet_check.specs.Accept.{AcceptAnswer, AcceptLeft, SheetAccepts, accepted, filing, to_accept};
 ghost use Rattle.sheet_check.specs.Evaluated.{way};
-ghost use Rattle.sheet_check.specs.Check.{IsCopy};
-ghost use Rattle.sheet_check.specs.Progress.{CheckShows, FieldsLeft, FieldsShow, LeavesLine, MakesRoom, SheetShows, answered};
+ghost use Rattle.sheet_check.specs.Check.{IsCopy, passage};
+ghost use Rattle.sheet_check.specs.Progress.{CheckShows, FieldsLeft, FieldsShow, LeavesLine, MakesRoom, SheetShows, answered, display};
 ghost use Rattle.sheet_check.specs.declared.progress.Sight.TheVariants as sight;
-ghost use Rattle.sheet_check.specs.inside.Accepting.{CopyTook, FieldBroke, FieldTook, FieldsBroke, FieldsTook, GoesOn, OnCopy, ShownTook};
-ghost use Rattle.sheet_check.specs.inside.Checking.{FieldShown};
+ghost use Rattle.sheet_check.specs.inside.Accepting.{FieldBroke, FieldsBroke, FieldsTook, GoesOn, OnCopy, PutAll, ShownTook, storing};
+ghost use Rattle.sheet_check.specs.inside.Checking.{FieldShown, FieldWrote, FieldsEnded, question};
+ghost use Rattle.live.specs.Records.{left};
 
 use crate::accepting::{find_on_copy, take};
 use crate::checking::{Checked, count_answered, show_counts, tell_closing};
@@ -58,15 +58,15 @@ fn accept_shown<D: Disk, S: Disk, C: Sources, W: Write, P: Progress>(
     requires there { has_field store.old.sheet.contents field.now.id ≡ true }
     ensures written { store.old.gathers ≡ false → store.new.gathers ≡ false }
     ensures ok { (w : World) → IsHost host.old w → (ops more : List Op) → (disk : DiskView)
-        → Stores ops more disk store.old → IfOk result (ShownTook (way C.after C.clock C.wakes request.now.limit)
-        request.now.chosen field.now shown.now
-        (at w sources.old host.old.store.disk) host.new sources.new
-        (W.contents writer.old) (W.contents writer.new) (λ took. Stores ops (more ++ took) disk store.new)) }
+        → Stores ops more disk store.old → IfOk result (ShownTook
+        (to_accept (way C.after C.clock C.wakes request.now.limit) request.now.chosen)
+        (question 0 field.now shown.now) (at w sources.old host.old.store.disk)
+        (left host.new sources.new (W.contents writer.old) (W.contents writer.new)) (storing ops more disk store.new)) }
     ensures err { (w : World) → IsHost host.old w → (ops more : List Op) → (disk : DiskView)
-        → Stores ops more disk store.old → IfErr result (FieldBroke (way C.after C.clock C.wakes request.now.limit)
-        request.now.chosen field.now
-        (at w sources.old host.old.store.disk) host.new sources.new
-        (W.contents writer.old) (W.contents writer.new) ops more disk store.new) }
+        → Stores ops more disk store.old → IfErr result (FieldBroke
+        (to_accept (way C.after C.clock C.wakes request.now.limit) request.now.chosen)
+        field.now (at w sources.old host.old.store.disk)
+        (left host.new sources.new (W.contents writer.old) (W.contents writer.new)) (storing ops more disk store.new)) }
     ensures room { IfOk result (λ verdict.
         MakesRoom formats.Accepting P.shows verdict progress.old progress.new) }
     ensures left { IfErr result (λ _. LeavesLine P.shows progress.old progress.new) }
@@ -102,18 +102,19 @@ fn accept_field<D: Disk, S: Disk, C: Sources, W: Write, P: Progress>(
     requires there { has_field store.old.sheet.contents field.now.id ≡ true }
     ensures written { store.old.gathers ≡ false → store.new.gathers ≡ false }
     ensures ok { (w : World) → IsHost host.old w → (ops more : List Op) → (disk : DiskView)
-        → Stores ops more disk store.old → IfOk result (FieldTook (way C.after C.clock C.wakes request.now.limit)
-        request.now.chosen field.now
-        (at w sources.old host.old.store.disk) host.new sources.new
-        (W.contents writer.old) (W.contents writer.new) (λ took. Stores ops (more ++ took) disk store.new) counts) }
+        → Stores ops more disk store.old → IfOk result (λ after. (wrote : FieldWrote
+        (to_accept (way C.after C.clock C.wakes request.now.limit) request.now.chosen)
+        field.now (at w sources.old host.old.store.disk)
+        (left host.new sources.new (W.contents writer.old) (W.contents writer.new)) counts after)
+        × PutAll (storing ops more disk store.new) (accepted wrote.0)) }
     ensures bound { IfOk result (λ after. total after ≤ total counts + 1) }
     ensures err { (w : World) → IsHost host.old w → (ops more : List Op) → (disk : DiskView)
-        → Stores ops more disk store.old → IfErr result (FieldBroke (way C.after C.clock C.wakes request.now.limit)
-        request.now.chosen field.now
-        (at w sources.old host.old.store.disk) host.new sources.new
-        (W.contents writer.old) (W.contents writer.new) ops more disk store.new) }
+        → Stores ops more disk store.old → IfErr result (FieldBroke
+        (to_accept (way C.after C.clock C.wakes request.now.limit) request.now.chosen)
+        field.now (at w sources.old host.old.store.disk)
+        (left host.new sources.new (W.contents writer.old) (W.contents writer.new)) (storing ops more disk store.new)) }
     ensures shown { IfOk result (λ after.
-        FieldShown formats.Accepting P.shows all counts after progress.old progress.new) }
+        FieldShown (display formats.Accepting P.shows) all counts after progress.old progress.new) }
     ensures left { IfErr result (λ _. LeavesLine P.shows progress.old progress.new) }
 {
     match request.chosen.shown(field) {
@@ -144,19 +145,19 @@ fn accept_fields<D: Disk, S: Disk, C: Sources, W: Write, P: Progress>(
     requires goes_on { GoesOn sheet.now.contents store.old }
     ensures written { store.old.gathers ≡ false → store.new.gathers ≡ false }
     ensures ok { (w : World) → IsHost host.old w → (ops : List Op) → (disk : DiskView)
-        → Stores ops [] disk store.old → IfOk result (FieldsTook (way C.after C.clock C.wakes request.now.limit)
-        request.now.chosen sheet.now.contents.fields
-        (at w sources.old host.old.store.disk) host.new sources.new
-        (W.contents writer.old) (W.contents writer.new) (λ took. Stores ops took disk store.new)) }
+        → Stores ops [] disk store.old → IfOk result (FieldsTook
+        (to_accept (way C.after C.clock C.wakes request.now.limit) request.now.chosen)
+        sheet.now.contents.fields (at w sources.old host.old.store.disk)
+        (left host.new sources.new (W.contents writer.old) (W.contents writer.new)) (storing ops [] disk store.new)) }
     ensures err { (w : World) → IsHost host.old w → (ops : List Op) → (disk : DiskView)
-        → Stores ops [] disk store.old → IfErr result (FieldsBroke (way C.after C.clock C.wakes request.now.limit)
-        request.now.chosen sheet.now.contents.fields
-        (at w sources.old host.old.store.disk) host.new sources.new
-        (W.contents writer.old) (W.contents writer.new) ops disk store.new) }
+        → Stores ops [] disk store.old → IfErr result (FieldsBroke
+        (to_accept (way C.after C.clock C.wakes request.now.limit) request.now.chosen)
+        sheet.now.contents.fields (at w sources.old host.old.store.disk)
+        (left host.new sources.new (W.contents writer.old) (W.contents writer.new)) (storing ops [] disk store.new)) }
     ensures shown { IfOk result (λ counts.
-        FieldsShow formats.Accepting P.shows all progress.old counts progress.new) }
+        FieldsShow (display formats.Accepting P.shows) all progress.old counts progress.new) }
     ensures left { IfErr result (λ _.
-        FieldsLeft formats.Accepting P.shows all progress.old progress.new) }
+        FieldsLeft (display formats.Accepting P.shows) all progress.old progress.new) }
 {
     let mut counts = Counts::none();
     let mut fields = sheet.fields();
@@ -187,16 +188,18 @@ fn accept_and_stop<D: Disk, S: Disk, C: Sources, W: Write, P: Progress>(
     requires goes_on { GoesOn sheet.now.contents store.old }
     ensures written { store.old.gathers ≡ false → store.new.gathers ≡ false }
     ensures ok { (w : World) → IsHost host.old w → (ops : List Op) → (disk : DiskView)
-        → Stores ops [] disk store.old → IfOk result (CopyTook (way C.after C.clock C.wakes request.now.limit)
-        request.now.chosen sheet.now.contents
-        w host.old.store.disk sources.old sources.new
-        (W.contents writer.old) (W.contents writer.new) ops disk store.new) }
+        → Stores ops [] disk store.old → IfOk result (λ counts. (ended : FieldsEnded
+        (to_accept (way C.after C.clock C.wakes request.now.limit) request.now.chosen)
+        sheet.now.contents.fields w host.old.store.disk
+        (passage sources.old sources.new (W.contents writer.old) (W.contents writer.new)) counts)
+        × PutAll (storing ops [] disk store.new) (accepted ended.0)) }
     ensures err { (w : World) → IsHost host.old w → IsCopy sheet.now.contents w host.old.store.disk
         → (ops : List Op) → (disk : DiskView) → Stores ops [] disk store.old
-        → IfErr result (AcceptLeft (way C.after C.clock C.wakes request.now.limit)
-        request.now.chosen sheet.now.contents sources.old sources.new
-        (W.contents writer.old) (W.contents writer.new) ops disk store.new.disk) }
-    ensures shown { SheetShows formats.Accepting P.shows
+        → IfErr result (AcceptLeft
+        (to_accept (way C.after C.clock C.wakes request.now.limit) request.now.chosen)
+        sheet.now.contents
+        (passage sources.old sources.new (W.contents writer.old) (W.contents writer.new)) (filing ops disk store.new.disk)) }
+    ensures shown { SheetShows (display formats.Accepting P.shows)
         (answered request.now.chosen sheet.now.contents.fields)
         progress.old progress.new result }
 {
@@ -227,10 +230,11 @@ fn accepted_on_copy<S: Disk, C: Sources, W: Write, P: Progress>(
     ensures none { IfNone result ((sources.new ≡ sources.old) × (writer.new ≡ writer.old)
         × (progress.new ≡ progress.old) × (store.new ≡ store.old)) }
     ensures some { (ops : List Op) → (disk : DiskView) → Stores ops [] disk store.old
-        → IfSome result (OnCopy (way C.after C.clock C.wakes request.now.limit)
-        request.now.chosen sheet.now.contents sources.old sources.new
-        (W.contents writer.old) (W.contents writer.new) ops disk store.new) }
-    ensures shown { IfSome result (λ counted. SheetShows formats.Accepting P.shows
+        → IfSome result (OnCopy
+        (to_accept (way C.after C.clock C.wakes request.now.limit) request.now.chosen)
+        sheet.now.contents
+        (passage sources.old sources.new (W.contents writer.old) (W.contents writer.new)) (storing ops [] disk store.new)) }
+    ensures shown { IfSome result (λ counted. SheetShows (display formats.Accepting P.shows)
         (answered request.now.chosen sheet.now.contents.fields)
         progress.old progress.new counted) }
 {
@@ -259,10 +263,11 @@ fn accepted_on_copies<S: Disk, C: Sources, W: Write, P: Progress>(
     ensures none { IfNone result ((sources.new ≡ sources.old) × (writer.new ≡ writer.old)
         × (progress.new ≡ progress.old) × (store.new ≡ store.old)) }
     ensures some { (ops : List Op) → (disk : DiskView) → Stores ops [] disk store.old
-        → IfSome result (OnCopy (way C.after C.clock C.wakes request.now.limit)
-        request.now.chosen store.old.sheet.contents sources.old sources.new
-        (W.contents writer.old) (W.contents writer.new) ops disk store.new) }
-    ensures shown { IfSome result (λ counted. SheetShows formats.Accepting P.shows
+        → IfSome result (OnCopy
+        (to_accept (way C.after C.clock C.wakes request.now.limit) request.now.chosen)
+        store.old.sheet.contents
+        (passage sources.old sources.new (W.contents writer.old) (W.contents writer.new)) (storing ops [] disk store.new)) }
+    ensures shown { IfSome result (λ counted. SheetShows (display formats.Accepting P.shows)
         (answered request.now.chosen store.old.sheet.contents.fields)
         progress.old progress.new counted) }
 {
@@ -294,11 +299,11 @@ fn accept_sheet<S: Disk, C: Sources, W: Write, P: Progress>(
     requires goes_on { GoesOn store.old.sheet.contents store.old }
     ensures written { store.old.gathers ≡ false → store.new.gathers ≡ false }
     ensures accepted { (ops : List Op) → (disk : DiskView) → Stores ops [] disk store.old
-        → SheetAccepts (way C.after C.clock C.wakes request.now.limit)
-        request.now.chosen store.old.sheet.contents sources.old sources.new
-        (W.contents writer.old) (W.contents writer.new)
-        ((writer.new ≡ writer.old) × (sources.new ≡ sources.old)) ops disk store.new.disk result }
-    ensures shown { SheetShows formats.Accepting P.shows
+        → SheetAccepts
+        (to_accept (way C.after C.clock C.wakes request.now.limit) request.now.chosen)
+        store.old.sheet.contents
+        (passage sources.old sources.new (W.contents writer.old) (W.contents writer.new)) ((writer.new ≡ writer.old) × (sources.new ≡ sources.old)) (filing ops disk store.new.disk) result }
+    ensures shown { SheetShows (display formats.Accepting P.shows)
         (answered request.now.chosen store.old.sheet.contents.fields)
         progress.old progress.new result }
 {
@@ -334,12 +339,13 @@ pub fn check_accepting<D: Disk, C: Sources, W: Write, P: Progress>(
     progress: &mut P,
     writer: &mut W,
 ) -> Checked<D>
-    ensures accepted { AcceptAnswer (way C.after C.clock C.wakes request.now.limit)
-        request.now.chosen (D.view disk) (D.view result.disk)
-        sources.old sources.new (W.contents writer.old) (W.contents writer.new)
+    ensures accepted { AcceptAnswer
+        (to_accept (way C.after C.clock C.wakes request.now.limit) request.now.chosen)
+        (D.view disk) (D.view result.disk)
+        (passage sources.old sources.new (W.contents writer.old) (W.contents writer.new))
         ((writer.new ≡ writer.old) × (sources.new ≡ sources.old)) result.answer }
 
-    ensures shown { CheckShows formats.Accepting P.shows request.now.chosen (D.view disk)
+    ensures shown { CheckShows (display formats.Accepting P.shows) request.now.chosen (D.view disk)
         progress.old progress.new result.answer }
 
     // That the disk can't be read is reported only where it failed.

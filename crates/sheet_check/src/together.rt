@@ -8,10 +8,11 @@ ghost use Rattle.child_edge.specs.Faithful.{at};
 ghost use Rattle.disk_model.specs.Disk.{Rises};
 ghost use Rattle.offline_programs.specs.declared.fault.RunFault.TheVariants as told;
 ghost use Rattle.journal.specs.declared.opening.OpenCause.TheVariants as opens;
+ghost use Rattle.live.specs.Records.{left};
 ghost use Rattle.sheet_check.specs.Evaluated.{way};
-ghost use Rattle.sheet_check.specs.Check.{IsCopy, OnlyRead};
-ghost use Rattle.sheet_check.specs.Progress.{CheckShows, FieldsLeft, FieldsShow, SheetShows, answered};
-ghost use Rattle.sheet_check.specs.Together.{TellsTogether, TogetherAnswer, TogetherTells, checking_plan as plan_of_check, cleared, passage, side_by_side};
+ghost use Rattle.sheet_check.specs.Check.{IsCopy, OnlyRead, passage};
+ghost use Rattle.sheet_check.specs.Progress.{CheckShows, FieldsLeft, FieldsShow, SheetShows, answered, display};
+ghost use Rattle.sheet_check.specs.Together.{TellsTogether, TogetherAnswer, TogetherTells, checking_plan as plan_of_check, cleared, side_by_side};
 ghost use Rattle.sheet_check.specs.inside.Comparing.{BrokeTogether, CameTogether, EndedTogether, FailedTogether, OnCleared, ReportedTogether};
 
 use crate::checking::{Checked, count_answered, tell_closing};
@@ -91,16 +92,16 @@ fn check_together_on<D: Disk, C: Sources, W: Write, P: Progress>(
     requires stands { (w : World) × IsHost host.old w }
     ensures ok { (w : World) → IsHost host.old w → IfOk result (ReportedTogether
         (side_by_side (way C.after C.clock C.wakes request.now.limit) jobs request.now.chosen request.now.format)
-        sheet.now.contents.fields (at w sources.old host.old.store.disk) host.new sources.new
-        (W.contents writer.old) (W.contents writer.new)) }
+        sheet.now.contents.fields (at w sources.old host.old.store.disk)
+        (left host.new sources.new (W.contents writer.old) (W.contents writer.new))) }
     ensures err { (w : World) → IsHost host.old w → IfErr result (FailedTogether
         (side_by_side (way C.after C.clock C.wakes request.now.limit) jobs request.now.chosen request.now.format)
-        sheet.now.contents.fields (at w sources.old host.old.store.disk) host.new sources.new
-        (W.contents writer.old) (W.contents writer.new)) }
+        sheet.now.contents.fields (at w sources.old host.old.store.disk)
+        (left host.new sources.new (W.contents writer.old) (W.contents writer.new))) }
     ensures shown { IfOk result (λ counts.
-        FieldsShow request.now.format P.shows all progress.old counts progress.new) }
+        FieldsShow (display request.now.format P.shows) all progress.old counts progress.new) }
     ensures left { IfErr result (λ _.
-        FieldsLeft request.now.format P.shows all progress.old progress.new) }
+        FieldsLeft (display request.now.format P.shows) all progress.old progress.new) }
 {
     match evaluate_checked(alloc, request, jobs, sheet, host, sources) {
         Ok(late) => compare_fields(
@@ -140,7 +141,7 @@ fn check_together_and_stop<D: Disk, C: Sources, W: Write, P: Progress>(
         → IfErr result (TellsTogether
         (side_by_side (way C.after C.clock C.wakes request.now.limit) jobs request.now.chosen request.now.format)
         sheet.now.contents (passage sources.old sources.new (W.contents writer.old) (W.contents writer.new)) ⊥) }
-    ensures shown { SheetShows request.now.format P.shows
+    ensures shown { SheetShows (display request.now.format P.shows)
         (answered request.now.chosen sheet.now.contents.fields)
         progress.old progress.new result }
 {
@@ -170,7 +171,7 @@ fn together_on_copy<C: Sources, W: Write, P: Progress>(
     ensures some { IfSome result (OnCleared
         (side_by_side (way C.after C.clock C.wakes request.now.limit) jobs request.now.chosen request.now.format)
         sheet.now.contents (passage sources.old sources.new (W.contents writer.old) (W.contents writer.new))) }
-    ensures shown { IfSome result (λ counted. SheetShows request.now.format P.shows
+    ensures shown { IfSome result (λ counted. SheetShows (display request.now.format P.shows)
         (answered request.now.chosen sheet.now.contents.fields)
         progress.old progress.new counted) }
 {
@@ -197,7 +198,7 @@ fn check_sheet_together<C: Sources, W: Write, P: Progress>(
         (side_by_side (way C.after C.clock C.wakes request.now.limit) jobs request.now.chosen request.now.format)
         sheet.now.contents (passage sources.old sources.new (W.contents writer.old) (W.contents writer.new))
         ((writer.new ≡ writer.old) × (sources.new ≡ sources.old)) result }
-    ensures shown { SheetShows request.now.format P.shows
+    ensures shown { SheetShows (display request.now.format P.shows)
         (answered request.now.chosen sheet.now.contents.fields)
         progress.old progress.new result }
 {
@@ -247,7 +248,7 @@ pub fn check_together<D: Disk, C: Sources, W: Write, P: Progress>(
         ((writer.new ≡ writer.old) × (sources.new ≡ sources.old)) result.answer }
     ensures read { OnlyRead (D.view disk) (D.view result.disk) }
 
-    ensures shown { CheckShows request.now.format P.shows request.now.chosen (D.view disk)
+    ensures shown { CheckShows (display request.now.format P.shows) request.now.chosen (D.view disk)
         progress.old progress.new result.answer }
 
     // That the disk failed is reported only where it did.

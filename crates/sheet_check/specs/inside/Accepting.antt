@@ -18,17 +18,17 @@ use Rattle.child_edge.specs.Faithful.{At, at}
 use Rattle.offline_programs.specs.declared.fault.RunFault.{RunFault}
 use Rattle.offline_programs.specs.declared.fault.RunFault.TheVariants as fault
 use Rattle.check_report.specs.declared.chosen.Chosen.{Chosen}
-use Rattle.check_report.specs.declared.report.Format.TheVariants as format
 use Rattle.check_report.specs.declared.verdict.Counts.{Counts}
 use Rattle.check_report.specs.declared.verdict.Verdict.{Verdict}
 use Rattle.check_report.specs.Chosen.{Judged}
 use Rattle.check_report.specs.Reports.{Case, case, report_front}
 use Rattle.check_report.specs.Words.{acceptance_text}
-use Rattle.sheet_check.specs.Evaluated.{FieldChecked, FieldsChecked, Way, reason_shown_in}
-use Rattle.sheet_check.specs.Check.{IsCopy}
-use Rattle.sheet_check.specs.Accept.{AcceptLeft, accepted, accepted_answer, accepted_of}
+use Rattle.live.specs.Records.{Left}
+use Rattle.sheet_check.specs.Evaluated.{FieldChecked, FieldsChecked, OneByOne, reason_shown_in}
+use Rattle.sheet_check.specs.Check.{IsCopy, Passage}
+use Rattle.sheet_check.specs.Accept.{AcceptLeft, accepted, accepted_answer, accepted_of, filing}
 use Rattle.sheet_check.specs.declared.accepting.Finding.{Finding}
-use Rattle.sheet_check.specs.inside.Checking.{FieldFailed, FieldWrote, FieldsEnded, FieldsFailed, FieldsWrote, ShownWrote}
+use Rattle.sheet_check.specs.inside.Checking.{FieldFailed, FieldsEnded, FieldsFailed, FieldsWrote, Question, ShownWrote}
 
 -- what a field came to by the answer that it shows and the one that came
 pub record Finds (chosen : Chosen) (field : Field) (shown : Answer) (came : Option Answer) (found : Finding) : Type 0 where
@@ -42,26 +42,37 @@ fault_of_acceptance refused.Full = fault.Host hosts.JournalFull
 fault_of_acceptance refused.OutOfMemory = fault.OutOfMemory
 fault_of_acceptance refused.Disk = fault.Host hosts.Disk
 
--- what a fault leaves where these are to be put after others
-abbrev pub NotPut : List Op → List Op → DiskView → List Op → StoreView → AcceptFault → Type 0
-NotPut ops more disk ones new refused.Full = (one : Op) × (ones ≡ one ∷ []) × Stores ops more disk new × NoPlace one new.disk
-NotPut ops more disk ones new refused.OutOfMemory = Stores ops more disk new
-NotPut ops more disk ones new refused.Disk = (one : Op) × (ones ≡ one ∷ []) × HoldsBut ops more one disk new.disk
+-- A store in which answers are put: the ops of its worksheet, what was put after them so far, the disk before that, and the store now.
+pub record Storing : Type 0 where
+  pub ops : List Op
+  pub more : List Op
+  pub disk : DiskView
+  pub store : StoreView
 
--- What a fault leaves where these are to be put after others, and a text is to be written: nothing of either, or the disk failed, or
+abbrev pub storing : List Op → List Op → DiskView → StoreView → Storing
+storing ops more disk store = record { ops = ops; more = more; disk = disk; store = store }
+
+-- nothing more was put
+abbrev pub PutNone : Storing → Type 0
+PutNone x = Stores x.ops x.more x.disk x.store
+
+-- these were put after the others
+abbrev pub PutAll : Storing → List Op → Type 0
+PutAll x ones = Stores x.ops (x.more ++ ones) x.disk x.store
+
+-- what a fault leaves where these are to be put after the others
+abbrev pub NotPut : Storing → List Op → AcceptFault → Type 0
+NotPut x ones refused.Full = (one : Op) × (ones ≡ one ∷ []) × PutNone x × NoPlace one x.store.disk
+NotPut x ones refused.OutOfMemory = PutNone x
+NotPut x ones refused.Disk = (one : Op) × (ones ≡ one ∷ []) × HoldsBut x.ops x.more one x.disk x.store.disk
+
+-- What a fault leaves where these are to be put after the others, and a text is to be written: nothing of either, or the disk failed, or
 -- the writer did.
-abbrev pub NotTaken : List Op → List Op → DiskView → List Op → StoreView → Option (List ℕ) → Option (List ℕ) → RunFault → Type 0
-NotTaken ops more disk ones new a b (fault.Host hosts.JournalFull) =
-    (one : Op) × (ones ≡ one ∷ []) × Stores ops more disk new × NoPlace one new.disk × (b ≡ a)
-NotTaken ops more disk ones new a b (fault.Host hosts.Disk) = (one : Op) × (ones ≡ one ∷ []) × HoldsBut ops more one disk new.disk × (b ≡ a)
-NotTaken ops more disk ones new a b fault.OutOfMemory = Stores ops more disk new × (b ≡ a)
-NotTaken ops more disk ones new a b fault.Output = Stores ops (more ++ ones) disk new
-NotTaken ops more disk ones new a b (fault.Host hosts.OutOfMemory) = ⊥
-NotTaken ops more disk ones new a b (fault.Host hosts.Closed) = ⊥
-NotTaken ops more disk ones new a b fault.Input = ⊥
-NotTaken ops more disk ones new a b fault.InputTooLong = ⊥
-NotTaken ops more disk ones new a b (fault.Open why) = ⊥
-NotTaken ops more disk ones new a b fault.InUse = ⊥
+pub data NotTaken (x : Storing) (ones : List Op) (a b : Option (List ℕ)) (why : RunFault) : Type 0 where
+  full : (one : Op) → why ≡ fault.Host hosts.JournalFull → ones ≡ one ∷ [] → PutNone x → NoPlace one x.store.disk → b ≡ a → NotTaken x ones a b why
+  broken : (one : Op) → why ≡ fault.Host hosts.Disk → ones ≡ one ∷ [] → HoldsBut x.ops x.more one x.disk x.store.disk → b ≡ a → NotTaken x ones a b why
+  unremembered : why ≡ fault.OutOfMemory → PutNone x → b ≡ a → NotTaken x ones a b why
+  unwritten : why ≡ fault.Output → PutAll x ones → NotTaken x ones a b why
 
 -- A store goes on after the ops of this worksheet and what was accepted of some fields.
 pub record GoesOn (sheet : Contents) (store : StoreView) : Type 0 where
@@ -71,57 +82,48 @@ pub record GoesOn (sheet : Contents) (store : StoreView) : Type 0 where
   pub is : sheet ≡ sheet_of ops
   pub stores : Stores ops (accepted cases) disk store
 
--- A field that shows this answer was checked, and what is to be reported is written; what is accepted of it has P.
-abbrev pub ShownTook : {C : Type 0} → Way C → Chosen → Field → Answer → At C → HostView → C → Option (List ℕ) → Option (List ℕ) → (List Op → Type 0) → Verdict → Type 0
-ShownTook o chosen field shown s h c a b P v = (wrote : ShownWrote o chosen format.Accepting 0 field shown s h c a b v) × P (accepted_of (case field wrote.0 (reason_shown_in wrote.1 field.id) v))
+-- A field that shows this answer was checked, what is to be reported is written, and what is accepted of it was put.
+abbrev pub ShownTook : {C : Type 0} → OneByOne C → Question → At C → Left C → Storing → Verdict → Type 0
+ShownTook o one s l x v = (wrote : ShownWrote o one s l v) × PutAll x (accepted_of (case one.field wrote.0 (reason_shown_in wrote.1 one.field.id) v))
 
--- The same of a field that was checked after those that are counted, and of fields.
-abbrev pub FieldTook : {C : Type 0} → Way C → Chosen → Field → At C → HostView → C → Option (List ℕ) → Option (List ℕ) → (List Op → Type 0) → Counts → Counts → Type 0
-FieldTook o chosen field s h c a b P counts after = (wrote : FieldWrote o chosen format.Accepting field s h c a b counts after) × P (accepted wrote.0)
-
-abbrev pub FieldsTook : {C : Type 0} → Way C → Chosen → List Field → At C → HostView → C → Option (List ℕ) → Option (List ℕ) → (List Op → Type 0) → Counts → Type 0
-FieldsTook o chosen fields s h c a b P counts = (wrote : FieldsWrote o chosen format.Accepting fields s h c a b counts) × P (accepted wrote.0)
+-- the same of fields
+abbrev pub FieldsTook : {C : Type 0} → OneByOne C → List Field → At C → Left C → Storing → Counts → Type 0
+FieldsTook o fields s l x counts = (wrote : FieldsWrote o fields s l counts) × PutAll x (accepted wrote.0)
 
 -- a field was checked, and this is its case
-abbrev pub FieldLast : {C : Type 0} → Way C → Chosen → Field → At C → HostView → C → Case → Type 0
-FieldLast o chosen field s h c last = (t : World) × FieldChecked o chosen field s (last ∷ []) (at t c h.store.disk) × IsHost h t
+abbrev pub FieldLast : {C : Type 0} → OneByOne C → Field → At C → HostView → C → Case → Type 0
+FieldLast o field s h c last = (t : World) × FieldChecked o.way o.chosen field s (last ∷ []) (at t c h.store.disk) × IsHost h t
 
 -- Where the check of a field ended early: it was evaluated in part, or in whole and its answer couldn't be accepted or reported.
-pub data FieldBroke {C : Type 0} (o : Way C) (chosen : Chosen) (field : Field) (s : At C) (h : HostView) (c : C) (a b : Option (List ℕ)) (ops more : List Op) (disk : DiskView) (store : StoreView) (why : RunFault) : Type 0 where
-  early : FieldFailed o chosen field s h c a b why → (why ≡ fault.Output → ⊥) → Stores ops more disk store → FieldBroke o chosen field s h c a b ops more disk store why
-  full : (last : Case) (one : Op) → why ≡ fault.Host hosts.JournalFull → FieldLast o chosen field s h c last → accepted_of last ≡ one ∷ [] → b ≡ a
-      → Stores ops more disk store → NoPlace one store.disk → FieldBroke o chosen field s h c a b ops more disk store why
-  broken : (last : Case) (one : Op) → why ≡ fault.Host hosts.Disk → FieldLast o chosen field s h c last → accepted_of last ≡ one ∷ [] → b ≡ a
-      → HoldsBut ops more one disk store.disk → FieldBroke o chosen field s h c a b ops more disk store why
-  unwritten : (last : Case) → why ≡ fault.Output → FieldLast o chosen field s h c last → Stores ops (more ++ accepted_of last) disk store
-      → FieldBroke o chosen field s h c a b ops more disk store why
+pub data FieldBroke {C : Type 0} (o : OneByOne C) (field : Field) (s : At C) (l : Left C) (x : Storing) (why : RunFault) : Type 0 where
+  early : FieldFailed o field s l why → (why ≡ fault.Output → ⊥) → PutNone x → FieldBroke o field s l x why
+  full : (last : Case) (one : Op) → why ≡ fault.Host hosts.JournalFull → FieldLast o field s l.host l.sources last → accepted_of last ≡ one ∷ [] → l.now ≡ l.out
+      → PutNone x → NoPlace one x.store.disk → FieldBroke o field s l x why
+  broken : (last : Case) (one : Op) → why ≡ fault.Host hosts.Disk → FieldLast o field s l.host l.sources last → accepted_of last ≡ one ∷ [] → l.now ≡ l.out
+      → HoldsBut x.ops x.more one x.disk x.store.disk → FieldBroke o field s l x why
+  unwritten : (last : Case) → why ≡ fault.Output → FieldLast o field s l.host l.sources last → PutAll x (accepted_of last) → FieldBroke o field s l x why
 
 -- some of the first of these fields were checked, and these are their cases
-pub record FieldsUpTo {C : Type 0} (o : Way C) (chosen : Chosen) (fields : List Field) (s : At C) (h : HostView) (c : C) (cases : List Case) : Type 0 where
+pub record FieldsUpTo {C : Type 0} (o : OneByOne C) (fields : List Field) (s : At C) (h : HostView) (c : C) (cases : List Case) : Type 0 where
   pub gone : List Field
   pub left : List Field
   pub split : fields ≡ gone ++ left
   pub leads : World
-  pub checked : FieldsChecked o chosen gone s cases (at leads c h.store.disk)
+  pub checked : FieldsChecked o.way o.chosen gone s cases (at leads c h.store.disk)
   pub stands : IsHost h leads
 
 -- Where the check of fields ended early.
-pub data FieldsBroke {C : Type 0} (o : Way C) (chosen : Chosen) (fields : List Field) (s : At C) (h : HostView) (c : C) (a b : Option (List ℕ)) (ops : List Op) (disk : DiskView) (store : StoreView) (why : RunFault) : Type 0 where
-  early : (failed : FieldsFailed o chosen format.Accepting fields s h c a b why) → (why ≡ fault.Output → ⊥) → Stores ops (accepted failed.cases) disk store
-      → FieldsBroke o chosen fields s h c a b ops disk store why
-  full : (cases : List Case) (last : Case) (one : Op) → why ≡ fault.Host hosts.JournalFull → FieldsUpTo o chosen fields s h c (cases ++ last ∷ []) → accepted_of last ≡ one ∷ []
-      → Appends a b (report_front format.Accepting cases) → Stores ops (accepted cases) disk store → NoPlace one store.disk → FieldsBroke o chosen fields s h c a b ops disk store why
-  broken : (cases : List Case) (last : Case) (one : Op) → why ≡ fault.Host hosts.Disk → FieldsUpTo o chosen fields s h c (cases ++ last ∷ []) → accepted_of last ≡ one ∷ []
-      → Appends a b (report_front format.Accepting cases) → HoldsBut ops (accepted cases) one disk store.disk → FieldsBroke o chosen fields s h c a b ops disk store why
-  unwritten : (cases : List Case) → why ≡ fault.Output → FieldsUpTo o chosen fields s h c cases → Stores ops (accepted cases) disk store
-      → FieldsBroke o chosen fields s h c a b ops disk store why
+pub data FieldsBroke {C : Type 0} (o : OneByOne C) (fields : List Field) (s : At C) (l : Left C) (x : Storing) (why : RunFault) : Type 0 where
+  early : (failed : FieldsFailed o fields s l why) → (why ≡ fault.Output → ⊥) → PutAll x (accepted failed.cases) → FieldsBroke o fields s l x why
+  full : (cases : List Case) (last : Case) (one : Op) → why ≡ fault.Host hosts.JournalFull → FieldsUpTo o fields s l.host l.sources (cases ++ last ∷ []) → accepted_of last ≡ one ∷ []
+      → Appends l.out l.now (report_front o.format cases) → PutAll x (accepted cases) → NoPlace one x.store.disk → FieldsBroke o fields s l x why
+  broken : (cases : List Case) (last : Case) (one : Op) → why ≡ fault.Host hosts.Disk → FieldsUpTo o fields s l.host l.sources (cases ++ last ∷ []) → accepted_of last ≡ one ∷ []
+      → Appends l.out l.now (report_front o.format cases) → HoldsBut x.ops (x.more ++ accepted cases) one x.disk x.store.disk → FieldsBroke o fields s l x why
+  unwritten : (cases : List Case) → why ≡ fault.Output → FieldsUpTo o fields s l.host l.sources cases → PutAll x (accepted cases) → FieldsBroke o fields s l x why
 
--- The fields of a worksheet were checked on a copy of it, each life that goes on was stopped, and what is accepted is on the disk; or
--- that ended early.
-abbrev pub CopyTook : {C : Type 0} → Way C → Chosen → Contents → World → DiskView → C → C → Option (List ℕ) → Option (List ℕ) → List Op → DiskView → StoreView → Counts → Type 0
-CopyTook o chosen sheet w copy c d a b ops disk store counts =
-    (ended : FieldsEnded o chosen format.Accepting sheet.fields (at w c copy) d a b counts) × Stores ops (accepted ended.0) disk store
-
-abbrev pub OnCopy : {C : Type 0} → Way C → Chosen → Contents → C → C → Option (List ℕ) → Option (List ℕ) → List Op → DiskView → StoreView → Result Counts RunFault → Type 0
-OnCopy o chosen sheet c d a b ops disk store counted = (w : World) × (copy : DiskView) × IsCopy sheet w copy
-    × IfOk counted (CopyTook o chosen sheet w copy c d a b ops disk store) × IfErr counted (AcceptLeft o chosen sheet c d a b ops disk store.disk)
+-- The fields of a worksheet were checked on a copy of it, each life that goes on was stopped, and what is accepted is put in a store in
+-- which nothing was put before; or that ended early.
+abbrev pub OnCopy : {C : Type 0} → OneByOne C → Contents → Passage C → Storing → Result Counts RunFault → Type 0
+OnCopy o sheet q x counted = (w : World) × (copy : DiskView) × IsCopy sheet w copy
+    × IfOk counted (λ counts. (ended : FieldsEnded o sheet.fields w copy q counts) × PutAll x (accepted ended.0))
+    × IfErr counted (AcceptLeft o sheet q (filing x.ops x.disk x.store.disk))

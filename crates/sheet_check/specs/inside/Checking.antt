@@ -1,6 +1,7 @@
 -- What the functions of a check promise each other. No public contract names this.
 use Rattle.std.specs.Prelude.{◌≡◌, ◌+◌, ◌⊎◌, ℕ, List, [], ◌∷◌, ◌++◌, Option, Some, Result, IfOk, IfErr}
 use Rattle.host_events.specs.declared.event.Event.{Event}
+use Rattle.host_events.specs.declared.outcome.HostFault.{HostFault}
 use Rattle.host_events.specs.declared.outcome.HostFault.TheVariants as hosts
 use Rattle.child_edge.specs.declared.serving.EdgeCause.{EdgeCause}
 use Rattle.child_edge.specs.declared.serving.EdgeCause.TheVariants as cause
@@ -20,19 +21,17 @@ use Rattle.child_edge.specs.Stops.{Stops}
 use Rattle.sheet_programs.specs.Told.{StandsOrStopped}
 use Rattle.offline_programs.specs.declared.fault.RunFault.{RunFault}
 use Rattle.offline_programs.specs.declared.fault.RunFault.TheVariants as fault
-use Rattle.check_report.specs.declared.chosen.Chosen.{Chosen}
-use Rattle.check_report.specs.declared.report.Format.{Format}
 use Rattle.check_report.specs.declared.verdict.Counts.{Counts}
 use Rattle.check_report.specs.declared.verdict.Verdict.{Verdict}
 use Rattle.check_report.specs.Chosen.{Judged}
 use Rattle.check_report.specs.Reports.{Case, case, case_text, cases_text, report_front, verdicts_of}
 use Rattle.check_report.specs.Verdicts.{counted_with, counts_of, total}
-use Rattle.sheet_check.specs.Evaluated.{Evaluated, FieldChecked, FieldsChecked, Way, eval_of, reason_shown_in}
+use Rattle.live.specs.Records.{Left}
+use Rattle.sheet_check.specs.Evaluated.{Evaluated, FieldChecked, FieldsChecked, OneByOne, Way, eval_of, reason_shown_in}
 use Rattle.worksheet.specs.Contents.{Contents}
-use Rattle.sheet_check.specs.Check.{FirstLed, FirstTooLong, FirstUnwatched, FirstUpTo, IsCopy, NotOfDisk, TooLongBy, UnwatchedBy, WaitLedBy, WaitUpToBy}
-use Rattle.sheet_check.specs.declared.progress.Sight.{Sight}
+use Rattle.sheet_check.specs.Check.{FirstLed, FirstTooLong, FirstUnwatched, FirstUpTo, IsCopy, NotOfDisk, Passage, TooLongBy, UnwatchedBy, WaitLedBy, WaitUpToBy}
 use Rattle.sheet_check.specs.declared.progress.Sight.TheVariants as sight
-use Rattle.sheet_check.specs.Progress.{MakesRoom}
+use Rattle.sheet_check.specs.Progress.{Display, MakesRoom}
 
 -- the fault of a check by why its edge broke off
 abbrev pub fault_of_cause : EdgeCause → RunFault
@@ -43,25 +42,17 @@ fault_of_cause (cause.Host hosts.Closed) = fault.Host hosts.Closed
 fault_of_cause cause.OutOfMemory = fault.OutOfMemory
 
 -- An `eval` broke off: up to the event at which the host had a fault, or for lack of memory.
-abbrev pub AskFailed : {C : Type 0} → Relation C → ℕ → At C → HostView → C → RunFault → Type 0
-AskFailed R id s h c (fault.Host f) =
-    (beats : List Beat) × (e : Event) × (t : World) × (d : DiskView) × ServedUpTo R s (eval_of id) beats e (at t c d) × Stopped d h t e f × NotOfDisk f
-AskFailed R id s h c fault.OutOfMemory = (t : World) × (d : DiskView) × LineLed R (Some (line.Command (command.Eval id))) s (at t c d) × StandsOrStopped h t d
-AskFailed R id s h c fault.Output = ⊥
-AskFailed R id s h c fault.Input = ⊥
-AskFailed R id s h c fault.InputTooLong = ⊥
-AskFailed R id s h c (fault.Open why) = ⊥
-AskFailed R id s h c fault.InUse = ⊥
+pub data AskFailed {C : Type 0} (R : Relation C) (id : ℕ) (s : At C) (h : HostView) (c : C) : RunFault → Type 0 where
+  stopped : (f : HostFault) (beats : List Beat) (e : Event) (t : World) (d : DiskView) → ServedUpTo R s (eval_of id) beats e (at t c d) → Stopped d h t e f → NotOfDisk f
+      → AskFailed R id s h c (fault.Host f)
+  unremembered : (t : World) (d : DiskView) → LineLed R (Some (line.Command (command.Eval id))) s (at t c d) → StandsOrStopped h t d → AskFailed R id s h c fault.OutOfMemory
 
 -- The wait for an answer broke off in the same ways, or the sources couldn't be watched, or as many steps came as are counted.
-abbrev pub WaitBroke : {C : Type 0} → Way C → ℕ → At C → HostView → C → RunFault → Type 0
-WaitBroke o id s h c (fault.Host f) = (e : Event) × (t : World) × (d : DiskView) × WaitUpToBy o.limit o id s e (at t c d) × Stopped d h t e f × NotOfDisk f
-WaitBroke o id s h c fault.OutOfMemory = (t : World) × (d : DiskView) × WaitLedBy o.limit o id s (at t c d) × StandsOrStopped h t d
-WaitBroke o id s h c fault.Input = (t : World) × UnwatchedBy o.limit o id s (at t c h.store.disk) × IsHost h t
-WaitBroke o id s h c fault.InputTooLong = (t : World) × TooLongBy o.limit o id s (at t c h.store.disk) × IsHost h t
-WaitBroke o id s h c fault.Output = ⊥
-WaitBroke o id s h c (fault.Open why) = ⊥
-WaitBroke o id s h c fault.InUse = ⊥
+pub data WaitBroke {C : Type 0} (o : Way C) (id : ℕ) (s : At C) (h : HostView) (c : C) : RunFault → Type 0 where
+  stopped : (f : HostFault) (e : Event) (t : World) (d : DiskView) → WaitUpToBy o.limit o id s e (at t c d) → Stopped d h t e f → NotOfDisk f → WaitBroke o id s h c (fault.Host f)
+  unremembered : (t : World) (d : DiskView) → WaitLedBy o.limit o id s (at t c d) → StandsOrStopped h t d → WaitBroke o id s h c fault.OutOfMemory
+  unwatched : (t : World) → UnwatchedBy o.limit o id s (at t c h.store.disk) → IsHost h t → WaitBroke o id s h c fault.Input
+  too_long : (t : World) → TooLongBy o.limit o id s (at t c h.store.disk) → IsHost h t → WaitBroke o id s h c fault.InputTooLong
 
 -- An evaluation broke off, in its `eval` or in the wait after it.
 abbrev pub EvaluationBroke : {C : Type 0} → Way C → ℕ → At C → HostView → C → RunFault → Type 0
@@ -69,29 +60,28 @@ EvaluationBroke {C = C} o id s h c why =
     AskFailed o.after id s h c why ⊎ ((beats : List Beat) × (mid : At C) × Served o.after s (eval_of id) beats mid × WaitBroke o id mid h c why)
 
 -- What a field came to couldn't be reported: there was no memory for it, and nothing was written, or the writer failed.
-abbrev pub Untold : Option (List ℕ) → Option (List ℕ) → RunFault → Type 0
-Untold a b fault.OutOfMemory = Appends a b []
-Untold a b fault.Output = Unit {0}
-Untold a b (fault.Host why) = ⊥
-Untold a b fault.Input = ⊥
-Untold a b fault.InputTooLong = ⊥
-Untold a b (fault.Open why) = ⊥
-Untold a b fault.InUse = ⊥
+pub data Untold (a b : Option (List ℕ)) (why : RunFault) : Type 0 where
+  unremembered : why ≡ fault.OutOfMemory → Appends a b [] → Untold a b why
+  unwritten : why ≡ fault.Output → Untold a b why
 
--- What a fault that comes after the opening leaves of the output: this text, but where the writer failed.
+-- What a fault leaves of the output: this text, but where the writer failed.
 abbrev pub LeavesText : Option (List ℕ) → Option (List ℕ) → List ℕ → RunFault → Type 0
-LeavesText a b text (fault.Host why) = Appends a b text
-LeavesText a b text fault.OutOfMemory = Appends a b text
-LeavesText a b text fault.Output = Unit {0}
-LeavesText a b text fault.Input = Appends a b text
-LeavesText a b text fault.InputTooLong = Appends a b text
-LeavesText a b text (fault.Open why) = ⊥
-LeavesText a b text fault.InUse = ⊥
+LeavesText a b text why = (why ≡ fault.Output) ⊎ Appends a b text
 
--- A field that shows this answer was evaluated, what came was judged, and what is to be reported is written: it is the case of this number.
-abbrev pub ShownWrote : {C : Type 0} → Way C → Chosen → Format → ℕ → Field → Answer → At C → HostView → C → Option (List ℕ) → Option (List ℕ) → Verdict → Type 0
-ShownWrote o chosen F number field shown s h c a b verdict = (came : Option Answer) × (t : World) × Evaluated o field.id s came (at t c h.store.disk)
-    × IsHost h t × Judged chosen field.id shown.output came verdict × Appends a b (case_text F number (case field came (reason_shown_in t field.id) verdict))
+-- What is to be evaluated and reported: a field, the answer that it shows, and the number of the case that it is.
+pub record Question : Type 0 where
+  pub number : ℕ
+  pub field : Field
+  pub shown : Answer
+
+abbrev pub question : ℕ → Field → Answer → Question
+question number field shown = record { number = number; field = field; shown = shown }
+
+-- A field that shows this answer was evaluated, what came was judged, and what is to be reported is written.
+abbrev pub ShownWrote : {C : Type 0} → OneByOne C → Question → At C → Left C → Verdict → Type 0
+ShownWrote o one s l verdict = (came : Option Answer) × (t : World) × Evaluated o.way one.field.id s came (at t l.sources l.host.store.disk)
+    × IsHost l.host t × Judged o.chosen one.field.id one.shown.output came verdict
+    × Appends l.out l.now (case_text o.format one.number (case one.field came (reason_shown_in t one.field.id) verdict))
 
 -- with these verdicts more
 abbrev pub counted_on : List Verdict → Counts → Counts
@@ -99,72 +89,72 @@ counted_on [] counts = counts
 counted_on (one ∷ others) counts = counted_with one (counted_on others counts)
 
 -- A field was checked after those that are counted, and what is to be reported is written.
-abbrev pub FieldWrote : {C : Type 0} → Way C → Chosen → Format → Field → At C → HostView → C → Option (List ℕ) → Option (List ℕ) → Counts → Counts → Type 0
-FieldWrote o chosen F field s h c a b counts after = (cases : List Case) × (t : World) × FieldChecked o chosen field s cases (at t c h.store.disk)
-    × IsHost h t × (after ≡ counted_on (verdicts_of cases) counts) × Appends a b (cases_text F (total counts + 1) cases)
+abbrev pub FieldWrote : {C : Type 0} → OneByOne C → Field → At C → Left C → Counts → Counts → Type 0
+FieldWrote o field s l counts after = (cases : List Case) × (t : World) × FieldChecked o.way o.chosen field s cases (at t l.sources l.host.store.disk)
+    × IsHost l.host t × (after ≡ counted_on (verdicts_of cases) counts) × Appends l.out l.now (cases_text o.format (total counts + 1) cases)
 
 -- The first of these fields was evaluated up to the event at which the host had a fault, or to where the host stands, or has stopped; of
 -- it nothing is written.
-abbrev pub FirstFailed : {C : Type 0} → Way C → Chosen → List Field → At C → HostView → C → RunFault → Type 0
-FirstFailed o chosen fields s h c (fault.Host f) = (e : Event) × (t : World) × (d : DiskView) × FirstUpTo o chosen fields s e (at t c d) × Stopped d h t e f × NotOfDisk f
-FirstFailed o chosen fields s h c fault.OutOfMemory = (t : World) × (d : DiskView) × FirstLed o chosen fields s (at t c d) × StandsOrStopped h t d
-FirstFailed o chosen fields s h c fault.Output = (t : World) × (d : DiskView) × FirstLed o chosen fields s (at t c d) × StandsOrStopped h t d
-FirstFailed o chosen fields s h c fault.Input = (t : World) × FirstUnwatched o chosen fields s (at t c h.store.disk) × IsHost h t
-FirstFailed o chosen fields s h c fault.InputTooLong = (t : World) × FirstTooLong o chosen fields s (at t c h.store.disk) × IsHost h t
-FirstFailed o chosen fields s h c (fault.Open why) = ⊥
-FirstFailed o chosen fields s h c fault.InUse = ⊥
+pub data FirstFailed {C : Type 0} (o : OneByOne C) (fields : List Field) (s : At C) (h : HostView) (c : C) : RunFault → Type 0 where
+  stopped : (f : HostFault) (e : Event) (t : World) (d : DiskView) → FirstUpTo o.way o.chosen fields s e (at t c d) → Stopped d h t e f → NotOfDisk f → FirstFailed o fields s h c (fault.Host f)
+  unremembered : (t : World) (d : DiskView) → FirstLed o.way o.chosen fields s (at t c d) → StandsOrStopped h t d → FirstFailed o fields s h c fault.OutOfMemory
+  unwritten : (t : World) (d : DiskView) → FirstLed o.way o.chosen fields s (at t c d) → StandsOrStopped h t d → FirstFailed o fields s h c fault.Output
+  unwatched : (t : World) → FirstUnwatched o.way o.chosen fields s (at t c h.store.disk) → IsHost h t → FirstFailed o fields s h c fault.Input
+  too_long : (t : World) → FirstTooLong o.way o.chosen fields s (at t c h.store.disk) → IsHost h t → FirstFailed o fields s h c fault.InputTooLong
 
 -- The same, and each life that goes on was stopped.
-abbrev pub FirstStopped : {C : Type 0} → Way C → Chosen → List Field → At C → C → RunFault → Type 0
-FirstStopped {C = C} o chosen fields s d (fault.Host f) =
-    (e : Event) × (t : At C) × (h : HostView) × FirstUpTo o chosen fields s e t × Stopped t.disk h t.world e f × NotOfDisk f × Stops o.after (running t.world) t.children d
-FirstStopped {C = C} o chosen fields s d fault.OutOfMemory = (t : At C) × FirstLed o chosen fields s t × Stops o.after (running t.world) t.children d
-FirstStopped {C = C} o chosen fields s d fault.Output = (t : At C) × FirstLed o chosen fields s t × Stops o.after (running t.world) t.children d
-FirstStopped {C = C} o chosen fields s d fault.Input = (t : At C) × FirstUnwatched o chosen fields s t × Stops o.after (running t.world) t.children d
-FirstStopped {C = C} o chosen fields s d fault.InputTooLong = (t : At C) × FirstTooLong o chosen fields s t × Stops o.after (running t.world) t.children d
-FirstStopped o chosen fields s d (fault.Open why) = ⊥
-FirstStopped o chosen fields s d fault.InUse = ⊥
+pub data FirstStopped {C : Type 0} (o : OneByOne C) (fields : List Field) (s : At C) (d : C) : RunFault → Type 0 where
+  stopped : (f : HostFault) (e : Event) (t : At C) (h : HostView) → FirstUpTo o.way o.chosen fields s e t → Stopped t.disk h t.world e f → NotOfDisk f
+      → Stops o.way.after (running t.world) t.children d → FirstStopped o fields s d (fault.Host f)
+  unremembered : (t : At C) → FirstLed o.way o.chosen fields s t → Stops o.way.after (running t.world) t.children d → FirstStopped o fields s d fault.OutOfMemory
+  unwritten : (t : At C) → FirstLed o.way o.chosen fields s t → Stops o.way.after (running t.world) t.children d → FirstStopped o fields s d fault.Output
+  unwatched : (t : At C) → FirstUnwatched o.way o.chosen fields s t → Stops o.way.after (running t.world) t.children d → FirstStopped o fields s d fault.Input
+  too_long : (t : At C) → FirstTooLong o.way o.chosen fields s t → Stops o.way.after (running t.world) t.children d → FirstStopped o fields s d fault.InputTooLong
 
-abbrev pub FieldFailed : {C : Type 0} → Way C → Chosen → Field → At C → HostView → C → Option (List ℕ) → Option (List ℕ) → RunFault → Type 0
-FieldFailed o chosen field s h c a b why = ((others : List Field) → FirstFailed o chosen (field ∷ others) s h c why) × LeavesText a b [] why
+-- The check of a field ended early, whatever fields come after it, and of it nothing is written, but where the writer failed.
+abbrev pub FieldFailed : {C : Type 0} → OneByOne C → Field → At C → Left C → RunFault → Type 0
+FieldFailed o field s l why = ((others : List Field) → FirstFailed o (field ∷ others) s l.host l.sources why) × LeavesText l.out l.now [] why
 
 -- These fields were checked, and what is to be reported is written.
-abbrev pub FieldsWrote : {C : Type 0} → Way C → Chosen → Format → List Field → At C → HostView → C → Option (List ℕ) → Option (List ℕ) → Counts → Type 0
-FieldsWrote o chosen F fields s h c a b counts = (cases : List Case) × (t : World) × FieldsChecked o chosen fields s cases (at t c h.store.disk)
-    × IsHost h t × (counts ≡ counts_of (verdicts_of cases)) × Appends a b (report_front F cases)
+abbrev pub FieldsWrote : {C : Type 0} → OneByOne C → List Field → At C → Left C → Counts → Type 0
+FieldsWrote o fields s l counts = (cases : List Case) × (t : World) × FieldsChecked o.way o.chosen fields s cases (at t l.sources l.host.store.disk)
+    × IsHost l.host t × (counts ≡ counts_of (verdicts_of cases)) × Appends l.out l.now (report_front o.format cases)
 
 -- The first of these fields were checked, which are these cases, and perhaps a part of the next one.
-pub record FieldsFailed {C : Type 0} (o : Way C) (chosen : Chosen) (F : Format) (fields : List Field) (s : At C) (h : HostView) (c : C) (a b : Option (List ℕ)) (why : RunFault) : Type 0 where
+pub record FieldsFailed {C : Type 0} (o : OneByOne C) (fields : List Field) (s : At C) (l : Left C) (why : RunFault) : Type 0 where
   pub gone : List Field
   pub left : List Field
   pub split : fields ≡ gone ++ left
   pub cases : List Case
   pub mid : At C
-  pub checked : FieldsChecked o chosen gone s cases mid
-  pub failed : FirstFailed o chosen left mid h c why
-  pub wrote : LeavesText a b (report_front F cases) why
+  pub checked : FieldsChecked o.way o.chosen gone s cases mid
+  pub failed : FirstFailed o left mid l.host l.sources why
+  pub wrote : LeavesText l.out l.now (report_front o.format cases) why
 
--- The same, and each life that goes on was stopped.
-abbrev pub FieldsEnded : {C : Type 0} → Way C → Chosen → Format → List Field → At C → C → Option (List ℕ) → Option (List ℕ) → Counts → Type 0
-FieldsEnded {C = C} o chosen F fields s d a b counts = (cases : List Case) × (t : At C) × FieldsChecked o chosen fields s cases t
-    × Stops o.after (running t.world) t.children d × (counts ≡ counts_of (verdicts_of cases)) × Appends a b (report_front F cases)
+-- From this world, on the disk of a copy, these fields were checked, what is to be reported is written, and each life that goes on was
+-- stopped.
+abbrev pub FieldsEnded : {C : Type 0} → OneByOne C → List Field → World → DiskView → Passage C → Counts → Type 0
+FieldsEnded {C = C} o fields w copy q counts = (cases : List Case) × (t : At C) × FieldsChecked o.way o.chosen fields (at w q.sources copy) cases t
+    × Stops o.way.after (running t.world) t.children q.left × (counts ≡ counts_of (verdicts_of cases)) × Appends q.text q.written (report_front o.format cases)
 
-pub record FieldsStopped {C : Type 0} (o : Way C) (chosen : Chosen) (F : Format) (fields : List Field) (s : At C) (d : C) (a b : Option (List ℕ)) (why : RunFault) : Type 0 where
+-- From there the first of them were checked, which are these cases, and perhaps a part of the next one, and each life that goes on was
+-- stopped.
+pub record FieldsStopped {C : Type 0} (o : OneByOne C) (fields : List Field) (w : World) (copy : DiskView) (q : Passage C) (why : RunFault) : Type 0 where
   pub gone : List Field
   pub left : List Field
   pub split : fields ≡ gone ++ left
   pub cases : List Case
   pub mid : At C
-  pub checked : FieldsChecked o chosen gone s cases mid
-  pub ended : FirstStopped o chosen left mid d why
-  pub wrote : LeavesText a b (report_front F cases) why
+  pub checked : FieldsChecked o.way o.chosen gone (at w q.sources copy) cases mid
+  pub ended : FirstStopped o left mid q.left why
+  pub wrote : LeavesText q.text q.written (report_front o.format cases) why
 
 -- A field was passed over, and nothing shown, or it came to a verdict, and the line stands with the counts after it.
-abbrev pub FieldShown : {P : Type 0} → Format → (P → Sight → P → Type 0) → ℕ → Counts → Counts → P → P → Type 0
-FieldShown {P = P} F S all counts after p q = ((after ≡ counts) × (q ≡ p))
-    ⊎ ((one : Verdict) × (free : P) × (after ≡ counted_with one counts) × MakesRoom F S one p free × S free (sight.Line after all) q)
+abbrev pub FieldShown : {P : Type 0} → Display P → ℕ → Counts → Counts → P → P → Type 0
+FieldShown {P = P} m all counts after p q = ((after ≡ counts) × (q ≡ p))
+    ⊎ ((one : Verdict) × (free : P) × (after ≡ counted_with one counts) × MakesRoom m.format m.shows one p free × m.shows free (sight.Line after all) q)
 
 -- The worksheet was checked on a copy of it, and each life that goes on was stopped.
-abbrev pub OnCopy : {C : Type 0} → Way C → Chosen → Format → Contents → C → C → Option (List ℕ) → Option (List ℕ) → Result Counts RunFault → Type 0
-OnCopy o chosen F sheet c d a b counted = (w : World) × (copy : DiskView) × IsCopy sheet w copy
-    × IfOk counted (FieldsEnded o chosen F sheet.fields (at w c copy) d a b) × IfErr counted (FieldsStopped o chosen F sheet.fields (at w c copy) d a b)
+abbrev pub OnCopy : {C : Type 0} → OneByOne C → Contents → Passage C → Result Counts RunFault → Type 0
+OnCopy o sheet q counted = (w : World) × (copy : DiskView) × IsCopy sheet w copy
+    × IfOk counted (FieldsEnded o sheet.fields w copy q) × IfErr counted (FieldsStopped o sheet.fields w copy q)

@@ -14,8 +14,10 @@ use Rattle.check_report.specs.declared.verdict.Counts.{Counts}
 use Rattle.check_report.specs.Reports.{Case, cases_text, report_front, verdicts_of}
 use Rattle.check_report.specs.Verdicts.{counts_of, total}
 use Rattle.evaluation.specs.Silently.{EvaluatedSilently, SilentlyBroke}
+use Rattle.live.specs.Records.{Left}
 use Rattle.sheet_check.specs.Evaluated.{fault_on_copy}
-use Rattle.sheet_check.specs.Together.{EvaluatedTogether, FieldCompared, FieldsCompared, Passage, SideBySide, TellsTogether, checking}
+use Rattle.sheet_check.specs.Check.{Passage}
+use Rattle.sheet_check.specs.Together.{EvaluatedTogether, FieldCompared, FieldsCompared, SideBySide, TellsTogether, checking}
 use Rattle.sheet_check.specs.inside.Checking.{counted_on}
 
 -- How fields are compared: which, and how they are reported; where the copy stands, and the fields whose time was over.
@@ -60,14 +62,15 @@ abbrev pub BrokeTogether : {C : Type 0} → SideBySide C → List Field → At C
 BrokeTogether {C = C} o fields s h c why = (t : At C) × (t.children ≡ c) × ((cause : RunFault) × (why ≡ fault_on_copy cause) × SilentlyBroke (checking o fields s.world) s t h cause)
 
 -- They were evaluated, and reported.
-abbrev pub ReportedTogether : {C : Type 0} → SideBySide C → List Field → At C → HostView → C → Option (List ℕ) → Option (List ℕ) → Counts → Type 0
-ReportedTogether o fields s h c a b counts = (late : List ℕ) × ((came : CameTogether o fields s h c late) × FieldsReported (comparing o.chosen o.format came.0 late) fields a b counts)
+abbrev pub ReportedTogether : {C : Type 0} → SideBySide C → List Field → At C → Left C → Counts → Type 0
+ReportedTogether o fields s l counts =
+    (late : List ℕ) × ((came : CameTogether o fields s l.host l.sources late) × FieldsReported (comparing o.chosen o.format came.0 late) fields l.out l.now counts)
 
 -- The evaluation broke off, and nothing was written, or the report did.
-abbrev pub FailedTogether : {C : Type 0} → SideBySide C → List Field → At C → HostView → C → Option (List ℕ) → Option (List ℕ) → RunFault → Type 0
-FailedTogether o fields s h c a b why =
-    (BrokeTogether o fields s h c why × Appends a b [])
-    ⊎ ((late : List ℕ) × ((came : CameTogether o fields s h c late) × ReportBroke (comparing o.chosen o.format came.0 late) fields a b why))
+abbrev pub FailedTogether : {C : Type 0} → SideBySide C → List Field → At C → Left C → RunFault → Type 0
+FailedTogether o fields s l why =
+    (BrokeTogether o fields s l.host l.sources why × Appends l.out l.now [])
+    ⊎ ((late : List ℕ) × ((came : CameTogether o fields s l.host l.sources late) × ReportBroke (comparing o.chosen o.format came.0 late) fields l.out l.now why))
 
 -- So they were, and then each life that goes on was stopped.
 abbrev pub EndedTogether : {C : Type 0} → SideBySide C → Contents → Passage C → Counts → Type 0

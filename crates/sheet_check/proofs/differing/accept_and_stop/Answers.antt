@@ -2,7 +2,7 @@ use Rattle.std.proofs.Common.{subst}
 use Rattle.std.proofs.lemmas.Result.{IfErr-weaker, IfOk-weaker}
 use Rattle.check_report.specs.declared.report.Format.TheVariants as format
 use Rattle.sheet_check.specs.Evaluated.{way}
-use Rattle.sheet_check.specs.Progress.{SheetShows}
+use Rattle.sheet_check.specs.Progress.{SheetShows, display}
 use Rattle.sheet_check.proofs.Kept.{broke_left, took_ended}
 use Rattle.sheet_check.proofs.Showing.{sheet_shows}
 use Rattle.sheet_check.proofs.differing.accept_and_stop.Goals as goal
@@ -23,5 +23,5 @@ returns-clause-err g c = λ w h copied ops disk stores.
 
 pub returns-clause-shown : goal.returns-clause-shown
 returns-clause-shown g c =
-    subst (λ all. SheetShows format.Accepting g.P.Progress.shows all c.args.progress.now c.show.new.self c.accept_fields-counted.result) c.count_answered-all.ensures
+    subst (λ all. SheetShows (display format.Accepting g.P.Progress.shows) all c.args.progress.now c.show.new.self c.accept_fields-counted.result) c.count_answered-all.ensures
     (sheet_shows format.Accepting g.P.Progress.shows c.count_answered-all.result c.args.progress.now c.accept_fields-counted.result c.accept_fields-counted.new.progress c.show.new.self c.accept_fields-counted.ensures.shown c.accept_fields-counted.ensures.left c.show.ensures)

@@ -9,7 +9,7 @@ use Rattle.acceptance.specs.Kept.{Stores}
 use Rattle.check_report.specs.declared.report.Format.TheVariants as format
 use Rattle.check_report.specs.Verdicts.{total}
 use Rattle.sheet_check.specs.Evaluated.{way}
-use Rattle.sheet_check.specs.Progress.{FieldsShow}
+use Rattle.sheet_check.specs.Progress.{FieldsShow, display}
 use Rattle.sheet_check.specs.inside.Accepting.{GoesOn}
 use Rattle.sheet_check.proofs.Accepted.{TookSoFar}
 use Rattle.sheet_check.proofs.differing.accept_fields.Given as goal
@@ -17,7 +17,7 @@ use Rattle.sheet_check.proofs.differing.accept_fields.Given as goal
 abbrev pub invariant-loop-field : goal.invariant-loop-field
 invariant-loop-field g l = record {
   few : total l.counts + length l.fields ≤ length l.fn.sheet.contents.fields;
-  shown : FieldsShow format.Accepting g.P.Progress.shows l.fn.all l.fn.progress l.counts l.progress;
+  shown : FieldsShow (display format.Accepting g.P.Progress.shows) l.fn.all l.fn.progress l.counts l.progress;
   rest : (gone : List Field) × (l.fn.sheet.contents.fields ≡ gone ++ l.fields);
   stands : (w : World) × IsHost l.host w;
   written : l.fn.store.gathers ≡ false → l.store.gathers ≡ false;

@@ -1,4 +1,4 @@
-use Rattle.std.proofs.Common.{Option, ap, sym, subst}
+use Rattle.std.proofs.Common.{Option, ap, refl, sym, subst}
 use Rattle.std.proofs.KnownBytes.{Appends-nil}
 use Rattle.std.proofs.lemmas.Result.{IfErr-weaker, IfOk-weaker}
 use Rattle.worksheet.specs.declared.field.Answer.{Answer}
@@ -6,8 +6,9 @@ use Rattle.worksheet.specs.Laws.{HasShortPrompt}
 use Rattle.child_edge.specs.Faithful.{at}
 use Rattle.offline_programs.specs.declared.fault.RunFault.TheVariants as fault
 use Rattle.check_report.specs.Reports.{case}
-use Rattle.sheet_check.specs.Accept.{answer_ops}
+use Rattle.sheet_check.specs.Accept.{answer_ops, to_accept}
 use Rattle.sheet_check.specs.Evaluated.{came_if, checked, reason_shown_in, shown_in, way}
+use Rattle.sheet_check.specs.inside.Checking.{unremembered}
 use Rattle.sheet_check.proofs.Accepted.{evaluation_broke, memory_broke, short_in, shown_took, take_broke}
 use Rattle.sheet_check.proofs.Fields.{evaluation_failed, tell_failed}
 use Rattle.sheet_check.proofs.differing.accept_shown.Goals as goal
@@ -19,7 +20,7 @@ returns-in-Err-clause-err g c = λ w h ops more disk stores.
     let a = g.W.Write.contents c.args.writer.now in
     let broke = c.in-Err.ensures.err w h in
     evaluation_broke way_here c.args.request.now.chosen c.args.field.now s c.evaluate.new.host c.evaluate.new.sources a ops more disk c.args.store.now c.in-Err.fault broke
-    (evaluation_failed way_here c.args.request.now.chosen c.args.field.now c.args.shown.now c.requires.shows s c.evaluate.new.host c.evaluate.new.sources a c.in-Err.fault broke) stores
+    (evaluation_failed (to_accept way_here c.args.request.now.chosen) c.args.field.now c.args.shown.now c.requires.shows s c.evaluate.new.host c.evaluate.new.sources a c.in-Err.fault broke) stores
 
 pub returns-in-None-clause-err : goal.returns-in-None-clause-err
 returns-in-None-clause-err g c = λ w h ops more disk stores.
@@ -28,7 +29,7 @@ returns-in-None-clause-err g c = λ w h ops more disk stores.
     let a = g.W.Write.contents c.args.writer.now in
     let q = c.in-Ok.ensures.ok w h in
     memory_broke way_here c.args.request.now.chosen c.args.field.now s c.evaluate.new.host c.evaluate.new.sources a ops more disk c.args.store.now
-    (tell_failed way_here c.args.request.now.chosen c.args.field.now c.args.shown.now c.requires.shows s c.evaluate.new.host c.evaluate.new.sources (came_if c.in-Ok.came (shown_in q.0 c.args.field.now.id)) q.0 q.1 q.2 a a fault.OutOfMemory (Appends-nil a))
+    (tell_failed (to_accept way_here c.args.request.now.chosen) c.args.field.now c.args.shown.now c.requires.shows s c.evaluate.new.host c.evaluate.new.sources (came_if c.in-Ok.came (shown_in q.0 c.args.field.now.id)) q.0 q.1 q.2 a a fault.OutOfMemory (unremembered refl (Appends-nil a)))
     stores
 
 pub take-requires-clause-short : goal.take-requires-clause-short
@@ -60,7 +61,7 @@ returns-in-Some-clause-err g c = λ w h ops more disk stores.
     IfErr-weaker c.take.result _ _
     (λ why p. take_broke way_here c.args.request.now.chosen c.args.field.now s c.evaluate.new.host c.evaluate.new.sources a ops more disk c.take.new.store (case c.args.field.now came (reason_shown_in q.0 c.args.field.now.id) c.in-Some.found.verdict)
     (answer_ops c.args.field.now.id c.in-Some.found.answer) (g.W.Write.contents c.take.new.writer) why
-    (tell_failed way_here c.args.request.now.chosen c.args.field.now c.args.shown.now c.requires.shows s c.evaluate.new.host c.evaluate.new.sources came q.0 q.1 q.2 a a fault.OutOfMemory (Appends-nil a)) (
+    (tell_failed (to_accept way_here c.args.request.now.chosen) c.args.field.now c.args.shown.now c.requires.shows s c.evaluate.new.host c.evaluate.new.sources came q.0 q.1 q.2 a a fault.OutOfMemory (unremembered refl (Appends-nil a))) (
       q.0,
       checked c.args.shown.now came c.in-Some.found.verdict (at q.0 c.evaluate.new.sources c.evaluate.new.host.store.disk) c.requires.shows q.1 f.judged,
       q.2,

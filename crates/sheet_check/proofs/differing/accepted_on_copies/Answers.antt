@@ -1,10 +1,12 @@
-use Rattle.std.proofs.Common.{◌≡◌, ◌∙◌, ap, length, subst, sym, arith}
+use Rattle.std.proofs.Common.{◌≡◌, ◌∙◌, [], ap, length, subst, sym, arith}
 use Rattle.std.specs.Prelude.{IfSome}
 use Rattle.worksheet.specs.Contents.{Contents, SheetView}
 use Rattle.check_report.specs.declared.report.Format.TheVariants as format
 use Rattle.sheet_check.specs.Evaluated.{way}
-use Rattle.sheet_check.specs.Progress.{SheetShows, answered}
-use Rattle.sheet_check.specs.inside.Accepting.{GoesOn, OnCopy}
+use Rattle.sheet_check.specs.Progress.{SheetShows, answered, display}
+use Rattle.sheet_check.specs.inside.Accepting.{GoesOn, OnCopy, storing}
+use Rattle.sheet_check.specs.Check.{passage}
+use Rattle.sheet_check.specs.Accept.{to_accept}
 use Rattle.sheet_check.proofs.Kept.{copy_is}
 use Rattle.sheet_check.proofs.differing.accepted_on_copies.Goals as goal
 
@@ -27,7 +29,7 @@ returns-in-Some-clause-some g c = λ ops disk stores.
     let o = c.in-Some.ensures in
     let same : c.sheet-in-Some.result.now.contents ≡ c.args.store.now.sheet.contents =
     ap (λ (s : SheetView). s.contents) c.sheet-in-Some.ensures.sheet ∙ copy_is c.one_sheet.ensures c.sheet.result.now.contents o.0 c.in-Some.was o.1 o.2 ∙ ap (λ (s : SheetView). s.contents) c.sheet.ensures.sheet in
-    subst (λ (s : Contents). IfSome c.accepted_on_copy.result (OnCopy (way g.C.Children.after g.C.Sources.clock g.C.Sources.wakes c.args.request.now.limit) c.args.request.now.chosen s c.args.sources.now c.accepted_on_copy.new.sources (g.W.Write.contents c.args.writer.now) (g.W.Write.contents c.accepted_on_copy.new.writer) ops disk c.accepted_on_copy.new.store)) same
+    subst (λ (s : Contents). IfSome c.accepted_on_copy.result (OnCopy (to_accept (way g.C.Children.after g.C.Sources.clock g.C.Sources.wakes c.args.request.now.limit) c.args.request.now.chosen) s (passage c.args.sources.now c.accepted_on_copy.new.sources (g.W.Write.contents c.args.writer.now) (g.W.Write.contents c.accepted_on_copy.new.writer)) (storing ops [] disk c.accepted_on_copy.new.store))) same
     (c.accepted_on_copy.ensures.some ops disk stores)
 
 pub returns-in-Some-clause-shown : goal.returns-in-Some-clause-shown
@@ -35,5 +37,5 @@ returns-in-Some-clause-shown g c =
     let o = c.in-Some.ensures in
     let same : c.sheet-in-Some.result.now.contents ≡ c.args.store.now.sheet.contents =
     ap (λ (s : SheetView). s.contents) c.sheet-in-Some.ensures.sheet ∙ copy_is c.one_sheet.ensures c.sheet.result.now.contents o.0 c.in-Some.was o.1 o.2 ∙ ap (λ (s : SheetView). s.contents) c.sheet.ensures.sheet in
-    subst (λ (s : Contents). IfSome c.accepted_on_copy.result (λ counted. SheetShows format.Accepting g.P.Progress.shows (answered c.args.request.now.chosen s.fields) c.args.progress.now c.accepted_on_copy.new.progress counted)) same
+    subst (λ (s : Contents). IfSome c.accepted_on_copy.result (λ counted. SheetShows (display format.Accepting g.P.Progress.shows) (answered c.args.request.now.chosen s.fields) c.args.progress.now c.accepted_on_copy.new.progress counted)) same
     c.accepted_on_copy.ensures.shown

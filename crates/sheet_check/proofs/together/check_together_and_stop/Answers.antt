@@ -1,7 +1,7 @@
 use Rattle.std.proofs.Common.{subst}
 use Rattle.std.proofs.lemmas.Result.{IfErr-weaker, IfOk-weaker}
 use Rattle.sheet_check.specs.Evaluated.{way}
-use Rattle.sheet_check.specs.Progress.{SheetShows}
+use Rattle.sheet_check.specs.Progress.{SheetShows, display}
 use Rattle.sheet_check.specs.Together.{side_by_side}
 use Rattle.sheet_check.proofs.Compared.{together_ended, together_failed}
 use Rattle.sheet_check.proofs.Showing.{sheet_shows}
@@ -23,5 +23,5 @@ returns-clause-err g c = λ w h copied.
 
 pub returns-clause-shown : goal.returns-clause-shown
 returns-clause-shown g c =
-    subst (λ all. SheetShows c.args.request.now.format g.P.Progress.shows all c.args.progress.now c.show.new.self c.check_together_on-counted.result) c.count_answered-all.ensures
+    subst (λ all. SheetShows (display c.args.request.now.format g.P.Progress.shows) all c.args.progress.now c.show.new.self c.check_together_on-counted.result) c.count_answered-all.ensures
     (sheet_shows c.args.request.now.format g.P.Progress.shows c.count_answered-all.result c.args.progress.now c.check_together_on-counted.result c.check_together_on-counted.new.progress c.show.new.self c.check_together_on-counted.ensures.shown c.check_together_on-counted.ensures.left c.show.ensures)
