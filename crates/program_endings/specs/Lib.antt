@@ -1,6 +1,7 @@
 pub mod Faults
 pub mod Printed
 pub mod Ending
+pub mod Records
 pub mod BlocksProgram
 pub mod Programs
 pub mod RescueProgram
