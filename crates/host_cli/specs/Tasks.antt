@@ -30,14 +30,14 @@ use Rattle.offline_programs.specs.declared.fault.RunFault.TheVariants as fault
 use Rattle.program_endings.specs.AcceptProgram.{AcceptEnds}
 use Rattle.program_endings.specs.CheckProgram.{CheckEnds}
 use Rattle.program_endings.specs.TogetherProgram.{TogetherEnds}
-use Rattle.program_endings.specs.Ending.{BlocksAnswer, ProgramAnswer, TellsFault, status_of}
+use Rattle.program_endings.specs.Ending.{BlocksAnswer, EndsAs, ProgramAnswer}
 use Rattle.program_endings.specs.BlocksProgram.{ObjectsAnswer}
 use Rattle.program_endings.specs.EvalProgram.{EvaluationEnded}
 use Rattle.program_endings.specs.ExportProgram.{ExportEnds}
-use Rattle.program_endings.specs.Faults.{no_files, no_place}
-use Rattle.program_endings.specs.Programs.{CreateEnds, RunEnds, ShowEnds, TellsMake}
+use Rattle.program_endings.specs.Faults.{no_place}
+use Rattle.program_endings.specs.Programs.{CreateEnds, EndsUnopened, RunEnds, ShowEnds, TellsMake}
 use Rattle.program_endings.specs.Records.{Calling, Streams, calling, given_disk, streams, writing}
-use Rattle.program_endings.specs.LiveProgram.{LastTold, LiveEnded}
+use Rattle.program_endings.specs.LiveProgram.{LastTold, LiveEnded, LiveUnopened}
 use Rattle.tellings.specs.Json.{in_json}
 use Rattle.tellings.specs.Voice.{Voice}
 use Rattle.tellings.specs.Words.{in_words}
@@ -113,7 +113,7 @@ module _ {Y D P S I W E Q : Type 0} (o : OutsideView D P S I W E) where
 
   -- how a program with this answer ends, and what it says on the stream of errors
   abbrev pub EndsWith : Outside Y D P S I W E Q → Outside Y D P S I W E Q → Ending → ProgramAnswer → Type 0
-  EndsWith old new ending answer = (ending.status ≡ status_of answer) × TellsFault o.said old.errors new.errors ending.told answer
+  EndsWith old new ending answer = EndsAs (writing o.said old.errors new.errors) ending answer
 
   -- The places of the standard streams are held before anything else is done. Where they can't be, that is the fault.
   abbrev pub HeldFirst : Outside Y D P S I W E Q → Outside Y D P S I W E Q → (RunFault → Type 0) → (P → Type 0) → Type 0
@@ -209,8 +209,7 @@ module _ {Y D P S I W E Q : Type 0} (o : OutsideView D P S I W E) where
 
   -- files that weren't opened: nothing is read or written, and no child is called
   abbrev pub Unopened : Outside Y D P S I W E Q → Outside Y D P S I W E Q → Ending → FilesFault → Type 0
-  Unopened old new ending why =
-      (new.input ≡ old.input) × (new.output ≡ old.output) × (new.sources ≡ old.sources) × (ending.status ≡ 1) × TellsFault o.said old.errors new.errors ending.told (Err (no_files why))
+  Unopened old new ending why = (new.input ≡ old.input) × EndsUnopened (calling_of old new) (streams_of old new) ending why
 
   -- `run` on a disk, strict or not
   abbrev pub RunsOn : Bool → Outside Y D P S I W E Q → Outside Y D P S I W E Q → Ending → D → Type 0
@@ -228,16 +227,11 @@ module _ {Y D P S I W E Q : Type 0} (o : OutsideView D P S I W E) where
   EvaluatesOn V plan old new ending disk =
       EvaluationEnded (setting V o.after o.clock o.wakes plan []) (given_disk o.disks disk) (calling_of old new) (streams_of old new) ending
 
-  -- `eval` of files that weren't opened: why is printed last
-  abbrev pub EvaluatesNone : Voice → Outside Y D P S I W E Q → Outside Y D P S I W E Q → Ending → FilesFault → Type 0
-  EvaluatesNone V old new ending why = (new.sources ≡ old.sources) × LastTold V o.written old.output new.output ending.told (Err (no_files why))
-      × (ending.status ≡ 1) × TellsFault o.said old.errors new.errors ending.told (Err (no_files why))
-
   -- `eval` over what the places open at a path, by a plan
   abbrev pub EvaluatesAs : Voice → Plan → Outside Y D P S I W E Q → Outside Y D P S I W E Q → Ending → Text → Type 0
   EvaluatesAs V plan old new ending path =
       HeldFirst old new (λ why. (new.sources ≡ old.sources) × EndsWith old new ending (Err why)) (λ held. (files : Result D FilesFault) × o.places.opens held path files new.places
-      × IfErr files (EvaluatesNone V old new ending) × IfOk files (EvaluatesOn V plan old new ending))
+      × IfErr files (LiveUnopened V (calling_of old new) (streams_of old new) ending) × IfOk files (EvaluatesOn V plan old new ending))
 
   -- where the words ask for nothing that there is they are refused, and nothing is done
   abbrev pub EvaluatesNothing : Outside Y D P S I W E Q → Outside Y D P S I W E Q → Ending → PlanFault → Type 0
@@ -252,8 +246,7 @@ module _ {Y D P S I W E Q : Type 0} (o : OutsideView D P S I W E) where
   abbrev pub DoesLive : Voice → Outside Y D P S I W E Q → Outside Y D P S I W E Q → Ending → Text → Type 0
   DoesLive V old new ending path =
       HeldFirst old new (λ why. (new.sources ≡ old.sources) × EndsWith old new ending (Err why)) (λ held. (files : Result D FilesFault) × o.places.opens held path files new.places
-      × IfErr files (λ why. (new.input ≡ old.input) × (new.sources ≡ old.sources) × LastTold V o.written old.output new.output ending.told (Err (no_files why))
-      × (ending.status ≡ 1) × TellsFault o.said old.errors new.errors ending.told (Err (no_files why)))
+      × IfErr files (λ why. (new.input ≡ old.input) × LiveUnopened V (calling_of old new) (streams_of old new) ending why)
       × IfOk files (λ disk. LiveEnded (edge V o.after o.clock o.wakes) (o.stream old.input) (given_disk o.disks disk) (calling_of old new) (streams_of old new) ending))
 
   -- `rescue` of what was found, to what the places make at a new path

@@ -1,7 +1,7 @@
 pub mod Faults
 pub mod Printed
-pub mod Ending
 pub mod Records
+pub mod Ending
 pub mod BlocksProgram
 pub mod Programs
 pub mod RescueProgram

@@ -9,10 +9,12 @@ use Rattle.live.specs.Live.{LiveDone, TellsLive}
 use Rattle.offline_programs.specs.Faults.{Untouched}
 use Rattle.offline_programs.specs.declared.fault.RunFault.{RunFault}
 use Rattle.offline_programs.specs.declared.fault.RunFault.TheVariants as fault
+use Rattle.sheet_files.specs.declared.files_fault.FilesFault.{FilesFault}
 use Rattle.tellings.specs.Voice.{IsUntold, Voice}
 use Rattle.tellings.specs.declared.note.Frame.{Frame}
 use Rattle.tellings.specs.declared.note.Frame.TheVariants as frame
-use Rattle.program_endings.specs.Ending.{ProgramAnswer, TellsFault, status_of}
+use Rattle.program_endings.specs.Ending.{EndsAs, ProgramAnswer}
+use Rattle.program_endings.specs.Faults.{no_files}
 use Rattle.program_endings.specs.Records.{Calling, DoesNothing, GivenDisk, Streams, Writing, outside_after, outside_before, view_given, writing}
 use Rattle.program_endings.specs.declared.ending.Ending.{Ending}
 
@@ -53,11 +55,15 @@ abbrev pub LastTold : {O : Type 0} → Voice → (O → Option (List ℕ)) → O
 LastTold V contents old new told (Ok whole) = new ≡ old
 LastTold V contents old new told (Err why) = (V.takes_memory ≡ false → new ≡ old) × (told ≡ true → Appends (contents old) (contents new) (V.fault why))
 
+-- How `live` and `eval` end where their files weren't opened: no child is called, and why is printed last and is a line on the stream of errors.
+abbrev pub LiveUnopened : {C O E : Type 0} → Voice → Calling C → Streams O E → Ending → FilesFault → Type 0
+LiveUnopened V q s ending why = (q.new ≡ q.old) × LastTold V s.output.contents s.output.old s.output.new ending.told (Err (no_files why))
+    × EndsAs s.errors ending (Err (no_files why))
+
 -- How `live` ends on a disk: what it answers, of which a fault is printed last, and the status.
 pub record LiveEnded {D C O E : Type 0} (o : Edge C) (stream : Option (List ℕ)) (g : GivenDisk D) (q : Calling C) (s : Streams O E) (ending : Ending) : Type 0 where
   pub answer : ProgramAnswer
   pub mid : O
   pub answered : LiveAnswer o stream g q (writing s.output.contents s.output.old mid) answer
   pub last_told : LastTold o.voice s.output.contents mid s.output.new ending.told answer
-  pub status : ending.status ≡ status_of answer
-  pub told : TellsFault s.errors.contents s.errors.old s.errors.new ending.told answer
+  pub ends : EndsAs s.errors ending answer

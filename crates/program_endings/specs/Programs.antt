@@ -13,7 +13,7 @@ use Rattle.recovery.specs.Sheets.{IsSheetImage}
 use Rattle.host_events.specs.declared.outcome.HostFault.TheVariants as hosts
 use Rattle.sheet_text.specs.Texts.{sheet_text}
 use Rattle.child_edge.specs.Faithful.{Relation}
-use Rattle.program_endings.specs.Ending.{ProgramAnswer, TellsFault, status_of}
+use Rattle.program_endings.specs.Ending.{EndsAs, ProgramAnswer}
 use Rattle.program_endings.specs.Records.{Calling, DoesNothing, GivenDisk, Streams, Writing, given_disk, text_after, text_before, view_given}
 use Rattle.program_endings.specs.declared.ending.Ending.{Ending}
 use Rattle.offline_programs.specs.Faults.{TellsShow, Untouched}
@@ -87,8 +87,11 @@ ShowAnswer k files w answer =
 
 -- How `show` ends: what it answers, its fault, and the status.
 abbrev pub ShowEnds : {D W E : Type 0} → Closable D → Result D FilesFault → Streams W E → Ending → Type 0
-ShowEnds k files s ending = (answer : ProgramAnswer) × ShowAnswer k files s.output answer
-    × (ending.status ≡ status_of answer) × TellsFault s.errors.contents s.errors.old s.errors.new ending.told answer
+ShowEnds k files s ending = (answer : ProgramAnswer) × ShowAnswer k files s.output answer × EndsAs s.errors ending answer
+
+-- How `run` ends where its files weren't opened: nothing is written or called, and why is a line on the stream of errors.
+abbrev pub EndsUnopened : {C W E : Type 0} → Calling C → Streams W E → Ending → FilesFault → Type 0
+EndsUnopened q s ending why = DoesNothing q s.output × EndsAs s.errors ending (Err (no_files why))
 
 -- What `run` answers on a disk, and what it has written and done then: its clauses. The script is the
 -- stream of its reader, where that is known.
@@ -108,5 +111,4 @@ pub record RunAnswer {D C W : Type 0} (R : Relation C) (stream : Option (List �
 
 -- How `run` ends on a disk: what it answers, its fault, and the status.
 abbrev pub RunEnds : {D C W E : Type 0} → Relation C → Option (List ℕ) → GivenDisk D → Calling C → Streams W E → Ending → Type 0
-RunEnds R stream g q s ending = (answer : ProgramAnswer) × RunAnswer R stream g q s.output answer
-    × (ending.status ≡ status_of answer) × TellsFault s.errors.contents s.errors.old s.errors.new ending.told answer
+RunEnds R stream g q s ending = (answer : ProgramAnswer) × RunAnswer R stream g q s.output answer × EndsAs s.errors ending answer

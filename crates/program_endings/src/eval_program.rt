@@ -2,10 +2,8 @@
 ghost use Rattle.std.specs.Prelude.{◌≡◌, Err, IfErr, IfOk, []};
 ghost use Rattle.evaluation.specs.Steps.{setting};
 ghost use Rattle.evaluation.specs.declared.fault.EvalFault.TheVariants as evals;
-ghost use Rattle.program_endings.specs.Ending.{TellsFault};
 ghost use Rattle.program_endings.specs.EvalProgram.{EvalAnswer, EvaluatesTo, EvaluationEnded, LastOfEval, TellsEval, are_none_over, counts_status, evaluation_status};
-ghost use Rattle.program_endings.specs.Faults as printed;
-ghost use Rattle.program_endings.specs.LiveProgram.{LastTold};
+ghost use Rattle.program_endings.specs.LiveProgram.{LiveUnopened};
 ghost use Rattle.program_endings.specs.Records.{calling, given_disk, streams, writing};
 ghost use Rattle.sheet_files.specs.Closing.{closable};
 
@@ -174,10 +172,8 @@ pub fn run_evaluation<W: Write, E: Write, D: Close, S: Sources, T: Tells>(
     files: Result<D, FilesFault>,
     sources: &mut S,
 ) -> Ending
-    ensures unopened { IfErr files (λ why. (sources.new ≡ sources.old)
-        × LastTold T.voice W.contents output.old output.new result.told (Err (printed.no_files why))
-        × (result.status ≡ 1)
-        × TellsFault E.contents errors.old errors.new result.told (Err (printed.no_files why))) }
+    ensures unopened { IfErr files (LiveUnopened T.voice (calling sources.old sources.new)
+        (streams (writing W.contents output.old output.new) (writing E.contents errors.old errors.new)) result) }
 
     ensures files { IfOk files (λ disk. EvaluationEnded (setting T.voice S.after S.clock S.wakes plan.now []) (given_disk (closable D.view D.closed) disk) (calling sources.old sources.new)
         (streams (writing W.contents output.old output.new) (writing E.contents errors.old errors.new)) result) }

@@ -1,9 +1,8 @@
 //! The program `live` over a worksheet's files, from its files on.
-ghost use Rattle.std.specs.Prelude.{◌≡◌, Err, IfErr, IfOk};
+ghost use Rattle.std.specs.Prelude.{◌≡◌, IfErr, IfOk};
 ghost use Rattle.live.specs.Records.{edge};
 ghost use Rattle.program_endings.specs.Ending.{TellsFault, status_of};
-ghost use Rattle.program_endings.specs.Faults as printed;
-ghost use Rattle.program_endings.specs.LiveProgram.{LastTold, LiveAnswer, LiveEnded, LivesOn};
+ghost use Rattle.program_endings.specs.LiveProgram.{LastTold, LiveAnswer, LiveEnded, LiveUnopened, LivesOn};
 ghost use Rattle.program_endings.specs.Records.{calling, given_disk, streams, writing};
 ghost use Rattle.sheet_files.specs.Closing.{closable};
 
@@ -120,10 +119,8 @@ pub fn run_live<R: Read, W: Write, E: Write, D: Close, S: Sources, T: Tells>(
     sources: &mut S,
 ) -> Ending
     // It is printed before a line is read.
-    ensures unopened { IfErr files (λ why. (input.new ≡ input.old) × (sources.new ≡ sources.old)
-        × LastTold T.voice W.contents output.old output.new result.told (Err (printed.no_files why))
-        × (result.status ≡ 1)
-        × TellsFault E.contents errors.old errors.new result.told (Err (printed.no_files why))) }
+    ensures unopened { IfErr files (λ why. (input.new ≡ input.old) × LiveUnopened T.voice (calling sources.old sources.new)
+        (streams (writing W.contents output.old output.new) (writing E.contents errors.old errors.new)) result why) }
 
     ensures files { IfOk files (λ disk. LiveEnded (edge T.voice S.after S.clock S.wakes) (R.remaining input.old) (given_disk (closable D.view D.closed) disk)
         (calling sources.old sources.new) (streams (writing W.contents output.old output.new) (writing E.contents errors.old errors.new)) result) }

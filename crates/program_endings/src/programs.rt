@@ -1,9 +1,7 @@
 //! The programs over a worksheet's files, from their files on: how each ends, and what it says on
 //! which stream.
-ghost use Rattle.std.specs.Prelude.{◌≡◌, ◌≤◌, Err, IfErr, IfOk};
-ghost use Rattle.program_endings.specs.Ending.{TellsFault};
-ghost use Rattle.program_endings.specs.Faults as printed;
-ghost use Rattle.program_endings.specs.Programs.{CreateEnds, RunAnswer, RunEnds, ShowAnswer, ShowEnds, ShownOf, TellsMake};
+ghost use Rattle.std.specs.Prelude.{◌≡◌, ◌≤◌, IfErr, IfOk};
+ghost use Rattle.program_endings.specs.Programs.{CreateEnds, EndsUnopened, RunAnswer, RunEnds, ShowAnswer, ShowEnds, ShownOf, TellsMake};
 ghost use Rattle.program_endings.specs.Records.{calling, given_disk, streams, writing};
 ghost use Rattle.sheet_files.specs.Closing.{closable};
 
@@ -142,9 +140,8 @@ pub fn run_script<R: Read, W: Write, E: Write, D: Close, C: Children>(
     children: &mut C,
 ) -> Ending
     // Why there are no files is printed; the input isn't read.
-    ensures unopened { IfErr files (λ why. (input.new ≡ input.old) × (output.new ≡ output.old)
-        × (children.new ≡ children.old) × (result.status ≡ 1)
-        × TellsFault E.contents errors.old errors.new result.told (Err (printed.no_files why))) }
+    ensures unopened { IfErr files (λ why. (input.new ≡ input.old) × EndsUnopened (calling children.old children.new)
+        (streams (writing W.contents output.old output.new) (writing E.contents errors.old errors.new)) result why) }
 
     ensures files { IfOk files (λ disk. RunEnds C.after (R.remaining input.old) (given_disk (closable D.view D.closed) disk) (calling children.old children.new)
         (streams (writing W.contents output.old output.new) (writing E.contents errors.old errors.new)) result) }
