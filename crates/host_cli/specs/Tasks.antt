@@ -1,5 +1,5 @@
 -- Which program runs for which words, over all that is outside.
-use Rattle.std.specs.Prelude.{◌≡◌, ◌≢◌, ◌⊎◌, ◌&&◌, ℕ, true, false, Bool, List, [], Option, Some, None, nat_le, Result, Ok, Err, IfOk, IfErr, MatchOption, MatchResult}
+use Rattle.std.specs.Prelude.{◌≡◌, ◌≢◌, ◌⊎◌, ℕ, true, false, Bool, List, [], Option, nat_le, Result, Ok, Err, IfOk, IfErr, MatchOption, MatchResult}
 use Rattle.std.specs.Io.KnownBytes.{Appends}
 use Rattle.std.specs.declared.io.ErrorKind.{ErrorKind as IoKind}
 use Rattle.std.specs.declared.io.ErrorKind.TheVariants as io_kind
@@ -24,19 +24,20 @@ use Rattle.host_cli.specs.Refused.{RefusesJobs, RefusesPlan, RefusesRequest, Ref
 use Rattle.host_cli.specs.declared.outside.Outside.{Outside}
 use Rattle.host_cli.specs.declared.plans.JobsFault.{JobsFault}
 use Rattle.host_cli.specs.declared.plans.PlanFault.{PlanFault}
-use Rattle.live.specs.Records.{Clock, Watch}
+use Rattle.live.specs.Records.{Clock, Watch, edge}
 use Rattle.offline_programs.specs.declared.fault.RunFault.{RunFault}
 use Rattle.offline_programs.specs.declared.fault.RunFault.TheVariants as fault
 use Rattle.program_endings.specs.AcceptProgram.{AcceptEnds}
 use Rattle.program_endings.specs.CheckProgram.{CheckEnds}
 use Rattle.program_endings.specs.TogetherProgram.{TogetherEnds}
-use Rattle.program_endings.specs.Ending.{BlocksAnswer, ProgramAnswer, TellsFault, status_of}
+use Rattle.program_endings.specs.Ending.{BlocksAnswer, EndsAs, ProgramAnswer}
 use Rattle.program_endings.specs.BlocksProgram.{ObjectsAnswer}
 use Rattle.program_endings.specs.EvalProgram.{EvaluationEnded}
 use Rattle.program_endings.specs.ExportProgram.{ExportEnds}
-use Rattle.program_endings.specs.Faults.{no_files, no_place}
-use Rattle.program_endings.specs.Programs.{CreateEnds, RunAnswer, ShowAnswer, TellsMake}
-use Rattle.program_endings.specs.LiveProgram.{LastTold, LiveAnswer}
+use Rattle.program_endings.specs.Faults.{no_place}
+use Rattle.program_endings.specs.Programs.{CreateEnds, EndsUnopened, RunEnds, ShowEnds, TellsMake}
+use Rattle.program_endings.specs.Records.{Calling, Streams, calling, given_disk, streams, writing}
+use Rattle.program_endings.specs.LiveProgram.{LastTold, LiveEnded, LiveUnopened}
 use Rattle.tellings.specs.Json.{in_json}
 use Rattle.tellings.specs.Voice.{Voice}
 use Rattle.tellings.specs.Words.{in_words}
@@ -102,9 +103,17 @@ module _ {Y D P S I W E Q : Type 0} where
   OnlyWritten old new = (new.places ≡ old.places) × (new.sources ≡ old.sources) × (new.input ≡ old.input) × (new.progress ≡ old.progress)
 
 module _ {Y D P S I W E Q : Type 0} (o : OutsideView D P S I W E) where
+  -- the output and the stream of errors, before and after
+  abbrev pub streams_of : Outside Y D P S I W E Q → Outside Y D P S I W E Q → Streams W E
+  streams_of old new = streams (writing o.written old.output new.output) (writing o.said old.errors new.errors)
+
+  -- the interpreters, before and after
+  abbrev pub calling_of : Outside Y D P S I W E Q → Outside Y D P S I W E Q → Calling S
+  calling_of old new = calling old.sources new.sources
+
   -- how a program with this answer ends, and what it says on the stream of errors
   abbrev pub EndsWith : Outside Y D P S I W E Q → Outside Y D P S I W E Q → Ending → ProgramAnswer → Type 0
-  EndsWith old new ending answer = (ending.status ≡ status_of answer) × TellsFault o.said old.errors new.errors ending.told answer
+  EndsWith old new ending answer = EndsAs (writing o.said old.errors new.errors) ending answer
 
   -- The places of the standard streams are held before anything else is done. Where they can't be, that is the fault.
   abbrev pub HeldFirst : Outside Y D P S I W E Q → Outside Y D P S I W E Q → (RunFault → Type 0) → (P → Type 0) → Type 0
@@ -125,13 +134,13 @@ module _ {Y D P S I W E Q : Type 0} (o : OutsideView D P S I W E) where
   DoesCreate old new ending path =
       HeldFirst old new (λ why. EndsWith old new ending (Err why)) (λ held. (files : Result D MakeFault) × o.places.creates held path files new.places
       × IfErr files (λ why. (ending.status ≡ 1) × TellsMake o.said old.errors new.errors ending.told why)
-      × IfOk files (λ disk. CreateEnds o.disks disk o.said old.errors new.errors ending))
+      × IfOk files (λ disk. CreateEnds (given_disk o.disks disk) (writing o.said old.errors new.errors) ending))
 
   -- `show` of what they open to read at a path
   abbrev pub DoesShow : Outside Y D P S I W E Q → Outside Y D P S I W E Q → Ending → Text → Type 0
   DoesShow old new ending path =
       HeldFirst old new (λ why. EndsWith old new ending (Err why)) (λ held. (files : Result D FilesFault) × o.places.reads held path files new.places
-      × ((answer : ProgramAnswer) × ShowAnswer o.disks o.written files old.output new.output answer × EndsWith old new ending answer))
+      × ShowEnds o.disks files (streams_of old new) ending)
 
   -- `check` of the same, as it is asked for
   abbrev pub ChecksAs : Outside Y D P S I W E Q → Outside Y D P S I W E Q → Ending → Text → Request → Type 0
@@ -200,20 +209,12 @@ module _ {Y D P S I W E Q : Type 0} (o : OutsideView D P S I W E) where
 
   -- files that weren't opened: nothing is read or written, and no child is called
   abbrev pub Unopened : Outside Y D P S I W E Q → Outside Y D P S I W E Q → Ending → FilesFault → Type 0
-  Unopened old new ending why =
-      (new.input ≡ old.input) × (new.output ≡ old.output) × (new.sources ≡ old.sources) × (ending.status ≡ 1) × TellsFault o.said old.errors new.errors ending.told (Err (no_files why))
-
-  -- nothing was written, and no child was called
-  abbrev pub Nothing : Outside Y D P S I W E Q → Outside Y D P S I W E Q → Type 0
-  Nothing old new = (new.output ≡ old.output) × (new.sources ≡ old.sources)
+  Unopened old new ending why = (new.input ≡ old.input) × EndsUnopened (calling_of old new) (streams_of old new) ending why
 
   -- `run` on a disk, strict or not
   abbrev pub RunsOn : Bool → Outside Y D P S I W E Q → Outside Y D P S I W E Q → Ending → D → Type 0
-  RunsOn false old new ending disk = (answer : ProgramAnswer)
-      × RunAnswer o.disks o.after (o.stream old.input) disk old.sources new.sources (o.written old.output) (o.written new.output) (Nothing old new) answer
-      × (ending.status ≡ status_of answer) × TellsFault o.said old.errors new.errors ending.told answer
-  RunsOn true old new ending disk =
-      StrictEnded o.disks o.after (o.stream old.input) disk old.sources new.sources (o.written old.output) (o.written new.output) (Nothing old new) o.said old.errors new.errors ending
+  RunsOn false old new ending disk = RunEnds o.after (o.stream old.input) (given_disk o.disks disk) (calling_of old new) (streams_of old new) ending
+  RunsOn true old new ending disk = StrictEnded o.after (o.stream old.input) (given_disk o.disks disk) (calling_of old new) (streams_of old new) ending
 
   -- `run` over what the places open at a path
   abbrev pub DoesRun : Bool → Outside Y D P S I W E Q → Outside Y D P S I W E Q → Ending → Text → Type 0
@@ -224,18 +225,13 @@ module _ {Y D P S I W E Q : Type 0} (o : OutsideView D P S I W E) where
   -- `eval` on a disk, printed in a voice
   abbrev pub EvaluatesOn : Voice → Plan → Outside Y D P S I W E Q → Outside Y D P S I W E Q → Ending → D → Type 0
   EvaluatesOn V plan old new ending disk =
-      EvaluationEnded (setting V o.after o.clock o.wakes plan []) o.disks disk old.sources new.sources o.written old.output new.output o.said old.errors new.errors ending
-
-  -- `eval` of files that weren't opened: why is printed last
-  abbrev pub EvaluatesNone : Voice → Outside Y D P S I W E Q → Outside Y D P S I W E Q → Ending → FilesFault → Type 0
-  EvaluatesNone V old new ending why = (new.sources ≡ old.sources) × LastTold V o.written old.output new.output ending.told (Err (no_files why))
-      × (ending.status ≡ 1) × TellsFault o.said old.errors new.errors ending.told (Err (no_files why))
+      EvaluationEnded (setting V o.after o.clock o.wakes plan []) (given_disk o.disks disk) (calling_of old new) (streams_of old new) ending
 
   -- `eval` over what the places open at a path, by a plan
   abbrev pub EvaluatesAs : Voice → Plan → Outside Y D P S I W E Q → Outside Y D P S I W E Q → Ending → Text → Type 0
   EvaluatesAs V plan old new ending path =
       HeldFirst old new (λ why. (new.sources ≡ old.sources) × EndsWith old new ending (Err why)) (λ held. (files : Result D FilesFault) × o.places.opens held path files new.places
-      × IfErr files (EvaluatesNone V old new ending) × IfOk files (EvaluatesOn V plan old new ending))
+      × IfErr files (LiveUnopened V (calling_of old new) (streams_of old new) ending) × IfOk files (EvaluatesOn V plan old new ending))
 
   -- where the words ask for nothing that there is they are refused, and nothing is done
   abbrev pub EvaluatesNothing : Outside Y D P S I W E Q → Outside Y D P S I W E Q → Ending → PlanFault → Type 0
@@ -250,17 +246,13 @@ module _ {Y D P S I W E Q : Type 0} (o : OutsideView D P S I W E) where
   abbrev pub DoesLive : Voice → Outside Y D P S I W E Q → Outside Y D P S I W E Q → Ending → Text → Type 0
   DoesLive V old new ending path =
       HeldFirst old new (λ why. (new.sources ≡ old.sources) × EndsWith old new ending (Err why)) (λ held. (files : Result D FilesFault) × o.places.opens held path files new.places
-      × IfErr files (λ why. (new.input ≡ old.input) × (new.sources ≡ old.sources) × LastTold V o.written old.output new.output ending.told (Err (no_files why))
-      × (ending.status ≡ 1) × TellsFault o.said old.errors new.errors ending.told (Err (no_files why)))
-      × IfOk files (λ disk. (answer : ProgramAnswer) × (mid : W)
-      × LiveAnswer V o.disks o.after o.clock o.wakes (o.stream old.input) disk old.sources new.sources o.written old.output mid answer
-      × LastTold V o.written mid new.output ending.told answer
-      × (ending.status ≡ status_of answer) × TellsFault o.said old.errors new.errors ending.told answer))
+      × IfErr files (λ why. (new.input ≡ old.input) × LiveUnopened V (calling_of old new) (streams_of old new) ending why)
+      × IfOk files (λ disk. LiveEnded (edge V o.after o.clock o.wakes) (o.stream old.input) (given_disk o.disks disk) (calling_of old new) (streams_of old new) ending))
 
   -- `rescue` of what was found, to what the places make at a new path
   abbrev pub RescuesTo : Rescued D → Outside Y D P S I W E Q → Outside Y D P S I W E Q → Ending → Text → Type 0
   RescuesTo found old new ending to = (made : Result D MakeFault) × o.places.creates old.places to made new.places
-      × RescueEnds o.disks.closed o.disks made found o.written old.output new.output o.said old.errors new.errors ending
+      × RescueEnds o.disks.closed o.disks made found (streams_of old new) ending
 
   -- `rescue` of files, or of why they weren't opened; nothing is made where nothing was found
   abbrev pub RescuesFrom : Result D FilesFault → Outside Y D P S I W E Q → Outside Y D P S I W E Q → Ending → Text → Type 0
@@ -277,7 +269,7 @@ module _ {Y D P S I W E Q : Type 0} (o : OutsideView D P S I W E) where
   abbrev pub ExportsAs : Outside Y D P S I W E Q → Outside Y D P S I W E Q → Ending → Text → Format → Type 0
   ExportsAs old new ending path format =
       HeldFirst old new (λ why. EndsWith old new ending (Err why)) (λ held. (files : Result D FilesFault) × o.places.reads held path files new.places
-      × ExportEnds o.disks files format (last_part path) o.written old.output new.output o.said old.errors new.errors ending)
+      × ExportEnds o.disks files format (last_part path) (streams_of old new) ending)
 
   -- where there is no format of that name the words are refused, and nothing is done
   abbrev pub RefusesFormat : Outside Y D P S I W E Q → Outside Y D P S I W E Q → Ending → Type 0

@@ -11,7 +11,6 @@ use Rattle.tellings.specs.Voice.{IsUntold, Voice}
 use Rattle.tellings.specs.declared.note.Counts.{Counts}
 use Rattle.tellings.specs.declared.note.Frame.TheVariants as frame
 use Rattle.tellings.specs.declared.note.Overs.{Overs}
-use Rattle.live.specs.Records.{outside}
 use Rattle.evaluation.specs.Steps.{Setting}
 use Rattle.evaluation.specs.Evaluation.{EvaluationDone, TellsEvalFault}
 use Rattle.evaluation.specs.Faults.{eval_fault_text}
@@ -20,8 +19,8 @@ use Rattle.evaluation.specs.declared.fault.EvalFault.{EvalFault}
 use Rattle.evaluation.specs.declared.fault.EvalFault.TheVariants as evals
 use Rattle.program_endings.specs.LiveProgram.{Framed, LastTold}
 use Rattle.program_endings.specs.StrictProgram.{TellsStop}
+use Rattle.program_endings.specs.Records.{Calling, DoesNothing, GivenDisk, Streams, Writing, outside_after, outside_before, view_given, writing}
 use Rattle.program_endings.specs.declared.ending.Ending.{Ending}
-use Rattle.sheet_files.specs.Closing.{Closable}
 
 -- what the program answers: where the evaluation stopped, if it did, and what it came to; or its fault
 abbrev pub EvaluationAnswer : Type 0
@@ -56,39 +55,37 @@ LastOfEval V contents old new told (Ok end) = new ≡ old
 LastOfEval V contents old new told (Err (evals.NoField id)) = (V.takes_memory ≡ false → new ≡ old) × (told ≡ true → Appends (contents old) (contents new) (V.frame (frame.NoField id)))
 LastOfEval V contents old new told (Err (evals.Run why)) = LastTold V contents old new told (Err why)
 
--- What `eval` answers on a disk between what stands first and last, and what it has written and done then; `nothing` says that it wrote
--- nothing and called no child.
-pub record EvaluatesTo {D C : Type 0} (o : Setting C) (k : Closable D) (disk : D) (c d : C) (a b : Option (List ℕ)) (nothing : Type 0) (answer : EvaluationAnswer) : Type 0 where
+-- What `eval` answers on a disk between what stands first and last, and what it has written and done then.
+pub record EvaluatesTo {D C O : Type 0} (o : Setting C) (g : GivenDisk D) (q : Calling C) (w : Writing O) (answer : EvaluationAnswer) : Type 0 where
   -- the disk after the evaluation, as it was closed
   pub later : D
-  pub closed : k.closed later
-  pub same : SameDisk (k.view disk) (k.view later)
-  pub evaluated : IfOk answer (λ end. EvaluationDone o (outside (k.view disk) c a) (outside (k.view later) d b) end.stopped_at end.counts)
+  pub closed : g.how.closed later
+  pub same : SameDisk (view_given g) (g.how.view later)
+  pub evaluated : IfOk answer (λ end. EvaluationDone o (outside_before g q w) (outside_after g later q w) end.stopped_at end.counts)
   -- that the disk failed, at the opening or later, is reported only where it did
-  pub unopened : IsErrOf answer (evals.Run (fault.Open opens.Disk)) → Rises (k.view disk).faults (k.view later).faults
-  pub failed : IsErrOf answer (evals.Run (fault.Host hosts.Disk)) → Rises (k.view disk).faults (k.view later).faults
-  pub fault : IfErr answer (TellsEvalFault o (outside (k.view disk) c a) (outside (k.view later) d b) (nothing × Untouched (k.view disk) (k.view later)))
+  pub unopened : IsErrOf answer (evals.Run (fault.Open opens.Disk)) → Rises (view_given g).faults (g.how.view later).faults
+  pub failed : IsErrOf answer (evals.Run (fault.Host hosts.Disk)) → Rises (view_given g).faults (g.how.view later).faults
+  pub fault : IfErr answer (TellsEvalFault o (outside_before g q w) (outside_after g later q w) (DoesNothing q w × Untouched (view_given g) (g.how.view later)))
 
 -- What `eval` answers on a disk, and what it has written and done then.
-pub data EvalAnswer {D C O : Type 0} (o : Setting C) (k : Closable D) (disk : D) (c d : C) (contents : O → Option (List ℕ)) (old new : O) (answer : EvaluationAnswer) : Type 0 where
+pub data EvalAnswer {D C O : Type 0} (o : Setting C) (g : GivenDisk D) (q : Calling C) (w : Writing O) (answer : EvaluationAnswer) : Type 0 where
   -- it greeted, and evaluated; where it came to its end that was reported last
-  evaluated : (first last : O) → Framed o.voice contents frame.Hello old first
-      → EvaluatesTo o k disk c d (contents first) (contents last) ((last ≡ first) × (d ≡ c)) answer
-      → IfOk answer (λ end. Framed o.voice contents frame.End last new) → IfErr answer (λ why. new ≡ last)
-      → EvalAnswer o k disk c d contents old new answer
+  evaluated : (first last : O) → Framed o.voice w.contents frame.Hello w.old first
+      → EvaluatesTo o g q (writing w.contents first last) answer
+      → IfOk answer (λ end. Framed o.voice w.contents frame.End last w.new) → IfErr answer (λ why. w.new ≡ last)
+      → EvalAnswer o g q w answer
   -- what stands first couldn't be written, and nothing was done but to close the disk
-  ungreeted : (why : RunFault) → answer ≡ Err (evals.Run why) → o.voice.takes_memory ≡ true → IsUntold o.voice why → d ≡ c → k.closed disk → EvalAnswer o k disk c d contents old new answer
+  ungreeted : (why : RunFault) → answer ≡ Err (evals.Run why) → o.voice.takes_memory ≡ true → IsUntold o.voice why → q.new ≡ q.old → g.how.closed g.disk → EvalAnswer o g q w answer
   -- what stands last couldn't be written
-  unended : (why : RunFault) (first last : O) (end : EvalEnd) → answer ≡ Err (evals.Run why) → o.voice.takes_memory ≡ true → IsUntold o.voice why → Framed o.voice contents frame.Hello old first
-      → EvaluatesTo o k disk c d (contents first) (contents last) ((last ≡ first) × (d ≡ c)) (Ok end)
-      → EvalAnswer o k disk c d contents old new answer
+  unended : (why : RunFault) (first last : O) (end : EvalEnd) → answer ≡ Err (evals.Run why) → o.voice.takes_memory ≡ true → IsUntold o.voice why → Framed o.voice w.contents frame.Hello w.old first
+      → EvaluatesTo o g q (writing w.contents first last) (Ok end)
+      → EvalAnswer o g q w answer
 
--- What `eval` comes to on a disk, from children c to d, and how it ends.
-pub record EvaluationEnded {D C O E : Type 0} (o : Setting C) (k : Closable D) (disk : D) (c d : C) (contents : O → Option (List ℕ)) (first last : O)
-    (said : E → Option (List ℕ)) (old new : E) (ending : Ending) : Type 0 where
+-- What `eval` comes to on a disk, and how it ends.
+pub record EvaluationEnded {D C O E : Type 0} (o : Setting C) (g : GivenDisk D) (q : Calling C) (s : Streams O E) (ending : Ending) : Type 0 where
   pub answer : EvaluationAnswer
   pub mid : O
-  pub answered : EvalAnswer o k disk c d contents first mid answer
-  pub last_told : LastOfEval o.voice contents mid last ending.told answer
+  pub answered : EvalAnswer o g q (writing s.output.contents s.output.old mid) answer
+  pub last_told : LastOfEval o.voice s.output.contents mid s.output.new ending.told answer
   pub status : ending.status ≡ evaluation_status answer
-  pub told : TellsEval said old new ending.told answer
+  pub told : TellsEval s.errors.contents s.errors.old s.errors.new ending.told answer

@@ -11,6 +11,7 @@ use Rattle.sheet_export.specs.declared.formats.Format.{Format}
 use Rattle.offline_programs.specs.declared.fault.RunFault.TheVariants as fault
 use Rattle.worksheet.specs.Contents.{Contents}
 use Rattle.program_endings.specs.Faults.{no_files}
+use Rattle.program_endings.specs.Records.{GivenDisk, Streams, Writing, given_disk, text_after, text_before, view_given}
 use Rattle.program_endings.specs.declared.ending.Ending.{Ending}
 use Rattle.sheet_files.specs.Closing.{Closable}
 use Rattle.sheet_files.specs.declared.files_fault.FilesFault.{FilesFault}
@@ -28,31 +29,30 @@ abbrev pub TellsExported : {E : Type 0} → (E → Option (List ℕ)) → E → 
 TellsExported contents old new told (Ok u) = new ≡ old
 TellsExported contents old new told (Err why) = told ≡ true → Appends (contents old) (contents new) (export_fault_text why)
 
--- What `export` answers on a disk, and what it has written then: its clauses. `contents` are the bytes that the writer holds.
-pub record ExportedFrom {D W : Type 0} (k : Closable D) (contents : W → Option (List ℕ)) (format : Format) (title : List ℕ)
-    (disk : D) (old new : W) (answer : ExportAnswer) : Type 0 where
+-- What `export` answers on a disk, and what it has written then: its clauses.
+pub record ExportedFrom {D W : Type 0} (g : GivenDisk D) (format : Format) (title : List ℕ) (w : Writing W) (answer : ExportAnswer) : Type 0 where
   -- the disk, on which reads alone were made, as it was closed
   pub later : D
-  pub closed : k.closed later
-  pub written : InModel (k.view disk) ((sheet : Contents) → IsSheetImage sheet (bytes_on (k.view disk))
-      → OnOk answer ((has_text format sheet ≡ true) × Appends (contents old) (contents new) (text_in format title sheet)))
-  pub reads : InModel (k.view disk) ((sheet : Contents) → IsSheetImage sheet (bytes_on (k.view disk)) → OnOk answer (ReadsBack format sheet))
-  pub found : InModel (k.view disk) (OnOk answer ((sheet : Contents) × IsSheetImage sheet (bytes_on (k.view disk))))
+  pub closed : g.how.closed later
+  pub written : InModel (view_given g) ((sheet : Contents) → IsSheetImage sheet (bytes_on (view_given g))
+      → OnOk answer ((has_text format sheet ≡ true) × Appends (text_before w) (text_after w) (text_in format title sheet)))
+  pub reads : InModel (view_given g) ((sheet : Contents) → IsSheetImage sheet (bytes_on (view_given g)) → OnOk answer (ReadsBack format sheet))
+  pub found : InModel (view_given g) (OnOk answer ((sheet : Contents) × IsSheetImage sheet (bytes_on (view_given g))))
   -- that there is no script is reported only of a worksheet that has none
-  pub without : InModel (k.view disk) (IsErrOf answer exports.NoScript → (sheet : Contents) × IsSheetImage sheet (bytes_on (k.view disk)) × (has_text format sheet ≡ false))
-  pub same : SameDisk (k.view disk) (k.view later)
-  pub looks : InModel (k.view disk) (Looks (k.view disk).history (k.view later).history)
+  pub without : InModel (view_given g) (IsErrOf answer exports.NoScript → (sheet : Contents) × IsSheetImage sheet (bytes_on (view_given g)) × (has_text format sheet ≡ false))
+  pub same : SameDisk (view_given g) (g.how.view later)
+  pub looks : InModel (view_given g) (Looks (view_given g).history (g.how.view later).history)
   -- that the disk failed is reported only where it did
-  pub failed : IsErrOf answer (exports.Run (fault.Open opens.Disk)) → Rises (k.view disk).faults (k.view later).faults
-  pub fault : IfErr answer (TellsExport format (k.view disk) (new ≡ old))
+  pub failed : IsErrOf answer (exports.Run (fault.Open opens.Disk)) → Rises (view_given g).faults (g.how.view later).faults
+  pub fault : IfErr answer (TellsExport format (view_given g) (w.new ≡ w.old))
 
 -- what `export` answers on its files, or on why they weren't opened
-abbrev pub Exports : {D W : Type 0} → Closable D → (W → Option (List ℕ)) → Format → List ℕ → Result D FilesFault → W → W → ExportAnswer → Type 0
-Exports k contents format title files old new answer =
-    IfErr files (λ why. (answer ≡ Err (exports.Run (no_files why))) × (new ≡ old))
-    × IfOk files (λ disk. ExportedFrom k contents format title disk old new answer)
+abbrev pub Exports : {D W : Type 0} → Closable D → Result D FilesFault → Format → List ℕ → Writing W → ExportAnswer → Type 0
+Exports k files format title w answer =
+    IfErr files (λ why. (answer ≡ Err (exports.Run (no_files why))) × (w.new ≡ w.old))
+    × IfOk files (λ disk. ExportedFrom (given_disk k disk) format title w answer)
 
 -- how `export` ends on its files, or on why they weren't opened
-abbrev pub ExportEnds : {D W E : Type 0} → Closable D → Result D FilesFault → Format → List ℕ → (W → Option (List ℕ)) → W → W → (E → Option (List ℕ)) → E → E → Ending → Type 0
-ExportEnds k files format title written a b said old new ending =
-    (answer : ExportAnswer) × Exports k written format title files a b answer × (ending.status ≡ export_status answer) × TellsExported said old new ending.told answer
+abbrev pub ExportEnds : {D W E : Type 0} → Closable D → Result D FilesFault → Format → List ℕ → Streams W E → Ending → Type 0
+ExportEnds k files format title s ending = (answer : ExportAnswer) × Exports k files format title s.output answer
+    × (ending.status ≡ export_status answer) × TellsExported s.errors.contents s.errors.old s.errors.new ending.told answer

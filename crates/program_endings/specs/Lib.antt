@@ -1,5 +1,6 @@
 pub mod Faults
 pub mod Printed
+pub mod Records
 pub mod Ending
 pub mod BlocksProgram
 pub mod Programs

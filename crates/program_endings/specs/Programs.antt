@@ -1,6 +1,6 @@
 -- How the programs over a worksheet's files end: what becomes of the disk, what is written on which
 -- stream, and the exit status.
-use Rattle.std.specs.Prelude.{◌≡◌, ◌≤◌, ℕ, Bool, true, List, [], Option, Some, None, Result, Ok, Err, IfOk, IfErr, IfSome, IsErrOf, length}
+use Rattle.std.specs.Prelude.{◌≡◌, ◌≤◌, ℕ, Bool, true, List, [], Option, Some, None, Result, Err, IfOk, IfErr, IfSome, IsErrOf, length}
 use Rattle.std.specs.Io.KnownBytes.{Appends}
 use Rattle.disk_model.specs.Disk.{DiskView, InModel, Leaves, Looks, Rises, SameDisk, bytes_on}
 use Rattle.worksheet.specs.Contents.{Contents}
@@ -13,7 +13,8 @@ use Rattle.recovery.specs.Sheets.{IsSheetImage}
 use Rattle.host_events.specs.declared.outcome.HostFault.TheVariants as hosts
 use Rattle.sheet_text.specs.Texts.{sheet_text}
 use Rattle.child_edge.specs.Faithful.{Relation}
-use Rattle.program_endings.specs.Ending.{ProgramAnswer}
+use Rattle.program_endings.specs.Ending.{EndsAs, ProgramAnswer}
+use Rattle.program_endings.specs.Records.{Calling, DoesNothing, GivenDisk, Streams, Writing, given_disk, text_after, text_before, view_given}
 use Rattle.program_endings.specs.declared.ending.Ending.{Ending}
 use Rattle.offline_programs.specs.Faults.{TellsShow, Untouched}
 use Rattle.program_endings.specs.Faults.{create_fault_text, no_files}
@@ -23,7 +24,6 @@ use Rattle.sheet_files.specs.Closing.{Closable}
 use Rattle.sheet_files.specs.declared.files_fault.FilesFault.{FilesFault}
 use Rattle.sheet_files.specs.declared.files_fault.MakeFault.{MakeFault}
 use Rattle.sheet_files.specs.declared.files_fault.MakeFault.TheVariants as makes
-use Rattle.offline_programs.specs.declared.fault.RunFault.{RunFault}
 use Rattle.offline_programs.specs.declared.fault.RunFault.TheVariants as fault
 
 -- what `create` answers: why there is no worksheet, or nothing
@@ -57,49 +57,58 @@ pub record Creates (old new : DiskView) (answer : CreateAnswer) : Type 0 where
   pub faulty : answer ≡ Some creates.Disk → Rises old.faults new.faults
 
 -- how `create` ends on a disk, as which the disk was closed, and what is said of it
-abbrev pub CreateEnds : {D E : Type 0} → Closable D → D → (E → Option (List ℕ)) → E → E → Ending → Type 0
-CreateEnds {D = D} k disk said old new ending =
-    (later : D) × k.closed later × ((answer : CreateAnswer) × Creates (k.view disk) (k.view later) answer
-    × (ending.status ≡ create_status answer) × TellsCreate said old new ending.told answer)
+abbrev pub CreateEnds : {D E : Type 0} → GivenDisk D → Writing E → Ending → Type 0
+CreateEnds {D = D} g errors ending =
+    (later : D) × g.how.closed later × ((answer : CreateAnswer) × Creates (view_given g) (g.how.view later) answer
+    × (ending.status ≡ create_status answer) × TellsCreate errors.contents errors.old errors.new ending.told answer)
 
--- What `show` answers on a disk, and what it has written then. `contents` are the bytes that the writer holds.
-pub record ShownOf {D W : Type 0} (k : Closable D) (contents : W → Option (List ℕ))
-    (disk : D) (old new : W) (answer : ProgramAnswer) : Type 0 where
+-- What `show` answers on a disk, and what it has written then.
+pub record ShownOf {D W : Type 0} (g : GivenDisk D) (w : Writing W) (answer : ProgramAnswer) : Type 0 where
   -- the disk, on which reads alone were made, as it was closed
   pub later : D
-  pub closed : k.closed later
+  pub closed : g.how.closed later
   pub whole : IfOk answer (λ whole. whole ≡ true)
-  pub shown : InModel (k.view disk)
-      ((sheet : Contents) → IsSheetImage sheet (bytes_on (k.view disk))
-      → IfOk answer (λ whole. Appends (contents old) (contents new) (sheet_text sheet)))
-  pub found : InModel (k.view disk)
-      (IfOk answer (λ whole. (sheet : Contents) × IsSheetImage sheet (bytes_on (k.view disk))))
-  pub same : SameDisk (k.view disk) (k.view later)
-  pub looks : InModel (k.view disk) (Looks (k.view disk).history (k.view later).history)
+  pub shown : InModel (view_given g)
+      ((sheet : Contents) → IsSheetImage sheet (bytes_on (view_given g))
+      → IfOk answer (λ whole. Appends (text_before w) (text_after w) (sheet_text sheet)))
+  pub found : InModel (view_given g)
+      (IfOk answer (λ whole. (sheet : Contents) × IsSheetImage sheet (bytes_on (view_given g))))
+  pub same : SameDisk (view_given g) (g.how.view later)
+  pub looks : InModel (view_given g) (Looks (view_given g).history (g.how.view later).history)
   -- that the disk failed is reported only where it did
-  pub failed : IsErrOf answer (fault.Open opens.Disk) → Rises (k.view disk).faults (k.view later).faults
-  pub fault : IfErr answer (TellsShow (k.view disk) (new ≡ old))
+  pub failed : IsErrOf answer (fault.Open opens.Disk) → Rises (view_given g).faults (g.how.view later).faults
+  pub fault : IfErr answer (TellsShow (view_given g) (w.new ≡ w.old))
 
 -- What `show` answers on its files, or on why they weren't opened.
-abbrev pub ShowAnswer : {D W : Type 0} → Closable D → (W → Option (List ℕ)) → Result D FilesFault → W → W → ProgramAnswer → Type 0
-ShowAnswer k contents files old new answer =
-    IfErr files (λ why. (answer ≡ Err (no_files why)) × (new ≡ old))
-    × IfOk files (λ disk. ShownOf k contents disk old new answer)
+abbrev pub ShowAnswer : {D W : Type 0} → Closable D → Result D FilesFault → Writing W → ProgramAnswer → Type 0
+ShowAnswer k files w answer =
+    IfErr files (λ why. (answer ≡ Err (no_files why)) × (w.new ≡ w.old))
+    × IfOk files (λ disk. ShownOf (given_disk k disk) w answer)
+
+-- How `show` ends: what it answers, its fault, and the status.
+abbrev pub ShowEnds : {D W E : Type 0} → Closable D → Result D FilesFault → Streams W E → Ending → Type 0
+ShowEnds k files s ending = (answer : ProgramAnswer) × ShowAnswer k files s.output answer × EndsAs s.errors ending answer
+
+-- How `run` ends where its files weren't opened: nothing is written or called, and why is a line on the stream of errors.
+abbrev pub EndsUnopened : {C W E : Type 0} → Calling C → Streams W E → Ending → FilesFault → Type 0
+EndsUnopened q s ending why = DoesNothing q s.output × EndsAs s.errors ending (Err (no_files why))
 
 -- What `run` answers on a disk, and what it has written and done then: its clauses. The script is the
--- stream of its reader, where that is known; `nothing` says that it wrote nothing and called no child.
-pub record RunAnswer {D C : Type 0} (k : Closable D) (R : Relation C)
-    (stream : Option (List ℕ)) (disk : D) (c d : C) (a b : Option (List ℕ)) (nothing : Type 0)
-    (answer : ProgramAnswer) : Type 0 where
+-- stream of its reader, where that is known.
+pub record RunAnswer {D C W : Type 0} (R : Relation C) (stream : Option (List ℕ)) (g : GivenDisk D) (q : Calling C) (w : Writing W) (answer : ProgramAnswer) : Type 0 where
   -- the disk after the run, as it was closed
   pub later : D
-  pub closed : k.closed later
-  pub same : SameDisk (k.view disk) (k.view later)
+  pub closed : g.how.closed later
+  pub same : SameDisk (view_given g) (g.how.view later)
   pub ran : IfOk answer (λ whole. (whole ≡ true)
-      × IfSome stream (λ script. RunDone R script (k.view disk) c d a b (k.view later)))
+      × IfSome stream (λ script. RunDone R script (view_given g) q.old q.new (text_before w) (text_after w) (g.how.view later)))
   pub short : IfOk answer (λ whole. IfSome stream (λ script. length script ≤ longest_standard_input))
   -- that the disk failed, at the opening or later, is reported only where it did
-  pub unopened : IsErrOf answer (fault.Open opens.Disk) → Rises (k.view disk).faults (k.view later).faults
-  pub failed : IsErrOf answer (fault.Host hosts.Disk) → Rises (k.view disk).faults (k.view later).faults
-  pub fault : IfErr answer (TellsRun R stream (k.view disk) (k.view later) c d a b
-      (nothing × Untouched (k.view disk) (k.view later)))
+  pub unopened : IsErrOf answer (fault.Open opens.Disk) → Rises (view_given g).faults (g.how.view later).faults
+  pub failed : IsErrOf answer (fault.Host hosts.Disk) → Rises (view_given g).faults (g.how.view later).faults
+  pub fault : IfErr answer (TellsRun R stream (view_given g) (g.how.view later) q.old q.new (text_before w) (text_after w)
+      (DoesNothing q w × Untouched (view_given g) (g.how.view later)))
+
+-- How `run` ends on a disk: what it answers, its fault, and the status.
+abbrev pub RunEnds : {D C W E : Type 0} → Relation C → Option (List ℕ) → GivenDisk D → Calling C → Streams W E → Ending → Type 0
+RunEnds R stream g q s ending = (answer : ProgramAnswer) × RunAnswer R stream g q s.output answer × EndsAs s.errors ending answer

@@ -12,6 +12,7 @@ use Rattle.offline_programs.specs.declared.rescuing.RescueFault.TheVariants as r
 use Rattle.program_endings.specs.Ending.{TellsFault}
 use Rattle.program_endings.specs.Faults.{no_files}
 use Rattle.program_endings.specs.Programs.{TellsMake}
+use Rattle.program_endings.specs.Records.{GivenDisk, Streams, given_disk, view_given}
 use Rattle.program_endings.specs.declared.ending.Ending.{Ending}
 use Rattle.sheet_files.specs.Closing.{Closable}
 use Rattle.sheet_files.specs.declared.files_fault.FilesFault.{FilesFault}
@@ -54,17 +55,15 @@ WritesKept contents old new kept damage (Err why) =
     (why ≡ rescues.Run fault.Output → ⊥) → new ≡ old
 
 -- How `rescue` ends on a new disk: as which the disk was closed, what is written to both streams, and the status.
-abbrev pub RescueDone : {D N W E : Type 0} → Closable N → N → Rescued D
-    → (W → Option (List ℕ)) → W → W → (E → Option (List ℕ)) → E → E → Ending → Type 0
-RescueDone {N = N} k disk found written a b said old new ending =
-    (later : N) × k.closed later × ((answer : Result Unit RescueFault)
-    × RescueIsSaved (k.view disk) (k.view later) found.sheet.contents answer
-    × WritesKept written a b found.kept found.damage answer
-    × (ending.status ≡ rescue_status answer) × TellsRescued said old new ending.told answer)
+abbrev pub RescueDone : {D N W E : Type 0} → GivenDisk N → Rescued D → Streams W E → Ending → Type 0
+RescueDone {N = N} g found s ending =
+    (later : N) × g.how.closed later × ((answer : Result Unit RescueFault)
+    × RescueIsSaved (view_given g) (g.how.view later) found.sheet.contents answer
+    × WritesKept s.output.contents s.output.old s.output.new found.kept found.damage answer
+    × (ending.status ≡ rescue_status answer) × TellsRescued s.errors.contents s.errors.old s.errors.new ending.told answer)
 
 -- So on the files of the new worksheet, or on why they weren't made. The disk that was rescued from is closed as it was found.
-abbrev pub RescueEnds : {D N W E : Type 0} → (D → Type 0) → Closable N → Result N MakeFault → Rescued D
-    → (W → Option (List ℕ)) → W → W → (E → Option (List ℕ)) → E → E → Ending → Type 0
-RescueEnds closed k files found written a b said old new ending = closed found.disk
-    × IfErr files (λ why. (b ≡ a) × (ending.status ≡ 1) × TellsMake said old new ending.told why)
-    × IfOk files (λ disk. RescueDone k disk found written a b said old new ending)
+abbrev pub RescueEnds : {D N W E : Type 0} → (D → Type 0) → Closable N → Result N MakeFault → Rescued D → Streams W E → Ending → Type 0
+RescueEnds closed k files found s ending = closed found.disk
+    × IfErr files (λ why. (s.output.new ≡ s.output.old) × (ending.status ≡ 1) × TellsMake s.errors.contents s.errors.old s.errors.new ending.told why)
+    × IfOk files (λ disk. RescueDone (given_disk k disk) found s ending)

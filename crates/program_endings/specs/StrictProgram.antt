@@ -11,7 +11,7 @@ use Rattle.offline_programs.specs.Input.{longest_standard_input}
 use Rattle.sheet_programs.specs.Strict.{StrictDone, TellsStrict}
 use Rattle.offline_programs.specs.declared.fault.RunFault.{RunFault}
 use Rattle.offline_programs.specs.declared.fault.RunFault.TheVariants as fault
-use Rattle.sheet_files.specs.Closing.{Closable}
+use Rattle.program_endings.specs.Records.{Calling, DoesNothing, GivenDisk, Streams, text_after, text_before, view_given}
 use Rattle.program_endings.specs.declared.ending.Ending.{Ending}
 
 -- what the program answers: the line after which it stopped, if it did, or its fault
@@ -33,20 +33,18 @@ TellsStop said old new told (Ok None) = new ≡ old
 TellsStop said old new told (Ok (Some number)) = told ≡ true → Appends (said old) (said new) (stopped_text number)
 TellsStop said old new told (Err why) = told ≡ true → Appends (said old) (said new) (fault_text why)
 
--- What `run --strict` comes to on a disk, from children c to d, and how it ends. The script is the stream of its reader, where that is
--- known; `nothing` says that it wrote nothing and called no child.
-pub record StrictEnded {D C E : Type 0} (k : Closable D) (R : Relation C) (stream : Option (List ℕ)) (disk : D) (c d : C) (a b : Option (List ℕ))
-    (nothing : Type 0) (said : E → Option (List ℕ)) (old new : E) (ending : Ending) : Type 0 where
+-- What `run --strict` comes to on a disk, and how it ends. The script is the stream of its reader, where that is known.
+pub record StrictEnded {D C W E : Type 0} (R : Relation C) (stream : Option (List ℕ)) (g : GivenDisk D) (q : Calling C) (s : Streams W E) (ending : Ending) : Type 0 where
   -- the disk after the run, as it was closed
   pub later : D
-  pub closed : k.closed later
-  pub same : SameDisk (k.view disk) (k.view later)
+  pub closed : g.how.closed later
+  pub same : SameDisk (view_given g) (g.how.view later)
   pub answer : StrictAnswer
-  pub ran : IfOk answer (λ stopped. IfSome stream (λ script. StrictDone R script (k.view disk) c d a b (k.view later) stopped))
+  pub ran : IfOk answer (λ stopped. IfSome stream (λ script. StrictDone R script (view_given g) q.old q.new (text_before s.output) (text_after s.output) (g.how.view later) stopped))
   pub short : OnOk answer (IfSome stream (λ script. length script ≤ longest_standard_input))
   -- that the disk failed, at the opening or later, is reported only where it did
-  pub unopened : IsErrOf answer (fault.Open opens.Disk) → Rises (k.view disk).faults (k.view later).faults
-  pub failed : IsErrOf answer (fault.Host hosts.Disk) → Rises (k.view disk).faults (k.view later).faults
-  pub fault : IfErr answer (TellsStrict R stream (k.view disk) (k.view later) c d a b (nothing × Untouched (k.view disk) (k.view later)))
+  pub unopened : IsErrOf answer (fault.Open opens.Disk) → Rises (view_given g).faults (g.how.view later).faults
+  pub failed : IsErrOf answer (fault.Host hosts.Disk) → Rises (view_given g).faults (g.how.view later).faults
+  pub fault : IfErr answer (TellsStrict R stream (view_given g) (g.how.view later) q.old q.new (text_before s.output) (text_after s.output) (DoesNothing q s.output × Untouched (view_given g) (g.how.view later)))
   pub status : ending.status ≡ strict_status answer
-  pub told : TellsStop said old new ending.told answer
+  pub told : TellsStop s.errors.contents s.errors.old s.errors.new ending.told answer

@@ -1,8 +1,8 @@
 //! The program `blocks --json`.
-ghost use Rattle.std.specs.Prelude.{◌≡◌};
 ghost use Rattle.program_endings.specs.BlocksProgram.{ObjectsAnswer};
-ghost use Rattle.program_endings.specs.Ending.{ProgramAnswer, TellsFault, status_of};
+ghost use Rattle.program_endings.specs.Ending.{EndsAs, ProgramAnswer};
 ghost use Rattle.program_endings.specs.LiveProgram.{LastTold};
+ghost use Rattle.program_endings.specs.Records.{writing};
 ghost use Rattle.tellings.specs.Json.{in_json};
 
 use crate::Ending;
@@ -23,8 +23,7 @@ pub fn run_block_objects<R: Read, W: Write, E: Write>(
     ensures { (answer : ProgramAnswer) × (mid : W)
         × ObjectsAnswer (R.remaining input.old) W.contents output.old mid answer
         × LastTold in_json W.contents mid output.new result.told answer
-        × (result.status ≡ status_of answer)
-        × TellsFault E.contents errors.old errors.new result.told answer }
+        × EndsAs (writing E.contents errors.old errors.new) result answer }
 {
     let answer = block_objects(alloc, input, output);
     end_told(answer, &InJson { alloc }, output, errors)

@@ -1,6 +1,7 @@
 //! How the program ends: its exit status, and what it says on which stream.
 ghost use Rattle.std.specs.Prelude.{◌≡◌};
-ghost use Rattle.program_endings.specs.Ending.{BlocksAnswer, ProgramAnswer, TellsFault, answer_of, status_of};
+ghost use Rattle.program_endings.specs.Ending.{BlocksAnswer, EndsAs, ProgramAnswer, TellsFault, answer_of, status_of};
+ghost use Rattle.program_endings.specs.Records.{writing};
 
 use crate::blocks;
 use offline_programs::{RunFault, fault_text};
@@ -56,8 +57,7 @@ pub fn run_blocks<R: Read, W: Write, E: Write>(
 ) -> Ending
     ensures { (answer : ProgramAnswer)
         × BlocksAnswer (R.remaining input.old) W.contents output.old output.new answer
-        × (result.status ≡ status_of answer)
-        × TellsFault E.contents errors.old errors.new result.told answer }
+        × EndsAs (writing E.contents errors.old errors.new) result answer }
 {
     let answer = blocks(alloc, input, output);
     end_program(answer, errors)

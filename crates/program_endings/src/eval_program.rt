@@ -2,10 +2,9 @@
 ghost use Rattle.std.specs.Prelude.{◌≡◌, Err, IfErr, IfOk, []};
 ghost use Rattle.evaluation.specs.Steps.{setting};
 ghost use Rattle.evaluation.specs.declared.fault.EvalFault.TheVariants as evals;
-ghost use Rattle.program_endings.specs.Ending.{TellsFault};
 ghost use Rattle.program_endings.specs.EvalProgram.{EvalAnswer, EvaluatesTo, EvaluationEnded, LastOfEval, TellsEval, are_none_over, counts_status, evaluation_status};
-ghost use Rattle.program_endings.specs.Faults as printed;
-ghost use Rattle.program_endings.specs.LiveProgram.{LastTold};
+ghost use Rattle.program_endings.specs.LiveProgram.{LiveUnopened};
+ghost use Rattle.program_endings.specs.Records.{calling, given_disk, streams, writing};
 ghost use Rattle.sheet_files.specs.Closing.{closable};
 
 use crate::Ending;
@@ -49,9 +48,8 @@ fn evaluate_on<W: Write, D: Close, S: Sources, T: Tells>(
     disk: D,
     sources: &mut S,
 ) -> Result<EvalEnd, EvalFault>
-    ensures { EvaluatesTo (setting T.voice S.after S.clock S.wakes plan.now []) (closable D.view D.closed) disk sources.old sources.new
-        (W.contents output.old) (W.contents output.new)
-        ((output.new ≡ output.old) × (sources.new ≡ sources.old)) result }
+    ensures { EvaluatesTo (setting T.voice S.after S.clock S.wakes plan.now []) (given_disk (closable D.view D.closed) disk)
+        (calling sources.old sources.new) (writing W.contents output.old output.new) result }
 {
     let Evaluated { disk, answer } = evaluate(alloc, plan, tells, output, disk, sources);
     disk.close();
@@ -67,8 +65,8 @@ fn evaluate_framed<W: Write, D: Close, S: Sources, T: Tells>(
     disk: D,
     sources: &mut S,
 ) -> Result<EvalEnd, EvalFault>
-    ensures { EvalAnswer (setting T.voice S.after S.clock S.wakes plan.now []) (closable D.view D.closed) disk sources.old sources.new
-        W.contents output.old output.new result }
+    ensures { EvalAnswer (setting T.voice S.after S.clock S.wakes plan.now []) (given_disk (closable D.view D.closed) disk)
+        (calling sources.old sources.new) (writing W.contents output.old output.new) result }
 {
     if let Err(fault) = tells.frame(Frame::Hello, output) {
         disk.close();
@@ -155,8 +153,8 @@ fn end_on<W: Write, E: Write, D: Close, S: Sources, T: Tells>(
     disk: D,
     sources: &mut S,
 ) -> Ending
-    ensures { EvaluationEnded (setting T.voice S.after S.clock S.wakes plan.now []) (closable D.view D.closed) disk sources.old sources.new
-        W.contents output.old output.new E.contents errors.old errors.new result }
+    ensures { EvaluationEnded (setting T.voice S.after S.clock S.wakes plan.now []) (given_disk (closable D.view D.closed) disk) (calling sources.old sources.new)
+        (streams (writing W.contents output.old output.new) (writing E.contents errors.old errors.new)) result }
 {
     let answer = evaluate_framed(alloc, plan, tells, output, disk, sources);
     end_evaluation(answer, tells, output, errors)
@@ -174,13 +172,11 @@ pub fn run_evaluation<W: Write, E: Write, D: Close, S: Sources, T: Tells>(
     files: Result<D, FilesFault>,
     sources: &mut S,
 ) -> Ending
-    ensures unopened { IfErr files (λ why. (sources.new ≡ sources.old)
-        × LastTold T.voice W.contents output.old output.new result.told (Err (printed.no_files why))
-        × (result.status ≡ 1)
-        × TellsFault E.contents errors.old errors.new result.told (Err (printed.no_files why))) }
+    ensures unopened { IfErr files (LiveUnopened T.voice (calling sources.old sources.new)
+        (streams (writing W.contents output.old output.new) (writing E.contents errors.old errors.new)) result) }
 
-    ensures files { IfOk files (λ disk. EvaluationEnded (setting T.voice S.after S.clock S.wakes plan.now []) (closable D.view D.closed) disk
-        sources.old sources.new W.contents output.old output.new E.contents errors.old errors.new result) }
+    ensures files { IfOk files (λ disk. EvaluationEnded (setting T.voice S.after S.clock S.wakes plan.now []) (given_disk (closable D.view D.closed) disk) (calling sources.old sources.new)
+        (streams (writing W.contents output.old output.new) (writing E.contents errors.old errors.new)) result) }
 {
     match files {
         Ok(disk) => end_on(alloc, plan, tells, output, errors, disk, sources),

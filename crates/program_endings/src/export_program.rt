@@ -1,6 +1,7 @@
 //! The program `export` over a worksheet's files, from its files on.
 ghost use Rattle.std.specs.Prelude.{◌≡◌};
 ghost use Rattle.program_endings.specs.ExportProgram.{ExportEnds, ExportedFrom, Exports, TellsExported, export_status};
+ghost use Rattle.program_endings.specs.Records.{given_disk, streams, writing};
 ghost use Rattle.sheet_files.specs.Closing.{closable};
 
 use crate::Ending;
@@ -19,7 +20,7 @@ fn export_disk<D: Close, W: Write>(
     title: &[u8],
     output: &mut W,
 ) -> Result<(), ExportFault>
-    ensures { ExportedFrom (closable D.view D.closed) W.contents format title.now disk output.old output.new result }
+    ensures { ExportedFrom (given_disk (closable D.view D.closed) disk) format title.now (writing W.contents output.old output.new) result }
 {
     let Exported { disk, answer } = export(alloc, format, disk, title, output);
     disk.close();
@@ -34,7 +35,7 @@ fn export_files<D: Close, W: Write>(
     title: &[u8],
     output: &mut W,
 ) -> Result<(), ExportFault>
-    ensures { Exports (closable D.view D.closed) W.contents format title.now files output.old output.new result }
+    ensures { Exports (closable D.view D.closed) files format title.now (writing W.contents output.old output.new) result }
 {
     match files {
         Err(why) => Err(ExportFault::Run(no_files(why))),
@@ -64,8 +65,8 @@ pub fn run_export<D: Close, W: Write, E: Write>(
     output: &mut W,
     errors: &mut E,
 ) -> Ending
-    ensures { ExportEnds (closable D.view D.closed) files format title.now W.contents output.old output.new
-        E.contents errors.old errors.new result }
+    ensures { ExportEnds (closable D.view D.closed) files format title.now
+        (streams (writing W.contents output.old output.new) (writing E.contents errors.old errors.new)) result }
 {
     let answer = export_files(alloc, format, files, title, output);
     end_export(answer, errors)

@@ -1,8 +1,9 @@
 //! The program `live` over a worksheet's files, from its files on.
-ghost use Rattle.std.specs.Prelude.{◌≡◌, Err, IfErr, IfOk};
-ghost use Rattle.program_endings.specs.Ending.{ProgramAnswer, TellsFault, status_of};
-ghost use Rattle.program_endings.specs.Faults as printed;
-ghost use Rattle.program_endings.specs.LiveProgram.{LastTold, LiveAnswer, LivesOn};
+ghost use Rattle.std.specs.Prelude.{◌≡◌, IfErr, IfOk};
+ghost use Rattle.live.specs.Records.{edge};
+ghost use Rattle.program_endings.specs.Ending.{TellsFault, status_of};
+ghost use Rattle.program_endings.specs.LiveProgram.{LastTold, LiveAnswer, LiveEnded, LiveUnopened, LivesOn};
+ghost use Rattle.program_endings.specs.Records.{calling, given_disk, streams, writing};
 ghost use Rattle.sheet_files.specs.Closing.{closable};
 
 use crate::ending::answered;
@@ -25,9 +26,8 @@ fn live_on<R: Read, W: Write, D: Close, S: Sources, T: Tells>(
     disk: D,
     sources: &mut S,
 ) -> Result<bool, RunFault>
-    ensures { LivesOn T.voice (closable D.view D.closed) S.after S.clock S.wakes (R.remaining input.old) disk sources.old sources.new
-        (W.contents output.old) (W.contents output.new)
-        ((output.new ≡ output.old) × (sources.new ≡ sources.old)) result }
+    ensures { LivesOn (edge T.voice S.after S.clock S.wakes) (R.remaining input.old) (given_disk (closable D.view D.closed) disk)
+        (calling sources.old sources.new) (writing W.contents output.old output.new) result }
 {
     let LiveEnd { disk, answer } = live(alloc, input, tells, output, disk, sources);
     disk.close();
@@ -43,8 +43,8 @@ fn live_framed<R: Read, W: Write, D: Close, S: Sources, T: Tells>(
     disk: D,
     sources: &mut S,
 ) -> Result<bool, RunFault>
-    ensures { LiveAnswer T.voice (closable D.view D.closed) S.after S.clock S.wakes (R.remaining input.old) disk sources.old sources.new
-        W.contents output.old output.new result }
+    ensures { LiveAnswer (edge T.voice S.after S.clock S.wakes) (R.remaining input.old) (given_disk (closable D.view D.closed) disk)
+        (calling sources.old sources.new) (writing W.contents output.old output.new) result }
 {
     if let Err(fault) = tells.frame(Frame::Hello, output) {
         disk.close();
@@ -99,12 +99,8 @@ fn end_live<R: Read, W: Write, E: Write, D: Close, S: Sources, T: Tells>(
     disk: D,
     sources: &mut S,
 ) -> Ending
-    ensures { (answer : ProgramAnswer) × (mid : W)
-        × LiveAnswer T.voice (closable D.view D.closed) S.after S.clock S.wakes (R.remaining input.old) disk sources.old sources.new
-        W.contents output.old mid answer
-        × LastTold T.voice W.contents mid output.new result.told answer
-        × (result.status ≡ status_of answer)
-        × TellsFault E.contents errors.old errors.new result.told answer }
+    ensures { LiveEnded (edge T.voice S.after S.clock S.wakes) (R.remaining input.old) (given_disk (closable D.view D.closed) disk) (calling sources.old sources.new)
+        (streams (writing W.contents output.old output.new) (writing E.contents errors.old errors.new)) result }
 {
     let answer = live_framed(alloc, input, tells, output, disk, sources);
     end_told(answer, tells, output, errors)
@@ -123,17 +119,11 @@ pub fn run_live<R: Read, W: Write, E: Write, D: Close, S: Sources, T: Tells>(
     sources: &mut S,
 ) -> Ending
     // It is printed before a line is read.
-    ensures unopened { IfErr files (λ why. (input.new ≡ input.old) × (sources.new ≡ sources.old)
-        × LastTold T.voice W.contents output.old output.new result.told (Err (printed.no_files why))
-        × (result.status ≡ 1)
-        × TellsFault E.contents errors.old errors.new result.told (Err (printed.no_files why))) }
+    ensures unopened { IfErr files (λ why. (input.new ≡ input.old) × LiveUnopened T.voice (calling sources.old sources.new)
+        (streams (writing W.contents output.old output.new) (writing E.contents errors.old errors.new)) result why) }
 
-    ensures files { IfOk files (λ disk. (answer : ProgramAnswer) × (mid : W)
-        × LiveAnswer T.voice (closable D.view D.closed) S.after S.clock S.wakes (R.remaining input.old) disk sources.old sources.new
-        W.contents output.old mid answer
-        × LastTold T.voice W.contents mid output.new result.told answer
-        × (result.status ≡ status_of answer)
-        × TellsFault E.contents errors.old errors.new result.told answer) }
+    ensures files { IfOk files (λ disk. LiveEnded (edge T.voice S.after S.clock S.wakes) (R.remaining input.old) (given_disk (closable D.view D.closed) disk)
+        (calling sources.old sources.new) (streams (writing W.contents output.old output.new) (writing E.contents errors.old errors.new)) result) }
 {
     match files {
         Ok(disk) => end_live(alloc, input, tells, output, errors, disk, sources),

@@ -1,9 +1,8 @@
 //! The programs over a worksheet's files, from their files on: how each ends, and what it says on
 //! which stream.
-ghost use Rattle.std.specs.Prelude.{◌≡◌, ◌≤◌, Err, IfErr, IfOk};
-ghost use Rattle.program_endings.specs.Ending.{ProgramAnswer, TellsFault, status_of};
-ghost use Rattle.program_endings.specs.Faults as printed;
-ghost use Rattle.program_endings.specs.Programs.{CreateEnds, RunAnswer, ShowAnswer, ShownOf, TellsMake};
+ghost use Rattle.std.specs.Prelude.{◌≡◌, ◌≤◌, IfErr, IfOk};
+ghost use Rattle.program_endings.specs.Programs.{CreateEnds, EndsUnopened, RunAnswer, RunEnds, ShowAnswer, ShowEnds, ShownOf, TellsMake};
+ghost use Rattle.program_endings.specs.Records.{calling, given_disk, streams, writing};
 ghost use Rattle.sheet_files.specs.Closing.{closable};
 
 use crate::ending::{answered, ended};
@@ -27,7 +26,7 @@ pub(crate) fn end_create<E: Write>(why: MakeFault, errors: &mut E) -> Ending
 /// Lays an empty worksheet on a disk, closes the disk, and tells where that failed why.
 fn create_on<D: Close, E: Write>(disk: D, errors: &mut E) -> Ending
     requires { 11 ≤ (D.view disk).room }
-    ensures { CreateEnds (closable D.view D.closed) disk E.contents errors.old errors.new result }
+    ensures { CreateEnds (given_disk (closable D.view D.closed) disk) (writing E.contents errors.old errors.new) result }
 {
     match journal::create(disk) {
         Ok(made) => {
@@ -50,8 +49,8 @@ pub fn run_create<D: Close, E: Write>(files: Result<D, MakeFault>, errors: &mut 
         × TellsMake E.contents errors.old errors.new result.told why) }
 
     // What becomes of the disk, and what is said of it.
-    ensures files { IfOk files (λ disk. CreateEnds (closable D.view D.closed) disk
-        E.contents errors.old errors.new result) }
+    ensures files { IfOk files (λ disk. CreateEnds (given_disk (closable D.view D.closed) disk)
+        (writing E.contents errors.old errors.new) result) }
 {
     match files {
         Ok(disk) => create_on(disk, errors),
@@ -61,7 +60,7 @@ pub fn run_create<D: Close, E: Write>(files: Result<D, MakeFault>, errors: &mut 
 
 /// Writes the worksheet of a disk, and closes the disk at the end.
 fn show_disk<D: Close, W: Write>(alloc: Global, disk: D, output: &mut W) -> Result<bool, RunFault>
-    ensures { ShownOf (closable D.view D.closed) W.contents disk output.old output.new result }
+    ensures { ShownOf (given_disk (closable D.view D.closed) disk) (writing W.contents output.old output.new) result }
 {
     let Shown { disk, answer } = show(alloc, disk, output);
     disk.close();
@@ -74,7 +73,7 @@ fn show_files<D: Close, W: Write>(
     files: Result<D, FilesFault>,
     output: &mut W,
 ) -> Result<bool, RunFault>
-    ensures { ShowAnswer (closable D.view D.closed) W.contents files output.old output.new result }
+    ensures { ShowAnswer (closable D.view D.closed) files (writing W.contents output.old output.new) result }
 {
     match files {
         Err(why) => Err(no_files(why)),
@@ -90,10 +89,8 @@ pub fn run_show<D: Close, W: Write, E: Write>(
     output: &mut W,
     errors: &mut E,
 ) -> Ending
-    ensures { (answer : ProgramAnswer)
-        × ShowAnswer (closable D.view D.closed) W.contents files output.old output.new answer
-        × (result.status ≡ status_of answer)
-        × TellsFault E.contents errors.old errors.new result.told answer }
+    ensures { ShowEnds (closable D.view D.closed) files
+        (streams (writing W.contents output.old output.new) (writing E.contents errors.old errors.new)) result }
 {
     let answer = show_files(alloc, files, output);
     end_program(answer, errors)
@@ -107,9 +104,8 @@ fn run_on<R: Read, W: Write, D: Close, C: Children>(
     disk: D,
     children: &mut C,
 ) -> Result<bool, RunFault>
-    ensures { RunAnswer (closable D.view D.closed) C.after (R.remaining input.old) disk children.old children.new
-        (W.contents output.old) (W.contents output.new)
-        ((output.new ≡ output.old) × (children.new ≡ children.old)) result }
+    ensures { RunAnswer C.after (R.remaining input.old) (given_disk (closable D.view D.closed) disk) (calling children.old children.new)
+        (writing W.contents output.old output.new) result }
 {
     let Ran { disk, answer } = run(alloc, input, output, disk, children);
     disk.close();
@@ -125,12 +121,8 @@ fn end_run<R: Read, W: Write, E: Write, D: Close, C: Children>(
     disk: D,
     children: &mut C,
 ) -> Ending
-    ensures { (answer : ProgramAnswer)
-        × RunAnswer (closable D.view D.closed) C.after (R.remaining input.old) disk children.old children.new
-        (W.contents output.old) (W.contents output.new)
-        ((output.new ≡ output.old) × (children.new ≡ children.old)) answer
-        × (result.status ≡ status_of answer)
-        × TellsFault E.contents errors.old errors.new result.told answer }
+    ensures { RunEnds C.after (R.remaining input.old) (given_disk (closable D.view D.closed) disk) (calling children.old children.new)
+        (streams (writing W.contents output.old output.new) (writing E.contents errors.old errors.new)) result }
 {
     let answer = run_on(alloc, input, output, disk, children);
     end_program(answer, errors)
@@ -148,16 +140,11 @@ pub fn run_script<R: Read, W: Write, E: Write, D: Close, C: Children>(
     children: &mut C,
 ) -> Ending
     // Why there are no files is printed; the input isn't read.
-    ensures unopened { IfErr files (λ why. (input.new ≡ input.old) × (output.new ≡ output.old)
-        × (children.new ≡ children.old) × (result.status ≡ 1)
-        × TellsFault E.contents errors.old errors.new result.told (Err (printed.no_files why))) }
+    ensures unopened { IfErr files (λ why. (input.new ≡ input.old) × EndsUnopened (calling children.old children.new)
+        (streams (writing W.contents output.old output.new) (writing E.contents errors.old errors.new)) result why) }
 
-    ensures files { IfOk files (λ disk. (answer : ProgramAnswer)
-        × RunAnswer (closable D.view D.closed) C.after (R.remaining input.old) disk children.old children.new
-        (W.contents output.old) (W.contents output.new)
-        ((output.new ≡ output.old) × (children.new ≡ children.old)) answer
-        × (result.status ≡ status_of answer)
-        × TellsFault E.contents errors.old errors.new result.told answer) }
+    ensures files { IfOk files (λ disk. RunEnds C.after (R.remaining input.old) (given_disk (closable D.view D.closed) disk) (calling children.old children.new)
+        (streams (writing W.contents output.old output.new) (writing E.contents errors.old errors.new)) result) }
 {
     match files {
         Ok(disk) => end_run(alloc, input, output, errors, disk, children),

@@ -1,6 +1,7 @@
 //! The program `rescue` over a worksheet's files, from its files on.
 ghost use Rattle.std.specs.Prelude.{◌≡◌, ◌≤◌, List, IfErr, IfOk, Result};
 ghost use Rattle.program_endings.specs.Programs.{TellsMake};
+ghost use Rattle.program_endings.specs.Records.{given_disk, streams, writing};
 ghost use Rattle.program_endings.specs.RescueProgram.{DiskIsRead, FilesAreRead, RescueDone, RescueEnds, TellsRescueFault, TellsRescued, rescue_status};
 ghost use Rattle.sheet_files.specs.Closing.{closable};
 ghost use Rattle.recovery.specs.Sheets.{Makes};
@@ -78,8 +79,8 @@ fn rescue_on<D: Disk, N: Close, W: Write, E: Write>(
 ) -> Ending
     requires room { 11 ≤ (N.view disk).room }
     requires made { (ops : List Op) × Makes ops found.now.sheet.contents }
-    ensures { RescueDone (closable N.view N.closed) disk found.now W.contents output.old output.new
-        E.contents errors.old errors.new result }
+    ensures { RescueDone (given_disk (closable N.view N.closed) disk) found.now
+        (streams (writing W.contents output.old output.new) (writing E.contents errors.old errors.new)) result }
 {
     let Saved { disk, answer } = save_rescued(alloc, found, disk, output);
     disk.close();
@@ -101,8 +102,8 @@ fn rescue_to<D: Disk, N: Close, W: Write, E: Write>(
         × TellsMake E.contents errors.old errors.new result.told why) }
 
     // What becomes of the disk, and what is said of it.
-    ensures files { IfOk files (λ disk. RescueDone (closable N.view N.closed) disk found.now
-        W.contents output.old output.new E.contents errors.old errors.new result) }
+    ensures files { IfOk files (λ disk. RescueDone (given_disk (closable N.view N.closed) disk) found.now
+        (streams (writing W.contents output.old output.new) (writing E.contents errors.old errors.new)) result) }
 {
     match files {
         Ok(disk) => rescue_on(alloc, found, disk, output, errors),
@@ -123,7 +124,7 @@ pub fn run_rescue<D: Close, N: Close, W: Write, E: Write>(
     requires room { IfOk files (λ disk. 11 ≤ (N.view disk).room) }
     requires made { (ops : List Op) × Makes ops found.sheet.contents }
     ensures { RescueEnds D.closed (closable N.view N.closed) files found
-        W.contents output.old output.new E.contents errors.old errors.new result }
+        (streams (writing W.contents output.old output.new) (writing E.contents errors.old errors.new)) result }
 {
     let ending = rescue_to(alloc, &found, files, output, errors);
     found.disk.close();

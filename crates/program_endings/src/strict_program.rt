@@ -1,7 +1,7 @@
 //! The program `run --strict` over a worksheet's files, from its files on.
-ghost use Rattle.std.specs.Prelude.{◌≡◌, Err, IfErr, IfOk};
-ghost use Rattle.program_endings.specs.Ending.{TellsFault};
-ghost use Rattle.program_endings.specs.Faults as printed;
+ghost use Rattle.std.specs.Prelude.{◌≡◌, IfErr, IfOk};
+ghost use Rattle.program_endings.specs.Programs.{EndsUnopened};
+ghost use Rattle.program_endings.specs.Records.{calling, given_disk, streams, writing};
 ghost use Rattle.program_endings.specs.StrictProgram.{StrictEnded, TellsStop, strict_status};
 ghost use Rattle.sheet_files.specs.Closing.{closable};
 
@@ -36,10 +36,8 @@ fn run_strict_on<R: Read, W: Write, E: Write, D: Close, C: Children>(
     disk: D,
     children: &mut C,
 ) -> Ending
-    ensures { StrictEnded (closable D.view D.closed) C.after (R.remaining input.old) disk children.old children.new
-        (W.contents output.old) (W.contents output.new)
-        ((output.new ≡ output.old) × (children.new ≡ children.old))
-        E.contents errors.old errors.new result }
+    ensures { StrictEnded C.after (R.remaining input.old) (given_disk (closable D.view D.closed) disk) (calling children.old children.new)
+        (streams (writing W.contents output.old output.new) (writing E.contents errors.old errors.new)) result }
 {
     let Ran { disk, answer } = run_strict(alloc, input, output, disk, children);
     disk.close();
@@ -57,14 +55,11 @@ pub fn run_strictly<R: Read, W: Write, E: Write, D: Close, C: Children>(
     children: &mut C,
 ) -> Ending
     // Why there are no files is printed; the input isn't read.
-    ensures unopened { IfErr files (λ why. (input.new ≡ input.old) × (output.new ≡ output.old)
-        × (children.new ≡ children.old) × (result.status ≡ 1)
-        × TellsFault E.contents errors.old errors.new result.told (Err (printed.no_files why))) }
+    ensures unopened { IfErr files (λ why. (input.new ≡ input.old) × EndsUnopened (calling children.old children.new)
+        (streams (writing W.contents output.old output.new) (writing E.contents errors.old errors.new)) result why) }
 
-    ensures files { IfOk files (λ disk. StrictEnded (closable D.view D.closed) C.after (R.remaining input.old) disk
-        children.old children.new (W.contents output.old) (W.contents output.new)
-        ((output.new ≡ output.old) × (children.new ≡ children.old))
-        E.contents errors.old errors.new result) }
+    ensures files { IfOk files (λ disk. StrictEnded C.after (R.remaining input.old) (given_disk (closable D.view D.closed) disk) (calling children.old children.new)
+        (streams (writing W.contents output.old output.new) (writing E.contents errors.old errors.new)) result) }
 {
     match files {
         Ok(disk) => run_strict_on(alloc, input, output, errors, disk, children),

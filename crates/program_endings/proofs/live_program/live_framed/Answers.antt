@@ -1,7 +1,9 @@
-use Rattle.std.proofs.Common.{◌≡◌, Ok, refl, subst}
+use Rattle.std.proofs.Common.{Ok, refl, subst}
+use Rattle.live.specs.Records.{edge}
 use Rattle.sheet_files.specs.Closing.{closable}
 use Rattle.program_endings.specs.LiveProgram.{LivesOn}
 use Rattle.program_endings.specs.LiveProgram as ends
+use Rattle.program_endings.specs.Records.{calling, given_disk, writing}
 use Rattle.program_endings.proofs.live_program.live_framed.Goals as goal
 
 pub returns-in-Err : goal.returns-in-Err
@@ -14,8 +16,8 @@ returns-in-Ok-frame g c =
 pub returns-in-Err-frame : goal.returns-in-Err-frame
 returns-in-Err-frame g c =
     ends.unended c.in-Err-frame.fault c.frame.new.writer c.live_on.new.output refl c.in-Err-frame.ensures.err.0 c.in-Err-frame.ensures.err.1 (c.in_default.ensures.ok, c.in_default.ensures.still)
-    (subst (λ whole. LivesOn g.T.Tells.voice (closable g.D.Disk.view g.D.Close.closed) g.S.Children.after g.S.Sources.clock g.S.Sources.wakes (g.R.Read.remaining c.args.input.now) c.args.disk c.args.sources.now c.live_on.new.sources
-    (g.W.Write.contents c.frame.new.writer) (g.W.Write.contents c.live_on.new.output) ((c.live_on.new.output ≡ c.frame.new.writer) × (c.live_on.new.sources ≡ c.args.sources.now)) (Ok whole))
+    (subst (λ whole. LivesOn (edge g.T.Tells.voice g.S.Children.after g.S.Sources.clock g.S.Sources.wakes) (g.R.Read.remaining c.args.input.now) (given_disk (closable g.D.Disk.view g.D.Close.closed) c.args.disk)
+    (calling c.args.sources.now c.live_on.new.sources) (writing g.W.Write.contents c.frame.new.writer c.live_on.new.output) (Ok whole))
     c.in-Ok.ensures.lived.0 c.in-Ok.ensures)
 
 pub returns-in-Err-live_on : goal.returns-in-Err-live_on
