@@ -19,7 +19,6 @@ use Rattle.recovery.specs.Sheets.{StoreView}
 use Rattle.acceptance.specs.Kept.{Stores}
 use Rattle.acceptance.specs.declared.accepting.AcceptFault.{AcceptFault}
 use Rattle.acceptance.specs.declared.accepting.AcceptFault.TheVariants as refused
-use Rattle.host_events.specs.declared.outcome.HostFault.TheVariants as hosts
 use Rattle.session_engine.specs.World.{World}
 use Rattle.session_engine.specs.Host.{HostView, IsHost}
 use Rattle.child_edge.specs.Faithful.{At, at}

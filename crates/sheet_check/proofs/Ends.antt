@@ -76,19 +76,19 @@ module _ {C : Type 0} (o : OneByOne C) (sheet : Contents) (w : World) (copy : Di
   pub counts_untold : (e : Option (List ℕ)) (counts : Counts) (none : Type 0) (why : RunFault) → FieldsEnded o sheet.fields w copy (passage c d a b) counts → why ≡ fault.Output
       → TellsCheck o sheet (passage c d a e) none why
   counts_untold e counts none why p is = ends.unwritten p.0 is
-    (record {
-      start = w;
-      copy = copy;
-      copied = copied;
-      gone = sheet.fields;
-      left = [];
-      split = sym (append-nil sheet.fields);
-      mid = p.1;
-      checked = p.2;
-      leads = p.1;
-      led = still refl;
-      stops = p.3;
-    })
+      (record {
+        start = w;
+        copy = copy;
+        copied = copied;
+        gone = sheet.fields;
+        left = [];
+        split = sym (append-nil sheet.fields);
+        mid = p.1;
+        checked = p.2;
+        leads = p.1;
+        led = still refl;
+        stops = p.3;
+      })
 
   pub stopped_tells : (none : Type 0) (why : RunFault) → FieldsStopped o sheet.fields w copy (passage c d a b) why → TellsCheck o sheet (passage c d a b) none why
   stopped_tells none why p = tells why p.ended p.wrote

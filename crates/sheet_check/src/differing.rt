@@ -302,7 +302,8 @@ fn accept_sheet<S: Disk, C: Sources, W: Write, P: Progress>(
         → SheetAccepts
         (to_accept (way C.after C.clock C.wakes request.now.limit) request.now.chosen)
         store.old.sheet.contents
-        (passage sources.old sources.new (W.contents writer.old) (W.contents writer.new)) ((writer.new ≡ writer.old) × (sources.new ≡ sources.old)) (filing ops disk store.new.disk) result }
+        (passage sources.old sources.new (W.contents writer.old) (W.contents writer.new))
+        ((writer.new ≡ writer.old) × (sources.new ≡ sources.old)) (filing ops disk store.new.disk) result }
     ensures shown { SheetShows (display formats.Accepting P.shows)
         (answered request.now.chosen store.old.sheet.contents.fields)
         progress.old progress.new result }
