@@ -1,4 +1,4 @@
-//! Groups of payloads, each behind one gate.
+//! Groups of payloads, each committed by one gate.
 ghost use Rattle.std.specs.Prelude.{◌≡◌, ◌≢◌, ◌+◌, ◌++◌, ◌↔◌, [], List, ℕ, length, IfOk, IsTrue, MatchResult};
 ghost use Rattle.disk_model.specs.Disk.{InModel, LeavesOnly, Rises, SameDisk, bytes_on};
 ghost use Rattle.journal.specs.Kept.{BeforeOrAll, Fits, FitsAll, Keeps, active_of, other_of};
