@@ -2,7 +2,7 @@
 # Prints how many commands a second `tmhost run` makes durable, on a script of 2,000 `set` lines with a `wait` after each, so that each is
 # taken by itself, and the same of a plain C program that does the same four calls for records of the same length in a file beside it
 # (bench/plain_commits.c), and their ratio: the medians of RUNS runs (9 where it isn't set) of both programs in turn. A second line has one
-# run of each on 10,000 `new` lines, which are taken together. The files lie in FOLDER, or where none is given in the current one.
+# run of each on 10,000 `new` lines, which are taken together, and of `run --json`, which takes each by itself. The files lie in FOLDER, or where none is given in the current one.
 set -euo pipefail
 folder=$(readlink -f "${1:-.}")
 root=$(dirname "$(dirname "$(readlink -f "${BASH_SOURCE[0]}")")")
@@ -64,6 +64,11 @@ results = [(singly(), plain(records, length)) for _ in range(runs)]
 rates = [records / statistics.median(result[i] for result in results) for i in (0, 1)]
 ratio = statistics.median(theirs / our for our, theirs in results)
 print(f"durable commands a second: tmhost {rates[0]:.0f}, plain {rates[1]:.0f}, ratio of the pairs {ratio:.2f}")
-our, strict, theirs = together(), together("--strict"), plain(fields, field_length)
-print(f"new fields a second: tmhost {fields / our:.0f}, plain {fields / theirs:.0f}, {theirs / our:.0f} times as many; strict {fields / strict:.0f}, {theirs / strict:.0f} times as many")
+def in_json():
+    told = b"".join(b'{"id":%d,"line":%d,"type":"made"}\n' % (number, number) for number in range(1, fields + 1))
+    hello = subprocess.run([program, "show", "--json", sheet], stdout=subprocess.PIPE, check=True).stdout.splitlines(True)[0]
+    return ours(b"session a plain p\n", f"new 0 a {text}\n" * fields, hello + told + b'{"type":"end"}\n', fields * field_length, "--json")
+
+our, strict, theirs, objects = together(), together("--strict"), plain(fields, field_length), in_json()
+print(f"new fields a second: tmhost {fields / our:.0f}, plain {fields / theirs:.0f}, {theirs / our:.0f} times as many; strict {fields / strict:.0f}, {theirs / strict:.0f} times as many; in JSON {fields / objects:.0f}, {our / objects:.2f} of the rate in words")
 PYTHON

@@ -21,7 +21,7 @@ def places(pattern, names, left_out):
             with open(path, encoding="utf-8") as lines:
                 for match in filter(None, map(names.match, lines)):
                     found[match[1]].add(file)
-    return {name: files for name, files in found.items() if len(files) > 1 and name != "mod"}
+    return {name: files for name, files in found.items() if len(files) > 1 and name not in ("mod", "use")}
 
 
 def main():

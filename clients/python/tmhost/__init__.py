@@ -14,11 +14,14 @@ from .errors import BadLine, Closed, Died, Gone, InUse, Lost, ProtocolError, Ref
 from .events import Answered, Banner, Completed, Default, Done, Ended, Event, Finished, OfLife, Stopped
 from .program import find_program
 from .protocol import Protocol
+from .reading import Asked, Interrupted, Made, OneField, Refusal, Reply, Sheet, StopReply, Waited
+from .runs import run
 from .values import Answer, Block, Completions, Field, LostItem, Session, Text, Turn, readable
 
 __all__ = [
     "Answer",
     "Answered",
+    "Asked",
     "AsyncCell",
     "AsyncCellLike",
     "AsyncEvaluation",
@@ -43,20 +46,29 @@ __all__ = [
     "Finished",
     "Gone",
     "InUse",
+    "Interrupted",
     "Lost",
     "LostItem",
+    "Made",
     "OfLife",
+    "OneField",
     "Protocol",
     "ProtocolError",
+    "Refusal",
     "Refused",
+    "Reply",
     "Session",
+    "Sheet",
+    "StopReply",
     "Stopped",
     "Text",
     "TimedOut",
     "TmhostError",
     "Turn",
+    "Waited",
     "Worksheet",
     "check",
     "find_program",
     "readable",
+    "run",
 ]

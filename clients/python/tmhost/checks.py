@@ -2,16 +2,12 @@
 
 import dataclasses
 import os
-import subprocess
 from typing import Generator, Iterator, List, Optional, Sequence, Union
 
-from .errors import Died, InUse, ProtocolError
-from .program import GRACE, Child, Program, fault_in, path_word, words_of_program
-from .protocol import IN_USE, VERSION, Lines
-from .reading import OTHERS, End, Fault, Hello, Members, Told, answer, data_of, string
+from .program import Child, Program, path_word, words_of_program
+from .reading import OTHERS, End, Fault, Hello, Members, answer, data_of, string
+from .reports import told_by
 from .values import LINE_END, Answer
-
-PIECE = 65_536
 
 
 @dataclasses.dataclass(frozen=True)
@@ -60,7 +56,7 @@ def checked(told: Members) -> Checked:
     )
 
 
-def read(line: bytes) -> "Union[Checked, Compared, Told, None]":
+def read(line: bytes) -> "Union[Checked, Compared, Hello, Fault, End, None]":
     """What a line tells; None where it is of a type that isn't known."""
     told = data_of(line)
     kind = told.string("type")
@@ -84,43 +80,6 @@ def words_of_check(program: Program, path: str, only: Optional[str], leave_out: 
     return [*words, path]
 
 
-def lines_of(child: Child) -> Iterator[bytes]:
-    """The lines that the program writes, each as soon as it is there."""
-    cut = Lines()
-    assert child.process.stdout is not None
-    while True:
-        piece = os.read(child.process.stdout.fileno(), PIECE)
-        if not piece:
-            return
-        yield from cut.feed(piece)
-
-
-def died(child: Child, fault: Optional[Fault]) -> Died:
-    """Why a check didn't come to its end."""
-    try:
-        status: Optional[int] = child.process.wait(GRACE)
-    except subprocess.TimeoutExpired:
-        status = None
-    said = child.said()
-    fault = fault or fault_in(said)
-    kind = InUse if fault and fault.number == IN_USE else Died
-    return kind(fault.name if fault else None, fault.number if fault else None, said, status, fault.offset if fault else None)
-
-
-def told_by(child: Child) -> "Iterator[Union[Checked, Compared]]":
-    for line in lines_of(child):
-        told = read(line)
-        if isinstance(told, Hello) and told.protocol != VERSION:
-            raise ProtocolError(f"tmhost speaks the protocol {told.protocol}, and not {VERSION}")
-        if isinstance(told, (Checked, Compared)):
-            yield told
-        elif isinstance(told, Fault):
-            raise died(child, told)
-        elif isinstance(told, End):
-            return
-    raise died(child, None)
-
-
 def check(
     path: "Union[str, os.PathLike[str]]",
     only: Optional[str] = None,
@@ -137,7 +96,8 @@ def check(
     fault or a death of the program. To stop early, close the iterator: the program is ended then.
     """
     child = Child(words_of_check(program, path_word(path), only, leave_out, timeout, jobs))
+    told: "Iterator[Union[Checked, Compared]]" = told_by(child, read)
     try:
-        yield from told_by(child)
+        yield from told
     finally:
         child.close()

@@ -8,7 +8,7 @@ import signal
 import subprocess
 import tempfile
 import threading
-from typing import List, Optional, Sequence, Union
+from typing import IO, List, Optional, Sequence, Union
 
 from .errors import Died
 from .reading import Fault
@@ -60,12 +60,13 @@ class Child:
     """The program while it runs, in a session and a group of processes of its own: control-C at a terminal is for Python, which ends the
     program when it wants to."""
 
-    def __init__(self, words: List[str]) -> None:
+    def __init__(self, words: List[str], given: Optional[IO[bytes]] = None) -> None:
+        """Starts it, with a file as its input or a pipe."""
         self._asking = threading.Lock()
         self._errors = tempfile.TemporaryFile()
         pipe = subprocess.PIPE
         try:
-            self.process = subprocess.Popen(words, bufsize=0, stdin=pipe, stdout=pipe, stderr=self._errors, start_new_session=True)
+            self.process = subprocess.Popen(words, bufsize=0, stdin=given or pipe, stdout=pipe, stderr=self._errors, start_new_session=True)
         except BaseException:
             self._errors.close()
             raise

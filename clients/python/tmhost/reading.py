@@ -239,7 +239,7 @@ EVENTS: Dict[str, Callable[[str, int, Members], Event]] = {
     "default": lambda name, life, told: Default(name, life, told.text("text")),
     "ended": lambda name, life, told: Ended(name, life, told.string("reason"), lost(told)),
 }
-OTHERS: Dict[str, Callable[[Members], Told]] = {
+OTHERS: Dict[str, Callable[[Members], Union[Hello, Fault, End]]] = {
     "hello": lambda told: Hello(told.number("protocol"), told.number("format"), told.string("version")),
     "fault": lambda told: Fault(told.number("number"), told.string("name"), told.number("offset") if "offset" in told.data else None),
     "end": lambda told: End(),

@@ -32,7 +32,7 @@ const LEFT_OUT: pollfd = pollfd {
 ///
 /// A watch first goes on with the lives that were ready at the last poll, of which each gets its turn once,
 /// and polls when none of them is left; of a poll the input is returned first. A life that was stopped
-/// since then is passed over. Nothing is read, and an idle watch without a limit takes no processor time.
+/// since then has no turn. Nothing is read, and an idle watch without a limit takes no processor time.
 ///
 /// A child that closed its output, and an input at its end, are ready for ever: a caller takes the end of
 /// the first, which stops it, and holds the other back. At most 64 children are watched, those that were
@@ -163,6 +163,9 @@ impl<C: Outputs + Drop, K: Clock + Drop> Children for Polled<C, K> {
     }
 
     fn stop(&mut self, name: Name, life: u32) -> Result<(), ChildFault> {
+        // Its turn isn't that of a later life with this name and number, which another host may start.
+        self.ready
+            .retain(|seat| seat.name != name || seat.life != life);
         self.children.stop(name, life)
     }
 }

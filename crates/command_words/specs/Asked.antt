@@ -7,11 +7,22 @@ use Rattle.clap.specs.declared.builder.action.ArgAction.TheVariants.{Append, Set
 use Rattle.command_words.specs.declared.words.CheckWords.{CheckWords}
 use Rattle.command_words.specs.declared.words.EvalWords.{EvalWords}
 use Rattle.command_words.specs.declared.words.Flags.{Flags}
+use Rattle.command_words.specs.declared.words.RunWords.{RunWords}
 use Rattle.command_words.specs.declared.words.Task.{Task}
 use Rattle.command_words.specs.declared.words.Task.TheVariants as task
 
--- what the words of `check` name beside its path, as contracts see it
+-- what the words of `run` ask for beside its path, as contracts see it
+pub record RunView : Type 0 where
+  pub strict : Bool
+  pub json : Bool
+  pub timeout : Option Text
+
+abbrev pub run_view : RunWords → RunView
+run_view words = record { strict = words.strict; json = words.json; timeout = option_map (λ text. text.now) words.timeout }
+
+-- what the words of `check` name, as contracts see it
 pub record CheckView : Type 0 where
+  pub paths : List Text
   pub json : Bool
   pub format : Option Text
   pub only : Option Text
@@ -22,6 +33,7 @@ pub record CheckView : Type 0 where
 
 abbrev pub check_view : CheckWords → CheckView
 check_view words = record {
+  paths = map (λ text. text.now) words.paths.items;
   json = words.json;
   format = option_map (λ text. text.now) words.format;
   only = option_map (λ text. text.now) words.only;
@@ -59,8 +71,7 @@ pub data TaskView : Type 0 where
   blocks : TaskView
   blocks_json : TaskView
   create : Text → TaskView
-  run : Text → TaskView
-  run_strictly : Text → TaskView
+  run : Text → RunView → TaskView
   live : Text → TaskView
   live_json : Text → TaskView
   eval : Text → EvalView → TaskView
@@ -74,8 +85,7 @@ abbrev pub task_view : Task → TaskView
 task_view task.Blocks = blocks
 task_view task.BlocksJson = blocks_json
 task_view (task.Create path) = create path.now
-task_view (task.Run path) = run path.now
-task_view (task.RunStrictly path) = run_strictly path.now
+task_view (task.Run path words) = run path.now (run_view words)
 task_view (task.Live path) = live path.now
 task_view (task.LiveJson path) = live_json path.now
 task_view (task.Eval path words) = eval path.now (eval_view words)
@@ -102,19 +112,37 @@ with_strict name = with_rule (with_path name) strict_rule
 abbrev pub json_rule : Rule
 json_rule = record (new_rule (codes "json")) { long = Some (codes "json"); action = Some SetTrue }
 
+abbrev pub with_run_json : Text → App
+with_run_json name = with_rule (with_strict name) json_rule
+
+abbrev pub timeout_rule : Rule
+timeout_rule = record (new_rule (codes "timeout")) { long = Some (codes "timeout"); value_names = 1 }
+
+abbrev pub with_run : Text → App
+with_run name = with_rule (with_run_json name) timeout_rule
+
 abbrev pub with_stream : Text → App
 with_stream name = with_rule (new_app name) json_rule
 
 abbrev pub with_json : Text → App
 with_json name = with_rule (with_path name) json_rule
 
--- and of the one with options: whether it writes JSON, the format of its report, the session that it is about, the fields that aren't compared, the time that a
--- field may take, whether answers that differ are accepted, and how many sessions go side by side
+-- and of the one with as many paths as there are, and with options: whether it writes JSON, the format of its report, the session that it is about, the fields
+-- that aren't compared, the time that a field may take, whether answers that differ are accepted, and how many sessions go side by side
+abbrev pub paths_rule : Rule
+paths_rule = record (new_rule (codes "PATH")) { required = true; action = Some Append }
+
+abbrev pub with_worksheets : Text → App
+with_worksheets name = with_rule (new_app name) paths_rule
+
+abbrev pub with_check_json : Text → App
+with_check_json name = with_rule (with_worksheets name) json_rule
+
 abbrev pub report_rule : Rule
 report_rule = record (new_rule (codes "format")) { long = Some (codes "format"); value_names = 1 }
 
 abbrev pub with_report : Text → App
-with_report name = with_rule (with_json name) report_rule
+with_report name = with_rule (with_check_json name) report_rule
 
 abbrev pub session_rule : Rule
 session_rule = record (new_rule (codes "only")) { long = Some (codes "only"); value_names = 1 }
@@ -127,9 +155,6 @@ left_out_rule = record (new_rule (codes "leave-out")) { long = Some (codes "leav
 
 abbrev pub with_left_out : Text → App
 with_left_out name = with_rule (with_session name) left_out_rule
-
-abbrev pub timeout_rule : Rule
-timeout_rule = record (new_rule (codes "timeout")) { long = Some (codes "timeout"); value_names = 1 }
 
 abbrev pub with_check_timeout : Text → App
 with_check_timeout name = with_rule (with_left_out name) timeout_rule
@@ -207,11 +232,11 @@ help_alone name =
 abbrev pub bare_tmhost : App
 bare_tmhost = let a = new_app (codes "tmhost") in record a { top = record a.top { has_version = true } }
 
--- the command line of `tmhost`: subcommands, six of them with a path, `run`, `live` and `show` with flags beside it, `blocks` with a flag alone, `eval` with flags, options and numbers, `check` with options, one with two, and one with a format and a path
+-- the command line of `tmhost`: subcommands, five of them with a path, `run`, `live` and `show` with flags beside it, `blocks` with a flag alone, `eval` with flags, options and numbers, `check` with as many paths as there are and with options, one with two, and one with a format and a path
 abbrev pub tmhost : App
 tmhost = with_subcommand (with_subcommand (with_subcommand (with_subcommand (with_subcommand (with_subcommand (with_subcommand (with_subcommand (with_subcommand
     (with_subcommand bare_tmhost (with_stream (codes "blocks")).top)
-    (with_path (codes "create")).top) (with_strict (codes "run")).top) (with_json (codes "live")).top) (with_eval (codes "eval")).top)
+    (with_path (codes "create")).top) (with_run (codes "run")).top) (with_json (codes "live")).top) (with_eval (codes "eval")).top)
     (with_json (codes "show")).top) (with_check (codes "check")).top) (with_paths (codes "rescue")).top) (with_format_and_path (codes "export")).top) (help_alone (codes "faults")).top
 
 -- a flag is given where its value is `true`
@@ -221,17 +246,26 @@ is_set (Some value) = bytes_eq value (codes "true")
 
 -- the flags and options, as contracts see them
 pub record FlagsView : Type 0 where
-  pub strict : Bool
   pub json : Bool
+  pub run : RunView
   pub eval : EvalView
   pub check : CheckView
 
 abbrev pub flags_view : Flags → FlagsView
-flags_view flags = record { strict = flags.strict; json = flags.json; eval = eval_view flags.eval; check = check_view flags.check }
+flags_view flags = record { json = flags.json; run = run_view flags.run; eval = eval_view flags.eval; check = check_view flags.check }
 
--- what the words of `check` name among these words
+-- what the words of `run` ask for among these words
+abbrev pub run_in : List Row → RunView
+run_in rows = record { strict = is_set (first_of (codes "strict") rows); json = is_set (first_of (codes "json") rows); timeout = first_of (codes "timeout") rows }
+
+-- the paths that the words of `check` name among these words
+abbrev pub paths_in : List Row → List Text
+paths_in rows = unwrap_or (all_of (codes "PATH") rows) []
+
+-- what they name
 abbrev pub check_in : List Row → CheckView
 check_in rows = record {
+  paths = paths_in rows;
   json = is_set (first_of (codes "json") rows);
   format = first_of (codes "format") rows;
   only = first_of (codes "only") rows;
@@ -259,15 +293,11 @@ eval_in rows = record {
 }
 
 abbrev pub flags_in : List Row → FlagsView
-flags_in rows = record { strict = is_set (first_of (codes "strict") rows); json = is_set (first_of (codes "json") rows); eval = eval_in rows; check = check_in rows }
+flags_in rows = record { json = is_set (first_of (codes "json") rows); run = run_in rows; eval = eval_in rows; check = check_in rows }
 
 abbrev pub blocks_by : Bool → TaskView
 blocks_by true = blocks_json
 blocks_by false = blocks
-
-abbrev pub run_by : Bool → Text → TaskView
-run_by true path = run_strictly path
-run_by false path = run path
 
 abbrev pub live_by : Bool → Text → TaskView
 live_by true path = live_json path
@@ -280,7 +310,7 @@ show_by false path = show path
 -- the task of a subcommand with a path, by its flags
 abbrev pub by_path : Text → Text → FlagsView → TaskView
 by_path name path flags = if bytes_eq name (codes "create") then create path
-    else (if bytes_eq name (codes "run") then run_by flags.strict path
+    else (if bytes_eq name (codes "run") then run path flags.run
     else (if bytes_eq name (codes "live") then live_by flags.json path
     else (if bytes_eq name (codes "eval") then eval path flags.eval
     else (if bytes_eq name (codes "show") then show_by flags.json path

@@ -58,6 +58,34 @@ fn with_strict<'a>(alloc: Global, row: Row) -> Result<Command<'a>, AllocError>
     )
 }
 
+/// The same, and with a flag that has it write JSON.
+fn with_run_json<'a>(alloc: Global, row: Row) -> Result<Command<'a>, AllocError>
+    ensures made { IfOk result (λ command. app_of command ≡ asked.with_run_json row.name.now) }
+    ensures local { IfOk result (λ command. (fields_of command).has_globals ≡ false) }
+{
+    let first = with_strict(alloc, row)?;
+    first.arg(
+        Arg::new(alloc, "json")
+            .long("json")
+            .help("Write lines of JSON, which programs read")
+            .action(ArgAction::SetTrue),
+    )
+}
+
+/// The same, and with the time that a wait may take.
+fn with_run<'a>(alloc: Global, row: Row) -> Result<Command<'a>, AllocError>
+    ensures made { IfOk result (λ command. app_of command ≡ asked.with_run row.name.now) }
+    ensures local { IfOk result (λ command. (fields_of command).has_globals ≡ false) }
+{
+    let first = with_run_json(alloc, row)?;
+    first.arg(
+        Arg::new(alloc, "timeout")
+            .long("timeout")
+            .value_name("SECONDS")
+            .help("Interrupt the interpreters in a wait that takes longer than this"),
+    )
+}
+
 /// A subcommand with a path, and with a flag that has it write JSON.
 fn with_json<'a>(alloc: Global, row: Row) -> Result<Command<'a>, AllocError>
     ensures made { IfOk result (λ command. app_of command ≡ asked.with_json row.name.now) }
@@ -72,12 +100,38 @@ fn with_json<'a>(alloc: Global, row: Row) -> Result<Command<'a>, AllocError>
     )
 }
 
-/// A subcommand with a path, with a flag that has it write JSON, and with the format of its report.
+/// A subcommand with as many paths as there are.
+fn with_worksheets<'a>(alloc: Global, row: Row) -> Result<Command<'a>, AllocError>
+    ensures made { IfOk result (λ command. app_of command ≡ asked.with_worksheets row.name.now) }
+    ensures local { IfOk result (λ command. (fields_of command).has_globals ≡ false) }
+{
+    let paths = Arg::new(alloc, "PATH")
+        .help("The worksheets, each of which is the files PATH and PATH.alt")
+        .required(true)
+        .action(ArgAction::Append);
+    plain(alloc, row).arg(paths)
+}
+
+/// The same, and with a flag that has it write JSON.
+fn with_check_json<'a>(alloc: Global, row: Row) -> Result<Command<'a>, AllocError>
+    ensures made { IfOk result (λ command. app_of command ≡ asked.with_check_json row.name.now) }
+    ensures local { IfOk result (λ command. (fields_of command).has_globals ≡ false) }
+{
+    let first = with_worksheets(alloc, row)?;
+    first.arg(
+        Arg::new(alloc, "json")
+            .long("json")
+            .help("Write lines of JSON, which programs read")
+            .action(ArgAction::SetTrue),
+    )
+}
+
+/// The same, and with the format of its report.
 fn with_report<'a>(alloc: Global, row: Row) -> Result<Command<'a>, AllocError>
     ensures made { IfOk result (λ command. app_of command ≡ asked.with_report row.name.now) }
     ensures local { IfOk result (λ command. (fields_of command).has_globals ≡ false) }
 {
-    let first = with_json(alloc, row)?;
+    let first = with_check_json(alloc, row)?;
     first.arg(
         Arg::new(alloc, "format")
             .long("format")
@@ -312,7 +366,7 @@ fn command_of<'a>(alloc: Global, row: Row) -> Result<Command<'a>, AllocError>
     match row.shape {
         Shape::Stream => with_stream(alloc, row),
         Shape::Path => with_path(alloc, row),
-        Shape::Strict => with_strict(alloc, row),
+        Shape::Run => with_run(alloc, row),
         Shape::Json => with_json(alloc, row),
         Shape::Eval => with_eval(alloc, row),
         Shape::Check => with_check(alloc, row),

@@ -6,4 +6,4 @@ mod commands;
 mod table;
 mod words;
 
-pub use words::{CheckWords, EvalWords, Task, read_words};
+pub use words::{CheckWords, EvalWords, RunWords, Task, read_words};

@@ -9,13 +9,13 @@ pub(crate) enum Shape {
     Stream,
     /// PATH.
     Path,
-    /// PATH, and the flag `--strict`.
-    Strict,
+    /// PATH, and the flags of `run`.
+    Run,
     /// PATH, and the flag `--json`.
     Json,
     /// PATH and numbers of fields, and the flags and options of an evaluation.
     Eval,
-    /// PATH, the flag `--json`, and the options of a report and of which fields it is about.
+    /// PATHs, the flag `--json`, and the options of a report and of which fields it is about.
     Check,
     /// PATH and NEW.
     Paths,
@@ -72,6 +72,12 @@ done: that is the fault 35 InUse.\n\n\
 With --strict it stops after the first line that is bad or refused, or by which\n\
 lines were lost since an interpreter ended: what that line gives is written, what\n\
 was reported is on the disk, and standard error has `stopped at line N`.\n\n\
+With --json each line is one object, which programs read (docs/JSON.md). With\n\
+--timeout SECONDS (1 to 1,000,000) the interpreters that are at something are sent\n\
+SIGINT where a `wait` takes longer, which is reported as of `interrupt NAME`, and\n\
+are stopped where they haven't answered two seconds later. With either lines are\n\
+those of `live`, each taken when it comes, but while no `wait` holds lines back\n\
+nothing is taken of an interpreter; and neither goes with --strict.\n\n\
 Status: 0 where the script ran to its end, without --strict also where it has bad\n\
 lines and refused commands; 1 at a fault; 2 where the words are refused; 3 where\n\
 --strict stopped it.\n\n\
@@ -149,9 +155,15 @@ With --jobs N (1 to 64) fields of up to N sessions wait at a time, of each sessi
 one, as with `eval --jobs`. The report is the same, and nothing of it is written\n\
 until the last answer came. With --timeout the time of fields that wait together\n\
 begins when the last of them was asked. It goes with no --accept.\n\n\
+With several PATHs each is checked as it would be alone, one after another, under\n\
+a line `worksheet PATH`; at a fault of one the next is checked all the same. The\n\
+last line is their total, as `total of 3 worksheets: same 9 differ 1 unanswered 0`,\n\
+with `faults 1` at its end where one had a fault. They go with no format but text,\n\
+with no --accept and with no --leave-out.\n\n\
 Status: 0 where all outputs that are compared are the same, or were accepted; 1\n\
 where one differs or didn't come, where the session that --only names has no field\n\
-that shows an answer, or at a fault; 2 where the words are refused.\n\n\
+that shows an answer (with several PATHs: in one of them), or at a fault; 2 where\n\
+the words are refused.\n\n\
 Example: tmhost check --format junit sheet >report.xml";
 
 const RESCUE_NOTES: &str =
@@ -250,7 +262,7 @@ pub(crate) fn row_at(at: usize) -> Row
         ),
         2 => listed(
             "run",
-            Shape::Strict,
+            Shape::Run,
             "Run the script on standard input over a worksheet",
             RUN_NOTES,
         ),

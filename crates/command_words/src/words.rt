@@ -1,16 +1,18 @@
 //! The words of a command line.
 ghost use Rattle.std.specs.Prelude.{◌≡◌, [], IfOk, None, Option, Some, codes, map, option_map, string_bytes, unwrap_or};
 ghost use Rattle.clap.specs.Words.{FailsBy, Text, fault_of, first_of, found_of, rows_of, subcommand_rows_of};
-ghost use Rattle.command_words.specs.Asked.{FlagsView, asked_by, by_subcommand, by_words, check_in, check_view, eval_in, eval_view, flags_in, flags_view, ids_in, tmhost, task_view};
+ghost use Rattle.command_words.specs.Asked.{FlagsView, asked_by, by_subcommand, by_words, check_in, check_view, eval_in, eval_view, flags_in, flags_view, ids_in, paths_in, run_in, run_view, tmhost, task_view};
 ghost use Rattle.command_words.specs.Asked as asked;
 
 use crate::commands::tmhost_command;
 use clap::{ArgMatches, Error};
 use std::alloc::{AllocError, Global};
 
-/// What the words of `check` name beside its path, as they are.
-#[derive(Clone, Copy, Debug, PartialEq, Eq)]
+/// What the words of `check` name, as they are.
+#[derive(Debug, Drop)]
 pub struct CheckWords<'a> {
+    /// The paths of the worksheets, in their order.
+    pub paths: Vec<&'a str>,
     /// It writes lines of JSON.
     pub json: bool,
     /// The format of its report.
@@ -27,6 +29,17 @@ pub struct CheckWords<'a> {
     pub jobs: Option<&'a str>,
 }
 
+/// What the words of `run` ask for beside its path, as they are.
+#[derive(Clone, Copy, Debug, PartialEq, Eq)]
+pub struct RunWords<'a> {
+    /// It stops after the first line that goes wrong.
+    pub strict: bool,
+    /// It writes lines of JSON.
+    pub json: bool,
+    /// How many seconds a wait may take.
+    pub timeout: Option<&'a str>,
+}
+
 /// What the program is asked to do. A path is one of the words.
 #[derive(Debug, Drop)]
 pub enum Task<'a> {
@@ -36,10 +49,8 @@ pub enum Task<'a> {
     BlocksJson,
     /// Make an empty worksheet at the path.
     Create(&'a str),
-    /// Run the script that comes in on standard input over the worksheet at the path.
-    Run(&'a str),
-    /// The same, up to the first line that goes wrong.
-    RunStrictly(&'a str),
+    /// Run the script that comes in on standard input over the worksheet at the path, as these words ask for it.
+    Run(&'a str, RunWords<'a>),
     /// Hold the worksheet at the path open for the lines that come in on standard input.
     Live(&'a str),
     /// The same, and write lines of JSON.
@@ -50,7 +61,8 @@ pub enum Task<'a> {
     Show(&'a str),
     /// The same, as lines of JSON.
     ShowJson(&'a str),
-    /// Evaluate the worksheet at the path again, and report what differs.
+    /// Evaluate the worksheet at the path again, the first of those that the words name, and report what
+    /// differs; where they name several, do so with each of them.
     Check(&'a str, CheckWords<'a>),
     /// Write what stands in the worksheet at the first path, before its first damage, to a new one at
     /// the second.
@@ -83,8 +95,8 @@ pub struct EvalWords<'a> {
 /// The flags and options of a command line. A subcommand without a flag doesn't have it set.
 #[derive(Debug, Drop)]
 pub(crate) struct Flags<'a> {
-    pub(crate) strict: bool,
     pub(crate) json: bool,
+    pub(crate) run: RunWords<'a>,
     pub(crate) eval: EvalWords<'a>,
     pub(crate) check: CheckWords<'a>,
 }
@@ -104,17 +116,6 @@ fn task_of_blocks<'a>(json: bool) -> Task<'a>
     ensures { task_view result ≡ asked.blocks_by json }
 {
     if json { Task::BlocksJson } else { Task::Blocks }
-}
-
-/// The task of `run`.
-fn task_of_run<'a>(path: &'a str, strict: bool) -> Task<'a>
-    ensures { task_view result ≡ asked.run_by strict path.entry.now }
-{
-    if strict {
-        Task::RunStrictly(path)
-    } else {
-        Task::Run(path)
-    }
 }
 
 /// The task of `live`.
@@ -145,7 +146,7 @@ fn task_with_path<'a>(name: &str, path: &'a str, flags: Flags<'a>) -> Task<'a>
 {
     match name {
         "create" => Task::Create(path),
-        "run" => task_of_run(path, flags.strict),
+        "run" => Task::Run(path, flags.run),
         "live" => task_of_live(path, flags.json),
         "eval" => Task::Eval(path, flags.eval),
         "show" => task_of_show(path, flags.json),
@@ -176,18 +177,14 @@ fn task_with_format<'a>(name: &str, format: &'a str, path: &'a str) -> Task<'a>
     }
 }
 
-/// What the words of `check` name, by the matches of a subcommand.
-fn check_words<'a>(matches: &ArgMatches<'a>) -> CheckWords<'a>
-    ensures { check_view result ≡ check_in (rows_of (found_of matches.now)) }
+/// What the words of `run` ask for, by the matches of a subcommand.
+fn run_words<'a>(matches: &ArgMatches<'a>) -> RunWords<'a>
+    ensures { run_view result ≡ run_in (rows_of (found_of matches.now)) }
 {
-    CheckWords {
+    RunWords {
+        strict: is_set(matches.get_str("strict")),
         json: is_set(matches.get_str("json")),
-        format: matches.get_str("format"),
-        only: matches.get_str("only"),
-        leave_out: matches.get_str("leave-out"),
         timeout: matches.get_str("timeout"),
-        accept: is_set(matches.get_str("accept")),
-        jobs: matches.get_str("jobs"),
     }
 }
 
@@ -217,6 +214,31 @@ fn ids_of<'a>(alloc: Global, matches: &ArgMatches<'a>) -> Result<Vec<&'a str>, A
     copied(alloc, matches.get_strs("ID"))
 }
 
+/// The paths that the words of `check` name, by the matches of a subcommand.
+fn paths_of<'a>(alloc: Global, matches: &ArgMatches<'a>) -> Result<Vec<&'a str>, AllocError>
+    ensures { IfOk result (λ paths.
+        map (λ text. text.now) paths.items ≡ paths_in (rows_of (found_of matches.now))) }
+{
+    copied(alloc, matches.get_strs("PATH"))
+}
+
+/// What the words of `check` name, by the matches of a subcommand.
+fn check_words<'a>(alloc: Global, matches: &ArgMatches<'a>) -> Result<CheckWords<'a>, AllocError>
+    ensures { IfOk result (λ words. check_view words ≡ check_in (rows_of (found_of matches.now))) }
+{
+    let paths = paths_of(alloc, matches)?;
+    Ok(CheckWords {
+        paths,
+        json: is_set(matches.get_str("json")),
+        format: matches.get_str("format"),
+        only: matches.get_str("only"),
+        leave_out: matches.get_str("leave-out"),
+        timeout: matches.get_str("timeout"),
+        accept: is_set(matches.get_str("accept")),
+        jobs: matches.get_str("jobs"),
+    })
+}
+
 /// What the words of `eval` ask for, by the matches of a subcommand.
 fn eval_words<'a>(alloc: Global, matches: &ArgMatches<'a>) -> Result<EvalWords<'a>, AllocError>
     ensures { IfOk result (λ words. eval_view words ≡ eval_in (rows_of (found_of matches.now))) }
@@ -239,11 +261,12 @@ fn flags_of<'a>(alloc: Global, matches: &ArgMatches<'a>) -> Result<Flags<'a>, Al
     ensures { IfOk result (λ flags. flags_view flags ≡ flags_in (rows_of (found_of matches.now))) }
 {
     let eval = eval_words(alloc, matches)?;
+    let check = check_words(alloc, matches)?;
     Ok(Flags {
-        strict: is_set(matches.get_str("strict")),
         json: is_set(matches.get_str("json")),
+        run: run_words(matches),
         eval,
-        check: check_words(matches),
+        check,
     })
 }
 

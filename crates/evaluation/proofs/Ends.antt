@@ -22,7 +22,7 @@ use Rattle.offline_programs.specs.declared.fault.RunFault.TheVariants as fault
 use Rattle.tellings.specs.Voice.{IsUntold}
 use Rattle.tellings.specs.declared.note.Counts.{Counts}
 use Rattle.tellings.specs.declared.note.Note.TheVariants as note
-use Rattle.live.specs.Records.{left, outside}
+use Rattle.live.specs.Records.{brought, left, outside}
 use Rattle.live.proofs.Ends.{stalled-goes, turn-stopped-goes}
 use Rattle.evaluation.specs.declared.plan.Stand.{Stand}
 use Rattle.evaluation.specs.Meant.{evaluation_counts, stop_line}
@@ -172,8 +172,7 @@ module _ {C : Type 0} (o : Setting C) (disk now : DiskView) (c d : C) (a b : Opt
       start = start;
       now = now;
       opened = opened.0;
-      beats = t.1;
-      text = t.2 ++ o.voice.note (note.Counted counts);
+      all = brought t.1 (t.2 ++ o.voice.note (note.Counted counts));
       leads = t.3;
       lines = record {
         there = opened.1;

@@ -21,7 +21,7 @@ use Rattle.evaluation.specs.declared.fault.EvalFault.TheVariants as evals
 use Rattle.tellings.specs.declared.note.Counts.{Counts}
 use Rattle.tellings.specs.declared.note.Note.TheVariants as note
 use Rattle.live.specs.declared.holding.Hold.TheVariants as hold
-use Rattle.live.specs.Records.{Brought, Outside, brought}
+use Rattle.live.specs.Records.{Brought, Outside}
 use Rattle.evaluation.specs.declared.plan.Stand.{Stand}
 use Rattle.evaluation.specs.Meant.{EndsHere, evaluation_counts, missing_in}
 use Rattle.evaluation.specs.Rounds.{asking_order}
@@ -61,8 +61,7 @@ pub record Counted {C : Type 0} (o : Setting C) (stopped : Option ℕ) (counts :
 
 -- What an evaluation leaves that had no fault.
 abbrev pub EvaluationDone : {C : Type 0} → Setting C → Outside C → Outside C → Option ℕ → Counts → Type 0
-EvaluationDone o first last stopped counts =
-    RunOf o.after (λ s beats text t. Counted o stopped counts s (brought beats text) t) first.disk first.sources last.sources first.written last.written last.disk
+EvaluationDone o first last stopped counts = RunOf o.after (Counted o stopped counts) first last
 
 -- At an event the host had this fault, which says how its disk, which is given back, was left. What was reported before is written, and
 -- each life that goes on was stopped.

@@ -1,1 +1,2 @@
+pub mod EachChecked
 pub mod NumbersRead

@@ -1,7 +1,10 @@
--- What the words of `eval` ask for. (docs/SCRIPT.md, "Evaluating a worksheet".)
-use Rattle.std.specs.Prelude.{◌≡◌, ◌&&◌, ℕ, Bool, true, false, List, [], ◌∷◌, Option, Some, None, nat_le, Result, Ok, Err}
+-- What the words of `eval` ask for (docs/SCRIPT.md, "Evaluating a worksheet"), and what those of `check` do beside its request.
+use Rattle.std.specs.Prelude.{◌≡◌, ◌&&◌, ℕ, Bool, true, false, List, [], ◌∷◌, Option, Some, None, length, nat_le, nat_lt, Result, Ok, Err}
 use Rattle.std.specs.Option.{option_map}
 use Rattle.clap.specs.Words.{Text}
+use Rattle.check_report.specs.declared.report.Format.{Format}
+use Rattle.check_report.specs.declared.report.Format.TheVariants as format
+use Rattle.check_report.specs.declared.request.Request.{Request}
 use Rattle.command_words.specs.Asked.{EvalView}
 use Rattle.sheet_text.specs.Script.{number_written}
 use Rattle.evaluation.specs.declared.plan.Plan.{Plan}
@@ -11,6 +14,8 @@ use Rattle.host_cli.specs.declared.plans.JobsFault.{JobsFault}
 use Rattle.host_cli.specs.declared.plans.JobsFault.TheVariants as jobs_fault
 use Rattle.host_cli.specs.declared.plans.PlanFault.{PlanFault}
 use Rattle.host_cli.specs.declared.plans.PlanFault.TheVariants as plans
+use Rattle.host_cli.specs.declared.plans.SeveralFault.{SeveralFault}
+use Rattle.host_cli.specs.declared.plans.SeveralFault.TheVariants as several_fault
 
 -- the time that a field may take: 1 to 1,000,000 seconds, or without a limit
 abbrev pub seconds_by : Bool → ℕ → Option (Option ℕ)
@@ -52,6 +57,39 @@ check_jobs_if (Some jobs) accept = check_jobs_by (nat_le 1 jobs && nat_le jobs 6
 abbrev pub check_jobs_asked : Option Text → Bool → Result ℕ JobsFault
 check_jobs_asked None accept = Ok 1
 check_jobs_asked (Some text) accept = check_jobs_if (number_written text) accept
+
+-- whether the words of `check` name several worksheets
+abbrev pub are_several : List Text → Bool
+are_several paths = nat_lt 1 (length paths)
+
+-- Why several aren't checked as it is asked for, if it isn't so: their reports are in words alone, no answer of them is accepted, and no fields
+-- are left out by numbers, which are another worksheet's too.
+abbrev pub left_out_of_several : Option Text → Option SeveralFault
+left_out_of_several None = None
+left_out_of_several (Some ids) = Some several_fault.LeftOut
+
+abbrev pub several_refused : Format → Option Text → Option SeveralFault
+several_refused format.Text left_out = left_out_of_several left_out
+several_refused format.Tap left_out = Some several_fault.Format
+several_refused format.Junit left_out = Some several_fault.Format
+several_refused format.Json left_out = Some several_fault.Format
+several_refused format.Accepting left_out = Some several_fault.Accepting
+
+-- The time that a field may take, and in how many sessions fields wait at a time.
+pub record CheckBounds : Type 0 where
+  pub limit : Option ℕ
+  pub jobs : ℕ
+
+abbrev pub check_bounds : Option ℕ → ℕ → CheckBounds
+check_bounds limit jobs = record { limit = limit; jobs = jobs }
+
+-- What a check is asked for, with so many sessions side by side.
+pub record CheckPlan : Type 0 where
+  pub request : Request
+  pub jobs : ℕ
+
+abbrev pub check_plan : Request → ℕ → CheckPlan
+check_plan request jobs = record { request = request; jobs = jobs }
 
 -- the numbers that words write, where each of them writes one
 abbrev pub with_id : Option ℕ → Option (List ℕ) → Option (List ℕ)

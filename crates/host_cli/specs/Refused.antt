@@ -8,6 +8,8 @@ use Rattle.host_cli.specs.declared.plans.JobsFault.{JobsFault}
 use Rattle.host_cli.specs.declared.plans.JobsFault.TheVariants as jobs_fault
 use Rattle.host_cli.specs.declared.plans.PlanFault.{PlanFault}
 use Rattle.host_cli.specs.declared.plans.PlanFault.TheVariants as plans
+use Rattle.host_cli.specs.declared.plans.SeveralFault.{SeveralFault}
+use Rattle.host_cli.specs.declared.plans.SeveralFault.TheVariants as several_fault
 use Rattle.program_endings.specs.Ending.{TellsFault}
 use Rattle.program_endings.specs.declared.ending.Ending.{Ending}
 use Rattle.clap.specs.declared.error.kind.ErrorKind.{ErrorKind}
@@ -38,6 +40,13 @@ no_jobs_text = codes "error: this is no number of jobs: N is a number from 1 to 
 abbrev pub strict_jobs_text : List ℕ
 strict_jobs_text = codes "error: --jobs goes with no --strict\n\nFor more information, try 'tmhost eval --help'.\n"
 
+-- what is printed of words that ask for no run: that name no time, or JSON or a time of a strict run
+abbrev pub no_run_seconds_text : List ℕ
+no_run_seconds_text = codes "error: this is no time: SECONDS is a number from 1 to 1000000\n\nFor more information, try 'tmhost run --help'.\n"
+
+abbrev pub strict_lines_text : List ℕ
+strict_lines_text = codes "error: --strict goes with no --json and no --timeout\n\nFor more information, try 'tmhost run --help'.\n"
+
 -- what is printed of words that ask for no check: of a time, of a format, of two of them, of the name of a session, of numbers of fields, and
 -- of a format in which nothing is accepted
 abbrev pub no_check_seconds_text : List ℕ
@@ -65,6 +74,16 @@ no_check_jobs_text = codes "error: this is no number of jobs: N is a number from
 abbrev pub accept_jobs_text : List ℕ
 accept_jobs_text = codes "error: --jobs goes with no --accept\n\nFor more information, try 'tmhost check --help'.\n"
 
+-- and of several worksheets in another format than in words, with answers that are accepted, and with fields that are left out
+abbrev pub several_formats_text : List ℕ
+several_formats_text = codes "error: several PATHs go with no FORMAT but text\n\nFor more information, try 'tmhost check --help'.\n"
+
+abbrev pub several_accept_text : List ℕ
+several_accept_text = codes "error: --accept goes with one PATH alone\n\nFor more information, try 'tmhost check --help'.\n"
+
+abbrev pub several_left_out_text : List ℕ
+several_left_out_text = codes "error: --leave-out goes with one PATH alone\n\nFor more information, try 'tmhost check --help'.\n"
+
 -- the words are refused with this text
 abbrev pub RefusesWith : {E : Type 0} → List ℕ → (E → Option (List ℕ)) → E → E → Ending → Type 0
 RefusesWith text said old new ending = (ending.status ≡ 2) × (ending.told ≡ true → Appends (said old) (said new) text)
@@ -91,3 +110,9 @@ RefusesRequest request.OutOfMemory said old new ending = (ending.status ≡ 1) �
 abbrev pub RefusesJobs : {E : Type 0} → JobsFault → (E → Option (List ℕ)) → E → E → Ending → Type 0
 RefusesJobs jobs_fault.Number said old new ending = RefusesWith no_check_jobs_text said old new ending
 RefusesJobs jobs_fault.Accepting said old new ending = RefusesWith accept_jobs_text said old new ending
+
+-- how the program ends where several worksheets aren't checked so
+abbrev pub RefusesSeveral : {E : Type 0} → SeveralFault → (E → Option (List ℕ)) → E → E → Ending → Type 0
+RefusesSeveral several_fault.Format said old new ending = RefusesWith several_formats_text said old new ending
+RefusesSeveral several_fault.Accepting said old new ending = RefusesWith several_accept_text said old new ending
+RefusesSeveral several_fault.LeftOut said old new ending = RefusesWith several_left_out_text said old new ending

@@ -1,5 +1,6 @@
 -- Which program runs for which words, over all that is outside.
-use Rattle.std.specs.Prelude.{◌≡◌, ◌≢◌, ◌⊎◌, ℕ, true, false, Bool, List, [], Option, nat_le, Result, Ok, Err, IfOk, IfErr, MatchOption, MatchResult}
+use Rattle.std.specs.Prelude.{◌≡◌, ◌≢◌, ◌⊎◌, ◌||◌, ℕ, true, false, Bool, List, [], Option, is_some, nat_le, Result, Ok, Err, IfOk, IfErr, MatchOption, MatchResult, ◌∷◌, ◌++◌}
+use Rattle.std.specs.Bool.{MatchBool}
 use Rattle.std.specs.Io.KnownBytes.{Appends}
 use Rattle.std.specs.declared.io.ErrorKind.{ErrorKind as IoKind}
 use Rattle.std.specs.declared.io.ErrorKind.TheVariants as io_kind
@@ -16,19 +17,22 @@ use Rattle.check_report.specs.declared.report.Format.{Format as Report}
 use Rattle.check_report.specs.declared.report.Format.TheVariants as report
 use Rattle.check_report.specs.declared.request.Request.{Request}
 use Rattle.check_report.specs.declared.request.RequestFault.{RequestFault}
-use Rattle.command_words.specs.Asked.{CheckView, EvalView, TaskView, asked_by, task_view, tmhost}
+use Rattle.command_words.specs.Asked.{CheckView, EvalView, RunView, TaskView, asked_by, task_view, tmhost}
 use Rattle.command_words.specs.declared.words.Task.{Task}
 use Rattle.command_words.specs.Asked as asked
-use Rattle.host_cli.specs.Plans.{AsksNoPlan, AsksPlan, check_jobs_asked, limit_asked}
-use Rattle.host_cli.specs.Refused.{RefusesJobs, RefusesPlan, RefusesRequest, RefusesWith, ShowsText, no_check_seconds_text, no_format_text}
+use Rattle.host_cli.specs.Plans.{AsksNoPlan, AsksPlan, check_jobs_asked, limit_asked, CheckBounds, CheckPlan, are_several, check_bounds, check_plan, several_refused}
+use Rattle.host_cli.specs.Refused.{RefusesJobs, RefusesPlan, RefusesRequest, RefusesWith, ShowsText, no_check_seconds_text, no_format_text, no_run_seconds_text, strict_lines_text, RefusesSeveral}
 use Rattle.host_cli.specs.declared.outside.Outside.{Outside}
 use Rattle.host_cli.specs.declared.plans.JobsFault.{JobsFault}
 use Rattle.host_cli.specs.declared.plans.PlanFault.{PlanFault}
-use Rattle.live.specs.Records.{Clock, Watch, edge}
+use Rattle.live.specs.Records.{Clock, Watch, as_it_comes, edge_by, line_by_line}
+use Rattle.live.specs.declared.manner.Manner.{Manner}
+use Rattle.host_cli.specs.declared.plans.SeveralFault.{SeveralFault}
 use Rattle.offline_programs.specs.declared.fault.RunFault.{RunFault}
 use Rattle.offline_programs.specs.declared.fault.RunFault.TheVariants as fault
 use Rattle.program_endings.specs.AcceptProgram.{AcceptEnds}
 use Rattle.program_endings.specs.CheckProgram.{CheckEnds}
+use Rattle.program_endings.specs.SeveralProgram.{TotalEnds, ending_of, is_unwritten, total_of, worksheet_line}
 use Rattle.program_endings.specs.TogetherProgram.{TogetherEnds}
 use Rattle.program_endings.specs.Ending.{BlocksAnswer, EndsAs, ProgramAnswer}
 use Rattle.program_endings.specs.BlocksProgram.{ObjectsAnswer}
@@ -43,6 +47,7 @@ use Rattle.tellings.specs.Voice.{Voice}
 use Rattle.tellings.specs.Words.{in_words}
 use Rattle.program_endings.specs.RescueProgram.{FilesAreRead, RescueEnds}
 use Rattle.program_endings.specs.StrictProgram.{StrictEnded}
+use Rattle.program_endings.specs.declared.check_program.CheckEnding.{CheckEnding}
 use Rattle.program_endings.specs.declared.ending.Ending.{Ending}
 use Rattle.recovery.specs.declared.rescuing.Rescued.{Rescued}
 use Rattle.sheet_export.specs.Formats.{format_named, last_part}
@@ -53,7 +58,8 @@ use Rattle.sheet_files.specs.declared.files_fault.FilesFault.{FilesFault}
 use Rattle.sheet_files.specs.declared.files_fault.HoldFault.{HoldFault}
 use Rattle.sheet_files.specs.declared.files_fault.MakeFault.{MakeFault}
 use Rattle.sheet_files.specs.declared.places.Places as places
-use Rattle.sheet_check.specs.Evaluated.{way}
+use Rattle.sheet_check.specs.Accept.{to_accept}
+use Rattle.sheet_check.specs.Evaluated.{one_by_one, way}
 use Rattle.sheet_check.specs.Together.{side_by_side}
 use Rattle.evaluation.specs.Steps.{setting}
 use Rattle.evaluation.specs.declared.plan.Plan.{Plan}
@@ -77,6 +83,11 @@ abbrev pub voice_by : Bool → Voice
 voice_by true = in_json
 voice_by false = in_words
 
+-- what a run by lines does, or one of a script
+abbrev pub EitherRuns : Bool → Type 0 → Type 0 → Type 0
+EitherRuns true lines script = lines
+EitherRuns false lines script = script
+
 module _ {Y D P S I W E Q : Type 0} where
   -- nothing but the places and the stream of errors was touched
   abbrev pub OnlyHeld : Outside Y D P S I W E Q → Outside Y D P S I W E Q → Type 0
@@ -87,8 +98,7 @@ module _ {Y D P S I W E Q : Type 0} where
   LeavesAlone old new asked.blocks = (new.places ≡ old.places) × (new.sources ≡ old.sources) × (new.progress ≡ old.progress)
   LeavesAlone old new asked.blocks_json = (new.places ≡ old.places) × (new.sources ≡ old.sources) × (new.progress ≡ old.progress)
   LeavesAlone old new (asked.create path) = (new.sources ≡ old.sources) × (new.input ≡ old.input) × (new.output ≡ old.output) × (new.progress ≡ old.progress)
-  LeavesAlone old new (asked.run path) = new.progress ≡ old.progress
-  LeavesAlone old new (asked.run_strictly path) = new.progress ≡ old.progress
+  LeavesAlone old new (asked.run path words) = new.progress ≡ old.progress
   LeavesAlone old new (asked.live path) = new.progress ≡ old.progress
   LeavesAlone old new (asked.live_json path) = new.progress ≡ old.progress
   LeavesAlone old new (asked.eval path words) = (new.input ≡ old.input) × (new.progress ≡ old.progress)
@@ -142,42 +152,61 @@ module _ {Y D P S I W E Q : Type 0} (o : OutsideView D P S I W E) where
       HeldFirst old new (λ why. EndsWith old new ending (Err why)) (λ held. (files : Result D FilesFault) × o.places.reads held path files new.places
       × ShowEnds o.disks files (streams_of old new) ending)
 
-  -- `check` of the same, as it is asked for
-  abbrev pub ChecksAs : Outside Y D P S I W E Q → Outside Y D P S I W E Q → Ending → Text → Request → Type 0
-  ChecksAs old new ending path request =
-      HeldFirst old new (λ why. (new.sources ≡ old.sources) × EndsWith old new ending (Err why)) (λ held. (files : Result D FilesFault) × o.places.reads held path files new.places
-      × CheckEnds o.disks (way o.after o.clock o.wakes request.limit) request.chosen request.format files old.sources new.sources o.written old.output new.output o.said old.errors new.errors ending)
+  -- `check` of the same, of one field after another
+  abbrev pub ChecksAs : Outside Y D P S I W E Q → Outside Y D P S I W E Q → CheckEnding → Text → CheckPlan → Type 0
+  ChecksAs old new end path c = (files : Result D FilesFault) × o.places.reads old.places path files new.places
+      × CheckEnds o.disks (one_by_one (way o.after o.clock o.wakes c.request.limit) c.request.chosen c.request.format) files (calling_of old new) (streams_of old new) end
 
-  -- `check --jobs` of the same
-  abbrev pub TogetherAs : Outside Y D P S I W E Q → Outside Y D P S I W E Q → Ending → Text → Request → ℕ → Type 0
-  TogetherAs old new ending path request jobs =
-      HeldFirst old new (λ why. (new.sources ≡ old.sources) × EndsWith old new ending (Err why)) (λ held. (files : Result D FilesFault) × o.places.reads held path files new.places
-      × TogetherEnds o.disks (side_by_side (way o.after o.clock o.wakes request.limit) jobs request.chosen request.format) files old.sources new.sources o.written old.output new.output o.said old.errors new.errors ending)
+  -- `check --jobs`, of fields of so many sessions side by side
+  abbrev pub TogetherAs : Outside Y D P S I W E Q → Outside Y D P S I W E Q → CheckEnding → Text → CheckPlan → Type 0
+  TogetherAs old new end path c = (files : Result D FilesFault) × o.places.reads old.places path files new.places
+      × TogetherEnds o.disks (side_by_side (way o.after o.clock o.wakes c.request.limit) c.jobs c.request.chosen c.request.format) files (calling_of old new) (streams_of old new) end
 
-  -- one field after another, or those of so many sessions side by side
-  abbrev pub ChecksBeside : Bool → Outside Y D P S I W E Q → Outside Y D P S I W E Q → Ending → Text → Request → ℕ → Type 0
-  ChecksBeside true old new ending path request jobs = ChecksAs old new ending path request
-  ChecksBeside false old new ending path request jobs = TogetherAs old new ending path request jobs
+  -- the one or the other, once the places are held
+  abbrev pub Compares : Outside Y D P S I W E Q → Outside Y D P S I W E Q → CheckEnding → Text → CheckPlan → Type 0
+  Compares old new end path c = MatchBool (nat_le c.jobs 1) (ChecksAs old new end path c) (TogetherAs old new end path c)
 
-  abbrev pub ComparesBy : Outside Y D P S I W E Q → Outside Y D P S I W E Q → Ending → Text → Request → ℕ → Type 0
-  ComparesBy old new ending path request jobs = ChecksBeside (nat_le jobs 1) old new ending path request jobs
+  -- `check` of the worksheet at one path
+  abbrev pub ComparesBy : Outside Y D P S I W E Q → Outside Y D P S I W E Q → Ending → Text → CheckPlan → Type 0
+  ComparesBy old new ending path c =
+      HeldFirst old new (λ why. (new.sources ≡ old.sources) × EndsWith old new ending (Err why)) (λ held. (end : CheckEnding)
+      × Compares (record old { places = held }) new end path c × (ending ≡ end.ending))
 
   -- `check --accept` of what they open to write
   abbrev pub AcceptsAs : Outside Y D P S I W E Q → Outside Y D P S I W E Q → Ending → Text → Request → Type 0
   AcceptsAs old new ending path request =
       HeldFirst old new (λ why. (new.sources ≡ old.sources) × EndsWith old new ending (Err why)) (λ held. (files : Result D FilesFault) × o.places.opens held path files new.places
-      × AcceptEnds o.disks (way o.after o.clock o.wakes request.limit) request.chosen files old.sources new.sources o.written old.output new.output o.said old.errors new.errors ending)
+      × AcceptEnds o.disks (to_accept (way o.after o.clock o.wakes request.limit) request.chosen) files (calling_of old new) (streams_of old new) ending)
 
   -- the one or the other
-  abbrev pub ChecksIn : Report → Outside Y D P S I W E Q → Outside Y D P S I W E Q → Ending → Text → ℕ → Request → Type 0
-  ChecksIn report.Text old new ending path jobs request = ComparesBy old new ending path request jobs
-  ChecksIn report.Tap old new ending path jobs request = ComparesBy old new ending path request jobs
-  ChecksIn report.Junit old new ending path jobs request = ComparesBy old new ending path request jobs
-  ChecksIn report.Json old new ending path jobs request = ComparesBy old new ending path request jobs
-  ChecksIn report.Accepting old new ending path jobs request = AcceptsAs old new ending path request
+  abbrev pub ChecksIn : Report → Outside Y D P S I W E Q → Outside Y D P S I W E Q → Ending → Text → CheckPlan → Type 0
+  ChecksIn report.Text old new ending path c = ComparesBy old new ending path c
+  ChecksIn report.Tap old new ending path c = ComparesBy old new ending path c
+  ChecksIn report.Junit old new ending path c = ComparesBy old new ending path c
+  ChecksIn report.Json old new ending path c = ComparesBy old new ending path c
+  ChecksIn report.Accepting old new ending path c = AcceptsAs old new ending path c.request
 
-  abbrev pub ChecksBy : Outside Y D P S I W E Q → Outside Y D P S I W E Q → Ending → Text → ℕ → Request → Type 0
-  ChecksBy old new ending path jobs request = ChecksIn request.format old new ending path jobs request
+  abbrev pub ChecksBy : Outside Y D P S I W E Q → Outside Y D P S I W E Q → Ending → Text → CheckPlan → Type 0
+  ChecksBy old new ending path c = ChecksIn c.request.format old new ending path c
+
+  -- One worksheet of several: a line with its path, and then its check, which is that of this path alone. Where the line can't be written
+  -- nothing is done, and that is the fault.
+  abbrev pub ComparesNext : Outside Y D P S I W E Q → Outside Y D P S I W E Q → CheckEnding → Text → CheckPlan → Type 0
+  ComparesNext old new end path c =
+      ((headed : W) × Appends (o.written old.output) (o.written headed) (worksheet_line path) × Compares (record old { output = headed }) new end path c)
+      ⊎ (OnlyWritten old new × (end.answer ≡ Err fault.Output) × EndsWith old new end.ending (Err fault.Output))
+
+  -- Worksheets are checked one after another, each over what the one before it left, after others that ended so; then the total of all is
+  -- written. Where the output fails at one of them nothing comes after it.
+  abbrev pub ComparesEach : CheckPlan → List CheckEnding → List Text → Outside Y D P S I W E Q → Outside Y D P S I W E Q → Ending → Type 0
+  ComparesEach c ends [] old new ending = OnlyWritten old new × TotalEnds (total_of ends) (streams_of old new) ending
+  ComparesEach c ends (path ∷ paths) old new ending = (end : CheckEnding) × (mid : Outside Y D P S I W E Q) × ComparesNext old mid end path c
+      × MatchBool (is_unwritten end.answer) ((new ≡ mid) × (ending ≡ ending_of (total_of (ends ++ end ∷ [])))) (ComparesEach c (ends ++ end ∷ []) paths mid new ending)
+
+  -- `check` of several worksheets
+  abbrev pub ComparesAll : Outside Y D P S I W E Q → Outside Y D P S I W E Q → Ending → List Text → CheckPlan → Type 0
+  ComparesAll old new ending paths c =
+      HeldFirst old new (λ why. (new.sources ≡ old.sources) × EndsWith old new ending (Err why)) (λ held. ComparesEach c [] paths (record old { places = held }) new ending)
 
   -- where the words ask for no check they are refused, and nothing is done
   abbrev pub ChecksNone : Outside Y D P S I W E Q → Outside Y D P S I W E Q → Ending → RequestFault → Type 0
@@ -194,14 +223,28 @@ module _ {Y D P S I W E Q : Type 0} (o : OutsideView D P S I W E) where
   ChecksNoJobs old new ending why = (new.places ≡ old.places) × (new.sources ≡ old.sources) × (new.output ≡ old.output) × (new.progress ≡ old.progress)
       × RefusesJobs why o.said old.errors new.errors ending
 
-  -- `check` by what its words name, within this limit of time, where there is one, with so many sessions side by side
-  abbrev pub ChecksWithin : Outside Y D P S I W E Q → Outside Y D P S I W E Q → Ending → Text → CheckView → Option ℕ → ℕ → Type 0
-  ChecksWithin old new ending path words limit jobs = (read : Result Request RequestFault) × IfOk read (Asks words.accept words.json words.format words.only words.leave_out)
-      × IfOk read (λ request. request.limit ≡ limit)
-      × IfErr read (AsksFor words.accept words.json words.format words.only words.leave_out) × MatchResult read (ChecksBy old new ending path jobs) (ChecksNone old new ending)
+  -- where several worksheets aren't checked so
+  abbrev pub ChecksNoSeveral : Outside Y D P S I W E Q → Outside Y D P S I W E Q → Ending → SeveralFault → Type 0
+  ChecksNoSeveral old new ending why = (new.places ≡ old.places) × (new.sources ≡ old.sources) × (new.output ≡ old.output) × (new.progress ≡ old.progress)
+      × RefusesSeveral why o.said old.errors new.errors ending
+
+  -- several, or why they aren't
+  abbrev pub ChecksSeveral : Outside Y D P S I W E Q → Outside Y D P S I W E Q → Ending → CheckView → CheckPlan → Type 0
+  ChecksSeveral old new ending words c = MatchOption (several_refused c.request.format words.leave_out) (ComparesAll old new ending words.paths c) (ChecksNoSeveral old new ending)
+
+  -- several or one, as this is asked for
+  abbrev pub ChecksPaths : Outside Y D P S I W E Q → Outside Y D P S I W E Q → Ending → Text → CheckView → CheckPlan → Type 0
+  ChecksPaths old new ending path words c = MatchBool (are_several words.paths) (ChecksSeveral old new ending words c) (ChecksBy old new ending path c)
+
+  -- `check` by what its words name, within these bounds
+  abbrev pub ChecksWithin : Outside Y D P S I W E Q → Outside Y D P S I W E Q → Ending → Text → CheckView → CheckBounds → Type 0
+  ChecksWithin old new ending path words b = (read : Result Request RequestFault) × IfOk read (Asks words.accept words.json words.format words.only words.leave_out)
+      × IfOk read (λ request. request.limit ≡ b.limit)
+      × IfErr read (AsksFor words.accept words.json words.format words.only words.leave_out)
+      × MatchResult read (λ request. ChecksPaths old new ending path words (check_plan request b.jobs)) (ChecksNone old new ending)
 
   abbrev pub ChecksJobs : Outside Y D P S I W E Q → Outside Y D P S I W E Q → Ending → Text → CheckView → Option ℕ → Type 0
-  ChecksJobs old new ending path words limit = MatchResult (check_jobs_asked words.jobs words.accept) (ChecksWithin old new ending path words limit) (ChecksNoJobs old new ending)
+  ChecksJobs old new ending path words limit = MatchResult (check_jobs_asked words.jobs words.accept) (λ jobs. ChecksWithin old new ending path words (check_bounds limit jobs)) (ChecksNoJobs old new ending)
 
   -- `check` as its words ask for it
   abbrev pub DoesCheck : Outside Y D P S I W E Q → Outside Y D P S I W E Q → Ending → Text → CheckView → Type 0
@@ -216,9 +259,9 @@ module _ {Y D P S I W E Q : Type 0} (o : OutsideView D P S I W E) where
   RunsOn false old new ending disk = RunEnds o.after (o.stream old.input) (given_disk o.disks disk) (calling_of old new) (streams_of old new) ending
   RunsOn true old new ending disk = StrictEnded o.after (o.stream old.input) (given_disk o.disks disk) (calling_of old new) (streams_of old new) ending
 
-  -- `run` over what the places open at a path
-  abbrev pub DoesRun : Bool → Outside Y D P S I W E Q → Outside Y D P S I W E Q → Ending → Text → Type 0
-  DoesRun strict old new ending path =
+  -- `run` in words over what the places open at a path, strict or not
+  abbrev pub RunsAs : Bool → Outside Y D P S I W E Q → Outside Y D P S I W E Q → Ending → Text → Type 0
+  RunsAs strict old new ending path =
       HeldFirst old new (λ why. (new.sources ≡ old.sources) × EndsWith old new ending (Err why)) (λ held. (files : Result D FilesFault) × o.places.opens held path files new.places
       × IfErr files (Unopened old new ending) × IfOk files (RunsOn strict old new ending))
 
@@ -242,12 +285,36 @@ module _ {Y D P S I W E Q : Type 0} (o : OutsideView D P S I W E) where
   DoesEval old new ending path words = (read : Result Plan PlanFault) × IfOk read (AsksPlan words) × IfErr read (AsksNoPlan words)
       × MatchResult read (λ plan. EvaluatesAs (voice_by words.json) plan old new ending path) (EvaluatesNothing old new ending)
 
-  -- `live` over the same, printed in a voice
-  abbrev pub DoesLive : Voice → Outside Y D P S I W E Q → Outside Y D P S I W E Q → Ending → Text → Type 0
-  DoesLive V old new ending path =
+  -- lines of the input over the same, taken in a manner and printed in a voice
+  abbrev pub LivesAs : Manner → Voice → Outside Y D P S I W E Q → Outside Y D P S I W E Q → Ending → Text → Type 0
+  LivesAs manner V old new ending path =
       HeldFirst old new (λ why. (new.sources ≡ old.sources) × EndsWith old new ending (Err why)) (λ held. (files : Result D FilesFault) × o.places.opens held path files new.places
       × IfErr files (λ why. (new.input ≡ old.input) × LiveUnopened V (calling_of old new) (streams_of old new) ending why)
-      × IfOk files (λ disk. LiveEnded (edge V o.after o.clock o.wakes) (o.stream old.input) (given_disk o.disks disk) (calling_of old new) (streams_of old new) ending))
+      × IfOk files (λ disk. LiveEnded (edge_by manner V o.after o.clock o.wakes) (o.stream old.input) (given_disk o.disks disk) (calling_of old new) (streams_of old new) ending))
+
+  -- `live` in a voice
+  abbrev pub DoesLive : Voice → Outside Y D P S I W E Q → Outside Y D P S I W E Q → Ending → Text → Type 0
+  DoesLive V old new ending path = LivesAs as_it_comes V old new ending path
+
+  -- where the words of `run` ask for nothing that there is they are refused with this text, and nothing is done
+  abbrev pub RunsNothing : List ℕ → Outside Y D P S I W E Q → Outside Y D P S I W E Q → Ending → Type 0
+  RunsNothing text old new ending = (new.places ≡ old.places) × (new.sources ≡ old.sources) × (new.input ≡ old.input) × (new.output ≡ old.output)
+      × RefusesWith text o.said old.errors new.errors ending
+
+  -- `run --json`, or with a limit of time, or both: what `live` does where lines come first; it goes with no `--strict`
+  abbrev pub RunsUnless : Bool → Outside Y D P S I W E Q → Outside Y D P S I W E Q → Ending → Type 0 → Type 0
+  RunsUnless true old new ending runs = RunsNothing strict_lines_text old new ending
+  RunsUnless false old new ending runs = runs
+
+  abbrev pub RunsByLines : Outside Y D P S I W E Q → Outside Y D P S I W E Q → Ending → Text → RunView → Option ℕ → Type 0
+  RunsByLines old new ending path words limit = RunsUnless words.strict old new ending (LivesAs (line_by_line limit) (voice_by words.json) old new ending path)
+
+  -- `run` as its words ask for it, within this limit of time, where there is one
+  abbrev pub RunsWithin : Outside Y D P S I W E Q → Outside Y D P S I W E Q → Ending → Text → RunView → Option ℕ → Type 0
+  RunsWithin old new ending path words limit = EitherRuns (words.json || is_some limit) (RunsByLines old new ending path words limit) (RunsAs words.strict old new ending path)
+
+  abbrev pub DoesRun : Outside Y D P S I W E Q → Outside Y D P S I W E Q → Ending → Text → RunView → Type 0
+  DoesRun old new ending path words = MatchOption (limit_asked words.timeout) (RunsNothing no_run_seconds_text old new ending) (RunsWithin old new ending path words)
 
   -- `rescue` of what was found, to what the places make at a new path
   abbrev pub RescuesTo : Rescued D → Outside Y D P S I W E Q → Outside Y D P S I W E Q → Ending → Text → Type 0
@@ -284,8 +351,7 @@ module _ {Y D P S I W E Q : Type 0} (o : OutsideView D P S I W E) where
   DoesTask old new ending asked.blocks = DoesBlocks old new ending
   DoesTask old new ending asked.blocks_json = DoesBlocksInJson old new ending
   DoesTask old new ending (asked.create path) = DoesCreate old new ending path
-  DoesTask old new ending (asked.run path) = DoesRun false old new ending path
-  DoesTask old new ending (asked.run_strictly path) = DoesRun true old new ending path
+  DoesTask old new ending (asked.run path words) = DoesRun old new ending path words
   DoesTask old new ending (asked.live path) = DoesLive in_words old new ending path
   DoesTask old new ending (asked.live_json path) = DoesLive in_json old new ending path
   DoesTask old new ending (asked.eval path words) = DoesEval old new ending path words

@@ -1,70 +1,88 @@
-//! `check`, by what its words ask for: to compare, or to accept what differs too.
-ghost use Rattle.std.specs.Prelude.{◌≡◌};
+//! `check`, by what its words ask for: to compare, or to accept what differs too; of one worksheet, or of several.
+ghost use Rattle.std.specs.Prelude.{◌≡◌, [], map};
 ghost use Rattle.command_words.specs.Asked.{check_view};
-ghost use Rattle.host_cli.specs.Tasks.{AcceptsAs, ChecksAs, ChecksBy, ChecksJobs, ChecksWithin, ComparesBy, DoesCheck, TogetherAs, outer};
+ghost use Rattle.host_cli.specs.Plans.{check_bounds, check_plan};
+ghost use Rattle.host_cli.specs.Tasks.{AcceptsAs, ChecksAs, ChecksBy, ChecksJobs, ChecksPaths, ChecksSeveral, ChecksWithin, Compares, ComparesAll, ComparesBy, ComparesEach, ComparesNext, DoesCheck, TogetherAs, outer};
 
 use crate::outside::{Outside, System};
-use crate::plans::{read_check_jobs, read_limit};
-use crate::refusing::{refuse_check_limit, refuse_jobs, refuse_request};
+use crate::plans::{are_several, read_check_jobs, read_limit, several_fault};
+use crate::refusing::{refuse_check_limit, refuse_jobs, refuse_request, refuse_several};
 use check_report::{Format as Report, Request, read_request};
 use command_words::CheckWords;
-use program_endings::{Ending, end_unheld, run_accept, run_check, run_check_together};
+use program_endings::{
+    CheckEnding, Ending, Total, end_total, end_unheld, end_unwritten, is_unwritten, run_accept,
+    run_check, run_check_together, tell_worksheet,
+};
 use sheet_files::Places;
 use std::alloc::Global;
 
-/// `check` of the worksheet at a path.
+/// `check` of the worksheet at a path, of one field after another.
 fn check_as<Y: System>(
     alloc: Global,
     outside: &mut Outside<Y>,
     request: &Request,
+    jobs: u32,
     path: &str,
-) -> Ending
+) -> CheckEnding
     ensures does { ChecksAs (outer Y.Places.Places Y.Disk.Disk Y.Disk.closed Y.Sources.after
-        Y.Sources.clock Y.Sources.wakes Y.Input.Read Y.Output.Write Y.Output.brought Y.Errors.Write) outside.old outside.new result path.now request.now }
+        Y.Sources.clock Y.Sources.wakes Y.Input.Read Y.Output.Write Y.Output.brought Y.Errors.Write) outside.old outside.new result path.now (check_plan request.now jobs) }
     ensures leaves { outside.new.input ≡ outside.old.input }
 {
-    match outside.places.hold() {
-        Ok(()) => run_check(
-            alloc,
-            request,
-            outside.places.open_to_read(path),
-            &mut outside.sources,
-            &mut outside.progress,
-            &mut outside.output,
-            &mut outside.errors,
-        ),
-        Err(why) => end_unheld(why, &mut outside.errors),
-    }
+    run_check(
+        alloc,
+        request,
+        outside.places.open_to_read(path),
+        &mut outside.sources,
+        &mut outside.progress,
+        &mut outside.output,
+        &mut outside.errors,
+    )
 }
 
-/// `check --jobs` of the worksheet at a path.
+/// `check --jobs` of the worksheet at a path, of fields side by side.
 fn check_together_as<Y: System>(
     alloc: Global,
     outside: &mut Outside<Y>,
     request: &Request,
     jobs: u32,
     path: &str,
-) -> Ending
+) -> CheckEnding
     ensures does { TogetherAs (outer Y.Places.Places Y.Disk.Disk Y.Disk.closed Y.Sources.after
-        Y.Sources.clock Y.Sources.wakes Y.Input.Read Y.Output.Write Y.Output.brought Y.Errors.Write) outside.old outside.new result path.now request.now jobs }
+        Y.Sources.clock Y.Sources.wakes Y.Input.Read Y.Output.Write Y.Output.brought Y.Errors.Write) outside.old outside.new result path.now (check_plan request.now jobs) }
     ensures leaves { outside.new.input ≡ outside.old.input }
 {
-    match outside.places.hold() {
-        Ok(()) => run_check_together(
-            alloc,
-            request,
-            jobs,
-            outside.places.open_to_read(path),
-            &mut outside.sources,
-            &mut outside.progress,
-            &mut outside.output,
-            &mut outside.errors,
-        ),
-        Err(why) => end_unheld(why, &mut outside.errors),
+    run_check_together(
+        alloc,
+        request,
+        jobs,
+        outside.places.open_to_read(path),
+        &mut outside.sources,
+        &mut outside.progress,
+        &mut outside.output,
+        &mut outside.errors,
+    )
+}
+
+/// The one or the other, once the places are held.
+fn compare<Y: System>(
+    alloc: Global,
+    outside: &mut Outside<Y>,
+    request: &Request,
+    jobs: u32,
+    path: &str,
+) -> CheckEnding
+    ensures does { Compares (outer Y.Places.Places Y.Disk.Disk Y.Disk.closed Y.Sources.after
+        Y.Sources.clock Y.Sources.wakes Y.Input.Read Y.Output.Write Y.Output.brought Y.Errors.Write) outside.old outside.new result path.now (check_plan request.now jobs) }
+    ensures leaves { outside.new.input ≡ outside.old.input }
+{
+    if jobs <= 1 {
+        check_as(alloc, outside, request, jobs, path)
+    } else {
+        check_together_as(alloc, outside, request, jobs, path)
     }
 }
 
-/// `check` of the worksheet at a path, of one field after another or of fields side by side.
+/// `check` of the worksheet at one path.
 fn compare_by<Y: System>(
     alloc: Global,
     outside: &mut Outside<Y>,
@@ -73,13 +91,12 @@ fn compare_by<Y: System>(
     path: &str,
 ) -> Ending
     ensures does { ComparesBy (outer Y.Places.Places Y.Disk.Disk Y.Disk.closed Y.Sources.after
-        Y.Sources.clock Y.Sources.wakes Y.Input.Read Y.Output.Write Y.Output.brought Y.Errors.Write) outside.old outside.new result path.now request.now jobs }
+        Y.Sources.clock Y.Sources.wakes Y.Input.Read Y.Output.Write Y.Output.brought Y.Errors.Write) outside.old outside.new result path.now (check_plan request.now jobs) }
     ensures leaves { outside.new.input ≡ outside.old.input }
 {
-    if jobs <= 1 {
-        check_as(alloc, outside, request, path)
-    } else {
-        check_together_as(alloc, outside, request, jobs, path)
+    match outside.places.hold() {
+        Ok(()) => compare(alloc, outside, request, jobs, path).ending,
+        Err(why) => end_unheld(why, &mut outside.errors),
     }
 }
 
@@ -111,7 +128,7 @@ fn accept_as<Y: System>(
     }
 }
 
-/// `check` of the worksheet at a path, with answers that are accepted or without.
+/// `check` of the worksheet at one path, with answers that are accepted or without.
 fn check_by<Y: System>(
     alloc: Global,
     outside: &mut Outside<Y>,
@@ -120,7 +137,7 @@ fn check_by<Y: System>(
     path: &str,
 ) -> Ending
     ensures does { ChecksBy (outer Y.Places.Places Y.Disk.Disk Y.Disk.closed Y.Sources.after
-        Y.Sources.clock Y.Sources.wakes Y.Input.Read Y.Output.Write Y.Output.brought Y.Errors.Write) outside.old outside.new result path.now jobs request.now }
+        Y.Sources.clock Y.Sources.wakes Y.Input.Read Y.Output.Write Y.Output.brought Y.Errors.Write) outside.old outside.new result path.now (check_plan request.now jobs) }
     ensures leaves { outside.new.input ≡ outside.old.input }
 {
     match request.format {
@@ -131,31 +148,128 @@ fn check_by<Y: System>(
     }
 }
 
-/// `check` of the worksheet at a path, as these words ask for it, within this limit of time, where there is
-/// one, with so many sessions side by side.
+/// One worksheet of several: a line with its path, and its check.
+fn compare_next<Y: System>(
+    alloc: Global,
+    outside: &mut Outside<Y>,
+    request: &Request,
+    jobs: u32,
+    path: &str,
+) -> CheckEnding
+    ensures does { ComparesNext (outer Y.Places.Places Y.Disk.Disk Y.Disk.closed Y.Sources.after
+        Y.Sources.clock Y.Sources.wakes Y.Input.Read Y.Output.Write Y.Output.brought Y.Errors.Write) outside.old outside.new result path.now (check_plan request.now jobs) }
+    ensures leaves { outside.new.input ≡ outside.old.input }
+{
+    match tell_worksheet(path, &mut outside.output) {
+        Ok(()) => compare(alloc, outside, request, jobs, path),
+        Err(_) => end_unwritten(&mut outside.errors),
+    }
+}
+
+/// Worksheets one after another, and their total. Where the output fails nothing comes after that.
+#[tactic(auto, using(crate::proofs::EachChecked::each_steps))]
+fn compare_each<Y: System>(
+    alloc: Global,
+    outside: &mut Outside<Y>,
+    request: &Request,
+    jobs: u32,
+    paths: &[&str],
+) -> Ending
+    ensures does { ComparesEach (outer Y.Places.Places Y.Disk.Disk Y.Disk.closed Y.Sources.after
+        Y.Sources.clock Y.Sources.wakes Y.Input.Read Y.Output.Write Y.Output.brought Y.Errors.Write) (check_plan request.now jobs) [] (map (λ path. path.now) paths.now) outside.old outside.new result }
+    ensures leaves { outside.new.input ≡ outside.old.input }
+{
+    let mut total = Total::none();
+    for path in paths {
+        let end = compare_next(alloc, outside, request, jobs, path);
+        total = total.with(end);
+        if is_unwritten(end) {
+            return total.ending();
+        }
+    }
+    end_total(total, &mut outside.output, &mut outside.errors)
+}
+
+/// `check` of several worksheets.
+fn compare_all<Y: System>(
+    alloc: Global,
+    outside: &mut Outside<Y>,
+    request: &Request,
+    jobs: u32,
+    paths: &[&str],
+) -> Ending
+    ensures does { ComparesAll (outer Y.Places.Places Y.Disk.Disk Y.Disk.closed Y.Sources.after
+        Y.Sources.clock Y.Sources.wakes Y.Input.Read Y.Output.Write Y.Output.brought Y.Errors.Write) outside.old outside.new result (map (λ path. path.now) paths.now) (check_plan request.now jobs) }
+    ensures leaves { outside.new.input ≡ outside.old.input }
+{
+    match outside.places.hold() {
+        Ok(()) => compare_each(alloc, outside, request, jobs, paths),
+        Err(why) => end_unheld(why, &mut outside.errors),
+    }
+}
+
+/// `check` of several worksheets, where they are checked as these words ask for it; else they are refused.
+fn check_several<Y: System>(
+    alloc: Global,
+    outside: &mut Outside<Y>,
+    words: &CheckWords<'_>,
+    request: &Request,
+    jobs: u32,
+) -> Ending
+    ensures does { ChecksSeveral (outer Y.Places.Places Y.Disk.Disk Y.Disk.closed Y.Sources.after
+        Y.Sources.clock Y.Sources.wakes Y.Input.Read Y.Output.Write Y.Output.brought Y.Errors.Write) outside.old outside.new result (check_view words.now) (check_plan request.now jobs) }
+    ensures leaves { outside.new.input ≡ outside.old.input }
+{
+    match several_fault(request.format, words.leave_out) {
+        None => compare_all(alloc, outside, request, jobs, words.paths.as_slice()),
+        Some(why) => refuse_several(why, &mut outside.errors),
+    }
+}
+
+/// `check` of the worksheet at a path, or of several that the words name.
+fn check_paths<Y: System>(
+    alloc: Global,
+    outside: &mut Outside<Y>,
+    path: &str,
+    words: &CheckWords<'_>,
+    request: &Request,
+    jobs: u32,
+) -> Ending
+    ensures does { ChecksPaths (outer Y.Places.Places Y.Disk.Disk Y.Disk.closed Y.Sources.after
+        Y.Sources.clock Y.Sources.wakes Y.Input.Read Y.Output.Write Y.Output.brought Y.Errors.Write) outside.old outside.new result path.now (check_view words.now) (check_plan request.now jobs) }
+    ensures leaves { outside.new.input ≡ outside.old.input }
+{
+    if are_several(words.paths.as_slice()) {
+        check_several(alloc, outside, words, request, jobs)
+    } else {
+        check_by(alloc, outside, request, jobs, path)
+    }
+}
+
+/// `check` as these words ask for it, within this limit of time, where there is one, with so many sessions side
+/// by side.
 fn check_within<Y: System>(
     alloc: Global,
     outside: &mut Outside<Y>,
     path: &str,
-    words: CheckWords<'_>,
+    words: &CheckWords<'_>,
     limit: Option<u32>,
     jobs: u32,
 ) -> Ending
     ensures does { ChecksWithin (outer Y.Places.Places Y.Disk.Disk Y.Disk.closed Y.Sources.after
-        Y.Sources.clock Y.Sources.wakes Y.Input.Read Y.Output.Write Y.Output.brought Y.Errors.Write) outside.old outside.new result path.now (check_view words.entry) limit jobs }
+        Y.Sources.clock Y.Sources.wakes Y.Input.Read Y.Output.Write Y.Output.brought Y.Errors.Write) outside.old outside.new result path.now (check_view words.now) (check_bounds limit jobs) }
     ensures leaves { outside.new.input ≡ outside.old.input }
 {
-    let CheckWords {
-        json,
-        format,
-        only,
-        leave_out,
-        timeout: _,
-        accept,
-        jobs: _,
-    } = words;
-    match read_request(alloc, json, format, only, leave_out, accept, limit) {
-        Ok(request) => check_by(alloc, outside, &request, jobs, path),
+    match read_request(
+        alloc,
+        words.json,
+        words.format,
+        words.only,
+        words.leave_out,
+        words.accept,
+        limit,
+    ) {
+        Ok(request) => check_paths(alloc, outside, path, words, &request, jobs),
         Err(why) => refuse_request(why, &mut outside.errors),
     }
 }
@@ -165,11 +279,11 @@ fn check_jobs<Y: System>(
     alloc: Global,
     outside: &mut Outside<Y>,
     path: &str,
-    words: CheckWords<'_>,
+    words: &CheckWords<'_>,
     limit: Option<u32>,
 ) -> Ending
     ensures does { ChecksJobs (outer Y.Places.Places Y.Disk.Disk Y.Disk.closed Y.Sources.after
-        Y.Sources.clock Y.Sources.wakes Y.Input.Read Y.Output.Write Y.Output.brought Y.Errors.Write) outside.old outside.new result path.now (check_view words.entry) limit }
+        Y.Sources.clock Y.Sources.wakes Y.Input.Read Y.Output.Write Y.Output.brought Y.Errors.Write) outside.old outside.new result path.now (check_view words.now) limit }
     ensures leaves { outside.new.input ≡ outside.old.input }
 {
     match read_check_jobs(words.jobs, words.accept) {
@@ -178,7 +292,7 @@ fn check_jobs<Y: System>(
     }
 }
 
-/// `check` of the worksheet at a path, as its words ask for it.
+/// `check` of the worksheet at a path, or of several, as the words ask for it.
 pub(crate) fn check_at<Y: System>(
     alloc: Global,
     outside: &mut Outside<Y>,
@@ -191,6 +305,6 @@ pub(crate) fn check_at<Y: System>(
 {
     match read_limit(words.timeout) {
         None => refuse_check_limit(&mut outside.errors),
-        Some(limit) => check_jobs(alloc, outside, path, words, limit),
+        Some(limit) => check_jobs(alloc, outside, path, &words, limit),
     }
 }

@@ -8,6 +8,7 @@ mod outlet;
 mod outside;
 mod plans;
 mod refusing;
+mod runs;
 mod streams;
 mod tasks;
 

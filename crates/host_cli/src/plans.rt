@@ -1,11 +1,12 @@
-//! What the words of `eval` ask for.
+//! What the words of `eval` ask for, and what those of `check` do beside its request.
 ghost use Rattle.std.specs.Prelude.{◌≡◌, Err, IfErr, IfOk, Ok, map, option_map, true};
 ghost use Rattle.command_words.specs.Asked.{eval_view};
-ghost use Rattle.host_cli.specs.Plans.{AsksNoPlan, AsksPlan, check_jobs_asked, check_jobs_by, from_asked, jobs_asked, jobs_by, limit_asked, named_asked, numbers_in, which_asked};
+ghost use Rattle.host_cli.specs.Plans.{AsksNoPlan, AsksPlan, check_jobs_asked, check_jobs_by, from_asked, jobs_asked, jobs_by, left_out_of_several, limit_asked, named_asked, numbers_in, several_refused, which_asked};
+ghost use Rattle.host_cli.specs.Plans as plan;
 ghost use Rattle.host_cli.specs.inside.Reading.{IsWhy};
 
 use block_tree::{OutOfMemory, Sequence};
-use check_report::read_number;
+use check_report::{Format as Report, read_number};
 use command_words::EvalWords;
 use evaluation::{Plan, Which};
 use std::alloc::Global;
@@ -40,6 +41,17 @@ pub enum JobsFault {
     Number,
     /// Answers that differ are to be accepted, too.
     Accepting,
+}
+
+/// Why several worksheets aren't checked as the words of `check` ask for it.
+#[derive(Clone, Copy, Debug, PartialEq, Eq)]
+pub enum SeveralFault {
+    /// Their reports are in words alone.
+    Format,
+    /// Answers that differ are to be accepted.
+    Accepting,
+    /// Fields are to be left out by their numbers.
+    LeftOut,
 }
 
 /// The time that a field may take, where there is a limit. None where the words name no time.
@@ -119,6 +131,34 @@ pub(crate) fn read_check_jobs(text: Option<&str>, accept: bool) -> Result<u32, J
                 Err(JobsFault::Number)
             }
         }
+    }
+}
+
+/// Whether these are the paths of several worksheets.
+pub(crate) fn are_several(paths: &[&str]) -> bool
+    ensures { result ≡ plan.are_several (map (λ path. path.now) paths.now) }
+{
+    paths.len() > 1
+}
+
+/// Whether numbers of fields are named, which no several worksheets have alike.
+fn refuse_left_out(left_out: Option<&str>) -> Option<SeveralFault>
+    ensures { result ≡ left_out_of_several (option_map (λ text. text.now) left_out.entry) }
+{
+    match left_out {
+        None => None,
+        Some(_) => Some(SeveralFault::LeftOut),
+    }
+}
+
+/// Why several worksheets aren't checked in this format, with these fields left out. None where they are.
+pub(crate) fn several_fault(format: Report, left_out: Option<&str>) -> Option<SeveralFault>
+    ensures { result ≡ several_refused format (option_map (λ text. text.now) left_out.entry) }
+{
+    match format {
+        Report::Text => refuse_left_out(left_out),
+        Report::Tap | Report::Junit | Report::Json => Some(SeveralFault::Format),
+        Report::Accepting => Some(SeveralFault::Accepting),
     }
 }
 

@@ -4,11 +4,11 @@ ghost use Rattle.std.specs.Io.KnownBytes.{Appends};
 ghost use Rattle.std.specs.declared.io.ErrorKind.TheVariants as io_kind;
 ghost use Rattle.clap.specs.Words.{kind_of};
 ghost use Rattle.clap.specs.declared.error.kind.ErrorKind.TheVariants as kind;
-ghost use Rattle.host_cli.specs.Refused.{RefusesJobs, RefusesPlan, RefusesRequest, RefusesWith, ShowsText, no_acceptance_text, no_both_text, no_check_seconds_text, no_format_text, no_id_text, no_ids_text, no_report_text, no_seconds_text, no_session_text};
+ghost use Rattle.host_cli.specs.Refused.{RefusesJobs, RefusesPlan, RefusesRequest, RefusesWith, ShowsText, no_acceptance_text, no_both_text, no_check_seconds_text, no_format_text, no_id_text, no_ids_text, no_report_text, no_seconds_text, no_session_text, no_run_seconds_text, strict_lines_text, RefusesSeveral};
 ghost use Rattle.program_endings.specs.Ending.{TellsFault};
 ghost use Rattle.offline_programs.specs.declared.fault.RunFault.TheVariants as fault;
 
-use crate::plans::{JobsFault, PlanFault};
+use crate::plans::{JobsFault, PlanFault, SeveralFault};
 use check_report::RequestFault;
 use clap::error::ErrorKind;
 use offline_programs::RunFault;
@@ -130,6 +130,28 @@ pub(crate) fn refuse_plan<E: Write>(why: PlanFault, errors: &mut E) -> Ending
     }
 }
 
+/// Refuses words of `run` that name no time.
+pub(crate) fn refuse_run_limit<E: Write>(errors: &mut E) -> Ending
+    ensures { RefusesWith no_run_seconds_text E.contents errors.old errors.new result }
+{
+    refuse_with(
+        b"error: this is no time: SECONDS is a number from 1 to 1000000\n\n\
+        For more information, try 'tmhost run --help'.\n",
+        errors,
+    )
+}
+
+/// Refuses words of `run` that ask for JSON of a strict run, or for a limit of one.
+pub(crate) fn refuse_strict_lines<E: Write>(errors: &mut E) -> Ending
+    ensures { RefusesWith strict_lines_text E.contents errors.old errors.new result }
+{
+    refuse_with(
+        b"error: --strict goes with no --json and no --timeout\n\n\
+        For more information, try 'tmhost run --help'.\n",
+        errors,
+    )
+}
+
 /// Refuses words of `check` that name no time.
 pub(crate) fn refuse_check_limit<E: Write>(errors: &mut E) -> Ending
     ensures { RefusesWith no_check_seconds_text E.contents errors.old errors.new result }
@@ -153,6 +175,29 @@ pub(crate) fn refuse_jobs<E: Write>(why: JobsFault, errors: &mut E) -> Ending
         ),
         JobsFault::Accepting => refuse_with(
             b"error: --jobs goes with no --accept\n\n\
+            For more information, try 'tmhost check --help'.\n",
+            errors,
+        ),
+    }
+}
+
+/// Refuses words of `check` that ask for more of several worksheets than there is.
+pub(crate) fn refuse_several<E: Write>(why: SeveralFault, errors: &mut E) -> Ending
+    ensures { RefusesSeveral why E.contents errors.old errors.new result }
+{
+    match why {
+        SeveralFault::Format => refuse_with(
+            b"error: several PATHs go with no FORMAT but text\n\n\
+            For more information, try 'tmhost check --help'.\n",
+            errors,
+        ),
+        SeveralFault::Accepting => refuse_with(
+            b"error: --accept goes with one PATH alone\n\n\
+            For more information, try 'tmhost check --help'.\n",
+            errors,
+        ),
+        SeveralFault::LeftOut => refuse_with(
+            b"error: --leave-out goes with one PATH alone\n\n\
             For more information, try 'tmhost check --help'.\n",
             errors,
         ),

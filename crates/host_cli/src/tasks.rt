@@ -1,14 +1,12 @@
 //! Which program runs for which words, over all that is outside. Each contract here has the same `outer ..`, which names what is
 //! outside: what stands before and after it is the contract's own.
-ghost use Rattle.std.specs.Prelude.{◌≡◌, ◌≢◌, [], List, Err, false, map, option_map, string_bytes, true};
+ghost use Rattle.std.specs.Prelude.{◌≡◌, ◌≢◌, [], List, Err, map, option_map, string_bytes};
 ghost use Rattle.command_words.specs.Asked.{eval_view, task_view};
 ghost use Rattle.command_words.specs.Asked as asked;
-ghost use Rattle.host_cli.specs.Tasks.{BringsOut, DoesAsked, DoesCreate, DoesEval, DoesExport, DoesLive, DoesRescue, DoesRun, DoesShow, DoesTask, EndsBy, EvaluatesAs, ExportsAs, LeavesAlone, Performs, RescuesFrom, RescuesTo, outer, voice_by};
+ghost use Rattle.host_cli.specs.Tasks.{BringsOut, DoesAsked, DoesCreate, DoesEval, DoesExport, DoesRescue, DoesShow, DoesTask, EndsBy, EvaluatesAs, ExportsAs, LeavesAlone, Performs, RescuesFrom, RescuesTo, outer, voice_by};
 ghost use Rattle.program_endings.specs.Ending.{TellsFault};
 ghost use Rattle.offline_programs.specs.declared.fault.RunFault.TheVariants as fault;
 ghost use Rattle.recovery.specs.Sheets.{Makes};
-ghost use Rattle.tellings.specs.Json.{in_json};
-ghost use Rattle.tellings.specs.Words.{in_words};
 ghost use Rattle.worksheet.specs.declared.op.Op.{Op};
 
 use crate::checks::check_at;
@@ -16,6 +14,7 @@ use crate::outlet::Outlet;
 use crate::outside::{Outside, System};
 use crate::plans::read_plan;
 use crate::refusing::{refuse_format, refuse_plan};
+use crate::runs::{live_at, live_json_at, run_at};
 use crate::streams::{blocks, blocks_in_json};
 use crate::{refuse_unread_words, refuse_words};
 use command_words::{EvalWords, Task, read_words};
@@ -23,7 +22,7 @@ use evaluation::Plan;
 use offline_programs::RunFault;
 use program_endings::{
     Ending, end_program, end_unheld, read_rescued, run_create, run_evaluation, run_export,
-    run_live, run_rescue, run_script, run_show, run_strictly,
+    run_rescue, run_show,
 };
 use recovery::Rescued;
 use sheet_export::{Format, format_named, last_part};
@@ -57,44 +56,6 @@ fn show_at<Y: System>(alloc: Global, outside: &mut Outside<Y>, path: &str) -> En
             outside.places.open_to_read(path),
             &mut outside.output,
             &mut outside.errors,
-        ),
-        Err(why) => end_unheld(why, &mut outside.errors),
-    }
-}
-
-/// `run` of the script on the input over the worksheet at a path.
-fn run_at<Y: System>(alloc: Global, outside: &mut Outside<Y>, path: &str) -> Ending
-    ensures does { DoesRun (outer Y.Places.Places Y.Disk.Disk Y.Disk.closed Y.Sources.after
-        Y.Sources.clock Y.Sources.wakes Y.Input.Read Y.Output.Write Y.Output.brought Y.Errors.Write) false outside.old outside.new result path.now }
-    ensures leaves { LeavesAlone outside.old outside.new (asked.run path.now) }
-{
-    match outside.places.hold() {
-        Ok(()) => run_script(
-            alloc,
-            &mut outside.input,
-            &mut outside.output,
-            &mut outside.errors,
-            outside.places.open(path),
-            &mut outside.sources,
-        ),
-        Err(why) => end_unheld(why, &mut outside.errors),
-    }
-}
-
-/// `run --strict` of the same.
-fn run_strictly_at<Y: System>(alloc: Global, outside: &mut Outside<Y>, path: &str) -> Ending
-    ensures does { DoesRun (outer Y.Places.Places Y.Disk.Disk Y.Disk.closed Y.Sources.after
-        Y.Sources.clock Y.Sources.wakes Y.Input.Read Y.Output.Write Y.Output.brought Y.Errors.Write) true outside.old outside.new result path.now }
-    ensures leaves { LeavesAlone outside.old outside.new (asked.run_strictly path.now) }
-{
-    match outside.places.hold() {
-        Ok(()) => run_strictly(
-            alloc,
-            &mut outside.input,
-            &mut outside.output,
-            &mut outside.errors,
-            outside.places.open(path),
-            &mut outside.sources,
         ),
         Err(why) => end_unheld(why, &mut outside.errors),
     }
@@ -162,49 +123,6 @@ fn eval_at<Y: System>(
         Ok(plan) => eval_told(alloc, outside, &plan, words.json, path),
         Err(why) => refuse_plan(why, &mut outside.errors),
     }
-}
-
-/// `live` with the lines of the input over the worksheet at a path, printed in this voice.
-fn live_told<Y: System, T: Tells>(
-    alloc: Global,
-    outside: &mut Outside<Y>,
-    tells: &T,
-    path: &str,
-) -> Ending
-    ensures does { DoesLive (outer Y.Places.Places Y.Disk.Disk Y.Disk.closed Y.Sources.after
-        Y.Sources.clock Y.Sources.wakes Y.Input.Read Y.Output.Write Y.Output.brought Y.Errors.Write) T.voice outside.old outside.new result path.now }
-    ensures leaves { LeavesAlone outside.old outside.new (asked.live path.now) }
-{
-    match outside.places.hold() {
-        Ok(()) => run_live(
-            alloc,
-            &mut outside.input,
-            tells,
-            &mut outside.output,
-            &mut outside.errors,
-            outside.places.open(path),
-            &mut outside.sources,
-        ),
-        Err(why) => end_unheld(why, &mut outside.errors),
-    }
-}
-
-/// `live` in words.
-fn live_at<Y: System>(alloc: Global, outside: &mut Outside<Y>, path: &str) -> Ending
-    ensures does { DoesLive (outer Y.Places.Places Y.Disk.Disk Y.Disk.closed Y.Sources.after
-        Y.Sources.clock Y.Sources.wakes Y.Input.Read Y.Output.Write Y.Output.brought Y.Errors.Write) in_words outside.old outside.new result path.now }
-    ensures leaves { LeavesAlone outside.old outside.new (asked.live path.now) }
-{
-    live_told(alloc, outside, &InWords, path)
-}
-
-/// `live` in lines of JSON.
-fn live_json_at<Y: System>(alloc: Global, outside: &mut Outside<Y>, path: &str) -> Ending
-    ensures does { DoesLive (outer Y.Places.Places Y.Disk.Disk Y.Disk.closed Y.Sources.after
-        Y.Sources.clock Y.Sources.wakes Y.Input.Read Y.Output.Write Y.Output.brought Y.Errors.Write) in_json outside.old outside.new result path.now }
-    ensures leaves { LeavesAlone outside.old outside.new (asked.live_json path.now) }
-{
-    live_told(alloc, outside, &InJson { alloc }, path)
 }
 
 /// `rescue` of what was found to a new path.
@@ -309,8 +227,7 @@ pub fn do_task<Y: System>(alloc: Global, task: Task<'_>, outside: &mut Outside<Y
         Task::Blocks => blocks(alloc, outside),
         Task::BlocksJson => blocks_in_json(alloc, outside),
         Task::Create(path) => create_at(outside, path),
-        Task::Run(path) => run_at(alloc, outside, path),
-        Task::RunStrictly(path) => run_strictly_at(alloc, outside, path),
+        Task::Run(path, words) => run_at(alloc, outside, path, words),
         Task::Live(path) => live_at(alloc, outside, path),
         Task::LiveJson(path) => live_json_at(alloc, outside, path),
         Task::Eval(path, words) => eval_at(alloc, outside, path, words),

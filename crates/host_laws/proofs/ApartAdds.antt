@@ -36,7 +36,8 @@ use Rattle.session_engine.specs.inside.Parts.{goes_on, with_item, without_life}
 use Rattle.host_laws.specs.inside.Given.{Childed, Commanded, Ended_by, GivesByParts, Pieced, after}
 use Rattle.host_laws.proofs.ApartOps.{drop_length}
 use Rattle.host_laws.proofs.ApartOwners.{opened_owned}
-use Rattle.host_laws.proofs.InFlight.{Waits, behind_piece, lines_of, one_of}
+use Rattle.host_laws.proofs.InFlight.{Waits, lines_of}
+use Rattle.host_laws.proofs.LinesAmong.{behind_piece, one_of}
 use Rattle.host_laws.proofs.Living.{SoundLife, the_life}
 use Rattle.session_engine.proofs.Losing.{if_ended, if_pieced, if_stopped}
 use Rattle.host_laws.proofs.Numbers.{its_own, with_its_number}

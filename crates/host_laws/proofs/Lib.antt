@@ -11,6 +11,7 @@ pub mod ApartSilent
 pub mod Growing
 pub mod FieldLaws
 pub mod Living
+pub mod Dropped
 pub mod Showing
 pub mod Same
 pub mod Going
@@ -23,6 +24,8 @@ pub mod Examples
 pub mod OneThing
 pub mod Totals
 pub mod Numbers
+pub mod Ended
+pub mod LinesAmong
 pub mod InFlight
 pub mod ApartAdds
 pub mod OwnReplies

@@ -31,10 +31,10 @@ use Rattle.session_engine.specs.inside.Words.{line_of_field, request_of_field, b
 use Rattle.session_engine.specs.Refused.{command_refusals}
 use Rattle.session_engine.specs.Does.{Does, MayDo, ChildDoes, CommandDoes, Gives, Runs, behind, closed_told, does, ends_life, asks_item, sends_or_kills, steps, tells, told_with}
 use Rattle.host_laws.specs.Apart.{named}
-use Rattle.host_laws.specs.Laws.{AreNumbered, NumbersAreGivenOnce, NothingOfAnEndedLife, all_started, lives_numbered, numbers_to, started_by}
+use Rattle.host_laws.specs.Laws.{AreNumbered, NumbersAreGivenOnce, all_started, lives_numbered, numbers_to, started_by}
 use Rattle.session_engine.proofs.Tables.{first_has_name}
-use Rattle.host_laws.proofs.ApartLives.{same_name, is_itself}
-use Rattle.host_laws.proofs.Totals.{total, total-put, total-out, total-push, total-below}
+use Rattle.host_laws.proofs.ApartLives.{same_name}
+use Rattle.host_laws.proofs.Totals.{total, total-put, total-out, total-push}
 
 -- What becomes of the lives: all stay as they are; one changes, which keeps its name and its number; one ends; or one begins, of
 -- a session that has none, and is started_by with the next number.
@@ -144,23 +144,23 @@ behind_lives w d = go d.anew d.op
 
 -- What is counted of the lives.
 
-abbrev is_named : List ℕ → Going → ℕ
+abbrev pub is_named : List ℕ → Going → ℕ
 is_named name l = if bytes_eq l.name name then 1 else 0
 
-abbrev is_numbered : ℕ → Going → ℕ
+abbrev pub is_numbered : ℕ → Going → ℕ
 is_numbered number l = if l.number == number then 1 else 0
 
-abbrev is_both : List ℕ → ℕ → Going → ℕ
+abbrev pub is_both : List ℕ → ℕ → Going → ℕ
 is_both name number l = if bytes_eq l.name name && l.number == number then 1 else 0
 
 -- a sum of what only names and numbers decide
-abbrev ByIdentity : (Going → ℕ) → Type 0
+abbrev pub ByIdentity : (Going → ℕ) → Type 0
 ByIdentity f = (l m : Going) → m.name ≡ l.name → m.number ≡ l.number → f m ≡ f l
 
 -- it grows where a life begins alone
-record Counts (f : Going → ℕ) (w v : World) : Type 0 where
-  bound : w.begun ≤ v.begun
-  sum : (total f v.lives ≤ total f w.lives)
+pub record Counts (f : Going → ℕ) (w v : World) : Type 0 where
+  pub bound : w.begun ≤ v.begun
+  pub sum : (total f v.lives ≤ total f w.lives)
       ⊎ ((m : Going) × (life_of w m.name ≡ None) × (m.number ≡ w.begun + 1) × (v.begun ≡ w.begun + 1) × (total f v.lives ≡ total f w.lives + f m))
 
 counts_row : (f : Going → ℕ) → ByIdentity f → (w : World) (d : Does) → Becomes w d
@@ -178,7 +178,7 @@ counts_row f by w d (Becomes.one_ends l own lives begun none) =
     (omega (arith, begun), inl (omega (arith, e, t)))
 counts_row f by w d (Becomes.one_begins m free number lives begun some) = (omega (arith, begun), inr (m, free, number, begun, ap (total f) lives ∙ total-push f w.lives m))
 
-counts : (f : Going → ℕ) → ByIdentity f → (w : World) (e : Event) (o : Outcome) (v : World) → Gives w e o v → Counts f w v
+pub counts : (f : Going → ℕ) → ByIdentity f → (w : World) (e : Event) (o : Outcome) (v : World) → Gives w e o v → Counts f w v
 counts f by w e o v g = record {
   bound = let h = row.0 in omega (arith, h, begun);
   sum = ⊎_elim
@@ -203,13 +203,13 @@ named_by name l m s t = ap (λ (n : List ℕ). if bytes_eq n name then 1 else 0)
 numbered_by : (number : ℕ) → ByIdentity (is_numbered number)
 numbered_by number l m s t = ap (λ (n : ℕ). if n == number then 1 else 0) t
 
-both_by : (name : List ℕ) (number : ℕ) → ByIdentity (is_both name number)
+pub both_by : (name : List ℕ) (number : ℕ) → ByIdentity (is_both name number)
 both_by name number l m s t =
     ap (λ (n : List ℕ). if bytes_eq n name && m.number == number then 1 else 0) s
     ∙ ap (λ (n : ℕ). if bytes_eq l.name name && n == number then 1 else 0) t
 
 -- where no life of a session goes on, none is counted
-none_named : (name : List ℕ) (ls : List Going) → first_named (λ g. g.name) name ls ≡ None → total (is_named name) ls ≡ 0
+pub none_named : (name : List ℕ) (ls : List Going) → first_named (λ g. g.name) name ls ≡ None → total (is_named name) ls ≡ 0
 none_named name [] h = refl
 none_named name (l ∷ ls) h = go (bytes_eq l.name name) h (none_named name ls)
   where
@@ -219,11 +219,11 @@ none_named name (l ∷ ls) h = go (bytes_eq l.name name) h (none_named name ls)
     go false h rest = let more = rest h in omega (arith, more)
 
 -- Everywhere at most one life of a session goes on, at most one has a number, and none has a number that wasn't given.
-record Numbered (w : World) : Type 0 where
-  names : (name : List ℕ) → total (is_named name) w.lives ≤ 1
-  numbers : (number : ℕ) → total (is_numbered number) w.lives ≤ 1
-  given : (number : ℕ) → w.begun < number → total (is_numbered number) w.lives ≡ 0
-  not_zero : total (is_numbered 0) w.lives ≡ 0
+pub record Numbered (w : World) : Type 0 where
+  pub names : (name : List ℕ) → total (is_named name) w.lives ≤ 1
+  pub numbers : (number : ℕ) → total (is_numbered number) w.lives ≤ 1
+  pub given : (number : ℕ) → w.begun < number → total (is_numbered number) w.lives ≡ 0
+  pub not_zero : total (is_numbered 0) w.lives ≡ 0
 
 one_named : (name : List ℕ) (w : World) (m : Going) → life_of w m.name ≡ None → total (is_named name) w.lives ≤ 1 → total (is_named name) w.lives + is_named name m ≤ 1
 one_named name w m free le = go (bytes_eq m.name name) refl
@@ -276,13 +276,13 @@ numbered_step w e o v h g = record {
       ⊎_elim (λ less. omega (arith, nil, less)) (λ new. let none = no_zero w new.0 new.2 in let eq = new.4 in omega (arith, nil, none, eq)) c.sum;
 }
 
-numbered_run : (w : World) (es : List Event) (os : List Outcome) (v : World) → Numbered w → Runs w es os v → Numbered v
+pub numbered_run : (w : World) (es : List Event) (os : List Outcome) (v : World) → Numbered w → Runs w es os v → Numbered v
 numbered_run w [] [] v h run = subst Numbered (sym run) h
 numbered_run w [] (o ∷ os) v h run = absurd run
 numbered_run w (e ∷ es) [] v h run = absurd run
 numbered_run w (e ∷ es) (o ∷ os) v h run = numbered_run run.0 es os v (numbered_step w e o run.0 h run.1) run.2
 
-numbered_first : (ops : List Op) (room end : ℕ) → Numbered (world_at_opening ops room end)
+pub numbered_first : (ops : List Op) (room end : ℕ) → Numbered (world_at_opening ops room end)
 numbered_first ops room end = record { names = λ name. omega arith; numbers = λ number. omega arith; given = λ number lt. refl; not_zero = refl }
 
 -- The same in the words of the law.
@@ -345,86 +345,3 @@ numbers_are_given_once ops room end es os v run = (
   starts_run (world_at_opening ops room end) es os v run,
   are_numbered v (numbered_run (world_at_opening ops room end) es os v (numbered_first ops room end) run),
 )
-
--- A life that has ended doesn't go on again.
-
-module _ (name : List ℕ) (number : ℕ) where
-  both_le : (l : Going) → is_both name number l ≤ is_named name l
-  both_le l = go (bytes_eq l.name name) (l.number == number)
-    where
-      go : (a b : Bool) → (if a && b then 1 else 0) ≤ (if a then 1 else 0)
-      go true true = omega arith
-      go true false = omega arith
-      go false b = omega arith
-
-  none_left : (w : World) → Numbered w → with_number number (life_of w name) ≡ None → total (is_both name number) w.lives ≡ 0
-  none_left w h ended = go (life_of w name) refl ended
-    where
-      below : (ls : List Going) → total (is_both name number) ls ≤ total (is_named name) ls
-      below ls = total-below (is_both name number) (is_named name) ls both_le
-
-      go : (o : Option Going) → life_of w name ≡ o → with_number number o ≡ None → total (is_both name number) w.lives ≡ 0
-      go None e ended = let nil = none_named name w.lives e in let le = below w.lives in omega (arith, nil, le)
-      go (Some l) e ended = at (bytes_eq l.name name) (l.number == number) refl refl ended
-        where
-          mine : l.name ≡ name
-          mine = first_has_name (λ (g : Going). g.name) name w.lives l e
-
-          at : (a b : Bool) → bytes_eq l.name name ≡ a → (l.number == number) ≡ b → (if b then Some l else None) ≡ None → total (is_both name number) w.lives ≡ 0
-          at a true s t ended = cc
-          at false false s t ended = let no : true ≡ false = sym (ap (λ (n : List ℕ). bytes_eq n name) mine ∙ is_itself name) ∙ s in cc
-          at true false s t ended =
-              let one : is_named name l ≡ 1 = rw s refl in
-              let none : is_both name number l ≡ 0 = rw (s, t) refl in
-              let most = h.names name in
-              let rest = total-out (is_named name) name l w.lives e in
-              let both = total-out (is_both name number) name l w.lives e in
-              let le = below (without_named (λ g. g.name) name w.lives) in
-              omega (arith, one, none, most, rest, both, le)
-
-  stays_ended : (w : World) (e : Event) (o : Outcome) (v : World) → Gives w e o v → number ≤ w.begun → total (is_both name number) w.lives ≡ 0
-      → (number ≤ v.begun) × (total (is_both name number) v.lives ≡ 0)
-  stays_ended w e o v g le nil = (let bound = c.bound in omega (arith, bound, le), ⊎_elim (λ less. omega (arith, less, nil)) (λ new. other new.0 new.2 new.4) c.sum)
-    where
-      c : Counts (is_both name number) w v
-      c = counts (is_both name number) (both_by name number) w e o v g
-
-      other : (m : Going) → m.number ≡ w.begun + 1 → total (is_both name number) v.lives ≡ total (is_both name number) w.lives + is_both name number m → total (is_both name number) v.lives ≡ 0
-      other m new sum = go (bytes_eq m.name name) (m.number == number) refl refl
-        where
-          go : (a b : Bool) → bytes_eq m.name name ≡ a → (m.number == number) ≡ b → total (is_both name number) v.lives ≡ 0
-          go a true s t = let same : m.number ≡ number = grind (arith, nat_tests, t) in absurd (omega (arith, new, same, le))
-          go true false s t = let none : is_both name number m ≡ 0 = rw (s, t) refl in omega (arith, sum, nil, none)
-          go false false s t = let none : is_both name number m ≡ 0 = rw s refl in omega (arith, sum, nil, none)
-
-  ended_run : (w : World) (es : List Event) (os : List Outcome) (v : World) → Runs w es os v → number ≤ w.begun → total (is_both name number) w.lives ≡ 0 → total (is_both name number) v.lives ≡ 0
-  ended_run w [] [] v run le nil = ap (λ (u : World). total (is_both name number) u.lives) run ∙ nil
-  ended_run w [] (o ∷ os) v run le nil = absurd run
-  ended_run w (e ∷ es) [] v run le nil = absurd run
-  ended_run w (e ∷ es) (o ∷ os) v run le nil = let s = stays_ended w e o run.0 run.1 le nil in ended_run run.0 es os v run.2 s.0 s.1
-
-  not_on : (ls : List Going) → total (is_both name number) ls ≡ 0 → with_number number (first_named (λ g. g.name) name ls) ≡ None
-  not_on [] nil = refl
-  not_on (l ∷ ls) nil = go (bytes_eq l.name name) (l.number == number) refl nil (not_on ls)
-    where
-      go : (a b : Bool) → (l.number == number) ≡ b → (if a && b then 1 else 0) + total (is_both name number) ls ≡ 0 → (total (is_both name number) ls ≡ 0 → with_number number (first_named (λ g. g.name) name ls) ≡ None)
-          → with_number number (if a then Some l else first_named (λ g. g.name) name ls) ≡ None
-      go true true t nil rest = absurd (omega (arith, nil))
-      go true false t nil rest = rw t refl
-      go false b t nil rest = rest (omega (arith, nil))
-
--- an event of no life
-pub of_no_life : (w : World) (e : ChildEvent) (d : Does) → ChildDoes w None e d → d ≡ tells w reply.Nothing
-of_no_life w child.StartRefused d is = is
-of_no_life w (child.Piece piece) d is = is
-of_no_life w child.End d is = is
-of_no_life w child.ReadFault d is = is
-of_no_life w child.SendFault d is = is
-of_no_life w child.Stalled d is = is
-of_no_life w child.StopFault d is = is
-
-pub nothing_of_an_ended_life : NothingOfAnEndedLife
-nothing_of_an_ended_life ops room end es os w run name number le ended later told v more e d may =
-    let nil = none_left name number w (numbered_run (world_at_opening ops room end) es os w (numbered_first ops room end) run) ended in
-    let none = not_on name number v.lives (ended_run name number w later told v more le nil) in
-    of_no_life v e d (subst (λ (o : Option Going). ChildDoes v o e d) none may)

@@ -1,6 +1,6 @@
 -- What an event does to what a field shows.
-use Rattle.std.proofs.Common.{◌≡◌, ◌⊎◌, inl, inr, ⊎_elim, ℕ, zero, suc, List, [], ◌∷◌, ◌++◌, length, drop, refl, ap, sym, ◌∙◌, subst, Bool, true, false, Option, Some, None}
-use Rattle.std.specs.Prelude.{if◌then◌else◌, ◌==◌, is_some, slice_get, option_map, option_and_then, option_to_list}
+use Rattle.std.proofs.Common.{◌≡◌, ◌⊎◌, inl, inr, ⊎_elim, ℕ, suc, List, [], ◌∷◌, ◌++◌, length, drop, refl, ap, sym, ◌∙◌, subst, Bool, true, false, Option, Some, None}
+use Rattle.std.specs.Prelude.{if◌then◌else◌, ◌==◌, is_some, slice_get, option_map, option_and_then}
 use Rattle.std.specs.List.{AllByRecursion}
 use Rattle.block_tree.specs.Tree.{Tree}
 use Rattle.block_tree.specs.Output.{output}
@@ -60,6 +60,7 @@ use Rattle.host_laws.proofs.FieldLaws.{HasInput, AnsweredBy, by_op, is_there}
 use Rattle.host_laws.proofs.ApartFields.{HasOwner}
 use Rattle.host_laws.proofs.ApartOwners.{Owned, OwnsItems}
 use Rattle.host_laws.proofs.Living.{HasLine, SoundLife, Sound, gone, put, the_life, asked, pieced, committed, every_line, checked}
+use Rattle.host_laws.proofs.Dropped.{drop_at, first_dropped, first_got, last_of}
 
 -- Where an event has led: what holds everywhere holds there, and a field that shows an answer did so before, or the event closed it.
 pub record Stepped (w : World) (e : Event) (v : World) : Type 0 where
@@ -98,26 +99,6 @@ record IsClosing (os : List Op) (past : List LifeEvent) (before after : List Out
   waits : HasInput os id text
   first : waiting_of past before ≡ item.Line id text ∷ drop (suc line) (items_of past)
   newest : slice_get (answers_of (past ++ received piece ∷ []) after) (length (answers_of past before)) ≡ Some block
-
-drop_at : (n : ℕ) (items : List Item) (i : Item) → slice_get items n ≡ Some i → drop n items ≡ i ∷ drop (suc n) items
-drop_at n [] i h = cc
-drop_at zero (x ∷ items) i h = let e : x ≡ i = cc in ap (λ (y : Item). y ∷ items) e
-drop_at (suc n) (x ∷ items) i h = drop_at n items i h
-
-last_of : (xs : List Outer) (o : Option Outer) (b : Outer) → slice_get (xs ++ option_to_list o) (length xs) ≡ Some b → o ≡ Some b
-last_of [] None b h = cc
-last_of [] (Some y) b h = h
-last_of (x ∷ xs) o b h = last_of xs o b h
-
-first_dropped : (P : Item → Type 0) (n : ℕ) (items : List Item) (i : Item) → slice_get items n ≡ Some i → AllByRecursion P (drop n items) → P i
-first_dropped P n [] i h all = cc
-first_dropped P zero (x ∷ items) i h all = let e : x ≡ i = cc in subst P e all.0
-first_dropped P (suc n) (x ∷ items) i h all = first_dropped P n items i h all
-
-first_got : (P : Item → Type 0) (n : ℕ) (items : List Item) (i : Item) → slice_get items n ≡ Some i → AllByRecursion P items → P i
-first_got P n [] i h all = cc
-first_got P zero (x ∷ items) i h all = let e : x ≡ i = cc in subst P e all.0
-first_got P (suc n) (x ∷ items) i h all = first_got P n items i h all.1
 
 module _ (os : List Op) (past : List LifeEvent) (before after : List Outer) (piece : List ℕ) (id : ℕ) (prompt : List ℕ) (out : Tree) (all : AllByRecursion (HasLine os) (waiting_of past before)) where
   by_item : (a : Outer) (ys : List Outer) (b : Outer) (i : Option Item) → answers_of past before ≡ a ∷ ys → slice_get (answers_of (past ++ received piece ∷ []) after) (suc (length ys)) ≡ Some b → slice_get (items_of past) (length ys) ≡ i

@@ -1,5 +1,5 @@
 -- The end of a live worksheet, and the moments up to it.
-use Rattle.std.proofs.Common.{◌≡◌, ℕ, List, [], ◌∷◌, ◌++◌, Option, Some, None, refl, ap, sym, ◌∙◌, subst, length, arith}
+use Rattle.std.proofs.Common.{◌≡◌, inl, inr, ℕ, zero, suc, List, [], ◌∷◌, ◌++◌, Option, Some, None, refl, ap, sym, ◌∙◌, subst, length, arith}
 use Rattle.std.specs.Prelude.{IfSome, option_map, false, true}
 use Rattle.disk_model.specs.Disk.{DiskView, Rises, SameDisk, greatest_count}
 use Rattle.host_events.specs.declared.event.Event.{Event}
@@ -26,7 +26,7 @@ use Rattle.sheet_programs.proofs.Runs.{StopsIn, stops_behind, no_beats, goes_any
 use Rattle.journal.specs.declared.opening.OpenCause.{OpenCause}
 use Rattle.live.specs.Records.{Brought, Edge, Left, Outside, brought, left, outside}
 use Rattle.live.specs.Saying.{SaidDone, SaidUpTo}
-use Rattle.live.specs.Arrivals.{Arrival, LivePlace, TakesArrival, Lived, lines_in, said_by, woken_at}
+use Rattle.live.specs.Arrivals.{Arrival, InterruptsLife, LivePlace, TakesArrival, Lived, lines_in, said_by, woken_at}
 use Rattle.live.specs.Arrivals as came
 use Rattle.live.specs.Broken.{TakesUpTo, TakesSoFar, TakesLed, LivedBefore, LivedUpTo, LivedSoFar, LivedLed, taken_beats}
 use Rattle.live.specs.Broken as broken
@@ -76,11 +76,18 @@ turn-stopped-goes R seats s beats e t q =
     subst (λ (l : List Beat). Goes s.world s.disk l t.world t.disk) (sym q.beats)
     (goes_on_by s.world s.disk q.before q.mid.world q.mid.disk q.last t.world t.disk (stalled-goes R seats q.whole s q.before q.mid q.are_done) (taken-goes R false (Some e) q.seat q.mid q.last t q.broken))
 
+-- an interrupt leaves all but the children
+interrupts-stay : {C : Type 0} (o : Edge C) (number : ℕ) (seats : List Seat) (k : ℕ) (s : At C) (text : List ℕ) (t : At C) → FirstOf (InterruptsLife o number) seats k s text t → t ≡ at s.world t.children s.disk
+interrupts-stay o number seats zero s text t p = subst (λ (x : At _). x ≡ at s.world x.children s.disk) (sym p.1) refl
+interrupts-stay o number seats (suc k) s text t p = p.6.3 ∙ ap (λ (x : At _). at x.world t.children x.disk) (interrupts-stay o number seats k s p.2 p.1 p.5)
+
 takes-goes : {C : Type 0} (o : Edge C) (p : LivePlace C) (a : Arrival) (it : Brought) (q : LivePlace C) → TakesArrival o p a it q → Goes p.run.world p.run.disk it.beats q.run.world q.run.disk
 takes-goes o p (came.line l) it q t = said-goes o q.number (said_by l) p.run (brought it.beats t.2.0) q.run t.2.1
 takes-goes o p came.part it q t = no_beats p.run it.beats q.run t.1 (ap (λ (x : LivePlace _). x.run) t.3)
 takes-goes o p (came.life seat) it q t = taken-goes o.after true None seat p.run it.beats q.run t.1
-takes-goes o p came.time_over it q t = stalled-goes o.after (waits p.run.world) (length (waits p.run.world)) p.run it.beats q.run t.2
+takes-goes o p came.time_over it q (inl t) = stalled-goes o.after (waits p.run.world) (length (waits p.run.world)) p.run it.beats q.run t.2
+takes-goes o p came.time_over it q (inr t) =
+    no_beats (at p.run.world q.run.children p.run.disk) it.beats q.run t.3 (interrupts-stay o p.number (waits p.run.world) (length (waits p.run.world)) p.run it.text q.run t.2)
 
 takes-up-to-goes : {C : Type 0} (R : Relation C) (p : LivePlace C) (beats : List Beat) (e : Event) (t : At C) (a : Arrival) → TakesUpTo R p beats e t a → Goes p.run.world p.run.disk beats t.world t.disk
 takes-up-to-goes R p beats e t a (broken.line_up_to l q) = said-up-to-goes R (said_by l) p.run beats e t q
@@ -91,11 +98,14 @@ takes-so-far-goes : {C : Type 0} (R : Relation C) (p : LivePlace C) (beats : Lis
 takes-so-far-goes R p beats t a (broken.line_so_far l is none same) = no_beats p.run beats t none same
 takes-so-far-goes R p beats t a (broken.life_so_far seat none same) = no_beats p.run beats t none same
 takes-so-far-goes R p beats t a (broken.time_so_far timed q) = stalled-goes R (waits p.run.world) q.whole p.run beats t q.are_done
+takes-so-far-goes R p beats t a (broken.limit_so_far limited none same) = no_beats p.run beats t none same
 
 takes-led-goes : {C : Type 0} (o : Edge C) (p : LivePlace C) (a : Arrival) (t : At C) (led : TakesLed o p a t) → Goes p.run.world p.run.disk (taken_beats led) t.world t.disk
 takes-led-goes o p a t (broken.all it q taken there) = subst (λ (x : At _). Goes p.run.world p.run.disk it.beats x.world x.disk) there (takes-goes o p a it q taken)
 takes-led-goes o p a t (broken.up_to beats e broke) = takes-up-to-goes o.after p beats e t a broke
 takes-led-goes o p a t (broken.so_far beats so) = takes-so-far-goes o.after p beats t a so
+takes-led-goes o p a t (broken.interrupted k text over limited front) =
+    no_beats (at p.run.world t.children p.run.disk) [] t refl (interrupts-stay o p.number (waits p.run.world) k p.run text t front)
 
 lived-goes : {C : Type 0} (o : Edge C) (p : LivePlace C) (all : List Arrival) (it : Brought) (q : LivePlace C) → Lived o p all it q → Goes p.run.world p.run.disk it.beats q.run.world q.run.disk
 lived-goes o p [] it q t = no_beats p.run it.beats q.run t.0 (ap (λ (x : LivePlace _). x.run) t.2)

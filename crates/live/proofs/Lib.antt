@@ -3,3 +3,4 @@ pub mod Turns
 pub mod Coming
 pub mod Goings
 pub mod Ends
+pub mod InManner

@@ -57,13 +57,13 @@ module _ {C : Type 0} (o : Edge C) where
 
   -- a line that no event comes of
   pub said_still : (number : ℕ) (l : Option LiveLine) (w : World) (h : HostView) (c : C) (a b : Option (List ℕ)) (begun : Hold) (text : List ℕ)
-      → SaidDone o number l (at w c h.store.disk) (brought [] text) (at w c h.store.disk) → Begins o.watches.clock c l begun → IsHost h w → Appends a b text
+      → SaidDone o number l (at w c h.store.disk) (brought [] text) (at w c h.store.disk) → Begins o c l begun → IsHost h w → Appends a b text
       → Said o number l (at w c h.store.disk) (left h c a b) begun
   said_still number l w h c a b begun text done begins stands wrote = (brought [] text, w, done, begins, stands, wrote)
 
   -- one that couldn't be printed
   pub still_unwritten : (number : ℕ) (l : Option LiveLine) (w : World) (h : HostView) (c : C) (a b : Option (List ℕ)) (begun : Hold) (f : RunFault)
-      → Begins o.watches.clock c l begun → ((line : ℕ) → (text : List ℕ) × SaidDone o line l (at w c h.store.disk) (brought [] text) (at w c h.store.disk)) → IsHost h w → IsUntold o.voice f
+      → Begins o c l begun → ((line : ℕ) → (text : List ℕ) × SaidDone o line l (at w c h.store.disk) (brought [] text) (at w c h.store.disk)) → IsHost h w → IsUntold o.voice f
       → SayingFailed o number l (at w c h.store.disk) (left h c a b) f
   still_unwritten number l w h c a b begun f begins done stands is =
       said_untold number l (at w c h.store.disk) h c a b f is

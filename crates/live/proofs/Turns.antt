@@ -1,7 +1,7 @@
 -- A life's turn, and the end of a wait's time.
 use Rattle.std.proofs.Common.{◌≡◌, ◌+◌, ◌<◌, inl, inr, ℕ, suc, true, false, List, [], ◌∷◌, ◌++◌, Option, Some, None, refl, ap, sym, subst, length, arith, append-nil, append_assoc, ◌∙◌}
 use Rattle.std.specs.Prelude.{Result, Ok, Err, OnOk, IfErr, IfOk, slice_get}
-use Rattle.std.proofs.KnownBytes.{Appends-trans}
+use Rattle.std.proofs.KnownBytes.{Appends-nil, Appends-trans}
 use Rattle.std.specs.Io.KnownBytes.{Appends}
 use Rattle.host_events.specs.declared.reply.Reply.{Reply}
 use Rattle.session_engine.specs.World.{World, sheet_in}
@@ -12,6 +12,8 @@ use Rattle.child_edge.specs.declared.serving.EdgeCause.TheVariants as cause
 use Rattle.child_calls.specs.declared.seat.Seat.{Seat}
 use Rattle.child_edge.specs.Faithful.{Relation, At, at, Beat, EachOf, FirstOf, Taken, TakenUpTo}
 use Rattle.child_edge.specs.Broken.{TurnStopped, TurnSoFar}
+use Rattle.child_edge.specs.Interrupts.{Interrupts}
+use Rattle.child_edge.specs.declared.interrupting.Interrupted.{Interrupted}
 use Rattle.child_edge.proofs.Chains.{told-append}
 use Rattle.child_edge.specs.Edge.{BrokeOff, ByCause, Ran}
 use Rattle.child_edge.specs.Seats.{waits}
@@ -24,12 +26,12 @@ use Rattle.offline_programs.specs.declared.fault.RunFault.TheVariants as fault
 use Rattle.live.specs.declared.holding.Hold.{Hold}
 use Rattle.live.specs.declared.holding.Hold.TheVariants as hold
 use Rattle.live.specs.Records.{Brought, Edge, brought, left}
-use Rattle.live.specs.Saying.{Begins, SaidDone, WaitGoesOn, IsTimed, over_text}
+use Rattle.live.specs.Saying.{Begins, SaidDone, WaitGoesOn, IsLimited, IsUntil, over_text, seconds_behind}
 use Rattle.arrivals.specs.Lines.{InputLine}
-use Rattle.live.specs.Arrivals.{Arrival, line, life, time_over, LivePlace, place, said_by}
+use Rattle.live.specs.Arrivals.{Arrival, line, life, time_over, InterruptsLife, LivePlace, place, respite, said_by}
 use Rattle.live.specs.Broken.{TakesLed}
 use Rattle.live.specs.Broken as broken
-use Rattle.live.specs.Taking.{Heard, HeardLed, HeardUnwritten, Said, SaidLed, SaidUnwritten, SayingFailed, HearingFailed, Stalled, StalledUnwritten, StallingFailed, StallingLed, TakingFailed, TookArrival, TookUnwritten}
+use Rattle.live.specs.Taking.{Warned, WarnedUnwritten, Heard, HeardLed, HeardUnwritten, Said, SaidLed, SaidUnwritten, SayingFailed, HearingFailed, Stalled, StalledUnwritten, StallingFailed, StallingLed, TakingFailed, TookArrival, TookUnwritten}
 use Rattle.live.specs.Taking as inside
 
 -- What a life's turn gives.
@@ -123,31 +125,64 @@ module _ {C : Type 0} (o : Edge C) (p : LivePlace C) (h : HostView) (c : C) (a b
   life_took seat mid held q on wrote =
       (brought q.0 (came_text o.voice (sheet_in q.1) (told q.0) ++ over_text o.voice p.number p.held held), q.1, (refl, q.2, refl, on), q.3, Appends-trans a mid b (came_text o.voice (sheet_in q.1) (told q.0)) (over_text o.voice p.number p.held held) q.4 wrote)
 
-  time-all : (timed : IsTimed p.held) (beats : List Beat) (t : At C) → EachOf (Taken o.after false None) (waits p.run.world) p.run beats t → TakesLed o p time_over t
-  time-all timed beats t q = broken.all (brought beats (came_text o.voice (sheet_in t.world) (told beats) ++ o.voice.note (note.Waited p.number true))) (place t p.number hold.Free) (timed, refl, q, refl, refl) refl
+  time-all : (timed : IsUntil p.held) (beats : List Beat) (t : At C) → EachOf (Taken o.after false None) (waits p.run.world) p.run beats t → TakesLed o p time_over t
+  time-all timed beats t q = broken.all (brought beats (came_text o.voice (sheet_in t.world) (told beats) ++ o.voice.note (note.Waited p.number true))) (place t p.number hold.Free) (inl (timed, refl, q, refl, refl)) refl
 
-  led-time : (timed : IsTimed p.held) (t : At C) → StallingLed o.after (waits p.run.world) p.run t → TakesLed o p time_over t
+  led-time : (timed : IsUntil p.held) (t : At C) → StallingLed o.after (waits p.run.world) p.run t → TakesLed o p time_over t
   led-time timed t (inside.each beats q) = time-all timed beats t q
   led-time timed t (inside.first beats q) = broken.so_far beats (broken.time_so_far timed q)
   led-time timed t (inside.up_to beats e q) = broken.up_to beats e (broken.time_up_to timed q)
 
-  time-unwritten : IsTimed p.held → StalledUnwritten o (waits p.run.world) p.run (left h c a b) → TookUnwritten o p time_over (left h c a b)
+  time-unwritten : IsUntil p.held → StalledUnwritten o (waits p.run.world) p.run (left h c a b) → TookUnwritten o p time_over (left h c a b)
   time-unwritten timed q = (q.0, q.1, led-time timed (at q.0 c q.1) q.2, q.3)
 
-  pub time_failed : IsTimed p.held → (f : RunFault) → StallingFailed o (waits p.run.world) p.run (left h c a b) f → TakingFailed o p time_over (left h c a b) f
+  pub time_failed : IsUntil p.held → (f : RunFault) → StallingFailed o (waits p.run.world) p.run (left h c a b) f → TakingFailed o p time_over (left h c a b) f
   time_failed timed f (inside.stopped e beats failed t d q stopped wrote) = inside.stopped e beats failed t d (broken.time_up_to timed q) stopped wrote
   time_failed timed f (inside.refused beats t q stands wrote) = inside.refused beats t (broken.time_so_far timed q) stands wrote
   time_failed timed f (inside.untold why q) = inside.untold why (time-unwritten timed q)
   time_failed timed f (inside.unwritten q) = inside.unwritten (time-unwritten timed q)
 
   -- each life that waits stalled, and that the wait is over couldn't be printed
-  pub time_untold : IsTimed p.held → (f : RunFault) (mid : Option (List ℕ)) → Stalled o (waits p.run.world) p.run (left h c a mid) → IsUntold o.voice f → TakingFailed o p time_over (left h c a b) f
+  pub time_untold : IsUntil p.held → (f : RunFault) (mid : Option (List ℕ)) → Stalled o (waits p.run.world) p.run (left h c a mid) → IsUntold o.voice f → TakingFailed o p time_over (left h c a b) f
   time_untold timed f mid q is = took_untold time_over f is (q.1, h.store.disk, time-all timed q.0 (at q.1 c h.store.disk) q.2, inl (q.3, refl))
 
-  pub time_took : IsTimed p.held → (mid : Option (List ℕ)) → Stalled o (waits p.run.world) p.run (left h c a mid) → Appends mid b (o.voice.note (note.Waited p.number true))
+  pub time_took : IsUntil p.held → (mid : Option (List ℕ)) → Stalled o (waits p.run.world) p.run (left h c a mid) → Appends mid b (o.voice.note (note.Waited p.number true))
       → TookArrival o p time_over (left h c a b) p.number hold.Free
   time_took timed mid q wrote =
-      (brought q.0 (came_text o.voice (sheet_in q.1) (told q.0) ++ o.voice.note (note.Waited p.number true)), q.1, (timed, refl, q.2, refl, refl), q.3, Appends-trans a mid b (came_text o.voice (sheet_in q.1) (told q.0)) (o.voice.note (note.Waited p.number true)) q.4 wrote)
+      (brought q.0 (came_text o.voice (sheet_in q.1) (told q.0) ++ o.voice.note (note.Waited p.number true)), q.1, inl (timed, refl, q.2, refl, refl), q.3, Appends-trans a mid b (came_text o.voice (sheet_in q.1) (told q.0)) (o.voice.note (note.Waited p.number true)) q.4 wrote)
+
+-- Lives that are interrupted, one after another.
+
+module _ {C : Type 0} (o : Edge C) (number : ℕ) (seats : List Seat) (s : At C) where
+  abbrev pub InterruptedSoFar : ℕ → C → Option (List ℕ) → Option (List ℕ) → Type 0
+  InterruptedSoFar k c a b = (text : List ℕ) × FirstOf (InterruptsLife o number) seats k s text (at s.world c s.disk) × Appends a b text
+
+  pub none_interrupted : (a : Option (List ℕ)) → InterruptedSoFar 0 s.children a a
+  none_interrupted a = ([], (refl, refl), Appends-nil a)
+
+  one-interrupted : (k : ℕ) (seat : Seat) (c d : C) (came : Interrupted) (text : List ℕ) → FirstOf (InterruptsLife o number) seats k s text (at s.world c s.disk) → slice_get seats k ≡ Some seat
+      → Interrupts o.after s.world seat.name c came d → FirstOf (InterruptsLife o number) seats (k + 1) s (text ++ o.voice.note (note.Interrupted number seat.name came)) (at s.world d s.disk)
+  one-interrupted k seat c d came text front is done = let one : suc k ≡ k + 1 = omega arith in
+      subst (λ (n : ℕ). FirstOf (InterruptsLife o number) seats n s (text ++ o.voice.note (note.Interrupted number seat.name came)) (at s.world d s.disk)) one
+      (seat, at s.world c s.disk, text, o.voice.note (note.Interrupted number seat.name came), is, front, (came, done, refl, refl), refl)
+
+  pub one_interrupted : (k : ℕ) (seat : Seat) (c d : C) (came : Interrupted) (a b e : Option (List ℕ)) → InterruptedSoFar k c a b → slice_get seats k ≡ Some seat
+      → Interrupts o.after s.world seat.name c came d → Appends b e (o.voice.note (note.Interrupted number seat.name came)) → InterruptedSoFar (k + 1) d a e
+  one_interrupted k seat c d came a b e so is done wrote =
+      (so.0 ++ o.voice.note (note.Interrupted number seat.name came), one-interrupted k seat c d came so.0 so.1 is done, Appends-trans a b e so.0 (o.voice.note (note.Interrupted number seat.name came)) so.2 wrote)
+
+  pub interrupt_untold : (k : ℕ) (seat : Seat) (c d : C) (came : Interrupted) (a b : Option (List ℕ)) → InterruptedSoFar k c a b → slice_get seats k ≡ Some seat
+      → Interrupts o.after s.world seat.name c came d → WarnedUnwritten o number seats s d
+  interrupt_untold k seat c d came a b so is done = (k + 1, so.0 ++ o.voice.note (note.Interrupted number seat.name came), one-interrupted k seat c d came so.0 so.1 is done)
+
+module _ {C : Type 0} (o : Edge C) (w : World) (h : HostView) (c d : C) (number : ℕ) (held : Hold) (a b : Option (List ℕ)) (limited : IsLimited held) (stands : IsHost h w) where
+  -- each was interrupted, and they have two seconds more
+  pub warned_took : (now : ℕ) → o.watches.clock d now → Warned o number (waits w) (at w c h.store.disk) (left h d a b)
+      → TookArrival o (place (at w c h.store.disk) number held) time_over (left h d a b) number (hold.Until (seconds_behind now respite))
+  warned_took now reads q = (brought [] q.0, w, inr (limited, refl, q.1, refl, (now, reads, refl)), stands, q.2)
+
+  pub warned_untold : (f : RunFault) → IsUntold o.voice f → WarnedUnwritten o number (waits w) (at w c h.store.disk) d → TakingFailed o (place (at w c h.store.disk) number held) time_over (left h d a b) f
+  warned_untold f is q = took_untold o (place (at w c h.store.disk) number held) h d a b time_over f is (w, h.store.disk, broken.interrupted q.0 q.1 refl limited q.2, inl (stands, refl))
 
 -- Lives that count as stalled, one after another.
 
@@ -235,7 +270,7 @@ module _ {C : Type 0} (o : Edge C) (seats : List Seat) (s : At C) (g : HostView)
 -- A line.
 
 module _ {C : Type 0} (o : Edge C) (s : At C) (before : ℕ) (h : HostView) (c : C) (a b : Option (List ℕ)) where
-  line-all : (l : InputLine) (begun : Hold) (said : Brought) (t : At C) → Begins o.watches.clock s.children (said_by l) begun → SaidDone o (before + 1) (said_by l) s said t → TakesLed o (place s before hold.Free) (line l) t
+  line-all : (l : InputLine) (begun : Hold) (said : Brought) (t : At C) → Begins o s.children (said_by l) begun → SaidDone o (before + 1) (said_by l) s said t → TakesLed o (place s before hold.Free) (line l) t
   line-all l begun said t begins done =
       let on = goes_on_somehow begun t.world in
       broken.all (brought said.beats (said.text ++ over_text o.voice (before + 1) begun on.0)) (place t (before + 1) on.0) (refl, refl, (said.text, done, (begun, begins, on.1, refl))) refl

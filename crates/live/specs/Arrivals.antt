@@ -1,7 +1,9 @@
 -- What came to a live worksheet, one after the other, and what came of it. (docs/EDGE.md, "Live".)
 use Rattle.std.specs.Prelude.{◌≡◌, ◌⊎◌, ℕ, ◌+◌, ◌-◌, ◌≤◌, Bool, false, true, List, [], ◌∷◌, ◌++◌, Option, Some, None, IsSomeAnd}
 use Rattle.child_calls.specs.declared.seat.Seat.{Seat}
-use Rattle.child_edge.specs.Faithful.{At, at, Beat, Taken, OneTurn}
+use Rattle.child_edge.specs.Faithful.{At, at, Beat, EachOf, Taken, OneTurn}
+use Rattle.child_edge.specs.Interrupts.{Interrupts}
+use Rattle.child_edge.specs.declared.interrupting.Interrupted.{Interrupted}
 use Rattle.child_edge.specs.Seats.{waits}
 use Rattle.arrivals.specs.Lines.{InputLine, whole, too_long}
 use Rattle.arrivals.specs.Watching.{asked}
@@ -19,7 +21,7 @@ use Rattle.worksheet.specs.Contents.{Contents}
 use Rattle.live.specs.declared.holding.Hold.{Hold}
 use Rattle.live.specs.declared.holding.Hold.TheVariants as hold
 use Rattle.live.specs.Records.{Brought, Edge, Watches, brought}
-use Rattle.live.specs.Saying.{SaidDone, IsTimed, Begins, WaitGoesOn, over_text, time_of}
+use Rattle.live.specs.Saying.{SaidDone, IsLimited, IsUntil, Begins, WaitGoesOn, over_text, seconds_behind, time_of}
 
 -- what came
 pub data Arrival : Type 0 where
@@ -64,12 +66,14 @@ input_at hold.Free true = input.Ready
 input_at hold.Free false = input.Empty
 input_at hold.Wait is_there = input.HeldBack
 input_at (hold.Until end) is_there = input.HeldBack
+input_at (hold.Limited end) is_there = input.HeldBack
 
 -- For how long a watch may take where the clock reads this: for what is left of a wait's time, and else without a limit.
 abbrev pub patience_at : Hold → ℕ → Option ℕ
 patience_at hold.Free now = None
 patience_at hold.Wait now = None
 patience_at (hold.Until end) now = Some (end - now)
+patience_at (hold.Limited end) now = Some (end - now)
 
 -- a wait has a time, and it is over where the clock reads this
 abbrev pub IsOver : Hold → ℕ → Type 0
@@ -90,19 +94,39 @@ Comes m held c (life seat) d = (is_there : Bool) × WatchTells m held c is_there
 Comes m held c time_over d =
     ((is_there : Bool) × WatchTells m held c is_there (Some woken.TimeOver) d) ⊎ ((now : ℕ) × m.clock c now × IsOver held now × (d ≡ c))
 
+-- The time of a wait is over, and so is the wait: each life in which an item still waits counts as stalled.
+abbrev pub EndsWait : {C : Type 0} → Edge C → LivePlace C → Brought → LivePlace C → Type 0
+EndsWait o p it q =
+    IsUntil p.held × (q.number ≡ p.number) × OneTurn o.after false (waits p.run.world) p.run it.beats q.run
+    × (it.text ≡ came_text o.voice (sheet_in q.run.world) (told it.beats) ++ o.voice.note (note.Waited q.number true)) × (q.held ≡ hold.Free)
+
+-- The interpreter of this life's session was interrupted by one call, and what came of it is printed with this number of a line.
+abbrev pub InterruptsLife : {C : Type 0} → Edge C → ℕ → Seat → At C → List ℕ → At C → Type 0
+InterruptsLife o number seat s text t =
+    (came : Interrupted) × Interrupts o.after s.world seat.name s.children came t.children × (text ≡ o.voice.note (note.Interrupted number seat.name came))
+    × (t ≡ at s.world t.children s.disk)
+
+-- how many seconds interpreters have that were interrupted
+abbrev pub respite : ℕ
+respite = 2
+
+-- The time of a wait that names none is over: each life in which an item waits is interrupted, and from then on there are two seconds more.
+abbrev pub Warns : {C : Type 0} → Edge C → LivePlace C → Brought → LivePlace C → Type 0
+Warns o p it q =
+    IsLimited p.held × (q.number ≡ p.number) × EachOf (InterruptsLife o p.number) (waits p.run.world) p.run it.text q.run × (it.beats ≡ [])
+    × ((now : ℕ) × o.watches.clock q.run.children now × (q.held ≡ hold.Until (seconds_behind now respite)))
+
 -- What came of an arrival, by what it is: what it brought, and the place after it.
 abbrev pub TakesArrival : {C : Type 0} → Edge C → LivePlace C → Arrival → Brought → LivePlace C → Type 0
 TakesArrival o p (line l) it q =
     (p.held ≡ hold.Free) × (q.number ≡ p.number + 1) × ((said : List ℕ) × SaidDone o q.number (said_by l) p.run (brought it.beats said) q.run
-    × ((begun : Hold) × Begins o.watches.clock p.run.children (said_by l) begun × WaitGoesOn begun q.run.world q.held
+    × ((begun : Hold) × Begins o p.run.children (said_by l) begun × WaitGoesOn begun q.run.world q.held
     × (it.text ≡ said ++ over_text o.voice q.number begun q.held)))
 TakesArrival o p part it q = (p.held ≡ hold.Free) × (it.beats ≡ []) × (it.text ≡ []) × (q ≡ p)
 TakesArrival o p (life seat) it q =
     (q.number ≡ p.number) × Taken o.after true None seat p.run it.beats q.run
     × (it.text ≡ came_text o.voice (sheet_in q.run.world) (told it.beats) ++ over_text o.voice q.number p.held q.held) × WaitGoesOn p.held q.run.world q.held
-TakesArrival o p time_over it q =
-    IsTimed p.held × (q.number ≡ p.number) × OneTurn o.after false (waits p.run.world) p.run it.beats q.run
-    × (it.text ≡ came_text o.voice (sheet_in q.run.world) (told it.beats) ++ o.voice.note (note.Waited q.number true)) × (q.held ≡ hold.Free)
+TakesArrival o p time_over it q = EndsWait o p it q ⊎ Warns o p it q
 
 -- What is printed of those entries of an arrival that came before a fault, where so many lines were taken before it and this is the
 -- worksheet after them.

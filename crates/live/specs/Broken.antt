@@ -1,40 +1,44 @@
 -- Arrivals that broke off: the host had a fault, or there was no memory.
-use Rattle.std.specs.Prelude.{◌≡◌, false, true, List, [], ◌∷◌, ◌++◌}
+use Rattle.std.specs.Prelude.{◌≡◌, ℕ, false, true, List, [], ◌∷◌, ◌++◌}
 use Rattle.host_events.specs.declared.event.Event.{Event}
 use Rattle.child_calls.specs.declared.seat.Seat.{Seat}
-use Rattle.child_edge.specs.Faithful.{Relation, At, Beat, TakenUpTo}
+use Rattle.child_edge.specs.Faithful.{Relation, At, Beat, FirstOf, TakenUpTo}
 use Rattle.child_edge.specs.Broken.{TurnStopped, TurnSoFar}
 use Rattle.child_edge.specs.Seats.{waits}
 use Rattle.session_engine.specs.World.{sheet_in}
 use Rattle.arrivals.specs.Lines.{InputLine}
 use Rattle.live.specs.Records.{Brought, Edge}
-use Rattle.live.specs.Saying.{IsCommand, SaidUpTo, IsTimed}
-use Rattle.live.specs.Arrivals.{Arrival, line, life, time_over, LivePlace, Comes, TakesArrival, Lived, said_by, woken_at, front_text}
+use Rattle.live.specs.Saying.{IsCommand, SaidUpTo, IsLimited, IsUntil}
+use Rattle.live.specs.Arrivals.{Arrival, line, life, time_over, LivePlace, Comes, InterruptsLife, TakesArrival, Lived, said_by, woken_at, front_text}
 
 -- An arrival came up to this event, at which the host had a fault: these entries of it came before.
 pub data TakesUpTo {C : Type 0} (R : Relation C) (p : LivePlace C) (beats : List Beat) (e : Event) (t : At C) : Arrival → Type 0 where
   line_up_to : (l : InputLine) → SaidUpTo R (said_by l) p.run beats e t → TakesUpTo R p beats e t (line l)
   life_up_to : (seat : Seat) → TakenUpTo R true seat p.run beats e t → TakesUpTo R p beats e t (life seat)
-  time_up_to : IsTimed p.held → TurnStopped R false (waits p.run.world) p.run beats e t → TakesUpTo R p beats e t time_over
+  time_up_to : IsUntil p.held → TurnStopped R false (waits p.run.world) p.run beats e t → TakesUpTo R p beats e t time_over
 
--- An arrival came so far when memory was refused: a command was not taken, of a life nothing was received, and of the lives
--- that were to count as stalled the first ones did.
+-- An arrival came so far when memory was refused: a command was not taken, of a life nothing was received, of the lives
+-- that were to count as stalled the first ones did, and none was interrupted.
 pub data TakesSoFar {C : Type 0} (R : Relation C) (p : LivePlace C) (beats : List Beat) (t : At C) : Arrival → Type 0 where
   line_so_far : (l : InputLine) → IsCommand (said_by l) → beats ≡ [] → t ≡ p.run → TakesSoFar R p beats t (line l)
   life_so_far : (seat : Seat) → beats ≡ [] → t ≡ p.run → TakesSoFar R p beats t (life seat)
-  time_so_far : IsTimed p.held → TurnSoFar R false (waits p.run.world) p.run beats t → TakesSoFar R p beats t time_over
+  time_so_far : IsUntil p.held → TurnSoFar R false (waits p.run.world) p.run beats t → TakesSoFar R p beats t time_over
+  limit_so_far : IsLimited p.held → beats ≡ [] → t ≡ p.run → TakesSoFar R p beats t time_over
 
 -- An arrival, or a part of it, led from here to there.
 pub data TakesLed {C : Type 0} (o : Edge C) (p : LivePlace C) (a : Arrival) (t : At C) : Type 0 where
   all : (it : Brought) (q : LivePlace C) → TakesArrival o p a it q → q.run ≡ t → TakesLed o p a t
   up_to : (beats : List Beat) (e : Event) → TakesUpTo o.after p beats e t a → TakesLed o p a t
   so_far : (beats : List Beat) → TakesSoFar o.after p beats t a → TakesLed o p a t
+  -- so many lives, the first ones, were interrupted
+  interrupted : (k : ℕ) (text : List ℕ) → a ≡ time_over → IsLimited p.held → FirstOf (InterruptsLife o p.number) (waits p.run.world) k p.run text t → TakesLed o p a t
 
 -- the entries of an arrival that led somewhere, or of that part of it
 abbrev pub taken_beats : {C : Type 0} {o : Edge C} {p : LivePlace C} {a : Arrival} {t : At C} → TakesLed o p a t → List Beat
 taken_beats (all it q taken there) = it.beats
 taken_beats (up_to beats e broke) = beats
 taken_beats (so_far beats so) = beats
+taken_beats (interrupted k text over limited front) = []
 
 -- The arrivals before this one were taken and brought this, and then this one came.
 pub record LivedBefore {C : Type 0} (o : Edge C) (p : LivePlace C) (came : List Arrival) (a : Arrival) (it : Brought) (q : LivePlace C) : Type 0 where

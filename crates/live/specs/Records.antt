@@ -1,12 +1,16 @@
 -- What the relations of a live worksheet speak of: what stays the same in a run, and what a call leaves.
-use Rattle.std.specs.Prelude.{ℕ, Bool, List, Option}
-use Rattle.disk_model.specs.Disk.{DiskView}
-use Rattle.session_engine.specs.Host.{HostView}
-use Rattle.child_edge.specs.Faithful.{Relation, Beat}
+use Rattle.std.specs.Prelude.{◌≡◌, ℕ, Bool, true, false, List, Option, Some, None}
+use Rattle.child_edge.specs.Faithful.{Relation}
 use Rattle.arrivals.specs.Lines.{InputLine}
 use Rattle.arrivals.specs.Watching.{Asked}
+use Rattle.arrivals.specs.declared.sources.Input.{Input}
+use Rattle.arrivals.specs.declared.sources.Input.TheVariants as input
 use Rattle.arrivals.specs.declared.sources.Woken.{Woken}
+use Rattle.arrivals.specs.declared.sources.Woken.TheVariants as woken
+use Rattle.live.specs.declared.manner.Manner.{Manner}
 use Rattle.tellings.specs.Voice.{Voice}
+-- Those of any program: what something brought, what a call leaves, and what is outside.
+pub use Rattle.sheet_programs.specs.Records.{Brought, Left, Outside, brought, left, outside}
 
 -- The relation of a clock: the sources, and what it may read while they stand so, in milliseconds.
 abbrev pub Clock : Type 0 → Type 1
@@ -16,6 +20,21 @@ Clock C = C → ℕ → Type 0
 abbrev pub Watch : Type 0 → Type 1
 Watch C = C → Asked → Option Woken → C → Type 0
 
+-- An input that may come comes at once, and the sources stay as they are; else it is as they are watched.
+abbrev pub ComesFirst : {C : Type 0} → Input → C → Option Woken → C → Type 0 → Type 0
+ComesFirst input.HeldBack c told d watched = watched
+ComesFirst input.Empty c told d watched = (told ≡ Some woken.Input) × (d ≡ c)
+ComesFirst input.Ready c told d watched = (told ≡ Some woken.Input) × (d ≡ c)
+
+-- The watch of sources of which the input comes first: what children have is returned only where it is held back.
+abbrev pub lines_first_of : {C : Type 0} → Watch C → Watch C
+lines_first_of wakes c question told d = ComesFirst question.input c told d (wakes c question told d)
+
+-- with lines first, or as they come
+abbrev pub wakes_by : {C : Type 0} → Bool → Watch C → Watch C
+wakes_by false wakes = wakes
+wakes_by true wakes = lines_first_of wakes
+
 -- How the sources are watched: what their clock reads, and what a watch of them returns.
 pub record Watches (C : Type 0) : Type 1 where
   pub clock : Clock C
@@ -24,32 +43,29 @@ pub record Watches (C : Type 0) : Type 1 where
 abbrev pub watches : {C : Type 0} → Clock C → Watch C → Watches C
 watches clock wakes = record { clock = clock; wakes = wakes }
 
--- What stays the same in a run: the voice of what is written, what the children do at a call, and how the sources are watched.
+-- What stays the same in a run: the voice of what is written, what the children do at a call, how the sources are watched, and how many
+-- seconds a wait that names none may take, where there is a limit.
 pub record Edge (C : Type 0) : Type 1 where
   pub voice : Voice
   pub after : Relation C
   pub watches : Watches C
+  pub limit : Option ℕ
 
 abbrev pub edge : {C : Type 0} → Voice → Relation C → Clock C → Watch C → Edge C
-edge voice after clock wakes = record { voice = voice; after = after; watches = record { clock = clock; wakes = wakes } }
+edge voice after clock wakes = record { voice = voice; after = after; watches = record { clock = clock; wakes = wakes }; limit = None }
 
--- What something brought: its entries, and what is written of them.
-pub record Brought : Type 0 where
-  pub beats : List Beat
-  pub text : List ℕ
+-- What comes first is taken first.
+abbrev pub as_it_comes : Manner
+as_it_comes = record { lines_first = false; limit = None }
 
-abbrev pub brought : List Beat → List ℕ → Brought
-brought beats text = record { beats = beats; text = text }
+-- While no wait holds lines back they come first, and a wait that names no seconds may take so many, where there is a limit.
+abbrev pub line_by_line : Option ℕ → Manner
+line_by_line limit = record { lines_first = true; limit = limit }
 
--- What a call leaves: the host and the sources after it, and all that was written, before it and after it.
-pub record Left (C : Type 0) : Type 0 where
-  pub host : HostView
-  pub sources : C
-  pub out : Option (List ℕ)
-  pub now : Option (List ℕ)
-
-abbrev pub left : {C : Type 0} → HostView → C → Option (List ℕ) → Option (List ℕ) → Left C
-left host sources out now = record { host = host; sources = sources; out = out; now = now }
+-- the same for lines that are taken in this manner
+abbrev pub edge_by : {C : Type 0} → Manner → Voice → Relation C → Clock C → Watch C → Edge C
+edge_by manner voice after clock wakes =
+    record { voice = voice; after = after; watches = watches clock (wakes_by manner.lines_first wakes); limit = manner.limit }
 
 -- The lines to come, before a call and after it.
 pub record Lines : Type 0 where
@@ -66,12 +82,3 @@ pub record Turn : Type 0 where
 
 abbrev pub turn : Woken → Bool → Turn
 turn woken is_there = record { woken = woken; is_there = is_there }
-
--- What is outside of a program that lives: its disk, the sources of all that comes, and all that was written.
-pub record Outside (C : Type 0) : Type 0 where
-  pub disk : DiskView
-  pub sources : C
-  pub written : Option (List ℕ)
-
-abbrev pub outside : {C : Type 0} → DiskView → C → Option (List ℕ) → Outside C
-outside disk sources written = record { disk = disk; sources = sources; written = written }

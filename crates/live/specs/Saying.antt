@@ -46,25 +46,40 @@ abbrev pub time_of : Hold → Option ℕ
 time_of hold.Free = None
 time_of hold.Wait = None
 time_of (hold.Until end) = Some end
+time_of (hold.Limited end) = Some end
 
 -- a wait that ends by its time
 abbrev pub IsTimed : Hold → Type 0
 IsTimed held = IsSome (time_of held)
 
+-- a wait that is over where its time is
+abbrev pub IsUntil : Hold → Type 0
+IsUntil held = (end : ℕ) × (held ≡ hold.Until end)
+
+-- a wait at the end of whose time interpreters are interrupted
+abbrev pub IsLimited : Hold → Type 0
+IsLimited held = (end : ℕ) × (held ≡ hold.Limited end)
+
 -- the moment so many seconds after this one, or the last one that a clock can read
 abbrev pub seconds_behind : ℕ → ℕ → ℕ
 seconds_behind now seconds = min (now + seconds * 1000) (2 ^ 64 - 1)
 
+-- A wait that names no seconds lasts as long as it takes. Where each may take so many, its time is over so many after what the clock reads
+-- where it begins.
+abbrev pub UntimedBegins : {C : Type 0} → Clock C → C → Option ℕ → Hold → Type 0
+UntimedBegins K c None held = held ≡ hold.Wait
+UntimedBegins K c (Some seconds) held = (now : ℕ) × K c now × (held ≡ hold.Limited (seconds_behind now seconds))
+
 -- Which wait a line begins where the sources stand so: one with a time lasts until so many seconds after what the clock reads there.
-abbrev pub Begins : {C : Type 0} → Clock C → C → Option LiveLine → Hold → Type 0
-Begins K c None held = held ≡ hold.Free
-Begins K c (Some (live.Script line.Skip)) held = held ≡ hold.Free
-Begins K c (Some (live.Script (line.Command command))) held = held ≡ hold.Free
-Begins K c (Some (live.Script line.Wait)) held = held ≡ hold.Wait
-Begins K c (Some (live.Script line.Print)) held = held ≡ hold.Free
-Begins K c (Some (live.PrintField id)) held = held ≡ hold.Free
-Begins K c (Some (live.WaitFor seconds)) held = (now : ℕ) × K c now × (held ≡ hold.Until (seconds_behind now seconds))
-Begins K c (Some (live.Interrupt name)) held = held ≡ hold.Free
+abbrev pub Begins : {C : Type 0} → Edge C → C → Option LiveLine → Hold → Type 0
+Begins o c None held = held ≡ hold.Free
+Begins o c (Some (live.Script line.Skip)) held = held ≡ hold.Free
+Begins o c (Some (live.Script (line.Command command))) held = held ≡ hold.Free
+Begins o c (Some (live.Script line.Wait)) held = UntimedBegins o.watches.clock c o.limit held
+Begins o c (Some (live.Script line.Print)) held = held ≡ hold.Free
+Begins o c (Some (live.PrintField id)) held = held ≡ hold.Free
+Begins o c (Some (live.WaitFor seconds)) held = (now : ℕ) × o.watches.clock c now × (held ≡ hold.Until (seconds_behind now seconds))
+Begins o c (Some (live.Interrupt name)) held = held ≡ hold.Free
 
 -- a wait goes on as long as an item waits for an answer
 abbrev pub WaitGoesOn : Hold → World → Hold → Type 0
@@ -75,6 +90,7 @@ abbrev pub is_held : Hold → Bool
 is_held hold.Free = false
 is_held hold.Wait = true
 is_held (hold.Until end) = true
+is_held (hold.Limited end) = true
 
 -- what is printed of a wait of this line that goes on or not, by how it stood before and how it stands
 abbrev pub over_text : Voice → ℕ → Hold → Hold → List ℕ

@@ -7,7 +7,7 @@ use Rattle.host_events.specs.declared.outcome.HostFault.{HostFault}
 use Rattle.session_engine.specs.World.{World, sheet_in}
 use Rattle.session_engine.specs.Host.{IsHost}
 use Rattle.child_calls.specs.declared.seat.Seat.{Seat}
-use Rattle.child_edge.specs.Faithful.{Relation, At, at, Beat, EachOf, Taken, TakenUpTo}
+use Rattle.child_edge.specs.Faithful.{Relation, At, at, Beat, EachOf, FirstOf, Taken, TakenUpTo}
 use Rattle.child_edge.specs.Broken.{TurnStopped, TurnSoFar}
 use Rattle.child_edge.specs.Edge.{Stopped}
 use Rattle.child_edge.specs.Seats.{running}
@@ -27,7 +27,7 @@ use Rattle.live.specs.declared.holding.Hold.TheVariants as hold
 use Rattle.live.specs.declared.stepping.Stand.{Stand}
 use Rattle.live.specs.Records.{Brought, Edge, Left, Lines, Turn, Watches}
 use Rattle.live.specs.Saying.{IsCommand, SaidDone, SaidUpTo, Begins, IsTimed}
-use Rattle.live.specs.Arrivals.{Arrival, line, part, life, time_over, LivePlace, Comes, IsOver, TakesArrival, front_text, Lived, lines_in, WatchTells, place, woken_at}
+use Rattle.live.specs.Arrivals.{Arrival, line, part, life, time_over, LivePlace, Comes, InterruptsLife, IsOver, TakesArrival, front_text, Lived, lines_in, WatchTells, place, woken_at}
 use Rattle.live.specs.Broken.{TakesUpTo, TakesSoFar, TakesLed, LivedUpTo, LivedSoFar, LivedLed}
 use Rattle.live.specs.Live.{AreTooMany, EndComes, NoMoreComes}
 
@@ -60,11 +60,11 @@ pub data HearingFailed {C : Type 0} (o : Edge C) (seat : Seat) (s : At C) (left 
 abbrev pub Said : {C : Type 0} → Edge C → ℕ → Option LiveLine → At C → Left C → Hold → Type 0
 Said o number l s left begun =
     (it : Brought) × (t : World) × SaidDone o number l s it (at t left.sources left.host.store.disk)
-    × Begins o.watches.clock s.children l begun × IsHost left.host t × Appends left.out left.now it.text
+    × Begins o s.children l begun × IsHost left.host t × Appends left.out left.now it.text
 
 -- a line that was done, or a part of it, led from here to there
 pub data SaidLed {C : Type 0} (o : Edge C) (l : Option LiveLine) (s t : At C) : Type 0 where
-  all : (begun : Hold) → Begins o.watches.clock s.children l begun → ((number : ℕ) → (it : Brought) × SaidDone o number l s it t) → SaidLed o l s t
+  all : (begun : Hold) → Begins o s.children l begun → ((number : ℕ) → (it : Brought) × SaidDone o number l s it t) → SaidLed o l s t
   up_to : (beats : List Beat) (e : Event) → SaidUpTo o.after l s beats e t → SaidLed o l s t
   none : IsCommand l → t ≡ s → SaidLed o l s t
 
@@ -104,6 +104,15 @@ pub data StallingFailed {C : Type 0} (o : Edge C) (seats : List Seat) (s : At C)
       → Appends left.out left.now (came_text o.voice (sheet_in t) (told beats)) → StallingFailed o seats s left fault.OutOfMemory
   untold : o.voice.takes_memory ≡ true → StalledUnwritten o seats s left → StallingFailed o seats s left fault.OutOfMemory
   unwritten : StalledUnwritten o seats s left → StallingFailed o seats s left fault.Output
+
+-- Each of these lives was interrupted, and what came of each is written.
+abbrev pub Warned : {C : Type 0} → Edge C → ℕ → List Seat → At C → Left C → Type 0
+Warned o number seats s left =
+    (text : List ℕ) × EachOf (InterruptsLife o number) seats s text (at s.world left.sources s.disk) × Appends left.out left.now text
+
+-- the first of them were, and what came of one couldn't be written
+abbrev pub WarnedUnwritten : {C : Type 0} → Edge C → ℕ → List Seat → At C → C → Type 0
+WarnedUnwritten o number seats s d = (k : ℕ) × (text : List ℕ) × FirstOf (InterruptsLife o number) seats k s text (at s.world d s.disk)
 
 -- An arrival was taken, and what came of it is written.
 abbrev pub TookArrival : {C : Type 0} → Edge C → LivePlace C → Arrival → Left C → ℕ → Hold → Type 0

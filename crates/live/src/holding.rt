@@ -6,7 +6,7 @@ ghost use Rattle.session_engine.specs.Host.{IsHost};
 ghost use Rattle.arrivals.specs.Watching.{InputMayCome, TimeMayCome};
 ghost use Rattle.tellings.specs.Voice.{IsUntold};
 ghost use Rattle.live.specs.Saying as saying;
-ghost use Rattle.live.specs.Saying.{IsTimed, WaitGoesOn, over_text};
+ghost use Rattle.live.specs.Saying.{IsLimited, IsTimed, IsUntil, WaitGoesOn, over_text};
 ghost use Rattle.live.specs.Arrivals.{IsOver, input_at, patience_at};
 
 use arrivals::Input;
@@ -26,6 +26,8 @@ pub enum Hold {
     Wait,
     /// Until no item waits, or until this moment of the sources' clock, in milliseconds.
     Until(u64),
+    /// The same, but at this moment interpreters are interrupted, and have two seconds more.
+    Limited(u64),
 }
 
 /// The wait that goes on after an event, if it does.
@@ -41,7 +43,7 @@ fn is_held(held: Hold) -> bool
 {
     match held {
         Hold::Free => false,
-        Hold::Wait | Hold::Until(_) => true,
+        Hold::Wait | Hold::Until(_) | Hold::Limited(_) => true,
     }
 }
 
@@ -76,7 +78,7 @@ pub(crate) fn input(held: Hold, is_ready: bool) -> Input
 {
     match held {
         Hold::Free => { if is_ready { Input::Ready } else { Input::Empty } }
-        Hold::Wait | Hold::Until(_) => Input::HeldBack,
+        Hold::Wait | Hold::Until(_) | Hold::Limited(_) => Input::HeldBack,
     }
 }
 
@@ -87,7 +89,7 @@ pub(crate) fn patience(held: Hold, now: u64) -> Option<u64>
 {
     match held {
         Hold::Free | Hold::Wait => None,
-        Hold::Until(end) => Some(end.saturating_sub(now)),
+        Hold::Until(end) | Hold::Limited(end) => Some(end.saturating_sub(now)),
     }
 }
 
@@ -99,6 +101,17 @@ pub(crate) fn is_over(held: Hold, now: u64) -> bool
 {
     match held {
         Hold::Free | Hold::Wait => false,
-        Hold::Until(end) => now >= end,
+        Hold::Until(end) | Hold::Limited(end) => now >= end,
+    }
+}
+
+/// Whether interpreters are interrupted where the time of a wait is over.
+pub(crate) fn is_limited(held: Hold) -> bool
+    ensures limited { result ≡ true → IsLimited held }
+    ensures until { result ≡ false → IsTimed held → IsUntil held }
+{
+    match held {
+        Hold::Limited(_) => true,
+        Hold::Free | Hold::Wait | Hold::Until(_) => false,
     }
 }

@@ -4,12 +4,15 @@
 
 pub mod holding;
 mod living;
+mod manner;
 mod saying;
 mod stepping;
 mod taking;
+mod timing;
 
 pub use holding::{Hold, go_on};
-pub use living::{LiveEnd, live};
+pub use living::{LiveEnd, live, live_by};
+pub use manner::Manner;
 pub use saying::{say_command, wait_for};
 pub use stepping::next_turn;
 pub use taking::{hear, tell_stalled};

@@ -8,11 +8,12 @@ ghost use Rattle.offline_programs.specs.Faults.{Untouched};
 ghost use Rattle.offline_programs.specs.declared.fault.RunFault.TheVariants as told;
 ghost use Rattle.journal.specs.declared.opening.OpenCause.TheVariants as opens;
 ghost use Rattle.host_events.specs.declared.outcome.HostFault.TheVariants as hosts;
-ghost use Rattle.live.specs.Records.{edge, left, outside};
+ghost use Rattle.live.specs.Records.{edge, edge_by, left, outside};
 ghost use Rattle.live.specs.Live.{LiveDone, TellsLive, begin_at};
 ghost use Rattle.live.specs.Taking.{Ended, EndedBy, LivedThrough, LivingFailed};
 
 use crate::holding::Hold;
+use crate::manner::Manner;
 use crate::stepping::{Stand, step};
 use arrivals::{InputLines, Sources};
 use child_edge::stop_all;
@@ -24,9 +25,10 @@ use std::alloc::Global;
 use std::io::{Read, Write};
 use tellings::Tells;
 
-/// Takes what comes, one after the other, to the end of the input.
+/// Takes what comes in this manner, one after the other, to the end of the input.
 fn live_on<R: Read, D: Disk, S: Sources, T: Tells, W: Write>(
     alloc: Global,
+    manner: Manner,
     host: &mut Host<D>,
     sources: &mut S,
     lines: &mut InputLines<R>,
@@ -34,11 +36,11 @@ fn live_on<R: Read, D: Disk, S: Sources, T: Tells, W: Write>(
     writer: &mut W,
 ) -> Result<(), RunFault>
     ensures same { SameDisk host.old.store.disk host.new.store.disk }
-    ensures ok { (w : World) → IsHost host.old w → OnOk result (LivedThrough (edge T.voice S.after S.clock S.wakes)
+    ensures ok { (w : World) → IsHost host.old w → OnOk result (LivedThrough (edge_by manner T.voice S.after S.clock S.wakes)
         (begin_at w sources.old host.old.store.disk)
         (left host.new sources.new (W.contents writer.old) (W.contents writer.new))
         (to_come lines.old.held (R.remaining lines.old.reader))) }
-    ensures err { (w : World) → IsHost host.old w → IfErr result (LivingFailed (edge T.voice S.after S.clock S.wakes)
+    ensures err { (w : World) → IsHost host.old w → IfErr result (LivingFailed (edge_by manner T.voice S.after S.clock S.wakes)
         (begin_at w sources.old host.old.store.disk)
         (left host.new sources.new (W.contents writer.old) (W.contents writer.new))
         (to_come lines.old.held (R.remaining lines.old.reader))) }
@@ -48,7 +50,7 @@ fn live_on<R: Read, D: Disk, S: Sources, T: Tells, W: Write>(
         held: Hold::Free,
     };
     for _ in 0..u64::MAX {
-        match step(alloc, host, sources, lines, stand, tells, writer) {
+        match step(alloc, manner, host, sources, lines, stand, tells, writer) {
             Ok(Some(next)) => stand = next,
             Ok(None) => return Ok(()),
             Err(fault) => return Err(fault),
@@ -60,6 +62,7 @@ fn live_on<R: Read, D: Disk, S: Sources, T: Tells, W: Write>(
 /// The same, and each life that goes on is stopped then.
 fn live_and_stop<R: Read, D: Disk, S: Sources, T: Tells, W: Write>(
     alloc: Global,
+    manner: Manner,
     host: &mut Host<D>,
     sources: &mut S,
     lines: &mut InputLines<R>,
@@ -67,16 +70,16 @@ fn live_and_stop<R: Read, D: Disk, S: Sources, T: Tells, W: Write>(
     writer: &mut W,
 ) -> Result<(), RunFault>
     ensures same { SameDisk host.old.store.disk host.new.store.disk }
-    ensures ok { (w : World) → IsHost host.old w → OnOk result (Ended (edge T.voice S.after S.clock S.wakes)
+    ensures ok { (w : World) → IsHost host.old w → OnOk result (Ended (edge_by manner T.voice S.after S.clock S.wakes)
         (begin_at w sources.old host.old.store.disk)
         (left host.new sources.new (W.contents writer.old) (W.contents writer.new))
         (to_come lines.old.held (R.remaining lines.old.reader))) }
-    ensures err { (w : World) → IsHost host.old w → IfErr result (EndedBy (edge T.voice S.after S.clock S.wakes)
+    ensures err { (w : World) → IsHost host.old w → IfErr result (EndedBy (edge_by manner T.voice S.after S.clock S.wakes)
         (begin_at w sources.old host.old.store.disk)
         (left host.new sources.new (W.contents writer.old) (W.contents writer.new))
         (to_come lines.old.held (R.remaining lines.old.reader))) }
 {
-    let done = live_on(alloc, host, sources, lines, tells, writer);
+    let done = live_on(alloc, manner, host, sources, lines, tells, writer);
     stop_all(host, sources);
     done
 }
@@ -88,6 +91,59 @@ pub struct LiveEnd<D: Disk> {
     pub disk: D,
     /// Nothing, or why it ended early.
     pub answer: Result<(), RunFault>,
+}
+
+/// As `live`, with lines taken in this manner: where they come first each one is taken when no wait holds it
+/// back, whatever children have, and what those wrote is taken in waits alone.
+///
+/// Faults are those of `live`.
+pub fn live_by<R: Read, W: Write, D: Disk, S: Sources, T: Tells>(
+    alloc: Global,
+    manner: Manner,
+    reader: R,
+    tells: &T,
+    writer: &mut W,
+    disk: D,
+    sources: &mut S,
+) -> LiveEnd<D>
+where
+    R: Drop,
+    ensures lived { OnOk result.answer (LiveDone (edge_by manner T.voice S.after S.clock S.wakes) (R.remaining reader)
+        (outside (D.view disk) sources.old (W.contents writer.old))
+        (outside (D.view result.disk) sources.new (W.contents writer.new))) }
+    ensures same { SameDisk (D.view disk) (D.view result.disk) }
+    ensures fault { IfErr result.answer (TellsLive (edge_by manner T.voice S.after S.clock S.wakes) (R.remaining reader)
+        (outside (D.view disk) sources.old (W.contents writer.old))
+        (outside (D.view result.disk) sources.new (W.contents writer.new))
+        (((writer.new ≡ writer.old) × (sources.new ≡ sources.old))
+        × Untouched (D.view disk) (D.view result.disk))) }
+
+    // That the disk failed, at the opening or later, is reported only where it did.
+    ensures unopened { IsErrOf result.answer (told.Open opens.Disk)
+        → Rises (D.view disk).faults (D.view result.disk).faults }
+    ensures failed { IsErrOf result.answer (told.Host hosts.Disk)
+        → Rises (D.view disk).faults (D.view result.disk).faults }
+{
+    let Ok(mut lines) = InputLines::new(alloc, reader) else {
+        return LiveEnd {
+            disk,
+            answer: Err(RunFault::OutOfMemory),
+        };
+    };
+    let mut host = match Host::open(alloc, disk) {
+        Ok(host) => host,
+        Err(OpenFault { cause, disk }) => {
+            return LiveEnd {
+                disk,
+                answer: Err(RunFault::Open(cause)),
+            };
+        }
+    };
+    let answer = live_and_stop(alloc, manner, &mut host, sources, &mut lines, tells, writer);
+    LiveEnd {
+        disk: host.close(),
+        answer,
+    }
 }
 
 /// Holds the worksheet on a disk open as long as an input lasts: its lines are taken while interpreters
@@ -129,24 +185,16 @@ where
     ensures failed { IsErrOf result.answer (told.Host hosts.Disk)
         → Rises (D.view disk).faults (D.view result.disk).faults }
 {
-    let Ok(mut lines) = InputLines::new(alloc, reader) else {
-        return LiveEnd {
-            disk,
-            answer: Err(RunFault::OutOfMemory),
-        };
-    };
-    let mut host = match Host::open(alloc, disk) {
-        Ok(host) => host,
-        Err(OpenFault { cause, disk }) => {
-            return LiveEnd {
-                disk,
-                answer: Err(RunFault::Open(cause)),
-            };
-        }
-    };
-    let answer = live_and_stop(alloc, &mut host, sources, &mut lines, tells, writer);
-    LiveEnd {
-        disk: host.close(),
-        answer,
-    }
+    live_by(
+        alloc,
+        Manner {
+            lines_first: false,
+            limit: None,
+        },
+        reader,
+        tells,
+        writer,
+        disk,
+        sources,
+    )
 }

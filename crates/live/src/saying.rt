@@ -8,12 +8,13 @@ ghost use Rattle.child_edge.specs.Faithful.{at};
 ghost use Rattle.sheet_text.specs.LiveLines.{live_line_of};
 ghost use Rattle.arrivals.specs.Lines.{whole};
 ghost use Rattle.tellings.specs.Voice.{IsUntold};
-ghost use Rattle.live.specs.Records.{edge, left};
-ghost use Rattle.live.specs.Saying.{WaitGoesOn, seconds_behind};
+ghost use Rattle.live.specs.Records.{edge, edge_by, left};
+ghost use Rattle.live.specs.Saying.{UntimedBegins, WaitGoesOn, seconds_behind};
 ghost use Rattle.live.specs.Arrivals.{line as the_line, place};
 ghost use Rattle.live.specs.Taking.{Said, SayingFailed, TakingFailed, TookArrival};
 
 use crate::holding::{Hold, go_on, tell_over};
+use crate::manner::Manner;
 use arrivals::Sources;
 use child_edge::{EdgeFault, interrupt, serve};
 use disk_model::Disk;
@@ -51,11 +52,28 @@ fn say_interrupt<D: Disk, S: Sources, T: Tells, W: Write>(
     }
 }
 
+/// The moment so many seconds after this one.
+fn seconds_after(now: u64, seconds: u32) -> u64
+    ensures { result ≡ seconds_behind now seconds }
+{
+    now.saturating_add(u64::from(seconds) * 1_000)
+}
+
 /// The wait until so many seconds after this moment.
 pub fn wait_for(now: u64, seconds: u32) -> Hold
     ensures { result ≡ Hold.Until (seconds_behind now seconds) }
 {
-    Hold::Until(now.saturating_add(u64::from(seconds) * 1_000))
+    Hold::Until(seconds_after(now, seconds))
+}
+
+/// The wait of a line that names no seconds, within this limit of them, where there is one.
+fn untimed_wait<S: Sources>(sources: &S, limit: Option<u32>) -> Hold
+    ensures { UntimedBegins S.clock sources.now limit result }
+{
+    match limit {
+        None => Hold::Wait,
+        Some(seconds) => Hold::Limited(seconds_after(sources.now(), seconds)),
+    }
 }
 
 /// Takes a command and all that comes of it, and prints what it gave: each reply is of an event that
@@ -97,6 +115,7 @@ pub fn say_command<D: Disk, S: Sources, T: Tells, W: Write>(
 /// Does what a line of a script says, but a wait, which it begins.
 fn say_script<D: Disk, S: Sources, T: Tells, W: Write>(
     alloc: Global,
+    manner: Manner,
     host: &mut Host<D>,
     sources: &mut S,
     said: ScriptLine,
@@ -105,10 +124,10 @@ fn say_script<D: Disk, S: Sources, T: Tells, W: Write>(
     writer: &mut W,
 ) -> Result<Hold, RunFault>
     ensures same { SameDisk host.old.store.disk host.new.store.disk }
-    ensures ok { (w : World) → IsHost host.old w → IfOk result (Said (edge T.voice S.after S.clock S.wakes)
+    ensures ok { (w : World) → IsHost host.old w → IfOk result (Said (edge_by manner T.voice S.after S.clock S.wakes)
         number (Some (LiveLine.Script said)) (at w sources.old host.old.store.disk)
         (left host.new sources.new (W.contents writer.old) (W.contents writer.new))) }
-    ensures err { (w : World) → IsHost host.old w → IfErr result (SayingFailed (edge T.voice S.after S.clock S.wakes)
+    ensures err { (w : World) → IsHost host.old w → IfErr result (SayingFailed (edge_by manner T.voice S.after S.clock S.wakes)
         number (Some (LiveLine.Script said)) (at w sources.old host.old.store.disk)
         (left host.new sources.new (W.contents writer.old) (W.contents writer.new))) }
 {
@@ -117,7 +136,7 @@ fn say_script<D: Disk, S: Sources, T: Tells, W: Write>(
             Ok(()) => Ok(Hold::Free),
             Err(fault) => Err(fault),
         },
-        ScriptLine::Wait => Ok(Hold::Wait),
+        ScriptLine::Wait => Ok(untimed_wait(sources, manner.limit)),
         ScriptLine::Print => match tells.sheet(number, host, writer) {
             Ok(()) => Ok(Hold::Free),
             Err(fault) => Err(fault),
@@ -131,6 +150,7 @@ fn say_script<D: Disk, S: Sources, T: Tells, W: Write>(
 /// Does what a line says, and gives the wait that it begins.
 fn say<D: Disk, S: Sources, T: Tells, W: Write>(
     alloc: Global,
+    manner: Manner,
     host: &mut Host<D>,
     sources: &mut S,
     said: LiveLine,
@@ -139,15 +159,17 @@ fn say<D: Disk, S: Sources, T: Tells, W: Write>(
     writer: &mut W,
 ) -> Result<Hold, RunFault>
     ensures same { SameDisk host.old.store.disk host.new.store.disk }
-    ensures ok { (w : World) → IsHost host.old w → IfOk result (Said (edge T.voice S.after S.clock S.wakes)
+    ensures ok { (w : World) → IsHost host.old w → IfOk result (Said (edge_by manner T.voice S.after S.clock S.wakes)
         number (Some said) (at w sources.old host.old.store.disk)
         (left host.new sources.new (W.contents writer.old) (W.contents writer.new))) }
-    ensures err { (w : World) → IsHost host.old w → IfErr result (SayingFailed (edge T.voice S.after S.clock S.wakes)
+    ensures err { (w : World) → IsHost host.old w → IfErr result (SayingFailed (edge_by manner T.voice S.after S.clock S.wakes)
         number (Some said) (at w sources.old host.old.store.disk)
         (left host.new sources.new (W.contents writer.old) (W.contents writer.new))) }
 {
     match said {
-        LiveLine::Script(said) => say_script(alloc, host, sources, said, number, tells, writer),
+        LiveLine::Script(said) => say_script(
+            alloc, manner, host, sources, said, number, tells, writer,
+        ),
         LiveLine::PrintField(id) => match tells.field(number, id, host, writer) {
             Ok(()) => Ok(Hold::Free),
             Err(fault) => Err(fault),
@@ -160,6 +182,7 @@ fn say<D: Disk, S: Sources, T: Tells, W: Write>(
 /// Does what a line says, and gives the wait that it begins.
 fn say_line<D: Disk, S: Sources, T: Tells, W: Write>(
     alloc: Global,
+    manner: Manner,
     host: &mut Host<D>,
     sources: &mut S,
     line: &[u8],
@@ -168,15 +191,15 @@ fn say_line<D: Disk, S: Sources, T: Tells, W: Write>(
     writer: &mut W,
 ) -> Result<Hold, RunFault>
     ensures same { SameDisk host.old.store.disk host.new.store.disk }
-    ensures ok { (w : World) → IsHost host.old w → IfOk result (Said (edge T.voice S.after S.clock S.wakes)
+    ensures ok { (w : World) → IsHost host.old w → IfOk result (Said (edge_by manner T.voice S.after S.clock S.wakes)
         number (live_line_of line.now) (at w sources.old host.old.store.disk)
         (left host.new sources.new (W.contents writer.old) (W.contents writer.new))) }
-    ensures err { (w : World) → IsHost host.old w → IfErr result (SayingFailed (edge T.voice S.after S.clock S.wakes)
+    ensures err { (w : World) → IsHost host.old w → IfErr result (SayingFailed (edge_by manner T.voice S.after S.clock S.wakes)
         number (live_line_of line.now) (at w sources.old host.old.store.disk)
         (left host.new sources.new (W.contents writer.old) (W.contents writer.new))) }
 {
     match read_live_line(alloc, line) {
-        Ok(said) => say(alloc, host, sources, said, number, tells, writer),
+        Ok(said) => say(alloc, manner, host, sources, said, number, tells, writer),
         Err(LineFault::BadLine) => match tells.note(Note::Bad(number), writer) {
             Ok(()) => Ok(Hold::Free),
             Err(fault) => Err(fault),
@@ -188,6 +211,7 @@ fn say_line<D: Disk, S: Sources, T: Tells, W: Write>(
 /// Takes a line after so many others, and gives the wait that goes on after it.
 pub(crate) fn take_line<D: Disk, S: Sources, T: Tells, W: Write>(
     alloc: Global,
+    manner: Manner,
     host: &mut Host<D>,
     sources: &mut S,
     line: &[u8],
@@ -197,14 +221,23 @@ pub(crate) fn take_line<D: Disk, S: Sources, T: Tells, W: Write>(
 ) -> Result<Hold, RunFault>
     requires { before + 1 < 2 ^ 64 }
     ensures same { SameDisk host.old.store.disk host.new.store.disk }
-    ensures ok { (w : World) → IsHost host.old w → IfOk result (TookArrival (edge T.voice S.after S.clock S.wakes)
+    ensures ok { (w : World) → IsHost host.old w → IfOk result (TookArrival (edge_by manner T.voice S.after S.clock S.wakes)
         (place (at w sources.old host.old.store.disk) before Hold.Free) (the_line (whole line.now))
         (left host.new sources.new (W.contents writer.old) (W.contents writer.new)) (before + 1)) }
-    ensures err { (w : World) → IsHost host.old w → IfErr result (TakingFailed (edge T.voice S.after S.clock S.wakes)
+    ensures err { (w : World) → IsHost host.old w → IfErr result (TakingFailed (edge_by manner T.voice S.after S.clock S.wakes)
         (place (at w sources.old host.old.store.disk) before Hold.Free) (the_line (whole line.now))
         (left host.new sources.new (W.contents writer.old) (W.contents writer.new))) }
 {
-    match say_line(alloc, host, sources, line, before + 1, tells, writer) {
+    match say_line(
+        alloc,
+        manner,
+        host,
+        sources,
+        line,
+        before + 1,
+        tells,
+        writer,
+    ) {
         Ok(begun) => tell_over(begun, before + 1, host, tells, writer),
         Err(fault) => Err(fault),
     }

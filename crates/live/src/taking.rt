@@ -1,4 +1,4 @@
-//! What comes of a life's turn, and of the end of a wait's time.
+//! What comes of a life's turn, and of lives that have stalled.
 ghost use Rattle.std.specs.Prelude.{◌≡◌, IfErr, IfOk, None, OnOk, false};
 ghost use Rattle.disk_model.specs.Disk.{SameDisk};
 ghost use Rattle.session_engine.specs.World.{World};
@@ -7,15 +7,14 @@ ghost use Rattle.child_edge.specs.Broken.{TurnSoFar, TurnStopped};
 ghost use Rattle.child_edge.specs.Edge.{BrokeOff, ByCause, Ran};
 ghost use Rattle.child_edge.specs.Faithful.{at, EachOf, Taken};
 ghost use Rattle.live.specs.Records.{edge, left};
-ghost use Rattle.live.specs.Saying.{IsTimed};
-ghost use Rattle.live.specs.Arrivals.{life, place, time_over};
+ghost use Rattle.live.specs.Arrivals.{life, place};
 ghost use Rattle.live.specs.Taking.{Heard, HearingFailed, Stalled, StallingFailed, TakingFailed, TookArrival};
 
 use crate::holding::{Hold, tell_over};
 use crate::stepping::Stand;
 use arrivals::Sources;
 use child_calls::Seat;
-use child_edge::{EdgeCause, listen, stall, waiting_lives};
+use child_edge::{EdgeCause, listen, stall};
 use disk_model::Disk;
 use host_events::Reply;
 use offline_programs::RunFault;
@@ -23,7 +22,7 @@ use session_engine::Host;
 use sheet_programs::run_fault;
 use std::alloc::Global;
 use std::io::Write;
-use tellings::{Note, Tells};
+use tellings::Tells;
 
 /// Takes a life's turn, and tells what comes of it.
 ///
@@ -131,31 +130,5 @@ pub fn tell_stalled<D: Disk, S: Sources, T: Tells, W: Write>(
     match taken {
         Ok(()) => Ok(()),
         Err(cause) => Err(run_fault(cause)),
-    }
-}
-
-/// Ends the wait of a line whose time is over: each life in which an item still waits has stalled.
-pub(crate) fn end_wait<D: Disk, S: Sources, T: Tells, W: Write>(
-    alloc: Global,
-    host: &mut Host<D>,
-    sources: &mut S,
-    number: u64,
-    tells: &T,
-    writer: &mut W,
-) -> Result<(), RunFault>
-    ensures same { SameDisk host.old.store.disk host.new.store.disk }
-    ensures ok { (held : Hold) (w : World) → IsTimed held → IsHost host.old w → OnOk result (TookArrival (edge T.voice S.after S.clock S.wakes)
-        (place (at w sources.old host.old.store.disk) number held) time_over
-        (left host.new sources.new (W.contents writer.old) (W.contents writer.new)) number Hold.Free) }
-    ensures err { (held : Hold) (w : World) → IsTimed held → IsHost host.old w → IfErr result (TakingFailed (edge T.voice S.after S.clock S.wakes)
-        (place (at w sources.old host.old.store.disk) number held) time_over
-        (left host.new sources.new (W.contents writer.old) (W.contents writer.new))) }
-{
-    let Ok(seats) = waiting_lives(alloc, host) else {
-        return Err(RunFault::OutOfMemory);
-    };
-    match tell_stalled(alloc, host, sources, seats.as_slice(), tells, writer) {
-        Ok(()) => tells.note(Note::Waited(number, true), writer),
-        Err(fault) => Err(fault),
     }
 }

@@ -1,5 +1,7 @@
 -- What a program answers, by what its call answered, where the disk was closed.
-use Rattle.std.proofs.Common.{◌≡◌, ◌≤◌, ℕ, List, Option, refl, ap, true, length}
+use Rattle.std.proofs.Common.{◌≡◌, ◌≤◌, ℕ, List, Option, Some, None, refl, ap, true, false, length}
+use Rattle.std.proofs.lemmas.Bool.{false≢true}
+use Rattle.std.proofs.lemmas.Option.{IfSome_then}
 use Rattle.std.specs.Prelude.{Bool, Result, Ok, Err, IfOk, IfErr, IfSome, IsErrOf, OnOk}
 use Rattle.std.specs.Io.KnownBytes.{Appends}
 use Rattle.disk_model.specs.Disk.{InModel, Looks, Rises, SameDisk, bytes_on}
@@ -8,13 +10,14 @@ use Rattle.recovery.specs.Sheets.{IsSheetImage}
 use Rattle.journal.specs.declared.opening.OpenCause.TheVariants as opens
 use Rattle.host_events.specs.declared.outcome.HostFault.TheVariants as hosts
 use Rattle.child_edge.specs.Faithful.{Relation}
-use Rattle.live.specs.Records.{Edge}
+use Rattle.live.specs.Records.{Edge, Outside}
 use Rattle.live.specs.Live.{LiveDone, TellsLive}
 use Rattle.offline_programs.specs.Faults.{TellsShow, Untouched}
 use Rattle.offline_programs.specs.Input.{longest_standard_input}
 use Rattle.offline_programs.specs.declared.fault.RunFault.{RunFault}
 use Rattle.offline_programs.specs.declared.fault.RunFault.TheVariants as fault
-use Rattle.sheet_programs.specs.Run.{RunDone, TellsRun}
+use Rattle.sheet_programs.specs.Records.{manner}
+use Rattle.sheet_programs.specs.Strict.{RunDone, TellsRun}
 use Rattle.sheet_programs.proofs.Runs.{err_same}
 use Rattle.sheet_text.specs.Texts.{sheet_text}
 use Rattle.program_endings.specs.Ending.{answer_of}
@@ -57,15 +60,20 @@ module _ {D W : Type 0} (g : GivenDisk D) (later : D) (w : Writing W) (closed : 
     fault = told;
   }
 
+-- a run that isn't strict came to the end of its script
+plain_done : {C : Type 0} (R : Relation C) (script : List ℕ) (first last : Outside C) (stopped : Option ℕ) → RunDone (manner R false) script stopped first last → RunDone (manner R false) script None first last
+plain_done R script first last None done = done
+plain_done R script first last (Some number) done = absurd (false≢true done.lines.0)
+
 module _ {D C W : Type 0} (R : Relation C) (stream : Option (List ℕ)) (g : GivenDisk D) (later : D) (q : Calling C) (w : Writing W) (closed : g.how.closed later) (same : SameDisk (view_given g) (g.how.view later)) where
-  pub run_answered : (r : Result (Option ℕ) RunFault) → IfOk r (λ stopped. IfSome stream (λ script. RunDone R script (view_given g) q.old q.new (text_before w) (text_after w) (g.how.view later))) → OnOk r (IfSome stream (λ script. length script ≤ longest_standard_input))
-      → IfErr r (TellsRun R stream (view_given g) (g.how.view later) q.old q.new (text_before w) (text_after w) (DoesNothing q w × Untouched (view_given g) (g.how.view later))) → (IsErrOf r (fault.Open opens.Disk) → Rises (view_given g).faults (g.how.view later).faults)
+  pub run_answered : (r : Result (Option ℕ) RunFault) → IfOk r (λ stopped. IfSome stream (λ script. RunDone (manner R false) script stopped (outside_before g q w) (outside_after g later q w))) → OnOk r (IfSome stream (λ script. length script ≤ longest_standard_input))
+      → IfErr r (TellsRun (manner R false) stream (outside_before g q w) (outside_after g later q w) (DoesNothing q w × Untouched (view_given g) (g.how.view later))) → (IsErrOf r (fault.Open opens.Disk) → Rises (view_given g).faults (g.how.view later).faults)
       → (IsErrOf r (fault.Host hosts.Disk) → Rises (view_given g).faults (g.how.view later).faults) → RunAnswer R stream g q w (answer_of r)
   run_answered (Ok stopped) ran short told unopened failed = record {
     later = later;
     closed = closed;
     same = same;
-    ran = (refl, ran);
+    ran = (refl, IfSome_then stream ran (λ script done. plain_done R script (outside_before g q w) (outside_after g later q w) stopped done));
     short = short;
     unopened = λ e. no-error (fault.Open opens.Disk) e;
     failed = λ e. no-error (fault.Host hosts.Disk) e;

@@ -3,7 +3,7 @@ use Rattle.std.specs.Prelude.{◌≡◌, ◌==◌, ◌&&◌, ℕ, Bool, true, na
 use Rattle.disk_model.specs.Disk.{Rises}
 use Rattle.journal.specs.declared.opening.OpenCause.TheVariants as opens
 use Rattle.sheet_check.specs.Check.{CheckAnswer, OnlyRead, passage}
-use Rattle.sheet_check.specs.Evaluated.{Way, one_by_one}
+use Rattle.sheet_check.specs.Evaluated.{OneByOne}
 use Rattle.check_report.specs.declared.chosen.Chosen.{Chosen}
 use Rattle.check_report.specs.declared.report.Format.{Format}
 use Rattle.check_report.specs.declared.report.Format.TheVariants as format
@@ -11,11 +11,12 @@ use Rattle.check_report.specs.declared.verdict.Counts.{Counts}
 use Rattle.check_report.specs.Verdicts.{total}
 use Rattle.offline_programs.specs.declared.fault.RunFault.{RunFault}
 use Rattle.offline_programs.specs.declared.fault.RunFault.TheVariants as fault
-use Rattle.program_endings.specs.Ending.{ProgramAnswer, TellsFault, status_of}
+use Rattle.program_endings.specs.Ending.{EndsAs, ProgramAnswer}
 use Rattle.program_endings.specs.Faults.{no_files}
 use Rattle.program_endings.specs.LiveProgram.{LastTold}
 use Rattle.tellings.specs.Json.{in_json}
-use Rattle.program_endings.specs.declared.ending.Ending.{Ending}
+use Rattle.program_endings.specs.Records.{Calling, DoesNothing, GivenDisk, Streams, Writing, given_disk, text_before, view_given, writing}
+use Rattle.program_endings.specs.declared.check_program.CheckEnding.{CheckEnding}
 use Rattle.sheet_files.specs.Closing.{Closable}
 use Rattle.sheet_files.specs.declared.files_fault.FilesFault.{FilesFault}
 
@@ -40,32 +41,30 @@ answer_of_check chosen (Ok counts) = Ok (passes chosen counts)
 answer_of_check chosen (Err why) = Err why
 
 -- A fault is reported last of all in a report as JSON, where the output takes it; the other formats have none.
-abbrev pub LastOfCheck : {W : Type 0} → Format → (W → Option (List ℕ)) → W → W → Bool → ProgramAnswer → Type 0
-LastOfCheck format.Json written a b told answer = LastTold in_json written a b told answer
-LastOfCheck format.Text written a b told answer = b ≡ a
-LastOfCheck format.Tap written a b told answer = b ≡ a
-LastOfCheck format.Junit written a b told answer = b ≡ a
-LastOfCheck format.Accepting written a b told answer = b ≡ a
+abbrev pub LastOfCheck : {W : Type 0} → Format → Writing W → Bool → ProgramAnswer → Type 0
+LastOfCheck format.Json w told answer = LastTold in_json w.contents w.old w.new told answer
+LastOfCheck format.Text w told answer = w.new ≡ w.old
+LastOfCheck format.Tap w told answer = w.new ≡ w.old
+LastOfCheck format.Junit w told answer = w.new ≡ w.old
+LastOfCheck format.Accepting w told answer = w.new ≡ w.old
 
--- The check of the worksheet on a disk, from children c to d, what it wrote, and how the program ends: the status follows from the
--- counts.
-pub record CheckDone {D C W E : Type 0} (k : Closable D) (o : Way C) (chosen : Chosen) (F : Format) (disk : D) (c d : C) (written : W → Option (List ℕ)) (a b : W)
-    (said : E → Option (List ℕ)) (old new : E) (ending : Ending) : Type 0 where
+-- The check of the worksheet on a disk, what it called and wrote, and how the program ends: the status follows from the counts.
+pub record CheckDone {D C W E : Type 0} (o : OneByOne C) (g : GivenDisk D) (q : Calling C) (s : Streams W E) (end : CheckEnding) : Type 0 where
   -- the disk, as it was closed
   pub later : D
-  pub closed : k.closed later
-  pub answer : Result Counts RunFault
+  pub closed : g.how.closed later
   pub mid : W
-  pub checked : CheckAnswer (one_by_one o chosen F) (k.view disk) (passage c d (written a) (written mid)) ((mid ≡ a) × (d ≡ c)) answer
-  pub last_told : LastOfCheck F written mid b ending.told (answer_of_check chosen answer)
-  pub read : OnlyRead (k.view disk) (k.view later)
+  pub checked : CheckAnswer o (view_given g) (passage q.old q.new (text_before s.output) (s.output.contents mid)) (DoesNothing q (writing s.output.contents s.output.old mid)) end.answer
+  pub last_told : LastOfCheck o.format (writing s.output.contents mid s.output.new) end.ending.told (answer_of_check o.chosen end.answer)
+  pub read : OnlyRead (view_given g) (g.how.view later)
   -- that the disk failed is reported only where it did
-  pub failed : answer ≡ Err (fault.Open opens.Disk) → Rises (k.view disk).faults (k.view later).faults
-  pub status : ending.status ≡ status_of (answer_of_check chosen answer)
-  pub told : TellsFault said old new ending.told (answer_of_check chosen answer)
+  pub failed : end.answer ≡ Err (fault.Open opens.Disk) → Rises (view_given g).faults (g.how.view later).faults
+  pub ends : EndsAs s.errors end.ending (answer_of_check o.chosen end.answer)
+
+-- how `check` ends where its files weren't opened: no child is called, and why is its fault
+abbrev pub CheckUnopened : {C W E : Type 0} → Format → Calling C → Streams W E → CheckEnding → FilesFault → Type 0
+CheckUnopened F q s end why = (q.new ≡ q.old) × (end.answer ≡ Err (no_files why)) × LastOfCheck F s.output end.ending.told (Err (no_files why)) × EndsAs s.errors end.ending (Err (no_files why))
 
 -- how `check` ends on its files, or on why they weren't opened
-abbrev pub CheckEnds : {D C W E : Type 0} → Closable D → Way C → Chosen → Format → Result D FilesFault → C → C → (W → Option (List ℕ)) → W → W → (E → Option (List ℕ)) → E → E → Ending → Type 0
-CheckEnds k o chosen F files c d written a b said old new ending =
-    IfErr files (λ why. LastOfCheck F written a b ending.told (Err (no_files why)) × (d ≡ c) × (ending.status ≡ 1) × TellsFault said old new ending.told (Err (no_files why)))
-    × IfOk files (λ disk. CheckDone k o chosen F disk c d written a b said old new ending)
+abbrev pub CheckEnds : {D C W E : Type 0} → Closable D → OneByOne C → Result D FilesFault → Calling C → Streams W E → CheckEnding → Type 0
+CheckEnds k o files q s end = IfErr files (CheckUnopened o.format q s end) × IfOk files (λ disk. CheckDone o (given_disk k disk) q s end)

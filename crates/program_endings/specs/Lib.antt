@@ -12,3 +12,5 @@ pub mod ExportProgram
 pub mod StrictProgram
 pub mod LiveProgram
 pub mod EvalProgram
+pub mod SeveralProgram
+pub mod inside

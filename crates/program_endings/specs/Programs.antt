@@ -1,6 +1,6 @@
 -- How the programs over a worksheet's files end: what becomes of the disk, what is written on which
 -- stream, and the exit status.
-use Rattle.std.specs.Prelude.{◌≡◌, ◌≤◌, ℕ, Bool, true, List, [], Option, Some, None, Result, Err, IfOk, IfErr, IfSome, IsErrOf, length}
+use Rattle.std.specs.Prelude.{◌≡◌, ◌≤◌, ℕ, Bool, true, false, List, [], Option, Some, None, Result, Err, IfOk, IfErr, IfSome, IsErrOf, length}
 use Rattle.std.specs.Io.KnownBytes.{Appends}
 use Rattle.disk_model.specs.Disk.{DiskView, InModel, Leaves, Looks, Rises, SameDisk, bytes_on}
 use Rattle.worksheet.specs.Contents.{Contents}
@@ -14,12 +14,13 @@ use Rattle.host_events.specs.declared.outcome.HostFault.TheVariants as hosts
 use Rattle.sheet_text.specs.Texts.{sheet_text}
 use Rattle.child_edge.specs.Faithful.{Relation}
 use Rattle.program_endings.specs.Ending.{EndsAs, ProgramAnswer}
-use Rattle.program_endings.specs.Records.{Calling, DoesNothing, GivenDisk, Streams, Writing, given_disk, text_after, text_before, view_given}
+use Rattle.program_endings.specs.Records.{Calling, DoesNothing, GivenDisk, Streams, Writing, given_disk, outside_after, outside_before, text_after, text_before, view_given}
 use Rattle.program_endings.specs.declared.ending.Ending.{Ending}
 use Rattle.offline_programs.specs.Faults.{TellsShow, Untouched}
 use Rattle.program_endings.specs.Faults.{create_fault_text, no_files}
 use Rattle.offline_programs.specs.Input.{longest_standard_input}
-use Rattle.sheet_programs.specs.Run.{RunDone, TellsRun}
+use Rattle.sheet_programs.specs.Records.{manner}
+use Rattle.sheet_programs.specs.Strict.{RunDone, TellsRun}
 use Rattle.sheet_files.specs.Closing.{Closable}
 use Rattle.sheet_files.specs.declared.files_fault.FilesFault.{FilesFault}
 use Rattle.sheet_files.specs.declared.files_fault.MakeFault.{MakeFault}
@@ -101,12 +102,12 @@ pub record RunAnswer {D C W : Type 0} (R : Relation C) (stream : Option (List �
   pub closed : g.how.closed later
   pub same : SameDisk (view_given g) (g.how.view later)
   pub ran : IfOk answer (λ whole. (whole ≡ true)
-      × IfSome stream (λ script. RunDone R script (view_given g) q.old q.new (text_before w) (text_after w) (g.how.view later)))
+      × IfSome stream (λ script. RunDone (manner R false) script None (outside_before g q w) (outside_after g later q w)))
   pub short : IfOk answer (λ whole. IfSome stream (λ script. length script ≤ longest_standard_input))
   -- that the disk failed, at the opening or later, is reported only where it did
   pub unopened : IsErrOf answer (fault.Open opens.Disk) → Rises (view_given g).faults (g.how.view later).faults
   pub failed : IsErrOf answer (fault.Host hosts.Disk) → Rises (view_given g).faults (g.how.view later).faults
-  pub fault : IfErr answer (TellsRun R stream (view_given g) (g.how.view later) q.old q.new (text_before w) (text_after w)
+  pub fault : IfErr answer (TellsRun (manner R false) stream (outside_before g q w) (outside_after g later q w)
       (DoesNothing q w × Untouched (view_given g) (g.how.view later)))
 
 -- How `run` ends on a disk: what it answers, its fault, and the status.

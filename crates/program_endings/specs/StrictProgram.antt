@@ -8,10 +8,11 @@ use Rattle.host_events.specs.declared.outcome.HostFault.TheVariants as hosts
 use Rattle.child_edge.specs.Faithful.{Relation}
 use Rattle.offline_programs.specs.Faults.{Untouched, fault_text}
 use Rattle.offline_programs.specs.Input.{longest_standard_input}
-use Rattle.sheet_programs.specs.Strict.{StrictDone, TellsStrict}
+use Rattle.sheet_programs.specs.Records.{manner}
+use Rattle.sheet_programs.specs.Strict.{RunDone, TellsRun}
 use Rattle.offline_programs.specs.declared.fault.RunFault.{RunFault}
 use Rattle.offline_programs.specs.declared.fault.RunFault.TheVariants as fault
-use Rattle.program_endings.specs.Records.{Calling, DoesNothing, GivenDisk, Streams, text_after, text_before, view_given}
+use Rattle.program_endings.specs.Records.{Calling, DoesNothing, GivenDisk, Streams, outside_after, outside_before, view_given}
 use Rattle.program_endings.specs.declared.ending.Ending.{Ending}
 
 -- what the program answers: the line after which it stopped, if it did, or its fault
@@ -40,11 +41,11 @@ pub record StrictEnded {D C W E : Type 0} (R : Relation C) (stream : Option (Lis
   pub closed : g.how.closed later
   pub same : SameDisk (view_given g) (g.how.view later)
   pub answer : StrictAnswer
-  pub ran : IfOk answer (λ stopped. IfSome stream (λ script. StrictDone R script (view_given g) q.old q.new (text_before s.output) (text_after s.output) (g.how.view later) stopped))
+  pub ran : IfOk answer (λ stopped. IfSome stream (λ script. RunDone (manner R true) script stopped (outside_before g q s.output) (outside_after g later q s.output)))
   pub short : OnOk answer (IfSome stream (λ script. length script ≤ longest_standard_input))
   -- that the disk failed, at the opening or later, is reported only where it did
   pub unopened : IsErrOf answer (fault.Open opens.Disk) → Rises (view_given g).faults (g.how.view later).faults
   pub failed : IsErrOf answer (fault.Host hosts.Disk) → Rises (view_given g).faults (g.how.view later).faults
-  pub fault : IfErr answer (TellsStrict R stream (view_given g) (g.how.view later) q.old q.new (text_before s.output) (text_after s.output) (DoesNothing q s.output × Untouched (view_given g) (g.how.view later)))
+  pub fault : IfErr answer (TellsRun (manner R true) stream (outside_before g q s.output) (outside_after g later q s.output) (DoesNothing q s.output × Untouched (view_given g) (g.how.view later)))
   pub status : ending.status ≡ strict_status answer
   pub told : TellsStop s.errors.contents s.errors.old s.errors.new ending.told answer

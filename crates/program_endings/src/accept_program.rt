@@ -2,10 +2,12 @@
 ghost use Rattle.std.specs.Prelude.{◌≡◌, Result};
 ghost use Rattle.check_report.specs.declared.verdict.Counts.{Counts};
 ghost use Rattle.offline_programs.specs.declared.fault.RunFault.{RunFault};
+ghost use Rattle.sheet_check.specs.Accept.{to_accept};
 ghost use Rattle.sheet_check.specs.Evaluated.{way};
 ghost use Rattle.sheet_files.specs.Closing.{closable};
-ghost use Rattle.program_endings.specs.Ending.{TellsFault, status_of};
+ghost use Rattle.program_endings.specs.Ending.{EndsAs};
 ghost use Rattle.program_endings.specs.AcceptProgram.{AcceptDone, AcceptEnds, accepts_all, answer_of_acceptance};
+ghost use Rattle.program_endings.specs.Records.{calling, given_disk, streams, writing};
 
 use crate::check_program::found_any;
 use crate::telling::no_files;
@@ -32,9 +34,7 @@ fn end_acceptance<E: Write>(
     answer: Result<Counts, RunFault>,
     errors: &mut E,
 ) -> Ending
-    ensures status { result.status ≡ status_of (answer_of_acceptance chosen.now answer) }
-    ensures told { TellsFault E.contents errors.old errors.new result.told
-        (answer_of_acceptance chosen.now answer) }
+    ensures { EndsAs (writing E.contents errors.old errors.new) result (answer_of_acceptance chosen.now answer) }
 {
     match answer {
         Ok(counts) => end_program(Ok(are_accepted(chosen, counts)), errors),
@@ -52,9 +52,9 @@ fn accept_on<D: Close, C: Sources, P: Progress, W: Write, E: Write>(
     output: &mut W,
     errors: &mut E,
 ) -> Ending
-    ensures { AcceptDone (closable D.view D.closed) (way C.after C.clock C.wakes request.now.limit)
-        request.now.chosen disk sources.old sources.new W.contents output.old output.new
-        E.contents errors.old errors.new result }
+    ensures { AcceptDone (to_accept (way C.after C.clock C.wakes request.now.limit) request.now.chosen)
+        (given_disk (closable D.view D.closed) disk) (calling sources.old sources.new)
+        (streams (writing W.contents output.old output.new) (writing E.contents errors.old errors.new)) result }
 {
     let Checked { disk, answer } = check_accepting(alloc, request, disk, sources, progress, output);
     disk.close();
@@ -73,9 +73,9 @@ pub fn run_accept<D: Close, C: Sources, P: Progress, W: Write, E: Write>(
     output: &mut W,
     errors: &mut E,
 ) -> Ending
-    ensures { AcceptEnds (closable D.view D.closed) (way C.after C.clock C.wakes request.now.limit)
-        request.now.chosen files sources.old sources.new W.contents output.old output.new
-        E.contents errors.old errors.new result }
+    ensures { AcceptEnds (closable D.view D.closed) (to_accept (way C.after C.clock C.wakes request.now.limit) request.now.chosen)
+        files (calling sources.old sources.new)
+        (streams (writing W.contents output.old output.new) (writing E.contents errors.old errors.new)) result }
 {
     match files {
         Ok(disk) => accept_on(alloc, request, disk, sources, progress, output, errors),

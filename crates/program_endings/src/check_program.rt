@@ -1,11 +1,13 @@
 //! The program `check` over a worksheet's files, from its files on.
-ghost use Rattle.std.specs.Prelude.{◌≡◌, Result};
+ghost use Rattle.std.specs.Prelude.{◌≡◌, Err, Result};
 ghost use Rattle.check_report.specs.declared.verdict.Counts.{Counts};
 ghost use Rattle.offline_programs.specs.declared.fault.RunFault.{RunFault};
-ghost use Rattle.sheet_check.specs.Evaluated.{way};
+ghost use Rattle.sheet_check.specs.Evaluated.{one_by_one, way};
 ghost use Rattle.sheet_files.specs.Closing.{closable};
-ghost use Rattle.program_endings.specs.Ending.{TellsFault, status_of};
+ghost use Rattle.program_endings.specs.Ending.{EndsAs};
 ghost use Rattle.program_endings.specs.CheckProgram.{CheckDone, CheckEnds, LastOfCheck, all_same, answer_of_check, finds_any, passes};
+ghost use Rattle.program_endings.specs.Faults as printed;
+ghost use Rattle.program_endings.specs.Records.{calling, given_disk, streams, writing};
 
 use crate::live_program::end_told;
 use crate::telling::no_files;
@@ -18,6 +20,15 @@ use sheet_files::{Close, FilesFault};
 use std::alloc::Global;
 use std::io::Write;
 use tellings::InJson;
+
+/// How a check of one worksheet ended.
+#[derive(Clone, Copy, Debug, PartialEq, Eq)]
+pub struct CheckEnding {
+    /// How many evaluations came to what, or the fault that the check met.
+    pub answer: Result<Counts, RunFault>,
+    /// How the program ends that checks this worksheet alone.
+    pub ending: Ending,
+}
 
 /// Whether no output differs, and no field was left unanswered.
 fn are_same(counts: Counts) -> bool
@@ -44,16 +55,15 @@ fn is_passed(chosen: &Chosen, counts: Counts) -> bool
 }
 
 /// Ends the program by what it answered: a fault is printed on both streams where the report is JSON.
-pub(crate) fn end_report<W: Write, E: Write>(
+fn end_report<W: Write, E: Write>(
     alloc: Global,
     format: Format,
     answer: Result<bool, RunFault>,
     output: &mut W,
     errors: &mut E,
 ) -> Ending
-    ensures last { LastOfCheck format W.contents output.old output.new result.told answer }
-    ensures status { result.status ≡ status_of answer }
-    ensures told { TellsFault E.contents errors.old errors.new result.told answer }
+    ensures last { LastOfCheck format (writing W.contents output.old output.new) result.told answer }
+    ensures ends { EndsAs (writing E.contents errors.old errors.new) result answer }
 {
     match format {
         Format::Json => end_told(answer, &InJson { alloc }, output, errors),
@@ -71,10 +81,9 @@ pub(crate) fn end_check<W: Write, E: Write>(
     output: &mut W,
     errors: &mut E,
 ) -> Ending
-    ensures last { LastOfCheck request.now.format W.contents output.old output.new result.told
+    ensures last { LastOfCheck request.now.format (writing W.contents output.old output.new) result.told
         (answer_of_check request.now.chosen answer) }
-    ensures status { result.status ≡ status_of (answer_of_check request.now.chosen answer) }
-    ensures told { TellsFault E.contents errors.old errors.new result.told
+    ensures ends { EndsAs (writing E.contents errors.old errors.new) result
         (answer_of_check request.now.chosen answer) }
 {
     match answer {
@@ -83,6 +92,27 @@ pub(crate) fn end_check<W: Write, E: Write>(
             end_report(alloc, request.format, Ok(passed), output, errors)
         }
         Err(fault) => end_report(alloc, request.format, Err(fault), output, errors),
+    }
+}
+
+/// Ends the program where the files of its worksheet weren't opened.
+pub(crate) fn end_unopened<W: Write, E: Write>(
+    alloc: Global,
+    format: Format,
+    why: FilesFault,
+    output: &mut W,
+    errors: &mut E,
+) -> CheckEnding
+    ensures answer { result.answer ≡ Err (printed.no_files why) }
+    ensures last { LastOfCheck format (writing W.contents output.old output.new) result.ending.told
+        (Err (printed.no_files why)) }
+    ensures ends { EndsAs (writing E.contents errors.old errors.new) result.ending (Err (printed.no_files why)) }
+{
+    let fault = no_files(why);
+    let ending = end_report(alloc, format, Err(fault), output, errors);
+    CheckEnding {
+        answer: Err(fault),
+        ending,
     }
 }
 
@@ -95,19 +125,21 @@ fn check_on<D: Close, C: Sources, P: Progress, W: Write, E: Write>(
     progress: &mut P,
     output: &mut W,
     errors: &mut E,
-) -> Ending
-    ensures { CheckDone (closable D.view D.closed) (way C.after C.clock C.wakes request.now.limit)
-        request.now.chosen request.now.format disk sources.old sources.new W.contents output.old output.new
-        E.contents errors.old errors.new result }
+) -> CheckEnding
+    ensures { CheckDone (one_by_one (way C.after C.clock C.wakes request.now.limit) request.now.chosen request.now.format)
+        (given_disk (closable D.view D.closed) disk) (calling sources.old sources.new)
+        (streams (writing W.contents output.old output.new) (writing E.contents errors.old errors.new)) result }
 {
     let Checked { disk, answer } = check(alloc, request, disk, sources, progress, output);
     disk.close();
-    end_check(alloc, request, answer, output, errors)
+    let ending = end_check(alloc, request, answer, output, errors);
+    CheckEnding { answer, ending }
 }
 
 /// The whole program `check` on its files, or on why they weren't opened: the report goes to `output`,
 /// each part flushed when it is known, and the line of a fault to `errors`; one in JSON has the fault
-/// last. `progress` shows how far it is, and nothing at its end.
+/// last. `progress` shows how far it is, and nothing at its end. What the check answered is
+/// given beside how the program ends.
 pub fn run_check<D: Close, C: Sources, P: Progress, W: Write, E: Write>(
     alloc: Global,
     request: &Request,
@@ -116,13 +148,14 @@ pub fn run_check<D: Close, C: Sources, P: Progress, W: Write, E: Write>(
     progress: &mut P,
     output: &mut W,
     errors: &mut E,
-) -> Ending
-    ensures { CheckEnds (closable D.view D.closed) (way C.after C.clock C.wakes request.now.limit)
-        request.now.chosen request.now.format files sources.old sources.new W.contents output.old output.new
-        E.contents errors.old errors.new result }
+) -> CheckEnding
+    ensures { CheckEnds (closable D.view D.closed)
+        (one_by_one (way C.after C.clock C.wakes request.now.limit) request.now.chosen request.now.format)
+        files (calling sources.old sources.new)
+        (streams (writing W.contents output.old output.new) (writing E.contents errors.old errors.new)) result }
 {
     match files {
         Ok(disk) => check_on(alloc, request, disk, sources, progress, output, errors),
-        Err(why) => end_report(alloc, request.format, Err(no_files(why)), output, errors),
+        Err(why) => end_unopened(alloc, request.format, why, output, errors),
     }
 }

@@ -1,6 +1,6 @@
-//! The program `live` over a worksheet's files, from its files on.
+//! The program `live`, and `run --json`, over a worksheet's files, from its files on.
 ghost use Rattle.std.specs.Prelude.{◌≡◌, IfErr, IfOk};
-ghost use Rattle.live.specs.Records.{edge};
+ghost use Rattle.live.specs.Records.{edge_by};
 ghost use Rattle.program_endings.specs.Ending.{TellsFault, status_of};
 ghost use Rattle.program_endings.specs.LiveProgram.{LastTold, LiveAnswer, LiveEnded, LiveUnopened, LivesOn};
 ghost use Rattle.program_endings.specs.Records.{calling, given_disk, streams, writing};
@@ -10,26 +10,27 @@ use crate::ending::answered;
 use crate::telling::no_files;
 use crate::{Ending, end_program};
 use arrivals::Sources;
-use live::{LiveEnd, live};
+use live::{LiveEnd, Manner, live_by};
 use offline_programs::RunFault;
 use sheet_files::{Close, FilesFault};
 use std::alloc::Global;
 use std::io::{Read, Write};
 use tellings::{Frame, Tells};
 
-/// Holds the worksheet on a disk open, and closes the disk at the end.
+/// Holds the worksheet on a disk open for lines that are taken in this manner, and closes the disk at the end.
 fn live_on<R: Read, W: Write, D: Close, S: Sources, T: Tells>(
     alloc: Global,
+    manner: Manner,
     input: &mut R,
     tells: &T,
     output: &mut W,
     disk: D,
     sources: &mut S,
 ) -> Result<bool, RunFault>
-    ensures { LivesOn (edge T.voice S.after S.clock S.wakes) (R.remaining input.old) (given_disk (closable D.view D.closed) disk)
+    ensures { LivesOn (edge_by manner T.voice S.after S.clock S.wakes) (R.remaining input.old) (given_disk (closable D.view D.closed) disk)
         (calling sources.old sources.new) (writing W.contents output.old output.new) result }
 {
-    let LiveEnd { disk, answer } = live(alloc, input, tells, output, disk, sources);
+    let LiveEnd { disk, answer } = live_by(alloc, manner, input, tells, output, disk, sources);
     disk.close();
     answered(answer)
 }
@@ -37,20 +38,21 @@ fn live_on<R: Read, W: Write, D: Close, S: Sources, T: Tells>(
 /// Writes the voice's first message, goes on live, and writes its last.
 fn live_framed<R: Read, W: Write, D: Close, S: Sources, T: Tells>(
     alloc: Global,
+    manner: Manner,
     input: &mut R,
     tells: &T,
     output: &mut W,
     disk: D,
     sources: &mut S,
 ) -> Result<bool, RunFault>
-    ensures { LiveAnswer (edge T.voice S.after S.clock S.wakes) (R.remaining input.old) (given_disk (closable D.view D.closed) disk)
+    ensures { LiveAnswer (edge_by manner T.voice S.after S.clock S.wakes) (R.remaining input.old) (given_disk (closable D.view D.closed) disk)
         (calling sources.old sources.new) (writing W.contents output.old output.new) result }
 {
     if let Err(fault) = tells.frame(Frame::Hello, output) {
         disk.close();
         return Err(fault);
     }
-    match live_on(alloc, input, tells, output, disk, sources) {
+    match live_on(alloc, manner, input, tells, output, disk, sources) {
         Ok(whole) => match tells.frame(Frame::End, output) {
             Ok(()) => Ok(whole),
             Err(fault) => Err(fault),
@@ -92,6 +94,7 @@ pub(crate) fn end_told<W: Write, E: Write, T: Tells>(
 /// Holds the worksheet on a disk open, and tells the fault.
 fn end_live<R: Read, W: Write, E: Write, D: Close, S: Sources, T: Tells>(
     alloc: Global,
+    manner: Manner,
     input: &mut R,
     tells: &T,
     output: &mut W,
@@ -99,18 +102,19 @@ fn end_live<R: Read, W: Write, E: Write, D: Close, S: Sources, T: Tells>(
     disk: D,
     sources: &mut S,
 ) -> Ending
-    ensures { LiveEnded (edge T.voice S.after S.clock S.wakes) (R.remaining input.old) (given_disk (closable D.view D.closed) disk) (calling sources.old sources.new)
+    ensures { LiveEnded (edge_by manner T.voice S.after S.clock S.wakes) (R.remaining input.old) (given_disk (closable D.view D.closed) disk) (calling sources.old sources.new)
         (streams (writing W.contents output.old output.new) (writing E.contents errors.old errors.new)) result }
 {
-    let answer = live_framed(alloc, input, tells, output, disk, sources);
+    let answer = live_framed(alloc, manner, input, tells, output, disk, sources);
     end_told(answer, tells, output, errors)
 }
 
-/// The whole program `live` on its files, or on why they weren't opened: its lines come from `input`,
-/// which is read only where there are files, and what comes of them and of interpreters goes to `output`,
-/// flushed at once. The line of a fault goes to `errors`.
+/// The whole program `live`, or `run --json` where lines come first, on its files, or on why they weren't
+/// opened: its lines come from `input`, which is read only where there are files, and what comes of them and
+/// of interpreters goes to `output`, flushed at once. The line of a fault goes to `errors`.
 pub fn run_live<R: Read, W: Write, E: Write, D: Close, S: Sources, T: Tells>(
     alloc: Global,
+    manner: Manner,
     input: &mut R,
     tells: &T,
     output: &mut W,
@@ -122,11 +126,11 @@ pub fn run_live<R: Read, W: Write, E: Write, D: Close, S: Sources, T: Tells>(
     ensures unopened { IfErr files (λ why. (input.new ≡ input.old) × LiveUnopened T.voice (calling sources.old sources.new)
         (streams (writing W.contents output.old output.new) (writing E.contents errors.old errors.new)) result why) }
 
-    ensures files { IfOk files (λ disk. LiveEnded (edge T.voice S.after S.clock S.wakes) (R.remaining input.old) (given_disk (closable D.view D.closed) disk)
+    ensures files { IfOk files (λ disk. LiveEnded (edge_by manner T.voice S.after S.clock S.wakes) (R.remaining input.old) (given_disk (closable D.view D.closed) disk)
         (calling sources.old sources.new) (streams (writing W.contents output.old output.new) (writing E.contents errors.old errors.new)) result) }
 {
     match files {
-        Ok(disk) => end_live(alloc, input, tells, output, errors, disk, sources),
+        Ok(disk) => end_live(alloc, manner, input, tells, output, errors, disk, sources),
         Err(why) => end_told(Err(no_files(why)), tells, output, errors),
     }
 }

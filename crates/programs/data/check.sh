@@ -24,6 +24,7 @@ while IFS= read -r line; do
             tags) printf '\002verbatim:</failure><b a="&">\005'; continue ;;
             odd) printf '\002verbatim:\377\303\251\357\277\276\005'; continue ;;
             looks) until grep -q '^+ another$' text; do sleep 0.01; done ;;
+            heads) until grep -q '^worksheet three$' text; do sleep 0.01; done ;;
         esac
     fi
     case $line in
@@ -417,6 +418,70 @@ made "$a"'new 0 a x\neval 1\nwait\n'
 "$tmhost" check --format tap sheet >/dev/full 2>errors
 compare 'a report on a full output' "$? $(cat errors)" '1 fault 42 Output'
 sent 'a report on a full output' ''
+
+# Several worksheets: each below a line with its path, and the total at the end. They are made so: PATH SCRIPT.
+made_at() {
+    made "$2"
+    mv sheet "$1"
+    mv sheet.alt "$1.alt"
+}
+line_feed='
+'
+made_at one "$a"'new 0 a x\nnew 1 a y\neval 1\neval 2\nwait\n'
+made_at two "$a"'session b plain sh suite.sh b\nnew 0 a z\nnew 1 b not evaluated\neval 1\nwait\n'
+made_at bad "$a"'new 0 a x\nnew 1 a differs\nnew 2 a hangs\neval 1\neval 2\neval 3\nwait\n'
+made_at three "$a"'new 0 a heads\neval 1\nwait\n'
+made_at deadly "$a"'new 0 a x\nnew 1 a kills\neval 1\neval 2\nwait\n'
+made_at "a${line_feed}worksheet b" "$a"'new 0 a x\neval 1\nwait\n'
+before="$(bytes one) $(bytes two) $(bytes bad)"
+differ='worksheet bad\n#2 a\na] differs\n- differs\n+ another\n#3 a\na] hangs\n- hangs\n+ ?\nsame 1 differ 1 unanswered 1\n'
+words 'two worksheets' 0 'worksheet one\nsame 2 differ 0 unanswered 0\nworksheet two\nsame 1 differ 0 unanswered 0\ntotal of 2 worksheets: same 3 differ 0 unanswered 0\n' check one two
+sent 'two worksheets' 'start a\nsend a x\nsend a y\nstart a\nsend a z'
+ended 'two worksheets' 2
+words 'one that differs, and another' 1 "$differ"'worksheet one\nsame 2 differ 0 unanswered 0\ntotal of 2 worksheets: same 3 differ 1 unanswered 1\n' check bad one
+words 'another, and one that differs' 1 'worksheet one\nsame 2 differ 0 unanswered 0\n'"$differ"'total of 2 worksheets: same 3 differ 1 unanswered 1\n' check one bad
+words 'one worksheet twice' 0 'worksheet one\nsame 2 differ 0 unanswered 0\nworksheet one\nsame 2 differ 0 unanswered 0\ntotal of 2 worksheets: same 4 differ 0 unanswered 0\n' check one one
+words 'one of three that is not there' 1 'worksheet one\nsame 2 differ 0 unanswered 0\nworksheet nowhere\nworksheet two\nsame 1 differ 0 unanswered 0\ntotal of 3 worksheets: same 3 differ 0 unanswered 0 faults 1\nfault 32 Disk\n' check one nowhere two
+words 'two that are none' 1 'worksheet nowhere\nworksheet suite.sh\ntotal of 2 worksheets: same 0 differ 0 unanswered 0 faults 2\nfault 32 Disk\nfault 31 NotASheet\n' check nowhere suite.sh
+words 'a path of two lines' 0 'worksheet a\\x0aworksheet b\nsame 1 differ 0 unanswered 0\nworksheet one\nsame 2 differ 0 unanswered 0\ntotal of 2 worksheets: same 3 differ 0 unanswered 0\n' check "a${line_feed}worksheet b" one
+talk_over live two
+say '# held\nprint 1\n'
+hears 'one of two that is in use, held' '#1 a\na] z\nz\n'
+words 'one of two that is in use' 1 'worksheet two\nworksheet one\nsame 2 differ 0 unanswered 0\ntotal of 2 worksheets: same 2 differ 0 unanswered 0 faults 1\nfault 35 InUse\n' check two one
+exec 3>&-
+wait "$host"
+exec 4<&-
+words 'a session of both' 0 'worksheet one\nsame 2 differ 0 unanswered 0\nworksheet two\nsame 1 differ 0 unanswered 0\ntotal of 2 worksheets: same 3 differ 0 unanswered 0\n' check --only a one two
+made_at four 'session b plain sh suite.sh b\nnew 0 b x\neval 1\nwait\n'
+words 'a session of one of two' 1 'worksheet one\nsame 0 differ 0 unanswered 0\nworksheet four\nsame 1 differ 0 unanswered 0\ntotal of 2 worksheets: same 1 differ 0 unanswered 0\n' check --only b one four
+words 'two worksheets, by the name of the format' 0 'worksheet one\nsame 2 differ 0 unanswered 0\nworksheet four\nsame 1 differ 0 unanswered 0\ntotal of 2 worksheets: same 3 differ 0 unanswered 0\n' check --format text one four
+for flags in '--jobs 4' '--timeout 60' '--jobs 4 --timeout 60'; do
+    compare "several worksheets, $flags" "$(answer check $flags one bad nowhere four </dev/null)" "$(answer check one bad nowhere four </dev/null)"
+done
+
+# Several are checked in words alone.
+rm -f sent
+for flags in '--format tap' '--format junit' '--format json' '--json'; do
+    words "several worksheets, $flags" 2 "error: several PATHs go with no FORMAT but text$help" check $flags one two
+done
+words 'several that are accepted' 2 "error: --accept goes with one PATH alone$help" check --accept bad one
+words 'fields of several that are left out' 2 "error: --leave-out goes with one PATH alone$help" check --leave-out 2 bad one
+words 'several side by side, and accepted' 2 "error: --jobs goes with no --accept$help" check --jobs 2 --accept bad one
+compare 'several worksheets that are not checked' "$(cat sent 2>/dev/null)" ''
+
+# The line with a path is there before its report; and a check that is killed at the second worksheet, and one whose output is full.
+rm -f text
+: >text
+timeout 10 "$tmhost" check one three >text 2>errors
+compare 'a line that is read at once' "$? $(cat text errors)" "$(printf '0 worksheet one\nsame 2 differ 0 unanswered 0\nworksheet three\nsame 1 differ 0 unanswered 0\ntotal of 2 worksheets: same 3 differ 0 unanswered 0')"
+(exec "$tmhost" check one deadly two >text 2>errors) 2>/dev/null
+compare 'several that are killed' "$? $(cat text errors)" "$(printf '137 worksheet one\nsame 2 differ 0 unanswered 0\nworksheet deadly')"
+rm -f sent
+"$tmhost" check one two >/dev/full 2>errors
+compare 'several on a full output' "$? $(cat errors)" '1 fault 42 Output'
+sent 'several on a full output' ''
+compare 'several worksheets, kept' "$(bytes one) $(bytes two) $(bytes bad)" "$before"
+rm -f one one.alt two two.alt bad bad.alt three three.alt deadly deadly.alt four four.alt "a${line_feed}worksheet b" "a${line_feed}worksheet b.alt"
 
 # An output of 2,000,000 bytes where there was one of one byte, in each format.
 cat >grows.sh <<'END_OF_CHILD'

@@ -26,13 +26,15 @@ told() {
 }
 for task in create run live eval show check; do
     told "$task without a path" 'error: the following required arguments were not provided:' "$task"
-    [ "$task" = eval ] || told "$task with two paths" "error: unexpected argument 'b' found" "$task" a b
+    [ "$task" = eval ] || [ "$task" = check ] || told "$task with two paths" "error: unexpected argument 'b' found" "$task" a b
     told "$task with a flag" "error: unexpected argument '-w' found" "$task" -w
 done
 told 'eval with two paths' 'error: this is no field: ID is a number, as 3' eval a b
 told 'run with a flag alone' 'error: the following required arguments were not provided:' run --strict
 told 'run with a flag twice' "error: the argument '--strict' cannot be used multiple times" run --strict --strict a
 told 'run with a flag that has a value' "error: unexpected value 'yes' for '--strict' found; no more were expected" run --strict=yes a
+told 'JSON of a strict run' 'error: --strict goes with no --json and no --timeout' run --json --strict a
+told 'a limit of a strict run' 'error: --strict goes with no --json and no --timeout' run --strict --timeout 1 a
 told 'eval with a flag alone' 'error: the following required arguments were not provided:' eval --unanswered
 told 'run with the flag of eval' "error: unexpected argument '--unanswered' found" run --unanswered a
 told 'show with the flag of run' "error: unexpected argument '--strict' found" show --strict a
@@ -72,7 +74,7 @@ helps run 'Run the script on standard input over a worksheet' "Usage: ${tmhost##
 helps live 'Hold a worksheet open for lines that come on standard input' "Usage: ${tmhost##*/} live [OPTIONS] <PATH>" "Example: printf 'print\\n' | tmhost live sheet" 1
 helps eval 'Evaluate the fields of a worksheet' "Usage: ${tmhost##*/} eval [OPTIONS] <PATH> [ID]..." 'Example: tmhost eval --timeout 10 sheet 3 7' 1
 helps show 'Write a worksheet' "Usage: ${tmhost##*/} show [OPTIONS] <PATH>" 'Example: tmhost show sheet' 1
-helps check 'Evaluate a worksheet again, and write what differs' "Usage: ${tmhost##*/} check [OPTIONS] <PATH>" 'Example: tmhost check --format junit sheet >report.xml' 1
+helps check 'Evaluate a worksheet again, and write what differs' "Usage: ${tmhost##*/} check [OPTIONS] <PATH>..." 'Example: tmhost check --format junit sheet >report.xml' 1
 helps rescue 'Write what stands before a damage to a new worksheet' "Usage: ${tmhost##*/} rescue <PATH> <NEW>" 'Example: tmhost rescue sheet new' 1
 
 helps export 'Write a worksheet as a script, Markdown, a page, a notebook or JSON' "Usage: ${tmhost##*/} export <FORMAT> <PATH>" 'Example: tmhost export html sheet >sheet.html' 1

@@ -127,6 +127,104 @@ json 'lines that are lost' 0 'session a plain sh silent.sh\nsession b plain /non
 {"type":"end"}
 END_OF_JSON
 
+# Scripts that are run: NAME STATUS LINES, where the text that is wanted is the input here. What an interpreter writes is taken in waits
+# alone, so no object of it stands between those of lines.
+run_json() {
+    cat >wanted
+    rm -f sheet sheet.alt
+    "$tmhost" create sheet
+    printf "$3" >given
+    compare "$1" "$(answer run --json sheet <given)" "$(cat wanted; echo "status $2")"
+}
+run_json 'a script without lines' 0 '' <<'END_OF_JSON'
+{"format":1,"program":"tmhost","protocol":2,"type":"hello","version":"0.1.0"}
+{"type":"end"}
+END_OF_JSON
+interpreter p "$banner" '\002verbatim:A\005' '\002verbatim:B\005'
+block='{"items":["A"],"kind":"format","tag":"verbatim"}'
+cat >wanted <<END_OF_JSON
+{"format":1,"program":"tmhost","protocol":2,"type":"hello","version":"0.1.0"}
+{"line":1,"type":"done"}
+{"id":1,"line":2,"type":"made"}
+{"id":2,"line":3,"type":"made"}
+{"life":1,"line":4,"type":"asked"}
+{"line":5,"type":"bad"}
+{"line":6,"name":"NoSession","number":1,"type":"refused"}
+{"line":7,"type":"nothing"}
+{"line":8,"name":"InFlight","number":3,"type":"refused"}
+{"field":{"id":1,"input":"x","session":"a","state":"waiting"},"line":9,"type":"field"}
+{"life":1,"output":{"items":[],"kind":"format","tag":"verbatim"},"session":"a","shown":"","type":"banner"}
+{"id":1,"life":1,"output":$block,"prompt":"> ","session":"a","shown":"A","type":"answered"}
+{"line":10,"over":"idle","type":"waited"}
+{"line":11,"over":"idle","type":"waited"}
+{"line":12,"outcome":"idle","type":"interrupted"}
+{"life":1,"line":13,"type":"asked"}
+{"line":14,"type":"done"}
+{"field":{"id":1,"input":"x","output":$block,"prompt":"> ","session":"a","shown":"A","state":"answered"},"line":15,"type":"field"}
+{"type":"end"}
+status 0
+END_OF_JSON
+printf 'session a plain sh p.sh\nnew 0 a x\nnew 1 a y\neval 1\n' >given
+printf 'foo\nnew 0 b z\n# a remark\nset 1 z\nprint 1\nwait\nwait 10\ninterrupt a\neval 2\nmove 2 0\nprint 1' >rest
+rm -f sheet sheet.alt
+"$tmhost" create sheet
+compare 'lines before what an interpreter wrote long ago' "$( (cat given; sleep 1; cat rest) | answer run --json sheet)" "$(cat wanted)"
+cat rest >>given
+rm -f sheet sheet.alt
+"$tmhost" create sheet
+compare 'the same lines at once' "$(answer run --json sheet <given)" "$(cat wanted)"
+rm rest
+run_json 'a script with a wait whose time is over' 0 'session a plain sh silent.sh\nnew 0 a x\neval 1\nwait 1\nprint 1\n' <<'END_OF_JSON'
+{"format":1,"program":"tmhost","protocol":2,"type":"hello","version":"0.1.0"}
+{"line":1,"type":"done"}
+{"id":1,"line":2,"type":"made"}
+{"life":1,"line":3,"type":"asked"}
+{"life":1,"lost":[{"id":1,"text":"x"}],"reason":"Stalled","session":"a","type":"ended"}
+{"line":4,"over":"time","type":"waited"}
+{"field":{"id":1,"input":"x","reason":"Stalled","session":"a","state":"lost"},"line":5,"type":"field"}
+{"type":"end"}
+END_OF_JSON
+run_json 'a script with a line that is too long' 0 "#$(repeated 65535 x)\n#$(repeated 65536 x)\n" <<'END_OF_JSON'
+{"format":1,"program":"tmhost","protocol":2,"type":"hello","version":"0.1.0"}
+{"line":1,"type":"nothing"}
+{"line":2,"type":"bad"}
+{"type":"end"}
+END_OF_JSON
+
+# Limits of time of a run. (`turns.sh` is that of eval.sh.) The one that hears no interrupt is beside the others.
+turns='session a plain env --default-signal=INT sh turns.sh\n'
+rm -f deaf deaf.alt sheet sheet.alt
+"$tmhost" create deaf
+"$tmhost" create sheet
+printf "$turns"'new 0 a deaf\neval 1\nwait\nprint 1\n' >given.deaf
+{ "$tmhost" run --json --timeout 1 deaf <given.deaf 2>&1; echo "status $?"; } >deaf.told &
+printf "$turns"'new 0 a loop\nnew 1 a y\neval 1\nwait\neval 2\nwait\n' >given
+compare 'a wait that takes too long has its interpreter interrupted' "$(answer run --timeout 1 sheet <given)" \
+    "$(ending 'ok\nfield 1\nfield 2\nasked\nbanner a\ninterrupted a\nanswered 1\nasked\nanswered 2\n' 0)"
+compare 'a wait that takes too long, shown' "$(answer show sheet </dev/null)" "$(ending '#1 a\n> loop\ninterrupted\n#2 a\n> y\ny\n' 0)"
+printf 'eval 2\nwait\n' >given
+compare 'a wait within its time' "$(answer run --timeout 1000000 sheet <given)" "$(ending 'asked\nbanner a\nanswered 2\n' 0)"
+printf 'session b plain sh silent.sh\nnew 2 b z\neval 3\nwait 1\n' >given
+compare 'a wait with seconds of its own' "$(answer run --timeout 1000000 sheet <given)" "$(ending 'ok\nfield 3\nasked\nended b Stalled lost 1\n' 0)"
+cat >wanted <<'END_OF_JSON'
+{"format":1,"program":"tmhost","protocol":2,"type":"hello","version":"0.1.0"}
+{"line":1,"type":"done"}
+{"id":1,"line":2,"type":"made"}
+{"life":1,"line":3,"type":"asked"}
+{"life":1,"output":{"items":[],"kind":"format","tag":"verbatim"},"session":"a","shown":"","type":"banner"}
+{"line":4,"outcome":"sent","type":"interrupted"}
+{"life":1,"lost":[{"id":1,"text":"deaf"}],"reason":"Stalled","session":"a","type":"ended"}
+{"line":4,"over":"time","type":"waited"}
+{"field":{"id":1,"input":"deaf","reason":"Stalled","session":"a","state":"lost"},"line":5,"type":"field"}
+{"type":"end"}
+status 0
+END_OF_JSON
+wait
+compare 'one that hears no interrupt stalls' "$(cat deaf.told)" "$(cat wanted)"
+for seconds in 0 1000001 x ''; do
+    words "no time of a run: $seconds" 2 "error: this is no time: SECONDS is a number from 1 to 1000000\n\nFor more information, try 'tmhost run --help'.\n" run --timeout "$seconds" sheet
+done
+
 # Each object is there before the next line is written.
 interpreter p "$banner" '\002verbatim:A\005'
 block='{"items":["A"],"kind":"format","tag":"verbatim"}'
@@ -165,6 +263,7 @@ name='what is no worksheet' faulty - hello.txt <<'END_OF_JSON'
 {"name":"NotASheet","number":31,"type":"fault"}
 fault 31 NotASheet
 END_OF_JSON
+compare 'a missing path of a script' "$(answer run --json nowhere/sheet </dev/null)" "$(printf '{"name":"Disk","number":32,"type":"fault"}\nfault 32 Disk\nstatus 1')"
 printf 'TMWSHEET\001AR\000\000\000\011abc' >damaged
 name='a damaged worksheet' faulty - damaged <<'END_OF_JSON'
 {"format":1,"program":"tmhost","protocol":2,"type":"hello","version":"0.1.0"}

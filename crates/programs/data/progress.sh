@@ -30,7 +30,9 @@ compare 'no progress where the output alone is a terminal' "$(python3 screen.py 
 # Fields that differ more than once, and lines that are longer than the next.
 checked 'two that differ' "$a"'new 0 a differs\nnew 1 a differs\neval 1\neval 2\nwait\n' 1 \
     '#1 a\na] differs\n- differs\n+ another\n#2 a\na] differs\n- differs\n+ another\nsame 0 differ 2 unanswered 0\n'
-sends 'two that differ, on a terminal' 1 '\r\033[K\r1 of 2, 1 differs\033[K\r\033[K\r2 of 2, 2 differ\033[K\r\033[K' check sheet
+differs='\r\033[K\r1 of 2, 1 differs\033[K\r\033[K\r2 of 2, 2 differ\033[K\r\033[K'
+sends 'two that differ, on a terminal' 1 "$differs" check sheet
+sends 'two that differ, twice, on a terminal' 1 "$differs$differs" check sheet sheet
 
 # Where no field shows an answer, and at faults: the output can't be written, and there is no worksheet.
 made ''

@@ -163,7 +163,7 @@ module _ {C : Type 0} (o : OneByOne C) (field : Field) (shown : Answer) (shows :
   evaluation_failed a why p = ((λ others. broke-first others why p), inr (Appends-nil a))
 
   waited-led : (limit : Option ℕ) (mid : At C) (in_time : Bool) (t : At C) → WaitedBy limit o.way field.id mid in_time t → WaitLedBy limit o.way field.id mid t
-  waited-led None mid in_time t p = whole 0 p.0 (beats_text p.0) (p.1, refl)
+  waited-led None mid in_time t p = whole 0 (records.brought p.0 (beats_text p.0)) (p.1, refl)
   waited-led (Some seconds) mid in_time t p = inl (in_time, p)
 
   -- the field was evaluated, and what came of it couldn't be reported

@@ -62,6 +62,7 @@ fn store_saved<D: Disk>(alloc: Global, disk: D, sheet: &Sheet) -> Option<Store<D
     requires saved { Leaves (IsSheetImage sheet.now.contents) (D.view disk).history.now }
     ensures { IfSome result (λ store. store.sheet.contents ≡ sheet.now.contents) }
 {
+    // Only the clauses speak of it.
     let _sheet = sheet;
     match Store::open(alloc, disk) {
         Ok(store) => Some(store),

@@ -22,6 +22,7 @@ fn open_saved<D: Disk>(alloc: Global, disk: D, sheet: &Sheet) -> Option<Host<D>>
     ensures { IfSome result (λ host. (w : World) × IsHost host w
         × IsCopy sheet.now.contents w host.store.disk) }
 {
+    // Only the clauses speak of it.
     let _sheet = sheet;
     match Host::open(alloc, disk) {
         Ok(host) => Some(host),

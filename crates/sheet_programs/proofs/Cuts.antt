@@ -24,7 +24,7 @@ use Rattle.sheet_text.specs.declared.script.ScriptLine.{ScriptLine}
 use Rattle.sheet_text.specs.declared.script.ScriptLine.TheVariants as line
 use Rattle.sheet_programs.specs.Strict.{is_bad, is_wrong}
 use Rattle.sheet_programs.specs.Together.{Joins, lines_events, line_events, may_join}
-use Rattle.sheet_programs.specs.inside.Strictly.{counted_if, is_change}
+use Rattle.sheet_programs.specs.inside.Grouping.{AllWait, counted_if, may_wait, outcome_wrong}
 use Rattle.session_engine.specs.Groups.{LastRefused, StopsAtRefusal, behind_one, is_refusal, is_refused, nowhere}
 use Rattle.sheet_programs.proofs.Grouped.{IsEdit, beats_from}
 
@@ -65,6 +65,14 @@ wrong_from w (e ∷ es) (o ∷ os) v all runs =
     ∙ ap (λ (b : Bool). b || list_any is_wrong (told (beats_from es os))) (spoken_wrong o.reply (gives_told w e o runs.0 all.0 runs.1))
     ∙ ap (λ (b : Bool). is_refusal o || b) (wrong_from runs.0 es os v all.1 runs.2)
 
+-- so its outcome is wrong where it is a refusal
+pub outcomes_wrong : (w : World) (es : List Event) (os : List Outcome) (v : World) → AllByRecursion IsEdit es → Runs w es os v → list_any outcome_wrong os ≡ list_any is_refusal os
+outcomes_wrong w [] [] v all runs = refl
+outcomes_wrong w [] (o ∷ os) v all runs = absurd runs
+outcomes_wrong w (e ∷ es) [] v all runs = absurd runs
+outcomes_wrong w (e ∷ es) (o ∷ os) v all runs =
+    ap (λ (b : Bool). b || list_any outcome_wrong os) (gives_told w e o runs.0 all.0 runs.1) ∙ ap (λ (b : Bool). is_refusal o || b) (outcomes_wrong runs.0 es os v all.1 runs.2)
+
 -- The last of them.
 
 abbrev pub beat_of : Event → Outcome → Beat
@@ -100,24 +108,25 @@ last_run w (e ∷ es) (o ∷ os) last v runs =
 
 -- The lines that wait.
 
+-- In a strict run each is a command.
 abbrev pub AllChange : List (List ℕ) → Type 0
-AllChange lines = AllByRecursion (λ l. is_change (line_of l) ≡ true) lines
+AllChange lines = AllWait true lines
 
-pub changes : (x : Option ScriptLine) → is_change x ≡ true → (c : Command) × (x ≡ Some (line.Command c))
+pub changes : (x : Option ScriptLine) → may_wait true x ≡ true → (c : Command) × (x ≡ Some (line.Command c))
 changes None not_so = absurd (false≢true not_so)
 changes (Some line.Skip) not_so = absurd (false≢true not_so)
 changes (Some (line.Command c)) so = (c, refl)
 changes (Some line.Wait) not_so = absurd (false≢true not_so)
 changes (Some line.Print) not_so = absurd (false≢true not_so)
 
-pub change_joins : (x : Option ScriptLine) → is_change x ≡ true → may_join x ≡ true
-change_joins None not_so = absurd (false≢true not_so)
-change_joins (Some line.Skip) not_so = absurd (false≢true not_so)
-change_joins (Some (line.Command c)) so = so
-change_joins (Some line.Wait) not_so = absurd (false≢true not_so)
-change_joins (Some line.Print) not_so = absurd (false≢true not_so)
+pub wait_joins : (strict : Bool) (x : Option ScriptLine) → may_wait strict x ≡ true → may_join x ≡ true
+wait_joins strict None not_so = absurd (false≢true not_so)
+wait_joins strict (Some line.Skip) so = refl
+wait_joins strict (Some (line.Command c)) so = so
+wait_joins strict (Some line.Wait) not_so = absurd (false≢true not_so)
+wait_joins strict (Some line.Print) not_so = absurd (false≢true not_so)
 
-pub change_good : (x : Option ScriptLine) → is_change x ≡ true → not (is_some x) ≡ false
+pub change_good : (x : Option ScriptLine) → may_wait true x ≡ true → not (is_some x) ≡ false
 change_good None not_so = absurd (false≢true not_so)
 change_good (Some said) so = refl
 
@@ -128,7 +137,7 @@ pub none_bad : (lines : List (List ℕ)) → AllChange lines → list_any is_bad
 none_bad [] each = refl
 none_bad (l ∷ ls) each = neither (is_bad l) (list_any is_bad ls) (change_good (line_of l) each.0) (none_bad ls each.1)
 
-asks_of : (l : List ℕ) (so : is_change (line_of l) ≡ true) → line_events (line_of l) ≡ event.Command (changes (line_of l) so).0 ∷ []
+asks_of : (l : List ℕ) (so : may_wait true (line_of l) ≡ true) → line_events (line_of l) ≡ event.Command (changes (line_of l) so).0 ∷ []
 asks_of l so = ap (λ (x : Option ScriptLine). line_events x) (changes (line_of l) so).1
 
 -- each asks for one event
@@ -157,7 +166,7 @@ cut (l ∷ ls) [] e rest each are =
     let all = are ∙ ap (λ (x : List Event). x ++ lines_events ls) says in
     let head : e ≡ event.Command (changes (line_of l) each.0).0 = cc in
     let asks : line_events (line_of l) ≡ e ∷ [] = says ∙ ap (λ (x : Event). x ∷ []) (sym head) in
-    record { group = []; next = l; more = ls; split = refl; joins = record { each = (change_joins (line_of l) each.0, tt); are = ap (λ (x : List Event). x ++ []) (sym asks) }; asks = asks; count = refl }
+    record { group = []; next = l; more = ls; split = refl; joins = record { each = (wait_joins true (line_of l) each.0, tt); are = ap (λ (x : List Event). x ++ []) (sym asks) }; asks = asks; count = refl }
 cut (l ∷ ls) (x ∷ xs) e rest each are =
     let says = asks_of l each.0 in
     let all = are ∙ ap (λ (y : List Event). y ++ lines_events ls) says in
@@ -170,30 +179,10 @@ cut (l ∷ ls) (x ∷ xs) e rest each are =
       next = r.next;
       more = r.more;
       split = ap (λ (y : List (List ℕ)). l ∷ y) r.split;
-      joins = record { each = (change_joins (line_of l) each.0, r.joins.each); are = ap (λ (y : List Event). x ∷ y) r.joins.are ∙ ap (λ (y : List Event). y ++ lines_events (r.group ++ r.next ∷ [])) (sym asks) };
+      joins = record { each = (wait_joins true (line_of l) each.0, r.joins.each); are = ap (λ (y : List Event). x ∷ y) r.joins.are ∙ ap (λ (y : List Event). y ++ lines_events (r.group ++ r.next ∷ [])) (sym asks) };
       asks = r.asks;
       count = let same = r.count in omega (arith, same);
     }
-
--- a single one
-pub record OnlyLine (lines : List (List ℕ)) (e : Event) : Type 0 where
-  pub next : List ℕ
-  pub said : Command
-  pub split : lines ≡ next ∷ []
-  pub says : line_of next ≡ Some (line.Command said)
-  pub is : e ≡ event.Command said
-
-pub only_line : (lines : List (List ℕ)) (e : Event) → AllChange lines → e ∷ [] ≡ lines_events lines → OnlyLine lines e
-only_line [] e each are = cc
-only_line (l ∷ []) e each are =
-    let says = asks_of l each.0 in
-    let all = are ∙ ap (λ (x : List Event). x ++ []) says in
-    let head : e ≡ event.Command (changes (line_of l) each.0).0 = cc in
-    record { next = l; said = (changes (line_of l) each.0).0; split = refl; says = (changes (line_of l) each.0).1; is = head }
-only_line (l ∷ m ∷ ls) e each are =
-    let count = ap length are in
-    let two = one_each (l ∷ m ∷ ls) each in
-    absurd (omega (arith, count, two))
 
 pub none_waits : (lines : List (List ℕ)) → AllChange lines → [] ≡ lines_events lines → lines ≡ []
 none_waits [] each are = refl

@@ -1,7 +1,7 @@
 -- Commands that only change the worksheet, taken together.
-use Rattle.std.proofs.Common.{◌≡◌, ◌≤◌, ℕ, true, List, [], ◌∷◌, ◌++◌, inl, inr, Option, Some, None, refl, ap, sym, ◌∙◌, subst, append-nil, length, arith}
+use Rattle.std.proofs.Common.{◌≡◌, ◌≤◌, ℕ, true, false, List, [], ◌∷◌, ◌++◌, inl, inr, Option, Some, None, refl, ap, sym, ◌∙◌, subst, append-nil, length, arith}
 use Rattle.std.proofs.lemmas.Bool.{false≢true}
-use Rattle.std.specs.Prelude.{is_some}
+use Rattle.std.specs.Prelude.{Bool, is_some}
 use Rattle.std.specs.List.{AllByRecursion}
 use Rattle.disk_model.specs.Disk.{DiskView, Leaves, LeavesOnly, Rises, SameDisk}
 use Rattle.recovery.specs.Sheets.{IsSheetImage, IsSheetOf}
@@ -23,7 +23,7 @@ use Rattle.session_engine.specs.Does.{CommandDoes, Does, Gives, Runs}
 use Rattle.session_engine.specs.Host.{HostView, IsHost}
 use Rattle.session_engine.specs.Faults.{CauseOf}
 use Rattle.session_engine.specs.Gathers.{FlushesTo}
-use Rattle.session_engine.specs.Groups.{FailedGroup, NoGroup, StoppedGroup, TookGroup}
+use Rattle.session_engine.specs.Groups.{FailedGroup, HaltsGroup, StoppedGroup}
 use Rattle.child_edge.specs.Faithful.{at, Beat}
 use Rattle.child_edge.specs.Moments.{events_of, outcomes_of}
 use Rattle.child_edge.specs.Told.{spoken, told}
@@ -34,9 +34,11 @@ use Rattle.sheet_text.specs.declared.script.ScriptLine.{ScriptLine}
 use Rattle.sheet_text.specs.declared.script.ScriptLine.TheVariants as line
 use Rattle.sheet_programs.specs.Lines.{beats_text}
 use Rattle.sheet_programs.specs.Together.{Alone, GroupBroke, GroupDone, GroupTaken, Joins, LeavesEither, lines_events, line_events, may_join, most_commands}
-use Rattle.sheet_programs.specs.inside.Strictly.{KeptUpTo}
-use Rattle.session_engine.specs.Groups as upto
-use Rattle.sheet_programs.specs.inside.Grouping.{GroupKept, outcome_text, outcomes_text}
+use Rattle.session_engine.specs.inside.Until.{HaltsBy, TookBy}
+use Rattle.session_engine.specs.declared.play.GroupFault.{GroupFault}
+use Rattle.session_engine.specs.declared.play.GroupFault.TheVariants as halt
+use Rattle.sheet_programs.specs.Strict.{LastIf}
+use Rattle.sheet_programs.specs.inside.Grouping.{GroupKept, KeptUpTo, outcome_text, outcomes_text}
 
 -- Such commands have no effect.
 
@@ -91,6 +93,25 @@ edit_fault w (event.Command c) old new faults.Disk edit kept cause = kept refl
 edit_fault w (event.Command c) old new faults.OutOfMemory edit kept cause = false≢true cause.1
 edit_fault w (event.Command c) old new faults.JournalFull edit kept cause = false≢true cause.1
 
+-- in a strict run the last of those that aren't reported alone may be a refusal
+pub halts_broke : (strict : Bool) (w : World) (events : List Event) (old new : HostView) → HaltsBy strict w events old new halt.Disk → (p : FailedGroup w events old new) × LastIf strict p.untold
+halts_broke false w events old new p = (p, tt)
+halts_broke true w events old new p = p
+
+-- a fault at which none of the events was taken
+abbrev pub TakesNone : GroupFault → Type 0
+TakesNone (halt.Checkpoint back) = Unit {0}
+TakesNone (halt.NoRoom back) = Unit {0}
+TakesNone (halt.Stopped outcomes f) = ⊥
+TakesNone halt.Disk = ⊥
+
+pub halts_group : (strict : Bool) (w : World) (events : List Event) (old new : HostView) (fault : GroupFault) → HaltsBy strict w events old new fault → HaltsGroup w events old new fault
+halts_group false w events old new fault p = p
+halts_group true w events old new (halt.Checkpoint back) p = p
+halts_group true w events old new (halt.NoRoom back) p = p
+halts_group true w events old new (halt.Stopped outcomes f) p = p.0
+halts_group true w events old new halt.Disk p = p.0
+
 pub never_stopped : (lines : List (List ℕ)) (w : World) (events : List Event) (old new : HostView) (outcomes : List Outcome) (f : HostFault) → Joins lines events → StoppedGroup w events old new outcomes f → ⊥
 never_stopped lines w events old new outcomes f joins s =
     let all = subst (λ (es : List Event). AllByRecursion IsEdit es) s.played.split (joined_edits lines events joins) in
@@ -108,15 +129,6 @@ module _ (w : World) (old new : HostView) (before : old.store.real ≡ old.store
   pub same_plain : SameDisk old.store.real new.store.real → SameDisk old.store.disk new.store.disk
   same_plain same = subst (λ (d : DiskView). SameDisk old.store.disk d) after (subst (λ (d : DiskView). SameDisk d new.store.real) before same)
 
-  abbrev pub group_kept : (events : List Event) (outcomes : List Outcome) → TookGroup w events outcomes old new → GroupKept w events old new
-  group_kept events outcomes p = record {
-    told = outcomes;
-    leads = p.played.leads;
-    runs = subst (λ (es : List Event). Runs w es outcomes p.played.leads) (sym (append-nil p.played.done) ∙ sym p.played.split) p.played.runs;
-    stands = p.played.stands;
-    moments = plain p.played.leads p.moments;
-  }
-
   abbrev pub group_broke : (lines : List (List ℕ)) (events : List Event) → Joins lines events → SameDisk old.store.real new.store.real → FailedGroup w events old new → GroupBroke lines w old.store.disk new
   group_broke lines events joins same p = record {
     taken = p.played.done;
@@ -133,17 +145,40 @@ module _ (w : World) (old new : HostView) (before : old.store.real ≡ old.store
     moments = plain p.played.leads p.moments;
   }
 
-  abbrev pub kept_up_to : (events : List Event) (outcomes : List Outcome) → upto.TookUpTo w events outcomes old new → KeptUpTo w events old new
-  kept_up_to events outcomes p = record {
-    done = p.played.done;
-    rest = p.rest;
-    split = p.played.split;
-    kept = record { told = outcomes; leads = p.played.leads; runs = p.played.runs; stands = p.played.stands; moments = plain p.played.leads p.moments };
-    stops = p.stops;
-  }
+  pub kept_up_to : (strict : Bool) (events : List Event) (outcomes : List Outcome) → TookBy strict w events outcomes old new → (p : KeptUpTo strict w events old new) × (p.kept.told ≡ outcomes)
+  kept_up_to false events outcomes p = (
+    record {
+      done = events;
+      rest = [];
+      split = sym (append-nil events);
+      kept = record {
+        told = outcomes;
+        leads = p.played.leads;
+        runs = subst (λ (es : List Event). Runs w es outcomes p.played.leads) (sym (append-nil p.played.done) ∙ sym p.played.split) p.played.runs;
+        stands = p.played.stands;
+        moments = plain p.played.leads p.moments;
+      };
+      ends = refl;
+    },
+    refl,
+  )
+  kept_up_to true events outcomes p = (
+    record {
+      done = p.played.done;
+      rest = p.rest;
+      split = p.played.split;
+      kept = record { told = outcomes; leads = p.played.leads; runs = p.played.runs; stands = p.played.stands; moments = plain p.played.leads p.moments };
+      ends = p.stops;
+    },
+    refl,
+  )
 
-  pub no_group_disk : (events back : List Event) → old.store.owed ≡ [] → NoGroup w events back old new → new.store.disk ≡ old.store.disk
-  no_group_disk events back owed p = sym after ∙ p.untouched owed ∙ before
+  -- where no event was taken the disk is as it was
+  pub as_before : (events : List Event) → old.store.owed ≡ [] → (fault : GroupFault) → TakesNone fault → HaltsGroup w events old new fault → IsHost new w × (new.store.disk ≡ old.store.disk)
+  as_before events owed (halt.Checkpoint back) is p = (subst (λ (x : HostView). IsHost x w) (sym p.2) stands, ap (λ (x : HostView). x.store.disk) p.2)
+  as_before events owed (halt.NoRoom back) is p = (p.stands, sym after ∙ p.untouched owed ∙ before)
+  as_before events owed (halt.Stopped outcomes f) is p = absurd is
+  as_before events owed halt.Disk is p = absurd is
 
 -- The entries of events that have no effect.
 

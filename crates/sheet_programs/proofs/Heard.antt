@@ -21,10 +21,10 @@ use Rattle.child_edge.proofs.Stepping.{came_begun, came_so_far}
 use Rattle.sheet_text.specs.Texts.{reply_text}
 use Rattle.sheet_text.specs.declared.script.ScriptLine.TheVariants as line
 use Rattle.offline_programs.specs.Memory.{replies_text}
-use Rattle.sheet_programs.specs.Lines.{whole, up_to, so_far, beats_text}
-use Rattle.sheet_programs.specs.Strict.{is_wrong}
-use Rattle.sheet_programs.specs.Told.{LineFailed, fault_of_cause}
-use Rattle.sheet_programs.specs.inside.Taking.{LineTook}
+use Rattle.sheet_programs.specs.Records.{brought, left}
+use Rattle.sheet_programs.specs.Lines.{wait_up_to, waited_so_far, whole, up_to, so_far, beats_text}
+use Rattle.sheet_programs.specs.Strict.{LineTook, is_wrong}
+use Rattle.sheet_programs.specs.Told.{LineFailed, LineUnwritten, fault_of_cause, line_refused, line_stopped, line_unwritten}
 use Rattle.sheet_programs.proofs.Stricts.{wrong_on}
 use Rattle.offline_programs.specs.declared.fault.RunFault.{RunFault}
 use Rattle.offline_programs.specs.declared.fault.RunFault.TheVariants as fault
@@ -78,10 +78,9 @@ module _ {C : Type 0} (R : Relation C) where
     wrote-same is wrote = subst (Appends a e) (append-nil (beats_text so.beats)) (Appends-trans a b e (beats_text so.beats) [] so.wrote (subst (λ (l : List Reply). Appends b e (replies_text l)) is wrote))
 
     pub all_heard : (number : ℕ) → Stepped R wait s so.beats so.leads h g c d [] replies false → Appends b e (replies_text replies)
-        → LineTook R number (Some line.Wait) s g d a e wrong
+        → LineTook R number (Some line.Wait) s (left g d a e) wrong
     all_heard number p wrote = (
-      so.beats,
-      beats_text so.beats,
+      brought so.beats (beats_text so.beats),
       so.leads,
       (unmoved (λ t. Waited R most_turns s so.beats t) p.1 p.2 p.0, refl),
       subst (λ (y : HostView). IsHost y so.leads) (sym p.1) so.stands,
@@ -92,31 +91,27 @@ module _ {C : Type 0} (R : Relation C) where
     pub wait_failed : (why : EdgeCause) → ByCause why
         (BrokeOff (λ cs x t. WaitStopped R most_turns s (so.beats ++ cs) x t) [] g d replies)
         (Came R wait s so.beats (at so.leads c h.store.disk) × (g ≡ h) × (d ≡ c) × (replies ≡ []))
-        → Appends b e (replies_text replies) → LineFailed R (Some line.Wait) s g d a e (fault_of_cause why)
-    wait_failed (cause.Host f) p wrote = (so.beats ++ p.beats, p.failed, p.leads, p.disk, p.form, p.stopped, wrote-on p.beats p.replied wrote)
-    wait_failed cause.OutOfMemory p wrote = (
-      so.beats,
-      so.leads,
-      unmoved (λ t. WaitSoFar R most_turns s so.beats t) p.1 p.2 (came_so_far R wait s so.beats (at so.leads c h.store.disk) p.0),
-      subst (λ (y : HostView). IsHost y so.leads) (sym p.1) so.stands,
-      wrote-same p.3 wrote,
-    )
+        → Appends b e (replies_text replies) → LineFailed R (Some line.Wait) s (left g d a e) (fault_of_cause why)
+    wait_failed (cause.Host f) p wrote = line_stopped f (so.beats ++ p.beats) p.failed p.leads p.disk (wait_up_to p.form) p.stopped (wrote-on p.beats p.replied wrote)
+    wait_failed cause.OutOfMemory p wrote =
+        line_refused so.beats so.leads (waited_so_far (unmoved (λ t. WaitSoFar R most_turns s so.beats t) p.1 p.2 (came_so_far R wait s so.beats (at so.leads c h.store.disk) p.0)))
+        (subst (λ (y : HostView). IsHost y so.leads) (sym p.1) so.stands) (wrote-same p.3 wrote)
 
-    pub wait_unwritten : (r : Result Bool EdgeCause) (f : RunFault) → StepGave R wait s so.beats so.leads h g c d [] replies r → f ≡ fault.Output → LineFailed R (Some line.Wait) s g d a e f
-    wait_unwritten r f gave is = subst (LineFailed R (Some line.Wait) s g d a e) (sym is) (go r gave)
+    pub wait_unwritten : (r : Result Bool EdgeCause) (f : RunFault) → StepGave R wait s so.beats so.leads h g c d [] replies r → f ≡ fault.Output → LineFailed R (Some line.Wait) s (left g d a e) f
+    wait_unwritten r f gave is = subst (LineFailed R (Some line.Wait) s (left g d a e)) (sym is) (line_unwritten (go r gave))
       where
-        go : (x : Result Bool EdgeCause) → StepGave R wait s so.beats so.leads h g c d [] replies x → LineFailed R (Some line.Wait) s g d a e fault.Output
-        go (Ok true) p = (p.0.leads, g.store.disk, so_far (so.beats ++ p.0.beats) (came_so_far R wait s (so.beats ++ p.0.beats) (at p.0.leads d g.store.disk) p.0.form), inl (p.0.stands, refl))
+        go : (x : Result Bool EdgeCause) → StepGave R wait s so.beats so.leads h g c d [] replies x → LineUnwritten R (Some line.Wait) s (left g d a e)
+        go (Ok true) p = (p.0.leads, g.store.disk, so_far (so.beats ++ p.0.beats) (waited_so_far (came_so_far R wait s (so.beats ++ p.0.beats) (at p.0.leads d g.store.disk) p.0.form)), inl (p.0.stands, refl))
         go (Ok false) p = (
           so.leads,
           g.store.disk,
-          whole 0 so.beats (beats_text so.beats) (unmoved (λ t. Waited R most_turns s so.beats t) p.0.1 p.0.2 p.0.0, refl),
+          whole 0 (brought so.beats (beats_text so.beats)) (unmoved (λ t. Waited R most_turns s so.beats t) p.0.1 p.0.2 p.0.0, refl),
           inl (subst (λ (y : HostView). IsHost y so.leads) (sym p.0.1) so.stands, refl),
         )
-        go (Err (cause.Host x)) p = (p.1.leads, p.1.disk, up_to (so.beats ++ p.1.beats) p.1.failed p.1.form, inr (p.1.failed, x, p.1.stopped))
+        go (Err (cause.Host x)) p = (p.1.leads, p.1.disk, up_to (so.beats ++ p.1.beats) p.1.failed (wait_up_to p.1.form), inr (p.1.failed, x, p.1.stopped))
         go (Err cause.OutOfMemory) p = (
           so.leads,
           g.store.disk,
-          so_far so.beats (unmoved (λ t. WaitSoFar R most_turns s so.beats t) p.1.1 p.1.2 (came_so_far R wait s so.beats (at so.leads c h.store.disk) p.1.0)),
+          so_far so.beats (waited_so_far (unmoved (λ t. WaitSoFar R most_turns s so.beats t) p.1.1 p.1.2 (came_so_far R wait s so.beats (at so.leads c h.store.disk) p.1.0))),
           inl (subst (λ (y : HostView). IsHost y so.leads) (sym p.1.1) so.stands, refl),
         )

@@ -1,10 +1,13 @@
 pub mod Stricts
 pub mod Courses
 pub mod Runs
+pub mod Timelines
+pub mod Endings
 pub mod Grouped
+pub mod Done
 pub mod Stretches
+pub mod Reading
 pub mod Commands
 pub mod Heard
 pub mod Cuts
-pub mod Rights
 pub mod Refusals

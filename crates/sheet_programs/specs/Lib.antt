@@ -1,3 +1,4 @@
+pub mod Records
 pub mod Together
 pub mod Lines
 pub mod Told

@@ -12,6 +12,7 @@ use Rattle.child_edge.specs.Faithful.{Relation, At, at, Beat}
 use Rattle.child_edge.specs.Edge.{Stopped}
 use Rattle.child_edge.specs.Moments.{LeavesFronts, LeavesFrontsUpTo}
 use Rattle.sheet_text.specs.declared.script.ScriptLine.{ScriptLine}
+use Rattle.sheet_programs.specs.Records.{Brought, Left}
 use Rattle.sheet_programs.specs.Lines.{LineDone, LineUpTo, LineSoFar, LineLed, beats_text}
 use Rattle.offline_programs.specs.declared.fault.RunFault.{RunFault}
 use Rattle.offline_programs.specs.declared.fault.RunFault.TheVariants as fault
@@ -21,8 +22,8 @@ fault_of_cause (cause.Host f) = fault.Host f
 fault_of_cause cause.OutOfMemory = fault.OutOfMemory
 
 -- The line was done, and what it gave is written.
-abbrev pub LineWrote : {C : Type 0} → Relation C → ℕ → Option ScriptLine → At C → HostView → C → Option (List ℕ) → Option (List ℕ) → Type 0
-LineWrote R number l s h c a b = (beats : List Beat) × (text : List ℕ) × (t : World) × LineDone R number l s beats text (at t c h.store.disk) × IsHost h t × Appends a b text
+abbrev pub LineWrote : {C : Type 0} → Relation C → ℕ → Option ScriptLine → At C → Left C → Type 0
+LineWrote R number l s left = (it : Brought) × (t : World) × LineDone R number l s it (at t left.sources left.host.store.disk) × IsHost left.host t × Appends left.out left.now it.text
 
 -- the host goes on in this world and on this disk, or it has stopped after them
 abbrev pub StandsOrStopped : HostView → World → DiskView → Type 0
@@ -36,14 +37,14 @@ LeavesFrontsAnyhow w beats old h t d =
     (IsHost h t × (d ≡ h.store.disk) × LeavesFronts w beats old h.store.disk)
     ⊎ ((e : Event) × (f : HostFault) × Stopped d h t e f × LeavesFrontsUpTo w beats e f old h.store.disk)
 
+-- The line, or a part of it, was taken, and what it gave couldn't be written.
+abbrev pub LineUnwritten : {C : Type 0} → Relation C → Option ScriptLine → At C → Left C → Type 0
+LineUnwritten R l s left = (t : World) × (d : DiskView) × LineLed R l s (at t left.sources d) × StandsOrStopped left.host t d
+
 -- What a line's fault leaves: what was returned before is written, except where the writer failed.
-abbrev pub LineFailed : {C : Type 0} → Relation C → Option ScriptLine → At C → HostView → C → Option (List ℕ) → Option (List ℕ) → RunFault → Type 0
-LineFailed R l s h c a b (fault.Host f) =
-    (beats : List Beat) × (e : Event) × (t : World) × (d : DiskView) × LineUpTo R l s beats e (at t c d) × Stopped d h t e f × Appends a b (beats_text beats)
-LineFailed R l s h c a b fault.OutOfMemory =
-    (beats : List Beat) × (t : World) × LineSoFar R l s beats (at t c h.store.disk) × IsHost h t × Appends a b (beats_text beats)
-LineFailed R l s h c a b fault.Output = (t : World) × (d : DiskView) × LineLed R l s (at t c d) × StandsOrStopped h t d
-LineFailed R l s h c a b fault.Input = ⊥
-LineFailed R l s h c a b fault.InputTooLong = ⊥
-LineFailed R l s h c a b (fault.Open why) = ⊥
-LineFailed R l s h c a b fault.InUse = ⊥
+pub data LineFailed {C : Type 0} (R : Relation C) (l : Option ScriptLine) (s : At C) (left : Left C) : RunFault → Type 0 where
+  line_stopped : (f : HostFault) (beats : List Beat) (e : Event) (t : World) (d : DiskView) → LineUpTo R s beats e (at t left.sources d) l → Stopped d left.host t e f
+      → Appends left.out left.now (beats_text beats) → LineFailed R l s left (fault.Host f)
+  line_refused : (beats : List Beat) (t : World) → LineSoFar R s beats (at t left.sources left.host.store.disk) l → IsHost left.host t
+      → Appends left.out left.now (beats_text beats) → LineFailed R l s left fault.OutOfMemory
+  line_unwritten : LineUnwritten R l s left → LineFailed R l s left fault.Output

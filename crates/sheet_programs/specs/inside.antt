@@ -1,3 +1,2 @@
 pub mod Taking
 pub mod Grouping
-pub mod Strictly

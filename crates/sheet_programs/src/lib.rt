@@ -2,8 +2,8 @@
 //! run, strictly or not.
 #![tactic(auto)]
 
+mod groups;
 mod running;
-mod strictly;
 mod taking;
 mod together;
 

@@ -1,24 +1,20 @@
 //! A script over a worksheet on a disk, with interpreters.
-ghost use Rattle.std.specs.Prelude.{◌≡◌, ◌<◌, ◌≤◌, ◌^◌, ℕ, List, IfErr, IfOk, IfSome, IsErrOf, OnOk, false, length, true};
-ghost use Rattle.std.specs.Io.KnownBytes.{Appends};
+ghost use Rattle.std.specs.Prelude.{◌≡◌, ◌<◌, ◌≤◌, ◌^◌, IfErr, IfOk, IfSome, IsErrOf, OnOk, false, length, true};
 ghost use Rattle.disk_model.specs.Disk.{Rises, SameDisk};
 ghost use Rattle.session_engine.specs.World.{World};
 ghost use Rattle.session_engine.specs.Host.{IsHost};
-ghost use Rattle.child_edge.specs.Faithful.{At, at, Beat};
-ghost use Rattle.child_edge.specs.Seats.{running};
-ghost use Rattle.child_edge.specs.Stops.{Stops};
+ghost use Rattle.child_edge.specs.Faithful.{at};
 ghost use Rattle.offline_programs.specs.Faults.{Untouched};
 ghost use Rattle.offline_programs.specs.Input.{longest_standard_input};
 ghost use Rattle.offline_programs.specs.Memory.{script_lines};
-ghost use Rattle.sheet_programs.specs.Run.{RunDone, RunOf, TellsRun};
-ghost use Rattle.sheet_programs.specs.Strict.{LinesTaken, StrictDone, TellsStrict};
-ghost use Rattle.sheet_programs.specs.inside.Taking.{LinesFailed, LinesStopped, TellsBy};
+ghost use Rattle.sheet_programs.specs.Records.{left, manner, outside};
+ghost use Rattle.sheet_programs.specs.Strict.{RunDone, TellsRun};
+ghost use Rattle.sheet_programs.specs.inside.Taking.{LinesEnded, LinesStopped};
 ghost use Rattle.offline_programs.specs.declared.fault.RunFault.TheVariants as told;
 ghost use Rattle.journal.specs.declared.opening.OpenCause.TheVariants as opens;
 ghost use Rattle.host_events.specs.declared.outcome.HostFault.TheVariants as hosts;
 
-use crate::strictly::run_each;
-use crate::together::run_together;
+use crate::together::run_lines;
 use child_calls::Children;
 use child_edge::stop_all;
 use disk_model::Disk;
@@ -37,35 +33,6 @@ pub struct Ran<D: Disk> {
     pub answer: Result<Option<u64>, RunFault>,
 }
 
-/// Does the lines of a script. A strict run stops after the first one that goes wrong, of which it gives the
-/// number.
-fn run_lines<D: Disk, C: Children, W: Write>(
-    alloc: Global,
-    host: &mut Host<D>,
-    children: &mut C,
-    script: &[u8],
-    strict: bool,
-    writer: &mut W,
-) -> Result<Option<u64>, RunFault>
-    requires { length (script_lines script.now) < 2 ^ 32 }
-    ensures same { SameDisk host.old.store.disk host.new.store.disk }
-    ensures ok { (w : World) → IsHost host.old w → IfOk result (λ stopped. (beats : List Beat) × (text : List ℕ)
-        × (t : World) × LinesTaken C.after strict (script_lines script.now) stopped
-        (at w children.old host.old.store.disk) beats text (at t children.new host.new.store.disk)
-        × IsHost host.new t × Appends (W.contents writer.old) (W.contents writer.new) text) }
-    ensures err { (w : World) → IsHost host.old w → IfErr result (LinesFailed C.after strict
-        (script_lines script.now) (at w children.old host.old.store.disk) host.new
-        children.new (W.contents writer.old) (W.contents writer.new)) }
-{
-    if strict {
-        return run_each(alloc, host, children, script, writer);
-    }
-    match run_together(alloc, host, children, script, writer) {
-        Ok(()) => Ok(None),
-        Err(fault) => Err(fault),
-    }
-}
-
 /// Does the lines of a script, and stops each life that goes on then.
 fn run_on_host<D: Disk, C: Children, W: Write>(
     alloc: Global,
@@ -77,15 +44,12 @@ fn run_on_host<D: Disk, C: Children, W: Write>(
 ) -> Result<Option<u64>, RunFault>
     requires { length (script_lines script.now) < 2 ^ 32 }
     ensures same { SameDisk host.old.store.disk host.new.store.disk }
-    ensures ok { (w : World) → IsHost host.old w → IfOk result (λ stopped. (beats : List Beat) × (text : List ℕ)
-        × (t : At C) × LinesTaken C.after strict (script_lines script.now) stopped
-        (at w children.old host.old.store.disk) beats text t
-        × Stops C.after (running t.world) t.children children.new
-        × IsHost host.new t.world × (t.disk ≡ host.new.store.disk)
-        × Appends (W.contents writer.old) (W.contents writer.new) text) }
-    ensures err { (w : World) → IsHost host.old w → IfErr result (LinesStopped C.after strict
-        (script_lines script.now) (at w children.old host.old.store.disk) host.new
-        children.new (W.contents writer.old) (W.contents writer.new)) }
+    ensures ok { (w : World) → IsHost host.old w → IfOk result (LinesEnded (manner C.after strict)
+        (script_lines script.now) (at w children.old host.old.store.disk)
+        (left host.new children.new (W.contents writer.old) (W.contents writer.new))) }
+    ensures err { (w : World) → IsHost host.old w → IfErr result (LinesStopped (manner C.after strict)
+        (script_lines script.now) (at w children.old host.old.store.disk)
+        (left host.new children.new (W.contents writer.old) (W.contents writer.new))) }
 {
     let done = run_lines(alloc, host, children, script, strict, writer);
     stop_all(host, children);
@@ -102,14 +66,15 @@ fn run_script<R: Read, W: Write, D: Disk, C: Children>(
     strict: bool,
 ) -> Ran<D>
     ensures ran { IfOk result.answer (λ stopped. IfSome (R.remaining reader.old) (λ script.
-        RunOf C.after (LinesTaken C.after strict (script_lines script) stopped) (D.view disk)
-        children.old children.new (W.contents writer.old) (W.contents writer.new) (D.view result.disk))) }
+        RunDone (manner C.after strict) script stopped
+        (outside (D.view disk) children.old (W.contents writer.old))
+        (outside (D.view result.disk) children.new (W.contents writer.new)))) }
     ensures same { SameDisk (D.view disk) (D.view result.disk) }
     ensures short { OnOk result.answer (IfSome (R.remaining reader.old)
         (λ script. length script ≤ longest_standard_input)) }
-    ensures fault { IfErr result.answer (TellsBy strict C.after (R.remaining reader.old)
-        (D.view disk) (D.view result.disk) children.old children.new
-        (W.contents writer.old) (W.contents writer.new)
+    ensures fault { IfErr result.answer (TellsRun (manner C.after strict) (R.remaining reader.old)
+        (outside (D.view disk) children.old (W.contents writer.old))
+        (outside (D.view result.disk) children.new (W.contents writer.new))
         (((writer.new ≡ writer.old) × (children.new ≡ children.old))
         × Untouched (D.view disk) (D.view result.disk))) }
     ensures unopened { IsErrOf result.answer (told.Open opens.Disk)
@@ -174,16 +139,17 @@ pub fn run<R: Read, W: Write, D: Disk, C: Children>(
     children: &mut C,
 ) -> Ran<D>
     ensures ran { IfOk result.answer (λ stopped. IfSome (R.remaining reader.old) (λ script.
-        RunDone C.after script (D.view disk) children.old children.new
-        (W.contents writer.old) (W.contents writer.new) (D.view result.disk))) }
+        RunDone (manner C.after false) script stopped
+        (outside (D.view disk) children.old (W.contents writer.old))
+        (outside (D.view result.disk) children.new (W.contents writer.new)))) }
     ensures same { SameDisk (D.view disk) (D.view result.disk) }
 
     // A script that is too long is reported as such, whatever else would go wrong with its text.
     ensures short { OnOk result.answer (IfSome (R.remaining reader.old)
         (λ script. length script ≤ longest_standard_input)) }
-    ensures fault { IfErr result.answer (TellsRun C.after (R.remaining reader.old)
-        (D.view disk) (D.view result.disk) children.old children.new
-        (W.contents writer.old) (W.contents writer.new)
+    ensures fault { IfErr result.answer (TellsRun (manner C.after false) (R.remaining reader.old)
+        (outside (D.view disk) children.old (W.contents writer.old))
+        (outside (D.view result.disk) children.new (W.contents writer.new))
         (((writer.new ≡ writer.old) × (children.new ≡ children.old))
         × Untouched (D.view disk) (D.view result.disk))) }
 
@@ -209,14 +175,15 @@ pub fn run_strict<R: Read, W: Write, D: Disk, C: Children>(
     children: &mut C,
 ) -> Ran<D>
     ensures ran { IfOk result.answer (λ stopped. IfSome (R.remaining reader.old) (λ script.
-        StrictDone C.after script (D.view disk) children.old children.new
-        (W.contents writer.old) (W.contents writer.new) (D.view result.disk) stopped)) }
+        RunDone (manner C.after true) script stopped
+        (outside (D.view disk) children.old (W.contents writer.old))
+        (outside (D.view result.disk) children.new (W.contents writer.new)))) }
     ensures same { SameDisk (D.view disk) (D.view result.disk) }
     ensures short { OnOk result.answer (IfSome (R.remaining reader.old)
         (λ script. length script ≤ longest_standard_input)) }
-    ensures fault { IfErr result.answer (TellsStrict C.after (R.remaining reader.old)
-        (D.view disk) (D.view result.disk) children.old children.new
-        (W.contents writer.old) (W.contents writer.new)
+    ensures fault { IfErr result.answer (TellsRun (manner C.after true) (R.remaining reader.old)
+        (outside (D.view disk) children.old (W.contents writer.old))
+        (outside (D.view result.disk) children.new (W.contents writer.new))
         (((writer.new ≡ writer.old) × (children.new ≡ children.old))
         × Untouched (D.view disk) (D.view result.disk))) }
     ensures unopened { IsErrOf result.answer (told.Open opens.Disk)

@@ -1,18 +1,16 @@
 //! The lines of a script over a worksheet on a disk and its interpreters.
-ghost use Rattle.std.specs.Prelude.{◌≡◌, ◌<◌, ◌^◌, ◌||◌, ℕ, List, IfErr, IfOk, OnOk, Some, length, true};
+ghost use Rattle.std.specs.Prelude.{◌≡◌, ◌||◌, ℕ, IfErr, IfOk, OnOk, Some, true};
 ghost use Rattle.std.specs.List.{list_any};
-ghost use Rattle.std.specs.Io.KnownBytes.{Appends};
 ghost use Rattle.disk_model.specs.Disk.{SameDisk};
 ghost use Rattle.session_engine.specs.World.{World};
 ghost use Rattle.session_engine.specs.Host.{IsHost};
-ghost use Rattle.child_edge.specs.Faithful.{at, Beat};
+ghost use Rattle.child_edge.specs.Faithful.{at};
 ghost use Rattle.sheet_text.specs.Script.{line_of};
 ghost use Rattle.sheet_text.specs.declared.script.ScriptLine.TheVariants as said;
-ghost use Rattle.offline_programs.specs.Memory.{script_lines};
+ghost use Rattle.sheet_programs.specs.Records.{left};
 ghost use Rattle.sheet_programs.specs.Strict as strictly;
-ghost use Rattle.sheet_programs.specs.Strict.{LinesTaken};
+ghost use Rattle.sheet_programs.specs.Strict.{LineTook};
 ghost use Rattle.sheet_programs.specs.Told.{LineFailed, LineWrote, fault_of_cause};
-ghost use Rattle.sheet_programs.specs.inside.Taking.{LineTook, LinesFailed};
 
 use bstr::ByteSlice;
 use child_calls::Children;
@@ -47,7 +45,7 @@ fn has_lost(ended: &Option<Ended>) -> bool
 }
 
 /// Whether a reply is one by which a line goes wrong.
-fn is_wrong(reply: &Reply) -> bool
+pub(crate) fn is_wrong(reply: &Reply) -> bool
     ensures { result ≡ strictly.is_wrong reply.now }
 {
     match reply {
@@ -81,11 +79,11 @@ pub(crate) fn take_command<D: Disk, C: Children, W: Write>(
 ) -> Result<bool, RunFault>
     ensures same { SameDisk host.old.store.disk host.new.store.disk }
     ensures ok { (number : ℕ) (w : World) → IsHost host.old w → IfOk result (LineTook C.after number
-        (Some (said.Command command)) (at w children.old host.old.store.disk) host.new children.new
-        (W.contents writer.old) (W.contents writer.new)) }
+        (Some (said.Command command)) (at w children.old host.old.store.disk) (left host.new children.new
+        (W.contents writer.old) (W.contents writer.new))) }
     ensures err { (w : World) → IsHost host.old w → IfErr result (LineFailed C.after
-        (Some (said.Command command)) (at w children.old host.old.store.disk) host.new children.new
-        (W.contents writer.old) (W.contents writer.new)) }
+        (Some (said.Command command)) (at w children.old host.old.store.disk) (left host.new children.new
+        (W.contents writer.old) (W.contents writer.new))) }
 {
     match serve(alloc, host, children, command) {
         Ok(replies) => match tell_replies(replies.as_slice(), writer) {
@@ -112,11 +110,11 @@ pub fn run_command<D: Disk, C: Children, W: Write>(
 ) -> Result<(), RunFault>
     ensures same { SameDisk host.old.store.disk host.new.store.disk }
     ensures ok { (number : ℕ) (w : World) → IsHost host.old w → OnOk result (LineWrote C.after number
-        (Some (said.Command command)) (at w children.old host.old.store.disk) host.new children.new
-        (W.contents writer.old) (W.contents writer.new)) }
+        (Some (said.Command command)) (at w children.old host.old.store.disk) (left host.new children.new
+        (W.contents writer.old) (W.contents writer.new))) }
     ensures err { (w : World) → IsHost host.old w → IfErr result (LineFailed C.after
-        (Some (said.Command command)) (at w children.old host.old.store.disk) host.new children.new
-        (W.contents writer.old) (W.contents writer.new)) }
+        (Some (said.Command command)) (at w children.old host.old.store.disk) (left host.new children.new
+        (W.contents writer.old) (W.contents writer.new))) }
 {
     match take_command(alloc, host, children, command, writer) {
         Ok(_) => Ok(()),
@@ -134,11 +132,11 @@ fn run_wait<D: Disk, C: Children, W: Write>(
 ) -> Result<bool, RunFault>
     ensures same { SameDisk host.old.store.disk host.new.store.disk }
     ensures ok { (number : ℕ) (w : World) → IsHost host.old w → IfOk result (LineTook C.after number
-        (Some said.Wait) (at w children.old host.old.store.disk) host.new children.new
-        (W.contents writer.old) (W.contents writer.new)) }
+        (Some said.Wait) (at w children.old host.old.store.disk) (left host.new children.new
+        (W.contents writer.old) (W.contents writer.new))) }
     ensures err { (w : World) → IsHost host.old w → IfErr result (LineFailed C.after
-        (Some said.Wait) (at w children.old host.old.store.disk) host.new children.new
-        (W.contents writer.old) (W.contents writer.new)) }
+        (Some said.Wait) (at w children.old host.old.store.disk) (left host.new children.new
+        (W.contents writer.old) (W.contents writer.new))) }
 {
     let Ok(mut wait) = Waiting::begin(alloc, host) else {
         return Err(RunFault::OutOfMemory);
@@ -168,11 +166,11 @@ fn run_said<D: Disk, C: Children, W: Write>(
 ) -> Result<bool, RunFault>
     ensures same { SameDisk host.old.store.disk host.new.store.disk }
     ensures ok { (number : ℕ) (w : World) → IsHost host.old w → IfOk result (LineTook C.after number
-        (Some line) (at w children.old host.old.store.disk) host.new children.new
-        (W.contents writer.old) (W.contents writer.new)) }
+        (Some line) (at w children.old host.old.store.disk) (left host.new children.new
+        (W.contents writer.old) (W.contents writer.new))) }
     ensures err { (w : World) → IsHost host.old w → IfErr result (LineFailed C.after
-        (Some line) (at w children.old host.old.store.disk) host.new children.new
-        (W.contents writer.old) (W.contents writer.new)) }
+        (Some line) (at w children.old host.old.store.disk) (left host.new children.new
+        (W.contents writer.old) (W.contents writer.new))) }
 {
     match line {
         ScriptLine::Skip => Ok(false),
@@ -200,11 +198,11 @@ pub fn run_line<D: Disk, C: Children, W: Write>(
 ) -> Result<bool, RunFault>
     ensures same { SameDisk host.old.store.disk host.new.store.disk }
     ensures ok { (w : World) → IsHost host.old w → IfOk result (LineTook C.after number
-        (line_of line.now) (at w children.old host.old.store.disk) host.new children.new
-        (W.contents writer.old) (W.contents writer.new)) }
+        (line_of line.now) (at w children.old host.old.store.disk) (left host.new children.new
+        (W.contents writer.old) (W.contents writer.new))) }
     ensures err { (w : World) → IsHost host.old w → IfErr result (LineFailed C.after
-        (line_of line.now) (at w children.old host.old.store.disk) host.new children.new
-        (W.contents writer.old) (W.contents writer.new)) }
+        (line_of line.now) (at w children.old host.old.store.disk) (left host.new children.new
+        (W.contents writer.old) (W.contents writer.new))) }
 {
     match read_line(alloc, line) {
         Ok(read) => run_said(alloc, host, children, read, writer),

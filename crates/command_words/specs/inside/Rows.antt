@@ -9,7 +9,7 @@ abbrev pub rows : List (Text × Shape)
 rows =
     (codes "blocks", shape.Stream)
     ∷ (codes "create", shape.Path)
-    ∷ (codes "run", shape.Strict)
+    ∷ (codes "run", shape.Run)
     ∷ (codes "live", shape.Json)
     ∷ (codes "eval", shape.Eval)
     ∷ (codes "show", shape.Json)

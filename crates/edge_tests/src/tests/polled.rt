@@ -144,6 +144,35 @@ fn children_that_are_ready_take_turns(rt: HostRuntime) {
     assert!(rt; three_children(&rt) == Some(*b"abAB-."));
 }
 
+// The turns of two children that are ready, of which the second is stopped when the first had its turn, and another
+// is started under its name and number.
+fn turns_of_another(rt: &HostRuntime, real: &mut Real<'_>) -> Option<[u8; 2]> {
+    let first = Name::new(b"a")?;
+    let second = Name::new(b"b")?;
+    start(rt.alloc(), real, b"a", "echo; exec sleep 60")?;
+    start(rt.alloc(), real, b"b", "echo; exec sleep 60")?;
+    sleep(rt, Duration::from_secs(2));
+    let mut turns = [0; 2];
+    turns[0] = turn(real, Input::HeldBack, None);
+    real.stop(second, 1).ok()?;
+    start(rt.alloc(), real, b"b", "exec sleep 60")?;
+    turns[1] = turn(real, Input::HeldBack, Some(20));
+    real.stop(first, 1).ok()?;
+    real.stop(second, 1).ok()?;
+    Some(turns)
+}
+
+fn another_child(rt: &HostRuntime) -> Option<[u8; 2]> {
+    let mut real = real(rt, -1)?;
+    turns_of_another(rt, &mut real)
+}
+
+// The other one has nothing as yet, so it has no turn: a receive from it would wait beyond the time.
+#[test]
+fn the_turn_of_a_life_is_not_that_of_another(rt: HostRuntime) {
+    assert!(rt; another_child(&rt) == Some(*b"a-"));
+}
+
 // One line of an input that is polled and read: its first byte; `-` at the end.
 fn line(real: &mut Real<'_>, lines: &mut InputLines<PipeReader>) -> Option<u8> {
     for _ in 0..10u32 {

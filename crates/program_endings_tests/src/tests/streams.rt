@@ -1,6 +1,6 @@
 //! Streams that are read in parts of three bytes, readers and writers that fail, and one that takes all memory.
 use offline_programs::RunFault;
-use program_endings::{Ending, blocks, run_blocks};
+use program_endings::{Ending, Total, blocks, end_total, run_blocks, tell_worksheet};
 use std::alloc::Global;
 use std::io::{Read, Write};
 use tests_desk::{Exhausting, Full, InterruptedOnce, Parts, Unflushed};
@@ -140,4 +140,48 @@ fn a_full_output_is_told(rt: HostRuntime) {
                 told: false
             }
     );
+}
+
+// How a check of several worksheets ends whose total this writer doesn't take, and what it writes on its errors.
+fn ends_without_total<W: Write>(alloc: Global, writer: &mut W, said: &[u8]) -> bool {
+    let mut errors: Vec<u8> = Vec::new(alloc);
+    let ended = end_total(Total::none(), writer, &mut errors);
+    ended
+        == Ending {
+            status: 1,
+            told: true,
+        }
+        && errors.as_slice() == said
+}
+
+#[test]
+fn a_total_that_is_not_written_is_a_fault(rt: HostRuntime) {
+    assert!(rt; ends_without_total(rt.alloc(), &mut Full, b"fault 42 Output\n"));
+    assert!(rt; ends_without_total(rt.alloc(), &mut Unflushed, b"fault 42 Output\n"));
+    assert!(rt;
+        end_total(Total::none(), &mut Full, &mut Full)
+            == Ending {
+                status: 1,
+                told: false
+            }
+    );
+}
+
+// Whether this is the line above the report of the worksheet at a path.
+fn is_named(alloc: Global, path: &str, line: &[u8]) -> bool {
+    let mut out: Vec<u8> = Vec::new(alloc);
+    tell_worksheet(path, &mut out).is_ok() && out.as_slice() == line
+}
+
+#[test]
+fn a_path_is_on_one_line_which_is_flushed(rt: HostRuntime) {
+    assert!(rt; is_named(rt.alloc(), "a b/c", b"worksheet a b/c\n"));
+    assert!(rt;
+        is_named(
+            rt.alloc(),
+            "a\nworksheet b\x7f\\",
+            b"worksheet a\\x0aworksheet b\\x7f\\\n"
+        )
+    );
+    assert!(rt; tell_worksheet("a", &mut Unflushed).is_err());
 }

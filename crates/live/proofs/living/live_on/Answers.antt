@@ -3,7 +3,7 @@ use Rattle.std.specs.Prelude.{IfSome}
 use Rattle.child_edge.specs.Faithful.{at}
 use Rattle.child_edge.proofs.Faulting.{same-at, same-on}
 use Rattle.arrivals.specs.Held.{to_come}
-use Rattle.live.specs.Records.{between, edge, left}
+use Rattle.live.specs.Records.{between, edge_by, left}
 use Rattle.live.specs.Arrivals.{place}
 use Rattle.live.specs.Live.{begin_at}
 use Rattle.live.specs.Taking.{Steps}
@@ -15,7 +15,7 @@ pub loop-init : goal.loop-init
 loop-init g c = record {
   few = omega arith;
   same = same-at c.args.host.now.store.disk;
-  runs = λ w h. (none_lived (edge g.T.Tells.voice g.S.Children.after g.S.Sources.clock g.S.Sources.wakes) w c.args.host.now c.args.sources.now (record { number = 0; held = hold.Free }) (g.W.Write.contents c.args.writer.now) (to_come c.args.lines.now.held (g.R.Read.remaining c.args.lines.now.reader)) h, none_came (edge g.T.Tells.voice g.S.Children.after g.S.Sources.clock g.S.Sources.wakes) w c.args.host.now c.args.sources.now (record { number = 0; held = hold.Free }) (g.W.Write.contents c.args.writer.now) (to_come c.args.lines.now.held (g.R.Read.remaining c.args.lines.now.reader)) h);
+  runs = λ w h. (none_lived (edge_by c.args.manner g.T.Tells.voice g.S.Children.after g.S.Sources.clock g.S.Sources.wakes) w c.args.host.now c.args.sources.now (record { number = 0; held = hold.Free }) (g.W.Write.contents c.args.writer.now) (to_come c.args.lines.now.held (g.R.Read.remaining c.args.lines.now.reader)) h, none_came (edge_by c.args.manner g.T.Tells.voice g.S.Children.after g.S.Sources.clock g.S.Sources.wakes) w c.args.host.now c.args.sources.now (record { number = 0; held = hold.Free }) (g.W.Write.contents c.args.writer.now) (to_come c.args.lines.now.held (g.R.Read.remaining c.args.lines.now.reader)) h);
 }
 
 pub step-requires : goal.step-requires
@@ -27,9 +27,9 @@ returns-in-Ok-None-clause-same g c = same-on c.args.host.now.store.disk c.loop.h
 pub returns-in-Ok-None-clause-ok : goal.returns-in-Ok-None-clause-ok
 returns-in-Ok-None-clause-ok g c = λ w h.
     let so = (c.loop.invariant.runs w h).0 in
-    all_lived (edge g.T.Tells.voice g.S.Children.after g.S.Sources.clock g.S.Sources.wakes) (begin_at w c.args.sources.now c.args.host.now.store.disk) c.loop.stand c.loop.host c.loop.sources (g.W.Write.contents c.args.writer.now) (g.W.Write.contents c.loop.writer) c.step.new.host c.step.new.sources (g.W.Write.contents c.step.new.writer) (to_come c.args.lines.now.held (g.R.Read.remaining c.args.lines.now.reader)) (to_come c.loop.lines.held (g.R.Read.remaining c.loop.lines.reader)) (to_come c.step.new.lines.held (g.R.Read.remaining c.step.new.lines.reader)) so
+    all_lived (edge_by c.args.manner g.T.Tells.voice g.S.Children.after g.S.Sources.clock g.S.Sources.wakes) (begin_at w c.args.sources.now c.args.host.now.store.disk) c.loop.stand c.loop.host c.loop.sources (g.W.Write.contents c.args.writer.now) (g.W.Write.contents c.loop.writer) c.step.new.host c.step.new.sources (g.W.Write.contents c.step.new.writer) (to_come c.args.lines.now.held (g.R.Read.remaining c.args.lines.now.reader)) (to_come c.loop.lines.held (g.R.Read.remaining c.loop.lines.reader)) (to_come c.step.new.lines.held (g.R.Read.remaining c.step.new.lines.reader)) so
     (subst
-    (Steps (edge g.T.Tells.voice g.S.Children.after g.S.Sources.clock g.S.Sources.wakes) (place (at so.leads c.loop.sources c.loop.host.store.disk) c.loop.stand.number c.loop.stand.held) (left c.step.new.host c.step.new.sources (g.W.Write.contents c.loop.writer) (g.W.Write.contents c.step.new.writer)) (between (to_come c.loop.lines.held (g.R.Read.remaining c.loop.lines.reader)) (to_come c.step.new.lines.held (g.R.Read.remaining c.step.new.lines.reader))))
+    (Steps (edge_by c.args.manner g.T.Tells.voice g.S.Children.after g.S.Sources.clock g.S.Sources.wakes) (place (at so.leads c.loop.sources c.loop.host.store.disk) c.loop.stand.number c.loop.stand.held) (left c.step.new.host c.step.new.sources (g.W.Write.contents c.loop.writer) (g.W.Write.contents c.step.new.writer)) (between (to_come c.loop.lines.held (g.R.Read.remaining c.loop.lines.reader)) (to_come c.step.new.lines.held (g.R.Read.remaining c.step.new.lines.reader))))
     c.in-Ok-None.field-0-is (c.in-Ok-None.ensures.ok so.leads so.stands))
 
 pub returns-in-Err-clause-same : goal.returns-in-Err-clause-same
@@ -38,7 +38,7 @@ returns-in-Err-clause-same g c = same-on c.args.host.now.store.disk c.loop.host.
 pub returns-in-Err-clause-err : goal.returns-in-Err-clause-err
 returns-in-Err-clause-err g c = λ w h.
     let so = (c.loop.invariant.runs w h).0 in
-    living_failed (edge g.T.Tells.voice g.S.Children.after g.S.Sources.clock g.S.Sources.wakes) (begin_at w c.args.sources.now c.args.host.now.store.disk) c.loop.stand c.loop.host c.loop.sources (g.W.Write.contents c.args.writer.now) (g.W.Write.contents c.loop.writer) c.step.new.host c.step.new.sources (g.W.Write.contents c.step.new.writer) (to_come c.args.lines.now.held (g.R.Read.remaining c.args.lines.now.reader)) (to_come c.loop.lines.held (g.R.Read.remaining c.loop.lines.reader)) (to_come c.step.new.lines.held (g.R.Read.remaining c.step.new.lines.reader)) so c.in-Err.fault (c.in-Err.ensures.err so.leads so.stands)
+    living_failed (edge_by c.args.manner g.T.Tells.voice g.S.Children.after g.S.Sources.clock g.S.Sources.wakes) (begin_at w c.args.sources.now c.args.host.now.store.disk) c.loop.stand c.loop.host c.loop.sources (g.W.Write.contents c.args.writer.now) (g.W.Write.contents c.loop.writer) c.step.new.host c.step.new.sources (g.W.Write.contents c.step.new.writer) (to_come c.args.lines.now.held (g.R.Read.remaining c.args.lines.now.reader)) (to_come c.loop.lines.held (g.R.Read.remaining c.loop.lines.reader)) (to_come c.step.new.lines.held (g.R.Read.remaining c.step.new.lines.reader)) so c.in-Err.fault (c.in-Err.ensures.err so.leads so.stands)
 
 pub loop-preserved : goal.loop-preserved
 loop-preserved g c = record {
@@ -47,14 +47,14 @@ loop-preserved g c = record {
   runs = λ w h.
       let so = (c.loop.invariant.runs w h).0 in
       let step = subst
-      (Steps (edge g.T.Tells.voice g.S.Children.after g.S.Sources.clock g.S.Sources.wakes) (place (at so.leads c.loop.sources c.loop.host.store.disk) c.loop.stand.number c.loop.stand.held) (left c.step.new.host c.step.new.sources (g.W.Write.contents c.loop.writer) (g.W.Write.contents c.step.new.writer)) (between (to_come c.loop.lines.held (g.R.Read.remaining c.loop.lines.reader)) (to_come c.step.new.lines.held (g.R.Read.remaining c.step.new.lines.reader))))
+      (Steps (edge_by c.args.manner g.T.Tells.voice g.S.Children.after g.S.Sources.clock g.S.Sources.wakes) (place (at so.leads c.loop.sources c.loop.host.store.disk) c.loop.stand.number c.loop.stand.held) (left c.step.new.host c.step.new.sources (g.W.Write.contents c.loop.writer) (g.W.Write.contents c.step.new.writer)) (between (to_come c.loop.lines.held (g.R.Read.remaining c.loop.lines.reader)) (to_come c.step.new.lines.held (g.R.Read.remaining c.step.new.lines.reader))))
       c.in-Ok-Some.field-0-is (c.in-Ok-Some.ensures.ok so.leads so.stands) in
-      let behind = one_lived (edge g.T.Tells.voice g.S.Children.after g.S.Sources.clock g.S.Sources.wakes) (begin_at w c.args.sources.now c.args.host.now.store.disk) c.loop.stand c.loop.host c.loop.sources (g.W.Write.contents c.args.writer.now) (g.W.Write.contents c.loop.writer) c.step.new.host c.step.new.sources (g.W.Write.contents c.step.new.writer) (to_come c.args.lines.now.held (g.R.Read.remaining c.args.lines.now.reader)) (to_come c.loop.lines.held (g.R.Read.remaining c.loop.lines.reader)) (to_come c.step.new.lines.held (g.R.Read.remaining c.step.new.lines.reader)) so c.in-Ok-Some.next step in (
+      let behind = one_lived (edge_by c.args.manner g.T.Tells.voice g.S.Children.after g.S.Sources.clock g.S.Sources.wakes) (begin_at w c.args.sources.now c.args.host.now.store.disk) c.loop.stand c.loop.host c.loop.sources (g.W.Write.contents c.args.writer.now) (g.W.Write.contents c.loop.writer) c.step.new.host c.step.new.sources (g.W.Write.contents c.step.new.writer) (to_come c.args.lines.now.held (g.R.Read.remaining c.args.lines.now.reader)) (to_come c.loop.lines.held (g.R.Read.remaining c.loop.lines.reader)) (to_come c.step.new.lines.held (g.R.Read.remaining c.step.new.lines.reader)) so c.in-Ok-Some.next step in (
         behind,
         omega (
           arith,
           (c.loop.invariant.runs w h).1,
-          one_came (edge g.T.Tells.voice g.S.Children.after g.S.Sources.clock g.S.Sources.wakes) (begin_at w c.args.sources.now c.args.host.now.store.disk) c.loop.stand c.loop.host c.loop.sources (g.W.Write.contents c.args.writer.now) (g.W.Write.contents c.loop.writer) c.step.new.host c.step.new.sources (g.W.Write.contents c.step.new.writer) (to_come c.args.lines.now.held (g.R.Read.remaining c.args.lines.now.reader)) (to_come c.loop.lines.held (g.R.Read.remaining c.loop.lines.reader)) (to_come c.step.new.lines.held (g.R.Read.remaining c.step.new.lines.reader)) so c.in-Ok-Some.next step,
+          one_came (edge_by c.args.manner g.T.Tells.voice g.S.Children.after g.S.Sources.clock g.S.Sources.wakes) (begin_at w c.args.sources.now c.args.host.now.store.disk) c.loop.stand c.loop.host c.loop.sources (g.W.Write.contents c.args.writer.now) (g.W.Write.contents c.loop.writer) c.step.new.host c.step.new.sources (g.W.Write.contents c.step.new.writer) (to_come c.args.lines.now.held (g.R.Read.remaining c.args.lines.now.reader)) (to_come c.loop.lines.held (g.R.Read.remaining c.loop.lines.reader)) (to_come c.step.new.lines.held (g.R.Read.remaining c.step.new.lines.reader)) so c.in-Ok-Some.next step,
         ),
       );
 }
@@ -64,4 +64,4 @@ returns-clause-same g c = c.loop.invariant.same
 
 pub returns-clause-err : goal.returns-clause-err
 returns-clause-err g c = λ w h.
-    came_too_many (edge g.T.Tells.voice g.S.Children.after g.S.Sources.clock g.S.Sources.wakes) (begin_at w c.args.sources.now c.args.host.now.store.disk) c.loop.stand (left c.loop.host c.loop.sources (g.W.Write.contents c.args.writer.now) (g.W.Write.contents c.loop.writer)) (between (to_come c.args.lines.now.held (g.R.Read.remaining c.args.lines.now.reader)) (to_come c.loop.lines.held (g.R.Read.remaining c.loop.lines.reader))) (c.loop.invariant.runs w h).0 (omega (arith, (c.loop.invariant.runs w h).1, c.loop-test.false))
+    came_too_many (edge_by c.args.manner g.T.Tells.voice g.S.Children.after g.S.Sources.clock g.S.Sources.wakes) (begin_at w c.args.sources.now c.args.host.now.store.disk) c.loop.stand (left c.loop.host c.loop.sources (g.W.Write.contents c.args.writer.now) (g.W.Write.contents c.loop.writer)) (between (to_come c.args.lines.now.held (g.R.Read.remaining c.args.lines.now.reader)) (to_come c.loop.lines.held (g.R.Read.remaining c.loop.lines.reader))) (c.loop.invariant.runs w h).0 (omega (arith, (c.loop.invariant.runs w h).1, c.loop-test.false))

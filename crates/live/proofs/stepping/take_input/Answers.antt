@@ -5,7 +5,7 @@ use Rattle.arrivals.specs.Lines.{whole, too_long}
 use Rattle.arrivals.specs.Held.{KeepsLines, to_come}
 use Rattle.std.proofs.KnownBytes.{Appends-nil}
 use Rattle.tellings.specs.declared.note.Note.TheVariants as note
-use Rattle.live.specs.Records.{between, brought, edge}
+use Rattle.live.specs.Records.{between, brought, edge_by}
 use Rattle.live.specs.declared.holding.Hold.TheVariants as hold
 use Rattle.live.specs.Arrivals.{line as the_line, part}
 use Rattle.live.specs.Taking.{TakesLines, taking}
@@ -44,7 +44,7 @@ returns-in-Ok-take_too_long-clause-ok g c = λ is_there w there h.
       (refl, same_ready old.held is_there true there c.in-TooLong.ensures.ready),
       subst (λ r. TakesLines (the_line too_long) (between (to_come old.held (g.R.Read.remaining old.reader)) (to_come new.held (g.R.Read.remaining r)))) (sym c.in-TooLong.ensures.reader)
           (line_given old.held new.held too_long (g.R.Read.remaining old.reader) c.in-TooLong.ensures.gives),
-      line_took (edge g.T.Tells.voice g.S.Children.after g.S.Sources.clock g.S.Sources.wakes) (at w c.args.sources.now c.args.host.now.store.disk) c.args.number c.args.host.now c.args.sources.now (g.W.Write.contents c.args.writer.now) (g.W.Write.contents c.take_too_long.new.writer) too_long (g.W.Write.contents c.take_too_long.new.writer) hold.Free c.in-Ok-take_too_long.held
+      line_took (edge_by c.args.manner g.T.Tells.voice g.S.Children.after g.S.Sources.clock g.S.Sources.wakes) (at w c.args.sources.now c.args.host.now.store.disk) c.args.number c.args.host.now c.args.sources.now (g.W.Write.contents c.args.writer.now) (g.W.Write.contents c.take_too_long.new.writer) too_long (g.W.Write.contents c.take_too_long.new.writer) hold.Free c.in-Ok-take_too_long.held
           (brought [] (g.T.Tells.voice.note (note.Bad (c.args.number + 1))), w, (refl, refl, refl), refl, h, c.in-Ok-take_too_long.ensures.ok)
           (c.in-Ok-take_too_long.ensures.held w h) (Appends-nil (g.W.Write.contents c.take_too_long.new.writer)),
     )
@@ -56,8 +56,8 @@ returns-in-Err-take_too_long-clause-err g c = λ is_there w there h.
     taking (the_line too_long) (refl, same_ready old.held is_there true there c.in-TooLong.ensures.ready)
     (subst (λ r. TakesLines (the_line too_long) (between (to_come old.held (g.R.Read.remaining old.reader)) (to_come new.held (g.R.Read.remaining r)))) (sym c.in-TooLong.ensures.reader)
     (line_given old.held new.held too_long (g.R.Read.remaining old.reader) c.in-TooLong.ensures.gives))
-    (line_failed (edge g.T.Tells.voice g.S.Children.after g.S.Sources.clock g.S.Sources.wakes) (at w c.args.sources.now c.args.host.now.store.disk) c.args.number c.args.host.now c.args.sources.now (g.W.Write.contents c.args.writer.now) (g.W.Write.contents c.take_too_long.new.writer) too_long c.in-Err-take_too_long.fault
-    (still_unwritten (edge g.T.Tells.voice g.S.Children.after g.S.Sources.clock g.S.Sources.wakes) (c.args.number + 1) None w c.args.host.now c.args.sources.now (g.W.Write.contents c.args.writer.now) (g.W.Write.contents c.take_too_long.new.writer) hold.Free c.in-Err-take_too_long.fault refl
+    (line_failed (edge_by c.args.manner g.T.Tells.voice g.S.Children.after g.S.Sources.clock g.S.Sources.wakes) (at w c.args.sources.now c.args.host.now.store.disk) c.args.number c.args.host.now c.args.sources.now (g.W.Write.contents c.args.writer.now) (g.W.Write.contents c.take_too_long.new.writer) too_long c.in-Err-take_too_long.fault
+    (still_unwritten (edge_by c.args.manner g.T.Tells.voice g.S.Children.after g.S.Sources.clock g.S.Sources.wakes) (c.args.number + 1) None w c.args.host.now c.args.sources.now (g.W.Write.contents c.args.writer.now) (g.W.Write.contents c.take_too_long.new.writer) hold.Free c.in-Err-take_too_long.fault refl
     (λ line. (g.T.Tells.voice.note (note.Bad line), (refl, refl, refl))) h c.in-Err-take_too_long.ensures.err))
 
 pub returns-in-Ok-fill-clause-ok : goal.returns-in-Ok-fill-clause-ok

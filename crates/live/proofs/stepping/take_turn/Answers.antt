@@ -3,42 +3,52 @@ use Rattle.std.specs.Prelude.{Some, IfErr}
 use Rattle.child_edge.specs.Faithful.{at}
 use Rattle.arrivals.specs.Held.{to_come}
 use Rattle.arrivals.specs.declared.sources.Woken.TheVariants as woken
-use Rattle.live.specs.Records.{between, edge, left, turn}
+use Rattle.live.specs.Records.{between, edge_by, left, turn}
 use Rattle.live.specs.Arrivals.{life, time_over, place}
 use Rattle.live.specs.Taking.{MayTurn, TurnFailed, TurnTook, taking}
 use Rattle.live.proofs.Coming.{keeps_all}
+use Rattle.live.proofs.InManner.{life_failed_by, time_failed_by}
 use Rattle.live.proofs.stepping.take_turn.Goals as goal
 
 pub returns-in-Input-clause-err : goal.returns-in-Input-clause-err
 returns-in-Input-clause-err g c = λ is_there w there h.
     let free = subst (MayTurn c.args.stand.held) c.in-Input.is c.requires.turn in
     subst
-    (λ t. IfErr c.take_input.result (TurnFailed (edge g.T.Tells.voice g.S.Children.after g.S.Sources.clock g.S.Sources.wakes) (place (at w c.args.sources.now c.args.host.now.store.disk) c.args.stand.number c.args.stand.held) (turn t is_there) (left c.take_input.new.host c.take_input.new.sources (g.W.Write.contents c.args.writer.now) (g.W.Write.contents c.take_input.new.writer)) (between (to_come c.args.lines.now.held (g.R.Read.remaining c.args.lines.now.reader)) (to_come c.take_input.new.lines.held (g.R.Read.remaining c.take_input.new.lines.reader)))))
+    (λ t. IfErr c.take_input.result (TurnFailed (edge_by c.args.manner g.T.Tells.voice g.S.Children.after g.S.Sources.clock g.S.Sources.wakes) (place (at w c.args.sources.now c.args.host.now.store.disk) c.args.stand.number c.args.stand.held) (turn t is_there) (left c.take_input.new.host c.take_input.new.sources (g.W.Write.contents c.args.writer.now) (g.W.Write.contents c.take_input.new.writer)) (between (to_come c.args.lines.now.held (g.R.Read.remaining c.args.lines.now.reader)) (to_come c.take_input.new.lines.held (g.R.Read.remaining c.take_input.new.lines.reader)))))
     (sym c.in-Input.is)
     (subst
-    (λ x. IfErr c.take_input.result (TurnFailed (edge g.T.Tells.voice g.S.Children.after g.S.Sources.clock g.S.Sources.wakes) (place (at w c.args.sources.now c.args.host.now.store.disk) c.args.stand.number x) (turn woken.Input is_there) (left c.take_input.new.host c.take_input.new.sources (g.W.Write.contents c.args.writer.now) (g.W.Write.contents c.take_input.new.writer)) (between (to_come c.args.lines.now.held (g.R.Read.remaining c.args.lines.now.reader)) (to_come c.take_input.new.lines.held (g.R.Read.remaining c.take_input.new.lines.reader)))))
+    (λ x. IfErr c.take_input.result (TurnFailed (edge_by c.args.manner g.T.Tells.voice g.S.Children.after g.S.Sources.clock g.S.Sources.wakes) (place (at w c.args.sources.now c.args.host.now.store.disk) c.args.stand.number x) (turn woken.Input is_there) (left c.take_input.new.host c.take_input.new.sources (g.W.Write.contents c.args.writer.now) (g.W.Write.contents c.take_input.new.writer)) (between (to_come c.args.lines.now.held (g.R.Read.remaining c.args.lines.now.reader)) (to_come c.take_input.new.lines.held (g.R.Read.remaining c.take_input.new.lines.reader)))))
     (sym free) (c.take_input.ensures.err is_there w there h))
 
 pub returns-in-Ok-clause-ok : goal.returns-in-Ok-clause-ok
 returns-in-Ok-clause-ok g c = λ is_there w there h.
     subst
-    (λ t. TurnTook (edge g.T.Tells.voice g.S.Children.after g.S.Sources.clock g.S.Sources.wakes) (place (at w c.args.sources.now c.args.host.now.store.disk) c.args.stand.number c.args.stand.held) (turn t is_there) (left c.take_life.new.host c.take_life.new.sources (g.W.Write.contents c.args.writer.now) (g.W.Write.contents c.take_life.new.writer)) (between (to_come c.args.lines.now.held (g.R.Read.remaining c.args.lines.now.reader)) (to_come c.args.lines.now.held (g.R.Read.remaining c.args.lines.now.reader))) (Some (record { number = c.args.stand.number; held = c.in-Ok.held })))
+    (λ t. TurnTook (edge_by c.args.manner g.T.Tells.voice g.S.Children.after g.S.Sources.clock g.S.Sources.wakes) (place (at w c.args.sources.now c.args.host.now.store.disk) c.args.stand.number c.args.stand.held) (turn t is_there) (left c.take_life.new.host c.take_life.new.sources (g.W.Write.contents c.args.writer.now) (g.W.Write.contents c.take_life.new.writer)) (between (to_come c.args.lines.now.held (g.R.Read.remaining c.args.lines.now.reader)) (to_come c.args.lines.now.held (g.R.Read.remaining c.args.lines.now.reader))) (Some (record { number = c.args.stand.number; held = c.in-Ok.held })))
     (sym c.in-Life.is)
     (life c.in-Life.seat, refl, keeps_all (to_come c.args.lines.now.held (g.R.Read.remaining c.args.lines.now.reader)), c.in-Ok.ensures.ok w h)
 
 pub returns-in-Err-clause-err : goal.returns-in-Err-clause-err
 returns-in-Err-clause-err g c = λ is_there w there h.
     subst
-    (λ t. TurnFailed (edge g.T.Tells.voice g.S.Children.after g.S.Sources.clock g.S.Sources.wakes) (place (at w c.args.sources.now c.args.host.now.store.disk) c.args.stand.number c.args.stand.held) (turn t is_there) (left c.take_life.new.host c.take_life.new.sources (g.W.Write.contents c.args.writer.now) (g.W.Write.contents c.take_life.new.writer)) (between (to_come c.args.lines.now.held (g.R.Read.remaining c.args.lines.now.reader)) (to_come c.args.lines.now.held (g.R.Read.remaining c.args.lines.now.reader))) c.in-Err.fault)
+    (λ t. TurnFailed (edge_by c.args.manner g.T.Tells.voice g.S.Children.after g.S.Sources.clock g.S.Sources.wakes) (place (at w c.args.sources.now c.args.host.now.store.disk) c.args.stand.number c.args.stand.held) (turn t is_there) (left c.take_life.new.host c.take_life.new.sources (g.W.Write.contents c.args.writer.now) (g.W.Write.contents c.take_life.new.writer)) (between (to_come c.args.lines.now.held (g.R.Read.remaining c.args.lines.now.reader)) (to_come c.args.lines.now.held (g.R.Read.remaining c.args.lines.now.reader))) c.in-Err.fault)
     (sym c.in-Life.is)
     (taking (life c.in-Life.seat) refl (keeps_all (to_come c.args.lines.now.held (g.R.Read.remaining c.args.lines.now.reader)))
-    (c.in-Err.ensures.err w h))
+    (life_failed_by c.args.manner g.T.Tells.voice g.S.Children.after g.S.Sources.clock g.S.Sources.wakes (place (at w c.args.sources.now c.args.host.now.store.disk) c.args.stand.number c.args.stand.held) c.in-Life.seat (left c.take_life.new.host c.take_life.new.sources (g.W.Write.contents c.args.writer.now) (g.W.Write.contents c.take_life.new.writer)) c.in-Err.fault (c.in-Err.ensures.err w h)))
 
-pub returns-in-Err-end_wait-clause-err : goal.returns-in-Err-end_wait-clause-err
-returns-in-Err-end_wait-clause-err g c = λ is_there w there h.
-    let timed = subst (MayTurn c.args.stand.held) c.in-TimeOver.is c.requires.turn in
+pub end_time-requires : goal.end_time-requires
+end_time-requires g c = subst (MayTurn c.args.stand.held) c.in-TimeOver.is c.requires.turn
+
+pub returns-in-Ok-end_time-clause-ok : goal.returns-in-Ok-end_time-clause-ok
+returns-in-Ok-end_time-clause-ok g c = λ is_there w there h.
     subst
-    (λ t. TurnFailed (edge g.T.Tells.voice g.S.Children.after g.S.Sources.clock g.S.Sources.wakes) (place (at w c.args.sources.now c.args.host.now.store.disk) c.args.stand.number c.args.stand.held) (turn t is_there) (left c.end_wait.new.host c.end_wait.new.sources (g.W.Write.contents c.args.writer.now) (g.W.Write.contents c.end_wait.new.writer)) (between (to_come c.args.lines.now.held (g.R.Read.remaining c.args.lines.now.reader)) (to_come c.args.lines.now.held (g.R.Read.remaining c.args.lines.now.reader))) c.in-Err-end_wait.fault)
+    (λ t. TurnTook (edge_by c.args.manner g.T.Tells.voice g.S.Children.after g.S.Sources.clock g.S.Sources.wakes) (place (at w c.args.sources.now c.args.host.now.store.disk) c.args.stand.number c.args.stand.held) (turn t is_there) (left c.end_time.new.host c.end_time.new.sources (g.W.Write.contents c.args.writer.now) (g.W.Write.contents c.end_time.new.writer)) (between (to_come c.args.lines.now.held (g.R.Read.remaining c.args.lines.now.reader)) (to_come c.args.lines.now.held (g.R.Read.remaining c.args.lines.now.reader))) (Some (record { number = c.args.stand.number; held = c.in-Ok-end_time.held })))
+    (sym c.in-TimeOver.is)
+    (time_over, refl, keeps_all (to_come c.args.lines.now.held (g.R.Read.remaining c.args.lines.now.reader)), c.in-Ok-end_time.ensures.ok w h)
+
+pub returns-in-Err-end_time-clause-err : goal.returns-in-Err-end_time-clause-err
+returns-in-Err-end_time-clause-err g c = λ is_there w there h.
+    subst
+    (λ t. TurnFailed (edge_by c.args.manner g.T.Tells.voice g.S.Children.after g.S.Sources.clock g.S.Sources.wakes) (place (at w c.args.sources.now c.args.host.now.store.disk) c.args.stand.number c.args.stand.held) (turn t is_there) (left c.end_time.new.host c.end_time.new.sources (g.W.Write.contents c.args.writer.now) (g.W.Write.contents c.end_time.new.writer)) (between (to_come c.args.lines.now.held (g.R.Read.remaining c.args.lines.now.reader)) (to_come c.args.lines.now.held (g.R.Read.remaining c.args.lines.now.reader))) c.in-Err-end_time.fault)
     (sym c.in-TimeOver.is)
     (taking time_over refl (keeps_all (to_come c.args.lines.now.held (g.R.Read.remaining c.args.lines.now.reader)))
-    (c.in-Err-end_wait.ensures.err c.args.stand.held w timed h))
+    (time_failed_by c.args.manner g.T.Tells.voice g.S.Children.after g.S.Sources.clock g.S.Sources.wakes (place (at w c.args.sources.now c.args.host.now.store.disk) c.args.stand.number c.args.stand.held) (left c.end_time.new.host c.end_time.new.sources (g.W.Write.contents c.args.writer.now) (g.W.Write.contents c.end_time.new.writer)) c.in-Err-end_time.fault (c.in-Err-end_time.ensures.err w h)))

@@ -1,5 +1,5 @@
 use Rattle.std.proofs.Common.{Ok, refl, subst}
-use Rattle.live.specs.Records.{edge}
+use Rattle.live.specs.Records.{edge_by}
 use Rattle.sheet_files.specs.Closing.{closable}
 use Rattle.program_endings.specs.LiveProgram.{LivesOn}
 use Rattle.program_endings.specs.LiveProgram as ends
@@ -16,7 +16,7 @@ returns-in-Ok-frame g c =
 pub returns-in-Err-frame : goal.returns-in-Err-frame
 returns-in-Err-frame g c =
     ends.unended c.in-Err-frame.fault c.frame.new.writer c.live_on.new.output refl c.in-Err-frame.ensures.err.0 c.in-Err-frame.ensures.err.1 (c.in_default.ensures.ok, c.in_default.ensures.still)
-    (subst (λ whole. LivesOn (edge g.T.Tells.voice g.S.Children.after g.S.Sources.clock g.S.Sources.wakes) (g.R.Read.remaining c.args.input.now) (given_disk (closable g.D.Disk.view g.D.Close.closed) c.args.disk)
+    (subst (λ whole. LivesOn (edge_by c.args.manner g.T.Tells.voice g.S.Children.after g.S.Sources.clock g.S.Sources.wakes) (g.R.Read.remaining c.args.input.now) (given_disk (closable g.D.Disk.view g.D.Close.closed) c.args.disk)
     (calling c.args.sources.now c.live_on.new.sources) (writing g.W.Write.contents c.frame.new.writer c.live_on.new.output) (Ok whole))
     c.in-Ok.ensures.lived.0 c.in-Ok.ensures)
 

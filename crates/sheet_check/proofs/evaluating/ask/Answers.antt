@@ -1,6 +1,7 @@
 use Rattle.std.proofs.Common.{inl, refl, sym, subst}
 use Rattle.std.proofs.lemmas.Result.{IfErr-weaker}
 use Rattle.child_edge.specs.Faithful.{at}
+use Rattle.sheet_programs.specs.Records.{brought}
 use Rattle.sheet_programs.specs.Lines.{beats_text, whole}
 use Rattle.sheet_check.specs.inside.Checking.{AskFailed, unremembered}
 use Rattle.sheet_check.proofs.Broken.{eval_broke}
@@ -17,5 +18,5 @@ returns-in-Ok-clause-err g c = λ w h.
     IfErr-weaker c.was_asked.result _ _
     (λ why is.
     subst (AskFailed g.C.Children.after c.args.id (at w c.args.sources.now c.args.host.now.store.disk) c.serve.new.host c.serve.new.children) (sym is)
-    (unremembered ran.leads c.serve.new.host.store.disk (whole 0 ran.beats (beats_text ran.beats) (ran.form, refl)) (inl (ran.stands, refl))))
+    (unremembered ran.leads c.serve.new.host.store.disk (whole 0 (brought ran.beats (beats_text ran.beats)) (ran.form, refl)) (inl (ran.stands, refl))))
     c.was_asked.ensures.err

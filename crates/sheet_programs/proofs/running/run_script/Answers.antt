@@ -2,6 +2,7 @@ use Rattle.std.proofs.Common.{◌≤◌, ap, arith, length, refl, sym, ◌∙◌
 use Rattle.std.specs.Prelude.{Err}
 use Rattle.std.proofs.lemmas.Option.{IfSome_then}
 use Rattle.session_engine.specs.World.{world_at_opening}
+use Rattle.child_edge.specs.Faithful.{at}
 use Rattle.child_edge.proofs.Faulting.{same-at, same-on}
 use Rattle.offline_programs.specs.Input.{longest_standard_input}
 use Rattle.offline_programs.proofs.Scripting.{script-few}
@@ -11,7 +12,10 @@ use Rattle.offline_programs.specs.declared.fault.RunFault.TheVariants as told
 use Rattle.host_events.specs.declared.outcome.HostFault.TheVariants as hosts
 use Rattle.journal.specs.declared.opening.OpenCause.TheVariants as opens
 use Rattle.disk_model.specs.Disk.{DiskView, Rises, SameDisk}
-use Rattle.sheet_programs.proofs.Runs.{unread_script, opened_on, done_run, broken_run, failed_since, if_err_is, if_err_then, if_ok_then, on_ok_always}
+use Rattle.sheet_programs.specs.Records.{left, manner, outside}
+use Rattle.sheet_programs.specs.Strict.{unopened}
+use Rattle.sheet_programs.proofs.Endings.{broken_run, done_run, failed_since, stopped_open, unread_script}
+use Rattle.sheet_programs.proofs.Runs.{opened_on, if_err_is, if_err_then, if_ok_then, on_ok_always}
 use Rattle.sheet_programs.proofs.running.run_script.Goals as goal
 
 pub run_on_host-answer-requires : goal.run_on_host-answer-requires
@@ -25,8 +29,12 @@ returns-in-Err-clause-same g c = same-at (g.D.Disk.view c.args.disk)
 
 pub returns-in-Err-clause-fault : goal.returns-in-Err-clause-fault
 returns-in-Err-clause-fault g c =
-    unread_script c.args.strict g.C.Children.after (g.R.Read.remaining c.args.reader.now) (g.D.Disk.view c.args.disk) (g.D.Disk.view c.args.disk) c.args.children.now c.args.children.now (g.W.Write.contents c.args.writer.now) (g.W.Write.contents c.args.writer.now) _
+    let here = outside (g.D.Disk.view c.args.disk) c.args.children.now (g.W.Write.contents c.args.writer.now) in
+    unread_script (manner g.C.Children.after c.args.strict) (g.R.Read.remaining c.args.reader.now) here here _
     c.in-Err.fault c.in-Err.ensures.faults (λ e. c.in-Err.ensures.long (ap (λ f. Err f) e)) ((refl, refl), untouched (g.D.Disk.view c.args.disk))
+
+pub returns-in-Err-open-clause-fault : goal.returns-in-Err-open-clause-fault
+returns-in-Err-open-clause-fault g c = unopened c.in-Err-open.field-0.cause ((refl, refl), c.in-Err-open.ensures.looks) c.in-Err-open.ensures.fault
 
 pub returns-clause-ran : goal.returns-clause-ran
 returns-clause-ran g c =
@@ -34,9 +42,9 @@ returns-clause-ran g c =
     let disk = g.D.Disk.view c.args.disk in
     let start = world_at_opening o.0 disk.room c.in-Ok-open.host.store.end in
     if_ok_then c.run_on_host-answer.result _ _
-    (λ stopped p. done_run g.C.Children.after c.args.strict stopped (g.R.Read.remaining c.args.reader.now) disk c.in-Ok-open.host.store.disk c.args.children.now c.run_on_host-answer.new.children (g.W.Write.contents c.args.writer.now) (g.W.Write.contents c.run_on_host-answer.new.writer)
-    (g.D.Disk.view c.close.result) c.as_slice.result.now start p.0 p.1 p.2 c.run_on_host-answer.new.host (IfSome_then (g.R.Read.remaining c.args.reader.now) c.in-Ok.ensures.whole (λ bytes e. c.as_slice.ensures.value ∙ e))
-    (opened_on disk c.in-Ok-open.host o.0 o.1 c.in-Ok-open.ensures.found c.in-Ok-open.ensures.ends c.in-Ok-open.ensures.looks) o.1.stands.images p.3 p.4 p.5 p.6 p.7 c.close.ensures)
+    (done_run (manner g.C.Children.after c.args.strict) (g.R.Read.remaining c.args.reader.now) disk c.in-Ok-open.host.store.disk c.args.children.now c.run_on_host-answer.new.children (g.W.Write.contents c.args.writer.now) (g.W.Write.contents c.run_on_host-answer.new.writer)
+    c.as_slice.result.now start c.run_on_host-answer.new.host (IfSome_then (g.R.Read.remaining c.args.reader.now) c.in-Ok.ensures.whole (λ bytes e. c.as_slice.ensures.value ∙ e))
+    (opened_on disk c.in-Ok-open.host o.0 o.1 c.in-Ok-open.ensures.found c.in-Ok-open.ensures.ends c.in-Ok-open.ensures.looks) o.1.stands.images (g.D.Disk.view c.close.result) c.close.ensures)
     (c.run_on_host-answer.ensures.ok start o.1)
 
 pub returns-clause-same : goal.returns-clause-same
@@ -54,17 +62,19 @@ returns-clause-fault g c =
     let disk = g.D.Disk.view c.args.disk in
     let start = world_at_opening o.0 disk.room c.in-Ok-open.host.store.end in
     if_err_then c.run_on_host-answer.result _ _
-    (λ f p. broken_run g.C.Children.after (g.R.Read.remaining c.args.reader.now) disk c.in-Ok-open.host.store.disk c.args.children.now c.run_on_host-answer.new.children (g.W.Write.contents c.args.writer.now) (g.W.Write.contents c.run_on_host-answer.new.writer) _
+    (λ f p. broken_run (manner g.C.Children.after c.args.strict) (g.R.Read.remaining c.args.reader.now) disk c.in-Ok-open.host.store.disk c.args.children.now c.run_on_host-answer.new.children (g.W.Write.contents c.args.writer.now) (g.W.Write.contents c.run_on_host-answer.new.writer)
     c.as_slice.result.now start c.run_on_host-answer.new.host (IfSome_then (g.R.Read.remaining c.args.reader.now) c.in-Ok.ensures.whole (λ bytes e. c.as_slice.ensures.value ∙ e))
-    (subst (λ xs. length xs ≤ longest_standard_input) (sym c.as_slice.ensures.value) c.in-Ok.ensures.short) (opened_on disk c.in-Ok-open.host o.0 o.1 c.in-Ok-open.ensures.found c.in-Ok-open.ensures.ends c.in-Ok-open.ensures.looks) o.1.stands.images
-    (g.D.Disk.view c.close.result) c.close.ensures c.args.strict f p)
+    (opened_on disk c.in-Ok-open.host o.0 o.1 c.in-Ok-open.ensures.found c.in-Ok-open.ensures.ends c.in-Ok-open.ensures.looks) o.1.stands.images (g.D.Disk.view c.close.result) c.close.ensures
+    (subst (λ xs. length xs ≤ longest_standard_input) (sym c.as_slice.ensures.value) c.in-Ok.ensures.short) _ f p)
     (c.run_on_host-answer.ensures.err start o.1)
 
 pub returns-clause-unopened : goal.returns-clause-unopened
 returns-clause-unopened g c = λ e.
     let o = c.in-Ok-open.ensures.opens in
     let start = world_at_opening o.0 (g.D.Disk.view c.args.disk).room c.in-Ok-open.host.store.end in
-    absurd (if_err_is c.run_on_host-answer.result _ (told.Open opens.Disk) e (c.run_on_host-answer.ensures.err start o.1))
+    absurd (stopped_open (manner g.C.Children.after c.args.strict) (script_lines c.as_slice.result.now) (at start c.args.children.now c.in-Ok-open.host.store.disk)
+    (left c.run_on_host-answer.new.host c.run_on_host-answer.new.children (g.W.Write.contents c.args.writer.now) (g.W.Write.contents c.run_on_host-answer.new.writer)) opens.Disk
+    (if_err_is c.run_on_host-answer.result _ (told.Open opens.Disk) e (c.run_on_host-answer.ensures.err start o.1)))
 
 pub returns-clause-failed : goal.returns-clause-failed
 returns-clause-failed g c = λ e.
@@ -72,7 +82,7 @@ returns-clause-failed g c = λ e.
     let disk = g.D.Disk.view c.args.disk in
     let host = c.run_on_host-answer.new.host in
     let start = world_at_opening o.0 disk.room c.in-Ok-open.host.store.end in
-    let stopped = if_err_is c.run_on_host-answer.result _ (told.Host hosts.Disk) e (c.run_on_host-answer.ensures.err start o.1) in
     subst (λ (v : DiskView). Rises disk.faults v.faults) (sym c.close.ensures)
-    (failed_since g.C.Children.after c.args.strict (script_lines c.as_slice.result.now) disk c.in-Ok-open.host.store.disk start c.args.children.now c.run_on_host-answer.new.children host
-    (g.W.Write.contents c.args.writer.now) (g.W.Write.contents c.run_on_host-answer.new.writer) (told.Host hosts.Disk) c.in-Ok-open.ensures.same stopped refl)
+    (failed_since (manner g.C.Children.after c.args.strict) (script_lines c.as_slice.result.now) disk c.in-Ok-open.host.store.disk start c.args.children.now
+    (left host c.run_on_host-answer.new.children (g.W.Write.contents c.args.writer.now) (g.W.Write.contents c.run_on_host-answer.new.writer)) c.in-Ok-open.ensures.same
+    (if_err_is c.run_on_host-answer.result _ (told.Host hosts.Disk) e (c.run_on_host-answer.ensures.err start o.1)))

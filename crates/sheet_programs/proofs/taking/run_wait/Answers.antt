@@ -11,27 +11,24 @@ use Rattle.child_edge.specs.Steps.{Came, Stepped}
 use Rattle.child_edge.proofs.Faulting.{same-at, same-on}
 use Rattle.offline_programs.specs.Memory.{replies_text}
 use Rattle.sheet_programs.specs.Strict.{is_wrong}
-use Rattle.sheet_programs.specs.Told.{LineFailed}
+use Rattle.sheet_programs.specs.Records.{left}
+use Rattle.sheet_programs.specs.Lines.{waited_so_far}
+use Rattle.sheet_programs.specs.Told.{LineFailed, line_refused}
 use Rattle.sheet_programs.proofs.Heard.{StepGave, none_heard, one_heard, all_heard, wait_failed, wait_unwritten}
 use Rattle.sheet_programs.proofs.taking.run_wait.Goals as goal
 
 pub returns-in_default-clause-err : goal.returns-in_default-clause-err
-returns-in_default-clause-err g c = λ w h. (
-  [],
-  w,
-  record {
-    whole = 0;
-    fits = omega arith;
-    mid = at w c.args.children.now c.args.host.now.store.disk;
-    before = [];
-    last = [];
-    turns = (refl, refl);
-    part = record { whole = 0; fits = omega arith; are_done = (refl, refl) };
-    beats = refl;
-  },
-  h,
-  Appends-nil (g.W.Write.contents c.args.writer.now),
-)
+returns-in_default-clause-err g c = λ w h.
+    line_refused [] w (waited_so_far (record {
+      whole = 0;
+      fits = omega arith;
+      mid = at w c.args.children.now c.args.host.now.store.disk;
+      before = [];
+      last = [];
+      turns = (refl, refl);
+      part = record { whole = 0; fits = omega arith; are_done = (refl, refl) };
+      beats = refl;
+    })) h (Appends-nil (g.W.Write.contents c.args.writer.now))
 
 pub loop-fault-init : goal.loop-fault-init
 loop-fault-init g c = record {
@@ -73,7 +70,7 @@ returns-in-Ok-false-clause-ok g c = λ number w h.
 pub returns-in-Err-stepped-clause-err : goal.returns-in-Err-stepped-clause-err
 returns-in-Err-stepped-clause-err g c = λ w h.
     let so = c.loop-fault.invariant.runs w h in
-    subst (LineFailed g.C.Children.after _ (at w c.args.children.now c.args.host.now.store.disk) c.next-stepped.new.host c.next-stepped.new.children (g.W.Write.contents c.args.writer.now) (g.W.Write.contents c.tell_replies.new.writer)) (sym c.run_fault.ensures)
+    subst (LineFailed g.C.Children.after _ (at w c.args.children.now c.args.host.now.store.disk) (left c.next-stepped.new.host c.next-stepped.new.children (g.W.Write.contents c.args.writer.now) (g.W.Write.contents c.tell_replies.new.writer))) (sym c.run_fault.ensures)
     (wait_failed g.C.Children.after c.loop-fault.wait c.next-stepped.new.self (at w c.args.children.now c.args.host.now.store.disk) c.loop-fault.host c.next-stepped.new.host c.loop-fault.children c.next-stepped.new.children (g.W.Write.contents c.args.writer.now) (g.W.Write.contents c.loop-fault.writer) (g.W.Write.contents c.tell_replies.new.writer) c.next-stepped.new.replies.items c.loop-fault.wrong so c.in-Err-stepped.cause
     (subst (λ x. ByCause c.in-Err-stepped.cause
     (BrokeOff (λ cs e t. WaitStopped g.C.Children.after most_turns (at w c.args.children.now c.args.host.now.store.disk) (so.beats ++ cs) e t) x c.next-stepped.new.host c.next-stepped.new.children c.next-stepped.new.replies.items)

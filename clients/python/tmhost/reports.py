@@ -1,0 +1,53 @@
+"""What a task of the program writes that reads no lines while it runs: objects, up to its end or its fault."""
+
+import os
+import subprocess
+from typing import Callable, Iterator, Optional, TypeVar, Union
+
+from .errors import Died, InUse, ProtocolError
+from .program import GRACE, Child, fault_in
+from .protocol import IN_USE, VERSION, Lines
+from .reading import End, Fault, Hello
+
+PIECE = 65_536
+
+Told = TypeVar("Told")
+
+
+def lines_of(child: Child) -> Iterator[bytes]:
+    """The lines that the program writes, each as soon as it is there."""
+    cut = Lines()
+    assert child.process.stdout is not None
+    while True:
+        piece = os.read(child.process.stdout.fileno(), PIECE)
+        if not piece:
+            return
+        yield from cut.feed(piece)
+
+
+def died(child: Child, fault: Optional[Fault]) -> Died:
+    """Why a task didn't come to its end."""
+    try:
+        status: Optional[int] = child.process.wait(GRACE)
+    except subprocess.TimeoutExpired:
+        status = None
+    said = child.said()
+    fault = fault or fault_in(said)
+    kind = InUse if fault and fault.number == IN_USE else Died
+    return kind(fault.name if fault else None, fault.number if fault else None, said, status, fault.offset if fault else None)
+
+
+def told_by(child: Child, read: "Callable[[bytes], Union[Told, Hello, Fault, End, None]]") -> Iterator[Told]:
+    """What the lines tell by this reader, but for the first and the last of them. It raises where the last is missing, or is a fault."""
+    for line in lines_of(child):
+        told = read(line)
+        if isinstance(told, Hello):
+            if told.protocol != VERSION:
+                raise ProtocolError(f"tmhost speaks the protocol {told.protocol}, and not {VERSION}")
+        elif isinstance(told, Fault):
+            raise died(child, told)
+        elif isinstance(told, End):
+            return
+        elif told is not None:
+            yield told
+    raise died(child, None)

@@ -1,0 +1,67 @@
+-- What comes of commands, interrupts, lives and times is the same in every manner.
+use Rattle.std.proofs.Common.{ℕ, List, Option, Some}
+use Rattle.host_events.specs.declared.command.Command.{Command}
+use Rattle.child_calls.specs.declared.seat.Seat.{Seat}
+use Rattle.child_edge.specs.Faithful.{Relation, At, at}
+use Rattle.sheet_text.specs.declared.script.ScriptLine.TheVariants as line
+use Rattle.sheet_text.specs.declared.live_line.LiveLine.{LiveLine}
+use Rattle.sheet_text.specs.declared.live_line.LiveLine.TheVariants as live
+use Rattle.tellings.specs.Voice.{Voice}
+use Rattle.offline_programs.specs.declared.fault.RunFault.{RunFault}
+use Rattle.live.specs.declared.holding.Hold.{Hold}
+use Rattle.live.specs.declared.manner.Manner.{Manner}
+use Rattle.live.specs.Records.{Brought, Clock, Left, Watch, edge, edge_by}
+use Rattle.live.specs.Saying.{Begins, SaidDone}
+use Rattle.live.specs.Arrivals.{Arrival, LivePlace, TakesArrival, life, time_over}
+use Rattle.live.specs.Broken.{TakesLed}
+use Rattle.live.specs.Broken as broken
+use Rattle.live.specs.Taking.{SaidLed, SaidUnwritten, SayingFailed, TakingFailed, TookUnwritten}
+use Rattle.live.specs.Taking as inside
+
+module _ {C : Type 0} (manner : Manner) (V : Voice) (R : Relation C) (K : Clock C) (W : Watch C) where
+  module _ (l : Option LiveLine) (s : At C)
+      (begins : (begun : Hold) → Begins (edge V R K W) s.children l begun → Begins (edge_by manner V R K W) s.children l begun)
+      (done : (number : ℕ) (it : Brought) (t : At C) → SaidDone (edge V R K W) number l s it t → SaidDone (edge_by manner V R K W) number l s it t) where
+    said-led : (t : At C) → SaidLed (edge V R K W) l s t → SaidLed (edge_by manner V R K W) l s t
+    said-led t (inside.all begun b f) = inside.all begun (begins begun b) (λ number. ((f number).0, done number (f number).0 t (f number).1))
+    said-led t (inside.up_to beats e q) = inside.up_to beats e q
+    said-led t (inside.none is same) = inside.none is same
+
+    said-unwritten : (leaves : Left C) → SaidUnwritten (edge V R K W) l s leaves → SaidUnwritten (edge_by manner V R K W) l s leaves
+    said-unwritten leaves q = (q.0, q.1, said-led (at q.0 leaves.sources q.1) q.2, q.3)
+
+    saying-failed : (number : ℕ) (leaves : Left C) (f : RunFault) → SayingFailed (edge V R K W) number l s leaves f → SayingFailed (edge_by manner V R K W) number l s leaves f
+    saying-failed number leaves f (inside.stopped why beats e t d q stopped wrote) = inside.stopped why beats e t d q stopped wrote
+    saying-failed number leaves f (inside.refused is t same stands wrote) = inside.refused is t same stands wrote
+    saying-failed number leaves f (inside.untold why q) = inside.untold why (said-unwritten leaves q)
+    saying-failed number leaves f (inside.unwritten q) = inside.unwritten (said-unwritten leaves q)
+
+  pub command_failed_by : (c : Command) (number : ℕ) (s : At C) (leaves : Left C) (f : RunFault) → SayingFailed (edge V R K W) number (Some (live.Script (line.Command c))) s leaves f
+      → SayingFailed (edge_by manner V R K W) number (Some (live.Script (line.Command c))) s leaves f
+  command_failed_by c number s leaves f q = saying-failed (Some (live.Script (line.Command c))) s (λ begun b. b) (λ n it t p. p) number leaves f q
+
+  pub interrupt_failed_by : (name : List ℕ) (number : ℕ) (s : At C) (leaves : Left C) (f : RunFault) → SayingFailed (edge V R K W) number (Some (live.Interrupt name)) s leaves f
+      → SayingFailed (edge_by manner V R K W) number (Some (live.Interrupt name)) s leaves f
+  interrupt_failed_by name number s leaves f q = saying-failed (Some (live.Interrupt name)) s (λ begun b. b) (λ n it t p. p) number leaves f q
+
+  module _ (p : LivePlace C) (a : Arrival) (takes : (it : Brought) (q : LivePlace C) → TakesArrival (edge V R K W) p a it q → TakesArrival (edge_by manner V R K W) p a it q) where
+    takes-led : (t : At C) → TakesLed (edge V R K W) p a t → TakesLed (edge_by manner V R K W) p a t
+    takes-led t (broken.all it q taken there) = broken.all it q (takes it q taken) there
+    takes-led t (broken.up_to beats e broke) = broken.up_to beats e broke
+    takes-led t (broken.so_far beats so) = broken.so_far beats so
+    takes-led t (broken.interrupted k text over limited front) = broken.interrupted k text over limited front
+
+    took-unwritten : (leaves : Left C) → TookUnwritten (edge V R K W) p a leaves → TookUnwritten (edge_by manner V R K W) p a leaves
+    took-unwritten leaves q = (q.0, q.1, takes-led (at q.0 leaves.sources q.1) q.2, q.3)
+
+    taking-failed : (leaves : Left C) (f : RunFault) → TakingFailed (edge V R K W) p a leaves f → TakingFailed (edge_by manner V R K W) p a leaves f
+    taking-failed leaves f (inside.stopped why beats e t d broke stopped wrote) = inside.stopped why beats e t d broke stopped wrote
+    taking-failed leaves f (inside.refused beats t so stands wrote) = inside.refused beats t so stands wrote
+    taking-failed leaves f (inside.untold why q) = inside.untold why (took-unwritten leaves q)
+    taking-failed leaves f (inside.unwritten q) = inside.unwritten (took-unwritten leaves q)
+
+  pub life_failed_by : (p : LivePlace C) (seat : Seat) (leaves : Left C) (f : RunFault) → TakingFailed (edge V R K W) p (life seat) leaves f → TakingFailed (edge_by manner V R K W) p (life seat) leaves f
+  life_failed_by p seat leaves f q = taking-failed p (life seat) (λ it x t. t) leaves f q
+
+  pub time_failed_by : (p : LivePlace C) (leaves : Left C) (f : RunFault) → TakingFailed (edge V R K W) p time_over leaves f → TakingFailed (edge_by manner V R K W) p time_over leaves f
+  time_failed_by p leaves f q = taking-failed p time_over (λ it x t. t) leaves f q

@@ -1,0 +1,131 @@
+//! What comes of the end of a wait's time.
+ghost use Rattle.std.specs.Prelude.{◌≡◌, IfErr, IfOk, OnOk};
+ghost use Rattle.disk_model.specs.Disk.{SameDisk};
+ghost use Rattle.session_engine.specs.World.{World};
+ghost use Rattle.session_engine.specs.Host.{IsHost};
+ghost use Rattle.child_edge.specs.Faithful.{at};
+ghost use Rattle.tellings.specs.Voice.{IsUntold};
+ghost use Rattle.live.specs.Records.{edge, left};
+ghost use Rattle.live.specs.Saying.{IsLimited, IsTimed, IsUntil};
+ghost use Rattle.live.specs.Arrivals.{place, time_over};
+ghost use Rattle.live.specs.Taking.{TakingFailed, TookArrival, Warned, WarnedUnwritten};
+
+use crate::holding::{Hold, is_limited};
+use crate::saying::wait_for;
+use crate::stepping::Stand;
+use crate::taking::tell_stalled;
+use arrivals::Sources;
+use child_calls::Seat;
+use child_edge::{interrupt, waiting_lives};
+use disk_model::Disk;
+use offline_programs::RunFault;
+use session_engine::Host;
+use std::alloc::Global;
+use std::io::Write;
+use tellings::{Note, Tells};
+
+/// How many seconds interpreters have that were interrupted.
+const RESPITE: u32 = 2;
+
+/// Ends the wait of a line whose time is over: each life in which an item still waits has stalled.
+fn end_wait<D: Disk, S: Sources, T: Tells, W: Write>(
+    alloc: Global,
+    host: &mut Host<D>,
+    sources: &mut S,
+    number: u64,
+    tells: &T,
+    writer: &mut W,
+) -> Result<(), RunFault>
+    ensures same { SameDisk host.old.store.disk host.new.store.disk }
+    ensures ok { (held : Hold) (w : World) → IsUntil held → IsHost host.old w → OnOk result (TookArrival (edge T.voice S.after S.clock S.wakes)
+        (place (at w sources.old host.old.store.disk) number held) time_over
+        (left host.new sources.new (W.contents writer.old) (W.contents writer.new)) number Hold.Free) }
+    ensures err { (held : Hold) (w : World) → IsUntil held → IsHost host.old w → IfErr result (TakingFailed (edge T.voice S.after S.clock S.wakes)
+        (place (at w sources.old host.old.store.disk) number held) time_over
+        (left host.new sources.new (W.contents writer.old) (W.contents writer.new))) }
+{
+    let Ok(seats) = waiting_lives(alloc, host) else {
+        return Err(RunFault::OutOfMemory);
+    };
+    match tell_stalled(alloc, host, sources, seats.as_slice(), tells, writer) {
+        Ok(()) => tells.note(Note::Waited(number, true), writer),
+        Err(fault) => Err(fault),
+    }
+}
+
+/// Interrupts each of these lives, and tells what came of it as of the line with this number.
+fn interrupt_each<D: Disk, S: Sources, T: Tells, W: Write>(
+    host: &Host<D>,
+    sources: &mut S,
+    seats: &[Seat],
+    number: u64,
+    tells: &T,
+    writer: &mut W,
+) -> Result<(), RunFault>
+    ensures ok { (w : World) → IsHost host.now w → OnOk result (Warned (edge T.voice S.after S.clock S.wakes)
+        number seats.now (at w sources.old host.now.store.disk)
+        (left host.now sources.new (W.contents writer.old) (W.contents writer.new))) }
+    ensures err { (w : World) → IsHost host.now w → IfErr result (λ fault. IsUntold T.voice fault × WarnedUnwritten (edge T.voice S.after S.clock S.wakes)
+        number seats.now (at w sources.old host.now.store.disk) sources.new) }
+{
+    for seat in seats {
+        let told = interrupt(host, sources, seat.name);
+        if let Err(fault) = tells.note(Note::Interrupted(number, seat.name, told), writer) {
+            return Err(fault);
+        }
+    }
+    Ok(())
+}
+
+/// The time is over that a wait may take: each life in which an item waits is interrupted, and has two seconds
+/// more.
+fn end_limit<D: Disk, S: Sources, T: Tells, W: Write>(
+    alloc: Global,
+    host: &Host<D>,
+    sources: &mut S,
+    number: u64,
+    tells: &T,
+    writer: &mut W,
+) -> Result<Hold, RunFault>
+    ensures ok { (held : Hold) (w : World) → IsLimited held → IsHost host.now w → IfOk result (TookArrival (edge T.voice S.after S.clock S.wakes)
+        (place (at w sources.old host.now.store.disk) number held) time_over
+        (left host.now sources.new (W.contents writer.old) (W.contents writer.new)) number) }
+    ensures err { (held : Hold) (w : World) → IsLimited held → IsHost host.now w → IfErr result (TakingFailed (edge T.voice S.after S.clock S.wakes)
+        (place (at w sources.old host.now.store.disk) number held) time_over
+        (left host.now sources.new (W.contents writer.old) (W.contents writer.new))) }
+{
+    let Ok(seats) = waiting_lives(alloc, host) else {
+        return Err(RunFault::OutOfMemory);
+    };
+    match interrupt_each(host, sources, seats.as_slice(), number, tells, writer) {
+        Ok(()) => Ok(wait_for(sources.now(), RESPITE)),
+        Err(fault) => Err(fault),
+    }
+}
+
+/// Takes that the time of a wait is over, and gives the wait that goes on.
+pub(crate) fn end_time<D: Disk, S: Sources, T: Tells, W: Write>(
+    alloc: Global,
+    host: &mut Host<D>,
+    sources: &mut S,
+    stand: Stand,
+    tells: &T,
+    writer: &mut W,
+) -> Result<Hold, RunFault>
+    requires { IsTimed stand.held }
+    ensures same { SameDisk host.old.store.disk host.new.store.disk }
+    ensures ok { (w : World) → IsHost host.old w → IfOk result (TookArrival (edge T.voice S.after S.clock S.wakes)
+        (place (at w sources.old host.old.store.disk) stand.number stand.held) time_over
+        (left host.new sources.new (W.contents writer.old) (W.contents writer.new)) stand.number) }
+    ensures err { (w : World) → IsHost host.old w → IfErr result (TakingFailed (edge T.voice S.after S.clock S.wakes)
+        (place (at w sources.old host.old.store.disk) stand.number stand.held) time_over
+        (left host.new sources.new (W.contents writer.old) (W.contents writer.new))) }
+{
+    if is_limited(stand.held) {
+        return end_limit(alloc, host, sources, stand.number, tells, writer);
+    }
+    match end_wait(alloc, host, sources, stand.number, tells, writer) {
+        Ok(()) => Ok(Hold::Free),
+        Err(fault) => Err(fault),
+    }
+}

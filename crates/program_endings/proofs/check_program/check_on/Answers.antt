@@ -1,0 +1,13 @@
+use Rattle.program_endings.proofs.check_program.check_on.Goals as goal
+
+pub returns : goal.returns
+returns g c = record {
+  later = c.check-disk.result.disk;
+  closed = c.close.ensures;
+  mid = c.check-disk.new.writer;
+  checked = c.check-disk.ensures.checked;
+  last_told = c.end_check-ending.ensures.last;
+  read = c.check-disk.ensures.read;
+  failed = c.check-disk.ensures.failed;
+  ends = c.end_check-ending.ensures.ends;
+}

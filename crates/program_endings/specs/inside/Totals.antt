@@ -1,0 +1,29 @@
+-- A total with one worksheet more.
+use Rattle.std.specs.Prelude.{◌+◌, ◌==◌, ◌&&◌}
+use Rattle.check_report.specs.declared.verdict.Counts.{Counts}
+use Rattle.program_endings.specs.declared.ending.Ending.{Ending}
+use Rattle.program_endings.specs.declared.several_program.Total.{Total}
+
+-- of which these are the counts
+abbrev pub with_counts : Counts → Ending → Total → Total
+with_counts counts ending total = record {
+  worksheets = total.worksheets + 1;
+  same = total.same + counts.same;
+  differ = total.differ + counts.differ;
+  unanswered = total.unanswered + counts.unanswered;
+  faults = total.faults;
+  passed = total.passed && (ending.status == 0);
+  told = total.told && ending.told;
+}
+
+-- whose check met a fault
+abbrev pub with_fault : Ending → Total → Total
+with_fault ending total = record {
+  worksheets = total.worksheets + 1;
+  same = total.same;
+  differ = total.differ;
+  unanswered = total.unanswered;
+  faults = total.faults + 1;
+  passed = total.passed && (ending.status == 0);
+  told = total.told && ending.told;
+}
