@@ -9,7 +9,7 @@ from typing import Any, Dict, List, Tuple
 
 from support import ROOT
 
-from tmhost import Answer, Answered, Block, BadLine, Field, Lost, Protocol, ProtocolError, Refused, Session, Stopped
+from tmhost import Answer, Answered, Block, BadLine, Field, Lost, Protocol, ProtocolError, Refused, Session, Stopped, Warned
 from tmhost import commands
 from tmhost.protocol import Lines, Taken
 from tmhost.reading import read
@@ -133,6 +133,11 @@ class Objects(unittest.TestCase):
         for line in lines:
             with self.subTest(line=str(line)[:80]), self.assertRaises(ProtocolError):
                 read(line if isinstance(line, bytes) else json.dumps(line).encode())
+
+    def test_limits_of_time(self) -> None:
+        """What comes of one has no line: of a wait it is about an interpreter, and no command asks for one of a field."""
+        self.assertEqual(read(b'{"life":2,"outcome":"failed","session":"a","type":"interrupted"}'), Warned("a", 2, "failed"))
+        self.assertIsNone(read(b'{"id":3,"outcome":"sent","type":"over"}'))
 
     def test_halves_of_a_character_that_are_together(self) -> None:
         told = read(b'{"line":1,"name":"\\ud83d\\ude00","number":1,"type":"refused"}')

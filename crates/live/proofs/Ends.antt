@@ -77,9 +77,9 @@ turn-stopped-goes R seats s beats e t q =
     (goes_on_by s.world s.disk q.before q.mid.world q.mid.disk q.last t.world t.disk (stalled-goes R seats q.whole s q.before q.mid q.are_done) (taken-goes R false (Some e) q.seat q.mid q.last t q.broken))
 
 -- an interrupt leaves all but the children
-interrupts-stay : {C : Type 0} (o : Edge C) (number : ℕ) (seats : List Seat) (k : ℕ) (s : At C) (text : List ℕ) (t : At C) → FirstOf (InterruptsLife o number) seats k s text t → t ≡ at s.world t.children s.disk
-interrupts-stay o number seats zero s text t p = subst (λ (x : At _). x ≡ at s.world x.children s.disk) (sym p.1) refl
-interrupts-stay o number seats (suc k) s text t p = p.6.3 ∙ ap (λ (x : At _). at x.world t.children x.disk) (interrupts-stay o number seats k s p.2 p.1 p.5)
+interrupts-stay : {C : Type 0} (o : Edge C) (seats : List Seat) (k : ℕ) (s : At C) (text : List ℕ) (t : At C) → FirstOf (InterruptsLife o) seats k s text t → t ≡ at s.world t.children s.disk
+interrupts-stay o seats zero s text t p = subst (λ (x : At _). x ≡ at s.world x.children s.disk) (sym p.1) refl
+interrupts-stay o seats (suc k) s text t p = p.6.3 ∙ ap (λ (x : At _). at x.world t.children x.disk) (interrupts-stay o seats k s p.2 p.1 p.5)
 
 takes-goes : {C : Type 0} (o : Edge C) (p : LivePlace C) (a : Arrival) (it : Brought) (q : LivePlace C) → TakesArrival o p a it q → Goes p.run.world p.run.disk it.beats q.run.world q.run.disk
 takes-goes o p (came.line l) it q t = said-goes o q.number (said_by l) p.run (brought it.beats t.2.0) q.run t.2.1
@@ -87,7 +87,7 @@ takes-goes o p came.part it q t = no_beats p.run it.beats q.run t.1 (ap (λ (x :
 takes-goes o p (came.life seat) it q t = taken-goes o.after true None seat p.run it.beats q.run t.1
 takes-goes o p came.time_over it q (inl t) = stalled-goes o.after (waits p.run.world) (length (waits p.run.world)) p.run it.beats q.run t.2
 takes-goes o p came.time_over it q (inr t) =
-    no_beats (at p.run.world q.run.children p.run.disk) it.beats q.run t.3 (interrupts-stay o p.number (waits p.run.world) (length (waits p.run.world)) p.run it.text q.run t.2)
+    no_beats (at p.run.world q.run.children p.run.disk) it.beats q.run t.3 (interrupts-stay o (waits p.run.world) (length (waits p.run.world)) p.run it.text q.run t.2)
 
 takes-up-to-goes : {C : Type 0} (R : Relation C) (p : LivePlace C) (beats : List Beat) (e : Event) (t : At C) (a : Arrival) → TakesUpTo R p beats e t a → Goes p.run.world p.run.disk beats t.world t.disk
 takes-up-to-goes R p beats e t a (broken.line_up_to l q) = said-up-to-goes R (said_by l) p.run beats e t q
@@ -105,7 +105,7 @@ takes-led-goes o p a t (broken.all it q taken there) = subst (λ (x : At _). Goe
 takes-led-goes o p a t (broken.up_to beats e broke) = takes-up-to-goes o.after p beats e t a broke
 takes-led-goes o p a t (broken.so_far beats so) = takes-so-far-goes o.after p beats t a so
 takes-led-goes o p a t (broken.interrupted k text over limited front) =
-    no_beats (at p.run.world t.children p.run.disk) [] t refl (interrupts-stay o p.number (waits p.run.world) k p.run text t front)
+    no_beats (at p.run.world t.children p.run.disk) [] t refl (interrupts-stay o (waits p.run.world) k p.run text t front)
 
 lived-goes : {C : Type 0} (o : Edge C) (p : LivePlace C) (all : List Arrival) (it : Brought) (q : LivePlace C) → Lived o p all it q → Goes p.run.world p.run.disk it.beats q.run.world q.run.disk
 lived-goes o p [] it q t = no_beats p.run it.beats q.run t.0 (ap (λ (x : LivePlace _). x.run) t.2)

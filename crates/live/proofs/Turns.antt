@@ -153,35 +153,35 @@ module _ {C : Type 0} (o : Edge C) (p : LivePlace C) (h : HostView) (c : C) (a b
 
 -- Lives that are interrupted, one after another.
 
-module _ {C : Type 0} (o : Edge C) (number : ℕ) (seats : List Seat) (s : At C) where
+module _ {C : Type 0} (o : Edge C) (seats : List Seat) (s : At C) where
   abbrev pub InterruptedSoFar : ℕ → C → Option (List ℕ) → Option (List ℕ) → Type 0
-  InterruptedSoFar k c a b = (text : List ℕ) × FirstOf (InterruptsLife o number) seats k s text (at s.world c s.disk) × Appends a b text
+  InterruptedSoFar k c a b = (text : List ℕ) × FirstOf (InterruptsLife o) seats k s text (at s.world c s.disk) × Appends a b text
 
   pub none_interrupted : (a : Option (List ℕ)) → InterruptedSoFar 0 s.children a a
   none_interrupted a = ([], (refl, refl), Appends-nil a)
 
-  one-interrupted : (k : ℕ) (seat : Seat) (c d : C) (came : Interrupted) (text : List ℕ) → FirstOf (InterruptsLife o number) seats k s text (at s.world c s.disk) → slice_get seats k ≡ Some seat
-      → Interrupts o.after s.world seat.name c came d → FirstOf (InterruptsLife o number) seats (k + 1) s (text ++ o.voice.note (note.Interrupted number seat.name came)) (at s.world d s.disk)
+  one-interrupted : (k : ℕ) (seat : Seat) (c d : C) (came : Interrupted) (text : List ℕ) → FirstOf (InterruptsLife o) seats k s text (at s.world c s.disk) → slice_get seats k ≡ Some seat
+      → Interrupts o.after s.world seat.name c came d → FirstOf (InterruptsLife o) seats (k + 1) s (text ++ o.voice.note (note.Warned seat came)) (at s.world d s.disk)
   one-interrupted k seat c d came text front is done = let one : suc k ≡ k + 1 = omega arith in
-      subst (λ (n : ℕ). FirstOf (InterruptsLife o number) seats n s (text ++ o.voice.note (note.Interrupted number seat.name came)) (at s.world d s.disk)) one
-      (seat, at s.world c s.disk, text, o.voice.note (note.Interrupted number seat.name came), is, front, (came, done, refl, refl), refl)
+      subst (λ (n : ℕ). FirstOf (InterruptsLife o) seats n s (text ++ o.voice.note (note.Warned seat came)) (at s.world d s.disk)) one
+      (seat, at s.world c s.disk, text, o.voice.note (note.Warned seat came), is, front, (came, done, refl, refl), refl)
 
   pub one_interrupted : (k : ℕ) (seat : Seat) (c d : C) (came : Interrupted) (a b e : Option (List ℕ)) → InterruptedSoFar k c a b → slice_get seats k ≡ Some seat
-      → Interrupts o.after s.world seat.name c came d → Appends b e (o.voice.note (note.Interrupted number seat.name came)) → InterruptedSoFar (k + 1) d a e
+      → Interrupts o.after s.world seat.name c came d → Appends b e (o.voice.note (note.Warned seat came)) → InterruptedSoFar (k + 1) d a e
   one_interrupted k seat c d came a b e so is done wrote =
-      (so.0 ++ o.voice.note (note.Interrupted number seat.name came), one-interrupted k seat c d came so.0 so.1 is done, Appends-trans a b e so.0 (o.voice.note (note.Interrupted number seat.name came)) so.2 wrote)
+      (so.0 ++ o.voice.note (note.Warned seat came), one-interrupted k seat c d came so.0 so.1 is done, Appends-trans a b e so.0 (o.voice.note (note.Warned seat came)) so.2 wrote)
 
   pub interrupt_untold : (k : ℕ) (seat : Seat) (c d : C) (came : Interrupted) (a b : Option (List ℕ)) → InterruptedSoFar k c a b → slice_get seats k ≡ Some seat
-      → Interrupts o.after s.world seat.name c came d → WarnedUnwritten o number seats s d
-  interrupt_untold k seat c d came a b so is done = (k + 1, so.0 ++ o.voice.note (note.Interrupted number seat.name came), one-interrupted k seat c d came so.0 so.1 is done)
+      → Interrupts o.after s.world seat.name c came d → WarnedUnwritten o seats s d
+  interrupt_untold k seat c d came a b so is done = (k + 1, so.0 ++ o.voice.note (note.Warned seat came), one-interrupted k seat c d came so.0 so.1 is done)
 
 module _ {C : Type 0} (o : Edge C) (w : World) (h : HostView) (c d : C) (number : ℕ) (held : Hold) (a b : Option (List ℕ)) (limited : IsLimited held) (stands : IsHost h w) where
   -- each was interrupted, and they have two seconds more
-  pub warned_took : (now : ℕ) → o.watches.clock d now → Warned o number (waits w) (at w c h.store.disk) (left h d a b)
+  pub warned_took : (now : ℕ) → o.watches.clock d now → Warned o (waits w) (at w c h.store.disk) (left h d a b)
       → TookArrival o (place (at w c h.store.disk) number held) time_over (left h d a b) number (hold.Until (seconds_behind now respite))
   warned_took now reads q = (brought [] q.0, w, inr (limited, refl, q.1, refl, (now, reads, refl)), stands, q.2)
 
-  pub warned_untold : (f : RunFault) → IsUntold o.voice f → WarnedUnwritten o number (waits w) (at w c h.store.disk) d → TakingFailed o (place (at w c h.store.disk) number held) time_over (left h d a b) f
+  pub warned_untold : (f : RunFault) → IsUntold o.voice f → WarnedUnwritten o (waits w) (at w c h.store.disk) d → TakingFailed o (place (at w c h.store.disk) number held) time_over (left h d a b) f
   warned_untold f is q = took_untold o (place (at w c h.store.disk) number held) h d a b time_over f is (w, h.store.disk, broken.interrupted q.0 q.1 refl limited q.2, inl (stands, refl))
 
 -- Lives that count as stalled, one after another.

@@ -100,10 +100,10 @@ EndsWait o p it q =
     IsUntil p.held × (q.number ≡ p.number) × OneTurn o.after false (waits p.run.world) p.run it.beats q.run
     × (it.text ≡ came_text o.voice (sheet_in q.run.world) (told it.beats) ++ o.voice.note (note.Waited q.number true)) × (q.held ≡ hold.Free)
 
--- The interpreter of this life's session was interrupted by one call, and what came of it is printed with this number of a line.
-abbrev pub InterruptsLife : {C : Type 0} → Edge C → ℕ → Seat → At C → List ℕ → At C → Type 0
-InterruptsLife o number seat s text t =
-    (came : Interrupted) × Interrupts o.after s.world seat.name s.children came t.children × (text ≡ o.voice.note (note.Interrupted number seat.name came))
+-- The interpreter of this life's session was interrupted by one call, and what came of it is printed.
+abbrev pub InterruptsLife : {C : Type 0} → Edge C → Seat → At C → List ℕ → At C → Type 0
+InterruptsLife o seat s text t =
+    (came : Interrupted) × Interrupts o.after s.world seat.name s.children came t.children × (text ≡ o.voice.note (note.Warned seat came))
     × (t ≡ at s.world t.children s.disk)
 
 -- how many seconds interpreters have that were interrupted
@@ -113,7 +113,7 @@ respite = 2
 -- The time of a wait that names none is over: each life in which an item waits is interrupted, and from then on there are two seconds more.
 abbrev pub Warns : {C : Type 0} → Edge C → LivePlace C → Brought → LivePlace C → Type 0
 Warns o p it q =
-    IsLimited p.held × (q.number ≡ p.number) × EachOf (InterruptsLife o p.number) (waits p.run.world) p.run it.text q.run × (it.beats ≡ [])
+    IsLimited p.held × (q.number ≡ p.number) × EachOf (InterruptsLife o) (waits p.run.world) p.run it.text q.run × (it.beats ≡ [])
     × ((now : ℕ) × o.watches.clock q.run.children now × (q.held ≡ hold.Until (seconds_behind now respite)))
 
 -- What came of an arrival, by what it is: what it brought, and the place after it.

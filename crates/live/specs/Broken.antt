@@ -31,7 +31,7 @@ pub data TakesLed {C : Type 0} (o : Edge C) (p : LivePlace C) (a : Arrival) (t :
   up_to : (beats : List Beat) (e : Event) → TakesUpTo o.after p beats e t a → TakesLed o p a t
   so_far : (beats : List Beat) → TakesSoFar o.after p beats t a → TakesLed o p a t
   -- so many lives, the first ones, were interrupted
-  interrupted : (k : ℕ) (text : List ℕ) → a ≡ time_over → IsLimited p.held → FirstOf (InterruptsLife o p.number) (waits p.run.world) k p.run text t → TakesLed o p a t
+  interrupted : (k : ℕ) (text : List ℕ) → a ≡ time_over → IsLimited p.held → FirstOf (InterruptsLife o) (waits p.run.world) k p.run text t → TakesLed o p a t
 
 -- the entries of an arrival that led somewhere, or of that part of it
 abbrev pub taken_beats : {C : Type 0} {o : Edge C} {p : LivePlace C} {a : Arrival} {t : At C} → TakesLed o p a t → List Beat

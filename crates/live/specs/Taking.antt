@@ -106,13 +106,13 @@ pub data StallingFailed {C : Type 0} (o : Edge C) (seats : List Seat) (s : At C)
   unwritten : StalledUnwritten o seats s left → StallingFailed o seats s left fault.Output
 
 -- Each of these lives was interrupted, and what came of each is written.
-abbrev pub Warned : {C : Type 0} → Edge C → ℕ → List Seat → At C → Left C → Type 0
-Warned o number seats s left =
-    (text : List ℕ) × EachOf (InterruptsLife o number) seats s text (at s.world left.sources s.disk) × Appends left.out left.now text
+abbrev pub Warned : {C : Type 0} → Edge C → List Seat → At C → Left C → Type 0
+Warned o seats s left =
+    (text : List ℕ) × EachOf (InterruptsLife o) seats s text (at s.world left.sources s.disk) × Appends left.out left.now text
 
 -- the first of them were, and what came of one couldn't be written
-abbrev pub WarnedUnwritten : {C : Type 0} → Edge C → ℕ → List Seat → At C → C → Type 0
-WarnedUnwritten o number seats s d = (k : ℕ) × (text : List ℕ) × FirstOf (InterruptsLife o number) seats k s text (at s.world d s.disk)
+abbrev pub WarnedUnwritten : {C : Type 0} → Edge C → List Seat → At C → C → Type 0
+WarnedUnwritten o seats s d = (k : ℕ) × (text : List ℕ) × FirstOf (InterruptsLife o) seats k s text (at s.world d s.disk)
 
 -- An arrival was taken, and what came of it is written.
 abbrev pub TookArrival : {C : Type 0} → Edge C → LivePlace C → Arrival → Left C → ℕ → Hold → Type 0

@@ -1,5 +1,5 @@
 //! What comes of the end of a wait's time.
-ghost use Rattle.std.specs.Prelude.{◌≡◌, IfErr, IfOk, OnOk};
+ghost use Rattle.std.specs.Prelude.{◌≡◌, ℕ, IfErr, IfOk, OnOk};
 ghost use Rattle.disk_model.specs.Disk.{SameDisk};
 ghost use Rattle.session_engine.specs.World.{World};
 ghost use Rattle.session_engine.specs.Host.{IsHost};
@@ -53,24 +53,23 @@ fn end_wait<D: Disk, S: Sources, T: Tells, W: Write>(
     }
 }
 
-/// Interrupts each of these lives, and tells what came of it as of the line with this number.
+/// Interrupts each of these lives, and tells what came of it.
 fn interrupt_each<D: Disk, S: Sources, T: Tells, W: Write>(
     host: &Host<D>,
     sources: &mut S,
     seats: &[Seat],
-    number: u64,
     tells: &T,
     writer: &mut W,
 ) -> Result<(), RunFault>
     ensures ok { (w : World) → IsHost host.now w → OnOk result (Warned (edge T.voice S.after S.clock S.wakes)
-        number seats.now (at w sources.old host.now.store.disk)
+        seats.now (at w sources.old host.now.store.disk)
         (left host.now sources.new (W.contents writer.old) (W.contents writer.new))) }
     ensures err { (w : World) → IsHost host.now w → IfErr result (λ fault. IsUntold T.voice fault × WarnedUnwritten (edge T.voice S.after S.clock S.wakes)
-        number seats.now (at w sources.old host.now.store.disk) sources.new) }
+        seats.now (at w sources.old host.now.store.disk) sources.new) }
 {
     for seat in seats {
         let told = interrupt(host, sources, seat.name);
-        if let Err(fault) = tells.note(Note::Interrupted(number, seat.name, told), writer) {
+        if let Err(fault) = tells.note(Note::Warned(*seat, told), writer) {
             return Err(fault);
         }
     }
@@ -83,21 +82,20 @@ fn end_limit<D: Disk, S: Sources, T: Tells, W: Write>(
     alloc: Global,
     host: &Host<D>,
     sources: &mut S,
-    number: u64,
     tells: &T,
     writer: &mut W,
 ) -> Result<Hold, RunFault>
-    ensures ok { (held : Hold) (w : World) → IsLimited held → IsHost host.now w → IfOk result (TookArrival (edge T.voice S.after S.clock S.wakes)
+    ensures ok { (number : ℕ) (held : Hold) (w : World) → IsLimited held → IsHost host.now w → IfOk result (TookArrival (edge T.voice S.after S.clock S.wakes)
         (place (at w sources.old host.now.store.disk) number held) time_over
         (left host.now sources.new (W.contents writer.old) (W.contents writer.new)) number) }
-    ensures err { (held : Hold) (w : World) → IsLimited held → IsHost host.now w → IfErr result (TakingFailed (edge T.voice S.after S.clock S.wakes)
+    ensures err { (number : ℕ) (held : Hold) (w : World) → IsLimited held → IsHost host.now w → IfErr result (TakingFailed (edge T.voice S.after S.clock S.wakes)
         (place (at w sources.old host.now.store.disk) number held) time_over
         (left host.now sources.new (W.contents writer.old) (W.contents writer.new))) }
 {
     let Ok(seats) = waiting_lives(alloc, host) else {
         return Err(RunFault::OutOfMemory);
     };
-    match interrupt_each(host, sources, seats.as_slice(), number, tells, writer) {
+    match interrupt_each(host, sources, seats.as_slice(), tells, writer) {
         Ok(()) => Ok(wait_for(sources.now(), RESPITE)),
         Err(fault) => Err(fault),
     }
@@ -122,7 +120,7 @@ pub(crate) fn end_time<D: Disk, S: Sources, T: Tells, W: Write>(
         (left host.new sources.new (W.contents writer.old) (W.contents writer.new))) }
 {
     if is_limited(stand.held) {
-        return end_limit(alloc, host, sources, stand.number, tells, writer);
+        return end_limit(alloc, host, sources, tells, writer);
     }
     match end_wait(alloc, host, sources, stand.number, tells, writer) {
         Ok(()) => Ok(Hold::Free),

@@ -9,20 +9,20 @@ use Rattle.live.proofs.Turns.{warned_took, warned_untold}
 use Rattle.live.proofs.timing.end_limit.Goals as goal
 
 pub returns-in_default-clause-err : goal.returns-in_default-clause-err
-returns-in_default-clause-err g c = λ held w limited h.
+returns-in_default-clause-err g c = λ number held w limited h.
     refused [] w (limit_so_far limited refl refl) h (Appends-nil (g.W.Write.contents c.args.writer.now))
 
 pub returns-in-Ok-interrupt_each-clause-ok : goal.returns-in-Ok-interrupt_each-clause-ok
-returns-in-Ok-interrupt_each-clause-ok g c = λ held w limited h.
+returns-in-Ok-interrupt_each-clause-ok g c = λ number held w limited h.
     let leaves = left c.args.host.now c.interrupt_each.new.sources (g.W.Write.contents c.args.writer.now) (g.W.Write.contents c.interrupt_each.new.writer) in
     subst
-    (λ begun. TookArrival (edge g.T.Tells.voice g.S.Children.after g.S.Sources.clock g.S.Sources.wakes) (place (at w c.args.sources.now c.args.host.now.store.disk) c.args.number held) time_over leaves c.args.number begun)
+    (λ begun. TookArrival (edge g.T.Tells.voice g.S.Children.after g.S.Sources.clock g.S.Sources.wakes) (place (at w c.args.sources.now c.args.host.now.store.disk) number held) time_over leaves number begun)
     (sym c.wait_for.ensures)
-    (warned_took (edge g.T.Tells.voice g.S.Children.after g.S.Sources.clock g.S.Sources.wakes) w c.args.host.now c.args.sources.now c.interrupt_each.new.sources c.args.number held (g.W.Write.contents c.args.writer.now) (g.W.Write.contents c.interrupt_each.new.writer) limited h c.now.result c.now.ensures
-    (subst (λ seats. Warned (edge g.T.Tells.voice g.S.Children.after g.S.Sources.clock g.S.Sources.wakes) c.args.number seats (at w c.args.sources.now c.args.host.now.store.disk) leaves) (c.as_slice.ensures.value ∙ c.in-Ok.ensures w h) (c.in-Ok-interrupt_each.ensures.ok w h)))
+    (warned_took (edge g.T.Tells.voice g.S.Children.after g.S.Sources.clock g.S.Sources.wakes) w c.args.host.now c.args.sources.now c.interrupt_each.new.sources number held (g.W.Write.contents c.args.writer.now) (g.W.Write.contents c.interrupt_each.new.writer) limited h c.now.result c.now.ensures
+    (subst (λ seats. Warned (edge g.T.Tells.voice g.S.Children.after g.S.Sources.clock g.S.Sources.wakes) seats (at w c.args.sources.now c.args.host.now.store.disk) leaves) (c.as_slice.ensures.value ∙ c.in-Ok.ensures w h) (c.in-Ok-interrupt_each.ensures.ok w h)))
 
 pub returns-clause-err : goal.returns-clause-err
-returns-clause-err g c = λ held w limited h.
+returns-clause-err g c = λ number held w limited h.
     let failed = c.in-Err.ensures.err w h in
-    warned_untold (edge g.T.Tells.voice g.S.Children.after g.S.Sources.clock g.S.Sources.wakes) w c.args.host.now c.args.sources.now c.interrupt_each.new.sources c.args.number held (g.W.Write.contents c.args.writer.now) (g.W.Write.contents c.interrupt_each.new.writer) limited h c.in-Err.fault failed.0
-    (subst (λ seats. WarnedUnwritten (edge g.T.Tells.voice g.S.Children.after g.S.Sources.clock g.S.Sources.wakes) c.args.number seats (at w c.args.sources.now c.args.host.now.store.disk) c.interrupt_each.new.sources) (c.as_slice.ensures.value ∙ c.in-Ok.ensures w h) failed.1)
+    warned_untold (edge g.T.Tells.voice g.S.Children.after g.S.Sources.clock g.S.Sources.wakes) w c.args.host.now c.args.sources.now c.interrupt_each.new.sources number held (g.W.Write.contents c.args.writer.now) (g.W.Write.contents c.interrupt_each.new.writer) limited h c.in-Err.fault failed.0
+    (subst (λ seats. WarnedUnwritten (edge g.T.Tells.voice g.S.Children.after g.S.Sources.clock g.S.Sources.wakes) seats (at w c.args.sources.now c.args.host.now.store.disk) c.interrupt_each.new.sources) (c.as_slice.ensures.value ∙ c.in-Ok.ensures w h) failed.1)

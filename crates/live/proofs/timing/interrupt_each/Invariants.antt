@@ -7,4 +7,4 @@ use Rattle.live.proofs.timing.interrupt_each.Given as goal
 
 abbrev pub invariant-loop-seat : goal.invariant-loop-seat
 invariant-loop-seat g l = (w : World) → IsHost l.host w
-    → InterruptedSoFar (edge g.T.Tells.voice g.S.Children.after g.S.Sources.clock g.S.Sources.wakes) l.number l.seats (at w l.initial.sources l.host.store.disk) l.seat-index l.sources (g.W.Write.contents l.initial.writer) (g.W.Write.contents l.writer)
+    → InterruptedSoFar (edge g.T.Tells.voice g.S.Children.after g.S.Sources.clock g.S.Sources.wakes) l.seats (at w l.initial.sources l.host.store.disk) l.seat-index l.sources (g.W.Write.contents l.initial.writer) (g.W.Write.contents l.writer)
