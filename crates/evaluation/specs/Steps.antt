@@ -168,7 +168,7 @@ StepDone o p (ask k id) beats text t =
 StepDone o p (heard seat) beats text t = Taken o.after true None seat p.run beats t × (text ≡ step_text o.voice (heard seat) (sheet_in t.world) beats)
 StepDone o p (over n id) beats text t =
     (beats ≡ []) × ((came : Interrupted) × InterruptsFor o.after p.run.world (field_in (fields_at p) id) p.run.children came t.children
-    × (text ≡ o.voice.note (note.Over (line_behind n) id came))) × (t ≡ at p.run.world t.children p.run.disk)
+    × (text ≡ o.voice.note (note.Over id came))) × (t ≡ at p.run.world t.children p.run.disk)
 StepDone o p stalled beats text t = OneTurn o.after false (waits p.run.world) p.run beats t × (text ≡ step_text o.voice stalled (sheet_in t.world) beats)
 
 -- How the evaluation stands after a step that led there.

@@ -148,7 +148,6 @@ fn take_woken<D: Disk, S: Sources, T: Tells, W: Write>(
     tells: &T,
     writer: &mut W,
 ) -> Result<Stand, RunFault>
-    requires few { length ids.now < 2 ^ 31 }
     requires taken { stand.taken ≤ length ids.now }
     requires counted { stand.overs + 1 < 2 ^ 64 }
     requires turn { MayTurn stand.held woken }
@@ -181,7 +180,6 @@ fn take_turn<D: Disk, S: Sources, T: Tells, W: Write>(
     tells: &T,
     writer: &mut W,
 ) -> Result<Stand, RunFault>
-    requires few { length ids.now < 2 ^ 31 }
     requires taken { stand.taken ≤ length ids.now }
     requires counted { stand.overs + 1 < 2 ^ 64 }
     requires held { stand.held ≡ Hold.Free → ⊥ }
@@ -214,7 +212,6 @@ fn take_late_or_turn<D: Disk, S: Sources, T: Tells, W: Write>(
     tells: &T,
     writer: &mut W,
 ) -> Result<Stand, RunFault>
-    requires few { length ids.now < 2 ^ 31 }
     requires taken { stand.taken ≤ length ids.now }
     requires counted { stand.overs + 1 < 2 ^ 64 }
     requires held { stand.held ≡ Hold.Free → ⊥ }

@@ -10,7 +10,6 @@ ghost use Rattle.evaluation.specs.declared.plan.Plan.{Plan};
 ghost use Rattle.evaluation.specs.Steps.{InterruptsFor, LimitBegins, over, setting, stalled, stands};
 ghost use Rattle.evaluation.specs.inside.Stepping.{TakingFailed, TimeFailed, TimeTook, Took};
 
-use crate::asking::line_behind;
 use crate::beside::{Late, first_late};
 use crate::plan::{Plan, Stand, held_at, warned_at};
 use arrivals::Sources;
@@ -56,7 +55,6 @@ pub(crate) fn end_time<D: Disk, S: Sources, T: Tells, W: Write>(
     tells: &T,
     writer: &mut W,
 ) -> Result<Stand, RunFault>
-    requires few { late.place < 2 ^ 32 }
     requires counted { stand.overs + 1 < 2 ^ 64 }
     ensures ok { (plan : Plan) (meant : List ℕ) (w : World) → IsHost host.now w → IfOk result (Took
         (setting T.voice S.after S.clock S.wakes plan meant) (stands (at w sources.old host.now.store.disk) stand) (over late.place late.id)
@@ -68,7 +66,7 @@ pub(crate) fn end_time<D: Disk, S: Sources, T: Tells, W: Write>(
     ensures counts { IfOk result (λ next. (next.asked ≡ stand.asked) × (next.overs ≡ stand.overs + 1)) }
 {
     let told = interrupt_for(host, sources, late.id);
-    match tells.note(Note::Over(line_behind(late.place), late.id, told), writer) {
+    match tells.note(Note::Over(late.id, told), writer) {
         Ok(()) => Ok(warned_at(stand, late.place, wait_for(sources.now(), GRACE))),
         Err(fault) => Err(fault),
     }
@@ -113,7 +111,6 @@ pub(crate) fn take_time<D: Disk, S: Sources, T: Tells, W: Write>(
     tells: &T,
     writer: &mut W,
 ) -> Result<Stand, RunFault>
-    requires few { length ids.now < 2 ^ 31 }
     requires taken { stand.taken ≤ length ids.now }
     requires counted { stand.overs + 1 < 2 ^ 64 }
     ensures same { SameDisk host.old.store.disk host.new.store.disk }
