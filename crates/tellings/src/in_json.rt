@@ -1,8 +1,9 @@
 //! As lines of JSON.
-ghost use Rattle.std.specs.Prelude.{◌≡◌, IfErr, OnOk, true};
+ghost use Rattle.std.specs.Prelude.{◌≡◌, ◌+◌, ◌<◌, ◌^◌, IfErr, OnOk, length, true};
 ghost use Rattle.std.specs.Io.KnownBytes.{Appends};
 ghost use Rattle.tellings.specs.Json as texts;
-ghost use Rattle.tellings.specs.Voice.{IsUntold, came_text, replied_text};
+ghost use Rattle.tellings.specs.Voice.{IsUntold, came_text, numbered_text, replied_text};
+ghost use Rattle.worksheet.specs.Contents.{Contents};
 
 use crate::sheets_json::{write_field, write_sheet};
 use crate::writing::{write_if, write_made};
@@ -10,7 +11,7 @@ use crate::{Counts, Frame, Note, Tells, faults};
 use block_tree::Octets;
 use child_edge::Interrupted;
 use disk_model::Disk;
-use host_events::{ChildReply, Closed, Reply};
+use host_events::{ChildReply, Closed, Outcome, Reply};
 use offline_programs::RunFault;
 use plugin_core::Ended;
 use serde_json::Value;
@@ -209,6 +210,26 @@ fn write_replies<W: Write>(
     }
 }
 
+/// The replies to as many lines as there are outcomes, from this line on.
+fn write_outcomes<W: Write>(
+    alloc: Global,
+    first: u64,
+    outcomes: &[Outcome],
+    writer: &mut W,
+) -> Result<(), RunFault>
+    requires { first + length outcomes.now < 2 ^ 64 }
+    ensures ok { (sheet : Contents) → OnOk result (Appends (W.contents writer.old) (W.contents writer.new)
+        (numbered_text texts.in_json first sheet outcomes.now)) }
+    ensures err { IfErr result (IsUntold texts.in_json) }
+{
+    let mut line = first;
+    for outcome in outcomes {
+        write_reply(alloc, line, &outcome.reply, writer)?;
+        line += 1;
+    }
+    Ok(())
+}
+
 /// What came of the wish to interrupt an interpreter.
 fn write_interrupt<W: Write>(
     alloc: Global,
@@ -311,6 +332,18 @@ impl Tells for InJson {
         writer: &mut W,
     ) -> Result<(), RunFault> {
         write_replies(self.alloc, line, sheet, replies, writer)?;
+        writer.flush().map_err(|_| RunFault::Output)?;
+        Ok(())
+    }
+
+    fn outcomes<W: Write>(
+        &self,
+        first: u64,
+        _sheet: &Sheet,
+        outcomes: &[Outcome],
+        writer: &mut W,
+    ) -> Result<(), RunFault> {
+        write_outcomes(self.alloc, first, outcomes, writer)?;
         writer.flush().map_err(|_| RunFault::Output)?;
         Ok(())
     }
