@@ -62,8 +62,7 @@ returns-in-Ok-false-clause-ok g c = λ number w h.
     let so = c.loop-fault.invariant.runs w h in
     let test : c.in-Ok-false.field-0 ≡ false = c.in-Ok-false.field-0-test in
     let gave = c.in-Ok-false.ensures.over (at w c.args.children.now c.args.host.now.store.disk) so.beats so.leads so.stands so.came test in
-    let step = (gave.0, gave.1, gave.2, gave.3 ∙ c.new-replies.ensures.items) in
-    all_heard g.C.Children.after c.loop-fault.wait c.next-stepped.new.self (at w c.args.children.now c.args.host.now.store.disk) c.loop-fault.host c.next-stepped.new.host c.loop-fault.children c.next-stepped.new.children (g.W.Write.contents c.args.writer.now) (g.W.Write.contents c.loop-fault.writer) (g.W.Write.contents c.tell_replies.new.writer) c.next-stepped.new.replies.items c.loop-fault.wrong so number step (subst (λ x. Appends (g.W.Write.contents c.loop-fault.writer) (g.W.Write.contents c.tell_replies.new.writer) (replies_text x)) c.as_slice.ensures.value c.in_default-tell_replies.ensures.ok)
+    all_heard g.C.Children.after c.loop-fault.wait c.next-stepped.new.self (at w c.args.children.now c.args.host.now.store.disk) c.loop-fault.host c.next-stepped.new.host c.loop-fault.children c.next-stepped.new.children (g.W.Write.contents c.args.writer.now) (g.W.Write.contents c.loop-fault.writer) (g.W.Write.contents c.tell_replies.new.writer) c.next-stepped.new.replies.items c.loop-fault.wrong so number (gave.0, gave.1, gave.2, gave.3 ∙ c.new-replies.ensures.items) (subst (λ x. Appends (g.W.Write.contents c.loop-fault.writer) (g.W.Write.contents c.tell_replies.new.writer) (replies_text x)) c.as_slice.ensures.value c.in_default-tell_replies.ensures.ok)
 
 pub returns-in-Err-stepped-clause-err : goal.returns-in-Err-stepped-clause-err
 returns-in-Err-stepped-clause-err g c = λ w h.
