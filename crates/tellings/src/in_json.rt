@@ -9,6 +9,7 @@ use crate::sheets_json::{write_field, write_sheet};
 use crate::writing::{write_if, write_made};
 use crate::{Counts, Frame, Note, Tells, faults};
 use block_tree::Octets;
+use child_calls::Seat;
 use child_edge::Interrupted;
 use disk_model::Disk;
 use host_events::{ChildReply, Closed, Outcome, Reply};
@@ -19,7 +20,8 @@ use session_engine::Host;
 use sheet_json::{
     asked_value, bad_value, closed_value, counted_in_time_value, counted_value, default_value,
     done_value, end_value, ended_value, fault_value, hello_value, interrupted_value, made_value,
-    no_field_value, nothing_value, refused_value, stopped_value, waited_value,
+    no_field_value, nothing_value, over_value, refused_value, stopped_value, waited_value,
+    warned_value,
 };
 use std::alloc::{AllocError, Global};
 use std::io::Write;
@@ -230,6 +232,32 @@ fn write_outcomes<W: Write>(
     Ok(())
 }
 
+/// What came of an interrupt, as a word: where there was no session, there was nothing to interrupt.
+fn outcome(told: Interrupted) -> &'static str
+    ensures { result.now ≡ texts.outcome_name told }
+{
+    match told {
+        Interrupted::NoSession | Interrupted::Idle => "idle",
+        Interrupted::Sent => "sent",
+        Interrupted::Failed => "failed",
+    }
+}
+
+/// What came of the interrupt of a life, since the time of a wait was over.
+fn write_warned<W: Write>(
+    alloc: Global,
+    seat: Seat,
+    told: Interrupted,
+    writer: &mut W,
+) -> Result<(), RunFault>
+    ensures ok { OnOk result (Appends (W.contents writer.old) (W.contents writer.new)
+        (texts.warned_json seat told)) }
+    ensures err { IfErr result (IsUntold texts.in_json) }
+{
+    let value = warned_value(alloc, seat.name.as_slice(), seat.life, outcome(told));
+    write_made(alloc, value, writer)
+}
+
 /// What came of the wish to interrupt an interpreter.
 fn write_interrupt<W: Write>(
     alloc: Global,
@@ -282,7 +310,8 @@ fn write_note<W: Write>(alloc: Global, note: Note, writer: &mut W) -> Result<(),
         Note::Nothing(line) => write_made(alloc, nothing_value(alloc, line), writer),
         Note::Waited(line, timed) => write_made(alloc, waited_value(alloc, line, timed), writer),
         Note::Interrupted(line, _, told) => write_interrupt(alloc, line, told, writer),
-        Note::Over(line, _, told) => write_interrupt(alloc, line, told, writer),
+        Note::Over(id, told) => write_made(alloc, over_value(alloc, id, outcome(told)), writer),
+        Note::Warned(seat, told) => write_warned(alloc, seat, told, writer),
         Note::Counted(counts) => write_counts(alloc, counts, writer),
     }
 }

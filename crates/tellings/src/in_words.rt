@@ -162,7 +162,8 @@ impl Tells for InWords {
             Note::Bad(line) => tell_bad_line(line, writer),
             Note::Nothing(_) | Note::Waited(_, _) => Ok(()),
             Note::Interrupted(_, name, told) => tell_interrupt(name, told, writer),
-            Note::Over(_, id, _) => tell_over(id, writer),
+            Note::Over(id, _) => tell_over(id, writer),
+            Note::Warned(seat, told) => tell_interrupt(seat.name, told, writer),
             Note::Counted(counts) => tell_counts(counts, writer),
         }
     }
