@@ -4,3 +4,4 @@ pub mod Rooms
 pub mod Filling
 pub mod Coming
 pub mod Agreeing
+pub mod Peeking

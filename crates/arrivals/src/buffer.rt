@@ -1,8 +1,8 @@
 //! Bytes that were read, and the lines in them.
-ghost use Rattle.std.specs.Prelude.{◌≡◌, ◌≤◌, ◌<◌, ◌+◌, ◌-◌, ℕ, List, [], IfOk, OnOk, OnErr, true, false, length, take, drop, slice_range};
+ghost use Rattle.std.specs.Prelude.{◌≡◌, ◌≤◌, ◌<◌, ◌+◌, ◌-◌, ℕ, List, [], IfOk, IfSome, OnOk, OnErr, true, false, length, take, drop, slice_range};
 ghost use Rattle.std.specs.Io.KnownBytes.{IsAtEnd, ReadConsumes};
 ghost use Rattle.bstr.specs.Text.{without_terminator};
-ghost use Rattle.arrivals.specs.Held.{ReadAdds, GivesLine, IsUnended, KeepsLines, Readiness, Same, is_given, nothing_held, to_come};
+ghost use Rattle.arrivals.specs.Held.{ReadAdds, GivesLine, IsNextLine, IsUnended, KeepsLines, Readiness, Same, is_given, nothing_held, to_come};
 ghost use Rattle.arrivals.specs.inside.Buffers.{Tells, dropping_of, first_line, kept_of};
 
 use memchr::memchr;
@@ -156,6 +156,24 @@ impl LineBuffer {
         ensures { result.now ≡ self.now.line }
     {
         &self.room[self.line_start..self.line_end]
+    }
+
+    /// The next line, where it is held whole and isn't too long.
+    pub(crate) fn peek(&self) -> Option<&[u8]>
+        ensures { IfSome result (λ line. IsNextLine self.now line.now) }
+    {
+        if self.dropping {
+            return None;
+        }
+        let Some(at) = memchr(b'\n', &self.room[self.start..self.end]) else {
+            return None;
+        };
+        let len = at + 1;
+        let own = own_bytes(&self.room[self.start..self.start + len]);
+        if own > LONGEST_LINE {
+            return None;
+        }
+        Some(&self.room[self.start..self.start + own])
     }
 
     /// Gives the first bytes as a line.

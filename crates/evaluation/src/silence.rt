@@ -1,6 +1,6 @@
 //! A voice that says nothing.
 use disk_model::Disk;
-use host_events::Reply;
+use host_events::{Outcome, Reply};
 use offline_programs::RunFault;
 use session_engine::Host;
 use std::io::Write;
@@ -29,6 +29,17 @@ impl Tells for Silence {
         _line: u64,
         _sheet: &Sheet,
         _replies: &[Reply],
+        _writer: &mut W,
+    ) -> Result<(), RunFault> {
+        Ok(())
+    }
+
+    #[tactic(auto, using(crate::proofs::Unsaid::outcomes_unsaid))]
+    fn outcomes<W: Write>(
+        &self,
+        _first: u64,
+        _sheet: &Sheet,
+        _outcomes: &[Outcome],
         _writer: &mut W,
     ) -> Result<(), RunFault> {
         Ok(())

@@ -1,5 +1,6 @@
 -- Commands that only change the worksheet, taken together.
 use Rattle.std.proofs.Common.{◌≡◌, ◌≤◌, ℕ, true, false, List, [], ◌∷◌, ◌++◌, inl, inr, Option, Some, None, refl, ap, sym, ◌∙◌, subst, append-nil, length, arith}
+use Rattle.std.proofs.KnownBytes.{Appends-nil}
 use Rattle.std.proofs.lemmas.Bool.{false≢true}
 use Rattle.std.specs.Prelude.{Bool, is_some}
 use Rattle.std.specs.List.{AllByRecursion}
@@ -38,7 +39,8 @@ use Rattle.session_engine.specs.inside.Until.{HaltsBy, TookBy}
 use Rattle.session_engine.specs.declared.play.GroupFault.{GroupFault}
 use Rattle.session_engine.specs.declared.play.GroupFault.TheVariants as halt
 use Rattle.sheet_programs.specs.Strict.{LastIf}
-use Rattle.sheet_programs.specs.inside.Grouping.{GroupKept, KeptUpTo, outcome_text, outcomes_text}
+use Rattle.offline_programs.specs.declared.fault.RunFault.{RunFault}
+use Rattle.sheet_programs.specs.inside.Grouping.{GroupFailed, GroupHalted, GroupKept, KeptUpTo, group_lost, group_refused, halted_by_disk, halted_by_memory, host_call, outcome_text, outcomes_text}
 
 -- Such commands have no effect.
 
@@ -116,6 +118,12 @@ pub never_stopped : (lines : List (List ℕ)) (w : World) (events : List Event) 
 never_stopped lines w events old new outcomes f joins s =
     let all = subst (λ (es : List Event). AllByRecursion IsEdit es) s.played.split (joined_edits lines events joins) in
     edit_fault s.played.leads s.at s.before.store.disk s.after.store.disk f (among s.played.done s.at s.dropped all) s.kept s.failed.cause
+
+-- where they couldn't be taken nothing is written
+pub halted_fails : (strict : Bool) (lines : List (List ℕ)) (w : World) (events : List Event) (old new : HostView) (a : Option (List ℕ)) (f : RunFault)
+    → GroupHalted strict lines w old new f → GroupFailed strict lines w events (host_call old new a a) f
+halted_fails strict lines w events old new a f (halted_by_disk p last) = group_lost p last (Appends-nil a)
+halted_fails strict lines w events old new a f (halted_by_memory stands same) = group_refused stands same (Appends-nil a)
 
 -- What is known of the disk as it stands, of the disk.
 

@@ -8,7 +8,7 @@ ghost use Rattle.session_engine.specs.Host.{IsHost};
 ghost use Rattle.session_engine.specs.inside.Until.{HaltsBy, TookBy};
 ghost use Rattle.sheet_programs.specs.Together.{Joins};
 ghost use Rattle.sheet_programs.specs.inside.Grouping as grouping;
-ghost use Rattle.sheet_programs.specs.inside.Grouping.{GroupFailed, GroupTook, counted_if, host_call, outcome_wrong, outcomes_text};
+ghost use Rattle.sheet_programs.specs.inside.Grouping.{GroupFailed, GroupHalted, GroupTook, KeptAs, counted_if, host_call, outcome_wrong, outcomes_text};
 
 use crate::taking::is_wrong;
 use disk_model::Disk;
@@ -102,6 +102,33 @@ fn stopped_at(strict: bool, outcomes: &[Outcome], read: u64, count: u64) -> Opti
     number_if(strict, any_wrong(outcomes), number)
 }
 
+/// Plays commands that only change the worksheet as a group: all of them, or in a strict run up to the first
+/// one that is refused. What they give is durable then.
+///
+/// `Host` where the disk failed: nothing that they gave may be reported. `OutOfMemory`: none was taken.
+pub fn play_edits<D: Disk>(
+    host: &mut Host<D>,
+    events: Vec<Event>,
+    strict: bool,
+) -> Result<Vec<Outcome>, RunFault>
+    ensures same { SameDisk host.old.store.disk host.new.store.disk }
+    ensures ok { (w : World) → IsHost host.old w
+        → IfOk result (λ outcomes. KeptAs strict w events.items outcomes.items host.old host.new) }
+    ensures err { (lines : List (List ℕ)) (w : World) → IsHost host.old w → Joins lines events.items
+        → IfErr result (GroupHalted strict lines w host.old host.new) }
+{
+    match play(host, events, strict) {
+        Ok(outcomes) => Ok(outcomes),
+        Err(GroupFault::Disk) => Err(RunFault::Host(HostFault::Disk)),
+        // None of them has another fault.
+        Err(GroupFault::Stopped { outcomes: _, fault }) => Err(RunFault::Host(fault)),
+        // Memory, for the group or for the outcomes.
+        Err(GroupFault::NoRoom(_)) => Err(RunFault::OutOfMemory),
+        // None of the events is one.
+        Err(GroupFault::Checkpoint(_)) => Err(RunFault::OutOfMemory),
+    }
+}
+
 /// Takes events together, in a strict run up to the first one that is refused, and writes and flushes their
 /// replies once all that they give is durable. They are those of the last lines that were read, as many as
 /// `read`. The number of the line after which the run stops.
@@ -121,21 +148,11 @@ pub(crate) fn take_group<D: Disk, W: Write>(
         (host_call host.old host.new (W.contents writer.old) (W.contents writer.new))) }
 {
     let count = events.len() as u64;
-    match play(host, events, strict) {
+    match play_edits(host, events, strict) {
         Ok(outcomes) => match tell_outcomes(outcomes.as_slice(), writer) {
             Ok(()) => Ok(stopped_at(strict, outcomes.as_slice(), read, count)),
             Err(fault) => Err(fault),
         },
-        Err(GroupFault::Stopped { outcomes, fault }) => {
-            match tell_outcomes(outcomes.as_slice(), writer) {
-                Ok(()) => Err(RunFault::Host(fault)),
-                Err(fault) => Err(fault),
-            }
-        }
-        Err(GroupFault::Disk) => Err(RunFault::Host(HostFault::Disk)),
-        // Memory, for the group or for the outcomes.
-        Err(GroupFault::NoRoom(_)) => Err(RunFault::OutOfMemory),
-        // None of the events is one.
-        Err(GroupFault::Checkpoint(_)) => Err(RunFault::OutOfMemory),
+        Err(halted) => Err(halted),
     }
 }

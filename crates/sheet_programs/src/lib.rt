@@ -7,5 +7,7 @@ mod running;
 mod taking;
 mod together;
 
+pub use groups::play_edits;
 pub use running::{Ran, run, run_strict};
 pub use taking::{run_command, run_fault, run_line};
+pub use together::add_edit;

@@ -66,7 +66,7 @@ fn is_edit(command: &Command) -> bool
 }
 
 /// Adds a command that only changes the worksheet, where there is memory for it. Whether it did.
-fn add(events: &mut Vec<Event>, command: Command) -> bool
+pub fn add_edit(events: &mut Vec<Event>, command: Command) -> bool
     ensures added { result ≡ true → (is_some (op_of command) ≡ true)
         × (events.new.items ≡ events.old.items ++ asks.Command command ∷ []) }
     ensures kept { result ≡ false → events.new.items ≡ events.old.items }
@@ -86,7 +86,7 @@ fn hold(alloc: Global, stretch: &mut Stretch, line: &[u8]) -> bool
     stretch.bytes = stretch.bytes.saturating_add(line.len());
     match read_line(alloc, line) {
         Ok(ScriptLine::Skip) => !stretch.strict,
-        Ok(ScriptLine::Command(command)) => add(&mut stretch.events, command),
+        Ok(ScriptLine::Command(command)) => add_edit(&mut stretch.events, command),
         Ok(ScriptLine::Wait | ScriptLine::Print) | Err(_) => false,
     }
 }

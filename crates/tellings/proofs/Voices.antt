@@ -2,11 +2,12 @@
 use Rattle.std.proofs.Common.{◌≡◌, ◌<◌, ◌≤◌, ◌+◌, ◌-◌, arith, drop, ℕ, List, [], ◌∷◌, ◌++◌, Option, Some, None, append-nil, get_or, length, refl, ap, sym, ◌∙◌, subst, take}
 use Rattle.std.specs.List.{flat_map}
 use Rattle.std.proofs.KnownBytes.{Appends-trans}
-use Rattle.std.proofs.lemmas.List.{take_all, take_more}
+use Rattle.std.proofs.lemmas.List.{drop_all, drop_more, take_all, take_more}
 use Rattle.std.proofs.lemmas.Grind.{flat_map-append}
 use Rattle.std.specs.Prelude.{OnOk, Result, option_map}
 use Rattle.std.specs.Io.KnownBytes.{Appends}
 use Rattle.worksheet.specs.Contents.{Contents}
+use Rattle.host_events.specs.declared.outcome.Outcome.{Outcome}
 use Rattle.host_events.specs.declared.reply.Reply.{Reply}
 use Rattle.offline_programs.specs.Memory.{replies_text}
 use Rattle.offline_programs.specs.declared.fault.RunFault.{RunFault}
@@ -16,8 +17,9 @@ use Rattle.sheet_json.specs.Sheets.{telling_line}
 use Rattle.sheet_json.specs.Tellings.{EventTold, Telling}
 use Rattle.sheet_json.specs.Tellings as told
 use Rattle.tellings.specs.Json.{event_line, in_json, reply_json}
-use Rattle.tellings.specs.Voice.{came_text, replied_text}
+use Rattle.tellings.specs.Voice.{Voice, came_text, numbered_text, replied_text}
 use Rattle.tellings.specs.Words.{in_words}
+use Rattle.tellings.proofs.Rows.{Written, part_written}
 
 -- a value of a life, where there is one, is on its line
 pub line_if : (r : Result (Unit {0}) RunFault) (a b : Option (List ℕ)) (d : Data) (session : List ℕ) (life : ℕ) (e : Option EventTold) → Some d ≡ option_map (event_data session life) e
@@ -52,3 +54,19 @@ replied_of line sheet (r ∷ replies) first few is =
     let all : length replies ≤ length (r ∷ replies) - 1 = omega arith in
     ap (λ x. reply_json line x ++ came_text in_json sheet (take (length (r ∷ replies) - 1) replies)) is
     ∙ ap (λ rs. reply_json line r ++ came_text in_json sheet rs) (take_all (length (r ∷ replies) - 1) replies all)
+
+-- the replies of so many outcomes are written, and those of the others are to come
+abbrev pub OutcomesWritten : Voice → Contents → ℕ → List Outcome → ℕ → Option (List ℕ) → Option (List ℕ) → Type 0
+OutcomesWritten V sheet first outcomes i a b = Written a b (numbered_text V (first + i) sheet (drop i outcomes)) (numbered_text V first sheet outcomes)
+
+pub one_outcome : (V : Voice) (sheet : Contents) (first : ℕ) (outcomes : List Outcome) (i : ℕ) (o : Outcome) (a b c : Option (List ℕ)) → i < length outcomes → o ≡ get_or outcomes i o
+    → OutcomesWritten V sheet first outcomes i a b → Appends b c (V.reply (first + i) sheet o.reply) → OutcomesWritten V sheet first outcomes (i + 1) a c
+one_outcome V sheet first outcomes i o a b c h is before more =
+    let later : (first + i) + 1 ≡ first + (i + 1) = omega arith in
+    part_written a b c (numbered_text V (first + i) sheet (drop i outcomes)) (V.reply (first + i) sheet o.reply) (numbered_text V (first + (i + 1)) sheet (drop (i + 1) outcomes)) (numbered_text V first sheet outcomes)
+    (ap (numbered_text V (first + i) sheet) (drop_more outcomes i o h ∙ ap (λ x. x ∷ drop (i + 1) outcomes) (sym is))
+    ∙ ap (λ n. V.reply (first + i) sheet o.reply ++ numbered_text V n sheet (drop (i + 1) outcomes)) later)
+    before more
+
+pub all_outcomes : (V : Voice) (sheet : Contents) (first : ℕ) (outcomes : List Outcome) (i : ℕ) → length outcomes ≤ i → numbered_text V (first + i) sheet (drop i outcomes) ≡ []
+all_outcomes V sheet first outcomes i all = ap (numbered_text V (first + i) sheet) (drop_all i outcomes all)

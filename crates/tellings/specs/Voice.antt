@@ -1,7 +1,8 @@
 -- A format of what is printed of a live worksheet: in words, or as JSON.
-use Rattle.std.specs.Prelude.{◌≡◌, ℕ, Bool, true, List, [], ◌∷◌, ◌++◌}
+use Rattle.std.specs.Prelude.{◌≡◌, ℕ, ◌+◌, Bool, true, List, [], ◌∷◌, ◌++◌}
 use Rattle.std.specs.List.{flat_map}
 use Rattle.worksheet.specs.Contents.{Contents}
+use Rattle.host_events.specs.declared.outcome.Outcome.{Outcome}
 use Rattle.host_events.specs.declared.reply.Reply.{Reply}
 use Rattle.session_engine.specs.World.{World}
 use Rattle.offline_programs.specs.declared.fault.RunFault.{RunFault}
@@ -35,6 +36,11 @@ came_text V sheet replies = flat_map (V.event sheet) replies
 abbrev pub replied_text : Voice → ℕ → Contents → List Reply → List ℕ
 replied_text V line sheet [] = []
 replied_text V line sheet (r ∷ replies) = V.reply line sheet r ++ came_text V sheet replies
+
+-- the replies to as many lines, of which this is the number of the first, where this is the worksheet after all of them
+abbrev pub numbered_text : Voice → ℕ → Contents → List Outcome → List ℕ
+numbered_text V line sheet [] = []
+numbered_text V line sheet (o ∷ outcomes) = V.reply line sheet o.reply ++ numbered_text V (line + 1) sheet outcomes
 
 -- Why something isn't printed: the writer failed, or there was no memory for it.
 abbrev pub IsUntold : Voice → RunFault → Type 0

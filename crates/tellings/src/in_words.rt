@@ -1,14 +1,17 @@
 //! In words.
-ghost use Rattle.std.specs.Prelude.{◌≡◌, ◌++◌, ◌∷◌, [], IfErr, OnOk};
+ghost use Rattle.std.specs.Prelude.{◌≡◌, ◌++◌, ◌∷◌, [], ℕ, IfErr, OnOk};
 ghost use Rattle.std.specs.Option.{option_copied};
 ghost use Rattle.std.specs.Io.KnownBytes.{Appends};
 ghost use Rattle.worksheet.specs.Checks.{field_in};
-ghost use Rattle.tellings.specs.Words.{answers_text, evaluation_text, field_shown, interrupt_text, over_line, overs_text};
+ghost use Rattle.sheet_text.specs.Texts as texts;
+ghost use Rattle.tellings.specs.Voice.{numbered_text};
+ghost use Rattle.tellings.specs.Words.{answers_text, evaluation_text, field_shown, in_words, interrupt_text, over_line, overs_text};
+ghost use Rattle.worksheet.specs.Contents.{Contents};
 
 use crate::{Counts, Frame, Note, Overs, Tells};
 use child_edge::Interrupted;
 use disk_model::Disk;
-use host_events::Reply;
+use host_events::{Outcome, Reply};
 use offline_programs::{RunFault, tell_bad_line, tell_replies, tell_sheet};
 use session_engine::Host;
 use sheet_text::{field_text, reply_text};
@@ -38,6 +41,28 @@ fn tell_field<W: Write>(sheet: &Sheet, id: u32, writer: &mut W) -> Result<(), Ru
     ensures err { IfErr result (λ fault. fault ≡ RunFault.Output) }
 {
     show_field(sheet.field(id), writer)?;
+    writer.flush().map_err(|_| RunFault::Output)?;
+    Ok(())
+}
+
+/// Writes the reply of an outcome.
+fn write_outcome<W: Write>(outcome: &Outcome, writer: &mut W) -> Result<(), RunFault>
+    ensures ok { OnOk result (Appends (W.contents writer.old) (W.contents writer.new)
+        (texts.reply_text outcome.now.reply)) }
+    ensures err { IfErr result (λ fault. fault ≡ RunFault.Output) }
+{
+    reply_text(&outcome.reply, writer).map_err(|_| RunFault::Output)
+}
+
+/// Writes the replies of outcomes, and brings them out.
+fn tell_outcomes<W: Write>(outcomes: &[Outcome], writer: &mut W) -> Result<(), RunFault>
+    ensures ok { (line : ℕ) (sheet : Contents) → OnOk result (Appends (W.contents writer.old) (W.contents writer.new)
+        (numbered_text in_words line sheet outcomes.now)) }
+    ensures err { IfErr result (λ fault. fault ≡ RunFault.Output) }
+{
+    for outcome in outcomes {
+        write_outcome(outcome, writer)?;
+    }
     writer.flush().map_err(|_| RunFault::Output)?;
     Ok(())
 }
@@ -161,6 +186,16 @@ impl Tells for InWords {
         writer: &mut W,
     ) -> Result<(), RunFault> {
         tell_replies(replies, writer)
+    }
+
+    fn outcomes<W: Write>(
+        &self,
+        _first: u64,
+        _sheet: &Sheet,
+        outcomes: &[Outcome],
+        writer: &mut W,
+    ) -> Result<(), RunFault> {
+        tell_outcomes(outcomes, writer)
     }
 
     fn events<W: Write>(

@@ -1,7 +1,7 @@
 //! The formats of what is printed.
 use crate::{Frame, Note};
 use disk_model::Disk;
-use host_events::Reply;
+use host_events::{Outcome, Reply};
 use offline_programs::RunFault;
 use session_engine::Host;
 use std::io::Write;
@@ -12,11 +12,11 @@ use worksheet::Sheet;
 /// `Output` where the writer fails: a part may have gone out. `OutOfMemory` where a voice that takes memory
 /// has none for a line: what was written before it is whole.
 pub trait Tells {
-    ghost use Rattle.std.specs.Prelude.{IfErr, OnOk, Option, ◌≡◌, false, true};
+    ghost use Rattle.std.specs.Prelude.{IfErr, OnOk, Option, ◌≡◌, ◌+◌, ◌<◌, ◌^◌, false, length, true};
     ghost use Rattle.std.specs.Io.KnownBytes.{Appends};
     ghost use Rattle.session_engine.specs.World.{World};
     ghost use Rattle.session_engine.specs.Host.{IsHost};
-    ghost use Rattle.tellings.specs.Voice.{IsUntold, Voice, came_text, replied_text};
+    ghost use Rattle.tellings.specs.Voice.{IsUntold, Voice, came_text, numbered_text, replied_text};
 
     /// The texts that it writes.
     ghost voice: { Voice };
@@ -42,6 +42,20 @@ pub trait Tells {
     ) -> Result<(), RunFault>
         ensures ok { OnOk result (Appends (W.contents writer.old) (W.contents writer.new)
             (replied_text voice line sheet.now.contents replies.now)) }
+        ensures err { IfErr result (IsUntold voice) };
+
+    /// Tells what commands gave that were taken together, one on each line from this one on, where this is the
+    /// worksheet after them.
+    fn outcomes<W: Write>(
+        &self,
+        first: u64,
+        sheet: &Sheet,
+        outcomes: &[Outcome],
+        writer: &mut W,
+    ) -> Result<(), RunFault>
+        requires { first + length outcomes.now < 2 ^ 64 }
+        ensures ok { OnOk result (Appends (W.contents writer.old) (W.contents writer.new)
+            (numbered_text voice first sheet.now.contents outcomes.now)) }
         ensures err { IfErr result (IsUntold voice) };
 
     /// Tells what came of lives, where this is the worksheet after it.

@@ -87,6 +87,16 @@ pub record KeptUpTo (strict : Bool) (w : World) (events : List Event) (old new :
   pub kept : GroupKept w done old new
   pub ends : EndsBy strict kept.told rest
 
+-- They were, and these are their outcomes.
+abbrev pub KeptAs : Bool → World → List Event → List Outcome → HostView → HostView → Type 0
+KeptAs strict w events outcomes old new = (p : KeptUpTo strict w events old new) × (p.kept.told ≡ outcomes)
+
+-- What a fault of events that are taken together leaves: where the disk failed the first of them were taken, and where memory was refused
+-- none was.
+pub data GroupHalted (strict : Bool) (lines : List (List ℕ)) (w : World) (old new : HostView) : RunFault → Type 0 where
+  halted_by_disk : (p : GroupBroke lines w old.store.disk new) → LastIf strict p.untold → GroupHalted strict lines w old new (fault.Host hosts.Disk)
+  halted_by_memory : IsHost new w → new.store.disk ≡ old.store.disk → GroupHalted strict lines w old new fault.OutOfMemory
+
 -- They were, their replies are written, and this says after which line the run stopped.
 abbrev pub GroupTook : Bool → World → List Event → HostCall → ℕ → Option ℕ → Type 0
 GroupTook strict w events call read stopped =

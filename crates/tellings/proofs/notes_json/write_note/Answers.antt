@@ -4,7 +4,7 @@ use Rattle.std.specs.Io.KnownBytes.{Appends}
 use Rattle.sheet_json.specs.Sheets.{telling_line}
 use Rattle.sheet_json.specs.Tellings as told
 use Rattle.tellings.specs.Json.{note_json}
-use Rattle.tellings.proofs.in_json.write_note.Goals as goal
+use Rattle.tellings.proofs.notes_json.write_note.Goals as goal
 
 pub returns-in-Bad-clause-ok : goal.returns-in-Bad-clause-ok
 returns-in-Bad-clause-ok g c = subst (λ x. OnOk c.write_made.result (Appends (g.W.Write.contents c.args.writer.now) (g.W.Write.contents c.write_made.new.writer) (note_json x))) (sym c.in-Bad.is) (c.write_made.ensures.ok (told.reply c.in-Bad.line told.bad) c.bad_value.ensures)
