@@ -25,6 +25,9 @@ use std::alloc::Global;
 use std::io::{Read, Write};
 use tellings::Tells;
 
+/// The most lines behind which those of a group more can be counted.
+const MOST_COUNTED: u64 = u64::MAX - 1_025;
+
 /// Takes what comes in this manner, one after the other, to the end of the input.
 fn live_on<R: Read, D: Disk, S: Sources, T: Tells, W: Write>(
     alloc: Global,
@@ -50,6 +53,9 @@ fn live_on<R: Read, D: Disk, S: Sources, T: Tells, W: Write>(
         held: Hold::Free,
     };
     for _ in 0..u64::MAX {
+        if stand.number > MOST_COUNTED {
+            return Err(RunFault::InputTooLong);
+        }
         match step(alloc, manner, host, sources, lines, stand, tells, writer) {
             Ok(Some(next)) => stand = next,
             Ok(None) => return Ok(()),
@@ -156,9 +162,9 @@ where
 ///
 /// All memory for lines is taken before the disk is opened. `Open` where the disk isn't opened: nothing
 /// was read or written. `Input` where the input can't be read or its sources can't be watched,
-/// `InputTooLong` after 2^64 - 1 arrivals, `Host` where the host has a fault, `OutOfMemory`: what was
-/// returned before is written. `Output` where the writer fails: a part of the text may have gone out. A
-/// voice that takes memory has `OutOfMemory` for that too.
+/// `InputTooLong` after 2^64 - 1 arrivals or 2^64 - 1,025 lines, `Host` where the host has a fault,
+/// `OutOfMemory`: what was returned before is written. `Output` where the writer fails: a part of the text may
+/// have gone out. A voice that takes memory has `OutOfMemory` for that too.
 pub fn live<R: Read, W: Write, D: Disk, S: Sources, T: Tells>(
     alloc: Global,
     reader: R,
